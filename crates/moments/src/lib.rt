@@ -1,0 +1,6 @@
+//! Moments: milliseconds since 1970-01-01 00:00 UTC, before 2100.
+#![tactic(auto)]
+
+mod moment;
+
+pub use moment::{END, Moment, MomentRefusal};

@@ -1,0 +1,8 @@
+-- How long a name is.
+use Rattle.std.proofs.Common.{ℕ, ◌≤◌, List, length, arith}
+use Rattle.std.proofs.lemmas.Bool.Decides.{nat_tests}
+use Rattle.office_base.specs.Names.{IsBucketName, is_bucket_name}
+
+pub name_small : (text : List ℕ) → IsBucketName text → length text ≤ 63
+unfolding is_bucket_name
+name_small text is = grind (arith, nat_tests)

@@ -1,0 +1,8 @@
+//! Names in range, and the answers that every crate shares.
+#![tactic(auto)]
+
+mod bucket_name;
+mod failed;
+
+pub use bucket_name::{BucketName, NameRefusal};
+pub use failed::{Failed, NoMemory};

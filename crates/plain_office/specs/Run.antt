@@ -1,0 +1,27 @@
+-- The office after a list of entries.
+use Rattle.std.specs.Prelude.{ℕ, Bool, true, ◌&&◌, List, [], ◌∷◌, nat_le, Option, Some, None, option_and_then, Result, if◌then◌else◌}
+use Rattle.plain_office.specs.Office.{Office, empty_office}
+use Rattle.plain_office.specs.Step.{step, is_accepted}
+use Rattle.plain_office.specs.declared.command.Entry.{Entry}
+use Rattle.plain_office.specs.declared.reply.Reply.{Reply}
+use Rattle.plain_office.specs.declared.reply.Refusal.{Refusal}
+
+-- time does not go back
+abbrev pub is_not_before : Option ℕ → ℕ → Bool
+is_not_before None t = true
+is_not_before (Some last) t = nat_le last t
+
+-- the office after one more entry, where its moment is not before the last one and its command is accepted there
+unfoldable pub accept : Office → Entry → Option Office
+accept office entry =
+    let next = step entry.moment entry.command office in
+    if is_not_before office.last entry.moment && is_accepted next.1 then Some next.0 else None
+
+-- entries in order from an office on; None where one is not accepted at its place
+abbrev pub run_from : Option Office → List Entry → Option Office
+run_from office [] = office
+run_from office (entry ∷ entries) = run_from (option_and_then (λ before. accept before entry) office) entries
+
+-- from the empty office on
+unfoldable pub run : List Entry → Option Office
+run entries = run_from (Some empty_office) entries
