@@ -1,0 +1,46 @@
+// An answer of the office whose effect is durable.
+ghost use Rattle.std.specs.Prelude.{◌≡◌};
+
+use moments::Moment;
+use plain_office::{Refusal, Reply};
+use std::marker::Model;
+use std::snapshot::Snapshot;
+
+/// An answer of the office, given once its effect is on the disk. Only a desk makes one.
+#[derive(Drop)]
+pub struct Acked {
+    moment: Moment,
+    told: u64,
+    reply: Result<Reply, Refusal>,
+    position: u64,
+    at: Snapshot<u64>,
+}
+
+impl Model for Acked {
+    ghost use Rattle.std.specs.Prelude.{◌≡◌, Err};
+    ghost use Rattle.plain_office.specs.declared.reply.Refusal.TheVariants.{NoMemory};
+    ghost use Rattle.desk_core.specs.Answers.{Answer};
+
+    ghost Value = { Answer };
+
+    ghost view = { λ a. record { moment = a.moment; told = a.told; reply = a.reply; position = a.position; disk_moment = a.at.value } };
+
+    // Want of memory is no answer of the office.
+    ghost invariant = { λ a. a.reply ≡ Err NoMemory → ⊥ };
+}
+
+impl Acked {
+    /// Reads the office's answer.
+    pub fn reply(&self) -> &Result<Reply, Refusal>
+        ensures { result.now ≡ self.now.reply }
+    {
+        &self.reply
+    }
+
+    /// Reads the offset of the journal's end gate, in bytes from the file's start: the answer holds for every longer journal.
+    pub fn position(&self) -> u64
+        ensures { result ≡ self.now.position }
+    {
+        self.position
+    }
+}

@@ -1,0 +1,17 @@
+// Calls without an answer of the office.
+
+/// Why a call has no answer of the office.
+#[derive(Clone, Copy, Debug, PartialEq, Eq)]
+pub enum DeskFault {
+    /// A disk call of this submit failed. The command is in the journal, or it is not.
+    StoreFault {
+        /// The clock's number of this call, in milliseconds; `None` where the clock was not read.
+        told: Option<u64>,
+        /// The disk's count of faults at the end of the call.
+        faults: u64,
+    },
+    /// The command's frame would pass the journal's limit, whether or not the office would accept the command. Nothing changed.
+    JournalFull,
+    /// Memory ran out. Nothing changed.
+    NoMemory,
+}

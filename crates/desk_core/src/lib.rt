@@ -1,0 +1,8 @@
+//! One office over its journal and a clock: each call is answered once its effect is durable.
+#![tactic(auto)]
+
+mod acked;
+mod fault;
+
+pub use acked::Acked;
+pub use fault::DeskFault;
