@@ -1,1 +1,5 @@
 pub mod Answers
+pub mod Calls
+pub mod Clocks
+pub mod Histories
+pub mod Serving

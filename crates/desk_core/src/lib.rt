@@ -2,7 +2,9 @@
 #![tactic(auto)]
 
 mod acked;
+mod clock;
 mod fault;
 
 pub use acked::Acked;
+pub use clock::{Clock, ListClock, SystemClock};
 pub use fault::DeskFault;

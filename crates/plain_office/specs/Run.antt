@@ -2,9 +2,14 @@
 use Rattle.std.specs.Prelude.{ℕ, Bool, true, ◌&&◌, List, [], ◌∷◌, nat_le, Option, Some, None, option_and_then, Result, if◌then◌else◌}
 use Rattle.plain_office.specs.Office.{Office, empty_office}
 use Rattle.plain_office.specs.Step.{step, is_accepted}
+use Rattle.plain_office.specs.declared.command.Command.{Command}
 use Rattle.plain_office.specs.declared.command.Entry.{Entry}
 use Rattle.plain_office.specs.declared.reply.Reply.{Reply}
 use Rattle.plain_office.specs.declared.reply.Refusal.{Refusal}
+
+-- the entry of a command at a moment
+abbrev pub entry_at : ℕ → Command → Entry
+entry_at t command = record { moment = t; command = command }
 
 -- time does not go back
 abbrev pub is_not_before : Option ℕ → ℕ → Bool

@@ -1,0 +1,76 @@
+-- Lists of calls that the plain office allows, from one history to another.
+use Rattle.std.specs.Prelude.{◌≡◌, ◌⊎◌, ℕ, ◌+◌, ◌≤◌, min, max, false, List, [], ◌∷◌, ◌++◌, length, Option, Some, None, Result, Ok, Err, IsTrue, IsSomeAnd, unwrap_or}
+use Rattle.office_base.specs.Faults.{Rose}
+use Rattle.moments.specs.Time.{last_moment}
+use Rattle.plain_office.specs.declared.command.Ask.{Ask}
+use Rattle.plain_office.specs.declared.command.Ask.TheVariants as ask
+use Rattle.plain_office.specs.declared.command.Command.{Command}
+use Rattle.plain_office.specs.declared.command.Entry.{Entry}
+use Rattle.plain_office.specs.declared.reply.Reply.{Reply}
+use Rattle.plain_office.specs.declared.reply.Refusal.{Refusal}
+use Rattle.plain_office.specs.Office.{Office}
+use Rattle.plain_office.specs.Step.{step, is_accepted}
+use Rattle.plain_office.specs.Run.{run}
+use Rattle.entry_codec.specs.Spelling.{spelling}
+use Rattle.meter_journal.specs.History.{header, end_gate}
+use Rattle.desk_core.specs.Answers.{Answer, Call}
+use Rattle.desk_core.specs.declared.fault.DeskFault.{DeskFault}
+use Rattle.desk_core.specs.declared.fault.DeskFault.TheVariants as faults
+
+-- the later of the clock's number and the last moment; a number past the end of time counts as the last moment that there is
+abbrev pub moment_after : ℕ → Office → ℕ
+moment_after told office = min (max told (unwrap_or office.last 0)) last_moment
+
+abbrev pub entry_at : ℕ → Command → Entry
+entry_at t command = record { moment = t; command = command }
+
+-- the command's frame, with the gate behind it, ends within the limit
+abbrev pub FitsIn : ℕ → List Entry → Entry → Type 0
+FitsIn limit history entry = end_gate header history + 6 + length (spelling entry) ≤ limit
+
+-- the history grows by the command exactly where it is accepted
+abbrev pub GrowsBy : Result Reply Refusal → Entry → List Entry → List Entry → Type 0
+GrowsBy reply entry before after =
+    (IsTrue (is_accepted reply) × (after ≡ before ++ entry ∷ [])) ⊎ ((is_accepted reply ≡ false) × (after ≡ before))
+
+abbrev pub IsReply : ℕ → ℕ → Ask → Office → Result Reply Refusal → List Entry → List Entry → Type 0
+IsReply limit t (ask.Command command) office reply before after =
+    (reply ≡ (step t command office).1) × GrowsBy reply (entry_at t command) before after × FitsIn limit before (entry_at t command)
+
+-- an answer: the reply is the plain office's at the call's moment
+pub record IsAnswered (limit : ℕ) (question : Ask) (office : Office) (answer : Answer) (before after : List Entry) : Type 0 where
+  pub moment : answer.moment ≡ moment_after answer.told office
+  pub reply : IsReply limit answer.moment question office answer.reply before after
+  pub position : answer.position ≡ end_gate header after
+
+-- a command that the office accepts may have been kept though its caller was told of a fault
+abbrev pub MayBeKept : Option ℕ → Ask → Office → List Entry → List Entry → Type 0
+MayBeKept (Some told) (ask.Command command) office before after =
+    IsTrue (is_accepted (step (moment_after told office) command office).1) × (after ≡ before ++ entry_at (moment_after told office) command ∷ [])
+MayBeKept None question office before after = ⊥
+
+-- the command's frame would pass the limit, at whatever moment
+abbrev pub IsFull : ℕ → Ask → List Entry → Type 0
+IsFull limit (ask.Command command) before = ¬ FitsIn limit before (entry_at 0 command)
+
+-- one call, on the office of the history before it; told is the disk's count of faults at the last fault that was told, or at the opening
+abbrev pub IsLegal : ℕ → ℕ → Ask → Result Answer DeskFault → Office → List Entry → List Entry → Type 0
+IsLegal limit told question (Ok answer) office before after = IsAnswered limit question office answer before after
+IsLegal limit told question (Err (faults.StoreFault number count)) office before after =
+    Rose told count × ((after ≡ before) ⊎ MayBeKept number question office before after)
+IsLegal limit told question (Err faults.JournalFull) office before after = IsFull limit question before × (after ≡ before)
+IsLegal limit told question (Err faults.NoMemory) office before after = after ≡ before
+
+abbrev pub faults_after : ℕ → Result Answer DeskFault → ℕ
+faults_after told (Ok answer) = told
+faults_after told (Err (faults.StoreFault number count)) = count
+faults_after told (Err faults.JournalFull) = told
+faults_after told (Err faults.NoMemory) = told
+
+-- the calls in order, each on the history that the ones before it left
+abbrev pub Legal : ℕ → ℕ → List Call → List Entry → List Entry → Type 0
+Legal limit told [] before after = after ≡ before
+Legal limit told (call ∷ calls) before after =
+    (between : List Entry)
+    × IsSomeAnd (run before) (λ office. IsLegal limit told call.ask call.said office before between)
+    × Legal limit (faults_after told call.said) calls between after

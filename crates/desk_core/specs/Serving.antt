@@ -1,0 +1,73 @@
+-- What a disk owes to the calls of a desk: what a crash at any moment since its opening leaves of them.
+use Rattle.std.specs.Prelude.{◌≡◌, ℕ, zero, suc, ◌<◌, ◌≤◌, List, [], ◌∷◌, take, length, Ok, Err, Result}
+use Rattle.disk_core.specs.Files.{State, IsImage}
+use Rattle.plain_office.specs.declared.command.Entry.{Entry}
+use Rattle.meter_journal.specs.History.{header, end_gate}
+use Rattle.desk_core.specs.Answers.{Answer, Call}
+use Rattle.desk_core.specs.Calls.{Legal}
+use Rattle.desk_core.specs.Histories.{HasHistory, Begins, BeginsButOne}
+use Rattle.desk_core.specs.declared.fault.DeskFault.{DeskFault}
+use Rattle.desk_core.specs.declared.fault.DeskFault.TheVariants as faults
+
+-- ---- the calls
+
+-- the call at this place, counted from 0, was acknowledged so
+abbrev pub IsAckedAt : List Call → ℕ → Answer → Type 0
+IsAckedAt [] place answer = ⊥
+IsAckedAt (call ∷ calls) zero answer = call.said ≡ Ok answer
+IsAckedAt (call ∷ calls) (suc place) answer = IsAckedAt calls place answer
+
+-- the count told with a fault of the store is not above this
+abbrev pub IsToldBy : ℕ → Result Answer DeskFault → Type 0
+IsToldBy now (Ok answer) = Unit {0}
+IsToldBy now (Err (faults.StoreFault number count)) = count ≤ now
+IsToldBy now (Err faults.JournalFull) = Unit {0}
+IsToldBy now (Err faults.NoMemory) = Unit {0}
+
+abbrev pub AreToldBy : ℕ → List Call → Type 0
+AreToldBy now [] = Unit {0}
+AreToldBy now (call ∷ calls) = IsToldBy now call.said × AreToldBy now calls
+
+-- ---- an opening
+
+-- what is kept of an opening: the history that was read, the limit, and the disk's count of faults and its moment at the return
+pub record Opened : Type 0 where
+  pub history : List Entry
+  pub limit : ℕ
+  pub faults : ℕ
+  pub moment : ℕ
+
+-- ---- what a crash leaves
+
+-- Left by a crash at this moment or later: the image stands for the history after the first calls of the list, and these hold
+-- each call that was acknowledged by then.
+pub record Recovers (opened : Opened) (calls : List Call) (moment : ℕ) (image : List ℕ) : Type 0 where
+  pub history : List Entry
+  pub has : HasHistory history image
+  pub count : ℕ
+  pub most : count ≤ length calls
+  pub legal : Legal opened.limit opened.faults (take count calls) opened.history history
+  pub acked : (place : ℕ) (answer : Answer) → IsAckedAt calls place answer → answer.disk_moment ≤ moment → place < count
+
+module _ {D : Type 0} (state : D → State) (moment : D → ℕ) (had_since : D → ℕ → State → Type 0) (fault_count : D → ℕ) where
+  -- From an acknowledgement on all images agree on the entries below its position.
+  pub record Agrees (disk : D) (answer : Answer) : Type 0 where
+    pub entries : List Entry
+    pub place : end_gate header entries ≡ answer.position
+    pub kept : (s : State) (image : List ℕ) (history : List Entry) → had_since disk answer.disk_moment s → IsImage s.journal image → HasHistory history image
+        → Begins entries history
+
+  -- What holds of an honest disk since the opening, whatever was asked and answered.
+  pub record Serves (opened : Opened) (disk : D) (calls : List Call) : Type 0 where
+    pub later : opened.moment ≤ moment disk
+    -- at every moment since the opening, and of every image
+    pub left : (t : ℕ) (s : State) (image : List ℕ) → opened.moment ≤ t → t ≤ moment disk → had_since disk t s → IsImage s.journal image → Recovers opened calls t image
+    pub agrees : (place : ℕ) (answer : Answer) → IsAckedAt calls place answer → Agrees disk answer
+    -- now the whole list
+    pub whole : (image : List ℕ) (history : List Entry) → IsImage (state disk).journal image → HasHistory history image → Legal opened.limit opened.faults calls opened.history history
+    -- what a crash left or leaves is there still, but for one entry at its end
+    pub steady : (t : ℕ) (s : State) (image : List ℕ) (history : List Entry) → opened.moment ≤ t → t ≤ moment disk → had_since disk t s → IsImage s.journal image → HasHistory history image
+        → (image_now : List ℕ) (history_now : List Entry) → IsImage (state disk).journal image_now → HasHistory history_now image_now → BeginsButOne history history_now
+    -- moments and counts that were told are none to come
+    pub told : (place : ℕ) (answer : Answer) → IsAckedAt calls place answer → (opened.moment ≤ answer.disk_moment) × (answer.disk_moment ≤ moment disk)
+    pub faults : (opened.faults ≤ fault_count disk) × AreToldBy (fault_count disk) calls
