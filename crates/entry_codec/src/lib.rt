@@ -1,0 +1,11 @@
+//! The one spelling of each entry of a journal, written and read.
+#![tactic(auto)]
+
+mod fault;
+mod reading;
+mod writing;
+
+pub use fault::EntryFault;
+pub use plain_office::{Command, Entry};
+pub use reading::{decode, one_spelling};
+pub use writing::encode;
