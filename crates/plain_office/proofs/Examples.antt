@@ -1,12 +1,10 @@
 -- Worked examples, computed.
 use Rattle.std.proofs.Common.{◌≡◌, ℕ, List, [], ◌∷◌, refl}
-use Rattle.std.specs.Prelude.{Option, Some, None, Ok, Err, codes}
-use Rattle.plain_office.specs.Office.{Office, empty_office}
+use Rattle.std.specs.Prelude.{Some, None, Err, codes}
 use Rattle.plain_office.specs.Step.{step}
 use Rattle.plain_office.specs.Run.{accept, run}
 use Rattle.plain_office.specs.declared.command.Command.TheVariants.{CreateBucket}
 use Rattle.plain_office.specs.declared.command.Entry.{Entry}
-use Rattle.plain_office.specs.declared.reply.Reply.TheVariants.{BucketMade}
 use Rattle.plain_office.specs.declared.reply.Refusal.TheVariants.{BucketExists}
 
 abbrev made_at : ℕ → List ℕ → Entry

@@ -1,9 +1,104 @@
--- One entry more.
-use Rattle.std.proofs.Common.{◌≡◌, ℕ, List, [], ◌∷◌, ◌++◌, refl, Option, Some, None, Bool, true, false, ◌&&◌, ap, ◌∙◌}
-use Rattle.std.specs.Prelude.{option_and_then, if◌then◌else◌}
-use Rattle.plain_office.specs.Office.{Office, empty_office}
-use Rattle.plain_office.specs.Run.{accept, run_from, run}
+-- What one command does, what its answer tells, and one entry more.
+use Rattle.std.proofs.Common.{◌≡◌, ℕ, List, [], ◌∷◌, ◌++◌, refl, Option, Some, None, Bool, true, false, ◌&&◌, Result, Ok, Err, ap, sym, ◌∙◌, inl, inr}
+use Rattle.std.specs.Prelude.{option_and_then}
+use Rattle.plain_office.specs.Office.{Office, empty_office, has_bucket, with_bucket}
+use Rattle.plain_office.specs.Step.{step, IsStep}
+use Rattle.plain_office.specs.Run.{accept, is_not_before, run_from, run}
+use Rattle.plain_office.specs.declared.command.Command.{Command}
+use Rattle.plain_office.specs.declared.command.Command.TheVariants.{CreateBucket}
 use Rattle.plain_office.specs.declared.command.Entry.{Entry}
+use Rattle.plain_office.specs.declared.reply.Reply.{Reply}
+use Rattle.plain_office.specs.declared.reply.Reply.TheVariants.{BucketMade}
+use Rattle.plain_office.specs.declared.reply.Refusal.{Refusal}
+use Rattle.plain_office.specs.declared.reply.Refusal.TheVariants.{BucketExists, NoMemory}
+
+abbrev pub Answer : Type 0
+Answer = Result Reply Refusal
+
+abbrev done : Reply → Answer
+done reply = Ok reply
+
+abbrev refused : Refusal → Answer
+refused refusal = Err refusal
+
+refusal_is : (a b : Refusal) → refused a ≡ refused b → a ≡ b
+refusal_is a b e = cc
+
+no_reply : (reply : Reply) (refusal : Refusal) → done reply ≡ refused refusal → ⊥
+no_reply reply refusal e = absurd cc
+
+-- ---- what each command does
+
+pub bucket_taken : (t : ℕ) (name : List ℕ) (p : Office) → has_bucket name p ≡ true → step t (CreateBucket name) p ≡ (p, refused BucketExists)
+unfolding step
+bucket_taken t name p taken = rw taken refl
+
+pub bucket_made : (t : ℕ) (name : List ℕ) (p : Office) → has_bucket name p ≡ false
+    → step t (CreateBucket name) p ≡ (record p { last = Some t; buckets = with_bucket name p }, done (BucketMade name))
+unfolding step
+bucket_made t name p new = rw new refl
+
+-- ---- every command
+
+-- a step answers no refusal for want of memory, and where it refuses, the office stays
+record Refuses (p : Office) (x : Office × Answer) : Type 0 where
+  has_memory : x.1 ≡ refused NoMemory → ⊥
+  stays : (refusal : Refusal) → x.1 ≡ refused refusal → x.0 ≡ p
+
+exists_is_not_memory : BucketExists ≡ NoMemory → ⊥
+exists_is_not_memory e = absurd cc
+
+create_refuses : (t : ℕ) (name : List ℕ) (p : Office) (b : Bool) → has_bucket name p ≡ b → Refuses p (step t (CreateBucket name) p)
+create_refuses t name p true is = rw (bucket_taken t name p is) (record { has_memory = λ e. exists_is_not_memory (refusal_is BucketExists NoMemory e); stays = λ refusal e. refl })
+create_refuses t name p false is = rw (bucket_made t name p is) (record { has_memory = λ e. no_reply (BucketMade name) NoMemory e; stays = λ refusal e. absurd (no_reply (BucketMade name) refusal e) })
+
+refuses : (t : ℕ) (c : Command) (p : Office) → Refuses p (step t c p)
+refuses t (CreateBucket name) p = create_refuses t name p (has_bucket name p) refl
+
+pub step_has_memory : (t : ℕ) (c : Command) (p : Office) → (step t c p).1 ≡ Err NoMemory → ⊥
+step_has_memory t c p = (refuses t c p).has_memory
+
+pub step_refused : (t : ℕ) (c : Command) (p : Office) (refusal : Refusal) → (step t c p).1 ≡ Err refusal → (step t c p).0 ≡ p
+step_refused t c p = (refuses t c p).stays
+
+-- ---- what an answer tells
+
+-- a reply is the step's
+pub step_of : (x : Office × Answer) (p q : Office) (reply : Reply) → IsStep x p q (Ok reply) → x ≡ (q, Ok reply)
+step_of x p q reply (inl same) = sym same
+step_of x p q reply (inr wanting) = absurd (no_reply reply NoMemory wanting.0)
+
+-- a refusal is the step's, unless memory is wanting
+pub refusal_of : (x : Office × Answer) (p q : Office) (refusal : Refusal) → (refusal ≡ NoMemory → ⊥) → IsStep x p q (Err refusal) → x ≡ (q, Err refusal)
+refusal_of x p q refusal other (inl same) = sym same
+refusal_of x p q refusal other (inr wanting) = absurd (other (refusal_is refusal NoMemory wanting.0))
+
+-- a refused command leaves the office, for want of memory too
+pub kept_by : (t : ℕ) (c : Command) (p q : Office) (refusal : Refusal) → IsStep (step t c p) p q (Err refusal) → q ≡ p
+kept_by t c p q refusal (inl same) = ap (λ (x : Office × Answer). x.0) same ∙ step_refused t c p refusal (sym (ap (λ (x : Office × Answer). x.1) same))
+kept_by t c p q refusal (inr wanting) = wanting.1
+
+-- a command that was done is accepted
+pub accepted_by : (p q : Office) (e : Entry) (reply : Reply) → is_not_before p.last e.moment ≡ true → IsStep (step e.moment e.command p) p q (Ok reply) → accept p e ≡ Some q
+unfolding accept
+accepted_by p q e reply later is = rw (later, step_of (step e.moment e.command p) p q reply is) refl
+
+and_false : (b : Bool) → b && false ≡ false
+and_false true = refl
+and_false false = refl
+
+-- a command that was refused, and not for want of memory, is not accepted
+pub refused_by : (p q : Office) (e : Entry) (refusal : Refusal) → (refusal ≡ NoMemory → ⊥) → IsStep (step e.moment e.command p) p q (Err refusal) → (accept p e ≡ None) × (q ≡ p)
+unfolding accept
+refused_by p q e refusal other is =
+    (rw (refusal_of (step e.moment e.command p) p q refusal other is, and_false (is_not_before p.last e.moment)) refl, kept_by e.moment e.command p q refusal is)
+
+-- an entry of an earlier moment is not accepted
+pub early_refused : (p : Office) (e : Entry) → is_not_before p.last e.moment ≡ false → accept p e ≡ None
+unfolding accept
+early_refused p e early = rw early refl
+
+-- ---- runs
 
 run_from-push : (p : Option Office) (entries : List Entry) (e : Entry) → run_from p (entries ++ e ∷ []) ≡ option_and_then (λ office. accept office e) (run_from p entries)
 run_from-push p [] e = refl

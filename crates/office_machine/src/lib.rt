@@ -1,0 +1,7 @@
+//! The office in memory: its buckets, changed by commands.
+#![tactic(auto)]
+
+mod office;
+
+pub use office::Office;
+pub use plain_office::{Ask, Command, Entry, Refusal, Reply};
