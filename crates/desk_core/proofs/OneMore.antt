@@ -6,7 +6,7 @@ use Rattle.std.proofs.lemmas.List.{take-append-le, take_all, append-nil}
 use Rattle.disk_core.specs.Files.{State, IsImage}
 use Rattle.disk_core.specs.Moments.{KeepsTo}
 use Rattle.plain_office.specs.Office.{Office}
-use Rattle.plain_office.specs.Run.{run}
+use Rattle.plain_office.specs.Run.{run, entry_at}
 use Rattle.plain_office.specs.declared.command.Ask.{Ask}
 use Rattle.plain_office.specs.declared.command.Ask.TheVariants as ask
 use Rattle.plain_office.specs.declared.command.Entry.{Entry}
@@ -16,7 +16,7 @@ use Rattle.meter_journal.specs.History.{header, end_gate}
 use Rattle.desk_core.specs.declared.fault.DeskFault.{DeskFault}
 use Rattle.desk_core.specs.declared.fault.DeskFault.TheVariants as faults
 use Rattle.desk_core.specs.Answers.{Answer, Call}
-use Rattle.desk_core.specs.Calls.{Legal, IsLegal, IsReply, MayBeKept, GrowsBy, IsFull, entry_at, faults_after}
+use Rattle.desk_core.specs.Calls.{Legal, IsLegal, IsReply, MayBeKept, GrowsBy, IsFull, faults_after}
 use Rattle.desk_core.specs.Histories.{HasHistory, IsSound, HasImageOf, Begins, BeginsButOne}
 use Rattle.desk_core.specs.Serving.{IsAckedAt, IsToldBy, AreToldBy, Opened, Recovers, Agrees, Serves}
 

@@ -10,7 +10,7 @@ use Rattle.plain_office.specs.declared.reply.Reply.{Reply}
 use Rattle.plain_office.specs.declared.reply.Refusal.{Refusal}
 use Rattle.plain_office.specs.Office.{Office}
 use Rattle.plain_office.specs.Step.{step, is_accepted}
-use Rattle.plain_office.specs.Run.{run}
+use Rattle.plain_office.specs.Run.{run, entry_at}
 use Rattle.entry_codec.specs.Spelling.{spelling}
 use Rattle.meter_journal.specs.History.{header, end_gate}
 use Rattle.desk_core.specs.Answers.{Answer, Call}
@@ -20,9 +20,6 @@ use Rattle.desk_core.specs.declared.fault.DeskFault.TheVariants as faults
 -- the later of the clock's number and the last moment; a number past the end of time counts as the last moment that there is
 abbrev pub moment_after : ℕ → Office → ℕ
 moment_after told office = min (max told (unwrap_or office.last 0)) last_moment
-
-abbrev pub entry_at : ℕ → Command → Entry
-entry_at t command = record { moment = t; command = command }
 
 -- the command's frame, with the gate behind it, ends within the limit
 abbrev pub FitsIn : ℕ → List Entry → Entry → Type 0

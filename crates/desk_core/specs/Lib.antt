@@ -1,5 +1,6 @@
 pub mod Answers
 pub mod Calls
 pub mod Clocks
+pub mod Desk
 pub mod Histories
 pub mod Serving

@@ -115,6 +115,20 @@ impl<D: Disk> Journal<D> {
         Ok(self.gate)
     }
 
+    /// Reads the place of the end gate, in bytes from the start of the file.
+    pub fn end(&self) -> u64
+        ensures { result ≡ self.now.gate }
+    {
+        self.gate
+    }
+
+    /// Lends the disk, to read its count of faults.
+    pub fn disk(&self) -> &D
+        ensures { result.now ≡ self.now.disk }
+    {
+        &self.disk
+    }
+
     /// Gives the disk back.
     pub fn give_back(self) -> D
         ensures { result ≡ self.disk }

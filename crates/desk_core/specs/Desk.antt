@@ -1,0 +1,96 @@
+-- What a desk stands for, and what a call does to it.
+use Rattle.std.specs.Prelude.{◌≡◌, ◌⊎◌, ℕ, ◌-◌, ◌^◌, ◌<◌, ◌≤◌, Bool, true, false, List, [], ◌∷◌, ◌++◌, Option, Some, None, Result, Ok, Err, IsTrue}
+use Rattle.std.specs.Io.KnownBytes.{Appends}
+use Rattle.office_base.specs.Faults.{Rose}
+use Rattle.disk_core.specs.Files.{State}
+use Rattle.plain_office.specs.Office.{Office}
+use Rattle.plain_office.specs.Step.{step, is_accepted}
+use Rattle.plain_office.specs.Run.{run}
+use Rattle.plain_office.specs.declared.command.Ask.{Ask}
+use Rattle.plain_office.specs.declared.command.Ask.TheVariants as ask
+use Rattle.plain_office.specs.declared.command.Entry.{Entry}
+use Rattle.meter_journal.specs.History.{header, end_gate, IsAtRest}
+use Rattle.desk_core.specs.Answers.{Answer, Call}
+use Rattle.desk_core.specs.Calls.{Legal, moment_after}
+use Rattle.desk_core.specs.Serving.{Opened, AreToldBy, Serves}
+use Rattle.desk_core.specs.declared.fault.DeskFault.{DeskFault}
+use Rattle.desk_core.specs.declared.fault.DeskFault.TheVariants as faults
+
+-- what contracts see of a desk: its disk and clock, its office, the offset of the journal's end gate, the journal's limit, and
+-- whether a call was told a fault of the store
+pub record Seat (D C : Type 0) : Type 0 where
+  pub disk : D
+  pub clock : C
+  pub office : Office
+  pub gate : ℕ
+  pub limit : ℕ
+  pub stale : Bool
+
+-- the desk holds the office after this history, and the end of its journal; where the disk is honest the journal lies on it
+pub record Holds {D C : Type 0} (honest : Bool) (state : D → State) (history : List Entry) (desk : Seat D C) : Type 0 where
+  pub office : run history ≡ Some desk.office
+  pub end : desk.gate ≡ end_gate header history
+  pub at_rest : IsTrue honest → IsAtRest header (state desk.disk) desk.gate history
+
+-- it takes a further call
+pub record IsReady {D C : Type 0} (honest : Bool) (state : D → State) (desk : Seat D C) : Type 0 where
+  pub fresh : desk.stale ≡ false
+  pub history : List Entry
+  pub holds : Holds honest state history desk
+
+abbrev pub is_store_fault : Result Answer DeskFault → Bool
+is_store_fault (Ok answer) = false
+is_store_fault (Err (faults.StoreFault number count)) = true
+is_store_fault (Err faults.JournalFull) = false
+is_store_fault (Err faults.NoMemory) = false
+
+-- The desk stands for a list of calls since its opening: they are legal up to the history that it holds, on every disk; and an
+-- honest disk serves them, at every moment.
+pub record StandsFor {D C : Type 0} (honest : Bool) (state : D → State) (moment : D → ℕ) (had_since : D → ℕ → State → Type 0) (fault_count : D → ℕ)
+    (opened : Opened) (calls : List Call) (desk : Seat D C) : Type 0 where
+  pub limit : desk.limit ≡ opened.limit
+  pub faults : (opened.faults ≤ fault_count desk.disk) × AreToldBy (fault_count desk.disk) calls
+  pub history : List Entry
+  pub legal : Legal opened.limit opened.faults calls opened.history history
+  pub holds : desk.stale ≡ false → Holds honest state history desk
+  pub serves : IsTrue honest → Serves state moment had_since fault_count opened desk.disk calls
+
+-- the clock's number of a call stands in its answer, and in a fault of the store; of the others one number may have been told
+abbrev pub IsNumber : Option (List ℕ) → Option (List ℕ) → Result Answer DeskFault → Type 0
+IsNumber before after (Ok answer) = Appends before after (answer.told ∷ [])
+IsNumber before after (Err (faults.StoreFault (Some number) count)) = Appends before after (number ∷ [])
+IsNumber before after (Err (faults.StoreFault None count)) = Appends before after []
+IsNumber before after (Err faults.JournalFull) = Appends before after [] ⊎ ((number : ℕ) × Appends before after (number ∷ []))
+IsNumber before after (Err faults.NoMemory) = Appends before after [] ⊎ ((number : ℕ) × Appends before after (number ∷ []))
+
+-- the disk is left alone but for a command that the office accepts
+abbrev pub LeavesDisk : {D : Type 0} → Result Answer DeskFault → D → D → Type 0
+LeavesDisk (Ok answer) before after = is_accepted answer.reply ≡ false → after ≡ before
+LeavesDisk (Err (faults.StoreFault number count)) before after = Unit {0}
+LeavesDisk (Err faults.JournalFull) before after = after ≡ before
+LeavesDisk (Err faults.NoMemory) before after = after ≡ before
+
+-- a fault of the store comes only where the disk failed, and only for a command that the office accepts
+abbrev pub HasStoreReason : Result Answer DeskFault → Ask → Office → ℕ → ℕ → Type 0
+HasStoreReason (Err (faults.StoreFault (Some number) count)) (ask.Command command) office before after =
+    Rose before after × (count ≡ after) × IsTrue (is_accepted (step (moment_after number office) command office).1)
+HasStoreReason (Err (faults.StoreFault None count)) question office before after = ⊥
+HasStoreReason (Ok answer) question office before after = Unit {0}
+HasStoreReason (Err faults.JournalFull) question office before after = Unit {0}
+HasStoreReason (Err faults.NoMemory) question office before after = Unit {0}
+
+-- an answer has the end and the disk's moment of the return
+abbrev pub IsStamped : Result Answer DeskFault → ℕ → ℕ → Type 0
+IsStamped (Ok answer) end moment = (answer.position ≡ end) × (answer.disk_moment ≡ moment)
+IsStamped (Err fault) end moment = Unit {0}
+
+-- What a call does: whatever list of calls the desk stood for, it stands for that list with this call at its end.
+pub record Submits {D C : Type 0} (honest : Bool) (state : D → State) (moment : D → ℕ) (had_since : D → ℕ → State → Type 0) (fault_count : D → ℕ)
+    (count : C → ℕ) (told : C → Option (List ℕ)) (old : Seat D C) (question : Ask) (said : Result Answer DeskFault) (new : Seat D C) : Type 0 where
+  pub stands : (opened : Opened) (calls : List Call) → StandsFor honest state moment had_since fault_count opened calls old
+      → StandsFor honest state moment had_since fault_count opened (calls ++ record { ask = question; said = said } ∷ []) new
+  pub number : count new.clock < 2 ^ 64 - 1 → IsNumber (told old.clock) (told new.clock) said
+  pub clock_later : count old.clock ≤ count new.clock
+  pub disk_later : fault_count old.disk ≤ fault_count new.disk
+  pub reason : HasStoreReason said question old.office (fault_count old.disk) (fault_count new.disk)
+  pub limit : new.limit ≡ old.limit
