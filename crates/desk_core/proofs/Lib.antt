@@ -1,2 +1,4 @@
+pub mod Keeping
 pub mod OneMore
+pub mod Standing
 pub mod Told

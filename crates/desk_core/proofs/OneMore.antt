@@ -122,7 +122,7 @@ told_later (Err (faults.StoreFault number count)) before now le is = omega (arit
 told_later (Err faults.JournalFull) before now le is = tt
 told_later (Err faults.NoMemory) before now le is = tt
 
-told_more : (calls : List Call) (call : Call) (before now : ℕ) → before ≤ now → AreToldBy before calls → IsToldBy now call.said → AreToldBy now (calls ++ call ∷ [])
+pub told_more : (calls : List Call) (call : Call) (before now : ℕ) → before ≤ now → AreToldBy before calls → IsToldBy now call.said → AreToldBy now (calls ++ call ∷ [])
 told_more [] call before now le all here = (here, tt)
 told_more (c ∷ calls) call before now le all here = (told_later c.said before now le all.0, told_more calls call before now le all.1 here)
 

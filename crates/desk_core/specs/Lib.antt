@@ -3,4 +3,5 @@ pub mod Calls
 pub mod Clocks
 pub mod Desk
 pub mod Histories
+pub mod Keeping
 pub mod Serving

@@ -1,11 +1,11 @@
 -- What reading a journal file gives, at each gate.
-use Rattle.std.specs.Prelude.{◌≡◌, ◌≢◌, ◌⊎◌, ℕ, ◌+◌, ◌<◌, ◌≤◌, ◌^◌, List, [], ◌++◌, length, get_or, take, drop, Option, Some, None, Result, Ok, Err, IsErrOf, nat_lt, nat_le, ◌==◌, ◌||◌, if◌then◌else◌}
+use Rattle.std.specs.Prelude.{◌≡◌, ◌≢◌, ◌⊎◌, ℕ, ◌+◌, ◌<◌, ◌≤◌, ◌^◌, List, [], ◌∷◌, ◌++◌, length, get_or, take, drop, Option, Some, None, Result, Ok, Err, IsErrOf, nat_lt, nat_le, ◌==◌, ◌||◌, if◌then◌else◌}
 use Rattle.std.specs.Int.{w32, from_be_bytes}
 use Rattle.std.specs.List.{AllByRecursion}
 use Rattle.office_base.specs.Faults.{Rose}
 use Rattle.plain_office.specs.declared.command.Entry.{Entry}
 use Rattle.entry_codec.specs.Reading.{entry_of}
-use Rattle.entry_codec.specs.Spelling.{Fits}
+use Rattle.entry_codec.specs.Spelling.{Fits, spelling}
 use Rattle.meter_journal.specs.declared.fault.OpenFault.{OpenFault}
 use Rattle.meter_journal.specs.declared.fault.OpenFault.TheVariants as faults
 use Rattle.meter_journal.specs.History.{mark, whole, end_gate}
@@ -98,6 +98,12 @@ NextGives (Ok (Some e)) old new frame = frame ≡ Whole e new
 NextGives (Ok None) old new frame = (new ≡ old) × (frame ≡ Ended)
 NextGives (Err e) old new frame = (new ≡ old) × Fails e old frame
 
+-- what reading the next entry answers on every disk: an entry in range, whose frame is passed over; else the place stays
+abbrev pub Advances : Result (Option Entry) OpenFault → ℕ → ℕ → Type 0
+Advances (Ok (Some e)) old new = Fits e × (new ≡ old + 5 + length (spelling e))
+Advances (Ok None) old new = new ≡ old
+Advances (Err e) old new = new ≡ old
+
 -- a count of faults never falls, and StoreFault comes only where it rose
 pub record HasStoreCause {T : Type 0} (before now : ℕ) (result : Result T OpenFault) : Type 0 where
   pub later : before ≤ now
@@ -110,10 +116,8 @@ pub record HasPrefix (head : List ℕ) (entries : List Entry) (gate : ℕ) (file
   pub each : AllByRecursion Fits entries
   pub small : (entries ≡ []) ⊎ (gate + 1 ≤ 2 ^ 45)
 
--- what reading all entries of this file answers where it fails: damage at a gate, and at none before it
-abbrev pub ReadFails : List ℕ → OpenFault → List ℕ → Type 0
-ReadFails head (faults.Damaged at) file = (entries : List Entry) × HasPrefix head entries at file × (frame_at at file ≡ Broken)
-ReadFails head faults.NoMemory file = Unit {0}
-ReadFails head faults.StoreFault file = Unit {0}
-ReadFails head faults.NotMade file = ⊥
-ReadFails head faults.Foreign file = ⊥
+-- what stands at the gate behind the first of these entries: the end behind all of them, or the next one
+abbrev pub GoesOn : List Entry → List Entry → ℕ → List ℕ → Type 0
+GoesOn front entries gate file =
+    ((front ≡ entries) × (frame_at gate file ≡ Ended))
+    ⊎ ((e : Entry) × (more : List Entry) × (entries ≡ front ++ e ∷ more) × (frame_at gate file ≡ Whole e (gate + 5 + length (spelling e))))

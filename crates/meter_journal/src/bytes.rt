@@ -2,6 +2,7 @@
 ghost use Rattle.std.specs.Prelude.{◌≡◌, ◌+◌, ◌<◌, ◌≤◌, ◌^◌, length, take, drop, IsErrOf, IfOk};
 ghost use Rattle.std.specs.Int.{w32};
 ghost use Rattle.entry_codec.specs.Reading.{entry_of};
+ghost use Rattle.entry_codec.specs.Spelling.{Fits, spelling};
 ghost use Rattle.meter_journal.specs.Reading.{HeadGives, BodyGives, FrameGives, entry_frame, body_at, frame_at, size_at};
 
 use crate::fault::OpenFault;
@@ -14,8 +15,8 @@ use std::alloc::Global;
 ///
 /// # Errors
 ///
-/// `NotMade`: they are fewer than 11, or 11 that begin with a closed gate. `Foreign`: they are more and begin with a closed gate, or
-/// they begin with an open gate and another mark than that of a journal.
+/// `NotMade`: they are fewer than 11, or 11 that begin with a closed gate. `Foreign`: they are more and begin with
+/// a closed gate, or they begin with an open gate and another mark than that of a journal.
 pub fn made(bytes: &[u8]) -> Result<(), OpenFault>
     ensures exact { HeadGives result bytes.now }
     ensures told { IsErrOf result OpenFault.StoreFault → ⊥ }
@@ -34,6 +35,7 @@ pub(crate) fn entry_in(alloc: Global, gate: u64, bytes: &[u8]) -> Result<(Entry,
     ensures exact { BodyGives result gate (entry_frame (gate + 5 + length bytes.now) (entry_of bytes.now)) }
     ensures told { IsErrOf result OpenFault.StoreFault → ⊥ }
     ensures place { IfOk result (λ x. x.1 ≡ gate + 5 + length bytes.now) }
+    ensures spelled { IfOk result (λ x. Fits x.0 × (x.1 ≡ gate + 5 + length (spelling x.0))) }
 {
     match decode(alloc, bytes) {
         Ok(entry) => Ok((entry, gate + 5 + bytes.len() as u64)),
@@ -80,8 +82,8 @@ fn body_in(alloc: Global, bytes: &[u8], gate: usize) -> Result<(Entry, u64), Ope
 ///
 /// # Errors
 ///
-/// `Damaged` at the gate: it lies past the end; or it is open and the frame's length, its entry or the next gate ends past the end or
-/// past 2^45 bytes, or the frame holds no entry. `NoMemory`: memory for the entry ran out.
+/// `Damaged` at the gate: it lies past the end; or it is open and the frame's length, its entry or the next gate
+/// ends past the end or past 2^45 bytes, or the frame holds no entry. `NoMemory`: memory for the entry ran out.
 #[tactic(auto, unfolding(crate::specs::Reading::frame_at))]
 pub fn frame(alloc: Global, bytes: &[u8], gate: u64) -> Result<Option<(Entry, u64)>, OpenFault>
     ensures exact { FrameGives result gate (frame_at gate bytes.now) }

@@ -3,9 +3,10 @@ ghost use Rattle.std.specs.Prelude.{◌≡◌, ◌+◌, ◌<◌, ◌≤◌, ◌^
 ghost use Rattle.std.specs.Int.{w32};
 ghost use Rattle.office_base.specs.Faults.{Rose, HasCause};
 ghost use Rattle.disk_core.specs.Files.{synced_file};
+ghost use Rattle.entry_codec.specs.Spelling.{Fits, spelling};
 ghost use Rattle.disk_core.specs.Kept.{Narrower};
 ghost use Rattle.disk_core.specs.Moments.{KeepsTo, Untouched};
-ghost use Rattle.meter_journal.specs.Reading.{body_at, frame_at, size_at, entry_at, BodyGives, FrameGives, NextGives, HeadGives, IsMade, HasStoreCause, from_or_first};
+ghost use Rattle.meter_journal.specs.Reading.{body_at, frame_at, size_at, entry_at, BodyGives, FrameGives, NextGives, HeadGives, IsMade, HasStoreCause, from_or_first, Advances};
 ghost use Rattle.meter_journal.specs.declared.fault.OpenFault.TheVariants.{StoreFault};
 
 use crate::bytes::entry_in;
@@ -70,6 +71,7 @@ fn entry_of<D: Disk>(
     requires inside { IsTrue D.honest → gate + 5 + size ≤ length (D.state disk.old).journal.seen }
     ensures exact { IsTrue D.honest → BodyGives result gate (entry_at gate size (D.state disk.old).journal.seen) }
     ensures place { IfOk result (λ x. x.1 ≡ gate + 5 + size) }
+    ensures spelled { IfOk result (λ x. Fits x.0 × (x.1 ≡ gate + 5 + length (spelling x.0))) }
     ensures untouched { IsTrue D.honest → Untouched D.state D.moment D.had_since disk.old disk.new }
     ensures cause { HasStoreCause (D.fault_count disk.old) (D.fault_count disk.new) result }
 {
@@ -99,6 +101,7 @@ fn body_of<D: Disk>(
     requires known { IsTrue D.honest → end ≡ length (D.state disk.old).journal.seen }
     ensures exact { IsTrue D.honest → BodyGives result gate (body_at gate (D.state disk.old).journal.seen) }
     ensures rises { IfOk result (λ x. (gate < x.1) × (x.1 ≤ 2 ^ 45)) }
+    ensures spelled { IfOk result (λ x. Fits x.0 × (x.1 ≡ gate + 5 + length (spelling x.0))) }
     ensures untouched { IsTrue D.honest → Untouched D.state D.moment D.had_since disk.old disk.new }
     ensures cause { HasStoreCause (D.fault_count disk.old) (D.fault_count disk.new) result }
 {
@@ -125,6 +128,7 @@ fn frame_of<D: Disk>(
     requires known { IsTrue D.honest → end ≡ length (D.state disk.old).journal.seen }
     ensures exact { IsTrue D.honest → FrameGives result gate (frame_at gate (D.state disk.old).journal.seen) }
     ensures rises { IfOk result (λ read. IfSome read (λ x. (gate < x.1) × (x.1 ≤ 2 ^ 45))) }
+    ensures spelled { IfOk result (λ read. IfSome read (λ x. Fits x.0 × (x.1 ≡ gate + 5 + length (spelling x.0)))) }
     ensures untouched { IsTrue D.honest → Untouched D.state D.moment D.had_since disk.old disk.new }
     ensures cause { HasStoreCause (D.fault_count disk.old) (D.fault_count disk.new) result }
 {
@@ -144,13 +148,14 @@ fn frame_of<D: Disk>(
 impl<D: Disk> Opening<D> {
     /// Opens a journal, to be read from its first gate or from this place.
     ///
-    /// The file is synced and its head is read; nothing is written, so its images are among those from before. `limit` and `from` are
-    /// in bytes from the start of the file; `from` is a gate that was read before.
+    /// The file is synced and its head is read; nothing is written, so its images are among those from before.
+    /// `limit` and `from` are in bytes from the start of the file; `from` is a gate that was read before.
     ///
     /// # Errors
     ///
-    /// The disk comes back beside the fault. `StoreFault`: the disk did not do a call. `NotMade`: the file is shorter than 11 bytes, or
-    /// has 11 bytes and a closed gate at its head. `Foreign`: it is longer and has no open gate at its head, or has another mark.
+    /// The disk comes back beside the fault. `StoreFault`: the disk did not do a call. `NotMade`: the file is
+    /// shorter than 11 bytes, or has 11 bytes and a closed gate at its head. `Foreign`: it is longer and has no
+    /// open gate at its head, or has another mark.
     pub fn begin(mut disk: D, limit: u64, from: Option<u64>) -> Result<Opening<D>, (OpenFault, D)>
         requires limit { limit ≤ 2 ^ 45 }
         requires from { IfSome from (λ place. 10 ≤ place) }
@@ -187,15 +192,17 @@ impl<D: Disk> Opening<D> {
     ///
     /// # Errors
     ///
-    /// The next call then reads at the same gate again. `Damaged` at the gate: it lies past the end of the file; or it is open and the
-    /// frame's length, its entry or the next gate ends past the end or past 2^45 bytes, or the frame holds no entry. `StoreFault`: the
-    /// disk did not do a call. `NoMemory`: memory for the entry ran out.
+    /// The next call then reads at the same gate again. `Damaged` at the gate: it lies past the end of the file; or
+    /// it is open and the frame's length, its entry or the next gate ends past the end or past 2^45 bytes, or the
+    /// frame holds no entry. `StoreFault`: the disk did not do a call. `NoMemory`: memory for the entry ran out.
     pub fn next(&mut self, alloc: Global) -> Result<Option<Entry>, OpenFault>
         requires known { IsTrue D.honest → self.old.length ≡ length (D.state self.old.disk).journal.seen }
         ensures exact { IsTrue D.honest → NextGives result self.old.gate self.new.gate (frame_at self.old.gate (D.state self.old.disk).journal.seen) }
         ensures untouched { IsTrue D.honest → Untouched D.state D.moment D.had_since self.old.disk self.new.disk }
         ensures cause { HasStoreCause (D.fault_count self.old.disk) (D.fault_count self.new.disk) result }
         ensures rises { IfOk result (λ read. IfSome read (λ e. (self.old.gate < self.new.gate) × (self.new.gate ≤ 2 ^ 45))) }
+        // On every disk: what is read is an entry in range, and its frame is passed over.
+        ensures advances { Advances result self.old.gate self.new.gate }
         ensures length { self.new.length ≡ self.old.length }
         ensures limit { self.new.limit ≡ self.old.limit }
     {

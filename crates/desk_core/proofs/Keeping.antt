@@ -1,0 +1,126 @@
+-- A call on a desk: from what the office and the journal did to the list of calls that the desk stands for.
+use Rattle.std.proofs.Common.{◌≡◌, ◌⊎◌, inl, inr, ⊎_elim, ℕ, ◌+◌, ◌-◌, ◌^◌, ◌≤◌, min, Bool, true, false, List, [], ◌∷◌, ◌++◌, length, Option, Some, None, Result, Ok, Err, refl, sym, ap, ◌∙◌, subst, arith}
+use Rattle.std.specs.Prelude.{IsSome, IsSomeAnd, IsTrue, option_and_then}
+use Rattle.office_base.specs.Faults.{Rose}
+use Rattle.disk_core.specs.Files.{State, IsImage}
+use Rattle.disk_core.specs.Moments.{KeepsTo}
+use Rattle.disk_core.proofs.Time.{started, weakened}
+use Rattle.plain_office.specs.Office.{Office}
+use Rattle.plain_office.specs.Step.{step, is_accepted}
+use Rattle.plain_office.specs.Run.{run, accept, entry_at}
+use Rattle.plain_office.specs.declared.command.Ask.{Ask}
+use Rattle.plain_office.specs.declared.command.Ask.TheVariants as ask
+use Rattle.plain_office.specs.declared.command.Command.{Command}
+use Rattle.plain_office.specs.declared.command.Entry.{Entry}
+use Rattle.plain_office.proofs.Runs.{run_more}
+use Rattle.entry_codec.specs.Spelling.{spelling}
+use Rattle.meter_journal.specs.History.{header, end_gate, HasEntries, IsAtRest, BeforeOrAfter}
+use Rattle.meter_journal.proofs.History.{each_image}
+use Rattle.meter_journal.proofs.Unique.{entries_unique}
+use Rattle.desk_core.specs.declared.fault.DeskFault.{DeskFault}
+use Rattle.desk_core.specs.declared.fault.DeskFault.TheVariants as faults
+use Rattle.desk_core.specs.Answers.{Answer, Call}
+use Rattle.desk_core.specs.Calls.{Legal, IsLegal, FitsIn, IsFull, moment_after, faults_after}
+use Rattle.desk_core.specs.Histories.{HasHistory, HasImageOf}
+use Rattle.desk_core.specs.Serving.{Opened, AreToldBy, IsToldBy, Serves}
+use Rattle.desk_core.specs.Desk.{Seat, Holds, StandsFor, IsStamped}
+use Rattle.desk_core.specs.Keeping.{Replied, Grows, Stays, Fails, Keeps}
+use Rattle.desk_core.proofs.OneMore.{last_faults, InCall, IsKept, Makes, one_more, legal_append, told_more}
+
+-- ---- one call alone
+
+pub one_legal : (limit told : ℕ) (call : Call) (before after : List Entry) (p : Office) → run before ≡ Some p → IsLegal limit told call.ask call.said p before after → Legal limit told (call ∷ []) before after
+one_legal limit told call before after p is legal =
+    (after, subst (λ (o : Option Office). IsSomeAnd o (λ office. IsLegal limit told call.ask call.said office before after)) (sym is) legal, refl)
+
+pub rose_from : (a b c : ℕ) → a ≤ b → Rose b c → Rose a c
+rose_from a b c le rose = omega (arith, le, rose)
+
+last_next : (first now : ℕ) (said : Result Answer DeskFault) → first ≤ now → IsToldBy now said → faults_after first said ≤ now
+last_next first now (Ok answer) le told = le
+last_next first now (Err (faults.StoreFault number count)) le told = told
+last_next first now (Err faults.JournalFull) le told = le
+last_next first now (Err faults.NoMemory) le told = le
+
+pub last_below : (first now : ℕ) (calls : List Call) → first ≤ now → AreToldBy now calls → last_faults first calls ≤ now
+last_below first now [] le told = le
+last_below first now (call ∷ calls) le told = last_below (faults_after first call.said) now calls (last_next first now call.said le told.0) told.1
+
+-- ---- histories of images
+
+some_run : (before : List Entry) (p : Office) → run before ≡ Some p → IsSome (run before)
+some_run before p is = subst (λ (o : Option Office). IsSome o) (sym is) refl
+
+pub rest_image : (s : State) (gate : ℕ) (before : List Entry) (p : Office) → IsAtRest header s gate before → run before ≡ Some p → (image : List ℕ) → IsImage s.journal image → HasHistory before image
+rest_image s gate before p rest is image has = record { entries = each_image header s gate before rest image has; accepted = some_run before p is }
+
+pub unique : (h before : List Entry) (image : List ℕ) → HasHistory h image → HasEntries header before image → h ≡ before
+unique h before image has entries = entries_unique header h before image has.entries entries
+
+module _ {D : Type 0} (state : D → State) (moment : D → ℕ) (had_since : D → ℕ → State → Type 0) (fault_count : D → ℕ)
+    (counts_now : (disk : D) (t : ℕ) → t ≤ moment disk → had_since disk t (state disk))
+    (only_now : (disk : D) (s : State) → had_since disk (moment disk) s → s ≡ state disk)
+    (since_earlier : (disk : D) (t u : ℕ) (s : State) → t ≤ u → had_since disk u s → had_since disk t s) where
+
+  -- ---- what a call makes of the disk, where the journal lay at rest on it
+
+  module _ (old : D) (gate : ℕ) (before : List Entry) (p : Office) (rest : IsAtRest header (state old) gate before) (is_run : run before ≡ Some p) (reads : IsImage (state old).journal (state old).journal.seen)
+      (limit last : ℕ) (call : Call) where
+    abbrev Rule : List Entry → Type 0
+    Rule after = Legal limit last (call ∷ []) before after
+
+    abbrev In : State → Type 0
+    In s = InCall state moment had_since fault_count old limit last call before s
+
+    settled : HasImageOf (state old) before
+    settled = record { image = (state old).journal.seen; is_image = reads; has = rest_image (state old) gate before p rest is_run (state old).journal.seen reads }
+
+    still : In (state old)
+    still = record {
+      sound = λ image is. (before, rest_image (state old) gate before p rest is_run image is);
+      each = λ image h is has. inl (record { image = image; is_image = is; has = has });
+    }
+
+    pub makes_still : (new : D) → new ≡ old → Rule before → IsKept state moment had_since fault_count new call.said → IsToldBy (fault_count new) call.said → Makes state moment had_since fault_count old new limit last call
+    makes_still new same rule kept told = record {
+      settled = before;
+      is_settled = settled;
+      run = subst (λ (d : D). KeepsTo state moment had_since old d In) (sym same) (started state moment had_since old In (only_now old) still);
+      done = λ image h is has.
+          let here = subst (λ (d : D). IsImage (state d).journal image) same is in
+          subst Rule (sym (unique h before image has (each_image header (state old) gate before rest image here))) rule;
+      kept = kept;
+      faults = (subst (λ (d : D). fault_count old ≤ fault_count d) (sym same) (omega arith), told);
+    }
+
+    module _ (entry : Entry) (q : Office) (is_more : run (before ++ entry ∷ []) ≡ Some q) (grown : Rule (before ++ entry ∷ [])) where
+      in_call : (s : State) → BeforeOrAfter header before entry (state old) s → In s
+      in_call s both = record {
+        sound = λ image is. ⊎_elim (λ (e : HasEntries header before image). (before, record { entries = e; accepted = some_run before p is_run }))
+            (λ (e : HasEntries header (before ++ entry ∷ []) image). (before ++ entry ∷ [], record { entries = e; accepted = some_run (before ++ entry ∷ []) q is_more })) (both.journal image is);
+        each = λ image h is has. ⊎_elim (λ (e : HasEntries header before image). inl (subst (λ (x : List Entry). HasImageOf (state old) x) (sym (unique h before image has e)) settled))
+            (λ (e : HasEntries header (before ++ entry ∷ []) image). inr (subst Rule (sym (unique h (before ++ entry ∷ []) image has e)) grown)) (both.journal image is);
+      }
+
+      pub makes_grown : (new : D) (end : ℕ) → KeepsTo state moment had_since old new (BeforeOrAfter header before entry (state old)) → IsAtRest header (state new) end (before ++ entry ∷ [])
+          → IsKept state moment had_since fault_count new call.said → (fault_count old ≤ fault_count new) × IsToldBy (fault_count new) call.said → Makes state moment had_since fault_count old new limit last call
+      makes_grown new end kept_to rest_new kept told = record {
+        settled = before;
+        is_settled = settled;
+        run = weakened state moment had_since old new (BeforeOrAfter header before entry (state old)) In in_call kept_to;
+        done = λ image h is has. subst Rule (sym (unique h (before ++ entry ∷ []) image has (each_image header (state new) end (before ++ entry ∷ []) rest_new image is))) grown;
+        kept = kept;
+        faults = told;
+      }
+
+      pub makes_failed : (new : D) → Rule before → KeepsTo state moment had_since old new (BeforeOrAfter header before entry (state old))
+          → IsKept state moment had_since fault_count new call.said → (fault_count old ≤ fault_count new) × IsToldBy (fault_count new) call.said → Makes state moment had_since fault_count old new limit last call
+      makes_failed new rule kept_to kept told = record {
+        settled = before;
+        is_settled = settled;
+        run = weakened state moment had_since old new (BeforeOrAfter header before entry (state old)) In in_call kept_to;
+        done = λ image h is has. ⊎_elim (λ (e : HasEntries header before image). subst Rule (sym (unique h before image has e)) rule)
+            (λ (e : HasEntries header (before ++ entry ∷ []) image). subst Rule (sym (unique h (before ++ entry ∷ []) image has e)) grown) (kept_to.now.journal image is);
+        kept = kept;
+        faults = told;
+      }
