@@ -21,7 +21,7 @@ use Rattle.desk_core.specs.declared.fault.DeskFault.TheVariants as faults
 use Rattle.desk_core.specs.Answers.{Answer, Call}
 use Rattle.desk_core.specs.Calls.{Legal, IsLegal, IsReply, GrowsBy, FitsIn, IsFull, moment_after}
 use Rattle.desk_core.specs.Serving.{Opened, IsToldBy}
-use Rattle.desk_core.specs.Desk.{Seat, Holds, StandsFor, is_store_fault}
+use Rattle.desk_core.specs.Desk.{Seat, Holds, StandsFor, HasStoreReason, is_store_fault}
 use Rattle.desk_core.specs.Keeping.{Replied, Grows, Stays, Fails, Keeps}
 use Rattle.desk_core.proofs.Keeping.{one_legal, rose_from, last_below, unique, makes_still, makes_grown, makes_failed}
 use Rattle.desk_core.proofs.OneMore.{last_faults, IsKept, Makes, one_more, legal_append, told_more}
@@ -178,3 +178,38 @@ module _ {D : Type 0} {C : Type 0} (honest : Bool) (state : D → State) (moment
     full_call t size command disk office gate is full =
         unkept_call (ask.Command command) faults.JournalFull disk office gate
         (full_at opened.limit t old.gate size command s.history held.end is (λ fit. full (omega (arith, fit, s.limit))), refl) tt
+
+  -- ---- a call of which the clock told its number
+
+  module _ (desk : Seat D C) (clock : C) (fresh : desk.stale ≡ false) (opened : Opened) (calls : List Call) (s : Stands opened calls desk) where
+    abbrev told : Seat D C
+    told = record desk { clock = clock }
+
+    told_stands : Stands opened calls told
+    told_stands = at_clock opened calls desk clock s
+
+    pub no_memory : (question : Ask) → Stands opened (calls ++ record { ask = question; said = Err faults.NoMemory } ∷ []) told
+    no_memory question = unkept_call told told fresh refl (omega arith) opened calls told_stands question faults.NoMemory refl refl refl refl tt
+
+    pub no_room : (t size : ℕ) (command : Command) → size ≡ length (spelling (entry_at t command)) → (desk.gate + 6 + size ≤ desk.limit → ⊥)
+        → Stands opened (calls ++ record { ask = ask.Command command; said = Err faults.JournalFull } ∷ []) told
+    no_room t size command is full = full_call told told fresh refl (omega arith) opened calls told_stands t size command refl refl refl is full
+
+    pub kept_one : (new : Seat D C) (t number size : ℕ) (command : Command) (said : Result Answer DeskFault) → new.limit ≡ desk.limit → fault_count desk.disk ≤ fault_count new.disk → t ≡ moment_after number desk.office
+        → size ≡ length (spelling (entry_at t command)) → desk.gate + 6 + size ≤ desk.limit → new.stale ≡ is_store_fault said
+        → ((before : List Entry) → Holds honest state before told → Keeps honest state moment had_since fault_count t number command before told new said)
+        → Stands opened (calls ++ record { ask = ask.Command command; said = said } ∷ []) new
+    kept_one new t number size command said limit later at is fits stale keeps =
+        kept_call told new fresh limit later opened calls told_stands t number command at (subst (λ (n : ℕ). desk.gate + 6 + n ≤ desk.limit) is fits) said stale (keeps told_stands.history (told_stands.holds fresh))
+
+  pub reason_of : (t number : ℕ) (command : Command) (before : List Entry) (old new : Seat D C) (said : Result Answer DeskFault) → t ≡ moment_after number old.office
+      → Keeps honest state moment had_since fault_count t number command before old new said → HasStoreReason said (ask.Command command) old.office (fault_count old.disk) (fault_count new.disk)
+  reason_of t number command before old new (Ok answer) at keeps = tt
+  reason_of t number command before old new (Err (faults.StoreFault (Some told) count)) at keeps = (
+    keeps.2.rose,
+    keeps.1,
+    subst (λ (m : ℕ). IsTrue (is_accepted (step m command old.office).1)) (at ∙ ap (λ (n : ℕ). moment_after n old.office) (sym keeps.0)) (accepted_step old.office keeps.2.accepted.0 (entry_at t command) keeps.2.accepted.1),
+  )
+  reason_of t number command before old new (Err (faults.StoreFault None count)) at keeps = keeps
+  reason_of t number command before old new (Err faults.JournalFull) at keeps = tt
+  reason_of t number command before old new (Err faults.NoMemory) at keeps = tt

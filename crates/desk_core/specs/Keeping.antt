@@ -8,7 +8,9 @@ use Rattle.plain_office.specs.Step.{step, is_accepted}
 use Rattle.plain_office.specs.Run.{accept, entry_at}
 use Rattle.plain_office.specs.declared.command.Command.{Command}
 use Rattle.plain_office.specs.declared.command.Entry.{Entry}
-use Rattle.meter_journal.specs.History.{header, BeforeOrAfter}
+use Rattle.plain_office.specs.declared.reply.Reply.{Reply}
+use Rattle.plain_office.specs.declared.reply.Refusal.{Refusal}
+use Rattle.meter_journal.specs.History.{header, end_gate, IsAtRest, BeforeOrAfter}
 use Rattle.desk_core.specs.Answers.{Answer}
 use Rattle.desk_core.specs.Desk.{Seat, Holds, IsStamped}
 use Rattle.desk_core.specs.declared.fault.DeskFault.{DeskFault}
@@ -38,6 +40,20 @@ module _ {D C : Type 0} (honest : Bool) (state : D → State) (moment : D → �
     pub run : IsTrue honest → KeepsTo state moment had_since old.disk new.disk (BeforeOrAfter header before entry (state old.disk))
     pub rose : Rose (fault_count old.disk) (fault_count new.disk)
 
+  -- what adding an entry does, whose reply this is: the entry is there, or the disk failed
+  abbrev pub Adds : ℕ → ℕ → Result Reply Refusal → List Entry → Entry → Seat D C → Seat D C → Result Answer DeskFault → Type 0
+  Adds t number reply before entry old new (Ok answer) =
+      (answer ≡ record { moment = t; told = number; reply = reply; position = new.gate; disk_moment = moment new.disk })
+      × (new.gate ≡ end_gate header (before ++ entry ∷ []))
+      × (IsTrue honest → IsAtRest header (state new.disk) new.gate (before ++ entry ∷ []) × KeepsTo state moment had_since old.disk new.disk (BeforeOrAfter header before entry (state old.disk)))
+  Adds t number reply before entry old new (Err (faults.StoreFault (Some told) count)) =
+      (told ≡ number) × (count ≡ fault_count new.disk) × Rose (fault_count old.disk) (fault_count new.disk)
+      × (IsTrue honest → KeepsTo state moment had_since old.disk new.disk (BeforeOrAfter header before entry (state old.disk)))
+  Adds t number reply before entry old new (Err (faults.StoreFault None count)) = ⊥
+  Adds t number reply before entry old new (Err faults.JournalFull) = ⊥
+  Adds t number reply before entry old new (Err faults.NoMemory) = ⊥
+
+  -- what a command does
   abbrev pub Keeps : ℕ → ℕ → Command → List Entry → Seat D C → Seat D C → Result Answer DeskFault → Type 0
   Keeps t number command before old new (Ok answer) =
       Replied t number command old.office answer × IsStamped (Ok answer) new.gate (moment new.disk)

@@ -1,5 +1,6 @@
 // An answer of the office whose effect is durable.
-ghost use Rattle.std.specs.Prelude.{◌≡◌};
+ghost use Rattle.std.specs.Prelude.{◌≡◌, Err};
+ghost use Rattle.plain_office.specs.declared.reply.Refusal.TheVariants.{NoMemory};
 
 use moments::Moment;
 use plain_office::{Refusal, Reply};
@@ -30,6 +31,25 @@ impl Model for Acked {
 }
 
 impl Acked {
+    pub(crate) fn new(
+        moment: Moment,
+        told: u64,
+        reply: Result<Reply, Refusal>,
+        position: u64,
+        at: Snapshot<u64>,
+    ) -> Acked
+        requires { reply ≡ Err NoMemory → ⊥ }
+        ensures { result ≡ record { moment = moment; told = told; reply = reply; position = position; disk_moment = at.value } }
+    {
+        Acked {
+            moment,
+            told,
+            reply,
+            position,
+            at,
+        }
+    }
+
     /// Reads the office's answer.
     pub fn reply(&self) -> &Result<Reply, Refusal>
         ensures { result.now ≡ self.now.reply }

@@ -1,5 +1,5 @@
 // What time it is.
-ghost use Rattle.std.specs.Prelude.{◌≡◌, ◌+◌, ◌-◌, ◌^◌, ◌<◌, min, ◌∷◌, [], ℕ, List, Option, Some, None};
+ghost use Rattle.std.specs.Prelude.{◌≡◌, ◌+◌, ◌-◌, ◌^◌, ◌<◌, ◌≤◌, min, ◌∷◌, [], ℕ, List, Option, Some, None};
 ghost use Rattle.std.specs.Io.KnownBytes.{Appends};
 ghost use Rattle.desk_core.specs.Clocks.{number_at, numbers_told, ListNumbers};
 
@@ -19,6 +19,7 @@ pub trait Clock {
     /// Tells a number.
     fn now(&mut self) -> u64
         ensures count { count self.new ≡ min (count self.old + 1) (2 ^ 64 - 1) }
+        ensures later { count self.old ≤ count self.new }
         ensures last { last self.new ≡ result }
         ensures told { count self.new < 2 ^ 64 - 1 → Appends (told self.old) (told self.new) (result ∷ []) };
 }

@@ -3,8 +3,10 @@
 
 mod acked;
 mod clock;
+mod desk;
 mod fault;
 
 pub use acked::Acked;
 pub use clock::{Clock, ListClock, SystemClock};
+pub use desk::Desk;
 pub use fault::DeskFault;
