@@ -4,4 +4,5 @@ pub mod Clocks
 pub mod Desk
 pub mod Histories
 pub mod Keeping
+pub mod Opening
 pub mod Serving

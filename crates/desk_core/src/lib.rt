@@ -5,6 +5,7 @@ mod acked;
 mod clock;
 mod desk;
 mod fault;
+mod opening;
 
 pub use acked::Acked;
 pub use clock::{Clock, ListClock, SystemClock};

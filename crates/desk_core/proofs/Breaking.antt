@@ -1,0 +1,162 @@
+-- Why a journal is not opened.
+use Rattle.std.proofs.Common.{◌≡◌, ◌⊎◌, ℕ, ◌+◌, ◌-◌, ◌<◌, ◌≤◌, List, [], ◌∷◌, ◌++◌, length, get_or, Bool, true, false, sym, ap, ◌∙◌, subst, refl, Option, Some, None, Result, Ok, Err, inl, inr, ⊎_elim, arith}
+use Rattle.std.specs.Prelude.{IsTrue, IsSome, option_and_then, OnOk, IfErr}
+use Rattle.disk_core.specs.Files.{State, File, IsImage, synced_file}
+use Rattle.plain_office.specs.Office.{Office, empty_office}
+use Rattle.plain_office.specs.Step.{step, IsStep}
+use Rattle.plain_office.specs.Run.{run, run_from, accept, is_not_before}
+use Rattle.plain_office.specs.declared.command.Entry.{Entry}
+use Rattle.plain_office.specs.declared.reply.Reply.{Reply}
+use Rattle.plain_office.specs.declared.reply.Refusal.{Refusal}
+use Rattle.plain_office.specs.declared.reply.Refusal.TheVariants as refusals
+use Rattle.plain_office.proofs.Runs.{accepted_by, refused_by, early_refused, run_more, run_none, run-push}
+use Rattle.meter_journal.specs.declared.fault.OpenFault.{OpenFault}
+use Rattle.meter_journal.specs.declared.fault.OpenFault.TheVariants as faults
+use Rattle.entry_codec.specs.Spelling.{Fits, spelling}
+use Rattle.meter_journal.specs.History.{whole, header, end_gate, HasEntries, IsAtRest}
+use Rattle.meter_journal.specs.Reading.{IsMade, IsNotMade, IsForeign, HeadGives, NextGives, Advances, HasPrefix, frame_at, Broken, Whole, Ended, Frame}
+use Rattle.meter_journal.proofs.Heads.{made_head, made_not_none, made_not_foreign, history_made}
+use Rattle.meter_journal.proofs.Prefix.{read_start, read_more, read_end}
+use Rattle.meter_journal.proofs.Unique.{goes_on, never_broken}
+use Rattle.desk_core.specs.Histories.{HasHistory}
+use Rattle.desk_core.specs.Opening.{IsDamagedAt, OpenFails, ReplayFails, HasRead, HasReplayed}
+use Rattle.desk_core.proofs.Adding.{end_more}
+
+pub not_in_order : (p : Office) (e : Entry) → is_not_before p.last e.moment ≡ false → accept p e ≡ None
+not_in_order p e is = early_refused p e is
+
+pub taken : (p q : Office) (e : Entry) (reply : Reply) → is_not_before p.last e.moment ≡ true → IsStep (step e.moment e.command p) p q (Ok reply) → accept p e ≡ Some q
+taken p q e reply later is = accepted_by p q e reply later is
+
+pub not_taken : (p q : Office) (e : Entry) (refusal : Refusal) (fault : OpenFault) (gate : ℕ) → IsStep (step e.moment e.command p) p q (Err refusal) → (refusal ≡ refusals.NoMemory → fault ≡ faults.NoMemory)
+    → ((refusal ≡ refusals.NoMemory → ⊥) → fault ≡ faults.Damaged gate) → (fault ≡ faults.NoMemory) ⊎ ((fault ≡ faults.Damaged gate) × (accept p e ≡ None))
+not_taken p q e refusals.NoMemory fault gate is memory damaged = inl (memory refl)
+not_taken p q e refusals.BucketExists fault gate is memory damaged = inr (damaged (λ e. cc), (refused_by p q e refusals.BucketExists (λ e. cc) is).0)
+
+-- ---- reading all entries
+
+end_none : end_gate header [] ≡ 10
+unfolding whole
+end_none = refl
+
+module _ {D : Type 0} (honest : Bool) (state : D → State) where
+  pub none_read : (disk : D) (gate : ℕ) (office : Office) → gate ≡ 10 → office ≡ empty_office → HasRead honest state disk gate office
+  none_read disk gate office first empty = record {
+    history = [];
+    is_run = run_none ∙ ap (λ (p : Office). Some p) (sym empty);
+    end = first ∙ sym end_none;
+    prefix = λ tells file on_disk made. subst (λ (k : ℕ). HasPrefix header [] k file) (sym first) (read_start header [] 10 file refl (made_head file made) refl);
+  }
+
+  pub one_read : (disk mid : D) (gate next : ℕ) (office after : Office) (o : Option Entry) (e : Entry) → HasRead honest state disk gate office → (IsTrue honest → state mid ≡ state disk)
+      → (IsTrue honest → (i : ℕ) → get_or (state disk).journal.seen i 0 < 256) → o ≡ Some e → (IsTrue honest → NextGives (Ok o) gate next (frame_at gate (state mid).journal.seen)) → Advances (Ok o) gate next
+      → accept office e ≡ Some after → HasRead honest state disk next after
+  one_read disk mid gate next office after o e read same bytes is gives advances accepted =
+      let passed : Fits e × (next ≡ gate + 5 + length (spelling e)) = subst (λ (x : Option Entry). Advances (Ok x) gate next) is advances in
+      record {
+        history = read.history ++ e ∷ [];
+        is_run = run_more read.history e office after read.is_run accepted;
+        end = omega (arith, passed.1, read.end, end_more header read.history e);
+        prefix = λ tells file on_disk made. read_more header (state disk) (state mid) file read.history (read.history ++ e ∷ []) gate next o e (same tells) on_disk (bytes tells) (read.prefix tells file on_disk made) is (gives tells) refl;
+      }
+
+  pub all_read : (disk mid new : D) (gate next : ℕ) (office : Office) (o : Option Entry) → HasRead honest state disk gate office → (IsTrue honest → state mid ≡ state disk) → (IsTrue honest → state new ≡ state mid)
+      → o ≡ None → (IsTrue honest → NextGives (Ok o) gate next (frame_at gate (state mid).journal.seen)) → Advances (Ok o) gate next → HasReplayed honest state disk new next office
+  all_read disk mid new gate next office o read same still is gives advances = record {
+    history = read.history;
+    is_run = read.is_run;
+    end = subst (λ (x : Option Entry). Advances (Ok x) gate next) is advances ∙ read.end;
+    at_rest = λ tells file on_disk made. read_end header (state disk) (state mid) (state new) file read.history gate next o (same tells) (still tells) on_disk (read.prefix tells file on_disk made) is (gives tells);
+  }
+
+-- ---- why reading fails
+
+seen_is : (first mid : State) (file : List ℕ) → mid ≡ first → first.journal ≡ synced_file file → mid.journal.seen ≡ file
+seen_is first mid file same on_disk = ap (λ (s : State). s.journal.seen) same ∙ ap (λ (f : File). f.seen) on_disk
+
+broken_at : (fault : OpenFault) (history : List Entry) (office : Office) (gate next : ℕ) (file : List ℕ) → IsMade file → HasPrefix header history gate file → run history ≡ Some office
+    → NextGives (Err fault) gate next (frame_at gate file) → ReplayFails fault file
+broken_at faults.NotMade history office gate next file made before is gives = absurd gives.1
+broken_at faults.Foreign history office gate next file made before is gives = absurd gives.1
+broken_at (faults.Damaged at) history office gate next file made before is gives =
+    subst (λ (k : ℕ). IsDamagedAt k file) (sym gives.1.0) (record { made = made; history = history; office = office; before = before; is_run = is; breaks = inl gives.1.1 })
+broken_at faults.StoreFault history office gate next file made before is gives = tt
+broken_at faults.NoMemory history office gate next file made before is gives = tt
+
+pub next_fails : (first mid : State) (fault : OpenFault) (history : List Entry) (office : Office) (gate next : ℕ) (file : List ℕ) → mid ≡ first → first.journal ≡ synced_file file → IsMade file
+    → HasPrefix header history gate file → run history ≡ Some office → NextGives (Err fault) gate next (frame_at gate mid.journal.seen) → ReplayFails fault file
+next_fails first mid fault history office gate next file same on_disk made before is gives =
+    broken_at fault history office gate next file made before is (subst (λ (t : List ℕ). NextGives (Err fault) gate next (frame_at gate t)) (seen_is first mid file same on_disk) gives)
+
+-- the entry at the gate is not accepted
+pub take_fails : (first mid : State) (fault : OpenFault) (history : List Entry) (office : Office) (gate next : ℕ) (file : List ℕ) (read : Option Entry) (entry : Entry) → mid ≡ first → first.journal ≡ synced_file file → IsMade file
+    → HasPrefix header history gate file → run history ≡ Some office → read ≡ Some entry → NextGives (Ok read) gate next (frame_at gate mid.journal.seen)
+    → (fault ≡ faults.NoMemory) ⊎ ((fault ≡ faults.Damaged gate) × (accept office entry ≡ None)) → ReplayFails fault file
+take_fails first mid fault history office gate next file read entry same on_disk made before is some gives (inl want) = subst (λ (f : OpenFault). ReplayFails f file) (sym want) tt
+take_fails first mid fault history office gate next file read entry same on_disk made before is some gives (inr x) =
+    let frame : frame_at gate mid.journal.seen ≡ Whole entry next = subst (λ (r : Option Entry). NextGives (Ok r) gate next (frame_at gate mid.journal.seen)) some gives in
+    subst (λ (f : OpenFault). ReplayFails f file) (sym x.0) (record {
+      made = made;
+      history = history;
+      office = office;
+      before = before;
+      is_run = is;
+      breaks = inr (entry, next, ap (frame_at gate) (sym (seen_is first mid file same on_disk)) ∙ frame, x.1);
+    })
+
+pub replay_open : (fault : OpenFault) (file : List ℕ) → ReplayFails fault file → OpenFails fault file
+replay_open faults.NotMade file fails = absurd fails
+replay_open faults.Foreign file fails = absurd fails
+replay_open (faults.Damaged at) file fails = fails
+replay_open faults.StoreFault file fails = tt
+replay_open faults.NoMemory file fails = tt
+
+pub head_open : (fault : OpenFault) (file : List ℕ) → HeadGives {T = ℕ} (Err fault) file → OpenFails fault file
+head_open faults.NotMade file gives = gives
+head_open faults.Foreign file gives = gives
+head_open (faults.Damaged at) file gives = absurd gives
+head_open faults.StoreFault file gives = tt
+head_open faults.NoMemory file gives = absurd gives
+
+-- ---- a file with a history is opened
+
+not_run : (o : Option Office) (entries : List Entry) → o ≡ None → run_from o entries ≡ None
+not_run o [] is = is
+not_run o (e ∷ entries) is = not_run (option_and_then (λ before. accept before e) o) entries (ap (λ (x : Option Office). option_and_then (λ before. accept before e) x) is)
+
+run_split : (p : Option Office) (front : List Entry) (e : Entry) (more : List Entry) → run_from p (front ++ e ∷ more) ≡ run_from (option_and_then (λ before. accept before e) (run_from p front)) more
+run_split p [] e more = refl
+run_split p (f ∷ front) e more = run_split (option_and_then (λ before. accept before f) p) front e more
+
+stops : (front more : List Entry) (e : Entry) (office : Office) → run front ≡ Some office → accept office e ≡ None → run (front ++ e ∷ more) ≡ None
+unfolding run
+stops front more e office is no_more =
+    run_split (Some empty_office) front e more ∙ not_run _ more (ap (λ (o : Option Office). option_and_then (λ before. accept before e) o) is ∙ no_more)
+
+is_defined : (o : Option Office) → IsSome o → o ≡ None → ⊥
+is_defined None some is = absurd cc
+is_defined (Some p) some is = absurd cc
+
+same_entry : (a b : Entry) (m n : ℕ) → Whole a m ≡ Whole b n → a ≡ b
+same_entry a b m n is = cc
+
+not_damaged : (history : List Entry) (file : List ℕ) (at : ℕ) → HasHistory history file → IsDamagedAt at file → ⊥
+not_damaged history file at has damaged = ⊎_elim
+    (λ broken. never_broken header damaged.history history at file has.entries damaged.before broken)
+    (λ stands. ⊎_elim (λ ended. let both = sym ended.1 ∙ stands.2 in absurd (ended_whole stands.0 stands.1 both))
+    (λ next.
+      let both : Whole stands.0 stands.1 ≡ Whole next.0 _ = sym stands.2 ∙ next.3 in
+      let refused : accept damaged.office next.0 ≡ None = ap (λ (e : Entry). accept damaged.office e) (sym (same_entry stands.0 next.0 stands.1 _ both)) ∙ stands.3 in
+      is_defined (run history) has.accepted (ap run next.2 ∙ stops damaged.history next.1 next.0 damaged.office damaged.is_run refused))
+    (goes_on header damaged.history history at file has.entries damaged.before))
+    damaged.breaks
+  where
+    ended_whole : (e : Entry) (n : ℕ) → Ended ≡ Whole e n → ⊥
+    ended_whole e n is = cc
+
+pub opens : (fault : OpenFault) (history : List Entry) (file : List ℕ) → HasHistory history file → OpenFails fault file → (fault ≡ faults.StoreFault) ⊎ (fault ≡ faults.NoMemory)
+opens faults.NotMade history file has fails = absurd (made_not_none file (history_made history file has.entries) fails)
+opens faults.Foreign history file has fails = absurd (made_not_foreign file (history_made history file has.entries) fails)
+opens (faults.Damaged at) history file has fails = absurd (not_damaged history file at has fails)
+opens faults.StoreFault history file has fails = inl refl
+opens faults.NoMemory history file has fails = inr refl

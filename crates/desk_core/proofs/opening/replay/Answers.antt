@@ -1,0 +1,49 @@
+use Rattle.std.proofs.Common.{◌≡◌, ◌⊎◌, ℕ, None, rules, arith, refl, subst}
+use Rattle.disk_core.specs.declared.disk.FileNo.TheVariants.{Journal}
+use Rattle.disk_core.proofs.Time.{started, untouched_then}
+use Rattle.meter_journal.specs.declared.fault.OpenFault.TheVariants.{NoMemory, Damaged}
+use Rattle.plain_office.specs.Run.{accept}
+use Rattle.desk_core.proofs.Breaking.{none_read, one_read, all_read, next_fails, take_fails}
+use Rattle.desk_core.proofs.opening.replay.Goals as goal
+
+pub reading-init : goal.reading-init
+reading-init g c = record {
+  known = c.requires.known;
+  untouched = λ told. started g.D.Disk.state g.D.Disk.moment g.D.Disk.had_since c.args.opening.now.disk (λ s. s ≡ g.D.Disk.state c.args.opening.now.disk) (g.met.D.Disk.only_now c.args.opening.now.disk) refl;
+  read = none_read g.D.Disk.honest g.D.Disk.state c.args.opening.now.disk c.args.opening.now.gate c.args.office.now c.requires.first c.requires.empty;
+  limit = refl;
+  later = omega arith;
+}
+
+pub reading-preserved : goal.reading-preserved
+reading-preserved g c =
+    let d = g.D.Disk in
+    record {
+      known = search rules;
+      untouched = λ told. untouched_then d.state d.moment d.had_since c.args.opening.now.disk c.reading.opening.disk c.next.new.self.disk (c.reading.invariant.untouched told) (c.next.ensures.untouched told);
+      read = one_read d.honest d.state c.args.opening.now.disk c.reading.opening.disk c.reading.opening.gate c.next.new.self.gate c.reading.office c.take.new.office c.in-Ok.read c.in-Some.entry c.reading.invariant.read
+          (λ told. (c.reading.invariant.untouched told).now) (λ told. g.met.D.Disk.holds_bytes told c.args.opening.now.disk Journal) c.in-Some.is c.in-Ok.ensures.exact c.in-Ok.ensures.advances c.in-Ok-take.ensures.ok;
+      limit = search rules;
+      later = omega (arith, c.reading.invariant.later, c.next.ensures.cause.later);
+    }
+
+pub returns-in-None-clause-read : goal.returns-in-None-clause-read
+returns-in-None-clause-read g c =
+    let d = g.D.Disk in
+    all_read d.honest d.state c.args.opening.now.disk c.reading.opening.disk c.next.new.self.disk c.reading.opening.gate c.next.new.self.gate c.reading.office c.in-Ok.read c.reading.invariant.read
+    (λ told. (c.reading.invariant.untouched told).now) (λ told. (c.next.ensures.untouched told).now) c.in-None.is c.in-Ok.ensures.exact c.in-Ok.ensures.advances
+
+pub returns-in-Err-clause-fails : goal.returns-in-Err-clause-fails
+returns-in-Err-clause-fails g c told file on_disk made =
+    let state = g.D.Disk.state in
+    let so_far = c.reading.invariant.read in
+    next_fails (state c.args.opening.now.disk) (state c.reading.opening.disk) c.in-Err.fault so_far.history c.reading.office c.reading.opening.gate c.next.new.self.gate file
+    (c.reading.invariant.untouched told).now on_disk made (so_far.prefix told file on_disk made) so_far.is_run (c.in-Err.ensures.exact told)
+
+pub returns-in-Err-take-clause-fails : goal.returns-in-Err-take-clause-fails
+returns-in-Err-take-clause-fails g c told file on_disk made =
+    let state = g.D.Disk.state in
+    let so_far = c.reading.invariant.read in
+    take_fails (state c.args.opening.now.disk) (state c.reading.opening.disk) c.in-Err-take.fault so_far.history c.reading.office c.reading.opening.gate c.next.new.self.gate file c.in-Ok.read c.in-Some.entry
+    (c.reading.invariant.untouched told).now on_disk made (so_far.prefix told file on_disk made) so_far.is_run c.in-Some.is (c.in-Ok.ensures.exact told)
+    (subst (λ (k : ℕ). (c.in-Err-take.fault ≡ NoMemory) ⊎ ((c.in-Err-take.fault ≡ Damaged k) × (accept c.reading.office c.in-Some.entry ≡ None))) c.offset-gate.ensures c.in-Err-take.ensures.damaged)
