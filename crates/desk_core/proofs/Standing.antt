@@ -21,7 +21,7 @@ use Rattle.desk_core.specs.declared.fault.DeskFault.TheVariants as faults
 use Rattle.desk_core.specs.Answers.{Answer, Call}
 use Rattle.desk_core.specs.Calls.{Legal, IsLegal, IsReply, GrowsBy, FitsIn, IsFull, moment_after}
 use Rattle.desk_core.specs.Serving.{Opened, IsToldBy}
-use Rattle.desk_core.specs.Desk.{Seat, Holds, StandsFor, HasStoreReason, is_store_fault}
+use Rattle.desk_core.specs.Desk.{Seat, Holds, IsReady, StandsFor, HasStoreReason, is_store_fault}
 use Rattle.desk_core.specs.Keeping.{Replied, Grows, Stays, Fails, Keeps}
 use Rattle.desk_core.proofs.Keeping.{one_legal, rose_from, last_below, unique, makes_still, makes_grown, makes_failed}
 use Rattle.desk_core.proofs.OneMore.{last_faults, IsKept, Makes, one_more, legal_append, told_more}
@@ -213,3 +213,23 @@ module _ {D : Type 0} {C : Type 0} (honest : Bool) (state : D → State) (moment
   reason_of t number command before old new (Err (faults.StoreFault None count)) at keeps = keeps
   reason_of t number command before old new (Err faults.JournalFull) at keeps = tt
   reason_of t number command before old new (Err faults.NoMemory) at keeps = tt
+
+  -- ---- a further call
+
+  holds_on : (t number : ℕ) (command : Command) (before : List Entry) (old new : Seat D C) (said : Result Answer DeskFault) → Keeps honest state moment had_since fault_count t number command before old new said
+      → is_store_fault said ≡ false → (history : List Entry) × Holds honest state history new
+  holds_on t number command before old new (Ok answer) keeps fine =
+      ⊎_elim (λ grew. (before ++ entry_at t command ∷ [], grew.1.holds)) (λ stayed. (before, stayed.1.holds)) keeps.2
+  holds_on t number command before old new (Err (faults.StoreFault (Some other) count)) keeps fine = absurd (still_true true refl fine)
+  holds_on t number command before old new (Err (faults.StoreFault None count)) keeps fine = absurd keeps
+  holds_on t number command before old new (Err faults.JournalFull) keeps fine = absurd keeps
+  holds_on t number command before old new (Err faults.NoMemory) keeps fine = (before, keeps.holds)
+
+  pub ready_on : (t number : ℕ) (command : Command) (before : List Entry) (old new : Seat D C) (said : Result Answer DeskFault) → Keeps honest state moment had_since fault_count t number command before old new said
+      → new.stale ≡ is_store_fault said → is_store_fault said ≡ false → IsReady honest state new
+  ready_on t number command before old new said keeps stale fine =
+      let on = holds_on t number command before old new said keeps fine in
+      record { fresh = stale ∙ fine; history = on.0; holds = on.1 }
+
+  pub ready_still : (desk : Seat D C) (clock : C) → IsReady honest state desk → IsReady honest state (record desk { clock = clock })
+  ready_still desk clock ready = record { fresh = ready.fresh; history = ready.history; holds = record { office = ready.holds.office; end = ready.holds.end; at_rest = ready.holds.at_rest } }

@@ -182,6 +182,8 @@ impl<D: Disk + Drop, C: Clock + Drop> Desk<D, C> {
         ensures quiet { LeavesDisk result self.old.disk self.new.disk }
         ensures reason { HasStoreReason result (ask_of.Command command.now) self.old.office (D.fault_count self.old.disk) (D.fault_count self.new.disk) }
         ensures stale { self.new.stale ≡ is_store_fault result }
+        // It takes a further call, but after a fault of the store.
+        ensures ready { is_store_fault result ≡ false → IsReady D.honest D.state self.new }
         ensures limit { self.new.limit ≡ self.old.limit }
         ensures clock_later { C.count self.old.clock ≤ C.count self.new.clock }
         ensures disk_later { D.fault_count self.old.disk ≤ D.fault_count self.new.disk }
@@ -221,6 +223,8 @@ impl<D: Disk + Drop, C: Clock + Drop> Desk<D, C> {
         ensures quiet { LeavesDisk result self.old.disk self.new.disk }
         ensures reason { HasStoreReason result ask.now self.old.office (D.fault_count self.old.disk) (D.fault_count self.new.disk) }
         ensures stale { self.new.stale ≡ is_store_fault result }
+        // It takes a further call, but after a fault of the store.
+        ensures ready { is_store_fault result ≡ false → IsReady D.honest D.state self.new }
         ensures limit { self.new.limit ≡ self.old.limit }
         ensures clock_later { C.count self.old.clock ≤ C.count self.new.clock }
         ensures disk_later { D.fault_count self.old.disk ≤ D.fault_count self.new.disk }

@@ -8,9 +8,9 @@ use Rattle.plain_office.specs.Run.{entry_at}
 use Rattle.entry_codec.specs.Spelling.{spelling}
 use Rattle.desk_core.specs.declared.fault.DeskFault.TheVariants.{JournalFull, NoMemory}
 use Rattle.desk_core.specs.Calls.{moment_after}
-use Rattle.desk_core.specs.Desk.{Seat, Holds, StandsFor}
+use Rattle.desk_core.specs.Desk.{Seat, Holds, IsReady, StandsFor}
 use Rattle.desk_core.specs.Keeping.{Keeps}
-use Rattle.desk_core.proofs.Standing.{no_memory, no_room, kept_one, reason_of}
+use Rattle.desk_core.proofs.Standing.{no_memory, no_room, kept_one, reason_of, ready_on, ready_still}
 use Rattle.desk_core.proofs.desk.Desk.command.Goals as goal
 
 pub returns-in_default-clause-stands : goal.returns-in_default-clause-stands
@@ -60,3 +60,25 @@ returns-clause-reason g c =
     reason_of d.honest d.state d.moment d.had_since d.fault_count (g.met.D.Disk.counts_now) (g.met.D.Disk.only_now) (g.met.D.Disk.since_earlier) (λ tells disk. g.met.D.Disk.reads_image tells disk Journal)
     c.moment_for-moment.result c.now-told.result c.args.command.now c.requires.ready.history (record c.args.self.now { clock = c.now-told.new.self }) c.keep.new.self c.keep.result at
     (keeps c.requires.ready.history (record { office = hold.office; end = hold.end; at_rest = hold.at_rest }))
+
+pub returns-clause-ready : goal.returns-clause-ready
+returns-clause-ready g c fine =
+    let d = g.D.Disk in
+    let hold = c.requires.ready.holds in
+    let keeps = subst (λ (s : Seat g.row.D.Denot g.row.C.Denot). (before : List Entry) → Holds d.honest d.state before (record s { clock = c.now-told.new.self })
+    → Keeps d.honest d.state d.moment d.had_since d.fault_count c.moment_for-moment.result c.now-told.result c.args.command.now before (record s { clock = c.now-told.new.self }) c.keep.new.self c.keep.result) c.self.view_is c.keep.ensures.keeps in
+    ready_on d.honest d.state d.moment d.had_since d.fault_count (g.met.D.Disk.counts_now) (g.met.D.Disk.only_now) (g.met.D.Disk.since_earlier) (λ tells disk. g.met.D.Disk.reads_image tells disk Journal)
+    c.moment_for-moment.result c.now-told.result c.args.command.now c.requires.ready.history (record c.args.self.now { clock = c.now-told.new.self }) c.keep.new.self c.keep.result
+    (keeps c.requires.ready.history (record { office = hold.office; end = hold.end; at_rest = hold.at_rest })) c.keep.ensures.stale fine
+
+pub returns-in_default-clause-ready : goal.returns-in_default-clause-ready
+returns-in_default-clause-ready g c fine =
+    let d = g.D.Disk in
+    subst (λ (s : Seat g.row.D.Denot g.row.C.Denot). IsReady d.honest d.state (record s { clock = c.now-told.new.self })) (sym c.self.view_is)
+    (ready_still d.honest d.state d.moment d.had_since d.fault_count (g.met.D.Disk.counts_now) (g.met.D.Disk.only_now) (g.met.D.Disk.since_earlier) (λ tells disk. g.met.D.Disk.reads_image tells disk Journal) c.args.self.now c.now-told.new.self c.requires.ready)
+
+pub returns-then-not-fits-clause-ready : goal.returns-then-not-fits-clause-ready
+returns-then-not-fits-clause-ready g c fine =
+    let d = g.D.Disk in
+    subst (λ (s : Seat g.row.D.Denot g.row.C.Denot). IsReady d.honest d.state (record s { clock = c.now-told.new.self })) (sym c.self.view_is)
+    (ready_still d.honest d.state d.moment d.had_since d.fault_count (g.met.D.Disk.counts_now) (g.met.D.Disk.only_now) (g.met.D.Disk.since_earlier) (λ tells disk. g.met.D.Disk.reads_image tells disk Journal) c.args.self.now c.now-told.new.self c.requires.ready)
