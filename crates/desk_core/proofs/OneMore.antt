@@ -5,6 +5,7 @@ use Rattle.std.proofs.lemmas.Bool.{cases_lt}
 use Rattle.std.proofs.lemmas.List.{take-append-le, take_all, append-nil}
 use Rattle.disk_core.specs.Files.{State, IsImage}
 use Rattle.disk_core.specs.Moments.{KeepsTo}
+use Rattle.disk_core.proofs.Time.{weakened}
 use Rattle.plain_office.specs.Office.{Office}
 use Rattle.plain_office.specs.Run.{run, entry_at}
 use Rattle.plain_office.specs.declared.command.Ask.{Ask}
@@ -18,7 +19,7 @@ use Rattle.desk_core.specs.declared.fault.DeskFault.TheVariants as faults
 use Rattle.desk_core.specs.Answers.{Answer, Call}
 use Rattle.desk_core.specs.Calls.{Legal, IsLegal, IsReply, MayBeKept, GrowsBy, IsFull, faults_after}
 use Rattle.desk_core.specs.Histories.{HasHistory, IsSound, HasImageOf, Begins, BeginsButOne}
-use Rattle.desk_core.specs.Serving.{IsAckedAt, IsToldBy, AreToldBy, Opened, Recovers, Agrees, Serves}
+use Rattle.desk_core.specs.Serving.{IsAckedAt, IsToldBy, AreToldBy, Opened, Recoverable, Recovers, Agrees, Serves}
 
 -- the count of the last fault of the store that was told, and at first that of the opening
 abbrev pub last_faults : ℕ → List Call → ℕ
@@ -279,6 +280,23 @@ module _ {D : Type 0} (state : D → State) (moment : D → ℕ) (had_since : D 
               let same = only_now new s (since_earlier new (moment new) answer.disk_moment s (omega (arith, kept.0)) had) in
               ([], kept.3 image history (subst (λ (x : State). IsImage x.journal image) same is_image) stands ∙ sym (append-nil kept.1));
         }
+
+    recoverable_in : (s : State) → InCall state moment had_since fault_count old opened.limit Last call makes.settled s → Recoverable opened all s
+    recoverable_in s call_has image is =
+        let sound = call_has.sound image is in
+        ⊎_elim
+        (λ has. (
+          sound.0,
+          length calls,
+          sound.1,
+          omega (arith, size),
+          subst (λ (list : List Call). Rule list sound.0) (sym (first_calls (length calls) (omega arith) ∙ take_all (length calls) calls (omega arith))) (whole_of_old sound.0 has),
+        ))
+        (λ one. (sound.0, length calls + 1, sound.1, omega (arith, size), all_of_new sound.0 (whole_of_new makes.settled sound.0 makes.is_settled one)))
+        (call_has.each image sound.0 is sound.1)
+
+    pub recoverable : KeepsTo state moment had_since old new (Recoverable opened all)
+    recoverable = weakened state moment had_since old new (InCall state moment had_since fault_count old opened.limit Last call makes.settled) (Recoverable opened all) recoverable_in makes.run
 
     pub one_more : Serving opened new all
     one_more = record {

@@ -21,10 +21,10 @@ use Rattle.desk_core.specs.declared.fault.DeskFault.TheVariants as faults
 use Rattle.desk_core.specs.Answers.{Answer, Call}
 use Rattle.desk_core.specs.Calls.{Legal, IsLegal, IsReply, GrowsBy, FitsIn, IsFull, moment_after}
 use Rattle.desk_core.specs.Serving.{Opened, IsToldBy}
-use Rattle.desk_core.specs.Desk.{Seat, Holds, IsReady, StandsFor, HasStoreReason, is_store_fault}
+use Rattle.desk_core.specs.Desk.{Seat, Holds, IsReady, StandsFor, GoesOn, HasStoreReason, is_store_fault}
 use Rattle.desk_core.specs.Keeping.{Replied, Grows, Stays, Fails, Keeps}
 use Rattle.desk_core.proofs.Keeping.{one_legal, rose_from, last_below, unique, makes_still, makes_grown, makes_failed}
-use Rattle.desk_core.proofs.OneMore.{last_faults, IsKept, Makes, one_more, legal_append, told_more}
+use Rattle.desk_core.proofs.OneMore.{last_faults, IsKept, Makes, one_more, recoverable, legal_append, told_more}
 
 -- ---- legal answers
 
@@ -84,15 +84,21 @@ module _ {D : Type 0} {C : Type 0} (honest : Bool) (state : D → State) (moment
     abbrev last : ℕ
     last = last_faults opened.faults calls
 
+    abbrev Next : Call → Type 0
+    Next call = GoesOn honest state moment had_since fault_count opened (calls ++ call ∷ []) old.disk new
+
     grown_by : (call : Call) (after : List Entry) → Legal opened.limit last (call ∷ []) s.history after → (new.stale ≡ false → Holds honest state after new) → IsToldBy (fault_count new.disk) call.said
-        → (IsTrue honest → Makes state moment had_since fault_count old.disk new.disk opened.limit last call) → Stands opened (calls ++ call ∷ []) new
+        → (IsTrue honest → Makes state moment had_since fault_count old.disk new.disk opened.limit last call) → Next call
     grown_by call after rule holds told makes = record {
-      limit = same_limit ∙ s.limit;
-      faults = (omega (arith, later, s.faults.0), told_more calls call (fault_count old.disk) (fault_count new.disk) later s.faults.1 told);
-      history = after;
-      legal = legal_append opened.limit opened.faults calls (call ∷ []) opened.history s.history after s.legal rule;
-      holds = holds;
-      serves = λ tells. one_more state moment had_since fault_count counts_now only_now since_earlier opened old.disk new.disk calls call (s.serves tells) (makes tells);
+      stands = record {
+        limit = same_limit ∙ s.limit;
+        faults = (omega (arith, later, s.faults.0), told_more calls call (fault_count old.disk) (fault_count new.disk) later s.faults.1 told);
+        history = after;
+        legal = legal_append opened.limit opened.faults calls (call ∷ []) opened.history s.history after s.legal rule;
+        holds = holds;
+        serves = λ tells. one_more state moment had_since fault_count counts_now only_now since_earlier opened old.disk new.disk calls call (s.serves tells) (makes tells);
+      };
+      any_moment = λ tells. recoverable state moment had_since fault_count counts_now only_now since_earlier opened old.disk new.disk calls call (s.serves tells) (makes tells);
     }
 
     held : Holds honest state s.history old
@@ -100,7 +106,7 @@ module _ {D : Type 0} {C : Type 0} (honest : Bool) (state : D → State) (moment
 
     -- a call that wrote nothing
     still_by : (call : Call) → new.disk ≡ old.disk → Holds honest state s.history new → IsLegal opened.limit last call.ask call.said old.office s.history s.history → IsToldBy (fault_count new.disk) call.said
-        → (IsTrue honest → IsKept state moment had_since fault_count new.disk call.said) → Stands opened (calls ++ call ∷ []) new
+        → (IsTrue honest → IsKept state moment had_since fault_count new.disk call.said) → Next call
     still_by call same holds legal told kept =
         let rule = one_legal opened.limit last call s.history s.history old.office held.office legal in
         grown_by call s.history rule (λ _. holds) told (λ tells.
@@ -123,14 +129,14 @@ module _ {D : Type 0} {C : Type 0} (honest : Bool) (state : D → State) (moment
       this said = record { ask = ask.Command command; said = said }
 
       replied_still : (answer : Answer) → Replied t number command old.office answer → answer.position ≡ new.gate → answer.disk_moment ≡ moment new.disk → is_accepted answer.reply ≡ false
-          → Stays honest state moment had_since fault_count s.history old new → Stands opened (calls ++ this (Ok answer) ∷ []) new
+          → Stays honest state moment had_since fault_count s.history old new → Next (this (Ok answer))
       replied_still answer replied place stamp refused stays =
           still_by (this (Ok answer)) stays.disk stays.holds
           (answered opened.limit last t number new.gate command old.office answer s.history s.history at replied (inr (refused, refl)) room place stays.holds.end)
           tt (kept_at s.history old.office answer stays.holds place stamp)
 
       replied_grown : (answer : Answer) → Replied t number command old.office answer → answer.position ≡ new.gate → answer.disk_moment ≡ moment new.disk → IsTrue (is_accepted answer.reply)
-          → Grows honest state moment had_since fault_count s.history (entry_at t command) old new → Stands opened (calls ++ this (Ok answer) ∷ []) new
+          → Grows honest state moment had_since fault_count s.history (entry_at t command) old new → Next (this (Ok answer))
       replied_grown answer replied place stamp accepted grows =
           let e = entry_at t command in
           let rule = one_legal opened.limit last (this (Ok answer)) s.history (s.history ++ e ∷ []) old.office held.office
@@ -141,7 +147,7 @@ module _ {D : Type 0} {C : Type 0} (honest : Bool) (state : D → State) (moment
           (kept_at (s.history ++ e ∷ []) new.office answer grows.holds place stamp tells) (later, tt))
 
       failed : (count : ℕ) → count ≡ fault_count new.disk → new.stale ≡ true → Fails honest state moment had_since fault_count s.history (entry_at t command) old new
-          → Stands opened (calls ++ this (Err (faults.StoreFault (Some number) count)) ∷ []) new
+          → Next (this (Err (faults.StoreFault (Some number) count)))
       failed count is stale fails =
           let e = entry_at t command in
           let call = this (Err (faults.StoreFault (Some number) count)) in
@@ -156,17 +162,17 @@ module _ {D : Type 0} {C : Type 0} (honest : Bool) (state : D → State) (moment
           makes_failed state moment had_since fault_count counts_now only_now since_earlier old.disk old.gate s.history old.office (held.at_rest tells) held.office (own tells old.disk) opened.limit last call
           e fails.accepted.0 (run_more s.history e old.office fails.accepted.0 held.office fails.accepted.1) kept new.disk rule (fails.run tells) tt (later, told))
 
-      pub kept_call : (said : Result Answer DeskFault) → new.stale ≡ is_store_fault said → Keeps honest state moment had_since fault_count t number command s.history old new said → Stands opened (calls ++ this said ∷ []) new
+      pub kept_call : (said : Result Answer DeskFault) → new.stale ≡ is_store_fault said → Keeps honest state moment had_since fault_count t number command s.history old new said → Next (this said)
       kept_call (Ok answer) stale keeps = ⊎_elim (λ grew. replied_grown answer keeps.0 keeps.1.0 keeps.1.1 grew.0 grew.1) (λ stayed. replied_still answer keeps.0 keeps.1.0 keeps.1.1 stayed.0 stayed.1) keeps.2
       kept_call (Err (faults.StoreFault (Some told) count)) stale keeps =
-          subst (λ (n : ℕ). Stands opened (calls ++ this (Err (faults.StoreFault (Some n) count)) ∷ []) new) (sym keeps.0) (failed count keeps.1 stale keeps.2)
+          subst (λ (n : ℕ). Next (this (Err (faults.StoreFault (Some n) count)))) (sym keeps.0) (failed count keeps.1 stale keeps.2)
       kept_call (Err (faults.StoreFault None count)) stale keeps = absurd keeps
       kept_call (Err faults.JournalFull) stale keeps = absurd keeps
       kept_call (Err faults.NoMemory) stale keeps = still_by (this (Err faults.NoMemory)) keeps.disk keeps.holds refl tt (λ tells. tt)
 
     -- nothing was done, for want of memory or of room
     pub unkept_call : (question : Ask) (fault : DeskFault) → new.disk ≡ old.disk → new.office ≡ old.office → new.gate ≡ old.gate → IsLegal opened.limit last question (Err fault) old.office s.history s.history → IsToldBy (fault_count new.disk) (Err fault)
-        → Stands opened (calls ++ record { ask = question; said = Err fault } ∷ []) new
+        → Next (record { ask = question; said = Err fault })
     unkept_call question fault disk office gate legal told = still_by (record { ask = question; said = Err fault }) disk (record {
       office = held.office ∙ ap (λ (p : Office). Some p) (sym office);
       end = gate ∙ held.end;
@@ -174,7 +180,7 @@ module _ {D : Type 0} {C : Type 0} (honest : Bool) (state : D → State) (moment
     }) legal told (λ tells. tt)
 
     pub full_call : (t size : ℕ) (command : Command) → new.disk ≡ old.disk → new.office ≡ old.office → new.gate ≡ old.gate → size ≡ length (spelling (entry_at t command)) → (old.gate + 6 + size ≤ old.limit → ⊥)
-        → Stands opened (calls ++ record { ask = ask.Command command; said = Err faults.JournalFull } ∷ []) new
+        → Next (record { ask = ask.Command command; said = Err faults.JournalFull })
     full_call t size command disk office gate is full =
         unkept_call (ask.Command command) faults.JournalFull disk office gate
         (full_at opened.limit t old.gate size command s.history held.end is (λ fit. full (omega (arith, fit, s.limit))), refl) tt
@@ -188,17 +194,17 @@ module _ {D : Type 0} {C : Type 0} (honest : Bool) (state : D → State) (moment
     told_stands : Stands opened calls told
     told_stands = at_clock opened calls desk clock s
 
-    pub no_memory : (question : Ask) → Stands opened (calls ++ record { ask = question; said = Err faults.NoMemory } ∷ []) told
+    pub no_memory : (question : Ask) → GoesOn honest state moment had_since fault_count opened (calls ++ record { ask = question; said = Err faults.NoMemory } ∷ []) desk.disk told
     no_memory question = unkept_call told told fresh refl (omega arith) opened calls told_stands question faults.NoMemory refl refl refl refl tt
 
     pub no_room : (t size : ℕ) (command : Command) → size ≡ length (spelling (entry_at t command)) → (desk.gate + 6 + size ≤ desk.limit → ⊥)
-        → Stands opened (calls ++ record { ask = ask.Command command; said = Err faults.JournalFull } ∷ []) told
+        → GoesOn honest state moment had_since fault_count opened (calls ++ record { ask = ask.Command command; said = Err faults.JournalFull } ∷ []) desk.disk told
     no_room t size command is full = full_call told told fresh refl (omega arith) opened calls told_stands t size command refl refl refl is full
 
     pub kept_one : (new : Seat D C) (t number size : ℕ) (command : Command) (said : Result Answer DeskFault) → new.limit ≡ desk.limit → fault_count desk.disk ≤ fault_count new.disk → t ≡ moment_after number desk.office
         → size ≡ length (spelling (entry_at t command)) → desk.gate + 6 + size ≤ desk.limit → new.stale ≡ is_store_fault said
         → ((before : List Entry) → Holds honest state before told → Keeps honest state moment had_since fault_count t number command before told new said)
-        → Stands opened (calls ++ record { ask = ask.Command command; said = said } ∷ []) new
+        → GoesOn honest state moment had_since fault_count opened (calls ++ record { ask = ask.Command command; said = said } ∷ []) desk.disk new
     kept_one new t number size command said limit later at is fits stale keeps =
         kept_call told new fresh limit later opened calls told_stands t number command at (subst (λ (n : ℕ). desk.gate + 6 + n ≤ desk.limit) is fits) said stale (keeps told_stands.history (told_stands.holds fresh))
 

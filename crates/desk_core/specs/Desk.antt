@@ -3,6 +3,7 @@ use Rattle.std.specs.Prelude.{◌≡◌, ◌⊎◌, ℕ, ◌-◌, ◌^◌, ◌<�
 use Rattle.std.specs.Io.KnownBytes.{Appends}
 use Rattle.office_base.specs.Faults.{Rose}
 use Rattle.disk_core.specs.Files.{State}
+use Rattle.disk_core.specs.Moments.{KeepsTo}
 use Rattle.plain_office.specs.Office.{Office}
 use Rattle.plain_office.specs.Step.{step, is_accepted}
 use Rattle.plain_office.specs.Run.{run}
@@ -12,7 +13,7 @@ use Rattle.plain_office.specs.declared.command.Entry.{Entry}
 use Rattle.meter_journal.specs.History.{header, end_gate, IsAtRest}
 use Rattle.desk_core.specs.Answers.{Answer, Call}
 use Rattle.desk_core.specs.Calls.{Legal, moment_after}
-use Rattle.desk_core.specs.Serving.{Opened, AreToldBy, Serves}
+use Rattle.desk_core.specs.Serving.{Opened, AreToldBy, Recoverable, Serves}
 use Rattle.desk_core.specs.declared.fault.DeskFault.{DeskFault}
 use Rattle.desk_core.specs.declared.fault.DeskFault.TheVariants as faults
 
@@ -55,6 +56,13 @@ pub record StandsFor {D C : Type 0} (honest : Bool) (state : D → State) (momen
   pub holds : desk.stale ≡ false → Holds honest state history desk
   pub serves : IsTrue honest → Serves state moment had_since fault_count opened desk.disk calls
 
+-- the desk went on from this disk: it stands for these calls, and at every moment since each image has the history after the
+-- first of them
+pub record GoesOn {D C : Type 0} (honest : Bool) (state : D → State) (moment : D → ℕ) (had_since : D → ℕ → State → Type 0) (fault_count : D → ℕ)
+    (opened : Opened) (calls : List Call) (first : D) (desk : Seat D C) : Type 0 where
+  pub stands : StandsFor honest state moment had_since fault_count opened calls desk
+  pub any_moment : IsTrue honest → KeepsTo state moment had_since first desk.disk (Recoverable opened calls)
+
 -- the clock's number of a call stands in its answer, and in a fault of the store; of the others one number may have been told
 abbrev pub IsNumber : Option (List ℕ) → Option (List ℕ) → Result Answer DeskFault → Type 0
 IsNumber before after (Ok answer) = Appends before after (answer.told ∷ [])
@@ -88,7 +96,7 @@ IsStamped (Err fault) end moment = Unit {0}
 pub record Submits {D C : Type 0} (honest : Bool) (state : D → State) (moment : D → ℕ) (had_since : D → ℕ → State → Type 0) (fault_count : D → ℕ)
     (count : C → ℕ) (told : C → Option (List ℕ)) (old : Seat D C) (question : Ask) (said : Result Answer DeskFault) (new : Seat D C) : Type 0 where
   pub stands : (opened : Opened) (calls : List Call) → StandsFor honest state moment had_since fault_count opened calls old
-      → StandsFor honest state moment had_since fault_count opened (calls ++ record { ask = question; said = said } ∷ []) new
+      → GoesOn honest state moment had_since fault_count opened (calls ++ record { ask = question; said = said } ∷ []) old.disk new
   pub number : count new.clock < 2 ^ 64 - 1 → IsNumber (told old.clock) (told new.clock) said
   pub clock_later : count old.clock ≤ count new.clock
   pub disk_later : fault_count old.disk ≤ fault_count new.disk

@@ -13,7 +13,7 @@ ghost use Rattle.entry_codec.specs.Spelling.{Fits, IsEntry, spelling};
 ghost use Rattle.meter_journal.specs.History.{header, end_gate, IsAtRest};
 ghost use Rattle.desk_core.specs.Answers.{Call};
 ghost use Rattle.desk_core.specs.Calls.{moment_after};
-ghost use Rattle.desk_core.specs.Desk.{Seat, Holds, IsReady, StandsFor, Submits, IsNumber, LeavesDisk, HasStoreReason, IsStamped, is_store_fault};
+ghost use Rattle.desk_core.specs.Desk.{Seat, Holds, IsReady, StandsFor, GoesOn, IsNumber, LeavesDisk, HasStoreReason, IsStamped, is_store_fault};
 ghost use Rattle.desk_core.specs.Keeping.{Adds, Keeps};
 ghost use Rattle.desk_core.specs.Serving.{Opened};
 
@@ -170,17 +170,18 @@ impl<D: Disk + Drop, C: Clock + Drop> Desk<D, C> {
         }
     }
 
-    // Makes the call of a command.
-    fn command(&mut self, command: &Command) -> Result<Acked, DeskFault>
+    // Makes the call of this command.
+    fn command(&mut self, ask: &Ask, command: &Command) -> Result<Acked, DeskFault>
+        requires same { ask.now ≡ ask_of.Command command.now }
         requires ready { IsReady D.honest D.state self.old }
 
         ensures stands { (opened : Opened) (calls : List Call) → StandsFor D.honest D.state D.moment D.had_since D.fault_count opened calls self.old
-            → StandsFor D.honest D.state D.moment D.had_since D.fault_count opened (calls ++ record { ask = ask_of.Command command.now; said = result } ∷ []) self.new }
+            → GoesOn D.honest D.state D.moment D.had_since D.fault_count opened (calls ++ record { ask = ask.now; said = result } ∷ []) self.old.disk self.new }
 
         ensures number { C.count self.new.clock < 2 ^ 64 - 1 → IsNumber (C.told self.old.clock) (C.told self.new.clock) result }
         ensures stamped { IsStamped result self.new.gate (D.moment self.new.disk) }
         ensures quiet { LeavesDisk result self.old.disk self.new.disk }
-        ensures reason { HasStoreReason result (ask_of.Command command.now) self.old.office (D.fault_count self.old.disk) (D.fault_count self.new.disk) }
+        ensures reason { HasStoreReason result ask.now self.old.office (D.fault_count self.old.disk) (D.fault_count self.new.disk) }
         ensures stale { self.new.stale ≡ is_store_fault result }
         // It takes a further call, but after a fault of the store.
         ensures ready { is_store_fault result ≡ false → IsReady D.honest D.state self.new }
@@ -214,9 +215,10 @@ impl<D: Disk + Drop, C: Clock + Drop> Desk<D, C> {
     pub fn submit(&mut self, ask: &Ask) -> Result<Acked, DeskFault>
         requires ready { IsReady D.honest D.state self.old }
 
-        // Whatever list of calls the desk stood for, it stands for that list with this call at its end.
+        // Whatever list of calls the desk stood for, it stands for that list with this call at its end, and so does each image
+        // of the disk at every moment of the call, with the call or without it.
         ensures stands { (opened : Opened) (calls : List Call) → StandsFor D.honest D.state D.moment D.had_since D.fault_count opened calls self.old
-            → StandsFor D.honest D.state D.moment D.had_since D.fault_count opened (calls ++ record { ask = ask.now; said = result } ∷ []) self.new }
+            → GoesOn D.honest D.state D.moment D.had_since D.fault_count opened (calls ++ record { ask = ask.now; said = result } ∷ []) self.old.disk self.new }
 
         ensures number { C.count self.new.clock < 2 ^ 64 - 1 → IsNumber (C.told self.old.clock) (C.told self.new.clock) result }
         ensures stamped { IsStamped result self.new.gate (D.moment self.new.disk) }
@@ -230,7 +232,7 @@ impl<D: Disk + Drop, C: Clock + Drop> Desk<D, C> {
         ensures disk_later { D.fault_count self.old.disk ≤ D.fault_count self.new.disk }
     {
         match ask {
-            Ask::Command(command) => self.command(command),
+            Ask::Command(command) => self.command(ask, command),
         }
     }
 }
