@@ -2,5 +2,7 @@
 #![tactic(auto)]
 
 mod moment;
+#[cfg(test)]
+mod tests;
 
 pub use moment::{END, Moment, MomentRefusal};

@@ -3,6 +3,8 @@
 
 mod bucket_name;
 mod failed;
+#[cfg(test)]
+mod tests;
 
 pub use bucket_name::{BucketName, NameRefusal};
 pub use failed::{Failed, NoMemory};

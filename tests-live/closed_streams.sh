@@ -1,0 +1,121 @@
+#!/bin/sh
+# Closes each standard stream in turn, and shows that no reply, note or message gets into the journal.
+#
+#   closed_streams.sh PROGRAM
+#
+# A program that opens its files while a standard stream is closed may get that stream's number for one of them, and
+# then writes its replies there. Prints one line a case, and 'N passed, M failed' last; ends with 1 where a case failed.
+set -u
+
+for tool in mktemp od tr; do
+    if ! command -v "$tool" >/dev/null 2>&1; then
+        echo "skipped: there is no command $tool"
+        exit 0
+    fi
+done
+if [ ! -x "${1:-}" ]; then
+    echo "skipped: there is no program '${1:-}'"
+    exit 0
+fi
+program=$(CDPATH='' cd -- "$(dirname -- "$1")" && pwd)/$(basename -- "$1")
+work=$(mktemp -d) || exit 1
+trap 'rm -rf "$work"' EXIT
+trap 'exit 1' HUP INT TERM
+passed=0
+failed=0
+
+# The open gate and the mark A5 'METERJRN1', a closed gate; and, with an entry between them, the entry's length, eight
+# bytes of its moment, and what makes the bucket 'logs'.
+mark='a5 4d 45 54 45 52 4a 52 4e 31'
+empty_journal="$mark 00"
+one_entry="$mark a5 00 00 00 0f ?? ?? ?? ?? ?? ?? ?? ?? 01 00 04 6c 6f 67 73 00"
+made_text='HTTP/1.1 201 Created|content-type: application/json|content-length: 17||{"bucket":"logs"}'
+
+# The bytes of a file, as two hexadecimal digits each, with one space between them.
+bytes_of() {
+    od -An -v -tx1 "$1" 2>/dev/null | tr -s ' \n' ' ' | sed 's/^ //; s/ $//'
+}
+
+# A text with its line ends as bars.
+text_of() {
+    tr -d '\r' <"$1" | tr '\n' '|'
+}
+
+# Which of the journals that are known lies in the case's folder.
+journal() {
+    bytes=$(bytes_of office-data/journal)
+    # shellcheck disable=SC2254
+    case $bytes in
+    "$empty_journal") echo 11 ;;
+    $one_entry) echo 31 ;;
+    *) echo "other: $bytes" ;;
+    esac
+}
+
+# Runs the program with these streams closed; the others are files of the case.
+run_closed() {
+    streams=$1
+    shift
+    case $streams in
+    '') "$program" "$@" <in >out 2>notes ;;
+    0) "$program" "$@" <&- >out 2>notes ;;
+    1) "$program" "$@" <in >&- 2>notes ;;
+    2) "$program" "$@" <in >out 2>&- ;;
+    01) "$program" "$@" <&- >&- 2>notes ;;
+    02) "$program" "$@" <&- >out 2>&- ;;
+    12) "$program" "$@" <in >&- 2>&- ;;
+    012) "$program" "$@" <&- >&- 2>&- ;;
+    esac
+}
+
+# Counts a case: its name, what was found, and the patterns of which one is wanted.
+check() {
+    name=$1
+    found=$2
+    shift 2
+    for wanted; do
+        # shellcheck disable=SC2254
+        case $found in
+        $wanted)
+            passed=$((passed + 1))
+            echo "ok: $name: $found"
+            return
+            ;;
+        esac
+    done
+    failed=$((failed + 1))
+    echo "FAILED: $name: $found, and not one of: $*"
+}
+
+# A folder of the case's own, with one request to read.
+begin() {
+    rm -rf "$work/case"
+    mkdir "$work/case" && cd "$work/case" || exit 1
+    printf 'PUT /buckets/logs HTTP/1.1\r\nHost: x\r\n\r\n' >in
+    : >out
+    : >notes
+}
+
+for streams in '' 0 1 2 01 02 12 012; do
+    closed=${streams:-none}
+    begin
+    run_closed "$streams" init
+    status=$?
+    case $streams in
+    *1*) check "init, closed: $closed" "journal $(journal) status $status" 'journal 11 status [0-9]' ;;
+    *) check "init, closed: $closed" "journal $(journal) status $status said $(text_of out)" 'journal 11 status 0 said made|' ;;
+    esac
+
+    begin
+    "$program" init </dev/null >out 2>notes || check "init before run, closed: $closed" "status $?" 'status 0'
+    run_closed "$streams" run
+    status=$?
+    case $streams in
+    *0*1* | *1*) check "run, closed: $closed" "journal $(journal) status $status" 'journal 11 status [0-9]' 'journal 31 status [0-9]' ;;
+    *0*) check "run, closed: $closed" "journal $(journal) status $status said $(text_of out)" 'journal 11 status [0-9] said ' ;;
+    *) check "run, closed: $closed" "journal $(journal) status $status said $(text_of out)" "journal 31 status 0 said $made_text" ;;
+    esac
+done
+
+echo "$passed passed, $failed failed"
+[ "$failed" -eq 0 ]
