@@ -1,0 +1,223 @@
+// A disk in memory, which keeps each call.
+ghost use Rattle.std.specs.Prelude.{◌≡◌, ◌≤◌, ◌++◌, [], ◌∷◌, true, length, OnOk, OnErr};
+ghost use Rattle.disk_core.specs.Files.{seen_in};
+ghost use Rattle.disk_core.specs.Contents.{AreBytes, bytes_of, seens};
+ghost use Rattle.office_base.specs.Faults.{Rose, HasCause};
+ghost use Rattle.disk_core.specs.declared.memory.Call.TheVariants.{Other, Cut, Sync};
+ghost use Rattle.disk_core.specs.Replay.{IsUntold, KeepsWrite, after, HadSince, counts_now, only_now, since_earlier};
+ghost use Rattle.disk_core.specs.Own.{own, own_image, bytes_told};
+
+use crate::contents::Contents;
+use crate::{Disk, FileNo};
+use office_base::Failed;
+use std::alloc::{AllocError, AllocFailed, Global};
+
+#[derive(Drop)]
+enum Call {
+    // One that changed nothing.
+    Other,
+    Write {
+        file: FileNo,
+        at: u64,
+        bytes: Vec<u8>,
+    },
+    Cut {
+        file: FileNo,
+        to: u64,
+    },
+    Sync {
+        file: FileNo,
+    },
+}
+
+/// Three files in memory, with each call that was made.
+#[derive(Drop)]
+pub struct MemoryDisk {
+    alloc: Global,
+    contents: Contents,
+    calls: Vec<Call>,
+    failing: Vec<u64>,
+    faults: u64,
+    ghost same: { bytes_of contents ≡ seens (after calls.items) },
+    ghost small: { AreBytes (bytes_of contents) },
+}
+
+impl MemoryDisk {
+    ghost use Rattle.disk_core.specs.Files.{empty_disk};
+    ghost use Rattle.disk_core.specs.Memory.{memory_state, memory_faults};
+
+    /// Makes a disk of three empty files, of which the calls with these numbers fail.
+    ///
+    /// Calls are counted from 1, `length`, `read_at`, `write_at`, `cut` and `sync` alike. A write or a cut that fails so has happened as
+    /// a whole; a sync that fails so has not happened. A call that finds no memory fails too, and is not counted as a call.
+    #[tactic(auto, unfolding(crate::specs::Replay::after, crate::specs::Replay::replay))]
+    pub fn new(alloc: Global, failing: Vec<u64>) -> Self
+        ensures empty { memory_state result ≡ empty_disk }
+        ensures faults { memory_faults result ≡ 0 }
+    {
+        let contents = Contents::new(alloc);
+        contents.small();
+        MemoryDisk {
+            alloc,
+            contents,
+            calls: Vec::new(alloc),
+            failing,
+            faults: 0,
+        }
+    }
+
+    // Whether the next call is one that is to fail.
+    fn next_fails(&self) -> bool {
+        self.failing.contains(&(self.calls.len() as u64 + 1))
+    }
+
+    // Counts a fault.
+    fn fail(&mut self) -> Failed
+        ensures calls { self.new.calls.items ≡ self.old.calls.items }
+        ensures later { self.old.faults ≤ self.new.faults }
+        ensures rose { Rose self.old.faults self.new.faults }
+    {
+        self.faults = self.faults.saturating_add(1);
+        Failed
+    }
+
+    // Makes a call that changes nothing: it fails where it is to.
+    fn pass(&mut self) -> Result<(), Failed>
+        ensures ok { OnOk result ((self.new.calls.items ≡ self.old.calls.items ++ Other ∷ []) × (self.new.faults ≡ self.old.faults)) }
+        ensures err { OnErr result (IsUntold self.old.calls.items self.new.calls.items) }
+        ensures cause { HasCause self.old.faults self.new.faults result }
+    {
+        let fails = self.next_fails();
+        match self.note() {
+            Err(_) => Err(self.fail()),
+            Ok(()) if fails => Err(self.fail()),
+            Ok(()) => Ok(()),
+        }
+    }
+
+    // Writes as a whole and keeps the call, or changes nothing.
+    fn write(&mut self, file: FileNo, at: u64, bytes: &[u8]) -> Result<(), AllocError>
+        requires { at ≤ length (seen_in file (after self.old.calls.items)) }
+        ensures ok { OnOk result (KeepsWrite file at bytes.now self.old.calls.items self.new.calls.items) }
+        ensures err { OnErr result (self.new.calls.items ≡ self.old.calls.items) }
+        ensures faults { self.new.faults ≡ self.old.faults }
+    {
+        let copy = bytes.to_vec(self.alloc)?;
+        self.calls.reserve(1)?;
+        self.contents.write(file, at as usize, bytes)?;
+        self.contents.small();
+        self.calls.push_reserved(Call::Write {
+            file,
+            at,
+            bytes: copy,
+        });
+        Ok(())
+    }
+
+    // Keeps a call that changes nothing, or changes nothing itself.
+    fn note(&mut self) -> Result<(), AllocError>
+        ensures ok { OnOk result (self.new.calls.items ≡ self.old.calls.items ++ Other ∷ []) }
+        ensures err { OnErr result (self.new.calls.items ≡ self.old.calls.items) }
+        ensures faults { self.new.faults ≡ self.old.faults }
+    {
+        self.calls.reserve(1)?;
+        self.calls.push_reserved(Call::Other);
+        Ok(())
+    }
+
+    // Keeps a sync, or changes nothing.
+    fn settle(&mut self, file: FileNo) -> Result<(), AllocError>
+        ensures ok { OnOk result (self.new.calls.items ≡ self.old.calls.items ++ Sync file ∷ []) }
+        ensures err { OnErr result (self.new.calls.items ≡ self.old.calls.items) }
+        ensures faults { self.new.faults ≡ self.old.faults }
+    {
+        self.calls.reserve(1)?;
+        self.calls.push_reserved(Call::Sync { file });
+        Ok(())
+    }
+
+    // Cuts and keeps the call, or changes nothing.
+    fn shorten(&mut self, file: FileNo, to: u64) -> Result<(), AllocError>
+        requires { to ≤ length (seen_in file (after self.old.calls.items)) }
+        ensures ok { OnOk result (self.new.calls.items ≡ self.old.calls.items ++ Cut file to ∷ []) }
+        ensures err { OnErr result (self.new.calls.items ≡ self.old.calls.items) }
+        ensures faults { self.new.faults ≡ self.old.faults }
+    {
+        self.calls.reserve(1)?;
+        self.contents.cut(file, to as usize);
+        self.contents.small();
+        self.calls.push_reserved(Call::Cut { file, to });
+        Ok(())
+    }
+}
+
+#[tactic(auto, using(crate::proofs::Replay::facts))]
+impl Disk for MemoryDisk {
+    ghost honest = { true };
+
+    ghost state = { λ m. after m.calls.items };
+
+    ghost moment = { λ m. length m.calls.items };
+
+    ghost had_since = { λ m t s. HadSince m.calls.items t s };
+
+    ghost fault_count = { λ m. m.faults };
+
+    ghost counts_now = { λ m t le. counts_now m.calls.items t le };
+
+    ghost only_now = { λ m s had. only_now m.calls.items s had };
+
+    ghost since_earlier = { λ m t u s le had. since_earlier m.calls.items t u s le had };
+
+    ghost reads_image = { λ told m file. own_image file (after m.calls.items) (own m.calls.items) };
+
+    ghost holds_bytes = { λ told m file. bytes_told file (bytes_of m.contents) (after m.calls.items) m.same m.small };
+
+    fn length(&mut self, file: FileNo) -> Result<u64, Failed> {
+        self.pass()?;
+        Ok(self.contents.file(file).len() as u64)
+    }
+
+    fn read_at(&mut self, file: FileNo, at: u64, room: &mut [u8]) -> Result<(), Failed> {
+        self.pass()?;
+        let at = at as usize;
+        let bytes = self.contents.file(file);
+        room.copy_from_slice(&bytes[at..at + room.len()]);
+        Ok(())
+    }
+
+    fn write_at(&mut self, file: FileNo, at: u64, bytes: &[u8]) -> Result<(), Failed> {
+        let fails = self.next_fails();
+        match self.write(file, at, bytes) {
+            Err(_) => Err(self.fail()),
+            Ok(()) if fails => Err(self.fail()),
+            Ok(()) => Ok(()),
+        }
+    }
+
+    fn cut(&mut self, file: FileNo, to: u64) -> Result<(), Failed> {
+        let fails = self.next_fails();
+        match self.shorten(file, to) {
+            Err(_) => Err(self.fail()),
+            Ok(()) if fails => Err(self.fail()),
+            Ok(()) => Ok(()),
+        }
+    }
+
+    fn sync(&mut self, file: FileNo) -> Result<(), Failed> {
+        if self.next_fails() {
+            return match self.pass() {
+                Err(e) => Err(e),
+                Ok(()) => Err(self.fail()),
+            };
+        }
+        match self.settle(file) {
+            Err(_) => Err(self.fail()),
+            Ok(()) => Ok(()),
+        }
+    }
+
+    fn faults(&self) -> u64 {
+        self.faults
+    }
+}
