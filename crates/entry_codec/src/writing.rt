@@ -1,0 +1,51 @@
+ghost use Rattle.std.specs.Prelude.{◌≡◌, ◌++◌, IfOk, OnOk};
+ghost use Rattle.entry_codec.specs.Spelling.{Fits, IsEntry, name, command_spelling, CommandFits, spelling};
+ghost use Rattle.office_base.specs.Names.{IsBucketName};
+
+use office_base::{BucketName, NoMemory};
+use plain_office::{Command, Entry};
+use std::alloc::{AllocError, Global};
+
+fn put_name(out: &mut Vec<u8>, bucket: &BucketName) -> Result<(), AllocError>
+    ensures bytes { OnOk result (out.new.items ≡ out.old.items ++ name bucket.now) }
+    ensures fits { OnOk result (IsBucketName bucket.now) }
+{
+    let text = bucket.text().as_bytes();
+    out.extend_from_slice(&(text.len() as u16).to_be_bytes())?;
+    out.extend_from_slice(text)
+}
+
+fn put_command(out: &mut Vec<u8>, command: &Command) -> Result<(), AllocError>
+    ensures bytes { OnOk result (out.new.items ≡ out.old.items ++ command_spelling command.now) }
+    ensures fits { OnOk result (CommandFits command.now) }
+{
+    match command {
+        Command::CreateBucket { bucket } => {
+            out.push(1)?;
+            put_name(out, bucket)
+        }
+    }
+}
+
+#[tactic(auto, unfolding(crate::specs::Spelling::spelling))]
+fn written(alloc: Global, entry: &Entry) -> Result<Vec<u8>, AllocError>
+    ensures bytes { IfOk result (λ bytes. bytes.items ≡ spelling entry.now) }
+    ensures fits { IfOk result (λ _. Fits entry.now) }
+{
+    let mut out = Vec::new(alloc);
+    out.extend_from_slice(&entry.moment.ms().to_be_bytes())?;
+    put_command(&mut out, &entry.command)?;
+    Ok(out)
+}
+
+/// The one spelling of an entry.
+pub fn encode(alloc: Global, entry: &Entry) -> Result<Vec<u8>, NoMemory>
+    ensures bytes { IfOk result (λ bytes. bytes.items ≡ spelling entry.now) }
+    // They are an entry's, which decoding gives back.
+    ensures entry { IfOk result (λ bytes. Fits entry.now × IsEntry bytes.items) }
+{
+    match written(alloc, entry) {
+        Ok(bytes) => Ok(bytes),
+        Err(_) => Err(NoMemory),
+    }
+}
