@@ -1,0 +1,54 @@
+-- What a journal file stands for: a list of entries, each behind an open gate.
+use Rattle.std.specs.Prelude.{◌≡◌, ◌≢◌, ◌⊎◌, ℕ, ◌+◌, ◌^◌, ◌≤◌, List, [], ◌∷◌, ◌++◌, length}
+use Rattle.std.specs.List.{flat_map, AllByRecursion}
+use Rattle.std.specs.Int.{w32, to_be_bytes}
+use Rattle.plain_office.specs.declared.command.Entry.{Entry}
+use Rattle.entry_codec.specs.Spelling.{Fits, spelling}
+use Rattle.disk_core.specs.Files.{State, IsImage, synced_file}
+
+-- the mark of a journal file, the text METERJRN1
+abbrev pub mark : List ℕ
+mark = 0x4D ∷ 0x45 ∷ 0x54 ∷ 0x45 ∷ 0x52 ∷ 0x4A ∷ 0x52 ∷ 0x4E ∷ 0x31 ∷ []
+
+-- what stands before the first gate: the open gate of the file, and its mark
+abbrev pub header : List ℕ
+header = 0xA5 ∷ mark
+
+-- a length in four bytes, and that many bytes
+abbrev pub framed : List ℕ → List ℕ
+framed bytes = to_be_bytes w32 (length bytes) ++ bytes
+
+-- what stands before the first gate, and then these entries, each behind an open gate
+unfoldable pub whole : List ℕ → List Entry → List ℕ
+whole head entries = head ++ flat_map (λ e. 0xA5 ∷ framed (spelling e)) entries
+
+-- the place of the gate behind these entries
+abbrev pub end_gate : List ℕ → List Entry → ℕ
+end_gate head entries = length (whole head entries)
+
+-- behind this head a file holds these entries, up to the first gate that is not open;
+-- a frame ends in bounds with the gate behind it
+pub record HasEntries (head : List ℕ) (entries : List Entry) (file : List ℕ) : Type 0 where
+  pub gate : ℕ
+  pub rest : List ℕ
+  pub parts : file ≡ whole head entries ++ gate ∷ rest
+  pub closed : gate ≢ 0xA5
+  pub each : AllByRecursion Fits entries
+  pub small : (entries ≡ []) ⊎ (end_gate head entries + 1 ≤ 2 ^ 45)
+
+-- a made file holds these entries
+abbrev pub HasHistory : List Entry → List ℕ → Type 0
+HasHistory entries file = HasEntries header entries file
+
+-- the journal file is on the disk as a whole, with these entries and its end gate there; what stands in its head is not looked at
+pub record IsAtRest (head : List ℕ) (s : State) (gate : ℕ) (entries : List Entry) : Type 0 where
+  pub bytes : List ℕ
+  pub on_disk : s.journal ≡ synced_file bytes
+  pub history : HasEntries head entries bytes
+  pub end : gate ≡ end_gate head entries
+
+-- each image of the journal file has these entries, with one more or without; the other files are as they were
+pub record BeforeOrAfter (head : List ℕ) (entries : List Entry) (entry : Entry) (first s : State) : Type 0 where
+  pub journal : (image : List ℕ) → IsImage s.journal image → HasEntries head entries image ⊎ HasEntries head (entries ++ entry ∷ []) image
+  pub slot0 : s.slot0 ≡ first.slot0
+  pub slot1 : s.slot1 ≡ first.slot1

@@ -1,0 +1,4 @@
+pub mod Created
+pub mod History
+pub mod Places
+pub mod Reading

@@ -1,0 +1,15 @@
+-- What a journal and a reading of one are to their callers.
+use Rattle.std.specs.Prelude.{ℕ}
+
+-- a journal that was read: its disk, the place of its end gate, and the limit of its length, in bytes
+pub record Placed (D : Type 0) : Type 0 where
+  pub disk : D
+  pub gate : ℕ
+  pub limit : ℕ
+
+-- a journal that is read: its disk, the place of the next gate, the limit, and the length of the journal file, in bytes
+pub record Reading (D : Type 0) : Type 0 where
+  pub disk : D
+  pub gate : ℕ
+  pub limit : ℕ
+  pub length : ℕ

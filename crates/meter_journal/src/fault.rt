@@ -1,0 +1,31 @@
+// Why a journal is not opened or read.
+ghost use Rattle.std.specs.Prelude.{◌≡◌};
+ghost use Rattle.meter_journal.specs.declared.fault.OpenFault.TheVariants.{NoMemory};
+
+use std::alloc::AllocFailed;
+
+/// Why a journal is not opened, made or read.
+#[derive(Clone, Copy, Debug, PartialEq, Eq)]
+pub enum OpenFault {
+    /// The file is shorter than 11 bytes, or has 11 bytes and a closed gate at its head.
+    NotMade,
+    /// The file is longer and has no open gate at its head, or has another mark behind it.
+    Foreign,
+    /// The frame at a gate is damaged, and none before it is.
+    Damaged {
+        /// The place of the gate, in bytes from the start of the file.
+        offset: u64,
+    },
+    /// The disk did not do a call.
+    StoreFault,
+    /// Memory ran out.
+    NoMemory,
+}
+
+impl<T: Drop> From<AllocFailed<T>> for OpenFault {
+    ghost from_gives = { λ _ e. e ≡ NoMemory };
+
+    fn from(_e: AllocFailed<T>) -> OpenFault {
+        OpenFault::NoMemory
+    }
+}

@@ -1,0 +1,107 @@
+// The first bytes of a journal file, and all of them.
+ghost use Rattle.std.specs.Prelude.{◌≡◌, ◌⊎◌, ◌≤◌, List, ℕ, IsTrue, length, take, IfOk, IfErr, OnOk, IsErrOf};
+ghost use Rattle.office_base.specs.Faults.{HasCause};
+ghost use Rattle.disk_core.specs.Files.{synced_file};
+ghost use Rattle.disk_core.specs.Kept.{Narrower};
+ghost use Rattle.disk_core.specs.Moments.{KeepsTo, Untouched};
+ghost use Rattle.meter_journal.specs.Reading.{HeadGives, HasStoreCause};
+ghost use Rattle.meter_journal.specs.declared.fault.OpenFault.TheVariants.{StoreFault, NoMemory};
+
+use crate::fault::OpenFault;
+use disk_core::{Disk, Failed, FileNo};
+use std::alloc::Global;
+
+// The mark behind the gate at the head, the text METERJRN1.
+const MARK: [u8; 9] = [0x4D, 0x45, 0x54, 0x45, 0x52, 0x4A, 0x52, 0x4E, 0x31];
+
+// What the first ten bytes of a file of this length say.
+#[tactic(auto, using(crate::proofs::Heads::mark_in))]
+pub(crate) fn judge(front: &[u8; 10], end: u64) -> Result<(), OpenFault>
+    requires { 11 ≤ end }
+    ensures exact { (file : List ℕ) → end ≡ length file → front.now ≡ take 10 file → HeadGives result file }
+    ensures told { IsErrOf result OpenFault.StoreFault → ⊥ }
+{
+    if front[0] != 0xA5 {
+        return Err(if end == 11 {
+            OpenFault::NotMade
+        } else {
+            OpenFault::Foreign
+        });
+    }
+    if &front[1..] != &MARK[..] {
+        return Err(OpenFault::Foreign);
+    }
+    Ok(())
+}
+
+// Syncs the journal file.
+pub(crate) fn sync_journal<D: Disk>(disk: &mut D) -> Result<(), Failed>
+    ensures any_moment { IsTrue D.honest → KeepsTo D.state D.moment D.had_since disk.old disk.new (Narrower (D.state disk.old)) }
+    ensures done { IsTrue D.honest → OnOk result ((D.state disk.new).journal ≡ synced_file (D.state disk.old).journal.seen) }
+    ensures cause { HasCause (D.fault_count disk.old) (D.fault_count disk.new) result }
+{
+    disk.sync(FileNo::Journal)
+}
+
+// Reads the first bytes of a journal file of this length.
+fn check_head<D: Disk>(disk: &mut D, end: u64) -> Result<(), OpenFault>
+    requires known { IsTrue D.honest → end ≡ length (D.state disk.old).journal.seen }
+    ensures exact { IsTrue D.honest → HeadGives result (D.state disk.old).journal.seen }
+    ensures untouched { IsTrue D.honest → Untouched D.state D.moment D.had_since disk.old disk.new }
+    ensures cause { HasStoreCause (D.fault_count disk.old) (D.fault_count disk.new) result }
+{
+    if end < 11 {
+        return Err(OpenFault::NotMade);
+    }
+    let mut room = [0; 10];
+    if disk.read_at(FileNo::Journal, 0, &mut room).is_err() {
+        return Err(OpenFault::StoreFault);
+    }
+    judge(&room, end)
+}
+
+// Syncs the journal file, and reads its length where it is made.
+pub(crate) fn look<D: Disk>(disk: &mut D) -> Result<u64, OpenFault>
+    ensures exact { IsTrue D.honest → HeadGives result (D.state disk.old).journal.seen }
+    ensures size { IsTrue D.honest → IfOk result (λ n. n ≡ length (D.state disk.old).journal.seen) }
+    ensures any_moment { IsTrue D.honest → KeepsTo D.state D.moment D.had_since disk.old disk.new (Narrower (D.state disk.old)) }
+    ensures done { IsTrue D.honest → (IsErrOf result OpenFault.StoreFault → ⊥) → (D.state disk.new).journal ≡ synced_file (D.state disk.old).journal.seen }
+    ensures cause { HasStoreCause (D.fault_count disk.old) (D.fault_count disk.new) result }
+{
+    if sync_journal(disk).is_err() {
+        return Err(OpenFault::StoreFault);
+    }
+    let Ok(end) = disk.length(FileNo::Journal) else {
+        return Err(OpenFault::StoreFault);
+    };
+    match check_head(disk, end) {
+        Ok(()) => Ok(end),
+        Err(e) => Err(e),
+    }
+}
+
+/// Reads the whole journal file into memory, whatever it holds, and writes nothing.
+///
+/// # Errors
+///
+/// `StoreFault`: the disk did not do a call. `NoMemory`: memory for the bytes ran out. The files are as they were.
+pub fn read_all<D: Disk>(alloc: Global, disk: &mut D) -> Result<Vec<u8>, OpenFault>
+    ensures bytes { IsTrue D.honest → IfOk result (λ bytes. bytes.items ≡ (D.state disk.old).journal.seen) }
+    ensures err { IfErr result (λ e. (e ≡ StoreFault) ⊎ (e ≡ NoMemory)) }
+    ensures untouched { IsTrue D.honest → Untouched D.state D.moment D.had_since disk.old disk.new }
+    ensures cause { HasStoreCause (D.fault_count disk.old) (D.fault_count disk.new) result }
+{
+    let Ok(end) = disk.length(FileNo::Journal) else {
+        return Err(OpenFault::StoreFault);
+    };
+    let Ok(mut room) = vec![in alloc; 0u8; end as usize] else {
+        return Err(OpenFault::NoMemory);
+    };
+    if disk
+        .read_at(FileNo::Journal, 0, room.as_mut_slice())
+        .is_err()
+    {
+        return Err(OpenFault::StoreFault);
+    }
+    Ok(room)
+}

@@ -1,0 +1,19 @@
+//! A journal of entries, of which each is whole or absent after a crash at any moment.
+#![tactic(auto)]
+
+mod bytes;
+mod fault;
+mod framing;
+mod head;
+mod journal;
+mod laws;
+mod making;
+mod opening;
+
+pub use bytes::{frame, made};
+pub use fault::OpenFault;
+pub use head::read_all;
+pub use journal::{AppendFault, Journal};
+pub use laws::one_history;
+pub use making::{Made, create};
+pub use opening::Opening;
