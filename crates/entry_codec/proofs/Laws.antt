@@ -12,7 +12,8 @@ use Rattle.office_base.specs.Names.{is_bucket_name, IsBucketName}
 use Rattle.entry_codec.specs.Spelling.{name, command_spelling, CommandFits, Fits, spelling}
 use Rattle.entry_codec.specs.Reading.{◌>>=◌, Gives, number_at, moment_at, name_at, command_at, entry_of}
 use Rattle.entry_codec.proofs.Fields.{IsBytes, IsBytes-drop, bind_ok, ok_is, Takes, Takes-then, wide16, wide64, number_takes, number_again}
-use Rattle.entry_codec.proofs.Sizes.{name_small}
+use Rattle.office_base.proofs.Sizes.{name_small}
+use Rattle.moments.specs.Time.{end_of_time}
 
 -- a test that passed
 pub guard_passed : {A : Type 0} (b : Bool) (d : ℕ) (x y : A) → cond b (Ok x) (Err d) ≡ Ok y → (b ≡ true) × (x ≡ y)
@@ -28,17 +29,17 @@ pub guard_then : {A : Type 0} (b : Bool) (d : ℕ) (next : Result A ℕ) (y : A)
 guard_then true d next y e = (refl, e)
 guard_then false d next y e = absurd cc
 
-moment_takes : (at : ℕ) (bytes : List ℕ) (x : ℕ × List ℕ) → IsBytes bytes → moment_at at bytes ≡ Ok x → Takes bytes (to_be_bytes w64 x.0) x.1 × (x.0 < 4102444800000)
+moment_takes : (at : ℕ) (bytes : List ℕ) (x : ℕ × List ℕ) → IsBytes bytes → moment_at at bytes ≡ Ok x → Takes bytes (to_be_bytes w64 x.0) x.1 × (x.0 < end_of_time)
 unfolding moment_at
 moment_takes at bytes x fits e =
-    let b = bind_ok (number_at w64 at bytes) (λ n. cond (ltb n.0 4102444800000) (Ok n) (Err at)) x e in
-    let g = guard_passed (ltb b.0.0 4102444800000) at b.0 x b.2 in
+    let b = bind_ok (number_at w64 at bytes) (λ n. cond (ltb n.0 end_of_time) (Ok n) (Err at)) x e in
+    let g = guard_passed (ltb b.0.0 end_of_time) at b.0 x b.2 in
     let t = number_takes w64 (2 ^ 64) wide64 at bytes b.0.0 b.0.1 fits b.1 in
-    subst (λ (y : ℕ × List ℕ). Takes bytes (to_be_bytes w64 y.0) y.1 × (y.0 < 4102444800000)) g.1 (t.0, ltb-true _ _ g.0)
+    subst (λ (y : ℕ × List ℕ). Takes bytes (to_be_bytes w64 y.0) y.1 × (y.0 < end_of_time)) g.1 (t.0, ltb-true _ _ g.0)
 
-moment_again : (at n : ℕ) (rest : List ℕ) → n < 4102444800000 → moment_at at (to_be_bytes w64 n ++ rest) ≡ Ok (n, rest)
+moment_again : (at n : ℕ) (rest : List ℕ) → n < end_of_time → moment_at at (to_be_bytes w64 n ++ rest) ≡ Ok (n, rest)
 unfolding moment_at
-moment_again at n rest lt = rw (number_again w64 (2 ^ 64) wide64 at n rest (omega (arith, lt)), lt-ltb n 4102444800000 lt) refl
+moment_again at n rest lt = rw (number_again w64 (2 ^ 64) wide64 at n rest (omega (arith, lt)), lt-ltb n end_of_time lt) refl
 
 name_takes : (at : ℕ) (bytes : List ℕ) (x : List ℕ × List ℕ) → IsBytes bytes → name_at at bytes ≡ Ok x → Takes bytes (name x.0) x.1 × IsBucketName x.0
 unfolding name_at
@@ -97,3 +98,7 @@ entry_again e fits = rw (moment_again 0 e.moment (command_spelling e.command) fi
 pub is_found : (bytes : List ℕ) (r : Result Entry EntryFault) → IsBytes bytes → Gives (λ e. e) r (entry_of bytes) → IfOk r (λ e. Fits e × (bytes ≡ spelling e))
 is_found bytes (Ok e) fits given = entry_takes bytes e fits given
 is_found bytes (Err e) fits given = tt
+
+-- an entry is known by its spelling
+pub spelling_tells : (a b : Entry) → Fits a → Fits b → spelling a ≡ spelling b → a ≡ b
+spelling_tells a b fits_a fits_b same = ok_is a b (sym (entry_again a fits_a) ∙ ap entry_of same ∙ entry_again b fits_b)

@@ -1,3 +1,4 @@
+pub mod Examples
 pub mod Fields
 pub mod Laws
 pub mod Sizes

@@ -1,15 +1,10 @@
 -- How long an entry is.
 use Rattle.std.proofs.Common.{ℕ, ◌^◌, ◌<◌, ◌≤◌, List, length, ap, arith}
-use Rattle.std.proofs.lemmas.Bool.Decides.{nat_tests}
 use Rattle.plain_office.specs.declared.command.Command.{Command}
 use Rattle.plain_office.specs.declared.command.Command.TheVariants.{CreateBucket}
 use Rattle.plain_office.specs.declared.command.Entry.{Entry}
-use Rattle.office_base.specs.Names.{IsBucketName, is_bucket_name}
+use Rattle.office_base.proofs.Sizes.{name_small}
 use Rattle.entry_codec.specs.Spelling.{IsEntry, Fits, CommandFits, command_spelling, spelling}
-
-pub name_small : (bytes : List ℕ) → IsBucketName bytes → length bytes ≤ 63
-unfolding is_bucket_name
-name_small bytes is = grind (arith, nat_tests)
 
 command_small : (c : Command) → CommandFits c → length (command_spelling c) ≤ 66
 command_small (CreateBucket bucket) fits = omega (arith, name_small bucket fits)

@@ -1,10 +1,13 @@
-//! The entries of a journal, and the one spelling of each.
+//! The one spelling of each entry of a journal, written and read.
 #![tactic(auto)]
 
 mod fault;
 mod reading;
+#[cfg(test)]
+mod tests;
 mod writing;
 
 pub use fault::EntryFault;
-pub use reading::decode;
+pub use plain_office::{Command, Entry};
+pub use reading::{decode, one_spelling};
 pub use writing::encode;

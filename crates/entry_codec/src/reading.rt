@@ -1,14 +1,21 @@
+// Reading an entry.
 ghost use Rattle.std.specs.Prelude.{◌≡◌, ◌+◌, ◌<◌, ◌≤◌, ◌^◌, List, length, IfOk, Ok};
 ghost use Rattle.std.specs.Int.{w16, w64};
+ghost use Rattle.plain_office.specs.declared.command.Entry.{Entry};
 ghost use Rattle.entry_codec.specs.Spelling.{Fits, spelling};
 ghost use Rattle.entry_codec.specs.Reading.{Gives, number_at, name_at, command_at, entry_of};
-ghost use Rattle.plain_office.specs.declared.command.Entry.{Entry};
 
 use crate::fault::EntryFault;
 use moments::Moment;
 use office_base::{BucketName, NameRefusal};
 use plain_office::{Command, Entry};
 use std::alloc::Global;
+
+/// Where the kind of the command stands, in bytes: behind the moment.
+const KIND_AT: u64 = 8;
+
+/// Where the first field of the command stands, in bytes: behind the kind.
+const FIELDS_AT: u64 = 9;
 
 fn u16_at(at: u64, bytes: &[u8]) -> Result<(u16, &[u8]), EntryFault>
     ensures { Gives (λ x. (x.0, x.1.now)) result (number_at w16 at bytes.now) }
@@ -59,7 +66,7 @@ fn command_of(alloc: Global, total: usize, bytes: &[u8]) -> Result<Command, Entr
 {
     match bytes {
         [1, rest @ ..] => {
-            let (bucket, rest) = name_of(alloc, 9, rest)?;
+            let (bucket, rest) = name_of(alloc, FIELDS_AT, rest)?;
             if !rest.is_empty() {
                 return Err(EntryFault::BadEntry {
                     offset: total.saturating_sub(rest.len()) as u64,
@@ -67,12 +74,12 @@ fn command_of(alloc: Global, total: usize, bytes: &[u8]) -> Result<Command, Entr
             }
             Ok(Command::CreateBucket { bucket })
         }
-        _ => Err(EntryFault::BadEntry { offset: 8 }),
+        _ => Err(EntryFault::BadEntry { offset: KIND_AT }),
     }
 }
 
 #[tactic(auto, unfolding(crate::specs::Reading::entry_of, crate::specs::Reading::moment_at))]
-fn all(alloc: Global, bytes: &[u8]) -> Result<Entry, EntryFault>
+fn whole_entry(alloc: Global, bytes: &[u8]) -> Result<Entry, EntryFault>
     ensures { Gives (λ e. e) result (entry_of bytes.now) }
 {
     let (ms, rest) = u64_at(0, bytes)?;
@@ -83,7 +90,14 @@ fn all(alloc: Global, bytes: &[u8]) -> Result<Entry, EntryFault>
     Ok(Entry { moment, command })
 }
 
-/// The entry that the bytes spell, all of the bytes.
+/// Reads the entry that the bytes spell, all of the bytes.
+///
+/// Cost: one pass over the bytes, and memory for the names.
+///
+/// # Errors
+///
+/// `BadEntry`: the bytes are the spelling of no entry; fields are tested from left to right. `NoMemory`: memory ran out
+/// before a later field was tested.
 pub fn decode(alloc: Global, bytes: &[u8]) -> Result<Entry, EntryFault>
     // What is read is spelled so.
     ensures found { IfOk result (λ e. Fits e × (bytes.now ≡ spelling e)) }
@@ -92,5 +106,11 @@ pub fn decode(alloc: Global, bytes: &[u8]) -> Result<Entry, EntryFault>
     // Which fault it is.
     ensures exact { Gives (λ e. e) result (entry_of bytes.now) }
 {
-    all(alloc, bytes)
+    whole_entry(alloc, bytes)
 }
+
+/// States that a spelling is that of one entry.
+#[tactic(auto, using(crate::proofs::Laws::spelling_tells))]
+pub fn one_spelling()
+    ensures same { (a b : Entry) → Fits a → Fits b → spelling a ≡ spelling b → a ≡ b }
+{}

@@ -1,6 +1,7 @@
+// Writing an entry.
 ghost use Rattle.std.specs.Prelude.{◌≡◌, ◌++◌, IfOk, OnOk};
-ghost use Rattle.entry_codec.specs.Spelling.{Fits, IsEntry, name, command_spelling, CommandFits, spelling};
 ghost use Rattle.office_base.specs.Names.{IsBucketName};
+ghost use Rattle.entry_codec.specs.Spelling.{Fits, IsEntry, name, command_spelling, CommandFits, spelling};
 
 use office_base::{BucketName, NoMemory};
 use plain_office::{Command, Entry};
@@ -38,7 +39,14 @@ fn written(alloc: Global, entry: &Entry) -> Result<Vec<u8>, AllocError>
     Ok(out)
 }
 
-/// The one spelling of an entry.
+/// Writes the one spelling of an entry.
+///
+/// Own rule: the moment in ms in eight bytes, the kind of the command in one, then its fields, most significant byte
+/// first; so an entry can be found again from its bytes alone. Cost: one pass over the fields, and memory for the bytes.
+///
+/// # Errors
+///
+/// `NoMemory`: memory ran out.
 pub fn encode(alloc: Global, entry: &Entry) -> Result<Vec<u8>, NoMemory>
     ensures bytes { IfOk result (λ bytes. bytes.items ≡ spelling entry.now) }
     // They are an entry's, which decoding gives back.
