@@ -108,11 +108,13 @@ impl<D: Disk> Journal<D> {
         if self.gate.saturating_add(size).saturating_add(6) > self.limit {
             return Err(AppendFault::JournalFull);
         }
-        if commit(&mut self.disk, self.gate, entry).is_err() {
-            return Err(AppendFault::StoreFault);
+        match commit(&mut self.disk, self.gate, entry) {
+            Err(_) => Err(AppendFault::StoreFault),
+            Ok(()) => {
+                self.gate += 5 + size;
+                Ok(self.gate)
+            }
         }
-        self.gate += 5 + size;
-        Ok(self.gate)
     }
 
     /// Gives the disk back.

@@ -1,0 +1,17 @@
+use Rattle.std.proofs.Common.{◌≡◌, ◌+◌, ◌++◌, ◌∷◌, [], ℕ, length, subst, arith}
+use Rattle.entry_codec.proofs.Sizes.{entry_small}
+use Rattle.meter_journal.specs.History.{IsAtRest}
+use Rattle.meter_journal.proofs.journal.Journal.append.Goals as goal
+
+pub commit-requires-clause-size : goal.commit-requires-clause-size
+commit-requires-clause-size g c = entry_small c.args.entry.now c.requires.entry
+
+pub returns-in-Err-clause-any_moment : goal.returns-in-Err-clause-any_moment
+returns-in-Err-clause-any_moment g c told head entries e fits is = rw (← c.self.view_is) (c.commit.ensures.any_moment told head entries e fits is)
+
+pub returns-in-Ok-clause-any_moment : goal.returns-in-Ok-clause-any_moment
+returns-in-Ok-clause-any_moment g c told head entries e fits is = rw (← c.self.view_is) (c.commit.ensures.any_moment told head entries e fits is)
+
+pub returns-in-Ok-clause-acknowledged : goal.returns-in-Ok-clause-acknowledged
+returns-in-Ok-clause-acknowledged g c told head entries e fits is = rw (← c.self.view_is) (λ rest.
+    subst (λ (k : ℕ). IsAtRest head (g.D.Disk.state c.commit.new.disk) k (entries ++ e ∷ [])) (omega arith) (c.in-Ok.ensures.acknowledged told head entries e fits is rest))
