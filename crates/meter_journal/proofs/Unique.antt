@@ -5,6 +5,7 @@ use Rattle.std.specs.List.{flat_map, AllByRecursion}
 use Rattle.std.specs.Int.{w32, to_be_bytes, from_be_bytes}
 use Rattle.std.proofs.lemmas.Bool.{lt-leb, le-ltb, ne_eqb}
 use Rattle.std.proofs.lemmas.Nat.{from_be_bytes-to_be_bytes_4}
+use Rattle.std.proofs.lemmas.Grind.{flat_map-append}
 use Rattle.std.proofs.lemmas.List.{take_at, drop_at, append_cancel_left, get_or-drop, length-drop, drop-drop}
 use Rattle.plain_office.specs.declared.command.Entry.{Entry}
 use Rattle.entry_codec.specs.Reading.{entry_of}
@@ -12,7 +13,7 @@ use Rattle.entry_codec.specs.Spelling.{Fits, spelling}
 use Rattle.entry_codec.proofs.Laws.{entry_again, spelling_tells}
 use Rattle.entry_codec.proofs.Sizes.{entry_small}
 use Rattle.meter_journal.specs.History.{framed, whole, end_gate, HasEntries}
-use Rattle.meter_journal.specs.Reading.{Frame, Ended, Whole, Broken, entry_frame, size_at, body_at, frame_at, HasPrefix}
+use Rattle.meter_journal.specs.Reading.{Frame, Ended, Whole, Broken, entry_frame, size_at, body_at, frame_at, HasPrefix, GoesOn}
 
 abbrev Frames : List Entry → List ℕ
 Frames entries = flat_map (λ e. 0xA5 ∷ framed (spelling e)) entries
@@ -133,18 +134,13 @@ module _ (gate : ℕ) (file : List ℕ) (e : Entry) (tail : List ℕ) (stands : 
       let inner : nat_le (length file) gate ≡ false = lt-leb (length file) gate (omega (arith, long)) in
       rw (inner, byte_is gate 0xA5 file (framed (spelling e) ++ tail) stands.parts, body_is) refl
 
--- what stands at a gate of a file that holds these entries, behind the first of them
-abbrev pub Next : (front entries : List Entry) (gate : ℕ) (file : List ℕ) → Type 0
-Next front entries gate file = ((front ≡ entries) × (frame_at gate file ≡ Ended))
-    ⊎ ((e : Entry) × (more : List Entry) × (entries ≡ front ++ e ∷ more) × (frame_at gate file ≡ Whole e (gate + 5 + length (spelling e))))
-
 some_entries : (front more : List Entry) (e : Entry) → front ++ e ∷ more ≢ []
 some_entries [] more e is = cc
 some_entries (f ∷ front) more e is = cc
 
-next_of : (head : List ℕ) (front entries : List Entry) (gate : ℕ) (file : List ℕ) (has : HasEntries head entries file) → HasPrefix head front gate file → Behind front entries (drop gate file) has.gate has.rest → Next front entries gate file
-next_of head front entries gate file has prefix (inl x) = inl (x.0, ended_is gate has.gate file has.rest x.1 has.closed)
-next_of head front entries gate file has prefix (inr x) =
+goes_on_by : (head : List ℕ) (front entries : List Entry) (gate : ℕ) (file : List ℕ) (has : HasEntries head entries file) → HasPrefix head front gate file → Behind front entries (drop gate file) has.gate has.rest → GoesOn front entries gate file
+goes_on_by head front entries gate file has prefix (inl x) = inl (x.0, ended_is gate has.gate file has.rest x.1 has.closed)
+goes_on_by head front entries gate file has prefix (inr x) =
     let e = x.0 in
     let tail = Frames x.1 ++ has.gate ∷ has.rest in
     let small : end_gate head entries + 1 ≤ 2 ^ 45 = ⊎_elim (λ none. absurd (some_entries front x.1 e (sym x.2 ∙ none))) (λ le. le) has.small in
@@ -161,12 +157,36 @@ next_of head front entries gate file has prefix (inr x) =
     inr (e, x.1, x.2, whole_is gate file e tail (record { fits = x.3; parts = x.4; some = omega (arith, length-append (Frames x.1) (has.gate ∷ has.rest)); room = room }))
 
 -- a file that holds these entries is read without damage up to its end
-pub next_in : (head : List ℕ) (front entries : List Entry) (gate : ℕ) (file : List ℕ) → HasEntries head entries file → HasPrefix head front gate file → Next front entries gate file
-next_in head front entries gate file has prefix = next_of head front entries gate file has prefix (behind_head head front entries (drop gate file) file has prefix.each prefix.parts)
+pub goes_on : (head : List ℕ) (front entries : List Entry) (gate : ℕ) (file : List ℕ) → HasEntries head entries file → HasPrefix head front gate file → GoesOn front entries gate file
+goes_on head front entries gate file has prefix = goes_on_by head front entries gate file has prefix (behind_head head front entries (drop gate file) file has prefix.each prefix.parts)
 
-unbroken : (front entries : List Entry) (gate : ℕ) (file : List ℕ) → Next front entries gate file → frame_at gate file ≢ Broken
+unbroken : (front entries : List Entry) (gate : ℕ) (file : List ℕ) → GoesOn front entries gate file → frame_at gate file ≢ Broken
 unbroken front entries gate file (inl x) is = let both = sym x.1 ∙ is in cc
 unbroken front entries gate file (inr x) is = let both = sym x.3 ∙ is in cc
 
 pub never_broken : (head : List ℕ) (front entries : List Entry) (gate : ℕ) (file : List ℕ) → HasEntries head entries file → HasPrefix head front gate file → frame_at gate file ≢ Broken
-never_broken head front entries gate file has prefix = unbroken front entries gate file (next_in head front entries gate file has prefix)
+never_broken head front entries gate file has prefix = unbroken front entries gate file (goes_on head front entries gate file has prefix)
+
+-- the first of these entries stand in the file before the gate behind them
+whole-append : (head : List ℕ) (front more : List Entry) → whole head (front ++ more) ≡ whole head front ++ Frames more
+unfolding whole
+whole-append head front more = ap (λ (l : List ℕ). head ++ l) (flat_map-append (λ e. 0xA5 ∷ framed (spelling e)) front more) ∙ sym (append_assoc head (Frames front) (Frames more))
+
+front_fits : (front more : List Entry) → AllByRecursion Fits (front ++ more) → AllByRecursion Fits front
+front_fits [] more each = tt
+front_fits (e ∷ front) more each = (each.0, front_fits front more each.1)
+
+front_none : (front more : List Entry) → front ++ more ≡ [] → front ≡ []
+front_none [] more is = refl
+front_none (e ∷ front) more is = absurd cc
+
+pub prefix_in : (head : List ℕ) (front more : List Entry) (file : List ℕ) → HasEntries head (front ++ more) file → HasPrefix head front (end_gate head front) file
+prefix_in head front more file has =
+    let tail = Frames more ++ has.gate ∷ has.rest in
+    let parts : file ≡ whole head front ++ tail = has.parts ∙ ap (λ (l : List ℕ). l ++ has.gate ∷ has.rest) (whole-append head front more) ∙ append_assoc (whole head front) (Frames more) (has.gate ∷ has.rest) in
+    record {
+      parts = parts ∙ ap (λ (l : List ℕ). whole head front ++ l) (sym (ap (λ (l : List ℕ). drop (end_gate head front) l) parts ∙ drop_at (whole head front) tail (end_gate head front) refl));
+      size = refl;
+      each = front_fits front more has.each;
+      small = ⊎_elim (λ none. inl (front_none front more none)) (λ le. inr (omega (arith, le, ap length (whole-append head front more), length-append (whole head front) (Frames more)))) has.small;
+    }

@@ -1,11 +1,11 @@
 -- What reading a journal file gives, at each gate.
-use Rattle.std.specs.Prelude.{◌≡◌, ◌≢◌, ◌⊎◌, ℕ, ◌+◌, ◌<◌, ◌≤◌, ◌^◌, List, [], ◌++◌, length, get_or, take, drop, Option, Some, None, Result, Ok, Err, IsErrOf, nat_lt, nat_le, ◌==◌, ◌||◌, if◌then◌else◌}
+use Rattle.std.specs.Prelude.{◌≡◌, ◌≢◌, ◌⊎◌, ℕ, ◌+◌, ◌<◌, ◌≤◌, ◌^◌, List, [], ◌∷◌, ◌++◌, length, get_or, take, drop, Option, Some, None, Result, Ok, Err, IsErrOf, nat_lt, nat_le, ◌==◌, ◌||◌, if◌then◌else◌}
 use Rattle.std.specs.Int.{w32, from_be_bytes}
 use Rattle.std.specs.List.{AllByRecursion}
 use Rattle.office_base.specs.Faults.{Rose}
 use Rattle.plain_office.specs.declared.command.Entry.{Entry}
 use Rattle.entry_codec.specs.Reading.{entry_of}
-use Rattle.entry_codec.specs.Spelling.{Fits}
+use Rattle.entry_codec.specs.Spelling.{Fits, spelling}
 use Rattle.meter_journal.specs.declared.fault.OpenFault.{OpenFault}
 use Rattle.meter_journal.specs.declared.fault.OpenFault.TheVariants as faults
 use Rattle.meter_journal.specs.History.{mark, whole, end_gate}
@@ -109,6 +109,12 @@ pub record HasPrefix (head : List ℕ) (entries : List Entry) (gate : ℕ) (file
   pub size : gate ≡ end_gate head entries
   pub each : AllByRecursion Fits entries
   pub small : (entries ≡ []) ⊎ (gate + 1 ≤ 2 ^ 45)
+
+-- what stands at the gate behind the first of these entries: the end behind all of them, or the next one
+abbrev pub GoesOn : List Entry → List Entry → ℕ → List ℕ → Type 0
+GoesOn front entries gate file =
+    ((front ≡ entries) × (frame_at gate file ≡ Ended))
+    ⊎ ((e : Entry) × (more : List Entry) × (entries ≡ front ++ e ∷ more) × (frame_at gate file ≡ Whole e (gate + 5 + length (spelling e))))
 
 -- what reading all entries of this file answers where it fails: damage at a gate, and at none before it
 abbrev pub ReadFails : List ℕ → OpenFault → List ℕ → Type 0

@@ -14,6 +14,6 @@ pub use bytes::{frame, made};
 pub use fault::OpenFault;
 pub use head::read_all;
 pub use journal::{AppendFault, Journal};
-pub use laws::one_history;
+pub use laws::{one_head, one_history, reads_all};
 pub use making::{Made, create};
 pub use opening::Opening;
