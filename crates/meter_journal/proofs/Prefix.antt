@@ -12,9 +12,7 @@ use Rattle.entry_codec.proofs.Fields.{IsBytes, IsBytes-drop, IsBytes-take}
 use Rattle.entry_codec.proofs.Laws.{entry_takes}
 use Rattle.meter_journal.specs.History.{framed, whole, HasEntries, IsAtRest}
 use Rattle.disk_core.specs.Files.{File, State, synced_file}
-use Rattle.meter_journal.specs.Reading.{Frame, Ended, Whole, Broken, entry_frame, entry_at, size_at, body_at, frame_at, NextGives, HasPrefix, ReadFails}
-use Rattle.meter_journal.specs.declared.fault.OpenFault.{OpenFault}
-use Rattle.meter_journal.specs.declared.fault.OpenFault.TheVariants as faults
+use Rattle.meter_journal.specs.Reading.{Frame, Ended, Whole, Broken, entry_frame, entry_at, size_at, body_at, frame_at, NextGives, HasPrefix}
 use Rattle.meter_journal.proofs.History.{whole-push, each-push}
 
 not_broken : (b : Bool) (f : Frame) (e : Entry) (n : ℕ) → cond b Broken f ≡ Whole e n → (b ≡ false) × (f ≡ Whole e n)
@@ -161,15 +159,3 @@ read_end head first mid new file entries gate next o same still on_disk prefix i
     let seen : mid.journal.seen ≡ file = ap (λ (f : File). f.seen) on_mid in
     let on_new : new.journal ≡ synced_file file = ap (λ (s : State). s.journal) still ∙ on_mid in
     subst (λ (k : ℕ). IsAtRest head new k entries) (sym told.0) (at_rest head new entries gate file on_new prefix (sym (ap (frame_at gate) seen) ∙ told.1))
-
--- where reading fails
-pub read_fails : (head : List ℕ) (first mid : State) (file : List ℕ) (entries : List Entry) (gate next : ℕ) (e : OpenFault) → mid ≡ first → first.journal ≡ synced_file file
-    → HasPrefix head entries gate file → NextGives (Err e) gate next (frame_at gate mid.journal.seen) → ReadFails head e file
-read_fails head first mid file entries gate next faults.NotMade same on_disk prefix gives = absurd gives.1
-read_fails head first mid file entries gate next faults.Foreign same on_disk prefix gives = absurd gives.1
-read_fails head first mid file entries gate next faults.StoreFault same on_disk prefix gives = tt
-read_fails head first mid file entries gate next faults.NoMemory same on_disk prefix gives = tt
-read_fails head first mid file entries gate next (faults.Damaged at) same on_disk prefix gives =
-    let seen : mid.journal.seen ≡ file = ap (λ (s : State). s.journal.seen) same ∙ ap (λ (f : File). f.seen) on_disk in
-    let damage = gives.1 in
-    subst (λ (k : ℕ). (es : List Entry) × HasPrefix head es k file × (frame_at k file ≡ Broken)) (sym damage.0) (entries, prefix, sym (ap (frame_at gate) seen) ∙ damage.1)

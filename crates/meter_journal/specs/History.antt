@@ -40,7 +40,8 @@ pub record HasEntries (head : List ℕ) (entries : List Entry) (file : List ℕ)
 abbrev pub HasHistory : List Entry → List ℕ → Type 0
 HasHistory entries file = HasEntries header entries file
 
--- the journal file is on the disk as a whole, with these entries and its end gate there; what stands in its head is not looked at
+-- the journal file is on the disk as a whole, with these entries and its end gate there; what stands in its head is
+-- not looked at
 pub record IsAtRest (head : List ℕ) (s : State) (gate : ℕ) (entries : List Entry) : Type 0 where
   pub bytes : List ℕ
   pub on_disk : s.journal ≡ synced_file bytes

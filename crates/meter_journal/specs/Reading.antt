@@ -115,11 +115,3 @@ abbrev pub GoesOn : List Entry → List Entry → ℕ → List ℕ → Type 0
 GoesOn front entries gate file =
     ((front ≡ entries) × (frame_at gate file ≡ Ended))
     ⊎ ((e : Entry) × (more : List Entry) × (entries ≡ front ++ e ∷ more) × (frame_at gate file ≡ Whole e (gate + 5 + length (spelling e))))
-
--- what reading all entries of this file answers where it fails: damage at a gate, and at none before it
-abbrev pub ReadFails : List ℕ → OpenFault → List ℕ → Type 0
-ReadFails head (faults.Damaged at) file = (entries : List Entry) × HasPrefix head entries at file × (frame_at at file ≡ Broken)
-ReadFails head faults.NoMemory file = Unit {0}
-ReadFails head faults.StoreFault file = Unit {0}
-ReadFails head faults.NotMade file = ⊥
-ReadFails head faults.Foreign file = ⊥

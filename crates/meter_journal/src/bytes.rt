@@ -14,8 +14,8 @@ use std::alloc::Global;
 ///
 /// # Errors
 ///
-/// `NotMade`: they are fewer than 11, or 11 that begin with a closed gate. `Foreign`: they are more and begin with a closed gate, or
-/// they begin with an open gate and another mark than that of a journal.
+/// `NotMade`: they are fewer than 11, or 11 that begin with a closed gate. `Foreign`: they are more and begin with
+/// a closed gate, or they begin with an open gate and another mark than that of a journal.
 pub fn made(bytes: &[u8]) -> Result<(), OpenFault>
     ensures exact { HeadGives result bytes.now }
     ensures told { IsErrOf result OpenFault.StoreFault → ⊥ }
@@ -80,8 +80,8 @@ fn body_in(alloc: Global, bytes: &[u8], gate: usize) -> Result<(Entry, u64), Ope
 ///
 /// # Errors
 ///
-/// `Damaged` at the gate: it lies past the end; or it is open and the frame's length, its entry or the next gate ends past the end or
-/// past 2^45 bytes, or the frame holds no entry. `NoMemory`: memory for the entry ran out.
+/// `Damaged` at the gate: it lies past the end; or it is open and the frame's length, its entry or the next gate
+/// ends past the end or past 2^45 bytes, or the frame holds no entry. `NoMemory`: memory for the entry ran out.
 #[tactic(auto, unfolding(crate::specs::Reading::frame_at))]
 pub fn frame(alloc: Global, bytes: &[u8], gate: u64) -> Result<Option<(Entry, u64)>, OpenFault>
     ensures exact { FrameGives result gate (frame_at gate bytes.now) }

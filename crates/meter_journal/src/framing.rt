@@ -1,10 +1,10 @@
-// The two steps in which an entry is added: its frame behind a closed gate, and then the gate.
+// The frame of an entry, behind a gate that is not open.
 ghost use Rattle.std.specs.Prelude.{◌≡◌, ◌+◌, ◌<◌, ◌≤◌, ◌^◌, ◌++◌, [], ◌∷◌, ℕ, List, IsTrue, length, OnOk};
 ghost use Rattle.std.specs.Int.{w32, to_be_bytes};
 ghost use Rattle.office_base.specs.Faults.{HasCause};
 ghost use Rattle.disk_core.specs.Files.{put, synced_file};
 ghost use Rattle.disk_core.specs.Moments.{KeepsTo};
-ghost use Rattle.disk_core.specs.Kept.{KeepsJournal, IsButOne};
+ghost use Rattle.disk_core.specs.Kept.{KeepsJournal};
 
 use disk_core::{Disk, Failed, FileNo};
 
@@ -30,20 +30,5 @@ pub(crate) fn write_frame<D: Disk>(disk: &mut D, gate: u64, entry: &[u8]) -> Res
     )?;
     disk.write_at(FileNo::Journal, gate + 5, entry)?;
     disk.write_at(FileNo::Journal, gate + 5 + count, &[0])?;
-    disk.sync(FileNo::Journal)
-}
-
-// Opens the gate at this place, and syncs it.
-pub(crate) fn open_gate<D: Disk>(disk: &mut D, gate: u64) -> Result<(), Failed>
-    requires { IsTrue D.honest → gate < length (D.state disk.old).journal.seen }
-
-    ensures any_moment { IsTrue D.honest → (bytes : List ℕ) → gate < length bytes → (D.state disk.old).journal ≡ synced_file bytes
-        → KeepsTo D.state D.moment D.had_since disk.old disk.new (IsButOne gate bytes (D.state disk.old)) }
-
-    ensures done { IsTrue D.honest → OnOk result ((D.state disk.new).journal ≡ synced_file (put gate (0xA5 ∷ []) (D.state disk.old).journal.seen)) }
-
-    ensures cause { HasCause (D.fault_count disk.old) (D.fault_count disk.new) result }
-{
-    disk.write_at(FileNo::Journal, gate, &[0xA5])?;
     disk.sync(FileNo::Journal)
 }

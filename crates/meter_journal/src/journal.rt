@@ -6,7 +6,8 @@ ghost use Rattle.plain_office.specs.declared.command.Entry.{Entry};
 ghost use Rattle.entry_codec.specs.Spelling.{IsEntry, Fits, spelling};
 ghost use Rattle.meter_journal.specs.History.{IsAtRest, BeforeOrAfter};
 
-use crate::framing::{open_gate, write_frame};
+use crate::framing::write_frame;
+use crate::gate::open_gate;
 use disk_core::{Disk, Failed};
 use std::marker::Model;
 
@@ -73,21 +74,24 @@ impl<D: Disk> Journal<D> {
         self.gate.saturating_add(size).saturating_add(6) <= self.limit
     }
 
-    /// Adds an entry, given by its bytes, and answers the place of the end gate behind it, in bytes from the start of the file.
+    /// Adds an entry, given by its bytes, and answers the place of the end gate behind it, in bytes from the start
+    /// of the file.
     ///
-    /// The length, the entry and a closed gate are written behind the end gate and synced; then the end gate is opened and synced. So
-    /// after a crash at any moment the entry is there as a whole or not at all, and after `Ok` it is there.
+    /// The length, the entry and a closed gate are written behind the end gate and synced; then the end gate is
+    /// opened and synced. So after a crash at any moment the entry is there as a whole or not at all, and after
+    /// `Ok` it is there.
     /// Cost: four writes and two syncs; no memory.
     ///
     /// # Errors
     ///
-    /// `JournalFull`: the file would be longer than the limit; nothing is changed. `StoreFault`: the disk did not do a call; the entry
-    /// may be there or not, and the journal has to be opened again.
+    /// `JournalFull`: the file would be longer than the limit; nothing is changed. `StoreFault`: the disk did not
+    /// do a call; the entry may be there or not, and the journal has to be opened again.
     pub fn append(&mut self, entry: &[u8]) -> Result<u64, AppendFault>
         requires entry { IsEntry entry.now }
         requires at_rest { IsTrue D.honest → (head : List ℕ) × (entries : List Entry) × IsAtRest head (D.state self.old.disk) self.old.gate entries }
 
-        // At every moment of the call every image of the journal file has the entries from before, or those and the new one.
+        // At every moment of the call every image of the journal file has the entries from before, or those and the
+        // new one.
         ensures any_moment { IsTrue D.honest → (head : List ℕ) (entries : List Entry) (e : Entry) → Fits e → entry.now ≡ spelling e
             → IsAtRest head (D.state self.old.disk) self.old.gate entries
             → KeepsTo D.state D.moment D.had_since self.old.disk self.new.disk (BeforeOrAfter head entries e (D.state self.old.disk)) }

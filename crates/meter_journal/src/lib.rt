@@ -4,6 +4,7 @@
 mod bytes;
 mod fault;
 mod framing;
+mod gate;
 mod head;
 mod journal;
 mod laws;

@@ -9,7 +9,7 @@ ghost use Rattle.meter_journal.specs.Created.{Bounded, NoneOrEmpty, BeforeOrEmpt
 ghost use Rattle.meter_journal.specs.Reading.{IsMade, IsNotMade, CreateFails, HasStoreCause};
 
 use crate::fault::OpenFault;
-use crate::framing::open_gate;
+use crate::gate::open_gate;
 use crate::head::look;
 use disk_core::{Disk, Failed, FileNo};
 
@@ -71,13 +71,14 @@ pub enum Made {
 
 /// Makes the journal file where it is not made. One that is made or foreign stays as it is.
 ///
-/// The head is opened last, so after a crash at any moment the file is as before, or not made, or made and without entries.
+/// The head is opened last, so after a crash at any moment the file is as before, or not made, or made and without
+/// entries.
 /// Cost: three writes, a cut and five syncs where the file is made; no memory.
 ///
 /// # Errors
 ///
-/// `StoreFault`: the disk did not do a call. `Foreign`: the file is longer than 11 bytes and has no open gate at its head, or it has
-/// another mark behind it.
+/// `StoreFault`: the disk did not do a call. `Foreign`: the file is longer than 11 bytes and has no open gate at
+/// its head, or it has another mark behind it.
 pub fn create<D: Disk>(disk: &mut D) -> Result<Made, OpenFault>
     ensures before { IsTrue D.honest → IfOk result (λ m. m ≡ Made.Before → IsMade (D.state disk.old).journal.seen
         × ((D.state disk.new).journal ≡ synced_file (D.state disk.old).journal.seen)) }

@@ -144,13 +144,14 @@ fn frame_of<D: Disk>(
 impl<D: Disk> Opening<D> {
     /// Opens a journal, to be read from its first gate or from this place.
     ///
-    /// The file is synced and its head is read; nothing is written, so its images are among those from before. `limit` and `from` are
-    /// in bytes from the start of the file; `from` is a gate that was read before.
+    /// The file is synced and its head is read; nothing is written, so its images are among those from before.
+    /// `limit` and `from` are in bytes from the start of the file; `from` is a gate that was read before.
     ///
     /// # Errors
     ///
-    /// The disk comes back beside the fault. `StoreFault`: the disk did not do a call. `NotMade`: the file is shorter than 11 bytes, or
-    /// has 11 bytes and a closed gate at its head. `Foreign`: it is longer and has no open gate at its head, or has another mark.
+    /// The disk comes back beside the fault. `StoreFault`: the disk did not do a call. `NotMade`: the file is
+    /// shorter than 11 bytes, or has 11 bytes and a closed gate at its head. `Foreign`: it is longer and has no
+    /// open gate at its head, or has another mark.
     pub fn begin(mut disk: D, limit: u64, from: Option<u64>) -> Result<Opening<D>, (OpenFault, D)>
         requires limit { limit ≤ 2 ^ 45 }
         requires from { IfSome from (λ place. 10 ≤ place) }
@@ -187,9 +188,9 @@ impl<D: Disk> Opening<D> {
     ///
     /// # Errors
     ///
-    /// The next call then reads at the same gate again. `Damaged` at the gate: it lies past the end of the file; or it is open and the
-    /// frame's length, its entry or the next gate ends past the end or past 2^45 bytes, or the frame holds no entry. `StoreFault`: the
-    /// disk did not do a call. `NoMemory`: memory for the entry ran out.
+    /// The next call then reads at the same gate again. `Damaged` at the gate: it lies past the end of the file; or
+    /// it is open and the frame's length, its entry or the next gate ends past the end or past 2^45 bytes, or the
+    /// frame holds no entry. `StoreFault`: the disk did not do a call. `NoMemory`: memory for the entry ran out.
     pub fn next(&mut self, alloc: Global) -> Result<Option<Entry>, OpenFault>
         requires known { IsTrue D.honest → self.old.length ≡ length (D.state self.old.disk).journal.seen }
         ensures exact { IsTrue D.honest → NextGives result self.old.gate self.new.gate (frame_at self.old.gate (D.state self.old.disk).journal.seen) }

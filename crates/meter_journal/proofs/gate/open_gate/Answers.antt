@@ -4,7 +4,7 @@ use Rattle.disk_core.specs.Files.{put}
 use Rattle.disk_core.specs.Kept.{IsButOne}
 use Rattle.disk_core.proofs.Time.{started, goes_on}
 use Rattle.disk_core.proofs.Crash.{but_one_start, but_one_wrote, but_one_after_sync, synced_bytes}
-use Rattle.meter_journal.proofs.framing.open_gate.Goals as goal
+use Rattle.meter_journal.proofs.gate.open_gate.Goals as goal
 
 pub returns-in_err-write_at-clause-any_moment : goal.returns-in_err-write_at-clause-any_moment
 returns-in_err-write_at-clause-any_moment g c told bytes lt is =

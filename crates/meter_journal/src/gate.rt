@@ -1,0 +1,23 @@
+// The gate before an entry. The entry counts once it is open.
+ghost use Rattle.std.specs.Prelude.{◌≡◌, ◌<◌, [], ◌∷◌, ℕ, List, IsTrue, length, OnOk};
+ghost use Rattle.office_base.specs.Faults.{HasCause};
+ghost use Rattle.disk_core.specs.Files.{put, synced_file};
+ghost use Rattle.disk_core.specs.Moments.{KeepsTo};
+ghost use Rattle.disk_core.specs.Kept.{IsButOne};
+
+use disk_core::{Disk, Failed, FileNo};
+
+// Opens the gate at this place, and syncs it.
+pub(crate) fn open_gate<D: Disk>(disk: &mut D, gate: u64) -> Result<(), Failed>
+    requires { IsTrue D.honest → gate < length (D.state disk.old).journal.seen }
+
+    ensures any_moment { IsTrue D.honest → (bytes : List ℕ) → gate < length bytes → (D.state disk.old).journal ≡ synced_file bytes
+        → KeepsTo D.state D.moment D.had_since disk.old disk.new (IsButOne gate bytes (D.state disk.old)) }
+
+    ensures done { IsTrue D.honest → OnOk result ((D.state disk.new).journal ≡ synced_file (put gate (0xA5 ∷ []) (D.state disk.old).journal.seen)) }
+
+    ensures cause { HasCause (D.fault_count disk.old) (D.fault_count disk.new) result }
+{
+    disk.write_at(FileNo::Journal, gate, &[0xA5])?;
+    disk.sync(FileNo::Journal)
+}
