@@ -21,12 +21,12 @@ pub enum FileNo {
 
 /// Three files, of which a crash at any moment may leave any of their images.
 ///
-/// Offsets and lengths are in bytes, from the start of a file. A file reads what was written to it last. After a crash it is one
-/// of its images: its length is one that it had since the last sync, and the ranges that were written since then hold any bytes,
-/// as do all bytes past the synced length; the others are as they were synced.
+/// Offsets and lengths are in bytes, from the start of a file. A file reads what was written to it last. After a
+/// crash it is one of its images: its length is one that it had since the last sync, and the ranges that were
+/// written since then hold any bytes, as do all bytes past the synced length; the others are as they were synced.
 ///
-/// The count of faults never falls, and a call fails only where it rises, or stands at the greatest `u64`. A call that failed may
-/// have happened in part, as its docstring says. Where `honest` is false only the count is told.
+/// The count of faults never falls, and a call fails only where it rises, or stands at the greatest `u64`. A call
+/// that failed may have happened in part, as its docstring says. Where `honest` is false only the count is told.
 pub trait Disk {
     /// Whether it tells what it holds. Where it does not, nothing is said of contents.
     ghost honest: { Bool };
@@ -72,8 +72,8 @@ pub trait Disk {
     ///
     /// # Errors
     ///
-    /// `Failed`: the write was not made, or was made in part or as a whole: its range may then hold any bytes, and the file may be
-    /// longer, up to the end of the range.
+    /// `Failed`: the write was not made, or was made in part or as a whole: its range may then hold any bytes, and
+    /// the file may be longer, up to the end of the range.
     fn write_at(&mut self, file: FileNo, at: u64, bytes: &[u8]) -> Result<(), Failed>
         requires { IsTrue honest → at ≤ length (seen_in file (state self.old)) }
         ensures done { IsTrue honest → OnOk result (seen_in file (state self.new) ≡ put at bytes.now (seen_in file (state self.old))) }

@@ -12,8 +12,8 @@ use std::snapshot::Snapshot;
 
 /// Three files of the operating system. Of what they hold nothing is promised.
 ///
-/// A sync makes a file's bytes and its length durable, and no other attribute of it. A file that could not be opened is `None`: each
-/// call on it fails and is counted.
+/// A sync makes a file's bytes and its length durable, and no other attribute of it. A file that could not be
+/// opened is `None`: each call on it fails and is counted.
 #[derive(Drop)]
 pub struct FileDisk {
     journal: Option<File>,

@@ -5,6 +5,8 @@ mod contents;
 mod disk;
 mod file_disk;
 mod memory;
+#[cfg(test)]
+mod tests;
 
 pub use disk::{Disk, FileNo};
 pub use file_disk::FileDisk;

@@ -49,8 +49,9 @@ impl MemoryDisk {
 
     /// Makes a disk of three empty files, of which the calls with these numbers fail.
     ///
-    /// Calls are counted from 1, `length`, `read_at`, `write_at`, `cut` and `sync` alike. A write or a cut that fails so has happened as
-    /// a whole; a sync that fails so has not happened. A call that finds no memory fails too, and is not counted as a call.
+    /// Calls are counted from 1, `length`, `read_at`, `write_at`, `cut` and `sync` alike. A write or a cut that
+    /// fails so has happened as a whole; a sync that fails so has not happened. A call that finds no memory fails
+    /// too, and is not counted as a call.
     #[tactic(auto, unfolding(crate::specs::Replay::after, crate::specs::Replay::replay))]
     pub fn new(alloc: Global, failing: Vec<u64>) -> Self
         ensures empty { memory_state result ≡ empty_disk }

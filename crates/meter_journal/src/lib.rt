@@ -10,6 +10,8 @@ mod journal;
 mod laws;
 mod making;
 mod opening;
+#[cfg(test)]
+mod tests;
 
 pub use bytes::{frame, made};
 pub use fault::OpenFault;
