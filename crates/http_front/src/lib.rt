@@ -2,6 +2,7 @@
 #![tactic(auto)]
 
 mod answering;
+mod desk_teller;
 mod hearing;
 mod laws;
 mod memory_replies;
