@@ -49,11 +49,14 @@ pub record Recovers (opened : Opened) (calls : List Call) (moment : ℕ) (image 
   pub legal : Legal opened.limit opened.faults (take count calls) opened.history history
   pub acked : (place : ℕ) (answer : Answer) → IsAckedAt calls place answer → answer.disk_moment ≤ moment → place < count
 
--- each image of the journal file stands for the history after the first calls of the list
+-- the image stands for the history after the first calls of the list
+abbrev pub HasFront : Opened → List Call → List ℕ → Type 0
+HasFront opened calls image =
+    (history : List Entry) × (count : ℕ) × HasHistory history image × (count ≤ length calls) × Legal opened.limit opened.faults (take count calls) opened.history history
+
+-- each image of the journal file does
 abbrev pub Recoverable : Opened → List Call → State → Type 0
-Recoverable opened calls s =
-    (image : List ℕ) → IsImage s.journal image
-    → (history : List Entry) × (count : ℕ) × HasHistory history image × (count ≤ length calls) × Legal opened.limit opened.faults (take count calls) opened.history history
+Recoverable opened calls s = (image : List ℕ) → IsImage s.journal image → HasFront opened calls image
 
 module _ {D : Type 0} (state : D → State) (moment : D → ℕ) (had_since : D → ℕ → State → Type 0) (fault_count : D → ℕ) where
   -- From an acknowledgement on all images agree on the entries below its position.
