@@ -6,6 +6,7 @@ ghost use Rattle.disk_core.specs.Files.{State, IsImage, file_in, seen_in, put, W
 ghost use Rattle.disk_core.specs.Moments.{Elapses};
 
 use office_base::Failed;
+use std::snapshot::Snapshot;
 
 /// The files of an office.
 #[derive(Clone, Copy, Debug, PartialEq, Eq)]
@@ -108,6 +109,10 @@ pub trait Disk {
     /// Counts the calls that failed, up to the greatest `u64`.
     fn faults(&self) -> u64
         ensures { result ≡ fault_count self.now };
+
+    /// Takes down the moment, for contracts alone: it is no call of the disk, and costs nothing when it runs.
+    fn stamp(&self) -> Snapshot<u64>
+        ensures { result.value ≡ moment self.now };
 
     /// This moment is one of those since an earlier one.
     ghost counts_now: { (disk : Self) (t : ℕ) → t ≤ moment disk → had_since disk t (state disk) };

@@ -8,6 +8,7 @@ use crate::{Disk, FileNo};
 use office_base::Failed;
 use std::fs::File;
 use std::io::{self, Read, Seek, SeekFrom, Write};
+use std::snapshot::Snapshot;
 
 /// Three files of the operating system. Of what they hold nothing is promised.
 ///
@@ -161,5 +162,9 @@ impl Disk for FileDisk {
 
     fn faults(&self) -> u64 {
         self.faults
+    }
+
+    fn stamp(&self) -> Snapshot<u64> {
+        Snapshot::of(&0)
     }
 }

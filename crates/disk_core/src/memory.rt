@@ -11,6 +11,7 @@ use crate::contents::Contents;
 use crate::{Disk, FileNo};
 use office_base::Failed;
 use std::alloc::{AllocError, AllocFailed, Global};
+use std::snapshot::Snapshot;
 
 #[derive(Drop)]
 enum Call {
@@ -220,5 +221,9 @@ impl Disk for MemoryDisk {
 
     fn faults(&self) -> u64 {
         self.faults
+    }
+
+    fn stamp(&self) -> Snapshot<u64> {
+        Snapshot::of(&(self.calls.len() as u64))
     }
 }

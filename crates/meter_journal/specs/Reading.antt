@@ -98,6 +98,12 @@ NextGives (Ok (Some e)) old new frame = frame ≡ Whole e new
 NextGives (Ok None) old new frame = (new ≡ old) × (frame ≡ Ended)
 NextGives (Err e) old new frame = (new ≡ old) × Fails e old frame
 
+-- what reading the next entry answers on every disk: an entry in range, whose frame is passed over; else the place stays
+abbrev pub Advances : Result (Option Entry) OpenFault → ℕ → ℕ → Type 0
+Advances (Ok (Some e)) old new = Fits e × (new ≡ old + 5 + length (spelling e))
+Advances (Ok None) old new = new ≡ old
+Advances (Err e) old new = new ≡ old
+
 -- a count of faults never falls, and StoreFault comes only where it rose
 pub record HasStoreCause {T : Type 0} (before now : ℕ) (result : Result T OpenFault) : Type 0 where
   pub later : before ≤ now

@@ -121,6 +121,20 @@ impl<D: Disk> Journal<D> {
         }
     }
 
+    /// Reads the place of the end gate, in bytes from the start of the file.
+    pub fn end(&self) -> u64
+        ensures { result ≡ self.now.gate }
+    {
+        self.gate
+    }
+
+    /// Lends the disk, for what can be read of it without a call: its count of faults and its moment.
+    pub fn disk(&self) -> &D
+        ensures { result.now ≡ self.now.disk }
+    {
+        &self.disk
+    }
+
     /// Gives the disk back.
     pub fn give_back(self) -> D
         ensures { result ≡ self.disk }

@@ -3,9 +3,10 @@ ghost use Rattle.std.specs.Prelude.{◌≡◌, ◌+◌, ◌<◌, ◌≤◌, ◌^
 ghost use Rattle.std.specs.Int.{w32};
 ghost use Rattle.office_base.specs.Faults.{Rose, HasCause};
 ghost use Rattle.disk_core.specs.Files.{synced_file};
+ghost use Rattle.entry_codec.specs.Spelling.{Fits, spelling};
 ghost use Rattle.disk_core.specs.Kept.{Narrower};
 ghost use Rattle.disk_core.specs.Moments.{KeepsTo, Untouched};
-ghost use Rattle.meter_journal.specs.Reading.{body_at, frame_at, size_at, entry_at, BodyGives, FrameGives, NextGives, HeadGives, IsMade, HasStoreCause, from_or_first};
+ghost use Rattle.meter_journal.specs.Reading.{body_at, frame_at, size_at, entry_at, BodyGives, FrameGives, NextGives, HeadGives, IsMade, HasStoreCause, from_or_first, Advances};
 ghost use Rattle.meter_journal.specs.declared.fault.OpenFault.TheVariants.{StoreFault};
 
 use crate::bytes::entry_in;
@@ -71,6 +72,7 @@ fn entry_of<D: Disk>(
     requires inside { IsTrue D.honest → gate + 5 + size ≤ length (D.state disk.old).journal.seen }
     ensures exact { IsTrue D.honest → BodyGives result gate (entry_at gate size (D.state disk.old).journal.seen) }
     ensures place { IfOk result (λ x. x.1 ≡ gate + 5 + size) }
+    ensures spelled { IfOk result (λ x. Fits x.0 × (x.1 ≡ gate + 5 + length (spelling x.0))) }
     ensures untouched { IsTrue D.honest → Untouched D.state D.moment D.had_since disk.old disk.new }
     ensures cause { HasStoreCause (D.fault_count disk.old) (D.fault_count disk.new) result }
 {
@@ -100,6 +102,7 @@ fn body_of<D: Disk>(
     requires known { IsTrue D.honest → end ≡ length (D.state disk.old).journal.seen }
     ensures exact { IsTrue D.honest → BodyGives result gate (body_at gate (D.state disk.old).journal.seen) }
     ensures rises { IfOk result (λ x. (gate < x.1) × (x.1 ≤ 2 ^ 45)) }
+    ensures spelled { IfOk result (λ x. Fits x.0 × (x.1 ≡ gate + 5 + length (spelling x.0))) }
     ensures untouched { IsTrue D.honest → Untouched D.state D.moment D.had_since disk.old disk.new }
     ensures cause { HasStoreCause (D.fault_count disk.old) (D.fault_count disk.new) result }
 {
@@ -126,6 +129,7 @@ fn frame_of<D: Disk>(
     requires known { IsTrue D.honest → end ≡ length (D.state disk.old).journal.seen }
     ensures exact { IsTrue D.honest → FrameGives result gate (frame_at gate (D.state disk.old).journal.seen) }
     ensures rises { IfOk result (λ read. IfSome read (λ x. (gate < x.1) × (x.1 ≤ 2 ^ 45))) }
+    ensures spelled { IfOk result (λ read. IfSome read (λ x. Fits x.0 × (x.1 ≡ gate + 5 + length (spelling x.0)))) }
     ensures untouched { IsTrue D.honest → Untouched D.state D.moment D.had_since disk.old disk.new }
     ensures cause { HasStoreCause (D.fault_count disk.old) (D.fault_count disk.new) result }
 {
@@ -198,6 +202,8 @@ impl<D: Disk> Opening<D> {
         ensures untouched { IsTrue D.honest → Untouched D.state D.moment D.had_since self.old.disk self.new.disk }
         ensures cause { HasStoreCause (D.fault_count self.old.disk) (D.fault_count self.new.disk) result }
         ensures rises { IfOk result (λ read. IfSome read (λ e. (self.old.gate < self.new.gate) × (self.new.gate ≤ 2 ^ 45))) }
+        // On every disk: what is read is an entry in range, and its frame is passed over.
+        ensures advances { Advances result self.old.gate self.new.gate }
         ensures length { self.new.length ≡ self.old.length }
         ensures limit { self.new.limit ≡ self.old.limit }
     {
