@@ -1,0 +1,6 @@
+pub mod Filled
+pub mod FrontLemmas
+pub mod Given
+pub mod Taking
+pub mod TargetLemmas
+pub mod Unique

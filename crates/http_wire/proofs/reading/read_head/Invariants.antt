@@ -1,0 +1,12 @@
+use Rattle.std.proofs.Common.{length, ◌-◌, ◌≤◌}
+use Rattle.http_wire.specs.Held.{Took}
+use Rattle.http_wire.proofs.reading.read_head.Given as goal
+
+abbrev pub invariant-reading : goal.invariant-reading
+invariant-reading g l = record {
+  took : Took l.fn.buffer l.buffer (g.R.Source.left l.fn.source) (g.R.Source.left l.source);
+  faults : g.R.Source.faults l.fn.source ≤ g.R.Source.faults l.source;
+}
+
+abbrev pub decreases-reading : goal.decreases-reading
+decreases-reading g l = 8192 - length l.buffer.bytes

@@ -1,0 +1,4 @@
+pub mod Heads
+pub mod Held
+pub mod Headings
+pub mod Messages

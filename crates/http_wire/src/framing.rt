@@ -1,0 +1,16 @@
+// Refusals that a message's own framing decides.
+
+/// Why no request stands at the front of a stream. The message is the last of its session.
+#[derive(Clone, Copy, Debug, PartialEq, Eq)]
+pub enum FramingRefusal {
+    /// The bytes are no head whatever follows, or the head has no single body length.
+    BadHead,
+    /// The body has more than 1,048,576 bytes.
+    BodyTooLarge,
+    /// The body has a transfer coding.
+    ChunkedBody,
+    /// No head ends within the first 8,192 bytes.
+    HeadTooLarge,
+    /// The stream ends inside a message.
+    CutShort,
+}

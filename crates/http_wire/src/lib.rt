@@ -1,0 +1,18 @@
+//! Sources of bytes, and the message that stands at the front of a stream.
+#![tactic(auto)]
+
+mod buffer;
+mod framing;
+mod head;
+mod laws;
+mod memory_source;
+mod reading;
+mod source;
+
+pub use buffer::Buffer;
+pub use framing::FramingRefusal;
+pub use head::{Front, front_of};
+pub use laws::{messages_unique, stands_more, stands_rest, stands_unique};
+pub use memory_source::MemorySource;
+pub use reading::{Heading, Stop, read_head};
+pub use source::{ReaderSource, Source};
