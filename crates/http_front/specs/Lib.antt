@@ -1,0 +1,8 @@
+pub mod Counts
+pub mod Meaning
+pub mod Room
+pub mod Session
+pub mod Talk
+pub mod Tells
+pub mod Telling
+pub mod Texts

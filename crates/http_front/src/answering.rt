@@ -1,0 +1,217 @@
+// One message of a session and its answer.
+ghost use Rattle.std.specs.Prelude.{◌≡◌, ◌≤◌, ◌<◌, ◌+◌, ◌⊎◌, ℕ, List, Option, take, length, OnOk, IfOk, IfErr, IsErrOf, Ok, Err, Some};
+ghost use Rattle.std.specs.Io.KnownBytes.{Appends, prepend_known};
+ghost use Rattle.office_base.specs.Faults.{Rose, HasCause};
+ghost use Rattle.desk_core.specs.declared.fault.DeskFault.{DeskFault};
+ghost use Rattle.http_wire.specs.Held.{take_limit};
+ghost use Rattle.http_front.specs.Counts.{Given, IsUnder, total_of};
+ghost use Rattle.http_front.specs.Talk.{IsSaid, Answers, Talked, Closed};
+ghost use Rattle.http_front.specs.Tells.{Tells};
+ghost use Rattle.http_front.specs.Texts.{text_of, not_built_text, no_memory_text};
+
+use crate::hearing::{Bad, Heard, Stop, read_request};
+use crate::printing::{print_fault, print_reply};
+use crate::replies::Replies;
+use crate::teller::Teller;
+use crate::texts::{no_memory, not_built};
+use desk_core::{Acked, DeskFault};
+use http_wire::{Buffer, Source};
+use plain_office::Ask;
+use std::alloc::Global;
+
+/// How a session ended.
+#[derive(Clone, Copy, Debug, PartialEq, Eq)]
+pub enum SessionEnd {
+    /// The stream ended, or a message that asks nothing was answered.
+    Ended,
+    /// The source failed.
+    ReadFault,
+    /// A text was not said, or said in part.
+    WriteFault,
+    /// A disk call of the last ask failed. Nothing was said of it.
+    StoreFault,
+    /// 2^40 bytes were taken, and a further read is needed.
+    Spent,
+    /// Memory ran out, and this was said.
+    NoMemory,
+}
+
+fn say<W: Replies>(out: &mut W, bytes: &[u8]) -> Result<(), SessionEnd>
+    ensures ok { OnOk result (Appends (W.said out.old) (W.said out.new) bytes.now) }
+    ensures err { IfErr result (λ e. (e ≡ SessionEnd.WriteFault) × ((n : ℕ) × Appends (W.said out.old) (W.said out.new) (take n bytes.now))) }
+    ensures noted { W.noted out.new ≡ W.noted out.old }
+    ensures cause { HasCause (W.faults out.old) (W.faults out.new) result }
+{
+    match out.text(bytes) {
+        Ok(()) => Ok(()),
+        Err(_) => Err(SessionEnd::WriteFault),
+    }
+}
+
+// Says the last text of a session.
+pub(crate) fn say_last<W: Replies>(out: &mut W, bytes: &[u8], end: SessionEnd) -> SessionEnd
+    ensures said { ((result ≡ end) × Appends (W.said out.old) (W.said out.new) bytes.now)
+        ⊎ ((result ≡ SessionEnd.WriteFault) × ((n : ℕ) × Appends (W.said out.old) (W.said out.new) (take n bytes.now))) }
+    ensures noted { W.noted out.new ≡ W.noted out.old }
+    ensures later { W.faults out.old ≤ W.faults out.new }
+    ensures fault { result ≡ SessionEnd.WriteFault → (end ≡ SessionEnd.WriteFault) ⊎ Rose (W.faults out.old) (W.faults out.new) }
+{
+    match out.text(bytes) {
+        Ok(()) => end,
+        Err(_) => SessionEnd::WriteFault,
+    }
+}
+
+fn say_reply<W: Replies>(out: &mut W, room: &mut [u8], acked: &Acked) -> Result<(), SessionEnd>
+    requires room { 16384 ≤ length room.old }
+    ensures said { IsSaid (W.said out.old) (W.said out.new) (Ok acked.now) result }
+    ensures room { 16384 ≤ length room.new }
+    ensures noted { W.noted out.new ≡ W.noted out.old }
+    ensures cause { HasCause (W.faults out.old) (W.faults out.new) result }
+{
+    match print_reply(room, acked) {
+        Ok(size) => say(out, &room[..size]),
+        Err(_) => Err(SessionEnd::WriteFault),
+    }
+}
+
+fn say_fault<W: Replies>(out: &mut W, room: &mut [u8], fault: DeskFault) -> Result<(), SessionEnd>
+    requires room { 16384 ≤ length room.old }
+    ensures said { IsSaid (W.said out.old) (W.said out.new) (Err fault) result }
+    ensures room { 16384 ≤ length room.new }
+    ensures noted { W.noted out.new ≡ W.noted out.old }
+    ensures later { W.faults out.old ≤ W.faults out.new }
+    ensures fault { IsErrOf result SessionEnd.WriteFault → Rose (W.faults out.old) (W.faults out.new) }
+{
+    match print_fault(room, &fault) {
+        Ok(size) => match fault {
+            DeskFault::StoreFault { .. } => Err(SessionEnd::StoreFault),
+            DeskFault::JournalFull => say(out, &room[..size]),
+            DeskFault::NoMemory => Err(say_last(out, &room[..size], SessionEnd::NoMemory)),
+        },
+        Err(_) => Err(SessionEnd::WriteFault),
+    }
+}
+
+fn answer<W: Replies, T: Teller>(
+    ask: &Ask,
+    out: &mut W,
+    room: &mut [u8],
+    teller: &mut T,
+) -> Result<(), SessionEnd>
+    requires ready { T.ready teller.old }
+    requires room { 16384 ≤ length room.old }
+    ensures answers { Answers T.moves teller.old teller.new (W.said out.old) (W.said out.new) ask.now result }
+    ensures ready { OnOk result (T.ready teller.new) }
+    ensures room { 16384 ≤ length room.new }
+    ensures noted { W.noted out.new ≡ W.noted out.old }
+    ensures later { W.faults out.old ≤ W.faults out.new }
+    ensures fault { IsErrOf result SessionEnd.WriteFault → Rose (W.faults out.old) (W.faults out.new) }
+{
+    match teller.ask(ask) {
+        Ok(acked) => say_reply(out, room, &acked),
+        Err(fault) => say_fault(out, room, fault),
+    }
+}
+
+fn say_bad<W: Replies>(out: &mut W, bad: Bad) -> SessionEnd
+    ensures said { ((result ≡ SessionEnd.Ended) × Appends (W.said out.old) (W.said out.new) not_built_text)
+        ⊎ ((result ≡ SessionEnd.WriteFault) × ((n : ℕ) × Appends (W.said out.old) (W.said out.new) (take n not_built_text))) }
+    ensures noted { W.noted out.new ≡ W.noted out.old }
+    ensures later { W.faults out.old ≤ W.faults out.new }
+    ensures fault { result ≡ SessionEnd.WriteFault → Rose (W.faults out.old) (W.faults out.new) }
+{
+    match bad {
+        Bad::NotBuilt => say_last(out, not_built(), SessionEnd::Ended),
+    }
+}
+
+// Says that memory ran out, as the last text of a session.
+pub(crate) fn say_no_memory<W: Replies>(out: &mut W) -> SessionEnd
+    ensures said { ((result ≡ SessionEnd.NoMemory) × Appends (W.said out.old) (W.said out.new) no_memory_text)
+        ⊎ ((result ≡ SessionEnd.WriteFault) × ((n : ℕ) × Appends (W.said out.old) (W.said out.new) (take n no_memory_text))) }
+    ensures noted { W.noted out.new ≡ W.noted out.old }
+    ensures later { W.faults out.old ≤ W.faults out.new }
+    ensures fault { result ≡ SessionEnd.WriteFault → Rose (W.faults out.old) (W.faults out.new) }
+{
+    say_last(out, no_memory(), SessionEnd::NoMemory)
+}
+
+fn say_stop<W: Replies>(out: &mut W, stop: Stop) -> SessionEnd
+    ensures said { (stop ≡ Stop.NoMemory) → ((result ≡ SessionEnd.NoMemory) × Appends (W.said out.old) (W.said out.new) no_memory_text)
+        ⊎ ((result ≡ SessionEnd.WriteFault) × ((n : ℕ) × Appends (W.said out.old) (W.said out.new) (take n no_memory_text))) }
+    ensures read_fault { (stop ≡ Stop.ReadFault) → (result ≡ SessionEnd.ReadFault) × (W.said out.new ≡ W.said out.old) }
+    ensures spent { (stop ≡ Stop.Spent) → (result ≡ SessionEnd.Spent) × (W.said out.new ≡ W.said out.old) }
+    ensures noted { W.noted out.new ≡ W.noted out.old }
+    ensures later { W.faults out.old ≤ W.faults out.new }
+    ensures fault { result ≡ SessionEnd.WriteFault → Rose (W.faults out.old) (W.faults out.new) }
+    ensures read_only { result ≡ SessionEnd.ReadFault → stop ≡ Stop.ReadFault }
+    ensures spent_only { result ≡ SessionEnd.Spent → stop ≡ Stop.Spent }
+{
+    match stop {
+        Stop::ReadFault => SessionEnd::ReadFault,
+        Stop::Spent => SessionEnd::Spent,
+        Stop::NoMemory => say_no_memory(out),
+    }
+}
+
+fn answer_heard<W: Replies, T: Teller>(
+    heard: Heard,
+    out: &mut W,
+    room: &mut [u8],
+    teller: &mut T,
+) -> Result<(), SessionEnd>
+    requires ready { T.ready teller.old }
+    requires room { 16384 ≤ length room.old }
+    ensures goes_on { (stream rest : Option (List ℕ)) → Tells stream heard rest
+        → OnOk result (Talked T.moves teller.old teller.new (W.said out.old) (W.said out.new) stream rest) }
+    ensures closed { (stream rest : Option (List ℕ)) (total : Option ℕ) → Tells stream heard rest → (heard ≡ Heard.End → IsUnder total)
+        → IfErr result (λ end. Closed T.moves teller.old teller.new (W.said out.old) (W.said out.new) stream total end) }
+    ensures asked { OnOk result ((ask : Ask) × (heard ≡ Heard.Asked ask)) }
+    ensures ready { OnOk result (T.ready teller.new) }
+    ensures room { 16384 ≤ length room.new }
+    ensures noted { W.noted out.new ≡ W.noted out.old }
+    ensures later { W.faults out.old ≤ W.faults out.new }
+    ensures fault { IsErrOf result SessionEnd.WriteFault → Rose (W.faults out.old) (W.faults out.new) }
+    ensures not_read { IsErrOf result SessionEnd.ReadFault → ⊥ }
+    ensures not_spent { IsErrOf result SessionEnd.Spent → ⊥ }
+{
+    match heard {
+        Heard::Asked(ask) => answer(&ask, out, room, teller),
+        Heard::Bad(bad) => Err(say_bad(out, bad)),
+        Heard::End => Err(SessionEnd::Ended),
+    }
+}
+
+/// Reads and answers one message.
+pub(crate) fn answer_one<R: Source, W: Replies, T: Teller>(
+    alloc: Global,
+    source: &mut R,
+    buffer: &mut Buffer,
+    out: &mut W,
+    room: &mut [u8],
+    teller: &mut T,
+) -> Result<(), SessionEnd>
+    requires ready { T.ready teller.old }
+    requires room { 16384 ≤ length room.old }
+    ensures goes_on { OnOk result (Talked T.moves teller.old teller.new (W.said out.old) (W.said out.new)
+        (prepend_known buffer.old.bytes (R.left source.old)) (prepend_known buffer.new.bytes (R.left source.new))) }
+    ensures closed { IfErr result (λ end. Closed T.moves teller.old teller.new (W.said out.old) (W.said out.new)
+        (prepend_known buffer.old.bytes (R.left source.old)) (total_of buffer.old.taken (R.left source.old)) end) }
+    ensures ready { OnOk result (T.ready teller.new) }
+    ensures room { 16384 ≤ length room.new }
+    ensures given { Given buffer.old.taken buffer.new.taken (R.left source.old) (R.left source.new) }
+    ensures limit { buffer.new.taken ≤ take_limit }
+    ensures uses { OnOk result (buffer.old.taken + length buffer.new.bytes < buffer.new.taken + length buffer.old.bytes) }
+    ensures noted { W.noted out.new ≡ W.noted out.old }
+    ensures read_later { R.faults source.old ≤ R.faults source.new }
+    ensures write_later { W.faults out.old ≤ W.faults out.new }
+    ensures read_fault { IsErrOf result SessionEnd.ReadFault → Rose (R.faults source.old) (R.faults source.new) }
+    ensures write_fault { IsErrOf result SessionEnd.WriteFault → Rose (W.faults out.old) (W.faults out.new) }
+    ensures spent { IsErrOf result SessionEnd.Spent → buffer.new.taken ≡ take_limit }
+{
+    match read_request(alloc, source, buffer) {
+        Ok(heard) => answer_heard(heard, out, room, teller),
+        Err(stop) => Err(say_stop(out, stop)),
+    }
+}

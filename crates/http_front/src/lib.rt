@@ -1,0 +1,21 @@
+//! Messages of a stream, their meaning, their replies, and a session that answers each in order.
+#![tactic(auto)]
+
+mod answering;
+mod hearing;
+mod memory_replies;
+mod parts;
+mod printing;
+mod replies;
+mod room;
+mod talking;
+mod teller;
+mod texts;
+
+pub use answering::SessionEnd;
+pub use hearing::{Bad, Heard, Stop, read_request};
+pub use memory_replies::MemoryReplies;
+pub use printing::{NoRoom, print_fault, print_reply};
+pub use replies::{Replies, WriterReplies};
+pub use talking::session;
+pub use teller::Teller;

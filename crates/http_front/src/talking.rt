@@ -1,0 +1,72 @@
+// A session: each message in order has its answer.
+ghost use Rattle.std.specs.Prelude.{◌≡◌, ◌≤◌, ℕ, List, Option, length};
+ghost use Rattle.std.specs.Io.KnownBytes.{prepend_known};
+ghost use Rattle.office_base.specs.Faults.{Rose};
+ghost use Rattle.http_wire.specs.Held.{take_limit};
+ghost use Rattle.http_front.specs.Counts.{Given, Gave, total_of};
+ghost use Rattle.http_front.specs.Session.{Session};
+ghost use Rattle.http_front.specs.Talk.{Closed};
+
+use crate::answering::{SessionEnd, answer_one, say_no_memory};
+use crate::replies::Replies;
+use crate::teller::Teller;
+use http_wire::{Buffer, Source};
+use std::alloc::Global;
+
+/// How many bytes a reply to a command may have.
+const REPLY_ROOM: usize = 16384;
+
+fn go_on<R: Source, W: Replies, T: Teller>(
+    alloc: Global,
+    source: &mut R,
+    buffer: &mut Buffer,
+    out: &mut W,
+    room: &mut [u8],
+    teller: &mut T,
+) -> SessionEnd
+    requires ready { T.ready teller.old }
+    requires room { 16384 ≤ length room.old }
+    requires limit { buffer.old.taken ≤ take_limit }
+    ensures closed { Closed T.moves teller.old teller.new (W.said out.old) (W.said out.new)
+        (prepend_known buffer.old.bytes (R.left source.old)) (total_of buffer.old.taken (R.left source.old)) result }
+    ensures given { Given buffer.old.taken buffer.new.taken (R.left source.old) (R.left source.new) }
+    ensures noted { W.noted out.new ≡ W.noted out.old }
+    ensures read_later { R.faults source.old ≤ R.faults source.new }
+    ensures write_later { W.faults out.old ≤ W.faults out.new }
+    ensures read_fault { result ≡ SessionEnd.ReadFault → Rose (R.faults source.old) (R.faults source.new) }
+    ensures write_fault { result ≡ SessionEnd.WriteFault → Rose (W.faults out.old) (W.faults out.new) }
+    ensures spent { result ≡ SessionEnd.Spent → buffer.new.taken ≡ take_limit }
+{
+    'talking: loop {
+        match answer_one(alloc, source, buffer, out, room, teller) {
+            Ok(()) => {}
+            Err(end) => return end,
+        }
+    }
+}
+
+/// Answers the messages of a stream in order, each before further bytes are awaited, up to the stream's end or to the
+/// first message that asks nothing. Takes its memory at the start, and for a message that of the message's own parts.
+pub fn session<R: Source, W: Replies, T: Teller>(
+    alloc: Global,
+    source: &mut R,
+    out: &mut W,
+    teller: &mut T,
+) -> SessionEnd
+    requires { T.ready teller.old }
+    ensures session { Session T.moves teller.old teller.new (W.said out.old) (W.said out.new) (R.left source.old) result }
+    ensures noted { W.noted out.new ≡ W.noted out.old }
+    ensures read_later { R.faults source.old ≤ R.faults source.new }
+    ensures write_later { W.faults out.old ≤ W.faults out.new }
+    ensures read_fault { result ≡ SessionEnd.ReadFault → Rose (R.faults source.old) (R.faults source.new) }
+    ensures write_fault { result ≡ SessionEnd.WriteFault → Rose (W.faults out.old) (W.faults out.new) }
+    ensures spent { result ≡ SessionEnd.Spent → Gave (R.left source.old) (R.left source.new) take_limit }
+{
+    let Ok(mut buffer) = Buffer::new(alloc) else {
+        return say_no_memory(out);
+    };
+    let Ok(mut room) = vec![in alloc; 0u8; REPLY_ROOM] else {
+        return say_no_memory(out);
+    };
+    go_on(alloc, source, &mut buffer, out, room.as_mut_slice(), teller)
+}
