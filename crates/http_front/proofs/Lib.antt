@@ -1,1 +1,5 @@
+pub mod HeardLemmas
+pub mod PrintLemmas
 pub mod RoomLemmas
+pub mod SaidLemmas
+pub mod TalkLemmas

@@ -1,5 +1,5 @@
 -- What is said.
-use Rattle.std.specs.Prelude.{ℕ, ◌+◌, List, [], ◌∷◌, ◌++◌, codes, decimal, length, Result, Ok, Err}
+use Rattle.std.specs.Prelude.{ℕ, List, [], ◌++◌, codes, decimal, length, Result, Ok, Err}
 use Rattle.std.specs.List.{flat_map}
 use Rattle.plain_office.specs.declared.reply.Reply.{Reply}
 use Rattle.plain_office.specs.declared.reply.Reply.TheVariants.{BucketMade}
@@ -9,47 +9,36 @@ use Rattle.desk_core.specs.Answers.{Answer, Call}
 use Rattle.desk_core.specs.declared.fault.DeskFault.{DeskFault}
 use Rattle.desk_core.specs.declared.fault.DeskFault.TheVariants as faults
 
-abbrev pub crlf : List ℕ
-crlf = 13 ∷ 10 ∷ []
+-- a reply of this status with a JSON body (RFC 9112, "Message Format")
+unfoldable pub reply_with : List ℕ → List ℕ → List ℕ
+reply_with status body =
+    codes "HTTP/1.1 " ++ (status ++ (codes "\r\ncontent-type: application/json\r\ncontent-length: " ++ (decimal (length body) ++ (codes "\r\n\r\n" ++ body))))
 
-abbrev pub quoted : List ℕ → List ℕ
-quoted text = 34 ∷ text ++ 34 ∷ []
+-- the body of a refusal with this name and number
+unfoldable pub error_body : List ℕ → ℕ → List ℕ
+error_body name number = codes "{\"error\":\"" ++ (name ++ (codes "\",\"number\":" ++ (decimal number ++ codes "}")))
 
--- the head of a reply, up to the length of its body
-unfoldable pub head_text : List ℕ → List ℕ
-head_text status = codes "HTTP/1.1 " ++ status ++ crlf ++ codes "content-type: application/json" ++ crlf ++ codes "content-length: "
+-- the body of a reply on a bucket; no character of its name is escaped
+unfoldable pub bucket_body : List ℕ → List ℕ
+bucket_body name = codes "{\"bucket\":\"" ++ (name ++ codes "\"}")
 
-unfoldable pub error_body : List ℕ → List ℕ → List ℕ
-error_body name number = codes "{" ++ quoted (codes "error") ++ codes ":" ++ quoted name ++ codes "," ++ quoted (codes "number") ++ codes ":" ++ number ++ codes "}"
+abbrev pub error_text : List ℕ → List ℕ → ℕ → List ℕ
+error_text status name number = reply_with status (error_body name number)
 
--- a refusal, whose body has so many bytes
-unfoldable pub error_text : List ℕ → List ℕ → List ℕ → List ℕ → List ℕ
-error_text status size name number = head_text status ++ size ++ crlf ++ crlf ++ error_body name number
+abbrev pub made_text : List ℕ → List ℕ
+made_text name = reply_with (codes "201 Created") (bucket_body name)
 
-unfoldable pub not_built_text : List ℕ
-not_built_text = error_text (codes "501 Not Implemented") (codes "33") (codes "NotBuilt") (codes "119")
+abbrev pub exists_text : List ℕ
+exists_text = error_text (codes "409 Conflict") (codes "BucketExists") 80
 
-unfoldable pub exists_text : List ℕ
-exists_text = error_text (codes "409 Conflict") (codes "36") (codes "BucketExists") (codes "80")
+abbrev pub full_text : List ℕ
+full_text = error_text (codes "507 Insufficient Storage") (codes "JournalFull") 113
 
-unfoldable pub full_text : List ℕ
-full_text = error_text (codes "507 Insufficient Storage") (codes "36") (codes "JournalFull") (codes "113")
+abbrev pub no_memory_text : List ℕ
+no_memory_text = error_text (codes "500 Internal Server Error") (codes "NoMemory") 115
 
-unfoldable pub no_memory_text : List ℕ
-no_memory_text = error_text (codes "500 Internal Server Error") (codes "33") (codes "NoMemory") (codes "115")
-
-unfoldable pub created_head : List ℕ
-created_head = head_text (codes "201 Created")
-
-unfoldable pub body_front : List ℕ
-body_front = crlf ++ crlf ++ codes "{" ++ quoted (codes "bucket") ++ codes ":" ++ 34 ∷ []
-
-unfoldable pub body_end : List ℕ
-body_end = 34 ∷ codes "}"
-
--- a bucket was made: the body has its name and 13 bytes more
-unfoldable pub made_text : List ℕ → List ℕ
-made_text name = created_head ++ (decimal (length name + 13) ++ (body_front ++ (name ++ body_end)))
+abbrev pub not_built_text : List ℕ
+not_built_text = error_text (codes "501 Not Implemented") (codes "NotBuilt") 119
 
 -- the text of the office's answer
 abbrev pub reply_text : Result Reply Refusal → List ℕ

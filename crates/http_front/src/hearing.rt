@@ -1,6 +1,6 @@
 // The messages of a stream.
 ghost use Rattle.std.specs.Prelude.{◌≡◌, ◌≤◌, ◌<◌, ◌+◌, length, IfOk, MatchOption, IsErrOf, Ok};
-ghost use Rattle.std.specs.Io.KnownBytes.{prepend_known};
+ghost use Rattle.std.specs.Io.KnownBytes.{IsAtEnd, prepend_known};
 ghost use Rattle.office_base.specs.Faults.{Rose};
 ghost use Rattle.plain_office.specs.declared.command.Ask.TheVariants.{Command};
 ghost use Rattle.http_wire.specs.Held.{take_limit};
@@ -79,7 +79,7 @@ pub fn read_request<R: Source>(
     ensures limit { buffer.new.taken ≤ take_limit }
     // A message that asks something has at least one byte.
     ensures uses { OnAsked result (buffer.old.taken + length buffer.new.bytes < buffer.new.taken + length buffer.old.bytes) }
-    ensures at_end { result ≡ Ok Heard.End → buffer.new.taken < take_limit }
+    ensures at_end { result ≡ Ok Heard.End → (buffer.new.taken < take_limit) × IsAtEnd (R.left source.new) }
     ensures spent { IsErrOf result Stop.Spent → (buffer.new.taken ≡ take_limit) × IsUnsettled buffer.new.bytes }
     ensures later { R.faults source.old ≤ R.faults source.new }
     ensures fault { IsErrOf result Stop.ReadFault → Rose (R.faults source.old) (R.faults source.new) }

@@ -4,7 +4,7 @@ ghost use Rattle.http_front.specs.Room.{Puts};
 ghost use Rattle.http_front.specs.Texts.{made_text, reply_text, fault_text};
 
 use crate::room::{put, put_number, room_len};
-use crate::texts::{back, created, exists, front, full, no_memory};
+use crate::texts::{exists, full, no_memory};
 use desk_core::{Acked, DeskFault};
 use office_base::BucketName;
 use plain_office::{Refusal, Reply};
@@ -13,18 +13,26 @@ use plain_office::{Refusal, Reply};
 #[derive(Clone, Copy, Debug, PartialEq, Eq)]
 pub struct NoRoom;
 
+/// The bytes of a bucket's body beside its name.
+const BODY_BESIDE: u64 = 13;
+
 fn put_made(room: &mut [u8], bucket: &BucketName) -> usize
     ensures puts { Puts room.old 0 room.new result (made_text bucket.now) }
     ensures small { length bucket.now ≤ 63 }
 {
     let name = bucket.text();
-    let at = put(room, 0, created());
-    let at = put_number(room, at, name.len() as u64 + 13);
-    let at = put(room, at, front());
+    let at = put(
+        room,
+        0,
+        b"HTTP/1.1 201 Created\r\ncontent-type: application/json\r\ncontent-length: ",
+    );
+    let at = put_number(room, at, name.len() as u64 + BODY_BESIDE);
+    let at = put(room, at, b"\r\n\r\n{\"bucket\":\"");
     let at = put(room, at, name.as_bytes());
-    put(room, at, back())
+    put(room, at, b"\"}")
 }
 
+#[tactic(auto, using(crate::proofs::PrintLemmas::made_small, crate::proofs::PrintLemmas::exists_small, crate::proofs::PrintLemmas::no_memory_small))]
 fn put_reply(room: &mut [u8], reply: &Result<Reply, Refusal>) -> usize
     ensures puts { Puts room.old 0 room.new result (reply_text reply.now) }
     ensures small { length (reply_text reply.now) ≤ 16384 }
@@ -36,6 +44,7 @@ fn put_reply(room: &mut [u8], reply: &Result<Reply, Refusal>) -> usize
     }
 }
 
+#[tactic(auto, using(crate::proofs::PrintLemmas::full_small, crate::proofs::PrintLemmas::no_memory_small))]
 fn put_fault(room: &mut [u8], fault: &DeskFault) -> usize
     ensures puts { Puts room.old 0 room.new result (fault_text fault.now) }
     ensures small { length (fault_text fault.now) ≤ 16384 }

@@ -1,0 +1,22 @@
+use Rattle.std.proofs.Common.{refl}
+use Rattle.http_front.proofs.TalkLemmas.{session_of, session_lacks, gave_all}
+use Rattle.http_front.proofs.talking.session.Goals as goal
+
+pub returns-clause-session : goal.returns-clause-session
+returns-clause-session g c =
+    session_of g.T.Teller.moves c.in-Ok.buffer.taken c.in-Ok.buffer.bytes c.args.teller.now c.go_on.new.teller (g.W.Replies.said c.args.out.now) (g.W.Replies.said c.go_on.new.out)
+    (g.R.Source.left c.args.source.now) c.go_on.result c.in-Ok.ensures.taken c.in-Ok.ensures.bytes c.go_on.ensures.closed
+
+pub returns-clause-spent : goal.returns-clause-spent
+returns-clause-spent g c spent =
+    gave_all c.in-Ok.buffer.taken c.go_on.new.buffer.taken (g.R.Source.left c.args.source.now) (g.R.Source.left c.go_on.new.source) c.go_on.ensures.given c.in-Ok.ensures.taken (c.go_on.ensures.spent spent)
+
+pub returns-in_default-clause-session : goal.returns-in_default-clause-session
+returns-in_default-clause-session g c =
+    session_lacks g.T.Teller.moves c.args.teller.now (g.W.Replies.said c.args.out.now) (g.W.Replies.said c.say_no_memory.new.out) (g.R.Source.left c.args.source.now)
+    c.say_no_memory.result c.say_no_memory.ensures.said
+
+pub returns-in_default-vec-clause-session : goal.returns-in_default-vec-clause-session
+returns-in_default-vec-clause-session g c =
+    session_lacks g.T.Teller.moves c.args.teller.now (g.W.Replies.said c.args.out.now) (g.W.Replies.said c.say_no_memory-in_default-vec.new.out) (g.R.Source.left c.args.source.now)
+    c.say_no_memory-in_default-vec.result c.say_no_memory-in_default-vec.ensures.said
