@@ -19,7 +19,7 @@ use Rattle.http_wire.specs.declared.reading.Heading.TheVariants as heading
 use Rattle.http_wire.specs.declared.reading.Stop.{Stop}
 use Rattle.http_wire.specs.declared.framing.FramingRefusal.{FramingRefusal}
 use Rattle.http_wire.specs.declared.framing.FramingRefusal.TheVariants.{BadHead, HeadTooLarge}
-use Rattle.http_wire.proofs.Unique.{stands_unique, stands_more, open_unsettled, open_too_large, hopeless_bad, nothing_stands}
+use Rattle.http_wire.proofs.Unique.{stands_unique, stands_rest, stands_more, open_unsettled, open_too_large, hopeless_bad, nothing_stands}
 use Rattle.http_front.specs.Meaning.{is_plain_field, is_plain_put, is_bucket_path, bucket_asked, create_bucket, asked_of, IsAsk, IsUnbuilt, Hears, StandsUnbuilt}
 use Rattle.http_front.specs.Tells.{Tells}
 use Rattle.http_front.specs.Counts.{Given, Gave, total_of, IsUnder, Reaches}
@@ -282,3 +282,14 @@ given_of a b la lb took = record { given = took.given; counted = took.counted; l
 
 pub given_drop : (a b c : Held) (la lb : Option (List ℕ)) → Took a b la lb → c.taken ≡ b.taken → Given a.taken c.taken la lb
 given_drop a b c la lb took same = record { given = took.given; counted = same ∙ took.counted; left = took.left }
+
+-- ---- one ask
+
+same_head : (a b : Request) → request a ≡ request b → a.head ≡ b.head
+same_head a b same = ap (head_or b.head) same
+
+pub one_ask : (stream : List ℕ) (first second : Ask) (rest other : List ℕ) → IsAsk stream first rest → IsAsk stream second other → (first ≡ second) × (rest ≡ other)
+one_ask stream first second rest other x y =
+    let same = stands_unique stream (request x.found) (request y.found) rest other x.stands y.stands in
+    let asks : Some first ≡ Some second = sym x.asks ∙ ap asked_of (same_head x.found y.found same) ∙ y.asks in
+    (cc, stands_rest stream x.found y.found rest other x.stands y.stands)

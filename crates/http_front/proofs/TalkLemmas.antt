@@ -19,7 +19,7 @@ use Rattle.http_front.specs.declared.hearing.Stop.{Stop}
 use Rattle.http_front.specs.declared.hearing.Stop.TheVariants as stops
 use Rattle.http_front.specs.Counts.{Given, Gave, total_of, IsUnder, Reaches}
 use Rattle.http_front.specs.Meaning.{Goes, Hears, StandsUnbuilt}
-use Rattle.http_front.specs.Session.{asks, IsCut, LacksMemory, IsWritten, NoneFaults, LastFaults, FaultsBy, Moves, Session}
+use Rattle.http_front.specs.Session.{asks, IsCut, IsWritten, NoneFaults, LastFaults, FaultsBy, NoneLacks, LastLacks, LacksBy, Moves, Session}
 use Rattle.http_front.specs.Talk.{IsSaid, Answers, Talked, Closed}
 use Rattle.http_front.specs.Telling.{IsStoreFault}
 use Rattle.http_front.specs.Tells.{Tells}
@@ -71,32 +71,6 @@ cut_then first second w cut = record {
   is = behind first cut.most (take cut.n (text_of cut.last.said)) w cut.is;
 }
 
-lacks_then : (first second : List Call) → LacksMemory second → LacksMemory (first ++ second)
-lacks_then first second lacks = record {
-  most = first ++ lacks.most;
-  last = lacks.last;
-  are = ap (λ (t : List Call). first ++ t) lacks.are ∙ sym (append_assoc first lacks.most (lacks.last ∷ []));
-  is = lacks.is;
-}
-
--- how the total of a later part bounds that of the whole
-record Totals (whole later : Option ℕ) : Type 0 where
-  under : IsUnder later → IsUnder whole
-  reaches : Reaches later → Reaches whole
-
-written_then : (whole later : Option ℕ) → Totals whole later → (end : SessionEnd) (first second : List Call) (rest : Option (List ℕ)) (w : List ℕ)
-    → IsWritten later end second rest w → IsWritten whole end (first ++ second) rest (texts first ++ w)
-written_then whole later totals ends.Ended first second rest w (inl x) = inl (x.0, totals.under x.1, all_behind first second w x.2)
-written_then whole later totals ends.Ended first second rest w (inr x) = inr (x.0, behind first second not_built_text w x.1)
-written_then whole later totals ends.ReadFault first second rest w x = all_behind first second w x
-written_then whole later totals ends.StoreFault first second rest w x = all_behind first second w x
-written_then whole later totals ends.Spent first second rest w x = (totals.reaches x.0, all_behind first second w x.1)
-written_then whole later totals ends.WriteFault first second rest w (inl x) = inl (cut_then first second w x)
-written_then whole later totals ends.WriteFault first second rest w (inr (inl x)) = inr (inl (x.0, x.1, behind first second (take x.0 not_built_text) w x.2))
-written_then whole later totals ends.WriteFault first second rest w (inr (inr x)) = inr (inr (x.0, behind first second (take x.0 no_memory_text) w x.1))
-written_then whole later totals ends.NoMemory first second rest w (inl x) = inl (lacks_then first second x.0, all_behind first second w x.1)
-written_then whole later totals ends.NoMemory first second rest w (inr x) = inr (behind first second no_memory_text w x)
-
 -- ---- what the calls were told
 
 abbrev pub IsNoFault : Call → Type 0
@@ -121,6 +95,54 @@ faults_then ends.ReadFault first second x y = none_then first second x y
 faults_then ends.WriteFault first second x y = none_then first second x y
 faults_then ends.Spent first second x y = none_then first second x y
 faults_then ends.NoMemory first second x y = none_then first second x y
+
+-- the call was not told that memory ran out
+abbrev pub IsNoLack : Call → Type 0
+IsNoLack c = c.said ≡ Err faults.NoMemory → ⊥
+
+enough_then : (first second : List Call) → NoneLacks first → NoneLacks second → NoneLacks (first ++ second)
+enough_then first second x y = All-append IsNoLack first second x y
+
+lacks_then : (first second : List Call) → NoneLacks first → LastLacks second → LastLacks (first ++ second)
+lacks_then first second x y = record {
+  most = first ++ y.most;
+  last = y.last;
+  are = ap (λ (t : List Call). first ++ t) y.are ∙ sym (append_assoc first y.most (y.last ∷ []));
+  before = enough_then first y.most x y.before;
+  is = y.is;
+}
+
+some_then : (first second : List Call) → NoneLacks first → NoneLacks second ⊎ LastLacks second → NoneLacks (first ++ second) ⊎ LastLacks (first ++ second)
+some_then first second x (inl y) = inl (enough_then first second x y)
+some_then first second x (inr y) = inr (lacks_then first second x y)
+
+lacked_then : (end : SessionEnd) (first second : List Call) → NoneLacks first → LacksBy end second → LacksBy end (first ++ second)
+lacked_then ends.NoMemory first second x y = some_then first second x y
+lacked_then ends.WriteFault first second x y = some_then first second x y
+lacked_then ends.Ended first second x y = enough_then first second x y
+lacked_then ends.ReadFault first second x y = enough_then first second x y
+lacked_then ends.StoreFault first second x y = enough_then first second x y
+lacked_then ends.Spent first second x y = enough_then first second x y
+
+-- ---- the whole of what was said
+
+-- how the total of a later part bounds that of the whole
+record Totals (whole later : Option ℕ) : Type 0 where
+  under : IsUnder later → IsUnder whole
+  reaches : Reaches later → Reaches whole
+
+written_then : (whole later : Option ℕ) → Totals whole later → (end : SessionEnd) (first second : List Call) (rest : Option (List ℕ)) (w : List ℕ)
+    → NoneLacks first → IsWritten later end second rest w → IsWritten whole end (first ++ second) rest (texts first ++ w)
+written_then whole later totals ends.Ended first second rest w enough (inl x) = inl (x.0, totals.under x.1, all_behind first second w x.2)
+written_then whole later totals ends.Ended first second rest w enough (inr x) = inr (x.0, behind first second not_built_text w x.1)
+written_then whole later totals ends.ReadFault first second rest w enough x = all_behind first second w x
+written_then whole later totals ends.StoreFault first second rest w enough x = all_behind first second w x
+written_then whole later totals ends.Spent first second rest w enough x = (totals.reaches x.0, all_behind first second w x.1)
+written_then whole later totals ends.WriteFault first second rest w enough (inl x) = inl (cut_then first second w x)
+written_then whole later totals ends.WriteFault first second rest w enough (inr (inl x)) = inr (inl (x.0, x.1, behind first second (take x.0 not_built_text) w x.2))
+written_then whole later totals ends.WriteFault first second rest w enough (inr (inr x)) = inr (inr (x.0, behind first second (take x.0 no_memory_text) w x.1))
+written_then whole later totals ends.NoMemory first second rest w enough (inl x) = inl (lacks_then first second enough x.0, all_behind first second w x.1)
+written_then whole later totals ends.NoMemory first second rest w enough (inr x) = inr (enough_then first second enough x.0, behind first second no_memory_text w x.1)
 
 -- ---- counts
 
@@ -186,6 +208,7 @@ module _ {T : Type 0} (moves : T → Ask → Result Answer DeskFault → T → T
     heard = hears_none stream;
     said = appends_none said;
     none = All-nil IsNoFault;
+    enough = All-nil IsNoLack;
   }
 
   pub talked_then : (old mid new : T) (sa sb sc a b c : Option (List ℕ)) → Talked moves old mid sa sb a b → Talked moves mid new sb sc b c → Talked moves old new sa sc a c
@@ -195,6 +218,7 @@ module _ {T : Type 0} (moves : T → Ask → Result Answer DeskFault → T → T
     heard = subst (λ (t : List Ask). Hears a t c) (sym (asks-append first.calls second.calls)) (hears_then (asks first.calls) (asks second.calls) a b c first.heard second.heard);
     said = subst (Appends sa sc) (sym (texts-append first.calls second.calls)) (appends_then sa sb sc (texts first.calls) (texts second.calls) first.said second.said);
     none = none_then first.calls second.calls first.none second.none;
+    enough = enough_then first.calls second.calls first.enough second.enough;
   }
 
   closed_on : (whole later : Option ℕ) → Totals whole later → (old mid new : T) (sa sb sc a b : Option (List ℕ)) (end : SessionEnd)
@@ -206,8 +230,9 @@ module _ {T : Type 0} (moves : T → Ask → Result Answer DeskFault → T → T
     heard = subst (λ (t : List Ask). Hears a t second.rest) (sym (asks-append first.calls second.calls)) (hears_then (asks first.calls) (asks second.calls) a b second.rest first.heard second.heard);
     written = texts first.calls ++ second.written;
     said = appends_then sa sb sc (texts first.calls) second.written first.said second.said;
-    is_written = written_then whole later totals end first.calls second.calls second.rest second.written second.is_written;
+    is_written = written_then whole later totals end first.calls second.calls second.rest second.written first.enough second.is_written;
     faulted = faults_then end first.calls second.calls first.none second.faulted;
+    lacked = lacked_then end first.calls second.calls first.enough second.lacked;
   }
 
   pub closed_then : (ta tb : ℕ) (la lb : Option (List ℕ)) → Given ta tb la lb → (old mid new : T) (sa sb sc a b : Option (List ℕ)) (end : SessionEnd)
@@ -230,6 +255,7 @@ module _ {T : Type 0} (moves : T → Ask → Result Answer DeskFault → T → T
         said = all.said;
         is_written = all.is_written;
         faulted = all.faulted;
+        lacked = all.lacked;
       }
 
   -- ---- one message
@@ -239,6 +265,18 @@ module _ {T : Type 0} (moves : T → Ask → Result Answer DeskFault → T → T
 
   one_none : (ask : Ask) (said : Result Answer DeskFault) → (IsStoreFault said → ⊥) → NoneFaults (one_call ask said)
   one_none ask said no_fault = All-cons IsNoFault (record { ask = ask; said = said }) [] no_fault (All-nil IsNoFault)
+
+  one_enough : (ask : Ask) (said : Result Answer DeskFault) → (said ≡ Err faults.NoMemory → ⊥) → NoneLacks (one_call ask said)
+  one_enough ask said no_lack = All-cons IsNoLack (record { ask = ask; said = said }) [] no_lack (All-nil IsNoLack)
+
+  one_lacks : (ask : Ask) (said : Result Answer DeskFault) → said ≡ Err faults.NoMemory → LastLacks (one_call ask said)
+  one_lacks ask said is = record { most = []; last = record { ask = ask; said = said }; are = refl; before = All-nil IsNoLack; is = is }
+
+  one_either : (ask : Ask) (said : Result Answer DeskFault) → NoneLacks (one_call ask said) ⊎ LastLacks (one_call ask said)
+  one_either ask (Ok answer) = inl (one_enough ask (Ok answer) (λ is. absurd cc))
+  one_either ask (Err (faults.StoreFault told count)) = inl (one_enough ask (Err (faults.StoreFault told count)) (λ is. absurd cc))
+  one_either ask (Err faults.JournalFull) = inl (one_enough ask (Err faults.JournalFull) (λ is. absurd cc))
+  one_either ask (Err faults.NoMemory) = inr (one_lacks ask (Err faults.NoMemory) refl)
 
   one_text : (sa sb : Option (List ℕ)) (ask : Ask) (said : Result Answer DeskFault) → Appends sa sb (text_of said) → Appends sa sb (texts (one_call ask said))
   one_text sa sb ask said wrote = subst (Appends sa sb) (sym (append-nil (text_of said))) wrote
@@ -251,12 +289,13 @@ module _ {T : Type 0} (moves : T → Ask → Result Answer DeskFault → T → T
     heard = heard;
     said = one_text sa sb ask done.told done.said.0;
     none = one_none ask done.told done.said.1;
+    enough = one_enough ask done.told done.said.2;
   }
   answered_on old new sa sb a b ask (Err e) done heard = tt
 
   closed_one : (old new : T) (sa sb a b : Option (List ℕ)) (total : Option ℕ) (ask : Ask) (said : Result Answer DeskFault) (end : SessionEnd) (written : List ℕ) → moves old ask said new
-      → Hears a (ask ∷ []) b → Appends sa sb written → IsWritten total end (one_call ask said) b written → FaultsBy end (one_call ask said) → Closed moves old new sa sb a total end
-  closed_one old new sa sb a b total ask said end written moved heard wrote is faulted = record {
+      → Hears a (ask ∷ []) b → Appends sa sb written → IsWritten total end (one_call ask said) b written → FaultsBy end (one_call ask said) → LacksBy end (one_call ask said) → Closed moves old new sa sb a total end
+  closed_one old new sa sb a b total ask said end written moved heard wrote is faulted lacked = record {
     calls = one_call ask said;
     moved = (new, moved, refl);
     rest = b;
@@ -265,6 +304,7 @@ module _ {T : Type 0} (moves : T → Ask → Result Answer DeskFault → T → T
     said = wrote;
     is_written = is;
     faulted = faulted;
+    lacked = lacked;
   }
 
   pub answered_end : (old new : T) (sa sb a b : Option (List ℕ)) (total : Option ℕ) (ask : Ask) (result : Result Unit SessionEnd) → Answers moves old new sa sb ask result
@@ -273,23 +313,24 @@ module _ {T : Type 0} (moves : T → Ask → Result Answer DeskFault → T → T
   answered_end old new sa sb a b total ask (Err ends.WriteFault) done heard =
       closed_one old new sa sb a b total ask done.told ends.WriteFault (take done.said.0.0 (text_of done.told)) done.moved heard done.said.0.1
       (inl (record { most = []; last = record { ask = ask; said = done.told }; n = done.said.0.0; are = refl; is = refl }))
-      (one_none ask done.told done.said.1)
+      (one_none ask done.told done.said.1) (one_either ask done.told)
   answered_end old new sa sb a b total ask (Err ends.NoMemory) done heard =
       closed_one old new sa sb a b total ask done.told ends.NoMemory (texts (one_call ask done.told)) done.moved heard (one_text sa sb ask done.told done.said.0)
-      (inl (record { most = []; last = record { ask = ask; said = done.told }; are = refl; is = done.said.1 }, refl))
-      (one_none ask done.told (λ fault. subst IsStoreFault done.said.1 fault))
+      (inl (one_lacks ask done.told done.said.1, refl))
+      (one_none ask done.told (λ fault. subst IsStoreFault done.said.1 fault)) (inr (one_lacks ask done.told done.said.1))
   answered_end old new sa sb a b total ask (Err ends.StoreFault) done heard =
       closed_one old new sa sb a b total ask done.told ends.StoreFault (texts (one_call ask done.told)) done.moved heard (one_text sa sb ask done.told done.said.0)
       refl
       (record { most = []; last = record { ask = ask; said = done.told }; are = refl; before = All-nil IsNoFault; is = done.said.1 })
+      (one_enough ask done.told (λ is. subst IsStoreFault is done.said.1))
   answered_end old new sa sb a b total ask (Err ends.Ended) done heard = absurd done.said
   answered_end old new sa sb a b total ask (Err ends.ReadFault) done heard = absurd done.said
   answered_end old new sa sb a b total ask (Err ends.Spent) done heard = absurd done.said
 
   -- nothing was answered
   pub closed_here : (old : T) (sa sb a : Option (List ℕ)) (total : Option ℕ) (end : SessionEnd) (written : List ℕ) → Appends sa sb written → IsWritten total end [] a written
-      → FaultsBy end [] → Closed moves old old sa sb a total end
-  closed_here old sa sb a total end written wrote is faulted = record {
+      → FaultsBy end [] → LacksBy end [] → Closed moves old old sa sb a total end
+  closed_here old sa sb a total end written wrote is faulted lacked = record {
     calls = [];
     moved = refl;
     rest = a;
@@ -298,6 +339,7 @@ module _ {T : Type 0} (moves : T → Ask → Result Answer DeskFault → T → T
     said = wrote;
     is_written = is;
     faulted = faulted;
+    lacked = lacked;
   }
 
   -- the last text was said, or in part
@@ -305,10 +347,10 @@ module _ {T : Type 0} (moves : T → Ask → Result Answer DeskFault → T → T
       → ((end ≡ ends.Ended) × Appends sa sb not_built_text) ⊎ ((end ≡ ends.WriteFault) × ((n : ℕ) × Appends sa sb (take n not_built_text))) → Closed moves old old sa sb a total end
   last_not_built old sa sb a total end unbuilt (inl x) =
       subst (λ (e : SessionEnd). Closed moves old old sa sb a total e) (sym x.0)
-      (closed_here old sa sb a total ends.Ended not_built_text x.1 (inr (unbuilt, refl)) (All-nil IsNoFault))
+      (closed_here old sa sb a total ends.Ended not_built_text x.1 (inr (unbuilt, refl)) (All-nil IsNoFault) (All-nil IsNoLack))
   last_not_built old sa sb a total end unbuilt (inr x) =
       subst (λ (e : SessionEnd). Closed moves old old sa sb a total e) (sym x.0)
-      (closed_here old sa sb a total ends.WriteFault (take x.1.0 not_built_text) x.1.1 (inr (inl (x.1.0, unbuilt, refl))) (All-nil IsNoFault))
+      (closed_here old sa sb a total ends.WriteFault (take x.1.0 not_built_text) x.1.1 (inr (inl (x.1.0, unbuilt, refl))) (All-nil IsNoFault) (inl (All-nil IsNoLack)))
 
   pub bad_closed : (old : T) (sa sb a b : Option (List ℕ)) (total : Option ℕ) (bad : Bad) (end : SessionEnd) → Tells a (heards.Bad bad) b
       → ((end ≡ ends.Ended) × Appends sa sb not_built_text) ⊎ ((end ≡ ends.WriteFault) × ((n : ℕ) × Appends sa sb (take n not_built_text))) → Closed moves old old sa sb a total end
@@ -318,24 +360,24 @@ module _ {T : Type 0} (moves : T → Ask → Result Answer DeskFault → T → T
       → ((end ≡ ends.NoMemory) × Appends sa sb no_memory_text) ⊎ ((end ≡ ends.WriteFault) × ((n : ℕ) × Appends sa sb (take n no_memory_text))) → Closed moves old old sa sb a total end
   last_no_memory old sa sb a total end (inl x) =
       subst (λ (e : SessionEnd). Closed moves old old sa sb a total e) (sym x.0)
-      (closed_here old sa sb a total ends.NoMemory no_memory_text x.1 (inr refl) (All-nil IsNoFault))
+      (closed_here old sa sb a total ends.NoMemory no_memory_text x.1 (inr (All-nil IsNoLack, refl)) (All-nil IsNoFault) (inl (All-nil IsNoLack)))
   last_no_memory old sa sb a total end (inr x) =
       subst (λ (e : SessionEnd). Closed moves old old sa sb a total e) (sym x.0)
-      (closed_here old sa sb a total ends.WriteFault (take x.1.0 no_memory_text) x.1.1 (inr (inr (x.1.0, refl))) (All-nil IsNoFault))
+      (closed_here old sa sb a total ends.WriteFault (take x.1.0 no_memory_text) x.1.1 (inr (inr (x.1.0, refl))) (All-nil IsNoFault) (inl (All-nil IsNoLack)))
 
-  silent : (old : T) (sa sb a : Option (List ℕ)) (total : Option ℕ) (end kind : SessionEnd) → (end ≡ kind) × (sb ≡ sa) → IsWritten total kind [] a [] → FaultsBy kind []
+  silent : (old : T) (sa sb a : Option (List ℕ)) (total : Option ℕ) (end kind : SessionEnd) → (end ≡ kind) × (sb ≡ sa) → IsWritten total kind [] a [] → FaultsBy kind [] → LacksBy kind []
       → Closed moves old old sa sb a total end
-  silent old sa sb a total end kind x is faulted =
+  silent old sa sb a total end kind x is faulted lacked =
       subst (λ (e : SessionEnd). Closed moves old old sa sb a total e) (sym x.0)
-      (closed_here old sa sb a total kind [] (subst (λ (s : Option (List ℕ)). Appends sa s []) (sym x.1) (appends_none sa)) is faulted)
+      (closed_here old sa sb a total kind [] (subst (λ (s : Option (List ℕ)). Appends sa s []) (sym x.1) (appends_none sa)) is faulted lacked)
 
   pub last_stop : (old : T) (sa sb a : Option (List ℕ)) (total : Option ℕ) (stop : Stop) (end : SessionEnd)
       → (stop ≡ stops.NoMemory → ((end ≡ ends.NoMemory) × Appends sa sb no_memory_text) ⊎ ((end ≡ ends.WriteFault) × ((n : ℕ) × Appends sa sb (take n no_memory_text))))
       → (stop ≡ stops.ReadFault → (end ≡ ends.ReadFault) × (sb ≡ sa)) → (stop ≡ stops.Spent → (end ≡ ends.Spent) × (sb ≡ sa)) → (stop ≡ stops.Spent → Reaches total)
       → Closed moves old old sa sb a total end
   last_stop old sa sb a total stops.NoMemory end said read spent reaches = last_no_memory old sa sb a total end (said refl)
-  last_stop old sa sb a total stops.ReadFault end said read spent reaches = silent old sa sb a total end ends.ReadFault (read refl) refl (All-nil IsNoFault)
-  last_stop old sa sb a total stops.Spent end said read spent reaches = silent old sa sb a total end ends.Spent (spent refl) (reaches refl, refl) (All-nil IsNoFault)
+  last_stop old sa sb a total stops.ReadFault end said read spent reaches = silent old sa sb a total end ends.ReadFault (read refl) refl (All-nil IsNoFault) (All-nil IsNoLack)
+  last_stop old sa sb a total stops.Spent end said read spent reaches = silent old sa sb a total end ends.Spent (spent refl) (reaches refl, refl) (All-nil IsNoFault) (All-nil IsNoLack)
 
   -- a session that had no memory to begin with
   pub session_lacks : (old : T) (sa sb left : Option (List ℕ)) (end : SessionEnd)
@@ -351,4 +393,5 @@ module _ {T : Type 0} (moves : T → Ask → Result Answer DeskFault → T → T
         said = all.said;
         is_written = all.is_written;
         faulted = all.faulted;
+        lacked = all.lacked;
       }

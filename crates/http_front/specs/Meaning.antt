@@ -58,3 +58,7 @@ Hears (Some stream) asks (Some rest) = Goes stream asks rest
 abbrev pub StandsUnbuilt : Option (List ℕ) → Type 0
 StandsUnbuilt None = ⊤
 StandsUnbuilt (Some stream) = IsUnbuilt stream
+
+-- a stream begins with one ask at most, and one rest follows it
+abbrev pub HasOneAsk : Type 0
+HasOneAsk = (stream : List ℕ) (first second : Ask) (rest other : List ℕ) → IsAsk stream first rest → IsAsk stream second other → (first ≡ second) × (rest ≡ other)

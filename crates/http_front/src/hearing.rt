@@ -3,6 +3,7 @@ ghost use Rattle.std.specs.Prelude.{◌≡◌, ◌≤◌, ◌<◌, ◌+◌, leng
 ghost use Rattle.std.specs.Io.KnownBytes.{IsAtEnd, prepend_known};
 ghost use Rattle.office_base.specs.Faults.{Rose};
 ghost use Rattle.plain_office.specs.declared.command.Ask.TheVariants.{Command};
+ghost use Rattle.http_wire.specs.Heads.{IsOpen};
 ghost use Rattle.http_wire.specs.Held.{take_limit};
 ghost use Rattle.http_wire.specs.Messages.{IsUnsettled};
 ghost use Rattle.http_front.specs.Counts.{Given};
@@ -81,6 +82,8 @@ pub fn read_request<R: Source>(
     ensures uses { OnAsked result (buffer.old.taken + length buffer.new.bytes < buffer.new.taken + length buffer.old.bytes) }
     ensures at_end { result ≡ Ok Heard.End → (buffer.new.taken < take_limit) × IsAtEnd (R.left source.new) }
     ensures spent { IsErrOf result Stop.Spent → (buffer.new.taken ≡ take_limit) × IsUnsettled buffer.new.bytes }
+    // A message whose bytes are held is heard without a read.
+    ensures settled { (IsOpen buffer.old.bytes → ⊥) → source.new ≡ source.old }
     ensures later { R.faults source.old ≤ R.faults source.new }
     ensures fault { IsErrOf result Stop.ReadFault → Rose (R.faults source.old) (R.faults source.new) }
 {

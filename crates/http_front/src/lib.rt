@@ -3,6 +3,7 @@
 
 mod answering;
 mod hearing;
+mod laws;
 mod memory_replies;
 mod parts;
 mod printing;
@@ -10,10 +11,13 @@ mod replies;
 mod room;
 mod talking;
 mod teller;
+#[cfg(test)]
+mod tests;
 mod texts;
 
 pub use answering::SessionEnd;
 pub use hearing::{Bad, Heard, Stop, read_request};
+pub use laws::one_ask;
 pub use memory_replies::MemoryReplies;
 pub use printing::{NoRoom, print_fault, print_reply};
 pub use replies::{Replies, WriterReplies};

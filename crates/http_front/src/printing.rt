@@ -33,7 +33,7 @@ fn put_made(room: &mut [u8], bucket: &BucketName) -> usize
 }
 
 #[tactic(auto, using(crate::proofs::PrintLemmas::made_small, crate::proofs::PrintLemmas::exists_small, crate::proofs::PrintLemmas::no_memory_small))]
-fn put_reply(room: &mut [u8], reply: &Result<Reply, Refusal>) -> usize
+pub(crate) fn put_reply(room: &mut [u8], reply: &Result<Reply, Refusal>) -> usize
     ensures puts { Puts room.old 0 room.new result (reply_text reply.now) }
     ensures small { length (reply_text reply.now) ≤ 16384 }
 {

@@ -8,6 +8,8 @@ mod laws;
 mod memory_source;
 mod reading;
 mod source;
+#[cfg(test)]
+mod tests;
 
 pub use buffer::Buffer;
 pub use framing::FramingRefusal;

@@ -55,6 +55,8 @@ pub fn read_head<R: Source>(source: &mut R, buffer: &mut Buffer) -> Result<Headi
     // The end is found by a read, so fewer bytes than the limit were taken.
     ensures at_end { (result ≡ Ok Heading.CutShort) ⊎ (result ≡ Ok Heading.End) → buffer.new.taken < take_limit }
     ensures spent { IsErrOf result Stop.Spent → (buffer.new.taken ≡ take_limit) × IsOpen buffer.new.bytes × (length buffer.new.bytes < head_room) }
+    // The source is read only where the bytes that are held settle nothing.
+    ensures settled { (IsOpen buffer.old.bytes → ⊥) → source.new ≡ source.old }
     ensures later { R.faults source.old ≤ R.faults source.new }
     ensures fault { IsErrOf result Stop.ReadFault → Rose (R.faults source.old) (R.faults source.new) }
 {

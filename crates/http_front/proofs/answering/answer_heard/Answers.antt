@@ -5,7 +5,7 @@ use Rattle.http_front.specs.declared.hearing.Bad.{Bad}
 use Rattle.http_front.specs.declared.hearing.Heard.{Heard}
 use Rattle.http_front.specs.declared.answering.SessionEnd.TheVariants.{Ended}
 use Rattle.http_front.proofs.SaidLemmas.{appends_none}
-use Rattle.http_front.proofs.TalkLemmas.{answered_on, answered_end, bad_closed, closed_here, IsNoFault}
+use Rattle.http_front.proofs.TalkLemmas.{answered_on, answered_end, bad_closed, closed_here, IsNoFault, IsNoLack}
 use Rattle.http_front.proofs.answering.answer_heard.Goals as goal
 
 pub returns-in-Asked-clause-goes_on : goal.returns-in-Asked-clause-goes_on
@@ -26,4 +26,4 @@ returns-in-Bad-clause-closed g c stream rest total tells under =
 pub returns-in-End-clause-closed : goal.returns-in-End-clause-closed
 returns-in-End-clause-closed g c stream rest total tells under =
     closed_here g.T.Teller.moves c.args.teller.now (g.W.Replies.said c.args.out.now) (g.W.Replies.said c.args.out.now) stream total
-    Ended [] (appends_none (g.W.Replies.said c.args.out.now)) (inl ((subst (λ (h : Heard). Tells stream h rest) c.in-End.is tells), under c.in-End.is, refl)) (All-nil IsNoFault)
+    Ended [] (appends_none (g.W.Replies.said c.args.out.now)) (inl ((subst (λ (h : Heard). Tells stream h rest) c.in-End.is tells), under c.in-End.is, refl)) (All-nil IsNoFault) (All-nil IsNoLack)

@@ -1,0 +1,15 @@
+use Rattle.std.proofs.Common.{◌∙◌, subst, arith}
+use Rattle.http_wire.specs.Heads.{IsOpen}
+use Rattle.http_wire.proofs.Taking.{took_then, took_seen}
+use Rattle.http_wire.proofs.reading.read_head.Goals as goal
+
+pub reading-preserved : goal.reading-preserved
+reading-preserved g c =
+    let left = g.R.Source.left in
+    record {
+      took = took_then c.args.buffer.now c.reading.buffer c.fill.new.self (left c.args.source.now) (left c.reading.source) (left c.fill.new.source) c.reading.invariant.took
+          (took_then c.reading.buffer c.look.new.self c.fill.new.self (left c.reading.source) (left c.reading.source) (left c.fill.new.source)
+          (took_seen c.reading.buffer c.look.new.self (left c.reading.source) c.look.ensures.bytes c.look.ensures.taken) c.in-Ok.ensures.took);
+      unread = λ settled. absurd (settled (subst IsOpen (c.look.ensures.bytes ∙ (c.reading.invariant.unread settled).1) (c.look.ensures.open c.in-Open.is)));
+      faults = omega (arith, c.reading.invariant.faults, c.fill.ensures.cause.later);
+    }
