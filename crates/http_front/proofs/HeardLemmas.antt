@@ -12,17 +12,17 @@ use Rattle.httparse.specs.declared.spans.RequestSpans.{RequestSpans}
 use Rattle.httparse.proofs.GrammarLemmas.{request_unique, ReadsRequest-append, print_request-append}
 use Rattle.http_wire.specs.Heads.{IsHopeless, IsOpen}
 use Rattle.http_wire.specs.Headings.{OnHead}
-use Rattle.http_wire.specs.Held.{Held, Took, head_room}
-use Rattle.http_wire.specs.Messages.{Framed, Request, request, refused, Stands, HasHead, IsUnsettled, after_length, after_coding, fields_named, body_length, same_word, is_last}
+use Rattle.http_wire.specs.Held.{Held, Took}
+use Rattle.http_wire.specs.Messages.{Framed, Request, request, refused, Stands, after_length, after_coding, fields_named, body_length, same_word, is_last}
 use Rattle.http_wire.specs.declared.reading.Heading.{Heading}
 use Rattle.http_wire.specs.declared.reading.Heading.TheVariants as heading
 use Rattle.http_wire.specs.declared.reading.Stop.{Stop}
 use Rattle.http_wire.specs.declared.framing.FramingRefusal.{FramingRefusal}
 use Rattle.http_wire.specs.declared.framing.FramingRefusal.TheVariants.{BadHead, HeadTooLarge}
 use Rattle.http_wire.proofs.Unique.{stands_unique, stands_rest, stands_more, open_unsettled, open_too_large, hopeless_bad, nothing_stands}
-use Rattle.http_front.specs.Meaning.{is_plain_field, is_plain_put, is_bucket_path, bucket_asked, create_bucket, asked_of, IsAsk, IsUnbuilt, Hears, StandsUnbuilt}
+use Rattle.http_front.specs.Meaning.{is_plain_field, is_plain_put, bucket_asked, create_bucket, asked_of, IsAsk, IsUnbuilt, StandsUnbuilt}
 use Rattle.http_front.specs.Tells.{Tells}
-use Rattle.http_front.specs.Counts.{Given, Gave, total_of, IsUnder, Reaches}
+use Rattle.http_front.specs.Counts.{Given}
 use Rattle.http_front.specs.declared.hearing.Heard.{Heard}
 use Rattle.http_front.specs.declared.hearing.Heard.TheVariants as heards
 use Rattle.http_front.specs.declared.hearing.Bad.TheVariants.{NotBuilt}

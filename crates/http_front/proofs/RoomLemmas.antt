@@ -1,5 +1,5 @@
 -- Texts that are written one after another.
-use Rattle.std.proofs.Common.{◌≡◌, ℕ, ◌+◌, ◌<◌, List, [], ◌∷◌, ◌++◌, length, take, get_or, refl, sym, ap, ◌∙◌, subst, append_assoc, append-nil}
+use Rattle.std.proofs.Common.{◌≡◌, ℕ, List, [], ◌++◌, sym, subst, append_assoc, append-nil}
 use Rattle.http_front.specs.Room.{Holds, Puts}
 
 pub puts_then : {a b c : List ℕ} {at mid end : ℕ} (x y : List ℕ) → Puts a at b mid x → Puts b mid c end y → Puts a at c end (x ++ y)

@@ -1,4 +1,4 @@
-use Rattle.std.proofs.Common.{◌≡◌, ap, Ok, Err, arith}
+use Rattle.std.proofs.Common.{◌≡◌, ap, Ok, Err}
 use Rattle.http_wire.proofs.Unique.{open_unsettled}
 use Rattle.http_front.specs.declared.hearing.Stop.TheVariants.{Spent}
 use Rattle.http_front.proofs.HeardLemmas.{tells_found, unbuilt, given_of}
