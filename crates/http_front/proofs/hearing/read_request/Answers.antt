@@ -25,6 +25,7 @@ returns-in_default g c = record {
   uses = tt;
   at_end = λ is. absurd cc;
   spent = λ is. absurd cc;
+  no_memory = λ is. absurd cc;
   settled = c.in-Ok.ensures.settled;
   later = c.in-Ok.ensures.later;
   fault = λ is. absurd cc;
