@@ -153,10 +153,13 @@ module _ {D : Type 0} {C : Type 0} (honest : Bool) (state : D → State) (moment
           let call = this (Err (faults.StoreFault (Some number) count)) in
           let rose : Rose last count = subst (λ (k : ℕ). Rose last k) (sym is) (rose_from last (fault_count old.disk) (fault_count new.disk) (last_below opened.faults (fault_count old.disk) calls s.faults.0 s.faults.1) fails.rose) in
           let rule = one_legal opened.limit last call s.history s.history old.office held.office (rose, inl refl) in
-          let kept = one_legal opened.limit last call s.history (s.history ++ e ∷ []) old.office held.office (rose, inr (
-            subst (λ (m : ℕ). IsTrue (is_accepted (step m command old.office).1)) at (accepted_step old.office fails.accepted.0 e fails.accepted.1),
-            ap (λ (m : ℕ). s.history ++ entry_at m command ∷ []) at,
-          )) in
+          let kept = one_legal opened.limit last call s.history (s.history ++ e ∷ []) old.office held.office (
+            rose,
+            inr (
+              subst (λ (m : ℕ). IsTrue (is_accepted (step m command old.office).1)) at (accepted_step old.office fails.accepted.0 e fails.accepted.1),
+              ap (λ (m : ℕ). s.history ++ entry_at m command ∷ []) at,
+            ),
+          ) in
           let told : IsToldBy (fault_count new.disk) call.said = omega (arith, is) in
           grown_by call s.history rule (λ not. absurd (still_true new.stale stale not)) told (λ tells.
           makes_failed state moment had_since fault_count counts_now only_now since_earlier old.disk old.gate s.history old.office (held.at_rest tells) held.office (own tells old.disk) opened.limit last call

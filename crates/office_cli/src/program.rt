@@ -13,7 +13,9 @@ ghost use Rattle.meter_journal.specs.Reading.{IsForeign};
 ghost use Rattle.office_cli.specs.Making.{Inits};
 ghost use Rattle.office_cli.specs.Running.{journal_limit, IsNoted, Answers, Refuses, Runs};
 
-use crate::lines::{OUTPUT, USAGE, end_line, end_status, made_text, note_fault, note_line, open_status, usage};
+use crate::lines::{
+    OUTPUT, USAGE, end_line, end_status, made_text, note_fault, note_line, open_status, usage,
+};
 use desk_core::{Clock, Desk};
 use disk_core::Disk;
 use http_front::{Replies, SessionEnd, session};

@@ -24,7 +24,7 @@ returns-clause-later g c =
       c.session-end.ensures.read_later,
       omega (arith, c.session-end.ensures.write_later, c.note_line.ensures.later),
       subst (λ (x : g.row.D.Denot). d.fault_count c.args.desk.disk ≤ d.fault_count x) (sym c.close-disk.ensures.disk)
-      (disk_later d.honest d.state d.moment d.had_since d.fault_count g.C.Clock.count g.C.Clock.told c.args.desk c.session-end.new.teller s.calls s.moved),
+          (disk_later d.honest d.state d.moment d.had_since d.fault_count g.C.Clock.count g.C.Clock.told c.args.desk c.session-end.new.teller s.calls s.moved),
     )
 
 pub returns-clause-disk_fault : goal.returns-clause-disk_fault
