@@ -1,4 +1,5 @@
 pub mod Answering
+pub mod Done
 pub mod Following
 pub mod MadeSo
 pub mod Soundness

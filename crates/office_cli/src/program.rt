@@ -8,7 +8,7 @@ ghost use Rattle.plain_office.specs.declared.command.Entry.{Entry};
 ghost use Rattle.desk_core.specs.Histories.{HasHistory, IsSound};
 ghost use Rattle.desk_core.specs.Desk.{IsReady};
 ghost use Rattle.desk_core.specs.Opening.{Opens, OpenFails};
-ghost use Rattle.office_cli.specs.Lines.{IsLine, init_line, run_line, fault_status, fault_note, end_note, made_line, usage_note, IsServeStatus, IsRunStatus};
+ghost use Rattle.office_cli.specs.Lines.{IsLine, init_line, run_line, fault_status, fault_note, end_note, made_line, usage_note, IsServeStatus, IsRunStatus, IsDone};
 ghost use Rattle.meter_journal.specs.Reading.{IsForeign};
 ghost use Rattle.office_cli.specs.Making.{Inits};
 ghost use Rattle.office_cli.specs.Running.{journal_limit, IsNoted, Answers, Refuses, Runs};
@@ -197,6 +197,10 @@ pub fn office<R: Source, W: Replies, D: Disk + Drop, C: Clock + Drop>(
     // A disk each of whose images has a history is opened, and has such images at every moment.
     ensures opened { IsTrue D.honest → IsSound (D.state disk) → result.status ≡ 5 → ⊥ }
     ensures sound { IsTrue D.honest → IsSound (D.state disk) → KeepsTo D.state D.moment D.had_since disk result.disk IsSound }
+
+    // A command line is done, on such a disk or for init on one that is not foreign, where nothing outside fails.
+    ensures complete { IsTrue D.honest → IsLine (map string_bytes words.now) → IsSound (D.state disk) ⊎ ((map string_bytes words.now ≡ init_line) × (IsForeign (D.state disk).journal.seen → ⊥))
+        → (Rose (D.fault_count disk) (D.fault_count result.disk) → ⊥) → (Rose (R.faults input.old) (R.faults input.new) → ⊥) → (Rose (W.faults out.old) (W.faults out.new) → ⊥) → IsDone result.status }
 {
     if is_only(words, "init") {
         let status = init(out, &mut disk);
