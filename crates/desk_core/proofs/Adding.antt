@@ -61,11 +61,14 @@ module _ {D C : Type 0} (honest : Bool) (state : D → State) (moment : D → �
             reply = ap (λ (a : Answer). a.reply) adds.0 ∙ sym (ap (λ (x : Office × Result Reply Refusal). x.1) (step_of (step t command old.office) old.office mid.office reply is));
           },
           (ap (λ (a : Answer). a.position) adds.0, ap (λ (a : Answer). a.disk_moment) adds.0),
-          inl (done_reply answer.reply reply (ap (λ (a : Answer). a.reply) adds.0), record {
-            accepted = accepted;
-            holds = record { office = run_more before e old.office new.office hold.office accepted; end = adds.1; at_rest = λ tells. (adds.2 tells).0 };
-            run = λ tells. subst (λ (d : D). Run d new.disk) same (adds.2 tells).1;
-          }),
+          inl (
+            done_reply answer.reply reply (ap (λ (a : Answer). a.reply) adds.0),
+            record {
+              accepted = accepted;
+              holds = record { office = run_more before e old.office new.office hold.office accepted; end = adds.1; at_rest = λ tells. (adds.2 tells).0 };
+              run = λ tells. subst (λ (d : D). Run d new.disk) same (adds.2 tells).1;
+            },
+          ),
         )
     added mid new reply (Err (faults.StoreFault (Some told) count)) later is same office adds =
         let e = entry_at t command in (

@@ -145,9 +145,9 @@ not_damaged history file at has damaged = ⊎_elim
     (λ broken. never_broken header damaged.history history at file has.entries damaged.before broken)
     (λ stands. ⊎_elim (λ ended. let both = sym ended.1 ∙ stands.2 in absurd (ended_whole stands.0 stands.1 both))
     (λ next.
-      let both : Whole stands.0 stands.1 ≡ Whole next.0 _ = sym stands.2 ∙ next.3 in
-      let refused : accept damaged.office next.0 ≡ None = ap (λ (e : Entry). accept damaged.office e) (sym (same_entry stands.0 next.0 stands.1 _ both)) ∙ stands.3 in
-      is_defined (run history) has.accepted (ap run next.2 ∙ stops damaged.history next.1 next.0 damaged.office damaged.is_run refused))
+    let both : Whole stands.0 stands.1 ≡ Whole next.0 _ = sym stands.2 ∙ next.3 in
+    let refused : accept damaged.office next.0 ≡ None = ap (λ (e : Entry). accept damaged.office e) (sym (same_entry stands.0 next.0 stands.1 _ both)) ∙ stands.3 in
+    is_defined (run history) has.accepted (ap run next.2 ∙ stops damaged.history next.1 next.0 damaged.office damaged.is_run refused))
     (goes_on header damaged.history history at file has.entries damaged.before))
     damaged.breaks
   where

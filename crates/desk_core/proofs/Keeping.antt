@@ -61,7 +61,6 @@ module _ {D : Type 0} (state : D → State) (moment : D → ℕ) (had_since : D 
     (counts_now : (disk : D) (t : ℕ) → t ≤ moment disk → had_since disk t (state disk))
     (only_now : (disk : D) (s : State) → had_since disk (moment disk) s → s ≡ state disk)
     (since_earlier : (disk : D) (t u : ℕ) (s : State) → t ≤ u → had_since disk u s → had_since disk t s) where
-
   -- ---- what a call makes of the disk, where the journal lay at rest on it
 
   module _ (old : D) (gate : ℕ) (before : List Entry) (p : Office) (rest : IsAtRest header (state old) gate before) (is_run : run before ≡ Some p) (reads : IsImage (state old).journal (state old).journal.seen)

@@ -21,7 +21,7 @@ use Rattle.desk_core.specs.declared.fault.DeskFault.TheVariants as faults
 use Rattle.desk_core.specs.Answers.{Answer, Call}
 use Rattle.desk_core.specs.Calls.{Legal, IsLegal, IsReply, GrowsBy, FitsIn, IsFull, moment_after}
 use Rattle.desk_core.specs.Serving.{Opened, IsToldBy}
-use Rattle.desk_core.specs.Desk.{Seat, Holds, IsReady, StandsFor, GoesOn, HasStoreReason, is_store_fault}
+use Rattle.desk_core.specs.Desk.{Seat, Holds, IsReady, StandsFor, GoesOn, HasStoreReason, PassesLimit, is_store_fault}
 use Rattle.desk_core.specs.Keeping.{Replied, Grows, Stays, Fails, Keeps}
 use Rattle.desk_core.proofs.Keeping.{one_legal, rose_from, last_below, unique, makes_still, makes_grown, makes_failed}
 use Rattle.desk_core.proofs.OneMore.{last_faults, IsKept, Makes, one_more, recoverable, legal_append, told_more}
@@ -57,6 +57,10 @@ same_size t u command = omega arith
 
 full_at : (limit t end size : ℕ) (command : Command) (before : List Entry) → end ≡ end_gate header before → size ≡ length (spelling (entry_at t command)) → (end + 6 + size ≤ limit → ⊥) → IsFull limit (ask.Command command) before
 full_at limit t end size command before is_end is_size full fits = full (omega (arith, is_end, is_size, same_size t 0 command, fits))
+
+-- a frame that fits at one moment passes the limit at none
+pub too_long : (gate limit size t : ℕ) (command : Command) → size ≡ length (spelling (entry_at t command)) → gate + 6 + size ≤ limit → PassesLimit gate limit (ask.Command command) → ⊥
+too_long gate limit size t command is_size fits long = omega (arith, is_size, same_size t 0 command, fits, long)
 
 still_true : (b : Bool) → b ≡ true → b ≡ false → ⊥
 still_true true is not = absurd cc
@@ -153,10 +157,13 @@ module _ {D : Type 0} {C : Type 0} (honest : Bool) (state : D → State) (moment
           let call = this (Err (faults.StoreFault (Some number) count)) in
           let rose : Rose last count = subst (λ (k : ℕ). Rose last k) (sym is) (rose_from last (fault_count old.disk) (fault_count new.disk) (last_below opened.faults (fault_count old.disk) calls s.faults.0 s.faults.1) fails.rose) in
           let rule = one_legal opened.limit last call s.history s.history old.office held.office (rose, inl refl) in
-          let kept = one_legal opened.limit last call s.history (s.history ++ e ∷ []) old.office held.office (rose, inr (
-            subst (λ (m : ℕ). IsTrue (is_accepted (step m command old.office).1)) at (accepted_step old.office fails.accepted.0 e fails.accepted.1),
-            ap (λ (m : ℕ). s.history ++ entry_at m command ∷ []) at,
-          )) in
+          let kept = one_legal opened.limit last call s.history (s.history ++ e ∷ []) old.office held.office (
+            rose,
+            inr (
+              subst (λ (m : ℕ). IsTrue (is_accepted (step m command old.office).1)) at (accepted_step old.office fails.accepted.0 e fails.accepted.1),
+              ap (λ (m : ℕ). s.history ++ entry_at m command ∷ []) at,
+            ),
+          ) in
           let told : IsToldBy (fault_count new.disk) call.said = omega (arith, is) in
           grown_by call s.history rule (λ not. absurd (still_true new.stale stale not)) told (λ tells.
           makes_failed state moment had_since fault_count counts_now only_now since_earlier old.disk old.gate s.history old.office (held.at_rest tells) held.office (own tells old.disk) opened.limit last call

@@ -11,5 +11,6 @@ one_told moments old new number rose small is =
   where
     back : number ≡ number_at moments old → number_at moments old ≡ number
     back e = cc
+
     next_is : new ≡ suc old → suc old ≡ new
     next_is e = cc

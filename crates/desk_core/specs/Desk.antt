@@ -1,15 +1,16 @@
 -- What a desk stands for, and what a call does to it.
-use Rattle.std.specs.Prelude.{◌≡◌, ◌⊎◌, ℕ, ◌-◌, ◌^◌, ◌<◌, ◌≤◌, Bool, true, false, List, [], ◌∷◌, ◌++◌, Option, Some, None, Result, Ok, Err, IsTrue}
+use Rattle.std.specs.Prelude.{◌≡◌, ◌⊎◌, ℕ, ◌+◌, ◌-◌, ◌^◌, ◌<◌, ◌≤◌, Bool, true, false, List, [], ◌∷◌, ◌++◌, length, Option, Some, None, Result, Ok, Err, IsTrue}
 use Rattle.std.specs.Io.KnownBytes.{Appends}
 use Rattle.office_base.specs.Faults.{Rose}
 use Rattle.disk_core.specs.Files.{State}
 use Rattle.disk_core.specs.Moments.{KeepsTo}
 use Rattle.plain_office.specs.Office.{Office}
 use Rattle.plain_office.specs.Step.{step, is_accepted}
-use Rattle.plain_office.specs.Run.{run}
+use Rattle.plain_office.specs.Run.{run, entry_at}
 use Rattle.plain_office.specs.declared.command.Ask.{Ask}
 use Rattle.plain_office.specs.declared.command.Ask.TheVariants as ask
 use Rattle.plain_office.specs.declared.command.Entry.{Entry}
+use Rattle.entry_codec.specs.Spelling.{spelling}
 use Rattle.meter_journal.specs.History.{header, end_gate, IsAtRest}
 use Rattle.desk_core.specs.Answers.{Answer, Call}
 use Rattle.desk_core.specs.Calls.{Legal, moment_after}
@@ -71,6 +72,14 @@ IsNumber before after (Err (faults.StoreFault None count)) = Appends before afte
 IsNumber before after (Err faults.JournalFull) = Appends before after [] ⊎ ((number : ℕ) × Appends before after (number ∷ []))
 IsNumber before after (Err faults.NoMemory) = Appends before after [] ⊎ ((number : ℕ) × Appends before after (number ∷ []))
 
+-- the last number that the clock told is that of the answer, or of the fault of the store
+abbrev pub IsLast : ℕ → Result Answer DeskFault → Type 0
+IsLast last (Ok answer) = answer.told ≡ last
+IsLast last (Err (faults.StoreFault (Some number) count)) = number ≡ last
+IsLast last (Err (faults.StoreFault None count)) = Unit {0}
+IsLast last (Err faults.JournalFull) = Unit {0}
+IsLast last (Err faults.NoMemory) = Unit {0}
+
 -- the disk is left alone but for a command that the office accepts
 abbrev pub LeavesDisk : {D : Type 0} → Result Answer DeskFault → D → D → Type 0
 LeavesDisk (Ok answer) before after = is_accepted answer.reply ≡ false → after ≡ before
@@ -86,6 +95,10 @@ HasStoreReason (Err (faults.StoreFault None count)) question office before after
 HasStoreReason (Ok answer) question office before after = Unit {0}
 HasStoreReason (Err faults.JournalFull) question office before after = Unit {0}
 HasStoreReason (Err faults.NoMemory) question office before after = Unit {0}
+
+-- the frame of this command, with the gate behind it, would end past the limit
+abbrev pub PassesLimit : ℕ → ℕ → Ask → Type 0
+PassesLimit gate limit (ask.Command command) = limit < gate + 6 + length (spelling (entry_at 0 command))
 
 -- an answer has the end and the disk's moment of the return
 abbrev pub IsStamped : Result Answer DeskFault → ℕ → ℕ → Type 0

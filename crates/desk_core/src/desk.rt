@@ -1,5 +1,5 @@
 // An office over its journal.
-ghost use Rattle.std.specs.Prelude.{◌≡◌, ◌+◌, ◌-◌, ◌<◌, ◌≤◌, ◌^◌, ◌++◌, ◌∷◌, [], ℕ, List, length, min, max, unwrap_or, true, false, IsTrue, Some, None, Ok, Err, IfOk, IfErr, OnOk, IsErrOf};
+ghost use Rattle.std.specs.Prelude.{◌≡◌, ◌⊎◌, ◌+◌, ◌-◌, ◌<◌, ◌≤◌, ◌^◌, ◌++◌, ◌∷◌, [], ℕ, List, length, min, max, unwrap_or, true, false, IsTrue, Some, None, Ok, Err, IfOk, IfErr, OnOk, IsErrOf};
 ghost use Rattle.office_base.specs.Faults.{Rose};
 ghost use Rattle.moments.specs.Time.{last_moment};
 ghost use Rattle.disk_core.specs.Kept.{Narrower};
@@ -13,7 +13,7 @@ ghost use Rattle.entry_codec.specs.Spelling.{Fits, IsEntry, spelling};
 ghost use Rattle.meter_journal.specs.History.{header, end_gate, IsAtRest};
 ghost use Rattle.desk_core.specs.Answers.{Call};
 ghost use Rattle.desk_core.specs.Calls.{moment_after};
-ghost use Rattle.desk_core.specs.Desk.{Seat, Holds, IsReady, StandsFor, GoesOn, IsNumber, LeavesDisk, HasStoreReason, IsStamped, is_store_fault};
+ghost use Rattle.desk_core.specs.Desk.{Seat, Holds, IsReady, StandsFor, GoesOn, IsNumber, IsLast, LeavesDisk, HasStoreReason, PassesLimit, IsStamped, is_store_fault};
 ghost use Rattle.desk_core.specs.Keeping.{Adds, Keeps};
 ghost use Rattle.desk_core.specs.Serving.{Opened};
 
@@ -179,13 +179,17 @@ impl<D: Disk + Drop, C: Clock + Drop> Desk<D, C> {
             → GoesOn D.honest D.state D.moment D.had_since D.fault_count opened (calls ++ record { ask = ask.now; said = result } ∷ []) self.old.disk self.new }
 
         ensures number { C.count self.new.clock < 2 ^ 64 - 1 → IsNumber (C.told self.old.clock) (C.told self.new.clock) result }
+        ensures last { IsLast (C.last self.new.clock) result }
         ensures stamped { IsStamped result self.new.gate (D.moment self.new.disk) }
         ensures quiet { LeavesDisk result self.old.disk self.new.disk }
         ensures reason { HasStoreReason result ask.now self.old.office (D.fault_count self.old.disk) (D.fault_count self.new.disk) }
+        // Where the command's frame would pass the limit nothing else is told, but want of memory.
+        ensures full { PassesLimit self.old.gate self.old.limit ask.now → (result ≡ Err DeskFault.JournalFull) ⊎ (result ≡ Err DeskFault.NoMemory) }
         ensures stale { self.new.stale ≡ is_store_fault result }
         // It takes a further call, but after a fault of the store.
         ensures ready { is_store_fault result ≡ false → IsReady D.honest D.state self.new }
         ensures limit { self.new.limit ≡ self.old.limit }
+        ensures clock_once { C.count self.new.clock ≤ C.count self.old.clock + 1 }
         ensures clock_later { C.count self.old.clock ≤ C.count self.new.clock }
         ensures disk_later { D.fault_count self.old.disk ≤ D.fault_count self.new.disk }
     {
@@ -221,13 +225,17 @@ impl<D: Disk + Drop, C: Clock + Drop> Desk<D, C> {
             → GoesOn D.honest D.state D.moment D.had_since D.fault_count opened (calls ++ record { ask = ask.now; said = result } ∷ []) self.old.disk self.new }
 
         ensures number { C.count self.new.clock < 2 ^ 64 - 1 → IsNumber (C.told self.old.clock) (C.told self.new.clock) result }
+        ensures last { IsLast (C.last self.new.clock) result }
         ensures stamped { IsStamped result self.new.gate (D.moment self.new.disk) }
         ensures quiet { LeavesDisk result self.old.disk self.new.disk }
         ensures reason { HasStoreReason result ask.now self.old.office (D.fault_count self.old.disk) (D.fault_count self.new.disk) }
+        // Where the command's frame would pass the limit nothing else is told, but want of memory.
+        ensures full { PassesLimit self.old.gate self.old.limit ask.now → (result ≡ Err DeskFault.JournalFull) ⊎ (result ≡ Err DeskFault.NoMemory) }
         ensures stale { self.new.stale ≡ is_store_fault result }
         // It takes a further call, but after a fault of the store.
         ensures ready { is_store_fault result ≡ false → IsReady D.honest D.state self.new }
         ensures limit { self.new.limit ≡ self.old.limit }
+        ensures clock_once { C.count self.new.clock ≤ C.count self.old.clock + 1 }
         ensures clock_later { C.count self.old.clock ≤ C.count self.new.clock }
         ensures disk_later { D.fault_count self.old.disk ≤ D.fault_count self.new.disk }
     {

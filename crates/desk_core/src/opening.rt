@@ -8,6 +8,7 @@ ghost use Rattle.plain_office.specs.declared.command.Entry.{Entry};
 ghost use Rattle.plain_office.specs.Office.{empty_office};
 ghost use Rattle.plain_office.specs.Run.{accept, is_not_before};
 ghost use Rattle.meter_journal.specs.Reading.{IsMade, HasStoreCause};
+ghost use Rattle.desk_core.specs.Desk.{IsReady};
 ghost use Rattle.desk_core.specs.Histories.{HasHistory};
 ghost use Rattle.desk_core.specs.Opening.{HasReplayed, ReplayFails, OpenFails, Opens};
 
@@ -107,6 +108,7 @@ impl<D: Disk + Drop, C: Clock + Drop> Desk<D, C> {
 
         // The desk stands for no call yet, from a history on; of an honest disk, that of the journal file that it reads.
         ensures opens { IfOk result (λ desk. Opens D.honest D.state D.moment D.had_since D.fault_count disk clock limit desk) }
+        ensures ready { IfOk result (λ desk. IsReady D.honest D.state desk) }
 
         // Where it is not opened the bytes that are read tell why, but for a failing disk and want of memory.
         ensures fails { IsTrue D.honest → IfErr result (λ e. OpenFails e.0 (D.state disk).journal.seen) }

@@ -15,6 +15,6 @@ returns-in-Ok-clause-adds g c before e fits spelled end rest =
       λ tells. (
         c.in-Ok.ensures.acknowledged tells header before e fits spelled (inner tells),
         subst (λ (s : Seat g.row.D.Denot g.row.C.Denot). KeepsTo d.state d.moment d.had_since s.disk c.append.new.self.disk (BeforeOrAfter header before e (d.state s.disk))) c.self.view_is
-        (c.in-Ok.ensures.any_moment tells header before e fits spelled (inner tells)),
+            (c.in-Ok.ensures.any_moment tells header before e fits spelled (inner tells)),
       ),
     )
