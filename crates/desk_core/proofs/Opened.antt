@@ -1,12 +1,11 @@
 -- A desk that was opened.
-use Rattle.std.proofs.Common.{◌≡◌, ◌⊎◌, ℕ, ◌≤◌, Bool, false, List, [], length, Option, Some, refl, sym, ap, ◌∙◌, subst, arith}
+use Rattle.std.proofs.Common.{◌≡◌, ℕ, ◌≤◌, Bool, false, List, length, refl, ap, ◌∙◌, subst, arith}
 use Rattle.std.specs.Prelude.{IsTrue}
 use Rattle.disk_core.specs.Files.{State, File, IsImage, synced_file}
 use Rattle.disk_core.specs.Kept.{Narrower}
 use Rattle.disk_core.specs.Moments.{KeepsTo, Untouched}
 use Rattle.disk_core.proofs.Time.{then_untouched}
 use Rattle.plain_office.specs.Run.{run}
-use Rattle.plain_office.specs.declared.command.Entry.{Entry}
 use Rattle.meter_journal.specs.History.{header, HasEntries, IsAtRest}
 use Rattle.meter_journal.specs.Reading.{IsMade}
 use Rattle.meter_journal.proofs.History.{each_image}

@@ -55,16 +55,15 @@ fn logs_and(alloc: Global, frame: &[u8]) -> Result<Vec<u8>, Fail> {
     Ok(bytes)
 }
 
-fn desk_over(
+fn desk_over<D: Disk + Drop, C: Clock + Drop>(
     alloc: Global,
-    disk: MemoryDisk,
-    number: u64,
+    disk: D,
+    clock: C,
     limit: u64,
-) -> Result<Desk<MemoryDisk, ListClock>, Fail>
+) -> Result<Desk<D, C>, Fail>
     requires { limit ≤ 2 ^ 45 }
-    ensures { IfOk result (λ desk. IsReady MemoryDisk.honest MemoryDisk.state desk) }
+    ensures { IfOk result (λ desk. IsReady D.honest D.state desk) }
 {
-    let clock = ListClock::new(vec![in alloc; number]?);
     match Desk::open(alloc, disk, clock, limit) {
         Ok(desk) => Ok(desk),
         Err((fault, _, _)) => Err(Fail::from(fault)),
@@ -78,10 +77,29 @@ fn bucket(alloc: Global, name: &str) -> Result<Ask, Fail> {
 }
 
 // Whether the bucket was made, and the position.
-fn told(said: &Result<Acked, DeskFault>) -> Result<(bool, u64), DeskFault> {
+type Said = Result<(bool, u64), DeskFault>;
+
+fn told(said: &Result<Acked, DeskFault>) -> Said {
     match said {
         Ok(acked) => Ok((acked.reply().is_ok(), acked.position())),
         Err(fault) => Err(*fault),
+    }
+}
+
+// What a desk over this disk says to the ask, and whether it is stale then; and the disk.
+fn ask_once<D: Disk + Drop, C: Clock + Drop>(
+    alloc: Global,
+    disk: D,
+    clock: C,
+    ask: &Ask,
+) -> (Result<(Said, bool), OpenFault>, D) {
+    match Desk::open(alloc, disk, clock, 100) {
+        Err((fault, disk, _)) => (Err(fault), disk),
+        Ok(mut desk) => {
+            let said = told(&desk.submit(ask));
+            let stale = desk.stale();
+            (Ok((said, stale)), desk.close().0)
+        }
     }
 }
 
@@ -105,7 +123,8 @@ fn a_bucket_is_made_once_and_within_the_limit(rt: HostRuntime) -> Result<(), Fai
         (u64::MAX, 31, Ok((true, 30)), full, &LATE[..]),
     ] {
         let disk = disk_with(alloc, &EMPTY, &[])?;
-        let mut desk = desk_over(alloc, disk, number, limit)?;
+        let clock = ListClock::new(vec![in alloc; number]?);
+        let mut desk = desk_over(alloc, disk, clock, limit)?;
         let ask = bucket(alloc, "logs")?;
         let said = desk.submit(&ask);
         assert!(rt; !desk.stale());
@@ -147,7 +166,7 @@ fn a_journal_is_opened_where_the_office_accepts_it(rt: HostRuntime) -> Result<()
             }
         };
         assert_eq!(rt; None, fault);
-        let end = file.len() as u64 - 1;
+        let end = (file.len() as u64).saturating_sub(1);
         let said = desk.submit(&bucket(alloc, "logs")?);
         assert_eq!(rt; told(&said), Ok((false, end)));
         assert!(rt; !desk.stale());
@@ -165,35 +184,28 @@ fn a_journal_is_opened_where_the_office_accepts_it(rt: HostRuntime) -> Result<()
 fn a_fault_of_the_store_is_told(rt: HostRuntime) -> Result<(), Fail> {
     let alloc = rt.alloc();
     let ask = bucket(alloc, "logs")?;
-    // Calls 2 to 5 open the journal: a sync, the length, the head, the first gate. Calls 6 to 11 add the entry: three writes, a
-    // sync, the gate, a sync.
+    // Calls 2 to 5 open the journal: a sync, the length, the head, the first gate. Calls 6 to 11 add the entry: three
+    // writes, a sync, the gate, a sync.
     for call in 2..12 {
         let disk = disk_with(alloc, &EMPTY, &[call])?;
         let clock = ListClock::new(vec![in alloc; J0]?);
-        let mut disk = match Desk::open(alloc, disk, clock, 100) {
-            Err((fault, disk, _)) => {
-                assert!(rt; call < 6, "call {call}");
-                assert_eq!(rt; fault, OpenFault::StoreFault);
-                assert_eq!(rt; disk.faults(), 1);
-                disk
-            }
-            Ok(mut desk) => {
-                assert!(rt; 5 < call, "call {call}");
-                let said = desk.submit(&ask);
-                let failed = DeskFault::StoreFault {
-                    told: Some(J0),
-                    faults: 1,
-                };
-                assert_eq!(rt; told(&said), Err(failed), "call {call}");
-                assert!(rt; desk.stale(), "call {call}");
-                desk.close().0
-            }
+        let (said, mut disk) = ask_once(alloc, disk, clock, &ask);
+        let failed = DeskFault::StoreFault {
+            told: Some(J0),
+            faults: 1,
         };
+        let want = if call < 6 {
+            Err(OpenFault::StoreFault)
+        } else {
+            Ok((Err(failed), true))
+        };
+        assert_eq!(rt; said, want, "call {call}");
+        assert_eq!(rt; disk.faults(), 1, "call {call}");
         // Opened again, the office has the bucket exactly where the gate of its entry is open.
-        let is_open = read_all(alloc, &mut disk)?[10] == 0xA5;
-        let mut desk = desk_over(alloc, disk, J0, 100)?;
-        let said = desk.submit(&ask);
-        assert_eq!(rt; told(&said), Ok((!is_open, 30)), "call {call}");
+        let is_open = read_all(alloc, &mut disk)?.get(10) == Some(&0xA5);
+        let clock = ListClock::new(vec![in alloc; J0]?);
+        let (said, _) = ask_once(alloc, disk, clock, &ask);
+        assert_eq!(rt; said, Ok((Ok((!is_open, 30)), false)), "call {call}");
     }
     Ok(())
 }

@@ -1,4 +1,4 @@
-use Rattle.std.proofs.Common.{rules, ◌≡◌, ◌+◌, ◌≤◌, ◌∷◌, [], ◌++◌, List, length, sym, ap, ◌∙◌, subst, max, min, Err, IsTrue, Option, ℕ}
+use Rattle.std.proofs.Common.{rules, ◌≡◌, ◌+◌, ◌≤◌, ◌∷◌, [], ◌++◌, List, length, sym, ap, ◌∙◌, subst, max, min, Err, Option, ℕ}
 use Rattle.std.specs.Prelude.{unwrap_or}
 use Rattle.moments.specs.Time.{last_moment}
 use Rattle.disk_core.specs.declared.disk.FileNo.TheVariants.{Journal}
