@@ -1,12 +1,12 @@
 -- What the office's answer and the journal's append make of a call.
-use Rattle.std.proofs.Common.{◌≡◌, ◌⊎◌, inl, inr, ℕ, ◌+◌, ◌≤◌, Bool, true, false, List, [], ◌∷◌, ◌++◌, length, Option, Some, None, Result, Ok, Err, refl, sym, ap, ◌∙◌, subst, arith, length-append}
+use Rattle.std.proofs.Common.{◌≡◌, inl, inr, ℕ, ◌+◌, Bool, false, List, [], ◌∷◌, ◌++◌, length, Some, None, Result, Ok, Err, sym, ap, ◌∙◌, subst, arith, length-append}
 use Rattle.std.specs.Prelude.{IsTrue}
 use Rattle.office_base.specs.Faults.{Rose}
 use Rattle.disk_core.specs.Files.{State}
 use Rattle.disk_core.specs.Moments.{KeepsTo}
 use Rattle.plain_office.specs.Office.{Office}
 use Rattle.plain_office.specs.Step.{step, is_accepted, IsStep}
-use Rattle.plain_office.specs.Run.{run, accept, entry_at, is_not_before}
+use Rattle.plain_office.specs.Run.{accept, entry_at, is_not_before}
 use Rattle.plain_office.specs.declared.command.Command.{Command}
 use Rattle.plain_office.specs.declared.command.Entry.{Entry}
 use Rattle.plain_office.specs.declared.reply.Reply.{Reply}
@@ -20,7 +20,7 @@ use Rattle.desk_core.specs.declared.fault.DeskFault.{DeskFault}
 use Rattle.desk_core.specs.declared.fault.DeskFault.TheVariants as faults
 use Rattle.desk_core.specs.Answers.{Answer}
 use Rattle.desk_core.specs.Desk.{Seat, Holds}
-use Rattle.desk_core.specs.Keeping.{Replied, Grows, Stays, Fails, Adds, Keeps}
+use Rattle.desk_core.specs.Keeping.{Stays, Adds, Keeps}
 
 pub exists_is_not_memory : BucketExists ≡ NoMemory → ⊥
 exists_is_not_memory e = absurd cc

@@ -1,7 +1,7 @@
 -- Why a journal is not opened.
-use Rattle.std.proofs.Common.{◌≡◌, ◌⊎◌, ℕ, ◌+◌, ◌-◌, ◌<◌, ◌≤◌, List, [], ◌∷◌, ◌++◌, length, get_or, Bool, true, false, sym, ap, ◌∙◌, subst, refl, Option, Some, None, Result, Ok, Err, inl, inr, ⊎_elim, arith}
-use Rattle.std.specs.Prelude.{IsTrue, IsSome, option_and_then, OnOk, IfErr}
-use Rattle.disk_core.specs.Files.{State, File, IsImage, synced_file}
+use Rattle.std.proofs.Common.{◌≡◌, ◌⊎◌, ℕ, ◌+◌, ◌<◌, List, [], ◌∷◌, ◌++◌, length, get_or, Bool, true, false, sym, ap, ◌∙◌, subst, refl, Option, Some, None, Ok, Err, inl, inr, ⊎_elim, arith}
+use Rattle.std.specs.Prelude.{IsTrue, IsSome, option_and_then}
+use Rattle.disk_core.specs.Files.{State, File, synced_file}
 use Rattle.plain_office.specs.Office.{Office, empty_office}
 use Rattle.plain_office.specs.Step.{step, IsStep}
 use Rattle.plain_office.specs.Run.{run, run_from, accept, is_not_before}
@@ -9,12 +9,12 @@ use Rattle.plain_office.specs.declared.command.Entry.{Entry}
 use Rattle.plain_office.specs.declared.reply.Reply.{Reply}
 use Rattle.plain_office.specs.declared.reply.Refusal.{Refusal}
 use Rattle.plain_office.specs.declared.reply.Refusal.TheVariants as refusals
-use Rattle.plain_office.proofs.Runs.{accepted_by, refused_by, early_refused, run_more, run_none, run-push}
+use Rattle.plain_office.proofs.Runs.{accepted_by, refused_by, early_refused, run_more, run_none}
 use Rattle.meter_journal.specs.declared.fault.OpenFault.{OpenFault}
 use Rattle.meter_journal.specs.declared.fault.OpenFault.TheVariants as faults
 use Rattle.entry_codec.specs.Spelling.{Fits, spelling}
-use Rattle.meter_journal.specs.History.{whole, header, end_gate, HasEntries, IsAtRest}
-use Rattle.meter_journal.specs.Reading.{IsMade, IsNotMade, IsForeign, HeadGives, NextGives, Advances, HasPrefix, frame_at, Broken, Whole, Ended, Frame}
+use Rattle.meter_journal.specs.History.{whole, header, end_gate}
+use Rattle.meter_journal.specs.Reading.{IsMade, HeadGives, NextGives, Advances, HasPrefix, frame_at, Whole, Ended}
 use Rattle.meter_journal.proofs.Heads.{made_head, made_not_none, made_not_foreign, history_made}
 use Rattle.meter_journal.proofs.Prefix.{read_start, read_more, read_end}
 use Rattle.meter_journal.proofs.Unique.{goes_on, never_broken}

@@ -1,31 +1,23 @@
 -- A call on a desk: from what the office and the journal did to the list of calls that the desk stands for.
-use Rattle.std.proofs.Common.{◌≡◌, ◌⊎◌, inl, inr, ⊎_elim, ℕ, ◌+◌, ◌-◌, ◌^◌, ◌≤◌, min, Bool, true, false, List, [], ◌∷◌, ◌++◌, length, Option, Some, None, Result, Ok, Err, refl, sym, ap, ◌∙◌, subst, arith}
-use Rattle.std.specs.Prelude.{IsSome, IsSomeAnd, IsTrue, option_and_then}
+use Rattle.std.proofs.Common.{◌≡◌, inl, inr, ⊎_elim, ℕ, ◌≤◌, List, [], ◌∷◌, ◌++◌, Option, Some, Result, Ok, Err, refl, sym, subst, arith}
+use Rattle.std.specs.Prelude.{IsSome, IsSomeAnd}
 use Rattle.office_base.specs.Faults.{Rose}
 use Rattle.disk_core.specs.Files.{State, IsImage}
 use Rattle.disk_core.specs.Moments.{KeepsTo}
 use Rattle.disk_core.proofs.Time.{started, weakened}
 use Rattle.plain_office.specs.Office.{Office}
-use Rattle.plain_office.specs.Step.{step, is_accepted}
-use Rattle.plain_office.specs.Run.{run, accept, entry_at}
-use Rattle.plain_office.specs.declared.command.Ask.{Ask}
-use Rattle.plain_office.specs.declared.command.Ask.TheVariants as ask
-use Rattle.plain_office.specs.declared.command.Command.{Command}
+use Rattle.plain_office.specs.Run.{run}
 use Rattle.plain_office.specs.declared.command.Entry.{Entry}
-use Rattle.plain_office.proofs.Runs.{run_more}
-use Rattle.entry_codec.specs.Spelling.{spelling}
-use Rattle.meter_journal.specs.History.{header, end_gate, HasEntries, IsAtRest, BeforeOrAfter}
+use Rattle.meter_journal.specs.History.{header, HasEntries, IsAtRest, BeforeOrAfter}
 use Rattle.meter_journal.proofs.History.{each_image}
 use Rattle.meter_journal.proofs.Unique.{entries_unique}
 use Rattle.desk_core.specs.declared.fault.DeskFault.{DeskFault}
 use Rattle.desk_core.specs.declared.fault.DeskFault.TheVariants as faults
 use Rattle.desk_core.specs.Answers.{Answer, Call}
-use Rattle.desk_core.specs.Calls.{Legal, IsLegal, FitsIn, IsFull, moment_after, faults_after}
-use Rattle.desk_core.specs.Histories.{HasHistory, HasImageOf}
-use Rattle.desk_core.specs.Serving.{Opened, AreToldBy, IsToldBy, Serves}
-use Rattle.desk_core.specs.Desk.{Seat, Holds, StandsFor, IsStamped}
-use Rattle.desk_core.specs.Keeping.{Replied, Grows, Stays, Fails, Keeps}
-use Rattle.desk_core.proofs.OneMore.{last_faults, InCall, IsKept, Makes, one_more, legal_append, told_more}
+use Rattle.desk_core.specs.Calls.{Legal, IsLegal, faults_after}
+use Rattle.desk_core.specs.Histories.{HasHistory}
+use Rattle.desk_core.specs.Serving.{AreToldBy, IsToldBy}
+use Rattle.desk_core.proofs.OneMore.{HasImageOf, last_faults, InCall, IsKept, Makes}
 
 -- ---- one call alone
 

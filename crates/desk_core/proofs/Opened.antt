@@ -1,20 +1,24 @@
 -- A desk that was opened.
-use Rattle.std.proofs.Common.{◌≡◌, ◌⊎◌, ℕ, ◌≤◌, Bool, false, List, [], length, Option, Some, refl, sym, ap, ◌∙◌, subst, arith}
+use Rattle.std.proofs.Common.{◌≡◌, ℕ, ◌≤◌, Bool, false, List, length, refl, ap, ◌∙◌, subst, arith}
 use Rattle.std.specs.Prelude.{IsTrue}
 use Rattle.disk_core.specs.Files.{State, File, IsImage, synced_file}
 use Rattle.disk_core.specs.Kept.{Narrower}
 use Rattle.disk_core.specs.Moments.{KeepsTo, Untouched}
 use Rattle.disk_core.proofs.Time.{then_untouched}
 use Rattle.plain_office.specs.Run.{run}
-use Rattle.plain_office.specs.declared.command.Entry.{Entry}
 use Rattle.meter_journal.specs.History.{header, HasEntries, IsAtRest}
 use Rattle.meter_journal.specs.Reading.{IsMade}
 use Rattle.meter_journal.proofs.History.{each_image}
 use Rattle.desk_core.specs.Histories.{HasHistory}
-use Rattle.desk_core.specs.Desk.{Seat}
+use Rattle.desk_core.specs.Desk.{Seat, IsReady}
 use Rattle.desk_core.specs.Opening.{HasReplayed, Opens, opened_with}
 use Rattle.desk_core.proofs.Keeping.{rest_image, unique}
 use Rattle.desk_core.proofs.OneMore.{starts}
+
+-- it takes a call
+pub takes_calls : {D C : Type 0} (honest : Bool) (state : D → State) (moment : D → ℕ) (had_since : D → ℕ → State → Type 0) (fault_count : D → ℕ) (disk : D) (clock : C) (limit : ℕ) (desk : Seat D C)
+    → Opens honest state moment had_since fault_count disk clock limit desk → IsReady honest state desk
+takes_calls honest state moment had_since fault_count disk clock limit desk opens = record { fresh = opens.fresh; history = opens.stands.history; holds = opens.stands.holds opens.fresh }
 
 module _ {D : Type 0} {C : Type 0} (honest : Bool) (state : D → State) (moment : D → ℕ) (had_since : D → ℕ → State → Type 0) (fault_count : D → ℕ)
     (only_now : (disk : D) (s : State) → had_since disk (moment disk) s → s ≡ state disk)

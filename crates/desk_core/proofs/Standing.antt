@@ -1,27 +1,25 @@
 -- The list of calls that a desk stands for grows by each call.
-use Rattle.std.proofs.Common.{◌≡◌, ◌⊎◌, inl, inr, ⊎_elim, ℕ, ◌+◌, ◌≤◌, Bool, true, false, ◌&&◌, List, [], ◌∷◌, ◌++◌, length, Option, Some, None, Result, Ok, Err, refl, sym, ap, ◌∙◌, subst, arith}
+use Rattle.std.proofs.Common.{◌≡◌, inl, inr, ⊎_elim, ℕ, ◌+◌, ◌≤◌, Bool, true, false, ◌&&◌, List, [], ◌∷◌, ◌++◌, length, Some, None, Result, Ok, Err, refl, sym, ap, ◌∙◌, subst, arith}
 use Rattle.std.specs.Prelude.{IsTrue, if◌then◌else◌}
-use Rattle.std.specs.Int.{w64, to_be_bytes}
 use Rattle.office_base.specs.Faults.{Rose}
 use Rattle.disk_core.specs.Files.{State, IsImage}
-use Rattle.disk_core.specs.Moments.{KeepsTo}
 use Rattle.plain_office.specs.Office.{Office}
 use Rattle.plain_office.specs.Step.{step, is_accepted}
-use Rattle.plain_office.specs.Run.{run, accept, entry_at, is_not_before}
+use Rattle.plain_office.specs.Run.{accept, entry_at, is_not_before}
 use Rattle.plain_office.specs.declared.command.Ask.{Ask}
 use Rattle.plain_office.specs.declared.command.Ask.TheVariants as ask
 use Rattle.plain_office.specs.declared.command.Command.{Command}
 use Rattle.plain_office.specs.declared.command.Entry.{Entry}
 use Rattle.plain_office.proofs.Runs.{run_more}
 use Rattle.entry_codec.specs.Spelling.{spelling}
-use Rattle.meter_journal.specs.History.{header, end_gate, IsAtRest, BeforeOrAfter}
+use Rattle.meter_journal.specs.History.{header, end_gate, IsAtRest}
 use Rattle.meter_journal.proofs.History.{each_image}
 use Rattle.desk_core.specs.declared.fault.DeskFault.{DeskFault}
 use Rattle.desk_core.specs.declared.fault.DeskFault.TheVariants as faults
 use Rattle.desk_core.specs.Answers.{Answer, Call}
 use Rattle.desk_core.specs.Calls.{Legal, IsLegal, IsReply, GrowsBy, FitsIn, IsFull, moment_after}
 use Rattle.desk_core.specs.Serving.{Opened, IsToldBy}
-use Rattle.desk_core.specs.Desk.{Seat, Holds, IsReady, StandsFor, GoesOn, HasStoreReason, is_store_fault}
+use Rattle.desk_core.specs.Desk.{Seat, Holds, IsReady, StandsFor, GoesOn, HasStoreReason, PassesLimit, is_store_fault}
 use Rattle.desk_core.specs.Keeping.{Replied, Grows, Stays, Fails, Keeps}
 use Rattle.desk_core.proofs.Keeping.{one_legal, rose_from, last_below, unique, makes_still, makes_grown, makes_failed}
 use Rattle.desk_core.proofs.OneMore.{last_faults, IsKept, Makes, one_more, recoverable, legal_append, told_more}
@@ -57,6 +55,10 @@ same_size t u command = omega arith
 
 full_at : (limit t end size : ℕ) (command : Command) (before : List Entry) → end ≡ end_gate header before → size ≡ length (spelling (entry_at t command)) → (end + 6 + size ≤ limit → ⊥) → IsFull limit (ask.Command command) before
 full_at limit t end size command before is_end is_size full fits = full (omega (arith, is_end, is_size, same_size t 0 command, fits))
+
+-- a frame that fits at one moment passes the limit at none
+pub too_long : (gate limit size t : ℕ) (command : Command) → size ≡ length (spelling (entry_at t command)) → gate + 6 + size ≤ limit → PassesLimit gate limit (ask.Command command) → ⊥
+too_long gate limit size t command is_size fits long = omega (arith, is_size, same_size t 0 command, fits, long)
 
 still_true : (b : Bool) → b ≡ true → b ≡ false → ⊥
 still_true true is not = absurd cc
@@ -214,7 +216,7 @@ module _ {D : Type 0} {C : Type 0} (honest : Bool) (state : D → State) (moment
   pub reason_of : (t number : ℕ) (command : Command) (before : List Entry) (old new : Seat D C) (said : Result Answer DeskFault) → t ≡ moment_after number old.office
       → Keeps honest state moment had_since fault_count t number command before old new said → HasStoreReason said (ask.Command command) old.office (fault_count old.disk) (fault_count new.disk)
   reason_of t number command before old new (Ok answer) at keeps = tt
-  reason_of t number command before old new (Err (faults.StoreFault (Some told) count)) at keeps = (
+  reason_of t number command before old new (Err (faults.StoreFault (Some its) count)) at keeps = (
     keeps.2.rose,
     keeps.1,
     subst (λ (m : ℕ). IsTrue (is_accepted (step m command old.office).1)) (at ∙ ap (λ (n : ℕ). moment_after n old.office) (sym keeps.0)) (accepted_step old.office keeps.2.accepted.0 (entry_at t command) keeps.2.accepted.1),

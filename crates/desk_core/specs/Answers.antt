@@ -5,7 +5,8 @@ use Rattle.plain_office.specs.declared.reply.Reply.{Reply}
 use Rattle.plain_office.specs.declared.reply.Refusal.{Refusal}
 use Rattle.desk_core.specs.declared.fault.DeskFault.{DeskFault}
 
--- an answer: its moment, the clock's number, the reply, the offset of the journal's end gate, and the disk's moment when it was given
+-- what contracts see of an answer: the moment of its call, the number that the clock told for it, the reply, the
+-- offset of the journal's end gate behind it, in bytes, and the disk's moment at its return
 pub record Answer : Type 0 where
   pub moment : ℕ
   pub told : ℕ
@@ -13,6 +14,7 @@ pub record Answer : Type 0 where
   pub position : ℕ
   pub disk_moment : ℕ
 
+-- a call: what was asked, and what was said to it
 pub record Call : Type 0 where
   pub ask : Ask
   pub said : Result Answer DeskFault

@@ -4,7 +4,6 @@ use Rattle.office_base.specs.Faults.{Rose}
 use Rattle.moments.specs.Time.{last_moment}
 use Rattle.plain_office.specs.declared.command.Ask.{Ask}
 use Rattle.plain_office.specs.declared.command.Ask.TheVariants as ask
-use Rattle.plain_office.specs.declared.command.Command.{Command}
 use Rattle.plain_office.specs.declared.command.Entry.{Entry}
 use Rattle.plain_office.specs.declared.reply.Reply.{Reply}
 use Rattle.plain_office.specs.declared.reply.Refusal.{Refusal}
@@ -17,7 +16,8 @@ use Rattle.desk_core.specs.Answers.{Answer, Call}
 use Rattle.desk_core.specs.declared.fault.DeskFault.{DeskFault}
 use Rattle.desk_core.specs.declared.fault.DeskFault.TheVariants as faults
 
--- the later of the clock's number and the last moment; a number past the end of time counts as the last moment that there is
+-- the moment of a call: the later of the clock's number and the moment of the last accepted command; a number past
+-- the end of time counts as the last moment that there is
 abbrev pub moment_after : ℕ → Office → ℕ
 moment_after told office = min (max told (unwrap_or office.last 0)) last_moment
 
@@ -30,27 +30,30 @@ abbrev pub GrowsBy : Result Reply Refusal → Entry → List Entry → List Entr
 GrowsBy reply entry before after =
     (IsTrue (is_accepted reply) × (after ≡ before ++ entry ∷ [])) ⊎ ((is_accepted reply ≡ false) × (after ≡ before))
 
+-- the office's reply to a command at this moment, where its frame fits
 abbrev pub IsReply : ℕ → ℕ → Ask → Office → Result Reply Refusal → List Entry → List Entry → Type 0
 IsReply limit t (ask.Command command) office reply before after =
     (reply ≡ (step t command office).1) × GrowsBy reply (entry_at t command) before after × FitsIn limit before (entry_at t command)
 
--- an answer: the reply is the plain office's at the call's moment
+-- an answer is the plain office's at the call's moment, and its position is the end of the journal then
 pub record IsAnswered (limit : ℕ) (question : Ask) (office : Office) (answer : Answer) (before after : List Entry) : Type 0 where
   pub moment : answer.moment ≡ moment_after answer.told office
   pub reply : IsReply limit answer.moment question office answer.reply before after
   pub position : answer.position ≡ end_gate header after
 
--- a command that the office accepts may have been kept though its caller was told of a fault
+-- a command that the office accepts may have been kept though a fault was told; a call that read no clock kept
+-- nothing
 abbrev pub MayBeKept : Option ℕ → Ask → Office → List Entry → List Entry → Type 0
 MayBeKept (Some told) (ask.Command command) office before after =
     IsTrue (is_accepted (step (moment_after told office) command office).1) × (after ≡ before ++ entry_at (moment_after told office) command ∷ [])
 MayBeKept None question office before after = ⊥
 
--- the command's frame would pass the limit, at whatever moment
+-- the command's frame does not fit; its size is the same at each moment
 abbrev pub IsFull : ℕ → Ask → List Entry → Type 0
 IsFull limit (ask.Command command) before = ¬ FitsIn limit before (entry_at 0 command)
 
--- one call, on the office of the history before it; told is the disk's count of faults at the last fault that was told, or at the opening
+-- one call, on the office of the history before it; told is the disk's count of faults that the last fault of the
+-- store told, and before the first one that of the opening
 abbrev pub IsLegal : ℕ → ℕ → Ask → Result Answer DeskFault → Office → List Entry → List Entry → Type 0
 IsLegal limit told question (Ok answer) office before after = IsAnswered limit question office answer before after
 IsLegal limit told question (Err (faults.StoreFault number count)) office before after =
@@ -58,6 +61,7 @@ IsLegal limit told question (Err (faults.StoreFault number count)) office before
 IsLegal limit told question (Err faults.JournalFull) office before after = IsFull limit question before × (after ≡ before)
 IsLegal limit told question (Err faults.NoMemory) office before after = after ≡ before
 
+-- the count of faults that was told last, after one more call
 abbrev pub faults_after : ℕ → Result Answer DeskFault → ℕ
 faults_after told (Ok answer) = told
 faults_after told (Err (faults.StoreFault number count)) = count

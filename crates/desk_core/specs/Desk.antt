@@ -1,15 +1,16 @@
 -- What a desk stands for, and what a call does to it.
-use Rattle.std.specs.Prelude.{◌≡◌, ◌⊎◌, ℕ, ◌-◌, ◌^◌, ◌<◌, ◌≤◌, Bool, true, false, List, [], ◌∷◌, ◌++◌, Option, Some, None, Result, Ok, Err, IsTrue}
+use Rattle.std.specs.Prelude.{◌≡◌, ◌⊎◌, ℕ, ◌+◌, ◌-◌, ◌^◌, ◌<◌, ◌≤◌, Bool, true, false, List, [], ◌∷◌, ◌++◌, length, Option, Some, None, Result, Ok, Err, IsTrue}
 use Rattle.std.specs.Io.KnownBytes.{Appends}
 use Rattle.office_base.specs.Faults.{Rose}
 use Rattle.disk_core.specs.Files.{State}
 use Rattle.disk_core.specs.Moments.{KeepsTo}
 use Rattle.plain_office.specs.Office.{Office}
 use Rattle.plain_office.specs.Step.{step, is_accepted}
-use Rattle.plain_office.specs.Run.{run}
+use Rattle.plain_office.specs.Run.{run, entry_at}
 use Rattle.plain_office.specs.declared.command.Ask.{Ask}
 use Rattle.plain_office.specs.declared.command.Ask.TheVariants as ask
 use Rattle.plain_office.specs.declared.command.Entry.{Entry}
+use Rattle.entry_codec.specs.Spelling.{spelling}
 use Rattle.meter_journal.specs.History.{header, end_gate, IsAtRest}
 use Rattle.desk_core.specs.Answers.{Answer, Call}
 use Rattle.desk_core.specs.Calls.{Legal, moment_after}
@@ -17,8 +18,8 @@ use Rattle.desk_core.specs.Serving.{Opened, AreToldBy, Recoverable, Serves}
 use Rattle.desk_core.specs.declared.fault.DeskFault.{DeskFault}
 use Rattle.desk_core.specs.declared.fault.DeskFault.TheVariants as faults
 
--- what contracts see of a desk: its disk and clock, its office, the offset of the journal's end gate, the journal's limit, and
--- whether a call was told a fault of the store
+-- what contracts see of a desk: its disk and clock, its office, the offset of the journal's end gate and the
+-- journal's limit, both in bytes, and whether a call was told a fault of the store
 pub record Seat (D C : Type 0) : Type 0 where
   pub disk : D
   pub clock : C
@@ -27,7 +28,7 @@ pub record Seat (D C : Type 0) : Type 0 where
   pub limit : ℕ
   pub stale : Bool
 
--- the desk holds the office after this history, and the end of its journal; where the disk is honest the journal lies on it
+-- the desk holds the office after this history, and the end of its journal; an honest disk holds that journal, synced
 pub record Holds {D C : Type 0} (honest : Bool) (state : D → State) (history : List Entry) (desk : Seat D C) : Type 0 where
   pub office : run history ≡ Some desk.office
   pub end : desk.gate ≡ end_gate header history
@@ -39,14 +40,15 @@ pub record IsReady {D C : Type 0} (honest : Bool) (state : D → State) (desk : 
   pub history : List Entry
   pub holds : Holds honest state history desk
 
+-- a fault of the store was told
 abbrev pub is_store_fault : Result Answer DeskFault → Bool
 is_store_fault (Ok answer) = false
 is_store_fault (Err (faults.StoreFault number count)) = true
 is_store_fault (Err faults.JournalFull) = false
 is_store_fault (Err faults.NoMemory) = false
 
--- The desk stands for a list of calls since its opening: they are legal up to the history that it holds, on every disk; and an
--- honest disk serves them, at every moment.
+-- The desk stands for a list of calls since its opening. On every disk they are legal, and lead to the history that
+-- the desk holds until a fault of the store is told; an honest disk serves them at every moment.
 pub record StandsFor {D C : Type 0} (honest : Bool) (state : D → State) (moment : D → ℕ) (had_since : D → ℕ → State → Type 0) (fault_count : D → ℕ)
     (opened : Opened) (calls : List Call) (desk : Seat D C) : Type 0 where
   pub limit : desk.limit ≡ opened.limit
@@ -56,14 +58,15 @@ pub record StandsFor {D C : Type 0} (honest : Bool) (state : D → State) (momen
   pub holds : desk.stale ≡ false → Holds honest state history desk
   pub serves : IsTrue honest → Serves state moment had_since fault_count opened desk.disk calls
 
--- the desk went on from this disk: it stands for these calls, and at every moment since each image has the history after the
--- first of them
+-- the desk went on from this disk: it stands for these calls, and at every moment since, each image has the history
+-- after some number of the first of them
 pub record GoesOn {D C : Type 0} (honest : Bool) (state : D → State) (moment : D → ℕ) (had_since : D → ℕ → State → Type 0) (fault_count : D → ℕ)
     (opened : Opened) (calls : List Call) (first : D) (desk : Seat D C) : Type 0 where
   pub stands : StandsFor honest state moment had_since fault_count opened calls desk
   pub any_moment : IsTrue honest → KeepsTo state moment had_since first desk.disk (Recoverable opened calls)
 
--- the clock's number of a call stands in its answer, and in a fault of the store; of the others one number may have been told
+-- one number was told for an answer, and for a fault of the store the one that stands in it; for the others one may
+-- have been told
 abbrev pub IsNumber : Option (List ℕ) → Option (List ℕ) → Result Answer DeskFault → Type 0
 IsNumber before after (Ok answer) = Appends before after (answer.told ∷ [])
 IsNumber before after (Err (faults.StoreFault (Some number) count)) = Appends before after (number ∷ [])
@@ -71,14 +74,23 @@ IsNumber before after (Err (faults.StoreFault None count)) = Appends before afte
 IsNumber before after (Err faults.JournalFull) = Appends before after [] ⊎ ((number : ℕ) × Appends before after (number ∷ []))
 IsNumber before after (Err faults.NoMemory) = Appends before after [] ⊎ ((number : ℕ) × Appends before after (number ∷ []))
 
--- the disk is left alone but for a command that the office accepts
+-- the last number that the clock told is that of the answer, or of the fault of the store
+abbrev pub IsLast : ℕ → Result Answer DeskFault → Type 0
+IsLast last (Ok answer) = answer.told ≡ last
+IsLast last (Err (faults.StoreFault (Some number) count)) = number ≡ last
+IsLast last (Err (faults.StoreFault None count)) = Unit {0}
+IsLast last (Err faults.JournalFull) = Unit {0}
+IsLast last (Err faults.NoMemory) = Unit {0}
+
+-- the disk is left alone, but for a command that the office accepts
 abbrev pub LeavesDisk : {D : Type 0} → Result Answer DeskFault → D → D → Type 0
 LeavesDisk (Ok answer) before after = is_accepted answer.reply ≡ false → after ≡ before
 LeavesDisk (Err (faults.StoreFault number count)) before after = Unit {0}
 LeavesDisk (Err faults.JournalFull) before after = after ≡ before
 LeavesDisk (Err faults.NoMemory) before after = after ≡ before
 
--- a fault of the store comes only where the disk failed, and only for a command that the office accepts
+-- a fault of the store comes only where the disk failed in the call, and only for a command that the office accepts;
+-- the count that it tells is the disk's at the return
 abbrev pub HasStoreReason : Result Answer DeskFault → Ask → Office → ℕ → ℕ → Type 0
 HasStoreReason (Err (faults.StoreFault (Some number) count)) (ask.Command command) office before after =
     Rose before after × (count ≡ after) × IsTrue (is_accepted (step (moment_after number office) command office).1)
@@ -87,7 +99,11 @@ HasStoreReason (Ok answer) question office before after = Unit {0}
 HasStoreReason (Err faults.JournalFull) question office before after = Unit {0}
 HasStoreReason (Err faults.NoMemory) question office before after = Unit {0}
 
--- an answer has the end and the disk's moment of the return
+-- the frame of this command, with the gate behind it, would end past the limit
+abbrev pub PassesLimit : ℕ → ℕ → Ask → Type 0
+PassesLimit gate limit (ask.Command command) = limit < gate + 6 + length (spelling (entry_at 0 command))
+
+-- an answer has the end of the journal and the disk's moment at its return
 abbrev pub IsStamped : Result Answer DeskFault → ℕ → ℕ → Type 0
 IsStamped (Ok answer) end moment = (answer.position ≡ end) × (answer.disk_moment ≡ moment)
 IsStamped (Err fault) end moment = Unit {0}

@@ -1,24 +1,14 @@
 -- What an image of the journal file stands for.
 use Rattle.std.specs.Prelude.{◌≡◌, ◌⊎◌, ℕ, List, ◌++◌, ◌∷◌, [], IsSome}
-use Rattle.disk_core.specs.Files.{State, IsImage}
 use Rattle.plain_office.specs.declared.command.Entry.{Entry}
 use Rattle.plain_office.specs.Run.{run}
 use Rattle.meter_journal.specs.History.{header, HasEntries}
 
--- the image has these entries from its first gate on, up to the first one that is not open, and the office accepts each at its place
+-- the image has these entries from its first gate on, up to the first gate that is not open, and the office accepts
+-- each at its place
 pub record HasHistory (history : List Entry) (image : List ℕ) : Type 0 where
   pub entries : HasEntries header history image
   pub accepted : IsSome (run history)
-
--- each image of the journal file has a history
-abbrev pub IsSound : State → Type 0
-IsSound s = (image : List ℕ) → IsImage s.journal image → (history : List Entry) × HasHistory history image
-
--- some image of the journal file has this history
-pub record HasImageOf (s : State) (history : List Entry) : Type 0 where
-  pub image : List ℕ
-  pub is_image : IsImage s.journal image
-  pub has : HasHistory history image
 
 -- the second begins with the first
 abbrev pub Begins : List Entry → List Entry → Type 0

@@ -1,5 +1,5 @@
 -- What a call does once its moment is told and its entry is spelled and fits.
-use Rattle.std.specs.Prelude.{◌≡◌, ◌⊎◌, ℕ, Bool, false, List, [], ◌∷◌, ◌++◌, Option, Some, None, Result, Ok, Err, IsTrue}
+use Rattle.std.specs.Prelude.{◌≡◌, ◌⊎◌, ℕ, Bool, false, List, [], ◌∷◌, ◌++◌, Some, None, Result, Ok, Err, IsTrue}
 use Rattle.office_base.specs.Faults.{Rose}
 use Rattle.disk_core.specs.Files.{State}
 use Rattle.disk_core.specs.Moments.{KeepsTo}
@@ -40,7 +40,7 @@ module _ {D C : Type 0} (honest : Bool) (state : D → State) (moment : D → �
     pub run : IsTrue honest → KeepsTo state moment had_since old.disk new.disk (BeforeOrAfter header before entry (state old.disk))
     pub rose : Rose (fault_count old.disk) (fault_count new.disk)
 
-  -- what adding an entry does, whose reply this is: the entry is there, or the disk failed
+  -- what adding the entry of a command does, to which this is the reply: the entry is there, or the disk failed
   abbrev pub Adds : ℕ → ℕ → Result Reply Refusal → List Entry → Entry → Seat D C → Seat D C → Result Answer DeskFault → Type 0
   Adds t number reply before entry old new (Ok answer) =
       (answer ≡ record { moment = t; told = number; reply = reply; position = new.gate; disk_moment = moment new.disk })
@@ -53,7 +53,7 @@ module _ {D C : Type 0} (honest : Bool) (state : D → State) (moment : D → �
   Adds t number reply before entry old new (Err faults.JournalFull) = ⊥
   Adds t number reply before entry old new (Err faults.NoMemory) = ⊥
 
-  -- what a command does
+  -- what a command does: the history grows by its entry, or nothing is written, or the disk failed
   abbrev pub Keeps : ℕ → ℕ → Command → List Entry → Seat D C → Seat D C → Result Answer DeskFault → Type 0
   Keeps t number command before old new (Ok answer) =
       Replied t number command old.office answer × IsStamped (Ok answer) new.gate (moment new.disk)

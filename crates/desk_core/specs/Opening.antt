@@ -14,8 +14,9 @@ use Rattle.desk_core.specs.Histories.{HasHistory}
 use Rattle.desk_core.specs.Serving.{Opened}
 use Rattle.desk_core.specs.Desk.{Seat, StandsFor}
 
--- damaged at this gate, and at none before it: entries that the office accepts stand before the gate, and at it stands no whole
--- frame though it is open, or nothing, or an entry that the office does not accept there
+-- Damaged at this gate, and at none before it: before the gate stand entries that the office accepts. The file ends
+-- before the gate, or the gate is open and no whole frame stands there, or an entry that the office does not accept
+-- at its place.
 pub record IsDamagedAt (at : ℕ) (file : List ℕ) : Type 0 where
   pub made : IsMade file
   pub history : List Entry
@@ -24,7 +25,7 @@ pub record IsDamagedAt (at : ℕ) (file : List ℕ) : Type 0 where
   pub is_run : run history ≡ Some office
   pub breaks : (frame_at at file ≡ Broken) ⊎ ((entry : Entry) × (next : ℕ) × (frame_at at file ≡ Whole entry next) × (accept office entry ≡ None))
 
--- why a journal file is not opened
+-- why a journal file of these bytes is not opened; a failing disk and want of memory are no fault of the bytes
 abbrev pub OpenFails : OpenFault → List ℕ → Type 0
 OpenFails faults.NotMade file = IsNotMade file
 OpenFails faults.Foreign file = IsForeign file
@@ -54,12 +55,12 @@ pub record HasReplayed {D : Type 0} (honest : Bool) (state : D → State) (old n
   pub end : gate ≡ end_gate header history
   pub at_rest : IsTrue honest → (file : List ℕ) → (state old).journal ≡ synced_file file → IsMade file → IsAtRest header (state new) gate history
 
--- what is kept of the opening of this desk, whose journal had this history
+-- what is kept of the opening of this desk, which read this history
 abbrev pub opened_with : {D C : Type 0} → (D → ℕ) → (D → ℕ) → List Entry → Seat D C → Opened
 opened_with moment fault_count history desk = record { history = history; limit = desk.limit; faults = fault_count desk.disk; moment = moment desk.disk }
 
--- A desk that was opened on this disk: it stands for no call yet, from a history on; an honest disk read that history, and every
--- image of it in between is one that it had.
+-- A desk that was opened on this disk: it stands for no call yet, from a history on. Of an honest disk that is the
+-- history of the bytes that its journal file reads, and every image since is one that it had.
 pub record Opens {D C : Type 0} (honest : Bool) (state : D → State) (moment : D → ℕ) (had_since : D → ℕ → State → Type 0) (fault_count : D → ℕ)
     (disk : D) (clock : C) (limit : ℕ) (desk : Seat D C) : Type 0 where
   pub history : List Entry

@@ -17,20 +17,22 @@ IsAckedAt [] place answer = ⊥
 IsAckedAt (call ∷ calls) zero answer = call.said ≡ Ok answer
 IsAckedAt (call ∷ calls) (suc place) answer = IsAckedAt calls place answer
 
--- the count told with a fault of the store is not above this
+-- the count that a fault of the store told is not above this
 abbrev pub IsToldBy : ℕ → Result Answer DeskFault → Type 0
 IsToldBy now (Ok answer) = Unit {0}
 IsToldBy now (Err (faults.StoreFault number count)) = count ≤ now
 IsToldBy now (Err faults.JournalFull) = Unit {0}
 IsToldBy now (Err faults.NoMemory) = Unit {0}
 
+-- of each call
 abbrev pub AreToldBy : ℕ → List Call → Type 0
 AreToldBy now [] = Unit {0}
 AreToldBy now (call ∷ calls) = IsToldBy now call.said × AreToldBy now calls
 
 -- ---- an opening
 
--- what is kept of an opening: the history that was read, the limit, and the disk's count of faults and its moment at the return
+-- what is kept of an opening: the history that was read, the limit in bytes, and the disk's count of faults and its
+-- moment at the return
 pub record Opened : Type 0 where
   pub history : List Entry
   pub limit : ℕ
@@ -39,8 +41,8 @@ pub record Opened : Type 0 where
 
 -- ---- what a crash leaves
 
--- Left by a crash at this moment or later: the image stands for the history after the first calls of the list, and these hold
--- each call that was acknowledged by then.
+-- Left by a crash at this moment or later: the image has the history after some number of the first calls, and each
+-- call that was acknowledged by then is among them.
 pub record Recovers (opened : Opened) (calls : List Call) (moment : ℕ) (image : List ℕ) : Type 0 where
   pub history : List Entry
   pub has : HasHistory history image
@@ -49,7 +51,7 @@ pub record Recovers (opened : Opened) (calls : List Call) (moment : ℕ) (image 
   pub legal : Legal opened.limit opened.faults (take count calls) opened.history history
   pub acked : (place : ℕ) (answer : Answer) → IsAckedAt calls place answer → answer.disk_moment ≤ moment → place < count
 
--- the image stands for the history after the first calls of the list
+-- the image has the history after some number of the first calls
 abbrev pub HasFront : Opened → List Call → List ℕ → Type 0
 HasFront opened calls image =
     (history : List Entry) × (count : ℕ) × HasHistory history image × (count ≤ length calls) × Legal opened.limit opened.faults (take count calls) opened.history history
@@ -59,7 +61,7 @@ abbrev pub Recoverable : Opened → List Call → State → Type 0
 Recoverable opened calls s = (image : List ℕ) → IsImage s.journal image → HasFront opened calls image
 
 module _ {D : Type 0} (state : D → State) (moment : D → ℕ) (had_since : D → ℕ → State → Type 0) (fault_count : D → ℕ) where
-  -- From an acknowledgement on all images agree on the entries below its position.
+  -- From an answer's moment on the history of every image begins with the same entries, which end at its position.
   pub record Agrees (disk : D) (answer : Answer) : Type 0 where
     pub entries : List Entry
     pub place : end_gate header entries ≡ answer.position
@@ -72,11 +74,11 @@ module _ {D : Type 0} (state : D → State) (moment : D → ℕ) (had_since : D 
     -- at every moment since the opening, and of every image
     pub left : (t : ℕ) (s : State) (image : List ℕ) → opened.moment ≤ t → t ≤ moment disk → had_since disk t s → IsImage s.journal image → Recovers opened calls t image
     pub agrees : (place : ℕ) (answer : Answer) → IsAckedAt calls place answer → Agrees disk answer
-    -- now the whole list
+    -- of every image now the calls are all there
     pub whole : (image : List ℕ) (history : List Entry) → IsImage (state disk).journal image → HasHistory history image → Legal opened.limit opened.faults calls opened.history history
-    -- what a crash left or leaves is there still, but for one entry at its end
+    -- what a crash would have left is there still, but for one entry at its end
     pub steady : (t : ℕ) (s : State) (image : List ℕ) (history : List Entry) → opened.moment ≤ t → t ≤ moment disk → had_since disk t s → IsImage s.journal image → HasHistory history image
         → (image_now : List ℕ) (history_now : List Entry) → IsImage (state disk).journal image_now → HasHistory history_now image_now → BeginsButOne history history_now
-    -- moments and counts that were told are none to come
+    -- no moment or count that was told is one to come
     pub told : (place : ℕ) (answer : Answer) → IsAckedAt calls place answer → (opened.moment ≤ answer.disk_moment) × (answer.disk_moment ≤ moment disk)
     pub faults : (opened.faults ≤ fault_count disk) × AreToldBy (fault_count disk) calls

@@ -8,6 +8,8 @@ use std::marker::Model;
 use std::snapshot::Snapshot;
 
 /// An answer of the office, given once its effect is on the disk. Only a desk makes one.
+///
+/// Its moment, the clock's number and the disk's moment are for contracts alone.
 #[derive(Drop)]
 pub struct Acked {
     moment: Moment,
@@ -57,7 +59,9 @@ impl Acked {
         &self.reply
     }
 
-    /// Reads the offset of the journal's end gate, in bytes from the file's start: the answer holds for every longer journal.
+    /// Reads the offset of the journal's end gate at the answer, in bytes from the file's start.
+    ///
+    /// Every later image of the journal begins with the entries before it.
     pub fn position(&self) -> u64
         ensures { result ≡ self.now.position }
     {

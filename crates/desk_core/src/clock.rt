@@ -5,7 +5,7 @@ ghost use Rattle.desk_core.specs.Clocks.{number_at, numbers_told, ListNumbers};
 
 use std::time::{Clock as SystemTimes, SystemTime, UNIX_EPOCH};
 
-/// Numbers of milliseconds since 1970-01-01 00:00 UTC. A clock never fails, and may tell any number.
+/// Numbers of milliseconds since 1970-01-01 00:00 UTC. A clock never fails, may go back, and may tell any number.
 pub trait Clock {
     /// How many numbers it told, up to the greatest `u64`.
     ghost count: { Self → ℕ };
@@ -16,7 +16,7 @@ pub trait Clock {
     /// The numbers told, where the clock tells its list and has not counted to its end.
     ghost told: { Self → Option (List ℕ) };
 
-    /// Tells a number.
+    /// Tells a number, in milliseconds since 1970-01-01 00:00 UTC.
     fn now(&mut self) -> u64
         ensures count { count self.new ≡ min (count self.old + 1) (2 ^ 64 - 1) }
         ensures later { count self.old ≤ count self.new }
@@ -24,7 +24,7 @@ pub trait Clock {
         ensures told { count self.new < 2 ^ 64 - 1 → Appends (told self.old) (told self.new) (result ∷ []) };
 }
 
-/// A clock that tells the numbers of a list in order, and the last one again and again behind its end; 0 of an empty list.
+/// A clock that tells the numbers of a list in order, and then the last one again and again; 0 of an empty list.
 #[derive(Drop)]
 pub struct ListClock {
     moments: Vec<u64>,
@@ -35,7 +35,7 @@ pub struct ListClock {
 impl ListClock {
     ghost use Rattle.desk_core.specs.Clocks.{list_numbers};
 
-    /// Makes a clock that has told nothing.
+    /// Makes a clock of these numbers that has told none.
     pub fn new(moments: Vec<u64>) -> ListClock
         ensures { list_numbers result ≡ record { moments = moments.items; count = 0 } }
     {
@@ -46,6 +46,7 @@ impl ListClock {
         }
     }
 
+    // The next number.
     fn number(&self) -> u64
         ensures { result ≡ number_at self.now.moments.items self.now.count }
     {
@@ -75,7 +76,7 @@ impl Clock for ListClock {
     }
 }
 
-/// The machine's clock. Where it does not answer the number is the greatest `u64`.
+/// The machine's clock. Where it does not answer, or tells a time before 1970, the number is the greatest `u64`.
 #[derive(Drop)]
 pub struct SystemClock<T: SystemTimes + Drop> {
     times: T,
@@ -84,8 +85,12 @@ pub struct SystemClock<T: SystemTimes + Drop> {
 }
 
 impl<T: SystemTimes + Drop> SystemClock<T> {
-    /// Makes a clock that has told nothing.
-    pub fn new(times: T) -> Self {
+    ghost use Rattle.desk_core.specs.Clocks.{system_count};
+
+    /// Makes a clock that has told no number.
+    pub fn new(times: T) -> Self
+        ensures { system_count result ≡ 0 }
+    {
         SystemClock {
             times,
             count: 0,
@@ -94,6 +99,7 @@ impl<T: SystemTimes + Drop> SystemClock<T> {
     }
 }
 
+// None where the machine does not answer, or its time is before 1970 or past the greatest `u64`.
 fn milliseconds<T: SystemTimes>(times: &T) -> Option<u64> {
     let now = SystemTime::now(times).ok()?;
     let since = now.duration_since(UNIX_EPOCH).ok()?;

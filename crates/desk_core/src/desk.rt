@@ -1,5 +1,5 @@
 // An office over its journal.
-ghost use Rattle.std.specs.Prelude.{◌≡◌, ◌+◌, ◌-◌, ◌<◌, ◌≤◌, ◌^◌, ◌++◌, ◌∷◌, [], ℕ, List, length, min, max, unwrap_or, true, false, IsTrue, Some, None, Ok, Err, IfOk, IfErr, OnOk, IsErrOf};
+ghost use Rattle.std.specs.Prelude.{◌≡◌, ◌⊎◌, ◌+◌, ◌-◌, ◌<◌, ◌≤◌, ◌^◌, ◌++◌, ◌∷◌, [], ℕ, List, length, min, max, unwrap_or, true, false, IsTrue, Some, None, Ok, Err, IfOk, IfErr, OnOk, IsErrOf};
 ghost use Rattle.office_base.specs.Faults.{Rose};
 ghost use Rattle.moments.specs.Time.{last_moment};
 ghost use Rattle.disk_core.specs.Kept.{Narrower};
@@ -13,7 +13,7 @@ ghost use Rattle.entry_codec.specs.Spelling.{Fits, IsEntry, spelling};
 ghost use Rattle.meter_journal.specs.History.{header, end_gate, IsAtRest};
 ghost use Rattle.desk_core.specs.Answers.{Call};
 ghost use Rattle.desk_core.specs.Calls.{moment_after};
-ghost use Rattle.desk_core.specs.Desk.{Seat, Holds, IsReady, StandsFor, GoesOn, IsNumber, LeavesDisk, HasStoreReason, IsStamped, is_store_fault};
+ghost use Rattle.desk_core.specs.Desk.{Seat, Holds, IsReady, StandsFor, GoesOn, IsNumber, IsLast, LeavesDisk, HasStoreReason, PassesLimit, IsStamped, is_store_fault};
 ghost use Rattle.desk_core.specs.Keeping.{Adds, Keeps};
 ghost use Rattle.desk_core.specs.Serving.{Opened};
 
@@ -75,7 +75,7 @@ impl<D: Disk + Drop, C: Clock + Drop> Desk<D, C> {
         }
     }
 
-    /// Tells whether a submit was told a fault of the store. The desk then takes no further call. Takes no memory.
+    /// Tells whether a call was told a fault of the store. The desk then takes no further one. Takes no memory.
     pub fn stale(&self) -> bool
         ensures { result ≡ self.now.stale }
     {
@@ -179,13 +179,17 @@ impl<D: Disk + Drop, C: Clock + Drop> Desk<D, C> {
             → GoesOn D.honest D.state D.moment D.had_since D.fault_count opened (calls ++ record { ask = ask.now; said = result } ∷ []) self.old.disk self.new }
 
         ensures number { C.count self.new.clock < 2 ^ 64 - 1 → IsNumber (C.told self.old.clock) (C.told self.new.clock) result }
+        ensures last { IsLast (C.last self.new.clock) result }
         ensures stamped { IsStamped result self.new.gate (D.moment self.new.disk) }
         ensures quiet { LeavesDisk result self.old.disk self.new.disk }
         ensures reason { HasStoreReason result ask.now self.old.office (D.fault_count self.old.disk) (D.fault_count self.new.disk) }
+        // Where the command's frame would pass the limit nothing else is told, but want of memory.
+        ensures full { PassesLimit self.old.gate self.old.limit ask.now → (result ≡ Err DeskFault.JournalFull) ⊎ (result ≡ Err DeskFault.NoMemory) }
         ensures stale { self.new.stale ≡ is_store_fault result }
         // It takes a further call, but after a fault of the store.
         ensures ready { is_store_fault result ≡ false → IsReady D.honest D.state self.new }
         ensures limit { self.new.limit ≡ self.old.limit }
+        ensures clock_once { C.count self.new.clock ≤ C.count self.old.clock + 1 }
         ensures clock_later { C.count self.old.clock ≤ C.count self.new.clock }
         ensures disk_later { D.fault_count self.old.disk ≤ D.fault_count self.new.disk }
     {
@@ -200,34 +204,39 @@ impl<D: Disk + Drop, C: Clock + Drop> Desk<D, C> {
         self.keep(moment, told, command, &bytes)
     }
 
-    /// Makes a call: answers the ask at the later of the clock's number and the last moment. A number past the end of time
-    /// counts as the last moment that there is.
+    /// Answers an ask, once its effect is on the disk.
     ///
-    /// A command that the office accepts is added to the journal before it is answered. The desk must not be stale, and must hold
-    /// a history, as it does from its opening on.
+    /// Its moment is the later of the clock's number and the moment of the last accepted command; a number past the
+    /// end of time counts as the last moment that there is (own rule: time does not go back, whatever a clock tells).
+    /// A command that the office accepts is added to the journal before it is answered. The desk must not be stale.
     /// Cost: one search of the office, and for an accepted command the journal's append: four writes and two syncs.
     ///
     /// # Errors
     ///
-    /// `JournalFull`: the command's frame would pass the journal's limit; nothing is changed. `NoMemory`: memory ran out;
-    /// nothing is changed. `StoreFault`: the disk did not do a call; the command, which the office accepts, is in the journal as
-    /// a whole, or not at all, and the desk is stale.
+    /// `NoMemory`: memory ran out. `JournalFull`: the command's frame would pass the journal's limit, whether or not
+    /// the office would accept the command. In both nothing but the clock is changed. `StoreFault`: the disk did not do
+    /// a call; the command, which the office accepts, is in the journal as a whole or not at all, and the desk is
+    /// stale.
     pub fn submit(&mut self, ask: &Ask) -> Result<Acked, DeskFault>
         requires ready { IsReady D.honest D.state self.old }
 
-        // Whatever list of calls the desk stood for, it stands for that list with this call at its end, and so does each image
-        // of the disk at every moment of the call, with the call or without it.
+        // Whatever list of calls the desk stood for, it stands for that list with this call at its end, and each
+        // image of the disk at every moment of the call has the history after some number of its first calls.
         ensures stands { (opened : Opened) (calls : List Call) → StandsFor D.honest D.state D.moment D.had_since D.fault_count opened calls self.old
             → GoesOn D.honest D.state D.moment D.had_since D.fault_count opened (calls ++ record { ask = ask.now; said = result } ∷ []) self.old.disk self.new }
 
         ensures number { C.count self.new.clock < 2 ^ 64 - 1 → IsNumber (C.told self.old.clock) (C.told self.new.clock) result }
+        ensures last { IsLast (C.last self.new.clock) result }
         ensures stamped { IsStamped result self.new.gate (D.moment self.new.disk) }
         ensures quiet { LeavesDisk result self.old.disk self.new.disk }
         ensures reason { HasStoreReason result ask.now self.old.office (D.fault_count self.old.disk) (D.fault_count self.new.disk) }
+        // Where the command's frame would pass the limit nothing else is told, but want of memory.
+        ensures full { PassesLimit self.old.gate self.old.limit ask.now → (result ≡ Err DeskFault.JournalFull) ⊎ (result ≡ Err DeskFault.NoMemory) }
         ensures stale { self.new.stale ≡ is_store_fault result }
         // It takes a further call, but after a fault of the store.
         ensures ready { is_store_fault result ≡ false → IsReady D.honest D.state self.new }
         ensures limit { self.new.limit ≡ self.old.limit }
+        ensures clock_once { C.count self.new.clock ≤ C.count self.old.clock + 1 }
         ensures clock_later { C.count self.old.clock ≤ C.count self.new.clock }
         ensures disk_later { D.fault_count self.old.disk ≤ D.fault_count self.new.disk }
     {

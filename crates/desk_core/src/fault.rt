@@ -3,15 +3,16 @@
 /// Why a call has no answer of the office.
 #[derive(Clone, Copy, Debug, PartialEq, Eq)]
 pub enum DeskFault {
-    /// A disk call of this submit failed. The command is in the journal, or it is not.
+    /// A disk call of this submit failed. The command is in the journal as a whole, or not at all.
     StoreFault {
         /// The clock's number of this call, in milliseconds; `None` where the clock was not read.
         told: Option<u64>,
         /// The disk's count of faults at the end of the call.
         faults: u64,
     },
-    /// The command's frame would pass the journal's limit, whether or not the office would accept the command. Nothing changed.
+    /// 113: the command's frame would pass the journal's limit, whether or not the office would accept it. Nothing
+    /// changed.
     JournalFull,
-    /// Memory ran out. Nothing changed.
+    /// 115: memory ran out. Nothing changed.
     NoMemory,
 }

@@ -6,6 +6,8 @@ mod clock;
 mod desk;
 mod fault;
 mod opening;
+#[cfg(test)]
+mod tests;
 
 pub use acked::Acked;
 pub use clock::{Clock, ListClock, SystemClock};

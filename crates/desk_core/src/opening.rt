@@ -8,6 +8,7 @@ ghost use Rattle.plain_office.specs.declared.command.Entry.{Entry};
 ghost use Rattle.plain_office.specs.Office.{empty_office};
 ghost use Rattle.plain_office.specs.Run.{accept, is_not_before};
 ghost use Rattle.meter_journal.specs.Reading.{IsMade, HasStoreCause};
+ghost use Rattle.desk_core.specs.Desk.{IsReady};
 ghost use Rattle.desk_core.specs.Histories.{HasHistory};
 ghost use Rattle.desk_core.specs.Opening.{HasReplayed, ReplayFails, OpenFails, Opens};
 
@@ -29,7 +30,7 @@ fn is_in_order(last: Option<Moment>, at: Moment) -> bool
     }
 }
 
-// The office does not accept the entry at this gate, or memory ran out.
+// Why the entry at this gate is not taken: the office does not accept it, or memory ran out.
 fn refused(refusal: Refusal, gate: u64) -> OpenFault
     ensures memory { refusal ≡ Refusal.NoMemory → result ≡ OpenFault.NoMemory }
     ensures damaged { (refusal ≡ Refusal.NoMemory → ⊥) → result ≡ OpenFault.Damaged gate }
@@ -40,7 +41,7 @@ fn refused(refusal: Refusal, gate: u64) -> OpenFault
     }
 }
 
-// Makes the change of an entry again. At this gate stands an entry that the office does not accept, where it is damaged.
+// Makes the change of an entry again. Where the office does not accept it, the journal is damaged at its gate.
 #[tactic(auto, using(crate::proofs::Breaking::taken, crate::proofs::Breaking::not_taken, crate::proofs::Breaking::not_in_order))]
 fn take(office: &mut Office, entry: &Entry, gate: u64) -> Result<(), OpenFault>
     ensures ok { OnOk result (accept office.old entry.now ≡ Some office.new) }
@@ -88,15 +89,19 @@ fn replay<D: Disk>(
 }
 
 impl<D: Disk + Drop, C: Clock + Drop> Desk<D, C> {
-    /// Opens the office over its journal: syncs and reads the journal file, and makes the changes of its entries again. It
-    /// writes nothing. `limit` is that of the journal file, in bytes.
+    /// Opens the office over its journal, and makes the changes of its entries again.
+    ///
+    /// The journal file is synced and read; nothing is written, and the clock tells no number. `limit` is that of the
+    /// journal file, in bytes.
+    /// Cost: the time and memory of every entry since the journal was made.
     ///
     /// # Errors
     ///
-    /// The disk and the clock come back beside the fault. `StoreFault`: the disk did not do a call. `NotMade`, `Foreign`: as the
-    /// head of the journal file says. `Damaged` at an offset, the first of these gates: the file ends before the gate, or the
-    /// gate is open and no whole frame with a next gate stands there, or its bytes are no entry, or its moment is before that of
-    /// the entry before, or the office does not accept its command there. `NoMemory`: memory ran out.
+    /// The disk and the clock come back beside the fault. `StoreFault`: the disk did not do a call. `NotMade`,
+    /// `Foreign`: as the head of the journal file says. `Damaged` at an offset, the first of these gates: the file
+    /// ends before the gate, or the gate is open and no whole frame with a next gate stands there, or its bytes are
+    /// no entry, or its moment is before that of the entry before, or the office does not accept its command there.
+    /// `NoMemory`: memory ran out.
     pub fn open(
         alloc: Global,
         disk: D,
@@ -105,13 +110,15 @@ impl<D: Disk + Drop, C: Clock + Drop> Desk<D, C> {
     ) -> Result<Desk<D, C>, (OpenFault, D, C)>
         requires { limit ≤ 2 ^ 45 }
 
-        // The desk stands for no call yet, from a history on; of an honest disk, that of the journal file that it reads.
+        // The desk stands for no call yet, from a history on; of an honest disk, that of the bytes that it reads. It
+        // takes a call.
         ensures opens { IfOk result (λ desk. Opens D.honest D.state D.moment D.had_since D.fault_count disk clock limit desk) }
+        ensures ready { IfOk result (λ desk. IsReady D.honest D.state desk) }
 
-        // Where it is not opened the bytes that are read tell why, but for a failing disk and want of memory.
+        // Where it is not opened, the bytes that are read tell why, but for a failing disk and want of memory.
         ensures fails { IsTrue D.honest → IfErr result (λ e. OpenFails e.0 (D.state disk).journal.seen) }
 
-        // So it is opened where some history stands in them.
+        // So it is opened where they have a history.
         ensures sound { IsTrue D.honest → (history : List Entry) → HasHistory history (D.state disk).journal.seen
             → IfErr result (λ e. (e.0 ≡ OpenFault.StoreFault) ⊎ (e.0 ≡ OpenFault.NoMemory)) }
 

@@ -1,4 +1,4 @@
-use Rattle.std.proofs.Common.{◌≡◌, ◌∙◌, sym, ap, ℕ, Option, true, rules}
+use Rattle.std.proofs.Common.{◌≡◌, true, rules}
 use Rattle.plain_office.specs.Run.{is_not_before}
 use Rattle.desk_core.proofs.Breaking.{taken, not_taken}
 use Rattle.desk_core.proofs.opening.take.Goals as goal

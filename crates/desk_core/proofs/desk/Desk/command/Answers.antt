@@ -1,4 +1,4 @@
-use Rattle.std.proofs.Common.{rules, ◌≡◌, ◌+◌, ◌≤◌, ◌∷◌, [], ◌++◌, List, length, sym, ap, ◌∙◌, subst, max, min, Err, IsTrue, Option, ℕ}
+use Rattle.std.proofs.Common.{rules, ◌≡◌, ◌+◌, ◌≤◌, ◌∷◌, [], ◌++◌, List, length, sym, ap, ◌∙◌, subst, max, min, Err, Option, ℕ}
 use Rattle.std.specs.Prelude.{unwrap_or}
 use Rattle.moments.specs.Time.{last_moment}
 use Rattle.disk_core.specs.declared.disk.FileNo.TheVariants.{Journal}
@@ -9,9 +9,9 @@ use Rattle.plain_office.specs.Run.{entry_at}
 use Rattle.entry_codec.specs.Spelling.{spelling}
 use Rattle.desk_core.specs.declared.fault.DeskFault.TheVariants.{JournalFull, NoMemory}
 use Rattle.desk_core.specs.Calls.{moment_after}
-use Rattle.desk_core.specs.Desk.{Seat, Holds, IsReady, GoesOn, HasStoreReason}
+use Rattle.desk_core.specs.Desk.{Seat, Holds, IsReady, GoesOn, HasStoreReason, PassesLimit}
 use Rattle.desk_core.specs.Keeping.{Keeps}
-use Rattle.desk_core.proofs.Standing.{no_memory, no_room, kept_one, reason_of, ready_on, ready_still}
+use Rattle.desk_core.proofs.Standing.{no_memory, no_room, kept_one, reason_of, ready_on, ready_still, too_long}
 use Rattle.desk_core.proofs.desk.Desk.command.Goals as goal
 
 pub returns-in_default-clause-stands : goal.returns-in_default-clause-stands
@@ -52,6 +52,15 @@ returns-clause-stands g c opened calls stands =
     c.keep.new.self c.moment_for-moment.result c.now-told.result c.len.result c.args.command.now c.keep.result
     (c.keep.ensures.limit ∙ ap (λ (s : Seat g.row.D.Denot g.row.C.Denot). s.limit) c.self.view_is)
     (subst (λ (s : Seat g.row.D.Denot g.row.C.Denot). d.fault_count s.disk ≤ d.fault_count c.keep.new.self.disk) c.self.view_is c.keep.ensures.later) at size fits c.keep.ensures.stale keeps)
+
+pub returns-clause-full : goal.returns-clause-full
+returns-clause-full g c long =
+    let counted : c.len.result ≡ length c.in-Ok.bytes.items = search rules in
+    let size : c.len.result ≡ length (spelling (entry_at c.moment_for-moment.result c.args.command.now)) = counted ∙ ap length c.in-Ok.ensures.bytes in
+    let fits : c.args.self.now.gate + 6 + c.len.result ≤ c.args.self.now.limit =
+    subst (λ (s : Seat g.row.D.Denot g.row.C.Denot). s.gate + 6 + c.len.result ≤ s.limit) c.self.view_is (c.fits.ensures.0 c.if-not-fits.false) in
+    absurd (too_long c.args.self.now.gate c.args.self.now.limit c.len.result c.moment_for-moment.result c.args.command.now size fits
+    (subst (λ (q : Ask). PassesLimit c.args.self.now.gate c.args.self.now.limit q) c.requires.same long))
 
 pub returns-clause-reason : goal.returns-clause-reason
 returns-clause-reason g c =

@@ -3,7 +3,7 @@ use Rattle.disk_core.specs.declared.disk.FileNo.TheVariants.{Journal}
 use Rattle.desk_core.specs.Desk.{Seat}
 use Rattle.desk_core.specs.Opening.{Opens}
 use Rattle.desk_core.proofs.Breaking.{opens, head_open, replay_open}
-use Rattle.desk_core.proofs.Opened.{opened}
+use Rattle.desk_core.proofs.Opened.{opened, takes_calls}
 use Rattle.desk_core.proofs.desk.Desk.open.Goals as goal
 
 pub returns-in-Err-clause-sound : goal.returns-in-Err-clause-sound
@@ -21,6 +21,11 @@ returns-in-Ok-replay-clause-opens g c =
     subst (λ (s : Seat g.row.D.Denot g.row.C.Denot). Opens d.honest d.state d.moment d.had_since d.fault_count c.args.disk c.args.clock c.args.limit s) (sym (c.at.ensures ∙ ready))
     (opened d.honest d.state d.moment d.had_since d.fault_count m.only_now m.counts_now m.since_earlier (λ tells disk. m.reads_image tells disk Journal) c.args.disk c.in-Ok.opening.disk c.args.clock c.args.limit c.in-Ok.opening.length desk
     c.in-Ok-replay.ensures.read refl (c.replay.ensures.limit ∙ c.in-Ok.ensures.start.1) refl c.in-Ok.ensures.ok c.in-Ok.ensures.any_moment c.replay.ensures.untouched (omega (arith, c.in-Ok.ensures.later, c.replay.ensures.cause.later)))
+
+pub returns-in-Ok-replay-clause-ready : goal.returns-in-Ok-replay-clause-ready
+returns-in-Ok-replay-clause-ready g c =
+    let d = g.D.Disk in
+    takes_calls d.honest d.state d.moment d.had_since d.fault_count c.args.disk c.args.clock c.args.limit _ (returns-in-Ok-replay-clause-opens g c)
 
 pub returns-in-Err-replay-clause-sound : goal.returns-in-Err-replay-clause-sound
 returns-in-Err-replay-clause-sound g c told history has =
