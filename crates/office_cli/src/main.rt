@@ -3,6 +3,8 @@
 
 mod lines;
 mod program;
+#[cfg(test)]
+mod tests;
 
 use desk_core::SystemClock;
 use disk_core::FileDisk;

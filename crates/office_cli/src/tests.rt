@@ -1,0 +1,230 @@
+use crate::program::{End, office};
+use desk_core::ListClock;
+use disk_core::{Disk, FileNo, MemoryDisk};
+use http_front::MemoryReplies;
+use http_wire::MemorySource;
+use meter_journal::read_all;
+use std::alloc::Global;
+use std::test::Fail;
+
+const MADE: &[u8] =
+    b"HTTP/1.1 201 Created\r\ncontent-type: application/json\r\ncontent-length: 17\r\n\r\n{\"bucket\":\"logs\"}";
+
+const EXISTS: &[u8] =
+    b"HTTP/1.1 409 Conflict\r\ncontent-type: application/json\r\ncontent-length: 36\r\n\r\n{\"error\":\"BucketExists\",\"number\":80}";
+
+const NOT_BUILT: &[u8] =
+    b"HTTP/1.1 501 Not Implemented\r\ncontent-type: application/json\r\ncontent-length: 33\r\n\r\n{\"error\":\"NotBuilt\",\"number\":119}";
+
+const USAGE: &[u8] =
+    b"usage: office init; run; serve --listen A [--workers N] [--connections K]; report MONTH [--text]; explain [--workers N]; gen NUMBER COUNT\n";
+
+const PUT: &[u8] = b"PUT /buckets/logs HTTP/1.1\r\nHost: x\r\n\r\n";
+
+const TWICE: &[u8] =
+    b"PUT /buckets/logs HTTP/1.1\r\nHost: x\r\n\r\nPUT /buckets/logs HTTP/1.1\r\nHost: x\r\n\r\n";
+
+const UNBUILT_FIRST: &[u8] = b"GET / HTTP/1.1\r\n\r\nPUT /buckets/logs HTTP/1.1\r\nHost: x\r\n\r\n";
+
+// The journal without entries.
+const EMPTY: &[u8] = b"\xA5METERJRN1\x00";
+
+// The bucket logs, made at 2024-01-01 00:00 UTC.
+const ONE: &[u8] =
+    b"\xA5METERJRN1\xA5\x00\x00\x00\x0F\x00\x00\x01\x8C\xC2\x51\xF4\x00\x01\x00\x04logs\x00";
+
+// The same with a length of one byte more than there is.
+const LONG: &[u8] =
+    b"\xA5METERJRN1\xA5\x00\x00\x00\x10\x00\x00\x01\x8C\xC2\x51\xF4\x00\x01\x00\x04logs\x00";
+
+const CLOSED: &[u8] = b"7METERJRN1\x00";
+
+const FOREIGN: &[u8] = b"7METERJRN1\x00\x00";
+
+const INIT: &[&str] = &["init"];
+
+const RUN: &[&str] = &["run"];
+
+/// What one command left.
+#[derive(Drop)]
+struct Ran {
+    status: u8,
+    said: Vec<u8>,
+    noted: Vec<u8>,
+    disk: MemoryDisk,
+}
+
+// A disk with this journal file. The write of the file is its call 1; the calls with these numbers fail.
+fn disk_of(alloc: Global, file: &[u8], failing: &[u64]) -> Result<MemoryDisk, Fail> {
+    let mut disk = MemoryDisk::new(alloc, failing.to_vec(alloc)?);
+    disk.write_at(FileNo::Journal, 0, file)?;
+    Ok(disk)
+}
+
+// One command at 2024-01-01 00:00 UTC, over a source and replies.
+fn command(
+    alloc: Global,
+    words: &[&str],
+    mut source: MemorySource,
+    mut out: MemoryReplies,
+    disk: MemoryDisk,
+) -> Result<Ran, Fail> {
+    let mut list = Vec::new(alloc);
+    for word in words {
+        list.push(String::from_str(alloc, *word)?)?;
+    }
+    let clock = ListClock::new(vec![in alloc; 1_704_067_200_000]?);
+    let End { status, disk, .. } = office(alloc, &list, &mut source, &mut out, disk, clock);
+    Ok(Ran {
+        status,
+        said: out.texts().to_vec(alloc)?,
+        noted: out.notes().to_vec(alloc)?,
+        disk,
+    })
+}
+
+// One command over input that comes in pieces of this size.
+fn run_on(
+    alloc: Global,
+    words: &[&str],
+    input: &[u8],
+    cut: usize,
+    disk: MemoryDisk,
+) -> Result<Ran, Fail> {
+    let source = MemorySource::new(input.to_vec(alloc)?, cut, Vec::new(alloc));
+    command(
+        alloc,
+        words,
+        source,
+        MemoryReplies::new(alloc, Vec::new(alloc)),
+        disk,
+    )
+}
+
+fn joined(alloc: Global, first: &[u8], second: &[u8]) -> Result<Vec<u8>, Fail> {
+    let mut all = first.to_vec(alloc)?;
+    all.extend_from_slice(second)?;
+    Ok(all)
+}
+
+#[test]
+fn each_command_does_what_its_row_says(rt: HostRuntime) -> Result<(), Fail> {
+    let alloc = rt.alloc();
+    let both = joined(alloc, MADE, EXISTS)?;
+    // The words, the journal file before, the input; the status, what was said, what was noted, the file after.
+    for (words, before, input, status, said, noted, after) in [
+        (RUN, EMPTY, &b""[..], 0, &b""[..], &b""[..], EMPTY),
+        (RUN, EMPTY, TWICE, 0, &both[..], b"", ONE),
+        (RUN, ONE, PUT, 0, EXISTS, b"", ONE),
+        (RUN, EMPTY, UNBUILT_FIRST, 0, NOT_BUILT, b"", EMPTY),
+        (RUN, b"", PUT, 5, b"", b"journal: not made\n", b""),
+        (RUN, CLOSED, PUT, 5, b"", b"journal: not made\n", CLOSED),
+        (RUN, LONG, PUT, 5, b"", b"journal: damaged at 10\n", LONG),
+        (RUN, FOREIGN, PUT, 5, b"", b"journal: foreign\n", FOREIGN),
+        (INIT, b"", PUT, 0, b"made\n", b"", EMPTY),
+        (INIT, CLOSED, PUT, 0, b"made\n", b"", EMPTY),
+        (INIT, EMPTY, PUT, 0, b"already made\n", b"", EMPTY),
+        (INIT, ONE, PUT, 0, b"already made\n", b"", ONE),
+        (INIT, FOREIGN, PUT, 5, b"", b"journal: foreign\n", FOREIGN),
+    ] {
+        for cut in [1, 2, 3, 7, 50, 8192] {
+            let mut ran = run_on(alloc, words, input, cut, disk_of(alloc, before, &[])?)?;
+            let name = (words, before, input, cut);
+            assert_eq!(rt; ran.status, status, "status of {name:?}");
+            assert!(rt; ran.said.as_slice() == said, "said by {name:?}");
+            assert!(rt; ran.noted.as_slice() == noted, "noted by {name:?}");
+            let file = read_all(alloc, &mut ran.disk)?;
+            assert!(rt; file.as_slice() == after, "file after {name:?}");
+        }
+    }
+    Ok(())
+}
+
+#[test]
+fn words_that_are_no_command_touch_nothing(rt: HostRuntime) -> Result<(), Fail> {
+    let alloc = rt.alloc();
+    for words in [
+        &[][..],
+        &["serve"],
+        &["init", "run"],
+        &["run", "run"],
+        &["Run"],
+        &["runs"],
+        &[""],
+    ] {
+        // Any call of the disk would fail, and be counted.
+        let disk = disk_of(alloc, b"", &[2])?;
+        let ran = run_on(alloc, words, PUT, 8192, disk)?;
+        assert_eq!(rt; ran.status, 1, "status of {words:?}");
+        assert!(rt; ran.said.is_empty(), "said by {words:?}");
+        assert!(rt; ran.noted.as_slice() == USAGE, "noted by {words:?}");
+        assert_eq!(rt; ran.disk.faults(), 0, "disk of {words:?}");
+    }
+    Ok(())
+}
+
+#[test]
+fn a_failure_has_its_status_and_line(rt: HostRuntime) -> Result<(), Fail> {
+    let alloc = rt.alloc();
+    // The words, the failing reads, texts and calls of the disk; the status, what was said, what was noted. On this disk a run
+    // makes call 2, the sync of the opening, then reads the length, the head and the gate; its first entry has call 6, 7 and 8,
+    // the writes of the frame, 9, their sync, 10, the write of the gate, and 11, its sync.
+    for (words, reads, texts, calls, status, said, noted) in [
+        (
+            RUN,
+            &[1][..],
+            &[][..],
+            &[][..],
+            3,
+            &b""[..],
+            &b"input: failed\n"[..],
+        ),
+        (RUN, &[2], &[], &[], 3, MADE, b"input: failed\n"),
+        (RUN, &[], &[1], &[], 4, b"", b"output: failed\n"),
+        (RUN, &[], &[2], &[], 4, MADE, b"output: failed\n"),
+        (RUN, &[], &[], &[2], 2, b"", b"store: failed\n"),
+        (RUN, &[], &[], &[3], 2, b"", b"store: failed\n"),
+        (RUN, &[], &[], &[9], 2, b"", b"store: failed\n"),
+        (RUN, &[], &[], &[11], 2, b"", b"store: failed\n"),
+        (INIT, &[], &[1], &[], 4, b"", b"output: failed\n"),
+        (INIT, &[], &[], &[2], 2, b"", b"store: failed\n"),
+    ] {
+        let name = (words, reads, texts, calls);
+        let source = MemorySource::new(TWICE.to_vec(alloc)?, 39, reads.to_vec(alloc)?);
+        let out = MemoryReplies::new(alloc, texts.to_vec(alloc)?);
+        let ran = command(alloc, words, source, out, disk_of(alloc, EMPTY, calls)?)?;
+        assert_eq!(rt; ran.status, status, "status of {name:?}");
+        assert!(rt; ran.said.as_slice() == said, "said by {name:?}");
+        assert!(rt; ran.noted.as_slice() == noted, "noted by {name:?}");
+        // The bucket is there, or it is made now.
+        let next = run_on(alloc, RUN, TWICE, 8192, ran.disk)?;
+        let made = joined(alloc, MADE, EXISTS)?;
+        let kept = joined(alloc, EXISTS, EXISTS)?;
+        assert_eq!(rt; next.status, 0, "status after {name:?}");
+        assert!(rt;
+            next.said == made || next.said == kept,
+            "said after {name:?}"
+        );
+    }
+    Ok(())
+}
+
+#[test]
+fn a_thousand_buckets_are_made(rt: HostRuntime) -> Result<(), Fail> {
+    let alloc = rt.alloc();
+    let mut input = Vec::new(alloc);
+    let mut wanted = Vec::new(alloc);
+    for number in 1000..2000 {
+        let put = format!(in alloc; "PUT /buckets/bucket-{number} HTTP/1.1\r\nHost: x\r\n\r\n")?;
+        let made = format!(in alloc;
+            "HTTP/1.1 201 Created\r\ncontent-type: application/json\r\ncontent-length: 24\r\n\r\n{{\"bucket\":\"bucket-{number}\"}}"
+        )?;
+        input.extend_from_slice(put.as_bytes())?;
+        wanted.extend_from_slice(made.as_bytes())?;
+    }
+    let ran = run_on(alloc, RUN, &input, 8192, disk_of(alloc, EMPTY, &[])?)?;
+    assert_eq!(rt; ran.status, 0);
+    assert!(rt; ran.said == wanted);
+    assert!(rt; ran.noted.is_empty());
+    Ok(())
+}
