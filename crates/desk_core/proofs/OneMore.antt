@@ -18,12 +18,8 @@ use Rattle.desk_core.specs.declared.fault.DeskFault.{DeskFault}
 use Rattle.desk_core.specs.declared.fault.DeskFault.TheVariants as faults
 use Rattle.desk_core.specs.Answers.{Answer, Call}
 use Rattle.desk_core.specs.Calls.{Legal, IsLegal, IsReply, MayBeKept, GrowsBy, faults_after}
-use Rattle.desk_core.specs.Histories.{HasHistory, Begins, BeginsButOne}
+use Rattle.desk_core.specs.Histories.{HasHistory, IsSound, Begins, BeginsButOne}
 use Rattle.desk_core.specs.Serving.{IsAckedAt, IsToldBy, AreToldBy, Opened, Recoverable, Recovers, Agrees, Serves}
-
--- each image of the journal file has a history
-abbrev pub IsSound : State → Type 0
-IsSound s = (image : List ℕ) → IsImage s.journal image → (history : List Entry) × HasHistory history image
 
 -- some image of the journal file has this history
 pub record HasImageOf (s : State) (history : List Entry) : Type 0 where

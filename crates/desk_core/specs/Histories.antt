@@ -1,5 +1,6 @@
 -- What an image of the journal file stands for.
 use Rattle.std.specs.Prelude.{◌≡◌, ◌⊎◌, ℕ, List, ◌++◌, ◌∷◌, [], IsSome}
+use Rattle.disk_core.specs.Files.{State, IsImage}
 use Rattle.plain_office.specs.declared.command.Entry.{Entry}
 use Rattle.plain_office.specs.Run.{run}
 use Rattle.meter_journal.specs.History.{header, HasEntries}
@@ -9,6 +10,10 @@ use Rattle.meter_journal.specs.History.{header, HasEntries}
 pub record HasHistory (history : List Entry) (image : List ℕ) : Type 0 where
   pub entries : HasEntries header history image
   pub accepted : IsSome (run history)
+
+-- each image of the journal file has a history
+abbrev pub IsSound : State → Type 0
+IsSound s = (image : List ℕ) → IsImage s.journal image → (history : List Entry) × HasHistory history image
 
 -- the second begins with the first
 abbrev pub Begins : List Entry → List Entry → Type 0
