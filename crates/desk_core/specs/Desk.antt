@@ -118,3 +118,4 @@ pub record Submits {D C : Type 0} (honest : Bool) (state : D → State) (moment 
   pub disk_later : fault_count old.disk ≤ fault_count new.disk
   pub reason : HasStoreReason said question old.office (fault_count old.disk) (fault_count new.disk)
   pub limit : new.limit ≡ old.limit
+  pub stale : new.stale ≡ is_store_fault said

@@ -51,11 +51,14 @@ pub record Recovers (opened : Opened) (calls : List Call) (moment : ℕ) (image 
   pub legal : Legal opened.limit opened.faults (take count calls) opened.history history
   pub acked : (place : ℕ) (answer : Answer) → IsAckedAt calls place answer → answer.disk_moment ≤ moment → place < count
 
--- each image of the journal file has the history after some number of the first calls
+-- the image has the history after some number of the first calls
+abbrev pub HasFront : Opened → List Call → List ℕ → Type 0
+HasFront opened calls image =
+    (history : List Entry) × (count : ℕ) × HasHistory history image × (count ≤ length calls) × Legal opened.limit opened.faults (take count calls) opened.history history
+
+-- each image of the journal file does
 abbrev pub Recoverable : Opened → List Call → State → Type 0
-Recoverable opened calls s =
-    (image : List ℕ) → IsImage s.journal image
-    → (history : List Entry) × (count : ℕ) × HasHistory history image × (count ≤ length calls) × Legal opened.limit opened.faults (take count calls) opened.history history
+Recoverable opened calls s = (image : List ℕ) → IsImage s.journal image → HasFront opened calls image
 
 module _ {D : Type 0} (state : D → State) (moment : D → ℕ) (had_since : D → ℕ → State → Type 0) (fault_count : D → ℕ) where
   -- From an answer's moment on the history of every image begins with the same entries, which end at its position.

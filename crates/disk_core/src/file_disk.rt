@@ -2,7 +2,7 @@
 ghost use Rattle.std.specs.Prelude.{◌≡◌, ◌≤◌, false, refl, IfOk};
 ghost use Rattle.office_base.specs.Faults.{HasCause};
 ghost use Rattle.disk_core.specs.Files.{empty_disk};
-ghost use Rattle.disk_core.specs.Untold.{untold_image, untold_bytes};
+ghost use Rattle.disk_core.specs.Untold.{untold_image, untold_bytes, file_faults};
 
 use crate::{Disk, FileNo};
 use office_base::Failed;
@@ -69,7 +69,9 @@ fn sync_bytes(file: &mut Option<File>) -> io::Result<()> {
 
 impl FileDisk {
     /// Makes a disk of these files, which are open for reading and writing, without a fault so far.
-    pub fn new(journal: Option<File>, slot0: Option<File>, slot1: Option<File>) -> Self {
+    pub fn new(journal: Option<File>, slot0: Option<File>, slot1: Option<File>) -> Self
+        ensures { file_faults result ≡ 0 }
+    {
         FileDisk {
             journal,
             slot0,

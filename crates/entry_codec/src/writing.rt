@@ -49,11 +49,7 @@ fn written(alloc: Global, moment: Moment, command: &Command) -> Result<Vec<u8>, 
 /// # Errors
 ///
 /// `NoMemory`: memory ran out.
-pub fn encode_command(
-    alloc: Global,
-    moment: Moment,
-    command: &Command,
-) -> Result<Vec<u8>, NoMemory>
+pub fn encode_command(alloc: Global, moment: Moment, command: &Command) -> Result<Vec<u8>, NoMemory>
     ensures bytes { IfOk result (λ bytes. bytes.items ≡ spelling (entry_at moment command.now)) }
     // They are an entry's, which decoding gives back.
     ensures entry { IfOk result (λ bytes. Fits (entry_at moment command.now) × IsEntry bytes.items) }

@@ -1,5 +1,5 @@
 -- What is heard at the front of a stream.
-use Rattle.std.proofs.Common.{Bool, true, false, ◌&&◌, not, ◌≡◌, ◌≢◌, ℕ, ◌+◌, ◌<◌, ◌≤◌, List, [], ◌∷◌, ◌++◌, length, take, drop, map, codes, refl, sym, ap, ◌∙◌, subst, arith, length-append, length-drop, append_assoc, append-nil, inl, inr, Option, Some, None, Ok}
+use Rattle.std.proofs.Common.{Bool, true, false, ◌&&◌, not, ◌≡◌, ◌≢◌, ℕ, ◌<◌, ◌≤◌, List, [], ◌∷◌, ◌++◌, length, take, drop, map, codes, refl, sym, ap, ◌∙◌, subst, arith, length-append, append_assoc, append-nil, inl, inr, Option, Some, None, Ok}
 use Rattle.std.specs.Prelude.{MatchOption, option_map, if◌then◌else◌}
 use Rattle.std.specs.List.{list_all, filter}
 use Rattle.std.specs.Io.KnownBytes.{prepend_known, IsAtEnd}
@@ -12,17 +12,17 @@ use Rattle.httparse.specs.declared.spans.RequestSpans.{RequestSpans}
 use Rattle.httparse.proofs.GrammarLemmas.{request_unique, ReadsRequest-append, print_request-append}
 use Rattle.http_wire.specs.Heads.{IsHopeless, IsOpen}
 use Rattle.http_wire.specs.Headings.{OnHead}
-use Rattle.http_wire.specs.Held.{Held, Took, head_room}
-use Rattle.http_wire.specs.Messages.{Framed, Request, request, refused, Stands, HasHead, IsUnsettled, after_length, after_coding, fields_named, body_length, same_word, is_last}
+use Rattle.http_wire.specs.Held.{Held, Took}
+use Rattle.http_wire.specs.Messages.{Framed, Request, request, refused, Stands, after_length, after_coding, fields_named, body_length, same_word, is_last}
 use Rattle.http_wire.specs.declared.reading.Heading.{Heading}
 use Rattle.http_wire.specs.declared.reading.Heading.TheVariants as heading
 use Rattle.http_wire.specs.declared.reading.Stop.{Stop}
 use Rattle.http_wire.specs.declared.framing.FramingRefusal.{FramingRefusal}
 use Rattle.http_wire.specs.declared.framing.FramingRefusal.TheVariants.{BadHead, HeadTooLarge}
 use Rattle.http_wire.proofs.Unique.{stands_unique, stands_rest, stands_more, open_unsettled, open_too_large, hopeless_bad, nothing_stands}
-use Rattle.http_front.specs.Meaning.{is_plain_field, is_plain_put, is_bucket_path, bucket_asked, create_bucket, asked_of, IsAsk, IsUnbuilt, Hears, StandsUnbuilt}
+use Rattle.http_front.specs.Meaning.{is_plain_field, is_plain_put, bucket_asked, create_bucket, asked_of, IsAsk, IsUnbuilt, StandsUnbuilt}
 use Rattle.http_front.specs.Tells.{Tells}
-use Rattle.http_front.specs.Counts.{Given, Gave, total_of, IsUnder, Reaches}
+use Rattle.http_front.specs.Counts.{Given}
 use Rattle.http_front.specs.declared.hearing.Heard.{Heard}
 use Rattle.http_front.specs.declared.hearing.Heard.TheVariants as heards
 use Rattle.http_front.specs.declared.hearing.Bad.TheVariants.{NotBuilt}
@@ -207,26 +207,6 @@ tells_found a b c held la lb spans headers found_it r heard name took is whole w
     (subst (λ (s : List HeaderSpan). name ≡ bucket_asked r.version (span_bytes b.bytes r.method) (map (λ (x : HeaderSpan). span_bytes b.bytes x.name) (take r.headers s)) (span_bytes b.bytes r.path)) fields
     (subst (λ (t : List ℕ). name ≡ bucket_asked r.version (span_bytes t r.method) (map (λ (x : HeaderSpan). span_bytes t x.name) (take r.headers headers)) (span_bytes t r.path)) same asked)) what
 
--- a message that asks has some bytes
-pub uses_some : (a b c : Held) (la lb : Option (List ℕ)) (spans : List HeaderSpan) (found_it : Heading) (r : RequestSpans) → Took a b la lb
-    → found_it ≡ heading.Whole r → OnHead {E = Stop} (Ok found_it) (IsRequestOf b.bytes spans) → OnHead {E = Stop} (Ok found_it) (IsRequestWithin b.bytes spans)
-    → c.bytes ≡ drop r.len b.bytes → c.taken ≡ b.taken → a.taken + length c.bytes < c.taken + length a.bytes
-uses_some a b c la lb spans found_it r took is whole within_it rest count =
-    let at = on_head found_it r (IsRequestOf b.bytes spans) is whole in
-    omega (
-      arith,
-      (on_head found_it r (IsRequestWithin b.bytes spans) is within_it).section.len_fits,
-      at.1.len,
-      ap length rest,
-      length-drop r.len b.bytes,
-      count,
-      took.counted,
-      ap length took.held,
-      length-append a.bytes took.given,
-      head_some at.0 [],
-      ap length (append-nil (print_request at.0)),
-    )
-
 -- ---- no head that asks
 
 no_bytes : (xs zs : List ℕ) → xs ++ zs ≡ [] → xs ≡ []
@@ -268,20 +248,10 @@ unbuilt a b (Some xs) (Some ys) found_it took whole over hopeless large short =
     by_heading heading.CutShort w o h l s = short_unbuilt b.bytes ys (s refl).0 (s refl).1 (s refl).2 (s refl).3
     by_heading heading.End w o h l s = absurd (o refl)
 
--- the end of the source, where nothing is held
-pub tells_end : (a b : Held) (la lb : Option (List ℕ)) → Took a b la lb → b.bytes ≡ [] → IsAtEnd lb → IsAtEnd (prepend_known a.bytes la)
-tells_end a b None lb took empty end = tt
-tells_end a b (Some xs) None took empty end = absurd took.left
-tells_end a b (Some xs) (Some ys) took empty end =
-    whole_stream a.bytes b.bytes xs ys took.given took.held took.left ∙ ap (λ (t : List ℕ). t ++ ys) empty ∙ end
-
 -- ---- counts
 
 pub given_of : (a b : Held) (la lb : Option (List ℕ)) → Took a b la lb → Given a.taken b.taken la lb
 given_of a b la lb took = record { given = took.given; counted = took.counted; left = took.left }
-
-pub given_drop : (a b c : Held) (la lb : Option (List ℕ)) → Took a b la lb → c.taken ≡ b.taken → Given a.taken c.taken la lb
-given_drop a b c la lb took same = record { given = took.given; counted = same ∙ took.counted; left = took.left }
 
 -- ---- one ask
 

@@ -1,5 +1,5 @@
 -- The texts, written out, and how long they are.
-use Rattle.std.proofs.Common.{◌≡◌, ℕ, ◌+◌, ◌-◌, ◌*◌, ◌/◌, ◌%◌, ◌^◌, ◌<◌, ◌≤◌, min, List, [], ◌∷◌, ◌++◌, length, take, codes, decimal, refl, sym, ap, ◌∙◌, arith, length-append, append-nil, IfOk, OnOk, OnErr, Result, Ok, Err, IsOk}
+use Rattle.std.proofs.Common.{◌≡◌, ℕ, ◌+◌, ◌*◌, ◌/◌, ◌%◌, ◌^◌, ◌<◌, ◌≤◌, List, [], ◌∷◌, ◌++◌, length, take, codes, decimal, refl, sym, ap, ◌∙◌, arith, length-append, IfOk, OnOk, OnErr, Result, Ok, Err, IsOk}
 use Rattle.std.proofs.lemmas.Fmt.{decimal_digit, decimal_step, length-decimal-le}
 use Rattle.http_front.specs.Room.{Holds, Puts}
 use Rattle.http_front.specs.Texts.{reply_with, error_body, bucket_body, error_text, made_text, exists_text, full_text, no_memory_text, not_built_text}

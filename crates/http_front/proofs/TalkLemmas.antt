@@ -1,6 +1,6 @@
 -- A session goes on.
-use Rattle.std.proofs.Common.{◌≡◌, ℕ, ◌+◌, ◌<◌, ◌≤◌, List, [], ◌∷◌, ◌++◌, take, length, refl, sym, ap, ◌∙◌, subst, arith, append_assoc, append-nil, length-append, Option, Some, None, Result, Ok, Err, inl, inr, ⊎_elim, OnOk, IfErr}
-use Rattle.std.specs.Prelude.{◌⊎◌, All, option_map}
+use Rattle.std.proofs.Common.{◌≡◌, ℕ, ◌+◌, ◌<◌, List, [], ◌∷◌, ◌++◌, take, length, refl, sym, ap, ◌∙◌, subst, arith, append_assoc, append-nil, length-append, Option, Some, None, Result, Ok, Err, inl, inr, OnOk, IfErr}
+use Rattle.std.specs.Prelude.{◌⊎◌, option_map}
 use Rattle.std.specs.Io.KnownBytes.{Appends, Consumes, IsAtEnd, prepend_known}
 use Rattle.std.proofs.lemmas.List.{map-append}
 use Rattle.std.proofs.lemmas.Grind.{flat_map-append}
@@ -20,7 +20,7 @@ use Rattle.http_front.specs.declared.hearing.Stop.TheVariants as stops
 use Rattle.http_front.specs.Counts.{Given, Gave, total_of, IsUnder, Reaches}
 use Rattle.http_front.specs.Meaning.{Goes, Hears, StandsUnbuilt}
 use Rattle.http_front.specs.Session.{asks, IsCut, IsWritten, NoneFaults, LastFaults, FaultsBy, NoneLacks, LastLacks, LacksBy, Moves, Session}
-use Rattle.http_front.specs.Talk.{IsSaid, Answers, Talked, Closed}
+use Rattle.http_front.specs.Talk.{Answers, Talked, Closed}
 use Rattle.http_front.specs.Telling.{IsStoreFault}
 use Rattle.http_front.specs.Tells.{Tells}
 use Rattle.http_front.specs.Texts.{text_of, texts, not_built_text, no_memory_text}

@@ -12,6 +12,7 @@ use Rattle.http_front.specs.Meaning.{Hears, StandsUnbuilt}
 use Rattle.http_front.specs.Telling.{IsStoreFault}
 use Rattle.http_front.specs.Texts.{text_of, texts, not_built_text, no_memory_text}
 
+-- what the calls asked, in order
 abbrev pub asks : List Call → List Ask
 asks calls = map (λ (c : Call). c.ask) calls
 
@@ -29,6 +30,7 @@ pub record LastFaults (calls : List Call) : Type 0 where
   pub before : NoneFaults most
   pub is : IsStoreFault last.said
 
+-- a fault of the store ends the session
 abbrev pub FaultsBy : SessionEnd → List Call → Type 0
 FaultsBy ends.StoreFault calls = LastFaults calls
 FaultsBy ends.Ended calls = NoneFaults calls

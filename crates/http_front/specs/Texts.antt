@@ -57,5 +57,6 @@ abbrev pub text_of : Result Answer DeskFault → List ℕ
 text_of (Ok answer) = reply_text answer.reply
 text_of (Err fault) = fault_text fault
 
+-- the texts of what the calls were told, in order
 abbrev pub texts : List Call → List ℕ
 texts calls = flat_map (λ (c : Call). text_of c.said) calls

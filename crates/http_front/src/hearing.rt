@@ -1,11 +1,12 @@
 // The messages of a stream.
-ghost use Rattle.std.specs.Prelude.{◌≡◌, ◌≤◌, ◌<◌, ◌+◌, length, IfOk, MatchOption, IsErrOf, Ok};
+ghost use Rattle.std.specs.Prelude.{◌≡◌, ◌≤◌, ◌<◌, ◌+◌, ℕ, List, length, IfOk, MatchOption, IsErrOf, Ok};
 ghost use Rattle.std.specs.Io.KnownBytes.{IsAtEnd, prepend_known};
 ghost use Rattle.office_base.specs.Faults.{Rose};
+ghost use Rattle.httparse.specs.Grammar.{RequestHead};
 ghost use Rattle.plain_office.specs.declared.command.Ask.TheVariants.{Command};
 ghost use Rattle.http_wire.specs.Heads.{IsOpen};
 ghost use Rattle.http_wire.specs.Held.{take_limit};
-ghost use Rattle.http_wire.specs.Messages.{IsUnsettled};
+ghost use Rattle.http_wire.specs.Messages.{HasHead, IsUnsettled};
 ghost use Rattle.http_front.specs.Counts.{Given};
 ghost use Rattle.http_front.specs.Meaning.{create_bucket};
 ghost use Rattle.http_front.specs.Tells.{Tells, OnAsked};
@@ -57,6 +58,7 @@ fn heard_of(name: Option<BucketName>) -> Heard
 fn stop_of(stop: HeadStop) -> Stop
     ensures fault { result ≡ Stop.ReadFault → stop ≡ HeadStop.ReadFault }
     ensures spent { result ≡ Stop.Spent → stop ≡ HeadStop.Spent }
+    ensures enough { result ≡ Stop.NoMemory → ⊥ }
 {
     match stop {
         HeadStop::ReadFault => Stop::ReadFault,
@@ -82,6 +84,8 @@ pub fn read_request<R: Source>(
     ensures uses { OnAsked result (buffer.old.taken + length buffer.new.bytes < buffer.new.taken + length buffer.old.bytes) }
     ensures at_end { result ≡ Ok Heard.End → (buffer.new.taken < take_limit) × IsAtEnd (R.left source.new) }
     ensures spent { IsErrOf result Stop.Spent → (buffer.new.taken ≡ take_limit) × IsUnsettled buffer.new.bytes }
+    // Memory is wanting only for the parts of a whole head.
+    ensures no_memory { IsErrOf result Stop.NoMemory → (head : RequestHead) × (after : List ℕ) × HasHead buffer.new.bytes head after }
     // A message whose bytes are held is heard without a read.
     ensures settled { (IsOpen buffer.old.bytes → ⊥) → source.new ≡ source.old }
     ensures later { R.faults source.old ≤ R.faults source.new }

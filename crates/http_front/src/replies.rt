@@ -1,5 +1,5 @@
 // Where texts go.
-ghost use Rattle.std.specs.Prelude.{◌≡◌, ◌⊎◌, ℕ, List, Option, OnOk, OnErr, take};
+ghost use Rattle.std.specs.Prelude.{◌≡◌, ◌⊎◌, ◌≤◌, ℕ, List, Option, OnOk, OnErr, take};
 ghost use Rattle.std.specs.Io.KnownBytes.{Appends};
 ghost use Rattle.office_base.specs.Faults.{HasCause, Rose};
 
@@ -31,7 +31,8 @@ pub trait Replies {
     /// Notes a text. One that is lost raises the count of faults.
     fn note(&mut self, bytes: &[u8])
         ensures said { said self.new ≡ said self.old }
-        ensures noted { Appends (noted self.old) (noted self.new) bytes.now ⊎ Rose (faults self.old) (faults self.new) };
+        ensures noted { Appends (noted self.old) (noted self.new) bytes.now ⊎ Rose (faults self.old) (faults self.new) }
+        ensures later { faults self.old ≤ faults self.new };
 }
 
 /// Two writers of std, the second for notes.

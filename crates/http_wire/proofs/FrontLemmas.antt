@@ -4,7 +4,7 @@ use Rattle.std.specs.Prelude.{◌⊎◌, IsTrue}
 use Rattle.std.proofs.lemmas.Bool.{cases_lt}
 use Rattle.std.proofs.lemmas.List.Elements.{All-nil, All-cons, All-head, All-tail}
 use Rattle.httparse.specs.Grammar.{AllPass, IsToken, is_token_byte, is_uri_byte, print_blank, RequestHead, print_request, ReadsRequest, MayBecomeRequest}
-use Rattle.http_wire.specs.Heads.{IsHopeless, HasHopelessFront}
+use Rattle.http_wire.specs.Heads.{IsHopeless}
 use Rattle.http_wire.proofs.TargetLemmas.{some_rest, some_head, cut_goes_on}
 
 -- two fronts of one text: the shorter begins the longer
@@ -63,14 +63,6 @@ head_front buf h rest n reads none = by_length (cases_lt (length (take n buf)) (
     by_length (inr long) =
         let z = front_of_front (print_request h) rest (take n buf) (drop n buf) (sym whole) (omega arith) in
         none.none h z.0 (reads.0, z.1)
-
--- what the parser finds of a front of the stream decides the rule for the whole stream
-pub hopeless_stream : (limit : ℕ) (buf more : List ℕ) → length buf ≤ limit → IsHopeless buf → HasHopelessFront limit (buf ++ more)
-hopeless_stream limit buf more fits none = (length buf, fits, subst IsHopeless (sym (take_front buf more)) none)
-  where
-    take_front : (a b : List ℕ) → take (length a) (a ++ b) ≡ a
-    take_front [] b = refl
-    take_front (x ∷ a) b = ap (λ (t : List ℕ). x ∷ t) (take_front a b)
 
 abbrev IsTokenByte : ℕ → Type 0
 IsTokenByte b = IsTrue (is_token_byte b)

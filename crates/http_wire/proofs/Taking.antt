@@ -1,16 +1,11 @@
 -- Reads one after another.
 use Rattle.std.proofs.Common.{◌≡◌, ℕ, List, [], ◌++◌, refl, sym, ap, ◌∙◌, append_assoc, append-nil, length-append, arith, Option, Some, None}
-use Rattle.std.specs.Io.KnownBytes.{Consumes, Keeps}
+use Rattle.std.specs.Io.KnownBytes.{Consumes}
 use Rattle.http_wire.specs.Held.{Held, Took}
 
 consumes_none : (left : Option (List ℕ)) → Consumes left left []
 consumes_none None = tt
 consumes_none (Some xs) = refl
-
-consumes_kept : (old new : Option (List ℕ)) → Keeps old new → Consumes old new []
-consumes_kept None new keeps = tt
-consumes_kept (Some xs) None keeps = absurd keeps
-consumes_kept (Some xs) (Some ys) keeps = sym keeps
 
 consumes_then : (a b c : Option (List ℕ)) (x y : List ℕ) → Consumes a b x → Consumes b c y → Consumes a c (x ++ y)
 consumes_then None b c x y first second = tt
@@ -18,9 +13,6 @@ consumes_then (Some xs) None c x y first second = absurd first
 consumes_then (Some xs) (Some ys) None x y first second = absurd second
 consumes_then (Some xs) (Some ys) (Some zs) x y first second =
     first ∙ ap (λ (t : List ℕ). x ++ t) second ∙ sym (append_assoc x y zs)
-
-pub took_nothing : (held : Held) (left : Option (List ℕ)) → Took held held left left
-took_nothing held left = record { given = []; held = sym (append-nil held.bytes); counted = omega arith; left = consumes_none left }
 
 pub took_then : (a b c : Held) (la lb lc : Option (List ℕ)) → Took a b la lb → Took b c lb lc → Took a c la lc
 took_then a b c la lb lc first second = record {
@@ -37,13 +29,4 @@ took_seen a b la same count = record {
   held = same ∙ sym (append-nil a.bytes);
   counted = omega (arith, count);
   left = consumes_none la;
-}
-
--- a read that failed took none
-pub took_kept : (a b : Held) (la lb : Option (List ℕ)) → b ≡ a → Keeps la lb → Took a b la lb
-took_kept a b la lb same keeps = record {
-  given = [];
-  held = ap (λ (h : Held). h.bytes) same ∙ sym (append-nil a.bytes);
-  counted = omega (arith, ap (λ (h : Held). h.taken) same);
-  left = consumes_kept la lb keeps;
 }

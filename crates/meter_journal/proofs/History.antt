@@ -1,5 +1,5 @@
 -- What stands in a journal file while an entry is added.
-use Rattle.std.proofs.Common.{◌≡◌, ◌⊎◌, inl, inr, ℕ, ◌+◌, ◌^◌, ◌<◌, ◌≤◌, List, [], ◌∷◌, ◌++◌, length, get_or, take, drop, refl, sym, ◌∙◌, ap, subst, arith, append_assoc, length-append, take-append-drop, Result, Ok, Err}
+use Rattle.std.proofs.Common.{◌≡◌, ◌⊎◌, inl, inr, ℕ, ◌+◌, ◌^◌, ◌<◌, ◌≤◌, List, [], ◌∷◌, ◌++◌, length, get_or, take, drop, refl, sym, ◌∙◌, ap, subst, arith, append-nil, append_assoc, length-append, take-append-drop, Result, Ok, Err}
 use Rattle.std.specs.Prelude.{OnOk}
 use Rattle.std.specs.List.{AllByRecursion}
 use Rattle.std.proofs.lemmas.Bool.{cases_eq}
@@ -10,7 +10,7 @@ use Rattle.entry_codec.specs.Spelling.{Fits, spelling}
 use Rattle.disk_core.specs.Files.{File, State, IsImage, put, synced_file}
 use Rattle.disk_core.specs.Kept.{KeepsFront, KeepsJournal, IsButOne}
 use Rattle.disk_core.proofs.Crash.{front_image, front_synced, synced_image}
-use Rattle.meter_journal.specs.History.{framed, whole, HasEntries, IsAtRest, BeforeOrAfter}
+use Rattle.meter_journal.specs.History.{framed, whole, end_gate, HasEntries, IsAtRest, BeforeOrAfter}
 
 length-framed : (entry : List ℕ) → length (framed entry) ≡ 4 + length entry
 length-framed entry = omega arith
@@ -22,6 +22,17 @@ whole-push head entries entry = sym (flat_map_more (λ e. 0xA5 ∷ framed (spell
 pub each-push : (entries : List Entry) (entry : Entry) → AllByRecursion Fits entries → Fits entry → AllByRecursion Fits (entries ++ entry ∷ [])
 each-push [] entry each fits = (fits, tt)
 each-push (e ∷ entries) entry each fits = (each.0, each-push entries entry each.1 fits)
+
+pub whole-none : (head : List ℕ) → whole head [] ≡ head
+unfolding whole
+whole-none head = append-nil head
+
+-- the end gate of no entries, and of one entry more
+pub end_gate-none : (head : List ℕ) → end_gate head [] ≡ length head
+end_gate-none head = ap length (whole-none head)
+
+pub end_gate-push : (head : List ℕ) (entries : List Entry) (entry : Entry) → end_gate head (entries ++ entry ∷ []) ≡ end_gate head entries + 5 + length (spelling entry)
+end_gate-push head entries entry = omega (arith, ap length (whole-push head entries entry), length-append (whole head entries) (0xA5 ∷ framed (spelling entry)), length-framed (spelling entry))
 
 -- a file whose front is base and a byte
 module _ (base : List ℕ) (p : ℕ) (size : p ≡ length base) where

@@ -1,5 +1,5 @@
 -- Reading gives the entries that stand in the file.
-use Rattle.std.proofs.Common.{subst, inl, inr, ⊎_elim, append-nil, ◌<◌, ◌≡◌, ◌≢◌, ℕ, ◌+◌, ◌^◌, ◌≤◌, Bool, true, false, cond, eqb, ltb, ◌||◌, List, [], ◌∷◌, ◌++◌, length, get_or, take, drop, Option, Some, None, Result, Ok, Err, refl, sym, ap, ◌∙◌, append_assoc, length-append, take-append-drop, arith}
+use Rattle.std.proofs.Common.{subst, inl, inr, ⊎_elim, ◌<◌, ◌≡◌, ◌≢◌, ℕ, ◌+◌, ◌^◌, ◌≤◌, Bool, true, false, cond, eqb, ltb, ◌||◌, List, [], ◌∷◌, ◌++◌, length, get_or, take, drop, Option, Some, None, Result, Ok, Err, refl, sym, ap, ◌∙◌, append_assoc, length-append, take-append-drop, arith}
 use Rattle.std.specs.Prelude.{nat_le}
 use Rattle.std.specs.Int.{w32, to_be_bytes}
 use Rattle.std.proofs.lemmas.Bool.{eqb-true, eqb-false, ltb-false, leb-false}
@@ -13,7 +13,7 @@ use Rattle.entry_codec.proofs.Laws.{entry_takes}
 use Rattle.meter_journal.specs.History.{framed, whole, HasEntries, IsAtRest}
 use Rattle.disk_core.specs.Files.{File, State, synced_file}
 use Rattle.meter_journal.specs.Reading.{Frame, Ended, Whole, Broken, entry_frame, entry_at, size_at, body_at, frame_at, NextGives, HasPrefix}
-use Rattle.meter_journal.proofs.History.{whole-push, each-push}
+use Rattle.meter_journal.proofs.History.{whole-none, whole-push, each-push}
 
 not_broken : (b : Bool) (f : Frame) (e : Entry) (n : ℕ) → cond b Broken f ≡ Whole e n → (b ≡ false) × (f ≡ Whole e n)
 not_broken true f e n is = absurd cc
@@ -65,10 +65,6 @@ framed_is gate file e next bytes body =
       read.0,
       body.next_is ∙ ap (λ (k : ℕ). gate + 5 + k) (sym size),
     )
-
-whole-none : (head : List ℕ) → whole head [] ≡ head
-unfolding whole
-whole-none head = append-nil head
 
 pub prefix_start : (head : List ℕ) (gate : ℕ) (file : List ℕ) → head ≡ take gate file → length head ≡ gate → HasPrefix head [] gate file
 prefix_start head gate file is size = record {

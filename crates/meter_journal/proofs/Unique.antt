@@ -1,5 +1,5 @@
 -- What a file holds behind a head is one list of entries, and reading gives it.
-use Rattle.std.proofs.Common.{◌≡◌, ◌≢◌, ◌⊎◌, inl, inr, ⊎_elim, ℕ, ◌+◌, ◌^◌, ◌<◌, ◌≤◌, cond, eqb, ltb, ◌||◌, true, false, List, [], ◌∷◌, ◌++◌, length, get_or, take, drop, refl, sym, ◌∙◌, ap, subst, append_assoc, length-append, Ok, Err, arith}
+use Rattle.std.proofs.Common.{◌≡◌, ◌≢◌, ◌⊎◌, inl, inr, ⊎_elim, ℕ, ◌+◌, ◌^◌, ◌<◌, ◌≤◌, eqb, ltb, false, List, [], ◌∷◌, ◌++◌, length, get_or, take, drop, refl, sym, ◌∙◌, ap, subst, append_assoc, length-append, Ok, arith}
 use Rattle.std.specs.Prelude.{nat_le}
 use Rattle.std.specs.List.{flat_map, AllByRecursion}
 use Rattle.std.specs.Int.{w32, to_be_bytes, from_be_bytes}
@@ -13,7 +13,7 @@ use Rattle.entry_codec.specs.Spelling.{Fits, spelling}
 use Rattle.entry_codec.proofs.Laws.{entry_again, spelling_tells}
 use Rattle.entry_codec.proofs.Sizes.{entry_small}
 use Rattle.meter_journal.specs.History.{framed, whole, end_gate, HasEntries}
-use Rattle.meter_journal.specs.Reading.{Frame, Ended, Whole, Broken, entry_frame, size_at, body_at, frame_at, HasPrefix, GoesOn}
+use Rattle.meter_journal.specs.Reading.{Ended, Whole, Broken, size_at, body_at, frame_at, HasPrefix, GoesOn}
 
 abbrev Frames : List Entry → List ℕ
 Frames entries = flat_map (λ e. 0xA5 ∷ framed (spelling e)) entries

@@ -1,4 +1,5 @@
--- What a journal file stands for: a list of entries, each behind an open gate.
+-- What a journal file stands for: a list of entries, each behind an open gate. A gate is one byte, which commits what
+-- stands behind it: it is open where it is A5, and closed where it is any other.
 use Rattle.std.specs.Prelude.{◌≡◌, ◌≢◌, ◌⊎◌, ℕ, ◌+◌, ◌^◌, ◌≤◌, List, [], ◌∷◌, ◌++◌, length}
 use Rattle.std.specs.List.{flat_map, AllByRecursion}
 use Rattle.std.specs.Int.{w32, to_be_bytes}
@@ -40,8 +41,7 @@ pub record HasEntries (head : List ℕ) (entries : List Entry) (file : List ℕ)
 abbrev pub HasHistory : List Entry → List ℕ → Type 0
 HasHistory entries file = HasEntries header entries file
 
--- the journal file is on the disk as a whole, with these entries and its end gate there; what stands in its head is
--- not looked at
+-- the journal file is its only image, with these entries and its end gate there; what stands in its head is not looked at
 pub record IsAtRest (head : List ℕ) (s : State) (gate : ℕ) (entries : List Entry) : Type 0 where
   pub bytes : List ℕ
   pub on_disk : s.journal ≡ synced_file bytes

@@ -7,8 +7,7 @@ pub record Placed (D : Type 0) : Type 0 where
   pub gate : ℕ
   pub limit : ℕ
 
--- a journal that is read: its disk, the place of the next gate, the limit, and the length of the journal file, in
--- bytes
+-- a journal that is read: its disk, the place of the next gate, the limit, and the length of the file, in bytes
 pub record Reading (D : Type 0) : Type 0 where
   pub disk : D
   pub gate : ℕ

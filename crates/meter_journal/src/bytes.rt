@@ -6,6 +6,7 @@ ghost use Rattle.entry_codec.specs.Spelling.{Fits, spelling};
 ghost use Rattle.meter_journal.specs.Reading.{HeadGives, BodyGives, FrameGives, entry_frame, body_at, frame_at, size_at};
 
 use crate::fault::OpenFault;
+use crate::gate::OPEN;
 use crate::head::judge;
 use entry_codec::{EntryFault, decode};
 use plain_office::Entry;
@@ -92,7 +93,7 @@ pub fn frame(alloc: Global, bytes: &[u8], gate: u64) -> Result<Option<(Entry, u6
     if bytes.len() as u64 <= gate {
         return Err(OpenFault::Damaged { offset: gate });
     }
-    if bytes[gate as usize] != 0xA5 {
+    if bytes[gate as usize] != OPEN {
         return Ok(None);
     }
     match body_in(alloc, bytes, gate as usize) {

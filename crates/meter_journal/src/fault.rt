@@ -1,8 +1,4 @@
 // Why a journal is not opened or read.
-ghost use Rattle.std.specs.Prelude.{◌≡◌};
-ghost use Rattle.meter_journal.specs.declared.fault.OpenFault.TheVariants.{NoMemory};
-
-use std::alloc::AllocFailed;
 
 /// Why a journal is not opened, made or read.
 #[derive(Clone, Copy, Debug, PartialEq, Eq)]
@@ -20,12 +16,4 @@ pub enum OpenFault {
     StoreFault,
     /// Memory ran out.
     NoMemory,
-}
-
-impl<T: Drop> From<AllocFailed<T>> for OpenFault {
-    ghost from_gives = { λ _ e. e ≡ NoMemory };
-
-    fn from(_e: AllocFailed<T>) -> OpenFault {
-        OpenFault::NoMemory
-    }
 }

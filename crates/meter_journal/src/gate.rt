@@ -7,6 +7,9 @@ ghost use Rattle.disk_core.specs.Kept.{IsButOne};
 
 use disk_core::{Disk, Failed, FileNo};
 
+// The byte of a gate that is open. A gate with any other byte is closed.
+pub(crate) const OPEN: u8 = 0xA5;
+
 // Opens the gate at this place, and syncs it.
 pub(crate) fn open_gate<D: Disk>(disk: &mut D, gate: u64) -> Result<(), Failed>
     requires { IsTrue D.honest → gate < length (D.state disk.old).journal.seen }
@@ -18,6 +21,6 @@ pub(crate) fn open_gate<D: Disk>(disk: &mut D, gate: u64) -> Result<(), Failed>
 
     ensures cause { HasCause (D.fault_count disk.old) (D.fault_count disk.new) result }
 {
-    disk.write_at(FileNo::Journal, gate, &[0xA5])?;
+    disk.write_at(FileNo::Journal, gate, &[OPEN])?;
     disk.sync(FileNo::Journal)
 }

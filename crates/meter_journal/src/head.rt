@@ -8,6 +8,7 @@ ghost use Rattle.meter_journal.specs.Reading.{HeadGives, HasStoreCause};
 ghost use Rattle.meter_journal.specs.declared.fault.OpenFault.TheVariants.{StoreFault, NoMemory};
 
 use crate::fault::OpenFault;
+use crate::gate::OPEN;
 use disk_core::{Disk, Failed, FileNo};
 use std::alloc::Global;
 
@@ -21,7 +22,7 @@ pub(crate) fn judge(front: &[u8; 10], end: u64) -> Result<(), OpenFault>
     ensures exact { (file : List ℕ) → end ≡ length file → front.now ≡ take 10 file → HeadGives result file }
     ensures told { IsErrOf result OpenFault.StoreFault → ⊥ }
 {
-    if front[0] != 0xA5 {
+    if front[0] != OPEN {
         return Err(if end == 11 {
             OpenFault::NotMade
         } else {

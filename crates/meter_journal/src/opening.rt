@@ -11,6 +11,7 @@ ghost use Rattle.meter_journal.specs.declared.fault.OpenFault.TheVariants.{Store
 
 use crate::bytes::entry_in;
 use crate::fault::OpenFault;
+use crate::gate::OPEN;
 use crate::head::look;
 use crate::journal::Journal;
 use disk_core::{Disk, Failed, FileNo};
@@ -137,7 +138,7 @@ fn frame_of<D: Disk>(
     }
     match byte_at(disk, gate) {
         Err(_) => Err(OpenFault::StoreFault),
-        Ok(0xA5) => match body_of(alloc, disk, gate, end) {
+        Ok(OPEN) => match body_of(alloc, disk, gate, end) {
             Ok(read) => Ok(Some(read)),
             Err(e) => Err(e),
         },

@@ -1,7 +1,6 @@
 use Rattle.std.proofs.Common.{inl, refl, subst, []}
 use Rattle.std.proofs.lemmas.List.Elements.{All-nil}
 use Rattle.http_front.specs.Tells.{Tells}
-use Rattle.http_front.specs.declared.hearing.Bad.{Bad}
 use Rattle.http_front.specs.declared.hearing.Heard.{Heard}
 use Rattle.http_front.specs.declared.answering.SessionEnd.TheVariants.{Ended}
 use Rattle.http_front.proofs.SaidLemmas.{appends_none}

@@ -1,4 +1,4 @@
-use Rattle.std.proofs.Common.{◌≡◌, ap, Ok, Err}
+use Rattle.std.proofs.Common.{ap, Ok, Err}
 use Rattle.std.specs.Io.KnownBytes.{prepend_known}
 use Rattle.http_front.specs.Counts.{total_of}
 use Rattle.http_front.proofs.TalkLemmas.{last_stop, under_limit, reaches_limit}

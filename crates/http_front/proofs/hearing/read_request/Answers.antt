@@ -1,4 +1,4 @@
-use Rattle.std.proofs.Common.{◌≡◌, ap, Ok, Err, arith}
+use Rattle.std.proofs.Common.{◌≡◌, ap, Ok, Err}
 use Rattle.http_wire.proofs.Unique.{open_unsettled}
 use Rattle.http_front.specs.declared.hearing.Stop.TheVariants.{Spent}
 use Rattle.http_front.proofs.HeardLemmas.{tells_found, unbuilt, given_of}
@@ -25,6 +25,7 @@ returns-in_default g c = record {
   uses = tt;
   at_end = λ is. absurd cc;
   spent = λ is. absurd cc;
+  no_memory = λ is. absurd cc;
   settled = c.in-Ok.ensures.settled;
   later = c.in-Ok.ensures.later;
   fault = λ is. absurd cc;

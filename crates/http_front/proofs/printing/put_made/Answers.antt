@@ -1,4 +1,4 @@
-use Rattle.std.proofs.Common.{codes, decimal, length, ◌+◌, ap, arith}
+use Rattle.std.proofs.Common.{codes, decimal, length, ◌+◌, arith}
 use Rattle.http_front.specs.Texts.{made_text}
 use Rattle.http_front.proofs.PrintLemmas.{made_is}
 use Rattle.http_front.proofs.RoomLemmas.{puts_then, puts_same}

@@ -1,4 +1,3 @@
-use Rattle.std.proofs.Common.{refl}
 use Rattle.http_front.proofs.TalkLemmas.{session_of, session_lacks, gave_all}
 use Rattle.http_front.proofs.talking.session.Goals as goal
 

@@ -1,4 +1,4 @@
-use Rattle.std.proofs.Common.{◌≡◌, ◌+◌, ◌++◌, ◌∷◌, [], ℕ, length, subst, arith}
+use Rattle.std.proofs.Common.{◌++◌, ◌∷◌, [], ℕ, subst, arith}
 use Rattle.entry_codec.proofs.Sizes.{entry_small}
 use Rattle.meter_journal.specs.History.{IsAtRest}
 use Rattle.meter_journal.proofs.journal.Journal.append.Goals as goal

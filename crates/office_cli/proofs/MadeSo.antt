@@ -1,0 +1,37 @@
+-- What making a journal did.
+use Rattle.std.proofs.Common.{◌≡◌, ◌⊎◌, inl, inr, ℕ, Bool, List, [], ◌∷◌, length, get_or, map, ◌<◌, ◌≤◌, refl, sym, ap, ◌∙◌, subst, arith}
+use Rattle.std.specs.Prelude.{IsTrue, Option, take}
+use Rattle.std.specs.Io.KnownBytes.{Appends}
+use Rattle.disk_core.specs.Files.{State, IsImage, synced_file}
+use Rattle.disk_core.specs.Kept.{Narrower}
+use Rattle.disk_core.specs.Moments.{KeepsTo}
+use Rattle.plain_office.proofs.Runs.{run_none}
+use Rattle.meter_journal.specs.Created.{BeforeOrEmpty}
+use Rattle.meter_journal.specs.History.{header, IsAtRest}
+use Rattle.meter_journal.specs.Reading.{IsMade, IsNotMade, IsForeign, CreateFails}
+use Rattle.meter_journal.specs.declared.fault.OpenFault.{OpenFault}
+use Rattle.meter_journal.specs.declared.fault.OpenFault.TheVariants as faults
+use Rattle.meter_journal.specs.declared.making.Made.{Made}
+use Rattle.meter_journal.specs.declared.making.Made.TheVariants as mades
+use Rattle.plain_office.specs.Office.{empty_office}
+use Rattle.desk_core.proofs.Keeping.{rest_image}
+use Rattle.office_cli.specs.Lines.{fault_status}
+use Rattle.office_cli.specs.Making.{IsMadeSo}
+
+pub made_so : (made : Made) (old new : State) → (made ≡ mades.Before → IsMade old.journal.seen × (new.journal ≡ synced_file old.journal.seen))
+    → (made ≡ mades.Now → IsNotMade old.journal.seen × IsAtRest header new 10 []) → IsMadeSo made old new
+made_so mades.Before old new before now = before refl
+made_so mades.Now old new before now = ((now refl).0, λ image is. rest_image new 10 [] empty_office (now refl).1 run_none image is)
+
+pub not_foreign : (fault : OpenFault) (status : ℕ) (file : List ℕ) → CreateFails fault file → status ≡ fault_status fault → status ≡ 5 → IsForeign file
+not_foreign faults.NotMade status file fails is five = absurd fails
+not_foreign faults.Foreign status file fails is five = fails
+not_foreign faults.StoreFault status file fails is five = absurd (omega (arith, is, five))
+not_foreign (faults.Damaged at) status file fails is five = absurd fails
+not_foreign faults.NoMemory status file fails is five = absurd (omega (arith, is, five))
+
+-- a list of one
+pub only_one : {X : Type 0} (f : X → List ℕ) (xs : List X) (x : X) (w : List ℕ) → 1 ≤ length xs → length xs < 2 → x ≡ get_or xs 0 x → (f x ≡ w → map f xs ≡ w ∷ []) × (map f xs ≡ w ∷ [] → f x ≡ w)
+only_one f [] x w some few is = absurd (omega (arith, some))
+only_one f (y ∷ []) x w some few is = (λ same. ap (λ (t : List ℕ). t ∷ []) (ap f (sym is) ∙ same), λ same. ap f is ∙ cc)
+only_one f (y ∷ z ∷ ys) x w some few is = absurd (omega (arith, few))

@@ -1,0 +1,26 @@
+use Rattle.disk_core.specs.declared.disk.FileNo.TheVariants.{Journal}
+use Rattle.office_cli.proofs.Soundness.{reads_history, not_foreign_there, run_sound, init_sound}
+use Rattle.office_cli.proofs.program.office.Goals as goal
+
+pub returns-then-is_only-clause-opened : goal.returns-then-is_only-clause-opened
+returns-then-is_only-clause-opened g c tells sound five =
+    not_foreign_there (g.D.Disk.state c.args.disk) sound (g.met.D.Disk.reads_image tells c.args.disk Journal) (c.init-status.ensures.foreign tells five)
+
+pub returns-then-is_only-clause-sound : goal.returns-then-is_only-clause-sound
+returns-then-is_only-clause-sound g c tells sound =
+    let d = g.D.Disk in
+    let w = g.W.Replies in
+    init_sound d.honest d.state d.moment d.had_since d.fault_count g.C.Clock.count g.C.Clock.told w.said w.noted w.faults c.init-status.result c.args.disk c.init-status.new.disk c.args.out.now c.init-status.new.out tells sound
+    (g.met.D.Disk.reads_image tells c.args.disk Journal) c.init-status.ensures.inits
+
+pub returns-then-is_only-2-clause-opened : goal.returns-then-is_only-2-clause-opened
+returns-then-is_only-2-clause-opened g c tells sound =
+    let read = reads_history (g.D.Disk.state c.args.disk) sound (g.met.D.Disk.reads_image tells c.args.disk Journal) in
+    c.run.ensures.sound tells read.0 read.1
+
+pub returns-then-is_only-2-clause-sound : goal.returns-then-is_only-2-clause-sound
+returns-then-is_only-2-clause-sound g c tells sound =
+    let d = g.D.Disk in
+    let w = g.W.Replies in
+    run_sound d.honest d.state d.moment d.had_since d.fault_count g.C.Clock.count g.C.Clock.told w.said w.noted w.faults c.run.result.status c.args.disk c.run.result.disk c.args.clock c.run.result.clock c.args.out.now c.run.new.out
+    (g.R.Source.left c.args.input.now) tells sound c.run.ensures.runs

@@ -1,0 +1,83 @@
+-- What a run of the program does.
+use Rattle.std.specs.Prelude.{◌≡◌, ◌⊎◌, ℕ, ◌-◌, ◌^◌, ◌<◌, ◌≤◌, Bool, List, length, Option, option_map, IsTrue}
+use Rattle.std.specs.Io.KnownBytes.{Appends}
+use Rattle.office_base.specs.Faults.{Rose}
+use Rattle.disk_core.specs.Files.{State, IsImage}
+use Rattle.disk_core.specs.Kept.{Narrower}
+use Rattle.disk_core.specs.Moments.{KeepsTo}
+use Rattle.plain_office.specs.declared.command.Entry.{Entry}
+use Rattle.meter_journal.specs.declared.fault.OpenFault.{OpenFault}
+use Rattle.desk_core.specs.Answers.{Call}
+use Rattle.desk_core.specs.Calls.{Legal}
+use Rattle.desk_core.specs.Histories.{HasHistory}
+use Rattle.desk_core.specs.Opening.{OpenFails}
+use Rattle.desk_core.specs.Serving.{Opened, HasFront, AreToldBy, Serves}
+use Rattle.http_front.specs.Meaning.{Hears}
+use Rattle.http_front.specs.Session.{asks, IsWritten, NoneFaults, FaultsBy, LacksBy}
+use Rattle.http_front.specs.declared.answering.SessionEnd.{SessionEnd}
+use Rattle.office_cli.specs.Lines.{status_of, fault_status, end_note, fault_note}
+use Rattle.office_cli.specs.Numbers.{AreNumbers}
+
+-- the journal of the program has at most 2^30 bytes
+abbrev pub journal_limit : ℕ
+journal_limit = 1_073_741_824
+
+-- the line was noted, or a sink failed
+abbrev pub IsNoted : Option (List ℕ) → Option (List ℕ) → ℕ → ℕ → List ℕ → Type 0
+IsNoted noted_old noted_new faults_old faults_new text = Appends noted_old noted_new text ⊎ Rose faults_old faults_new
+
+module _ {D : Type 0} (state : D → State) (moment : D → ℕ) (had_since : D → ℕ → State → Type 0) (fault_count : D → ℕ) where
+  -- an image that the disk had at the entry, or one that stands for the history after the first calls
+  abbrev pub IsOldOrFront : D → Opened → List Call → State → Type 0
+  IsOldOrFront old opened calls s = (image : List ℕ) → IsImage s.journal image → IsImage (state old).journal image ⊎ HasFront opened calls image
+
+  -- What an honest disk keeps of the calls of a run, at every moment of it.
+  pub record KeepsCalls (old new : D) (opened : Opened) (calls : List Call) (history : List Entry) : Type 0 where
+    -- the run began from the history of what the disk read at the entry
+    pub read : HasHistory opened.history (state old).journal.seen
+    -- which is the history of every image, where they have one in common
+    pub only : (first : List Entry) → ((image : List ℕ) → IsImage (state old).journal image → HasHistory first image) → opened.history ≡ first
+    pub any_moment : KeepsTo state moment had_since old new (IsOldOrFront old opened calls)
+    pub since : moment old ≤ opened.moment
+    -- from the opening on, with each call that was acknowledged
+    pub serves : Serves state moment had_since fault_count opened new calls
+    -- at the return, where the store did not fail
+    pub all : NoneFaults calls → (image : List ℕ) → IsImage (state new).journal image → HasHistory history image
+
+module _ {D C W : Type 0} (honest : Bool) (state : D → State) (moment : D → ℕ) (had_since : D → ℕ → State → Type 0) (fault_count : D → ℕ) (count : C → ℕ) (told : C → Option (List ℕ))
+    (said noted : W → Option (List ℕ)) (out_faults : W → ℕ) where
+  -- The office was opened: the messages of the stream, in order, made a legal list of calls; what was said are their replies.
+  pub record Answers (status : ℕ) (old new : D) (clock_old clock_new : C) (out_old out_new : W) (stream : Option (List ℕ)) : Type 0 where
+    pub opened : Opened
+    pub limit : opened.limit ≡ journal_limit
+    pub calls : List Call
+    pub history : List Entry
+    pub legal : Legal opened.limit opened.faults calls opened.history history
+    -- each count of faults that was told rose since the entry, and is not above that at the return
+    pub faults : (fault_count old ≤ opened.faults) × AreToldBy (fault_count new) calls
+    pub numbers : count clock_new < 2 ^ 64 - 1 → (list : List ℕ) × AreNumbers calls list × Appends (told clock_old) (told clock_new) list
+    pub rest : Option (List ℕ)
+    pub heard : Hears stream (asks calls) rest
+    pub end : SessionEnd
+    pub written : List ℕ
+    pub said_all : Appends (said out_old) (said out_new) written
+    pub is_written : IsWritten (option_map length stream) end calls rest written
+    pub faulted : FaultsBy end calls
+    pub lacked : LacksBy end calls
+    pub status_is : status ≡ status_of end
+    pub note : IsNoted (noted out_old) (noted out_new) (out_faults out_old) (out_faults out_new) (end_note end)
+    pub disk : IsTrue honest → KeepsCalls state moment had_since fault_count old new opened calls history
+
+  -- The office was not opened: nothing was said or told, and each image is one that there was.
+  pub record Refuses (status : ℕ) (old new : D) (clock_old clock_new : C) (out_old out_new : W) : Type 0 where
+    pub fault : OpenFault
+    pub why : IsTrue honest → OpenFails fault (state old).journal.seen
+    pub any_moment : IsTrue honest → KeepsTo state moment had_since old new (Narrower (state old))
+    pub clock : clock_new ≡ clock_old
+    pub silent : said out_new ≡ said out_old
+    pub status_is : status ≡ fault_status fault
+    pub note : IsNoted (noted out_old) (noted out_new) (out_faults out_old) (out_faults out_new) (fault_note fault)
+
+  abbrev pub Runs : ℕ → D → D → C → C → W → W → Option (List ℕ) → Type 0
+  Runs status old new clock_old clock_new out_old out_new stream =
+      Answers status old new clock_old clock_new out_old out_new stream ⊎ Refuses status old new clock_old clock_new out_old out_new

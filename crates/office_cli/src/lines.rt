@@ -1,0 +1,133 @@
+// The statuses of the program and the lines that it prints.
+ghost use Rattle.std.specs.Prelude.{◌≡◌, ◌+◌, ◌≤◌, ◌++◌, length, take};
+ghost use Rattle.meter_journal.specs.declared.fault.OpenFault.TheVariants.{Damaged};
+ghost use Rattle.office_cli.specs.Lines.{status_of, fault_status, made_line, usage_note, end_note, fault_note};
+ghost use Rattle.office_cli.specs.Running.{IsNoted};
+
+use http_front::{Replies, SessionEnd};
+use meter_journal::{Made, OpenFault};
+
+/// The status of words that are no command line.
+pub(crate) const USAGE: u8 = 1;
+
+/// The status where a text could not be said.
+pub(crate) const OUTPUT: u8 = 4;
+
+pub(crate) fn end_status(end: SessionEnd) -> u8
+    ensures { result ≡ status_of end }
+{
+    match end {
+        SessionEnd::Ended => 0,
+        SessionEnd::ReadFault => 3,
+        SessionEnd::WriteFault => OUTPUT,
+        SessionEnd::StoreFault => 2,
+        SessionEnd::Spent => 9,
+        SessionEnd::NoMemory => 6,
+    }
+}
+
+pub(crate) fn open_status(fault: OpenFault) -> u8
+    ensures { result ≡ fault_status fault }
+{
+    match fault {
+        OpenFault::NotMade => 5,
+        OpenFault::Foreign => 5,
+        OpenFault::Damaged { .. } => 5,
+        OpenFault::StoreFault => 2,
+        OpenFault::NoMemory => 6,
+    }
+}
+
+pub(crate) fn made_text(made: Made) -> &'static [u8]
+    ensures { result.now ≡ made_line made }
+{
+    match made {
+        Made::Now => b"made\n",
+        Made::Before => b"already made\n",
+    }
+}
+
+#[tactic(auto, unfolding(crate::specs::Lines::usage_note))]
+pub(crate) fn usage() -> &'static [u8]
+    ensures { result.now ≡ usage_note }
+{
+    b"usage: office init; run; serve --listen A [--workers N] [--connections K]; report MONTH [--text]; explain [--workers N]; gen NUMBER COUNT\n"
+}
+
+#[tactic(auto, unfolding(crate::specs::Lines::end_note))]
+pub(crate) fn end_line(end: SessionEnd) -> &'static [u8]
+    ensures { result.now ≡ end_note end }
+{
+    match end {
+        SessionEnd::Ended => b"",
+        SessionEnd::ReadFault => b"input: failed\n",
+        SessionEnd::WriteFault => b"output: failed\n",
+        SessionEnd::StoreFault => b"store: failed\n",
+        SessionEnd::Spent => b"input: too long\n",
+        SessionEnd::NoMemory => b"memory: refused\n",
+    }
+}
+
+// Notes a line, or nothing where it is empty.
+pub(crate) fn note_line<W: Replies>(out: &mut W, line: &[u8])
+    ensures said { W.said out.new ≡ W.said out.old }
+    ensures noted { IsNoted (W.noted out.old) (W.noted out.new) (W.faults out.old) (W.faults out.new) line.now }
+    ensures later { W.faults out.old ≤ W.faults out.new }
+{
+    if !line.is_empty() {
+        out.note(line);
+    }
+}
+
+const DAMAGED: &[u8] = b"journal: damaged at ";
+
+// Writes a text behind the first bytes of the room, and answers where it ends.
+fn put(room: &mut [u8], at: usize, text: &[u8]) -> usize
+    requires { at + length text.now ≤ length room.old }
+    ensures end { result ≡ at + length text.now }
+    ensures text { take (at + length text.now) room.new ≡ take at room.old ++ text.now }
+{
+    let end = at + text.len();
+    room[at..end].copy_from_slice(text);
+    end
+}
+
+// Writes the line of a damaged journal into the room, and answers its length.
+#[tactic(auto, unfolding(crate::specs::Lines::fault_note))]
+fn put_damage(room: &mut [u8], offset: u64) -> usize
+    requires { 48 ≤ length room.old }
+    ensures small { result ≤ 48 }
+    ensures line { take result room.new ≡ fault_note (Damaged offset) }
+{
+    let mut buffer = itoa::Buffer::new();
+    let digits = buffer.format(offset).as_bytes();
+    let front = put(room, 0, DAMAGED);
+    let end = put(room, front, digits);
+    put(room, end, b"\n")
+}
+
+fn note_damage<W: Replies>(out: &mut W, offset: u64)
+    ensures said { W.said out.new ≡ W.said out.old }
+    ensures noted { IsNoted (W.noted out.old) (W.noted out.new) (W.faults out.old) (W.faults out.new) (fault_note (Damaged offset)) }
+    ensures later { W.faults out.old ≤ W.faults out.new }
+{
+    let mut room = [0; 48];
+    let size = put_damage(&mut room, offset);
+    out.note(&room[..size]);
+}
+
+// Notes why a journal was not opened, or not made.
+#[tactic(auto, unfolding(crate::specs::Lines::fault_note))]
+pub(crate) fn note_fault<W: Replies>(out: &mut W, fault: OpenFault)
+    ensures said { W.said out.new ≡ W.said out.old }
+    ensures noted { IsNoted (W.noted out.old) (W.noted out.new) (W.faults out.old) (W.faults out.new) (fault_note fault) }
+    ensures later { W.faults out.old ≤ W.faults out.new }
+{
+    match fault {
+        OpenFault::NotMade => out.note(b"journal: not made\n"),
+        OpenFault::Foreign => out.note(b"journal: foreign\n"),
+        OpenFault::Damaged { offset } => note_damage(out, offset),
+        OpenFault::StoreFault => out.note(b"store: failed\n"),
+        OpenFault::NoMemory => out.note(b"memory: refused\n"),
+    }
+}

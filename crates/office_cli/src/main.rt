@@ -1,0 +1,85 @@
+//! An office that keeps the records of an object store in a journal.
+#![tactic(auto)]
+
+mod lines;
+mod program;
+
+use desk_core::SystemClock;
+use disk_core::FileDisk;
+use http_front::{Replies, SessionEnd, WriterReplies};
+use http_wire::ReaderSource;
+use lines::{USAGE, end_line, end_status, note_line, usage};
+use program::{is_command, office};
+use std::alloc::{Alloc, Global};
+use std::env;
+use std::fs::{self, File, OpenOptions};
+use std::io::{self, ErrorKind};
+use std::process::ExitCode;
+use std::rt::{Env, Files};
+
+/// The folder of the program's files, in the folder where it is started.
+const FOLDER: &str = "office-data";
+
+fn open_file<R: Files>(rt: &R, path: &str) -> Option<R::File> {
+    let mut options = OpenOptions::new();
+    options.read(true).write(true).create(true);
+    options.open(rt, path).ok()
+}
+
+// The files of the folder, which is made where it is not there. A file that cannot be opened is none, and so are all where the
+// words are no command.
+fn open_disk<R: Files<File = File>>(rt: &R, words: &[String]) -> FileDisk {
+    if !is_command(words) || fs::create_dir_all(rt, FOLDER).is_err() {
+        return FileDisk::new(None, None, None);
+    }
+    FileDisk::new(
+        open_file(rt, "office-data/journal"),
+        open_file(rt, "office-data/check.0"),
+        open_file(rt, "office-data/check.1"),
+    )
+}
+
+// Takes the number of a standard stream that is closed, so that no file of the disk gets it and a reply is not written there.
+fn hold_number<R: Files>(rt: &R) -> Option<R::File> {
+    File::open(rt, "/dev/null").ok()
+}
+
+// The words behind the program's name.
+fn words_of<R: Env + Alloc<A = Global>>(rt: &R) -> io::Result<Vec<String>> {
+    let mut words: Vec<String> = env::args(rt)?.collect(rt.alloc())?;
+    if !words.is_empty() {
+        words.remove(0);
+    }
+    Ok(words)
+}
+
+// Notes why there are no words, and answers the status: memory ran out, or one of them is not UTF-8.
+fn refuse_words<W: Replies>(out: &mut W, kind: ErrorKind) -> u8 {
+    if kind == ErrorKind::OutOfMemory {
+        note_line(out, end_line(SessionEnd::NoMemory));
+        return end_status(SessionEnd::NoMemory);
+    }
+    note_line(out, usage());
+    USAGE
+}
+
+fn main(rt: HostRuntime) -> ExitCode {
+    let _first = hold_number(&rt);
+    let _second = hold_number(&rt);
+    let _third = hold_number(&rt);
+    let mut out = WriterReplies::new(rt.stdout(), rt.stderr());
+    let words = match words_of(&rt) {
+        Ok(words) => words,
+        Err(e) => return ExitCode::from(refuse_words(&mut out, e.kind())),
+    };
+    let mut input = ReaderSource::new(rt.stdin());
+    let end = office(
+        rt.alloc(),
+        &words,
+        &mut input,
+        &mut out,
+        open_disk(&rt, &words),
+        SystemClock::new(&rt),
+    );
+    ExitCode::from(end.status)
+}

@@ -1,0 +1,218 @@
+// The program over any source, replies, disk and clock.
+ghost use Rattle.std.specs.Prelude.{◌≡◌, ◌≤◌, ◌⊎◌, ◌↔◌, [], ◌∷◌, ℕ, List, Option, IsTrue, map, string_bytes, take};
+ghost use Rattle.std.specs.Io.KnownBytes.{Appends};
+ghost use Rattle.http_front.specs.declared.answering.SessionEnd.TheVariants.{WriteFault};
+ghost use Rattle.office_base.specs.Faults.{Rose};
+ghost use Rattle.disk_core.specs.Moments.{KeepsTo};
+ghost use Rattle.plain_office.specs.declared.command.Entry.{Entry};
+ghost use Rattle.desk_core.specs.Histories.{HasHistory, IsSound};
+ghost use Rattle.desk_core.specs.Desk.{IsReady};
+ghost use Rattle.desk_core.specs.Opening.{Opens, OpenFails};
+ghost use Rattle.office_cli.specs.Lines.{IsLine, init_line, run_line, fault_status, fault_note, end_note, made_line, usage_note, IsServeStatus, IsRunStatus};
+ghost use Rattle.meter_journal.specs.Reading.{IsForeign};
+ghost use Rattle.office_cli.specs.Making.{Inits};
+ghost use Rattle.office_cli.specs.Running.{journal_limit, IsNoted, Answers, Refuses, Runs};
+
+use crate::lines::{
+    OUTPUT, USAGE, end_line, end_status, made_text, note_fault, note_line, open_status, usage,
+};
+use desk_core::{Clock, Desk};
+use disk_core::Disk;
+use http_front::{Replies, SessionEnd, session};
+use http_wire::Source;
+use meter_journal::{Made, OpenFault, create};
+use std::alloc::Global;
+
+/// How a command of the program ended, with what was handed in.
+#[derive(Drop)]
+pub struct End<D, C> {
+    /// The exit status.
+    pub status: u8,
+    pub disk: D,
+    pub clock: C,
+}
+
+/// The most bytes that the program's journal file has: 1 GiB. Own rule: an operator can read a journal of this size at once.
+pub const JOURNAL_LIMIT: u64 = 1_073_741_824;
+
+// Runs one session on the desk.
+fn serve<R: Source, W: Replies, D: Disk + Drop, C: Clock + Drop>(
+    alloc: Global,
+    input: &mut R,
+    out: &mut W,
+    mut desk: Desk<D, C>,
+) -> End<D, C>
+    requires ready { IsReady D.honest D.state desk }
+
+    ensures answers { (disk : D) (clock : C) → Opens D.honest D.state D.moment D.had_since D.fault_count disk clock journal_limit desk
+        → Answers D.honest D.state D.moment D.had_since D.fault_count C.count C.told W.said W.noted W.faults result.status disk result.disk clock result.clock out.old out.new (R.left input.old) }
+    ensures later { (R.faults input.old ≤ R.faults input.new) × (W.faults out.old ≤ W.faults out.new) × (D.fault_count desk.disk ≤ D.fault_count result.disk) }
+    ensures statuses { IsServeStatus result.status }
+    ensures disk_fault { result.status ≡ 2 → Rose (D.fault_count desk.disk) (D.fault_count result.disk) }
+    ensures read_fault { result.status ≡ 3 → Rose (R.faults input.old) (R.faults input.new) }
+    ensures write_fault { result.status ≡ 4 → Rose (W.faults out.old) (W.faults out.new) }
+{
+    let end = session(alloc, input, out, &mut desk);
+    note_line(out, end_line(end));
+    let (disk, clock) = desk.close();
+    End {
+        status: end_status(end),
+        disk,
+        clock,
+    }
+}
+
+// Notes why the office was not opened.
+fn refuse<W: Replies, D: Disk + Drop, C: Clock + Drop>(
+    out: &mut W,
+    fault: OpenFault,
+    disk: D,
+    clock: C,
+) -> End<D, C>
+    ensures status { result.status ≡ fault_status fault }
+    ensures disk { result.disk ≡ disk }
+    ensures clock { result.clock ≡ clock }
+    ensures said { W.said out.new ≡ W.said out.old }
+    ensures noted { IsNoted (W.noted out.old) (W.noted out.new) (W.faults out.old) (W.faults out.new) (fault_note fault) }
+    ensures later { W.faults out.old ≤ W.faults out.new }
+{
+    note_fault(out, fault);
+    End {
+        status: open_status(fault),
+        disk,
+        clock,
+    }
+}
+
+// Opens the office, and runs one session on it.
+fn run<R: Source, W: Replies, D: Disk + Drop, C: Clock + Drop>(
+    alloc: Global,
+    input: &mut R,
+    out: &mut W,
+    disk: D,
+    clock: C,
+) -> End<D, C>
+    ensures runs { Runs D.honest D.state D.moment D.had_since D.fault_count C.count C.told W.said W.noted W.faults result.status disk result.disk clock result.clock out.old out.new (R.left input.old) }
+    ensures sound { IsTrue D.honest → (history : List Entry) → HasHistory history (D.state disk).journal.seen → result.status ≡ 5 → ⊥ }
+    ensures later { (R.faults input.old ≤ R.faults input.new) × (W.faults out.old ≤ W.faults out.new) × (D.fault_count disk ≤ D.fault_count result.disk) }
+    ensures statuses { IsRunStatus result.status }
+    ensures disk_fault { result.status ≡ 2 → Rose (D.fault_count disk) (D.fault_count result.disk) }
+    ensures read_fault { result.status ≡ 3 → Rose (R.faults input.old) (R.faults input.new) }
+    ensures write_fault { result.status ≡ 4 → Rose (W.faults out.old) (W.faults out.new) }
+{
+    match Desk::open(alloc, disk, clock, JOURNAL_LIMIT) {
+        Ok(desk) => serve(alloc, input, out, desk),
+        Err((fault, disk, clock)) => refuse(out, fault, disk, clock),
+    }
+}
+
+// Says that the journal is there, and answers the status.
+fn say_made<W: Replies>(out: &mut W, made: Made) -> u8
+    ensures told { ((result ≡ 0) × Appends (W.said out.old) (W.said out.new) (made_line made) × (W.noted out.new ≡ W.noted out.old))
+        ⊎ ((result ≡ 4) × ((n : ℕ) × Appends (W.said out.old) (W.said out.new) (take n (made_line made))) × IsNoted (W.noted out.old) (W.noted out.new) (W.faults out.old) (W.faults out.new) (end_note WriteFault)) }
+    ensures later { W.faults out.old ≤ W.faults out.new }
+    ensures write_fault { result ≡ 4 → Rose (W.faults out.old) (W.faults out.new) }
+{
+    match out.text(made_text(made)) {
+        Ok(()) => 0,
+        Err(_) => {
+            note_line(out, end_line(SessionEnd::WriteFault));
+            OUTPUT
+        }
+    }
+}
+
+// Makes the journal where it is not made, and says so.
+fn init<W: Replies, D: Disk>(out: &mut W, disk: &mut D) -> u8
+    ensures inits { Inits D.honest D.state D.moment D.had_since W.said W.noted W.faults result disk.old disk.new out.old out.new }
+    ensures foreign { IsTrue D.honest → result ≡ 5 → IsForeign (D.state disk.old).journal.seen }
+    ensures later { (W.faults out.old ≤ W.faults out.new) × (D.fault_count disk.old ≤ D.fault_count disk.new) }
+    ensures statuses { IsRunStatus result }
+    ensures not_read { result ≡ 3 → ⊥ }
+    ensures disk_fault { result ≡ 2 → Rose (D.fault_count disk.old) (D.fault_count disk.new) }
+    ensures write_fault { result ≡ 4 → Rose (W.faults out.old) (W.faults out.new) }
+{
+    match create(disk) {
+        Ok(made) => say_made(out, made),
+        Err(fault) => {
+            note_fault(out, fault);
+            open_status(fault)
+        }
+    }
+}
+
+fn is_only(words: &[String], word: &str) -> bool
+    ensures { IsTrue result ↔ (map string_bytes words.now ≡ word.now ∷ []) }
+{
+    match words {
+        [only] => only.as_str() == word,
+        _ => false,
+    }
+}
+
+// Whether the words are a command of the program, which then needs its disk.
+pub(crate) fn is_command(words: &[String]) -> bool
+    ensures { IsTrue result ↔ IsLine (map string_bytes words.now) }
+{
+    is_only(words, "init") || is_only(words, "run")
+}
+
+/// Does one command of the program: `init` or `run`. The words are those behind the program's name.
+///
+/// `init` makes the journal where it is not made, and says whether it was. `run` opens the office over the journal, answers the
+/// messages of the input in order, each once its effect is durable, and closes the office. A line on a fault goes to the notes.
+///
+/// The status is 0 where all was done; 1 where the words are no command line; 2 where the disk did not do a call; 3 where the
+/// input could not be read; 4 where a text could not be said; 5 where the journal is not made, foreign or damaged; 6 where
+/// memory ran out; 9 where the input is longer than 2^40 bytes.
+pub fn office<R: Source, W: Replies, D: Disk + Drop, C: Clock + Drop>(
+    alloc: Global,
+    words: &[String],
+    input: &mut R,
+    out: &mut W,
+    mut disk: D,
+    clock: C,
+) -> End<D, C>
+    // What run does.
+    ensures run { map string_bytes words.now ≡ run_line
+        → Runs D.honest D.state D.moment D.had_since D.fault_count C.count C.told W.said W.noted W.faults result.status disk result.disk clock result.clock out.old out.new (R.left input.old) }
+
+    // What init does.
+    ensures init { map string_bytes words.now ≡ init_line
+        → Inits D.honest D.state D.moment D.had_since W.said W.noted W.faults result.status disk result.disk out.old out.new }
+    ensures init_clock { map string_bytes words.now ≡ init_line → result.clock ≡ clock }
+
+    // Words that are no command line touch nothing.
+    ensures usage { result.status ≡ 1 ↔ (IsLine (map string_bytes words.now) → ⊥) }
+    ensures usage_silent { result.status ≡ 1 → (result.disk ≡ disk) × (result.clock ≡ clock) × (W.said out.new ≡ W.said out.old)
+        × IsNoted (W.noted out.old) (W.noted out.new) (W.faults out.old) (W.faults out.new) usage_note }
+
+    // The causes of the statuses.
+    ensures statuses { (result.status ≡ 1) ⊎ IsRunStatus result.status }
+    ensures disk_fault { result.status ≡ 2 → Rose (D.fault_count disk) (D.fault_count result.disk) }
+    ensures read_fault { result.status ≡ 3 → Rose (R.faults input.old) (R.faults input.new) }
+    ensures write_fault { result.status ≡ 4 → Rose (W.faults out.old) (W.faults out.new) }
+    ensures foreign { IsTrue D.honest → map string_bytes words.now ≡ init_line → result.status ≡ 5 → IsForeign (D.state disk).journal.seen }
+
+    // A disk each of whose images has a history is opened, and has such images at every moment.
+    ensures opened { IsTrue D.honest → IsSound (D.state disk) → result.status ≡ 5 → ⊥ }
+    ensures sound { IsTrue D.honest → IsSound (D.state disk) → KeepsTo D.state D.moment D.had_since disk result.disk IsSound }
+{
+    if is_only(words, "init") {
+        let status = init(out, &mut disk);
+        return End {
+            status,
+            disk,
+            clock,
+        };
+    }
+    if is_only(words, "run") {
+        return run(alloc, input, out, disk, clock);
+    }
+    note_line(out, usage());
+    End {
+        status: USAGE,
+        disk,
+        clock,
+    }
+}
