@@ -250,5 +250,7 @@ fn clocks_tell_milliseconds(rt: HostRuntime) -> Result<(), Fail> {
     let at = Some(Duration::new(1_704_067_200, 5_999_999));
     assert_eq!(rt; tell(&mut SystemClock::new(Stopped { at })), J0 + 5);
     assert_eq!(rt; tell(&mut SystemClock::new(Stopped { at: None })), u64::MAX);
+    // The machine's own clock is past that day.
+    assert!(rt; J0 < tell(&mut SystemClock::new(rt)));
     Ok(())
 }
