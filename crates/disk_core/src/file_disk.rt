@@ -6,8 +6,9 @@ ghost use Rattle.disk_core.specs.Untold.{untold_image, untold_bytes, file_faults
 
 use crate::{Disk, FileNo};
 use office_base::Failed;
-use std::fs::File;
-use std::io::{self, Read, Seek, SeekFrom, Write};
+use std::fs::{File, OpenFile};
+use std::io;
+use std::os::unix::fs::FileExt;
 use std::snapshot::Snapshot;
 
 /// Three files of the operating system. Of what they hold nothing is promised.
@@ -22,51 +23,6 @@ pub struct FileDisk {
     faults: u64,
 }
 
-fn missing() -> io::Error {
-    io::Error::from(io::ErrorKind::NotFound)
-}
-
-fn length_of(file: &mut Option<File>) -> io::Result<u64> {
-    match file {
-        Some(file) => file.seek(SeekFrom::End(0)),
-        None => Err(missing()),
-    }
-}
-
-fn read_all_at(file: &mut Option<File>, at: u64, room: &mut [u8]) -> io::Result<()> {
-    match file {
-        Some(file) => {
-            file.seek(SeekFrom::Start(at))?;
-            file.read_exact(room)
-        }
-        None => Err(missing()),
-    }
-}
-
-fn write_all_at(file: &mut Option<File>, at: u64, bytes: &[u8]) -> io::Result<()> {
-    match file {
-        Some(file) => {
-            file.seek(SeekFrom::Start(at))?;
-            file.write_all(bytes)
-        }
-        None => Err(missing()),
-    }
-}
-
-fn cut_to(file: &mut Option<File>, to: u64) -> io::Result<()> {
-    match file {
-        Some(file) => file.set_len(to),
-        None => Err(missing()),
-    }
-}
-
-fn sync_bytes(file: &mut Option<File>) -> io::Result<()> {
-    match file {
-        Some(file) => file.sync_data(),
-        None => Err(missing()),
-    }
-}
-
 impl FileDisk {
     /// Makes a disk of these files, which are open for reading and writing, without a fault so far.
     pub fn new(journal: Option<File>, slot0: Option<File>, slot1: Option<File>) -> Self
@@ -77,6 +33,19 @@ impl FileDisk {
             slot0,
             slot1,
             faults: 0,
+        }
+    }
+
+    // The file, where it was opened.
+    fn open(&self, file: FileNo) -> io::Result<&File> {
+        let found = match file {
+            FileNo::Journal => &self.journal,
+            FileNo::Slot0 => &self.slot0,
+            FileNo::Slot1 => &self.slot1,
+        };
+        match found {
+            Some(file) => Ok(file),
+            None => Err(io::Error::from(io::ErrorKind::NotFound)),
         }
     }
 
@@ -116,46 +85,44 @@ impl Disk for FileDisk {
     ghost holds_bytes = { untold_bytes };
 
     fn length(&mut self, file: FileNo) -> Result<u64, Failed> {
-        let result = match file {
-            FileNo::Journal => length_of(&mut self.journal),
-            FileNo::Slot0 => length_of(&mut self.slot0),
-            FileNo::Slot1 => length_of(&mut self.slot1),
+        let result = match self.open(file) {
+            Ok(file) => file.metadata(),
+            Err(e) => Err(e),
         };
-        self.told(result)
+        match self.told(result) {
+            Ok(known) => Ok(known.len()),
+            Err(e) => Err(e),
+        }
     }
 
     fn read_at(&mut self, file: FileNo, at: u64, room: &mut [u8]) -> Result<(), Failed> {
-        let result = match file {
-            FileNo::Journal => read_all_at(&mut self.journal, at, room),
-            FileNo::Slot0 => read_all_at(&mut self.slot0, at, room),
-            FileNo::Slot1 => read_all_at(&mut self.slot1, at, room),
+        let result = match self.open(file) {
+            Ok(file) => file.read_exact_at(room, at),
+            Err(e) => Err(e),
         };
         self.told(result)
     }
 
     fn write_at(&mut self, file: FileNo, at: u64, bytes: &[u8]) -> Result<(), Failed> {
-        let result = match file {
-            FileNo::Journal => write_all_at(&mut self.journal, at, bytes),
-            FileNo::Slot0 => write_all_at(&mut self.slot0, at, bytes),
-            FileNo::Slot1 => write_all_at(&mut self.slot1, at, bytes),
+        let result = match self.open(file) {
+            Ok(file) => file.write_all_at(bytes, at),
+            Err(e) => Err(e),
         };
         self.told(result)
     }
 
     fn cut(&mut self, file: FileNo, to: u64) -> Result<(), Failed> {
-        let result = match file {
-            FileNo::Journal => cut_to(&mut self.journal, to),
-            FileNo::Slot0 => cut_to(&mut self.slot0, to),
-            FileNo::Slot1 => cut_to(&mut self.slot1, to),
+        let result = match self.open(file) {
+            Ok(file) => file.set_len(to),
+            Err(e) => Err(e),
         };
         self.told(result)
     }
 
     fn sync(&mut self, file: FileNo) -> Result<(), Failed> {
-        let result = match file {
-            FileNo::Journal => sync_bytes(&mut self.journal),
-            FileNo::Slot0 => sync_bytes(&mut self.slot0),
-            FileNo::Slot1 => sync_bytes(&mut self.slot1),
+        let result = match self.open(file) {
+            Ok(file) => file.sync_data(),
+            Err(e) => Err(e),
         };
         self.told(result)
     }

@@ -1,3 +1,4 @@
+pub mod Dropped
 pub mod Filled
 pub mod FrontLemmas
 pub mod Given

@@ -168,12 +168,13 @@ fn look_in(room: &[u8], len: usize, spans: &mut [HeaderSpan]) -> Front
 }
 
 /// Drops bytes from the front of the first ones.
+#[tactic(auto, using(crate::proofs::Dropped::dropped))]
 fn shift(room: &mut [u8], len: usize, count: usize)
     requires inside { len ≤ length room.old }
     requires front { count ≤ len }
     ensures { take (len - count) room.new ≡ drop count (take len room.old) }
 {
-    room[..len].rotate_left(count);
+    room.copy_within(count..len, 0);
 }
 
 /// Reads at most so many bytes into the room from an index on.

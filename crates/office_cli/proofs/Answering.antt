@@ -1,20 +1,16 @@
 -- What a run did whose office was opened.
-use Rattle.std.proofs.Common.{◌≡◌, ◌⊎◌, inl, inr, ℕ, ◌-◌, ◌^◌, ◌<◌, ◌≤◌, Bool, false, List, length, Option, refl, sym, ap, ◌∙◌, subst, arith}
-use Rattle.std.specs.Prelude.{IsTrue, option_map}
+use Rattle.std.proofs.Common.{◌≡◌, inl, inr, ℕ, ◌≤◌, Bool, List, Option, sym, subst, arith}
+use Rattle.std.specs.Prelude.{IsTrue}
 use Rattle.std.specs.Io.KnownBytes.{Appends}
 use Rattle.disk_core.specs.Files.{State, IsImage}
-use Rattle.plain_office.specs.declared.command.Entry.{Entry}
 use Rattle.meter_journal.specs.History.{header}
-use Rattle.meter_journal.proofs.History.{each_image}
 use Rattle.meter_journal.proofs.Unique.{entries_unique}
 use Rattle.desk_core.specs.Answers.{Call}
-use Rattle.desk_core.specs.Histories.{HasHistory}
-use Rattle.desk_core.specs.Desk.{Seat, StandsFor, IsReady}
+use Rattle.desk_core.specs.Desk.{Seat, IsReady}
 use Rattle.desk_core.specs.Opening.{Opens, opened_with}
-use Rattle.desk_core.specs.Serving.{Opened}
 use Rattle.desk_core.proofs.Keeping.{rest_image}
 use Rattle.office_base.specs.Faults.{Rose}
-use Rattle.http_front.specs.Session.{Session, NoneFaults, FaultsBy}
+use Rattle.http_front.specs.Session.{Session, FaultsBy}
 use Rattle.http_front.specs.declared.answering.SessionEnd.{SessionEnd}
 use Rattle.http_front.specs.declared.answering.SessionEnd.TheVariants as ends
 use Rattle.office_cli.specs.Lines.{status_of, end_note}

@@ -1,12 +1,7 @@
 -- What making a journal did.
-use Rattle.std.proofs.Common.{◌≡◌, ◌⊎◌, inl, inr, ℕ, Bool, List, [], ◌∷◌, length, get_or, map, ◌<◌, ◌≤◌, refl, sym, ap, ◌∙◌, subst, arith}
-use Rattle.std.specs.Prelude.{IsTrue, Option, take}
-use Rattle.std.specs.Io.KnownBytes.{Appends}
-use Rattle.disk_core.specs.Files.{State, IsImage, synced_file}
-use Rattle.disk_core.specs.Kept.{Narrower}
-use Rattle.disk_core.specs.Moments.{KeepsTo}
+use Rattle.std.proofs.Common.{◌≡◌, ℕ, List, [], ◌∷◌, length, get_or, map, ◌<◌, ◌≤◌, refl, sym, ap, ◌∙◌, arith}
+use Rattle.disk_core.specs.Files.{State, synced_file}
 use Rattle.plain_office.proofs.Runs.{run_none}
-use Rattle.meter_journal.specs.Created.{BeforeOrEmpty}
 use Rattle.meter_journal.specs.History.{header, IsAtRest}
 use Rattle.meter_journal.specs.Reading.{IsMade, IsNotMade, IsForeign, CreateFails}
 use Rattle.meter_journal.specs.declared.fault.OpenFault.{OpenFault}

@@ -1,5 +1,5 @@
 -- A disk whose images have histories keeps to such images.
-use Rattle.std.proofs.Common.{◌≡◌, ◌⊎◌, inl, inr, ⊎_elim, ℕ, ◌≤◌, Bool, List, [], sym, ap, subst, refl, arith}
+use Rattle.std.proofs.Common.{inl, inr, ⊎_elim, ℕ, Bool, List}
 use Rattle.std.specs.Prelude.{IsTrue, Option}
 use Rattle.disk_core.specs.Files.{State, IsImage}
 use Rattle.disk_core.specs.Kept.{Narrower}
@@ -9,7 +9,7 @@ use Rattle.plain_office.specs.declared.command.Entry.{Entry}
 use Rattle.meter_journal.specs.Reading.{IsNotMade, IsForeign}
 use Rattle.meter_journal.proofs.Heads.{history_made, made_not_none, made_not_foreign}
 use Rattle.desk_core.specs.Histories.{HasHistory, IsSound}
-use Rattle.office_cli.specs.Running.{Answers, Refuses, Runs}
+use Rattle.office_cli.specs.Running.{Runs}
 use Rattle.office_cli.specs.Making.{Inits}
 
 -- ---- what is read has a history

@@ -1,11 +1,13 @@
 // The statuses of the program and the lines that it prints.
 ghost use Rattle.std.specs.Prelude.{◌≡◌, ◌+◌, ◌≤◌, ◌++◌, length, take};
+ghost use Rattle.http_front.specs.declared.answering.SessionEnd.TheVariants.{NoMemory};
 ghost use Rattle.meter_journal.specs.declared.fault.OpenFault.TheVariants.{Damaged};
 ghost use Rattle.office_cli.specs.Lines.{status_of, fault_status, made_line, usage_note, end_note, fault_note};
 ghost use Rattle.office_cli.specs.Running.{IsNoted};
 
 use http_front::{Replies, SessionEnd};
 use meter_journal::{Made, OpenFault};
+use std::io::ErrorKind;
 
 /// The status of words that are no command line.
 pub(crate) const USAGE: u8 = 1;
@@ -130,4 +132,20 @@ pub(crate) fn note_fault<W: Replies>(out: &mut W, fault: OpenFault)
         OpenFault::StoreFault => out.note(b"store: failed\n"),
         OpenFault::NoMemory => out.note(b"memory: refused\n"),
     }
+}
+
+// Notes why there are no words, and answers the status: memory ran out, or one of them is not UTF-8.
+pub(crate) fn refuse_words<W: Replies>(out: &mut W, kind: ErrorKind) -> u8
+    ensures memory { kind ≡ ErrorKind.OutOfMemory → (result ≡ status_of NoMemory)
+        × IsNoted (W.noted out.old) (W.noted out.new) (W.faults out.old) (W.faults out.new) (end_note NoMemory) }
+    ensures usage { (kind ≡ ErrorKind.OutOfMemory → ⊥) → (result ≡ 1)
+        × IsNoted (W.noted out.old) (W.noted out.new) (W.faults out.old) (W.faults out.new) usage_note }
+    ensures said { W.said out.new ≡ W.said out.old }
+{
+    if kind == ErrorKind::OutOfMemory {
+        note_line(out, end_line(SessionEnd::NoMemory));
+        return end_status(SessionEnd::NoMemory);
+    }
+    note_line(out, usage());
+    USAGE
 }

@@ -8,16 +8,15 @@ mod tests;
 
 use desk_core::SystemClock;
 use disk_core::FileDisk;
-use http_front::{Replies, SessionEnd, WriterReplies};
+use http_front::WriterReplies;
 use http_wire::ReaderSource;
-use lines::{USAGE, end_line, end_status, note_line, usage};
+use lines::refuse_words;
 use program::{is_command, office};
 use std::alloc::{Alloc, Global};
-use std::env;
 use std::fs::{self, File, OpenOptions};
-use std::io::{self, ErrorKind};
 use std::process::ExitCode;
 use std::rt::{Env, Files};
+use std::{env, io};
 
 /// The folder of the program's files, in the folder where it is started.
 const FOLDER: &str = "office-data";
@@ -53,16 +52,6 @@ fn words_of<R: Env + Alloc<A = Global>>(rt: &R) -> io::Result<Vec<String>> {
         words.remove(0);
     }
     Ok(words)
-}
-
-// Notes why there are no words, and answers the status: memory ran out, or one of them is not UTF-8.
-fn refuse_words<W: Replies>(out: &mut W, kind: ErrorKind) -> u8 {
-    if kind == ErrorKind::OutOfMemory {
-        note_line(out, end_line(SessionEnd::NoMemory));
-        return end_status(SessionEnd::NoMemory);
-    }
-    note_line(out, usage());
-    USAGE
 }
 
 fn main(rt: HostRuntime) -> ExitCode {

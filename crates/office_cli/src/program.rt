@@ -96,6 +96,7 @@ fn run<R: Source, W: Replies, D: Disk + Drop, C: Clock + Drop>(
     ensures sound { IsTrue D.honest → (history : List Entry) → HasHistory history (D.state disk).journal.seen → result.status ≡ 5 → ⊥ }
     ensures later { (R.faults input.old ≤ R.faults input.new) × (W.faults out.old ≤ W.faults out.new) × (D.fault_count disk ≤ D.fault_count result.disk) }
     ensures statuses { IsRunStatus result.status }
+    ensures unopened { result.status ≡ 5 → input.new ≡ input.old }
     ensures disk_fault { result.status ≡ 2 → Rose (D.fault_count disk) (D.fault_count result.disk) }
     ensures read_fault { result.status ≡ 3 → Rose (R.faults input.old) (R.faults input.new) }
     ensures write_fault { result.status ≡ 4 → Rose (W.faults out.old) (W.faults out.new) }
@@ -186,6 +187,10 @@ pub fn office<R: Source, W: Replies, D: Disk + Drop, C: Clock + Drop>(
     ensures usage { result.status ≡ 1 ↔ (IsLine (map string_bytes words.now) → ⊥) }
     ensures usage_silent { result.status ≡ 1 → (result.disk ≡ disk) × (result.clock ≡ clock) × (W.said out.new ≡ W.said out.old)
         × IsNoted (W.noted out.old) (W.noted out.new) (W.faults out.old) (W.faults out.new) usage_note }
+
+    // The input is read only by a run whose journal was opened.
+    ensures unread { (map string_bytes words.now ≡ run_line → ⊥) → input.new ≡ input.old }
+    ensures unopened { result.status ≡ 5 → input.new ≡ input.old }
 
     // The causes of the statuses.
     ensures statuses { (result.status ≡ 1) ⊎ IsRunStatus result.status }

@@ -1,4 +1,4 @@
-use Rattle.std.proofs.Common.{inl, ap, refl}
+use Rattle.std.proofs.Common.{inl}
 use Rattle.office_cli.proofs.MadeSo.{made_so}
 use Rattle.office_cli.proofs.program.init.Goals as goal
 

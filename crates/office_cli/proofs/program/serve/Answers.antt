@@ -1,4 +1,4 @@
-use Rattle.std.proofs.Common.{◌≡◌, ◌≤◌, ℕ, List, sym, subst, arith}
+use Rattle.std.proofs.Common.{◌≤◌, ℕ, List, sym, subst, arith}
 use Rattle.office_base.specs.Faults.{Rose}
 use Rattle.disk_core.specs.declared.disk.FileNo.TheVariants.{Journal}
 use Rattle.office_cli.specs.Running.{Answers, IsNoted}
