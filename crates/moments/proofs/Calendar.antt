@@ -1,10 +1,10 @@
 -- The months are those of jiff's calendar.
-use Rattle.std.proofs.Common.{◌≡◌, ◌≢◌, ◌∙◌, sym, ℕ, suc, zero, ◌+◌, ◌-◌, ◌*◌, ◌/◌, ◌%◌, ◌<◌, ◌≤◌, ◌==◌, ℤ, pos, negsuc, neg_ℤ, ◌+ℤ◌, ◌≤ℤ◌, ◌<ℤ◌, Bool, true, false, refl, ap, arith, subst, add-one}
+use Rattle.std.proofs.Common.{◌≡◌, ◌≢◌, ℕ, suc, zero, ◌+◌, ◌-◌, ◌/◌, ◌%◌, ◌<◌, ◌≤◌, ◌==◌, ℤ, pos, negsuc, ◌≤ℤ◌, Bool, true, false, refl, arith, subst}
 use Rattle.std.specs.Prelude.{nat_le, unsigned_abs}
 use Rattle.std.proofs.lemmas.Bool.Decides.{nat_tests}
 use Rattle.std.proofs.lemmas.Int.{ints, by_lt_z}
-use Rattle.jiff_core.specs.Calendar.{day_count, days_from_civil, days_in_month, days_in_year, days_of_months, days_of_years, IsCivilDate}
-use Rattle.jiff_core.proofs.CalendarLemmas.{day_count-epoch, days_from_civil-day_count, day_count-lt_year, day_count-next_month, day_count-next_year, day_count-last_of_year, day_count-day, days_in_month_bounds, days_of_months-zero, day_count-day_of_year}
+use Rattle.jiff_core.specs.Calendar.{day_count, days_from_civil, days_in_month, days_in_year, days_of_months, IsCivilDate}
+use Rattle.jiff_core.proofs.CalendarLemmas.{day_count-epoch, days_from_civil-day_count, day_count-lt_year, day_count-next_month, day_count-next_year, day_count-last_of_year, day_count-day, days_in_month_bounds, day_count-day_of_year}
 use Rattle.jiff_core.proofs.DateLemmas.{civil}
 use Rattle.jiff_core.proofs.SignedLemmas.{signed_arith}
 use Rattle.jiff_core.specs.Date.{epoch_day}
@@ -68,14 +68,14 @@ next_month k false e =
     rw (m2, y2) (day_count-next_month (pos (year_of k)) (month_of_year k) (omega arith))
 
 -- each month begins where the one before it ends
-pub first_day-next : (k : ℕ) → first_day (k + 1) ≡ first_day k + days_in_month (pos (year_of k)) (month_of_year k)
+pub first_day_next : (k : ℕ) → first_day (k + 1) ≡ first_day k + days_in_month (pos (year_of k)) (month_of_year k)
 unfolding month_days
-first_day-next k = omega (arith, month_starts k, month_starts (k + 1), next_month k _ refl)
+first_day_next k = omega (arith, month_starts k, month_starts (k + 1), next_month k _ refl)
 
 month_has_days : (k : ℕ) → (first_day k + 28 ≤ first_day (k + 1)) × (first_day (k + 1) ≤ first_day k + 31)
 month_has_days k =
     let b = days_in_month_bounds (pos (year_of k)) (month_of_year k) in
-    let n = first_day-next k in
+    let n = first_day_next k in
     (omega (arith, b, n), omega (arith, b, n))
 
 -- months begin in their order
@@ -100,7 +100,6 @@ first_day_end = refl
 
 pub first_day_bound : (k : ℕ) → k ≤ months → first_day k ≤ 47_482
 first_day_bound k le = omega (arith, first_day_order k months le, first_day_end)
-
 
 -- a month that has begun before 2100 is one of the office's
 small_case : (k m : ℕ) (b : Bool) → nat_le months k ≡ b → month_start k ≤ m → m < end_of_time → k < months
@@ -175,18 +174,18 @@ is_size (negsuc n) from = absurd (omega (arith, signed_arith, from))
 
 day_is : (d : Date) (n y : ℕ) → epoch_day d ≡ pos n → d.year ≡ pos y → 1970 ≤ y → y ≤ 2100 → IsDayOf n y d.month d.day
 day_is d n y e year from until = record {
-    year_in = (from, until);
-    month_in = d.month_in;
-    day_in = subst (λ z. (1 ≤ d.day) × (d.day ≤ days_in_month z d.month)) year d.day_in;
-    counted =
-        let k = month_number y d.month in
-        let yk : year_of k ≡ y = omega (arith, from, d.month_in) in
-        let mk : month_of_year k ≡ d.month = omega (arith, from, d.month_in) in
-        let s : day_count (pos y) d.month 1 ≡ 4_371_953 + first_day k = subst (λ a. day_count (pos a) d.month 1 ≡ 4_371_953 + first_day k) yk (subst (λ b. day_count (pos (year_of k)) b 1 ≡ 4_371_953 + first_day k) mk (month_starts k)) in
-        let c : day_count (pos y) d.month d.day ≡ 4_371_953 + n = subst (λ z. day_count z d.month d.day ≡ 4_371_953 + n) year (counted_days d n e) in
-        let m = day_count-day (pos y) d.month 1 d.day (omega arith) d.day_in.0 in
-        omega (arith, s, c, m)
-  }
+  year_in = (from, until);
+  month_in = d.month_in;
+  day_in = subst (λ z. (1 ≤ d.day) × (d.day ≤ days_in_month z d.month)) year d.day_in;
+  counted =
+      let k = month_number y d.month in
+      let yk : year_of k ≡ y = omega (arith, from, d.month_in) in
+      let mk : month_of_year k ≡ d.month = omega (arith, from, d.month_in) in
+      let s : day_count (pos y) d.month 1 ≡ 4_371_953 + first_day k = subst (λ a. day_count (pos a) d.month 1 ≡ 4_371_953 + first_day k) yk (subst (λ b. day_count (pos (year_of k)) b 1 ≡ 4_371_953 + first_day k) mk (month_starts k)) in
+      let c : day_count (pos y) d.month d.day ≡ 4_371_953 + n = subst (λ z. day_count z d.month d.day ≡ 4_371_953 + n) year (counted_days d n e) in
+      let m = day_count-day (pos y) d.month 1 d.day (omega arith) d.day_in.0 in
+      omega (arith, s, c, m);
+}
 
 pub date_is : (d : Date) (n : ℕ) → epoch_day d ≡ pos n → n ≤ 47_482 → IsDayOf n (unsigned_abs d.year) d.month d.day
 date_is d n e le =
@@ -200,7 +199,7 @@ day_in_month n y m d is =
     let k = month_number y m in
     let yk : year_of k ≡ y = omega (arith, is.year_in, is.month_in) in
     let mk : month_of_year k ≡ m = omega (arith, is.year_in, is.month_in) in
-    let s : first_day (k + 1) ≡ first_day k + days_in_month (pos y) m = subst (λ a. first_day (k + 1) ≡ first_day k + days_in_month (pos a) m) yk (subst (λ b. first_day (k + 1) ≡ first_day k + days_in_month (pos (year_of k)) b) mk (first_day-next k)) in
+    let s : first_day (k + 1) ≡ first_day k + days_in_month (pos y) m = subst (λ a. first_day (k + 1) ≡ first_day k + days_in_month (pos a) m) yk (subst (λ b. first_day (k + 1) ≡ first_day k + days_in_month (pos (year_of k)) b) mk (first_day_next k)) in
     (omega (arith, is.counted, is.day_in), omega (arith, is.counted, is.day_in, s))
 
 pub moment_in_month : (n ms y m d : ℕ) → n ≡ ms → IsDayOf (n / day) y m d → IsInMonth (month_number y m) ms
@@ -219,3 +218,7 @@ until_end k m false e begun small =
 
 pub month_until_end : (k m : ℕ) → month_start k ≤ m → m ≤ end_of_time → k ≤ months
 month_until_end k m begun small = until_end k m _ refl begun small
+
+-- a month of the office ends by 2100
+pub first_day_small : (k : ℕ) → k < months → first_day (k + 1) ≤ 47_482
+first_day_small k small = first_day_bound (k + 1) (omega (arith, small))

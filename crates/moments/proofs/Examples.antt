@@ -4,6 +4,7 @@ use Rattle.jiff_core.specs.Calendar.{days_of_months}
 use Rattle.moments.specs.Time.{due}
 use Rattle.moments.specs.Months.{first_day, month_start, month_length, months_over, month_at}
 use Rattle.moments.specs.Texts.{moment_text}
+use Rattle.moments.specs.Dates.{begins_with_month, is_month, begins_with_date, begins_with_clock, is_time, is_date, is_at_midnight, midnight_of}
 
 -- 2014-01-15 10:30 and three days
 due_after_three_days : due 1_389_781_800_000 3 ≡ 1_390_089_600_000
@@ -41,3 +42,39 @@ last_moment_text = refl
 guide_moment_text : moment_text 1_390_089_600_000 ≡ codes "2014-01-19T00:00:00.000Z"
 unfolding moment_text months_over first_day days_of_months
 guide_moment_text = refl
+
+alone : is_date (codes "2014-01-19") ≡ true
+unfolding is_date begins_with_date begins_with_month is_time begins_with_clock
+alone = refl
+
+alone_begins : midnight_of (codes "2014-01-19") ≡ 1_390_089_600_000
+unfolding first_day days_of_months
+alone_begins = refl
+
+with_nine_digits : is_date (codes "2099-12-31T00:00:00.000000000-00:00") ≡ true
+unfolding is_date begins_with_date begins_with_month is_time begins_with_clock
+with_nine_digits = refl
+
+late_in_the_day : is_at_midnight (codes "2099-12-31T23:59:59Z") ≡ false
+unfolding is_at_midnight
+late_in_the_day = refl
+
+second_sixty : is_date (codes "2014-01-19T00:00:60Z") ≡ false
+unfolding is_date begins_with_date begins_with_month is_time begins_with_clock
+second_sixty = refl
+
+lower_case : is_date (codes "2014-01-19t00:00:00Z") ≡ false
+unfolding is_date begins_with_date begins_with_month is_time begins_with_clock
+lower_case = refl
+
+no_leap_day : is_date (codes "2023-02-29") ≡ false
+unfolding is_date begins_with_date begins_with_month is_time begins_with_clock
+no_leap_day = refl
+
+december : is_month (codes "2099-12") ≡ true
+unfolding is_month begins_with_month
+december = refl
+
+thirteenth_month : is_month (codes "2014-13") ≡ false
+unfolding is_month begins_with_month
+thirteenth_month = refl

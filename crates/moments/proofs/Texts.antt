@@ -1,8 +1,8 @@
 -- The text of a moment is that of its day and its time.
-use Rattle.std.proofs.Common.{◌≡◌, ℕ, ◌+◌, ◌-◌, ◌*◌, ◌/◌, ◌%◌, ◌≤◌, ◌++◌, refl, arith}
+use Rattle.std.proofs.Common.{◌≡◌, ℕ, ◌+◌, ◌-◌, ◌/◌, ◌%◌, ◌≤◌, ◌++◌, refl, arith}
 use Rattle.std.specs.Prelude.{codes}
 use Rattle.moments.specs.Time.{day, end_of_time}
-use Rattle.moments.specs.Months.{months, months_over, first_day, month_number, month_start, year_of, month_of_year, IsDayOf}
+use Rattle.moments.specs.Months.{months, months_over, month_number, month_start, year_of, month_of_year, IsDayOf}
 use Rattle.moments.specs.Texts.{date_text, clock_text, moment_text}
 use Rattle.moments.proofs.Calendar.{moment_in_month, month_at_is, month_until_end}
 

@@ -45,6 +45,14 @@ month_end month = month_start (month + 1)
 abbrev pub month_length : ℕ → ℕ
 month_length month = month_end month - month_start month
 
+-- the month has a day of this number, from 1
+abbrev pub has_day : ℕ → ℕ → Bool
+has_day month day_of_month = nat_le 1 day_of_month && nat_le day_of_month (days_in_month (pos (year_of month)) (month_of_year month))
+
+-- the midnight at which that day begins
+abbrev pub midnight_in : ℕ → ℕ → ℕ
+midnight_in month day_of_month = (first_day month + (day_of_month - 1)) * day
+
 -- the moment lies in the month
 pub record IsInMonth (month m : ℕ) : Type 0 where
   pub begun : month_start month ≤ m

@@ -2,10 +2,8 @@
 ghost use Rattle.std.specs.Prelude.{◌≡◌, ◌<◌, ◌≤◌, ℕ, IfOk, IfErr, OnErr};
 ghost use Rattle.moments.specs.Time.{next_midnight, due, end_of_time, IsNextMidnight};
 
+use crate::moment::DAY;
 use crate::{Moment, MomentRefusal};
-
-/// The milliseconds of a day.
-const DAY: u64 = 86_400_000;
 
 /// Gives the first midnight UTC that is not before a moment; a midnight itself stays. Takes no memory.
 ///

@@ -7,6 +7,9 @@ use std::marker::Model;
 /// The first number that is no moment, in milliseconds: 2100-01-01 00:00 UTC. Own rule: an end keeps every sum in range.
 pub const END: u64 = 4_102_444_800_000;
 
+/// The milliseconds of a day.
+pub(crate) const DAY: u64 = 86_400_000;
+
 /// Milliseconds since 1970-01-01 00:00 UTC, below `END`.
 #[derive(Clone, Copy, Debug, PartialEq, Eq)]
 pub struct Moment {

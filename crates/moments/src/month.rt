@@ -2,14 +2,12 @@
 ghost use Rattle.std.specs.Prelude.{◌≡◌, ◌+◌, ◌*◌, ◌/◌, ◌<◌, ◌≤◌, ℕ, pos, IfSome, IfNone, true, false};
 ghost use Rattle.jiff_core.specs.Date.{epoch_day};
 ghost use Rattle.moments.specs.Time.{day, end_of_time};
-ghost use Rattle.moments.specs.Months.{months, year_of, month_of_year, month_number, has_month, first_day, month_start, month_end, month_at, IsInMonth, IsFirstOfMonth, IsDayOf};
+ghost use Rattle.moments.specs.Months.{months, year_of, month_of_year, month_number, has_month, first_day, month_start, month_end, month_at, IsInMonth, IsFirstOfMonth, IsDayOf, has_day, midnight_in};
 
-use crate::{END, Moment};
+use crate::Moment;
+use crate::moment::DAY;
 use jiff_core::civil::Date;
 use std::marker::Model;
-
-/// The milliseconds of a day.
-const DAY: u64 = 86_400_000;
 
 /// A calendar month from 1970-01 to 2099-12, in UTC.
 #[derive(Clone, Copy, Debug, PartialEq, Eq)]
@@ -61,6 +59,23 @@ impl Month {
     {
         (self.number % 12) as u8 + 1
     }
+
+    // The midnight at which a day of the month begins; None where the month has no such day.
+    #[tactic(auto, using(crate::proofs::Calendar::first_day_next, crate::proofs::Calendar::first_day_small))]
+    pub(crate) fn midnight(self, day: u8) -> Option<Moment>
+        ensures none { IfNone result (has_day self day ≡ false) }
+        ensures some { IfSome result (λ m. (has_day self day ≡ true) × (m ≡ midnight_in self day)) }
+    {
+        let first = days_before(self.number);
+        let length = days_before(self.number + 1) - first;
+        if day == 0 || day as u64 > length {
+            return None;
+        }
+        match Moment::of((first + (day as u64 - 1)) * DAY) {
+            Ok(moment) => Some(moment),
+            Err(_) => None,
+        }
+    }
 }
 
 // The days from 1970-01-01 to the first day of a month, which may be January 2100.
@@ -84,7 +99,10 @@ pub fn month_window(month: Month) -> (u64, u64)
     ensures begins { result.0 ≡ month_start month }
     ensures ends { result.1 ≡ month_end month }
 {
-    (days_before(month.number) * DAY, days_before(month.number + 1) * DAY)
+    (
+        days_before(month.number) * DAY,
+        days_before(month.number + 1) * DAY,
+    )
 }
 
 // A day of the calendar.

@@ -4,6 +4,7 @@ ghost use Rattle.moments.specs.Time.{end_of_time};
 ghost use Rattle.moments.specs.Texts.{moment_text, date_text, clock_text};
 
 use crate::digits::digits_of;
+use crate::moment::DAY;
 use crate::month::day_of;
 
 // A date, as 2014-01-19.
@@ -38,8 +39,9 @@ pub fn print_moment(ms: u64) -> [u8; 24]
 {
     let day = day_of(ms);
     let [a0, a1, a2, a3, a4, a5, a6, a7, a8, a9] = print_date(day.year, day.month, day.day);
-    let [b0, b1, b2, b3, b4, b5, b6, b7, b8, b9, b10, b11] = print_clock(ms % 86_400_000);
+    let [b0, b1, b2, b3, b4, b5, b6, b7, b8, b9, b10, b11] = print_clock(ms % DAY);
     [
-        a0, a1, a2, a3, a4, a5, a6, a7, a8, a9, b'T', b0, b1, b2, b3, b4, b5, b6, b7, b8, b9, b10, b11, b'Z',
+        a0, a1, a2, a3, a4, a5, a6, a7, a8, a9, b'T', b0, b1, b2, b3, b4, b5, b6, b7, b8, b9, b10,
+        b11, b'Z',
     ]
 }

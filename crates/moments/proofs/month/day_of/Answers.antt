@@ -1,14 +1,13 @@
-use Rattle.std.proofs.Common.{◌≡◌, ◌+◌, ◌*◌, ◌/◌, ◌<◌, ◌≤◌, ◌^◌, ℕ, ℤ, pos, refl, sym, subst, arith, w16, to_z, of_z}
+use Rattle.std.proofs.Common.{◌≡◌, ◌/◌, ◌≤◌, pos, sym, subst, arith, w16, to_z, of_z}
 use Rattle.std.specs.Prelude.{unsigned_abs}
 use Rattle.std.proofs.lemmas.Int.{ints}
 use Rattle.jiff_core.specs.Date.{epoch_day}
 use Rattle.jiff_core.specs.declared.civil.date.Date.{Date}
-use Rattle.jiff_core.proofs.SignedLemmas.{signed_arith, signed_casts, back_small}
-use Rattle.moments.specs.Time.{day, end_of_time}
+use Rattle.jiff_core.proofs.SignedLemmas.{signed_arith, signed_casts}
+use Rattle.moments.specs.Time.{day}
 use Rattle.moments.specs.Months.{IsDayOf}
-use Rattle.moments.proofs.Calendar.{date_is, year_between, is_size}
+use Rattle.moments.proofs.Calendar.{date_is, year_between}
 use Rattle.moments.proofs.month.day_of.Goals as goal
-
 
 pub overflow_cast-result : goal.overflow_cast-result
 overflow_cast-result c =

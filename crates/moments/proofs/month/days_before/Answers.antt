@@ -1,8 +1,7 @@
-use Rattle.std.proofs.Common.{◌≡◌, ◌∙◌, ◌+◌, ◌*◌, ◌/◌, ◌%◌, ◌<◌, ◌≤◌, ℕ, ℤ, pos, refl, ap, arith, w16, to_z}
-use Rattle.std.proofs.lemmas.Int.{ints}
+use Rattle.std.proofs.Common.{◌≡◌, ◌∙◌, pos, ap, arith, w16, to_z}
 use Rattle.jiff_core.specs.Calendar.{days_from_civil}
-use Rattle.jiff_core.proofs.SignedLemmas.{signed_arith, signed_casts}
-use Rattle.moments.specs.Months.{months, first_day, year_of, month_of_year}
+use Rattle.jiff_core.proofs.SignedLemmas.{signed_casts}
+use Rattle.moments.specs.Months.{first_day, year_of, month_of_year}
 use Rattle.moments.proofs.Calendar.{first_of_month, first_day_bound}
 use Rattle.moments.proofs.month.days_before.Goals as goal
 

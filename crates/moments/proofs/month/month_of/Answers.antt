@@ -1,4 +1,4 @@
-use Rattle.std.proofs.Common.{◌≡◌, ℕ, arith, sym}
+use Rattle.std.proofs.Common.{arith, sym}
 use Rattle.moments.proofs.Calendar.{moment_in_month, month_small, month_at_is}
 use Rattle.moments.proofs.month.month_of.Goals as goal
 

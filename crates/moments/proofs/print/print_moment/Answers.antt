@@ -1,4 +1,4 @@
-use Rattle.std.proofs.Common.{◌≡◌, refl}
+use Rattle.std.proofs.Common.{refl}
 use Rattle.moments.proofs.Texts.{moment_text_is}
 use Rattle.moments.proofs.print.print_moment.Goals as goal
 
