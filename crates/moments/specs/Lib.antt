@@ -1,1 +1,4 @@
+pub mod Dates
+pub mod Months
+pub mod Texts
 pub mod Time

@@ -1,5 +1,9 @@
--- Moments are numbers of milliseconds since 1970-01-01 00:00 UTC.
-use Rattle.std.specs.Prelude.{ℕ}
+-- Moments and midnights. A moment is a number of milliseconds since 1970-01-01 00:00 UTC.
+use Rattle.std.specs.Prelude.{◌≡◌, ℕ, ◌+◌, ◌-◌, ◌*◌, ◌/◌, ◌%◌, ◌<◌, ◌≤◌}
+
+-- the milliseconds of a day
+abbrev pub day : ℕ
+day = 86_400_000
 
 -- 2100-01-01, before which all moments lie
 abbrev pub end_of_time : ℕ
@@ -8,3 +12,18 @@ end_of_time = 4_102_444_800_000
 -- the last moment that there is
 abbrev pub last_moment : ℕ
 last_moment = 4_102_444_799_999
+
+-- the least midnight that is not before the moment
+abbrev pub next_midnight : ℕ → ℕ
+next_midnight m = (m + (day - 1)) / day * day
+
+-- the property that the formula has
+pub record IsNextMidnight (m midnight : ℕ) : Type 0 where
+  pub whole_days : midnight % day ≡ 0
+  pub not_before : m ≤ midnight
+  pub least : midnight < m + day
+
+-- the midnight at which an action by days is due (S3 User Guide, "Lifecycle configuration elements": lifecycle rules based on
+-- an object's age; the time is rounded up to the next midnight UTC; own: a sum that falls on a midnight stays there)
+abbrev pub due : ℕ → ℕ → ℕ
+due m days = next_midnight (m + days * day)

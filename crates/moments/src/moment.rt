@@ -1,11 +1,14 @@
 // A moment in time.
-ghost use Rattle.std.specs.Prelude.{◌≡◌, ◌<◌, ◌≤◌, IfOk, OnErr};
+ghost use Rattle.std.specs.Prelude.{◌≡◌, ◌<◌, ◌≤◌, IfOk, IfErr, OnErr};
 ghost use Rattle.moments.specs.Time.{end_of_time, last_moment};
 
 use std::marker::Model;
 
 /// The first number that is no moment, in milliseconds: 2100-01-01 00:00 UTC. Own rule: an end keeps every sum in range.
 pub const END: u64 = 4_102_444_800_000;
+
+/// The milliseconds of a day.
+pub(crate) const DAY: u64 = 86_400_000;
 
 /// Milliseconds since 1970-01-01 00:00 UTC, below `END`.
 #[derive(Clone, Copy, Debug, PartialEq, Eq)]
@@ -31,6 +34,12 @@ impl Model for Moment {
 pub enum MomentRefusal {
     /// The number is not below `END`.
     PastEnd,
+    /// The text is no date, alone or with a time, from 1970-01-01 to 2099-12-31.
+    NotADate,
+    /// The date's time is not midnight.
+    NotMidnight,
+    /// The text is no month from 1970-01 to 2099-12.
+    NotAMonth,
 }
 
 impl Moment {
@@ -42,6 +51,7 @@ impl Moment {
     pub fn of(ms: u64) -> Result<Moment, MomentRefusal>
         ensures ok { IfOk result (λ m. (m ≡ ms) × (ms < end_of_time)) }
         ensures past_end { OnErr result (end_of_time ≤ ms) }
+        ensures refusal { IfErr result (λ e. e ≡ MomentRefusal.PastEnd) }
     {
         if ms < END {
             Ok(Moment { ms })

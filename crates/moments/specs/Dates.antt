@@ -1,0 +1,85 @@
+-- How dates and months are read: YYYY-MM-DD, alone or followed by T, a time and an offset of zero; and YYYY-MM.
+use Rattle.std.specs.Prelude.{ℕ, ◌+◌, ◌-◌, ◌*◌, Bool, false, ◌&&◌, ◌||◌, ◌==◌, nat_le, nat_lt, List, [], ◌∷◌, length, drop, slice_index, take_while, bytes_eq, codes, if◌then◌else◌}
+use Rattle.std.specs.List.{list_all}
+use Rattle.moments.specs.Months.{month_number, has_month, has_day, midnight_in}
+
+abbrev pub is_digit : ℕ → Bool
+is_digit c = nat_le 48 c && nat_le c 57
+
+-- two digits stand at this place, and the number that they are
+abbrev pub has_two_at : List ℕ → ℕ → Bool
+has_two_at text at = is_digit (slice_index text at) && is_digit (slice_index text (at + 1))
+
+abbrev pub two_at : List ℕ → ℕ → ℕ
+two_at text at = (slice_index text at - 48) * 10 + (slice_index text (at + 1) - 48)
+
+-- four digits, a hyphen and two digits stand at the beginning, as 2014-01
+unfoldable pub begins_with_month : List ℕ → Bool
+begins_with_month text = nat_le 7 (length text) && has_two_at text 0 && has_two_at text 2 && (slice_index text 4 == 45) && has_two_at text 5
+
+-- the year and the month that those are
+abbrev pub year_in : List ℕ → ℕ
+year_in text = two_at text 0 * 100 + two_at text 2
+
+abbrev pub month_in : List ℕ → ℕ
+month_in text = two_at text 5
+
+-- a month from 1970-01 to 2099-12, as 2014-01
+unfoldable pub is_month : List ℕ → Bool
+is_month text = begins_with_month text && (length text == 7) && has_month (year_in text) (month_in text)
+
+-- behind the month a hyphen and two digits stand, as 2014-01-19
+unfoldable pub begins_with_date : List ℕ → Bool
+begins_with_date text = begins_with_month text && nat_le 10 (length text) && (slice_index text 7 == 45) && has_two_at text 8
+
+abbrev pub day_in : List ℕ → ℕ
+day_in text = two_at text 8
+
+-- the calendar has the date, from 1970-01-01 to 2099-12-31
+abbrev pub is_day : ℕ → ℕ → ℕ → Bool
+is_day year month day_of_month = has_month year month && has_day (month_number year month) day_of_month
+
+-- an offset of zero
+abbrev pub is_utc : List ℕ → Bool
+is_utc text = bytes_eq text (codes "Z") || bytes_eq text (codes "+00:00") || bytes_eq text (codes "-00:00")
+
+-- how many digits stand at the beginning
+abbrev pub digit_count : List ℕ → ℕ
+digit_count text = length (take_while is_digit text)
+
+-- an offset of zero, and before it perhaps a point and 1 to 9 digits
+abbrev pub is_clock_end : List ℕ → Bool
+is_clock_end [] = false
+is_clock_end (c ∷ text) =
+    if c == 46 then nat_le 1 (digit_count text) && nat_le (digit_count text) 9 && is_utc (drop (digit_count text) text) else is_utc (c ∷ text)
+
+-- two digits of a number up to a limit stand at this place
+abbrev pub has_part_at : List ℕ → ℕ → ℕ → Bool
+has_part_at text at limit = has_two_at text at && nat_le (two_at text at) limit
+
+-- hours, minutes and seconds stand at the beginning, as T10:30:00
+unfoldable pub begins_with_clock : List ℕ → Bool
+begins_with_clock text =
+    nat_le 9 (length text) && (slice_index text 0 == 84)
+    && has_part_at text 1 23 && (slice_index text 3 == 58) && has_part_at text 4 59 && (slice_index text 6 == 58) && has_part_at text 7 59
+
+-- a time in UTC
+unfoldable pub is_time : List ℕ → Bool
+is_time text = begins_with_clock text && is_clock_end (drop 9 text)
+
+-- a date, alone or with a time
+unfoldable pub is_date : List ℕ → Bool
+is_date text =
+    begins_with_date text && ((length text == 10) || is_time (drop 10 text)) && is_day (year_in text) (month_in text) (day_in text)
+
+-- no digit from 1 to 9
+abbrev pub is_zero : ℕ → Bool
+is_zero c = nat_lt c 49 || nat_lt 57 c
+
+-- its time, where it has one, is midnight: behind the date no digit stands but 0
+unfoldable pub is_at_midnight : List ℕ → Bool
+is_at_midnight text = list_all is_zero (drop 10 text)
+
+-- the midnight at which it begins
+abbrev pub midnight_of : List ℕ → ℕ
+midnight_of text = midnight_in (month_number (year_in text) (month_in text)) (day_in text)
