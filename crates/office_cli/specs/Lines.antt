@@ -45,6 +45,10 @@ IsServeStatus status = (end : SessionEnd) × (status ≡ status_of end)
 abbrev pub IsRunStatus : ℕ → Type 0
 IsRunStatus status = IsServeStatus status ⊎ ((fault : OpenFault) × (status ≡ fault_status fault))
 
+-- that of a command that was done, but for want of memory and an input that is too long
+abbrev pub IsDone : ℕ → Type 0
+IsDone status = (status ≡ 0) ⊎ ((status ≡ 6) ⊎ (status ≡ 9))
+
 -- ---- lines
 
 abbrev pub line : List ℕ → List ℕ
