@@ -1,2 +1,3 @@
 pub mod Sizes
 pub mod Utf8
+pub mod Versions

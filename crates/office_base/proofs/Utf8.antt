@@ -1,9 +1,9 @@
--- The name of a bucket is a text.
+-- Names and keys are texts.
 use Rattle.std.proofs.Common.{◌≡◌, ℕ, ◌<◌, Bool, true, false, ◌&&◌, List, [], ◌∷◌, refl, arith}
 use Rattle.std.specs.List.{list_all}
-use Rattle.std.specs.Str.{IsAscii, IsUtf8}
+use Rattle.std.specs.Str.{IsAscii, IsUtf8, is_utf8}
 use Rattle.std.proofs.lemmas.Bool.Decides.{nat_tests}
-use Rattle.std.proofs.lemmas.Str.{IsUtf8-from_ascii}
+use Rattle.std.proofs.lemmas.Str.{IsUtf8-from_ascii, IsUtf8-from_is_utf8, is_utf8-from_IsUtf8}
 use Rattle.std.proofs.lemmas.Str.Ascii.{IsAscii-nil, IsAscii-cons}
 use Rattle.office_base.specs.Names.{is_bucket_name, is_name_char}
 
@@ -31,3 +31,9 @@ no_name false not = refl
 
 pub name_is_text : (bytes : List ℕ) → ¬ (IsUtf8 bytes) → is_bucket_name bytes ≡ false
 name_is_text bytes not = no_name (is_bucket_name bytes) (λ is. not (IsUtf8-from_ascii bytes (all_ascii bytes (name_bytes bytes is))))
+
+pub utf8_is : (bytes : List ℕ) → IsUtf8 bytes → is_utf8 bytes ≡ true
+utf8_is bytes is = is_utf8-from_IsUtf8 bytes is
+
+pub utf8_is_not : (bytes : List ℕ) → ¬ (IsUtf8 bytes) → is_utf8 bytes ≡ false
+utf8_is_not bytes not = no_name (is_utf8 bytes) (λ is. not (IsUtf8-from_is_utf8 bytes is))

@@ -1,3 +1,5 @@
 pub mod Faults
+pub mod Keys
 pub mod Names
 pub mod Sizes
+pub mod Versions

@@ -1,5 +1,5 @@
 // The name of a bucket.
-ghost use Rattle.std.specs.Prelude.{◌≡◌, ◌≤◌, ◌↔◌, true, false, length, IfOk, IsErrOf, string_bytes, Some, refl};
+ghost use Rattle.std.specs.Prelude.{◌≡◌, ◌≤◌, ◌↔◌, ◌⊎◌, true, false, length, IfOk, IfErr, IsErrOf, string_bytes, Some, refl};
 ghost use Rattle.std.specs.List.{list_all};
 ghost use Rattle.std.specs.Ordering.{nat_cmp};
 ghost use Rattle.std.specs.Cmp.Lexicographic.{slice_cmp, nat_list_eq_equiv, nat_list_cmp_total, texts_ties, texts_po};
@@ -7,6 +7,7 @@ ghost use Rattle.std.specs.Str.{bytes_eq};
 ghost use Rattle.std.specs.Cmp as laws_of;
 ghost use Rattle.office_base.specs.Names.{IsBucketName, is_bucket_name, is_name_char, is_name_end};
 
+use crate::NameRefusal;
 use std::alloc::{AllocError, Global};
 use std::cmp::Ordering;
 use std::marker::Model;
@@ -30,15 +31,6 @@ impl Model for BucketName {
     ghost view = { λ b. string_bytes b.text };
 
     ghost invariant = { λ b. IsBucketName (string_bytes b.text) };
-}
-
-/// Why a text is no name.
-#[derive(Clone, Copy, Debug, PartialEq, Eq)]
-pub enum NameRefusal {
-    /// The text is out of the range of bucket names.
-    BadBucketName,
-    /// Memory ran out.
-    NoMemory,
 }
 
 fn ends_name(b: u8) -> bool
@@ -82,6 +74,7 @@ impl BucketName {
     pub fn read(alloc: Global, text: &str) -> Result<BucketName, NameRefusal>
         ensures ok { IfOk result (λ name. (name ≡ text.now) × IsBucketName text.now) }
         ensures bad { IsErrOf result NameRefusal.BadBucketName ↔ (is_bucket_name text.now ≡ false) }
+        ensures refusal { IfErr result (λ e. (e ≡ NameRefusal.BadBucketName) ⊎ (e ≡ NameRefusal.NoMemory)) }
     {
         if !is_name(text.as_bytes()) {
             return Err(NameRefusal::BadBucketName);

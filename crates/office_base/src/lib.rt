@@ -1,10 +1,18 @@
-//! Names in range, and the answers that every crate shares.
+//! Names, keys, tags, sizes and version ids in range, and the answers that every crate shares.
 #![tactic(auto)]
 
 mod bucket_name;
 mod failed;
+mod key;
+mod refusal;
+mod size;
 #[cfg(test)]
 mod tests;
+mod version_id;
 
-pub use bucket_name::{BucketName, NameRefusal};
+pub use bucket_name::BucketName;
 pub use failed::{Failed, NoMemory};
+pub use key::Key;
+pub use refusal::NameRefusal;
+pub use size::Size;
+pub use version_id::{Nth, VersionId};
