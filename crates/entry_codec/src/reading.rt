@@ -56,7 +56,7 @@ fn name_of(alloc: Global, at: u64, bytes: &[u8]) -> Result<(BucketName, &[u8]), 
     match BucketName::read(alloc, text) {
         Ok(name) => Ok((name, rest)),
         Err(NameRefusal::BadBucketName) => Err(EntryFault::BadEntry { offset: at }),
-        Err(NameRefusal::NoMemory) => Err(EntryFault::NoMemory),
+        Err(_) => Err(EntryFault::NoMemory),
     }
 }
 

@@ -67,7 +67,7 @@ fn name_of(alloc: Global, bytes: &[u8]) -> Result<Option<BucketName>, NoMemory>
     match BucketName::read(alloc, text) {
         Ok(name) => Ok(Some(name)),
         Err(NameRefusal::BadBucketName) => Ok(None),
-        Err(NameRefusal::NoMemory) => Err(NoMemory),
+        Err(_) => Err(NoMemory),
     }
 }
 
