@@ -2,4 +2,5 @@ pub mod Faults
 pub mod Keys
 pub mod Names
 pub mod Sizes
+pub mod Tags
 pub mod Versions

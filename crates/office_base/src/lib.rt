@@ -6,6 +6,7 @@ mod failed;
 mod key;
 mod refusal;
 mod size;
+mod tags;
 #[cfg(test)]
 mod tests;
 mod version_id;
@@ -15,4 +16,5 @@ pub use failed::{Failed, NoMemory};
 pub use key::Key;
 pub use refusal::NameRefusal;
 pub use size::Size;
+pub use tags::Tags;
 pub use version_id::{Nth, VersionId};

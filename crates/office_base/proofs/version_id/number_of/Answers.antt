@@ -1,4 +1,4 @@
-use Rattle.std.proofs.Common.{◌≡◌, ◌∙◌, refl, sym, ap, true, false, rules}
+use Rattle.std.proofs.Common.{◌≡◌, true, false, rules}
 use Rattle.office_base.specs.Versions.{begins_with_number}
 use Rattle.office_base.proofs.Versions.{number_read, number_not_read, no_number}
 use Rattle.office_base.proofs.version_id.number_of.Goals as goal
