@@ -1,7 +1,8 @@
 -- Tags in the order of their keys.
 use Rattle.std.proofs.Common.{◌≡◌, ◌∙◌, sym, suc, ◌+◌, ◌-◌, ◌≤◌, Bool, true, false, not, ◌&&◌, ◌||◌, List, [], ◌∷◌, ◌++◌, length, insert, take, drop, refl, ap, arith, String, string_bytes, slice_index_or}
-use Rattle.std.specs.Prelude.{if◌then◌else◌, nat_le}
+use Rattle.std.specs.Prelude.{if◌then◌else◌, nat_le, IsPermutation}
 use Rattle.std.proofs.lemmas.Bool.Decides.{nat_tests}
+use Rattle.std.proofs.lemmas.List.Sorted.{IsPermutation-refl, IsPermutation-sym, IsPermutation-cons, IsPermutation-trans, IsPermutation-middle}
 use Rattle.std.specs.declared.alloc.Global.{Global}
 use Rattle.std.specs.List.{list_all, list_any, prefix_len}
 use Rattle.std.specs.Str.{bytes_eq}
@@ -216,3 +217,45 @@ kept_tags tags are =
       in_range = all_by_key is_tag tags ∙ sizes.1;
       in_order = rise_by_key tags parts.1;
     }
+
+-- the same tags
+permuted_case : (tag first : Tag) (tags : List Tag) (b : Bool) → IsPermutation (tag ∷ tags) (with_tag tag tags)
+    → IsPermutation (tag ∷ first ∷ tags) (if b then first ∷ with_tag tag tags else tag ∷ first ∷ tags)
+permuted_case tag first tags true before =
+    IsPermutation-trans (tag ∷ first ∷ tags) (first ∷ tag ∷ tags) (first ∷ with_tag tag tags)
+    (IsPermutation-sym (first ∷ tag ∷ tags) (tag ∷ first ∷ tags) (IsPermutation-middle (first ∷ []) tag tags))
+    (IsPermutation-cons first (tag ∷ tags) (with_tag tag tags) before)
+permuted_case tag first tags false before = IsPermutation-refl (tag ∷ first ∷ tags)
+
+permuted_with : (tag : Tag) (tags : List Tag) → IsPermutation (tag ∷ tags) (with_tag tag tags)
+permuted_with tag [] = IsPermutation-refl (tag ∷ [])
+permuted_with tag (first ∷ tags) = permuted_case tag first tags (comes_before first tag) (permuted_with tag tags)
+
+pub permuted_by_key : (tags : List Tag) → IsPermutation tags (by_key tags)
+unfolding by_key
+permuted_by_key [] = IsPermutation-refl []
+permuted_by_key (tag ∷ tags) =
+    IsPermutation-trans (tag ∷ tags) (tag ∷ by_key tags) (with_tag tag (by_key tags))
+    (IsPermutation-cons tag tags (by_key tags) (permuted_by_key tags)) (permuted_with tag (by_key tags))
+
+-- tags whose keys rise stand in order
+back_case : (r : Ordering) → is_lt r ≡ true → is_lt (ordering_reverse r) ≡ false
+back_case Less lt = refl
+back_case Equal lt = absurd cc
+back_case Greater lt = absurd cc
+
+not_back : (a b : Tag) → comes_before a b ≡ true → comes_before b a ≡ false
+not_back a b before = ap is_lt (nat_list_cmp_total.antisymm b.0 a.0) ∙ back_case (slice_cmp nat_cmp a.0 b.0) before
+
+in_front : (tag : Tag) (tags : List Tag) → list_all (comes_before tag) tags ≡ true → with_tag tag tags ≡ tag ∷ tags
+in_front tag [] all = refl
+in_front tag (first ∷ tags) all =
+    let parts = both (comes_before tag first) (list_all (comes_before tag) tags) all in
+    ap (λ b. if b then first ∷ with_tag tag tags else tag ∷ first ∷ tags) (not_back tag first parts.0)
+
+pub kept_in_order : (tags : List Tag) → keys_rise tags ≡ true → by_key tags ≡ tags
+unfolding by_key
+kept_in_order [] rise = refl
+kept_in_order (tag ∷ tags) rise =
+    let parts = both (list_all (comes_before tag) tags) (keys_rise tags) rise in
+    ap (with_tag tag) (kept_in_order tags parts.1) ∙ in_front tag tags parts.0

@@ -16,5 +16,5 @@ pub use failed::{Failed, NoMemory};
 pub use key::Key;
 pub use refusal::NameRefusal;
 pub use size::Size;
-pub use tags::Tags;
+pub use tags::{Tags, tag_order};
 pub use version_id::{Nth, VersionId};

@@ -1,4 +1,5 @@
 use super::*;
+use std::alloc::{AllocError, Global};
 use std::cmp::Ordering;
 use std::test::Fail;
 
@@ -68,6 +69,102 @@ fn names_in_the_order_of_their_bytes(rt: HostRuntime) -> Result<(), Fail> {
                 Ordering::Equal
             };
             assert_eq!(rt; order, wanted, "{left} and {right}");
+        }
+    }
+    Ok(())
+}
+
+#[test]
+fn keys_sizes_and_version_ids(rt: HostRuntime) -> Result<(), Fail> {
+    let alloc = rt.alloc();
+    let most = [b'k'; 1_024];
+    let keys = [b"/".as_slice(), b"logs/2024.txt", "grün".as_bytes(), &most];
+    for bytes in keys {
+        let key = Key::read(alloc, bytes)?;
+        assert_eq!(rt; key.bytes(), bytes);
+        assert!(rt; key.copy()? == key);
+    }
+    let more = [b'k'; 1_025];
+    for bytes in [b"".as_slice(), b"\xff", b"gr\xc3", &more] {
+        match Key::read(alloc, bytes) {
+            Ok(_) => panic!(rt; "a key of {} bytes", bytes.len()),
+            Err(refusal) => assert_eq!(rt; refusal, NameRefusal::BadKey),
+        }
+    }
+    assert_eq!(rt; Size::of(5_497_558_138_880)?.bytes(), 5_497_558_138_880);
+    assert_eq!(rt; Size::of(5_497_558_138_881), Err(NameRefusal::BadSize));
+    assert_eq!(rt; Nth::of(0), None);
+    let ids = [
+        ("null", Some(VersionId::Null)),
+        ("1", Nth::of(1).map(VersionId::Number)),
+        (
+            "18446744073709551615",
+            Nth::of(u64::MAX).map(VersionId::Number),
+        ),
+        ("18446744073709551616", None),
+        ("0", None),
+        ("01", None),
+        ("+1", None),
+        ("-1", None),
+        ("1 ", None),
+        ("Null", None),
+        ("", None),
+    ];
+    for (text, id) in ids {
+        assert_eq!(rt; VersionId::read(text), id, "{text}");
+    }
+    Ok(())
+}
+
+fn pairs_of(alloc: Global, pairs: &[(&str, &str)]) -> Result<Vec<(String, String)>, AllocError> {
+    let mut texts = Vec::new(alloc);
+    for (key, value) in pairs {
+        texts.push((
+            String::from_str(alloc, key)?,
+            String::from_str(alloc, value)?,
+        ))?;
+    }
+    Ok(texts)
+}
+
+#[test]
+fn tags_in_the_order_of_their_keys(rt: HostRuntime) -> Result<(), Fail> {
+    let alloc = rt.alloc();
+    let given = [("kind", "raw"), ("Keep", "no"), ("ä", ""), ("a", "x")];
+    let kept = [("Keep", "no"), ("a", "x"), ("kind", "raw"), ("ä", "")];
+    let tags = Tags::read(alloc, pairs_of(alloc, &given)?)?;
+    assert_eq!(rt; tags.pairs().len(), 4);
+    for (tag, wanted) in tags.pairs().iter().zip(kept) {
+        assert_eq!(rt; (tag.0.as_str(), tag.1.as_str()), wanted);
+    }
+    let key = "ä".repeat(alloc, 128)?;
+    let value = "ß".repeat(alloc, 256)?;
+    assert_eq!(rt;
+        Tags::read(alloc, pairs_of(alloc, &[(&key, &value)])?)?
+            .pairs()
+            .len(),
+        1
+    );
+    let long_key = "k".repeat(alloc, 129)?;
+    let long_value = "v".repeat(alloc, 257)?;
+    let ten = ["a", "b", "c", "d", "e", "f", "g", "h", "i", "j"].map(|key| (key, ""));
+    assert_eq!(rt;
+        Tags::read(alloc, pairs_of(alloc, &ten)?)?.pairs().len(),
+        10
+    );
+    let mut eleven = pairs_of(alloc, &ten)?;
+    eleven.push((String::from_str(alloc, "k")?, String::new(alloc)))?;
+    let bad = [
+        eleven,
+        pairs_of(alloc, &[("", "x")])?,
+        pairs_of(alloc, &[(&long_key, "x")])?,
+        pairs_of(alloc, &[("k", &long_value)])?,
+        pairs_of(alloc, &[("k", "x"), ("l", "x"), ("k", "y")])?,
+    ];
+    for pairs in bad {
+        match Tags::read(alloc, pairs) {
+            Ok(_) => panic!(rt; "tags out of range"),
+            Err(refusal) => assert_eq!(rt; refusal, NameRefusal::BadTags),
         }
     }
     Ok(())
