@@ -4,9 +4,13 @@ use mathlib.Core.Option.{some, none, some-injective}
 use lib.ListN.{get_elem?}
 use Rattle.atomic_table.specs.Table.{State, Me, step, Act, keeps, stepped, Allows}
 use Rattle.atomic_table.proofs.Lists.{at_set, set_else}
+use Rattle.turn_core.specs.declared.view.Call.{Call}
 use Rattle.turn_core.specs.declared.view.View.{View}
 use Rattle.turn_core.specs.declared.view.Kept.{Kept}
-use Rattle.turn_core.specs.Turns.{InTurn, Fits, AtHome, Away, Draws, out, share, has, sum_of}
+use Rattle.turn_core.specs.Plays.{Draws}
+use Rattle.turn_core.specs.Rule.{InTurn, Fits, AtHome, Away, out, share, has, sum_of, OneList, IsOut}
+use Rattle.turn_core.specs.Views.{AtRest}
+use Rattle.turn_core.proofs.Numbers.{drawn_keeps}
 use Rattle.turn_core.proofs.Parts.{sum_of-replaced, one_view, placed, true_not_false, some_same, none_some, same_or_not}
 
 module _ {T A S : Type 0} (stands : T → T → List (A × S) → Type 0) where
@@ -19,24 +23,24 @@ module _ {T A S : Type 0} (stands : T → T → List (A × S) → Type 0) where
   abbrev M : Type 0
   M = Me (Option (Kept T A S)) D
 
-  module _ (opening : T) (s : St) (r : InTurn stands opening s) (id : ℕ) (v : D) (at : get_elem? s.views id ≡ some v) (free : v.ticket ≡ None) (idle : v.served ≡ false) (member : 0 < v.share) where
+  module _ (opening : T) (log : List (Call A S)) (drawn : ℕ) (s : St) (r : InTurn stands opening log drawn s) (id : ℕ) (v : D) (at : get_elem? s.views id ≡ some v) (free : v.ticket ≡ None) (idle : v.served ≡ false) (member : 0 < v.share) where
     abbrev w : D
-    w = record v { ticket = Some r.drawn }
+    w = record v { ticket = Some drawn }
 
-    few : length r.log ≤ r.drawn
+    few : length log ≤ drawn
     few = let t = r.tickets in omega arith
 
-    fits_new : Fits stands opening r.log (r.drawn + 1) w
+    fits_new : Fits stands opening log (drawn + 1) w
     fits_new = let old = r.each id v at in record {
       same = old.same;
       prefix = old.prefix;
       older = old.older;
-      in_turn = λ t e. (let is : r.drawn ≡ t = some_same r.drawn t e in let less = few in (omega (arith, is, less), omega (arith, is)));
+      in_turn = λ t e. (let is : drawn ≡ t = some_same drawn t e in let less = few in (omega (arith, is, less), omega (arith, is)));
       first = λ e. absurd (true_not_false v.served e idle);
       whole = omega (arith, member);
     }
 
-    fits_old : (u : D) → Fits stands opening r.log r.drawn u → Fits stands opening r.log (r.drawn + 1) u
+    fits_old : (u : D) → Fits stands opening log drawn u → Fits stands opening log (drawn + 1) u
     fits_old u old = record {
       same = old.same;
       prefix = old.prefix;
@@ -46,13 +50,13 @@ module _ {T A S : Type 0} (stands : T → T → List (A × S) → Type 0) where
       whole = old.whole;
     }
 
-    each : (by : ℕ) (u : D) → get_elem? (set s.views id w) by ≡ some u → Fits stands opening r.log (r.drawn + 1) u
-    each by u e = ⊎_elim (λ (t : (by ≡ id) × (w ≡ u)). subst (Fits stands opening r.log (r.drawn + 1)) t.1 fits_new)
+    each : (by : ℕ) (u : D) → get_elem? (set s.views id w) by ≡ some u → Fits stands opening log (drawn + 1) u
+    each by u e = ⊎_elim (λ (t : (by ≡ id) × (w ≡ u)). subst (Fits stands opening log (drawn + 1)) t.1 fits_new)
         (λ (t : (by ≢ id) × (get_elem? s.views by ≡ some u)). fits_old u (r.each by u t.1)) (at_set s.views id by w u e)
 
     -- an old ticket is not the new one
     other : (by : ℕ) (u : D) (t : ℕ) → get_elem? s.views by ≡ some u → u.ticket ≡ Some t → w.ticket ≡ Some t → ⊥
-    other by u t e mine new = let is : r.drawn ≡ t = some_same r.drawn t new in let less = ((r.each by u e).in_turn t mine).1 in omega (arith, is, less)
+    other by u t e mine new = let is : drawn ≡ t = some_same drawn t new in let less = ((r.each by u e).in_turn t mine).1 in omega (arith, is, less)
 
     alone : (i j : ℕ) (a b : D) (t : ℕ) → get_elem? (set s.views id w) i ≡ some a → get_elem? (set s.views id w) j ≡ some b → a.ticket ≡ Some t → b.ticket ≡ Some t → i ≡ j
     alone i j a b t e f at_a at_b = ⊎_elim
@@ -66,7 +70,7 @@ module _ {T A S : Type 0} (stands : T → T → List (A × S) → Type 0) where
         (at_set s.views id j w b f))
         (at_set s.views id i w a e)
 
-    still_home : AtHome stands opening r.log s → (ws : List ℕ) → AtHome stands opening r.log (record { words = ws; homes = s.homes; views = set s.views id w })
+    still_home : AtHome stands opening log s → (ws : List ℕ) → AtHome stands opening log (record { words = ws; homes = s.homes; views = set s.views id w })
     still_home (k, homes, for, none_served) ws = (
       k,
       homes,
@@ -81,33 +85,48 @@ module _ {T A S : Type 0} (stands : T → T → List (A × S) → Type 0) where
         (λ (apart : by ≢ id). (homes, (by, u, set_else s.views id by w apart ∙ e, served)))
         (same_or_not by id)
 
-    still_whole : (by : ℕ) × (u : D) × (get_elem? s.views by ≡ some u) × (0 < u.share) × (u.seen ≡ r.log) → (by : ℕ) × (u : D) × (get_elem? (set s.views id w) by ≡ some u) × (0 < u.share) × (u.seen ≡ r.log)
+    still_whole : (by : ℕ) × (u : D) × (get_elem? s.views by ≡ some u) × (0 < u.share) × (u.seen ≡ log) → (by : ℕ) × (u : D) × (get_elem? (set s.views id w) by ≡ some u) × (0 < u.share) × (u.seen ≡ log)
     still_whole (by, u, e, live, all) = ⊎_elim
         (λ (same : by ≡ id). let is : v ≡ u = one_view s.views id v u at (subst (λ (n : ℕ). get_elem? s.views n ≡ some u) same e) in
         (id, w, placed s.views id v w at, member, ap (λ (x : D). x.seen) is ∙ all))
         (λ (apart : by ≢ id). (by, u, set_else s.views id by w apart ∙ e, live, all))
         (same_or_not by id)
 
-    kept : (n : ℕ) → n ≡ (r.drawn + 1) % 2 ^ 64 → InTurn stands opening (record { words = set s.words 0 n; homes = s.homes; views = set s.views id w })
+    -- each ticket is still out, and the new one is
+    held : (t : ℕ) → length log ≤ t → t < drawn + 1 → IsOut (set s.views id w) t
+    held t low high = ⊎_elim
+        (λ (same : t ≡ drawn). (id, w, placed s.views id v w at, ap Some (sym same)))
+        (λ (not_new : t ≢ drawn).
+        let h = r.held t low (omega (arith, high, not_new)) in ⊎_elim
+        (λ (same : h.0 ≡ id). absurd (none_some t (sym free ∙ ap (λ (x : D). x.ticket) (one_view s.views id v h.1 at (subst (λ (n : ℕ). get_elem? s.views n ≡ some h.1) same h.2)) ∙ h.3)))
+        (λ (apart : h.0 ≢ id). (h.0, h.1, set_else s.views id h.0 w apart ∙ h.2, h.3))
+        (same_or_not h.0 id))
+        (same_or_not t drawn)
+
+    kept : (n : ℕ) → n ≡ (drawn + 1) % 2 ^ 64 → InTurn stands opening log (drawn + 1) (record { words = set s.words 0 n; homes = s.homes; views = set s.views id w })
     kept n is = record {
-      log = r.log;
-      drawn = r.drawn + 1;
-      words = ap (λ (ws : List ℕ). set ws 0 n) r.words ∙ ap (λ (m : ℕ). m ∷ (length r.log % 2 ^ 64) ∷ []) is;
+      words = ap (λ (ws : List ℕ). set ws 0 n) r.words ∙ ap (λ (m : ℕ). m ∷ (length log % 2 ^ 64) ∷ []) is;
       each = each;
       alone = alone;
+      held = held;
       tickets = let more = sum_of-replaced (out {T = T} {A = A} {S = S}) s.views id v w at in let none_yet : has v.ticket ≡ 0 = ap has free in omega (arith, more, none_yet, r.tickets);
       shares = let stays = sum_of-replaced (share {T = T} {A = A} {S = S}) s.views id v w at in omega (arith, stays, r.shares);
       whole = still_whole r.whole;
-      place = ⊎_elim (λ (home : AtHome stands opening r.log s). inl (still_home home (set s.words 0 n))) (λ (away : Away stands s). inr (still_away away (set s.words 0 n))) r.place;
+      place = ⊎_elim (λ (home : AtHome stands opening log s). inl (still_home home (set s.words 0 n))) (λ (away : Away stands s). inr (still_away away (set s.words 0 n))) r.place;
     }
 
-  pub draws : (opening : T) (slots id : ℕ) (m : M) → m.0.ticket ≡ None → m.0.served ≡ false → 0 < m.0.share
-      → Allows (InTurn stands opening) slots id m 0 (λ n. (n + 1) % 2 ^ 64) (Draws stands (step slots 0 1 0 none) m)
-  draws opening slots id m free idle member s r deep at small =
-      let found : get_or s.words 0 0 ≡ r.drawn % 2 ^ 64 = ap (λ (ws : List ℕ). get_or ws 0 0) r.words in (
-        record m.0 { ticket = Some r.drawn },
+  pub draws : (opening : T) (slots id : ℕ) (m : M) → AtRest m
+      → Allows (OneList stands opening) slots id m 0 (λ n. (n + 1) % 2 ^ 64) (Draws stands (step slots 0 1 0 none) m)
+  draws opening slots id m (empty, free, idle, member) s (log, drawn, r, n) deep at small =
+      let found : get_or s.words 0 0 ≡ drawn % 2 ^ 64 = ap (λ (ws : List ℕ). get_or ws 0 0) r.words in (
+        record m.0 { ticket = Some drawn },
         keeps,
         tt,
-        kept opening s r id m.0 at free idle member ((get_or s.words 0 0 + 1) % 2 ^ 64) (omega (arith, found)),
-        (r.drawn, found, refl, refl),
+        (
+          log,
+          drawn + 1,
+          kept opening log drawn s r id m.0 at free idle member ((get_or s.words 0 0 + 1) % 2 ^ 64) (omega (arith, found)),
+          drawn_keeps log s.views n id m.0 (Some drawn) at,
+        ),
+        (drawn, found, refl, refl),
       )

@@ -1,4 +1,4 @@
--- The rule at the start, at a split, and what it says at the end.
+-- The rule at the start, and what it says at the end.
 use Rattle.std.proofs.Common.{◌≡◌, ◌≢◌, ◌∙◌, sym, ap, refl, subst, ℕ, ◌+◌, ◌-◌, ◌%◌, ◌^◌, ◌<◌, ◌≤◌, List, [], ◌∷◌, ◌++◌, length, length-append, append-nil, get_or, set, ⊎_elim, ◌⊎◌, inl, inr, arith, Option, Some, None, Bool, true, false}
 use mathlib.Core.Logic.{dite}
 use native.Mathlib.Decide.{ℕ_discrete}
@@ -11,7 +11,9 @@ use Rattle.turn_core.specs.declared.view.Call.{Call}
 use Rattle.turn_core.specs.declared.view.View.{View}
 use Rattle.turn_core.specs.declared.view.Done.{Done}
 use Rattle.turn_core.specs.declared.view.Kept.{Kept}
-use Rattle.turn_core.specs.Turns.{InTurn, Fits, StandsFor, AtHome, Away, Looks, Moves, Served, next_call, AtRest, newcomer, left, right, out, share, has, sum_of, all_shares}
+use Rattle.turn_core.specs.Rule.{InTurn, Fits, AtHome, Away, out, share, has, sum_of, OneList, IsOut}
+use Rattle.turn_core.specs.Views.{StandsFor, AtRest, newcomer, left, right, all_shares}
+use Rattle.turn_core.proofs.Numbers.{start_numbers, split_numbers}
 use Rattle.turn_core.proofs.Parts.{sum_of-replaced, sum_of-below, prefix_more, one_view, placed, true_not_false, some_same, none_some, same_or_not, not_served, sum_of-snoc, sum_of-two, only}
 
 module _ {T A S : Type 0} (stands : T → T → List (A × S) → Type 0) where
@@ -41,109 +43,27 @@ module _ {T A S : Type 0} (stands : T → T → List (A × S) → Type 0) where
       whole = omega arith;
     }
 
-    pub starts : (k : K) → k.value ≡ value → InTurn stands value (opening (0 ∷ 0 ∷ []) (Some k ∷ []) v₀)
-    starts k is = record {
-      log = [];
-      drawn = 0;
+    starts_turns : (k : K) → k.value ≡ value → stands value value [] → InTurn stands value [] 0 (opening (0 ∷ 0 ∷ []) (Some k ∷ []) v₀)
+    starts_turns k is ok = record {
       words = refl;
       each = λ by u e. subst (Fits stands value [] 0) (only v₀ u by e).1 fits₀;
       alone = λ i j a b t e f at_a at_b. (only v₀ a i e).0 ∙ sym (only v₀ b j f).0;
+      held = λ t low high. absurd (omega (arith, high));
       tickets = omega arith;
       shares = omega arith;
-      place = inl (k, refl, (λ first. subst (λ (x : T). stands value x []) (sym is) first), λ by u e. sym (ap (λ (x : D). x.served) (only v₀ u by e).1));
+      place = inl (k, refl, subst (λ (x : T). stands value x []) (sym is) ok, λ by u e. sym (ap (λ (x : D). x.served) (only v₀ u by e).1));
       whole = (0, v₀, refl, omega arith, refl);
     }
 
-  module _ (o : T) (s : St) (r : InTurn stands o s) (id : ℕ) (v : D) (at : get_elem? s.views id ≡ some v) (free : v.ticket ≡ None) (idle : v.served ≡ false) (more : 1 < v.share) where
-    abbrev vs : List D
-    vs = set s.views id (left v)
+    pub starts : (k : K) → k.value ≡ value → stands value value [] → OneList stands value (opening (0 ∷ 0 ∷ []) (Some k ∷ []) v₀)
+    starts k is ok = ([], 0, starts_turns k is ok, start_numbers value)
 
-    live : 0 < v.share
-    live = omega (arith, more)
-
-    fits_left : Fits stands o r.log r.drawn (left v)
-    fits_left = let old = r.each id v at in record {
-      same = λ _. old.same live;
-      prefix = old.prefix;
-      older = old.older;
-      in_turn = old.in_turn;
-      first = old.first;
-      whole = let none_yet : has v.ticket ≡ 0 = ap has free in omega (arith, none_yet);
-    }
-
-    fits_right : Fits stands o r.log r.drawn (right v)
-    fits_right = let old = r.each id v at in record {
-      same = λ _. old.same live;
-      prefix = old.prefix;
-      older = old.older;
-      in_turn = old.in_turn;
-      first = old.first;
-      whole = let none_yet : has v.ticket ≡ 0 = ap has free in omega (arith, none_yet);
-    }
-
-    -- each view afterwards is one of the two, or an old one of another
-    which : (by : ℕ) (u : D) → get_elem? (vs ++ right v ∷ []) by ≡ some u → (left v ≡ u) ⊎ ((right v ≡ u) ⊎ ((by ≢ id) × (get_elem? s.views by ≡ some u)))
-    which by u e = ⊎_elim
-        (λ (p : get_elem? vs by ≡ some u). ⊎_elim (λ (q : (by ≡ id) × (left v ≡ u)). inl q.1) (λ (q : (by ≢ id) × (get_elem? s.views by ≡ some u)). inr (inr q)) (at_set s.views id by (left v) u p))
-        (λ (p : right v ≡ u). inr (inl p))
-        (at_snoc vs (right v) u by e)
-
-    each : (by : ℕ) (u : D) → get_elem? (vs ++ right v ∷ []) by ≡ some u → Fits stands o r.log r.drawn u
-    each by u e = ⊎_elim (λ (p : left v ≡ u). subst (Fits stands o r.log r.drawn) p fits_left)
-        (λ (p : (right v ≡ u) ⊎ ((by ≢ id) × (get_elem? s.views by ≡ some u))). ⊎_elim (λ (q : right v ≡ u). subst (Fits stands o r.log r.drawn) q fits_right)
-        (λ (q : (by ≢ id) × (get_elem? s.views by ≡ some u)). r.each by u q.1) p)
-        (which by u e)
-
-    with_ticket : (by t : ℕ) (u : D) → get_elem? (vs ++ right v ∷ []) by ≡ some u → u.ticket ≡ Some t → get_elem? s.views by ≡ some u
-    with_ticket by t u e mine = ⊎_elim (λ (p : left v ≡ u). absurd (none_some t (sym free ∙ ap (λ (x : D). x.ticket) p ∙ mine)))
-        (λ (p : (right v ≡ u) ⊎ ((by ≢ id) × (get_elem? s.views by ≡ some u))). ⊎_elim (λ (q : right v ≡ u). absurd (none_some t (sym free ∙ ap (λ (x : D). x.ticket) q ∙ mine)))
-        (λ (q : (by ≢ id) × (get_elem? s.views by ≡ some u)). q.1) p)
-        (which by u e)
-
-    still_idle : ((by : ℕ) (u : D) → get_elem? s.views by ≡ some u → u.served ≡ false) → (by : ℕ) (u : D) → get_elem? (vs ++ right v ∷ []) by ≡ some u → u.served ≡ false
-    still_idle nobody by u e = ⊎_elim (λ (p : left v ≡ u). sym (ap (λ (x : D). x.served) p) ∙ idle)
-        (λ (p : (right v ≡ u) ⊎ ((by ≢ id) × (get_elem? s.views by ≡ some u))). ⊎_elim (λ (q : right v ≡ u). sym (ap (λ (x : D). x.served) q) ∙ idle)
-        (λ (q : (by ≢ id) × (get_elem? s.views by ≡ some u)). nobody by u q.1) p)
-        (which by u e)
-
-    kept_view : (by : ℕ) (u : D) → by ≢ id → get_elem? s.views by ≡ some u → get_elem? (vs ++ right v ∷ []) by ≡ some u
-    kept_view by u apart e = at_longer vs (right v ∷ []) by u (set_else s.views id by (left v) apart ∙ e)
-
-    still_away : Away stands s → Away stands (record { words = s.words; homes = s.homes; views = vs ++ right v ∷ [] })
-    still_away (homes, (by, u, e, served)) = ⊎_elim
-        (λ (same : by ≡ id). absurd (true_not_false v.served (ap (λ (x : D). x.served) (one_view s.views id v u at (subst (λ (n : ℕ). get_elem? s.views n ≡ some u) same e)) ∙ served) idle))
-        (λ (apart : by ≢ id). (homes, (by, u, kept_view by u apart e, served)))
-        (same_or_not by id)
-
-    still_whole : (by : ℕ) × (u : D) × (get_elem? s.views by ≡ some u) × (0 < u.share) × (u.seen ≡ r.log) → (by : ℕ) × (u : D) × (get_elem? (vs ++ right v ∷ []) by ≡ some u) × (0 < u.share) × (u.seen ≡ r.log)
-    still_whole (by, u, e, member, all) = ⊎_elim
-        (λ (same : by ≡ id). let is : v ≡ u = one_view s.views id v u at (subst (λ (n : ℕ). get_elem? s.views n ≡ some u) same e) in
-        (id, left v, at_longer vs (right v ∷ []) id (left v) (placed s.views id v (left v) at), omega (arith, more), ap (λ (x : D). x.seen) is ∙ all))
-        (λ (apart : by ≢ id). (by, u, kept_view by u apart e, member, all))
-        (same_or_not by id)
-
-    pub split_keeps : InTurn stands o (record { words = s.words; homes = s.homes; views = vs ++ right v ∷ [] })
-    split_keeps = record {
-      log = r.log;
-      drawn = r.drawn;
-      words = r.words;
-      each = each;
-      alone = λ i j a b t e f at_a at_b. r.alone i j a b t (with_ticket i t a e at_a) (with_ticket j t b f at_b) at_a at_b;
-      tickets = let a = sum_of-replaced (out {T = T} {A = A} {S = S}) s.views id v (left v) at in let b = sum_of-snoc (out {T = T} {A = A} {S = S}) vs (right v) in let none_yet : has v.ticket ≡ 0 = ap has free in omega (arith, a, b, none_yet, r.tickets);
-      shares = let a = sum_of-replaced (share {T = T} {A = A} {S = S}) s.views id v (left v) at in let b = sum_of-snoc (share {T = T} {A = A} {S = S}) vs (right v) in omega (arith, a, b, more, r.shares);
-      place = ⊎_elim (λ (home : AtHome stands o r.log s). inl (home.0, home.1, home.2, still_idle home.3)) (λ (away : Away stands s). inr (still_away away)) r.place;
-      whole = still_whole r.whole;
-    }
-
-  pub splits : (o : T) (id : ℕ) (v : D) → v.ticket ≡ None → v.served ≡ false → 1 < v.share → Splits (InTurn stands o) id v (left v) (right v)
-  splits o id v free idle more s r at = split_keeps o s r id v at free idle more
-
-  module _ (o : T) (s : St) (r : InTurn stands o s) (id : ℕ) (v : D) (at : get_elem? s.views id ≡ some v) (idle : v.served ≡ false) (all : v.share ≡ all_shares) where
+  module _ (o : T) (log : List (Call A S)) (drawn : ℕ) (s : St) (r : InTurn stands o log drawn s) (id : ℕ) (v : D) (at : get_elem? s.views id ≡ some v) (idle : v.served ≡ false) (all : v.share ≡ all_shares) where
     others_spent : (by : ℕ) (u : D) → by ≢ id → get_elem? s.views by ≡ some u → u.share ≡ 0
     others_spent by u apart e = let two = sum_of-two (share {T = T} {A = A} {S = S}) s.views by id u v apart e at in omega (arith, two, all, r.shares)
 
-    at_home : AtHome stands o r.log s
-    at_home = ⊎_elim (λ (home : AtHome stands o r.log s). home)
+    at_home : AtHome stands o log s
+    at_home = ⊎_elim (λ (home : AtHome stands o log s). home)
         (λ (away : Away stands s). let by = away.1.0 in let u = away.1.1 in ⊎_elim
         (λ (same : by ≡ id). absurd (true_not_false v.served (ap (λ (x : D). x.served) (one_view s.views id v u at (subst (λ (n : ℕ). get_elem? s.views n ≡ some u) same away.1.2)) ∙ away.1.3) idle))
         (λ (apart : by ≢ id). let f = r.each by u away.1.2 in let one : has u.ticket ≡ 1 = ap has (f.first away.1.3).0 in
@@ -151,7 +71,7 @@ module _ {T A S : Type 0} (stands : T → T → List (A × S) → Type 0) where
         (same_or_not by id))
         r.place
 
-    sees_all : v.seen ≡ r.log
+    sees_all : v.seen ≡ log
     sees_all = let by = r.whole.0 in let u = r.whole.1 in ⊎_elim
         (λ (same : by ≡ id). ap (λ (x : D). x.seen) (one_view s.views id v u at (subst (λ (n : ℕ). get_elem? s.views n ≡ some u) same r.whole.2)) ∙ r.whole.4)
         (λ (apart : by ≢ id). absurd (omega (arith, r.whole.3, others_spent by u apart r.whole.2)))
@@ -161,10 +81,10 @@ module _ {T A S : Type 0} (stands : T → T → List (A × S) → Type 0) where
     closes = let home = at_home in
         (home.0, home.1, subst (λ (z : Option T × List (Call A S)). StandsFor stands z.0 home.0.value z.1) (λ i. (sym ((r.each id v at).same (omega (arith, all))) i, sym sees_all i)) home.2)
 
-  pub last_value : (o : T) (id : ℕ) (v : D) (ws : List ℕ) (xs : List (Option K)) (x : Option K) → v.served ≡ false → v.share ≡ all_shares → Final (Seen (InTurn stands o) id v) ws xs → get_elem? xs 0 ≡ some x
+  pub last_value : (o : T) (id : ℕ) (v : D) (ws : List ℕ) (xs : List (Option K)) (x : Option K) → v.served ≡ false → v.share ≡ all_shares → Final (Seen (OneList stands o) id v) ws xs → get_elem? xs 0 ≡ some x
       → (k : K) × (x ≡ Some k) × StandsFor stands v.opening k.value v.seen
   last_value o id v ws xs x idle all last e =
       let s = last.0 in
-      let h = closes o s last.1.0 id v last.1.1 idle all in
+      let h = closes o last.1.0.0 last.1.0.1 s last.1.0.2 id v last.1.1 idle all in
       let here : get_elem? xs 0 ≡ some (Some h.0) = last.4 0 (Some h.0) (ap (λ (hs : List _). get_elem? hs 0) h.1) in
       (h.0, some-injective x (Some h.0) (sym e ∙ here), h.2)

@@ -11,7 +11,11 @@ use Rattle.turn_core.specs.declared.view.Call.{Call}
 use Rattle.turn_core.specs.declared.view.View.{View}
 use Rattle.turn_core.specs.declared.view.Done.{Done}
 use Rattle.turn_core.specs.declared.view.Kept.{Kept}
-use Rattle.turn_core.specs.Turns.{InTurn, Fits, StandsFor, AtHome, Away, Looks, Moves, Served, next_call, AtRest, newcomer, left, right, both, spent, Learns, Learned, Met, longer, shorter, out, share, has, sum_of, all_shares}
+use Rattle.turn_core.specs.Calls.{longer, shorter}
+use Rattle.turn_core.specs.Plays.{Learns, Learned}
+use Rattle.turn_core.specs.Rule.{InTurn, Fits, AtHome, Away, out, share, has, sum_of, OneList, IsOut}
+use Rattle.turn_core.specs.Views.{StandsFor, AtRest, newcomer, left, right, both, spent, all_shares, Joined, Counted}
+use Rattle.turn_core.proofs.Numbers.{meet_numbers}
 use Rattle.turn_core.proofs.Parts.{sum_of-replaced, sum_of-below, prefix_more, one_view, placed, true_not_false, some_same, none_some, same_or_not, not_served, sum_of-snoc, sum_of-two, only}
 use Rattle.turn_core.proofs.Prefixes.{longer_prefix, shorter_begins, longer_whole, each_begins}
 
@@ -28,7 +32,7 @@ module _ {T A S : Type 0} (stands : T → T → List (A × S) → Type 0) where
   abbrev M : Type 0
   M = Me (Option K) D
 
-  module _ (o : T) (s : St) (r : InTurn stands o s) (id other : ℕ) (v w : D) (at : get_elem? s.views id ≡ some v) (apart : other ≢ id) (at_w : get_elem? s.views other ≡ some w)
+  module _ (o : T) (log : List (Call A S)) (drawn : ℕ) (s : St) (r : InTurn stands o log drawn s) (id other : ℕ) (v w : D) (at : get_elem? s.views id ≡ some v) (apart : other ≢ id) (at_w : get_elem? s.views other ≡ some w)
       (free_v : v.ticket ≡ None) (idle_v : v.served ≡ false) (live_v : 0 < v.share) (free_w : w.ticket ≡ None) (idle_w : w.served ≡ false) where
     abbrev u : D
     u = both v w
@@ -42,20 +46,20 @@ module _ {T A S : Type 0} (stands : T → T → List (A × S) → Type 0) where
     at₁ : get_elem? vs₁ other ≡ some w
     at₁ = set_else s.views id other u apart ∙ at_w
 
-    fits_both : Fits stands o r.log r.drawn u
+    fits_both : Fits stands o log drawn u
     fits_both = let a = r.each id v at in let b = r.each other w at_w in record {
       same = λ _. a.same live_v;
-      prefix = longer_prefix v.seen w.seen r.log a.prefix b.prefix;
-      older = shorter_begins v.seen w.seen r.log a.prefix b.prefix;
+      prefix = longer_prefix v.seen w.seen log a.prefix b.prefix;
+      older = shorter_begins v.seen w.seen log a.prefix b.prefix;
       in_turn = λ t e. absurd (none_some t (sym free_v ∙ e));
       first = λ e. absurd (true_not_false v.served e idle_v);
       whole = let none_yet : has v.ticket ≡ 0 = ap has free_v in omega (arith, none_yet);
     }
 
-    fits_spent : Fits stands o r.log r.drawn spent
+    fits_spent : Fits stands o log drawn spent
     fits_spent = record {
       same = λ live. absurd (omega (arith, live));
-      prefix = (r.log, refl);
+      prefix = (log, refl);
       older = ([], refl);
       in_turn = λ t e. absurd (none_some t e);
       first = λ e. absurd (true_not_false false e refl);
@@ -71,9 +75,9 @@ module _ {T A S : Type 0} (stands : T → T → List (A × S) → Type 0) where
         (λ (p : (by ≢ other) × (get_elem? vs₁ by ≡ some x)). ⊎_elim (λ (q : (by ≡ id) × (u ≡ x)). inr (inl q.1)) (λ (q : (by ≢ id) × (get_elem? s.views by ≡ some x)). inr (inr (p.0, q.0, q.1))) (at_set s.views id by u x p.1))
         (at_set vs₁ other by spent x e)
 
-    each : (by : ℕ) (x : D) → get_elem? vs by ≡ some x → Fits stands o r.log r.drawn x
-    each by x e = ⊎_elim (λ (p : spent ≡ x). subst (Fits stands o r.log r.drawn) p fits_spent)
-        (λ (p : (u ≡ x) ⊎ ((by ≢ other) × (by ≢ id) × (get_elem? s.views by ≡ some x))). ⊎_elim (λ (q : u ≡ x). subst (Fits stands o r.log r.drawn) q fits_both)
+    each : (by : ℕ) (x : D) → get_elem? vs by ≡ some x → Fits stands o log drawn x
+    each by x e = ⊎_elim (λ (p : spent ≡ x). subst (Fits stands o log drawn) p fits_spent)
+        (λ (p : (u ≡ x) ⊎ ((by ≢ other) × (by ≢ id) × (get_elem? s.views by ≡ some x))). ⊎_elim (λ (q : u ≡ x). subst (Fits stands o log drawn) q fits_both)
         (λ (q : (by ≢ other) × (by ≢ id) × (get_elem? s.views by ≡ some x)). r.each by x q.2) p)
         (which by x e)
 
@@ -107,12 +111,21 @@ module _ {T A S : Type 0} (stands : T → T → List (A × S) → Type 0) where
         (same_or_not by other))
         (same_or_not by id)
 
-    abbrev Whole : List D → Type 0
-    Whole l = (by : ℕ) × (x : D) × (get_elem? l by ≡ some x) × (0 < x.share) × (x.seen ≡ r.log)
+    held : (t : ℕ) → length log ≤ t → t < drawn → IsOut vs t
+    held t low high = let h = r.held t low high in ⊎_elim
+        (λ (same : h.0 ≡ id). absurd (none_some t (sym free_v ∙ ap (λ (y : D). y.ticket) (here h.0 h.1 v id h.2 at same) ∙ h.3)))
+        (λ (not_id : h.0 ≢ id). ⊎_elim
+        (λ (same : h.0 ≡ other). absurd (none_some t (sym free_w ∙ ap (λ (y : D). y.ticket) (here h.0 h.1 w other h.2 at_w same) ∙ h.3)))
+        (λ (not_other : h.0 ≢ other). (h.0, h.1, kept_view h.0 h.1 not_other not_id h.2, h.3))
+        (same_or_not h.0 other))
+        (same_or_not h.0 id)
 
-    all_of : (v.seen ≡ r.log) ⊎ (w.seen ≡ r.log) → Whole vs
+    abbrev Whole : List D → Type 0
+    Whole l = (by : ℕ) × (x : D) × (get_elem? l by ≡ some x) × (0 < x.share) × (x.seen ≡ log)
+
+    all_of : (v.seen ≡ log) ⊎ (w.seen ≡ log) → Whole vs
     all_of one = let a = r.each id v at in let b = r.each other w at_w in
-        (id, u, both_there, omega (arith, live_v), longer_whole v.seen w.seen r.log a.prefix b.prefix one)
+        (id, u, both_there, omega (arith, live_v), longer_whole v.seen w.seen log a.prefix b.prefix one)
 
     still_whole : Whole s.views → Whole vs
     still_whole (by, x, e, live, all) = ⊎_elim
@@ -123,36 +136,48 @@ module _ {T A S : Type 0} (stands : T → T → List (A × S) → Type 0) where
         (same_or_not by other))
         (same_or_not by id)
 
-    pub meet_keeps : InTurn stands o (record { words = s.words; homes = s.homes; views = vs })
+    pub meet_keeps : InTurn stands o log drawn (record { words = s.words; homes = s.homes; views = vs })
     meet_keeps = record {
-      log = r.log;
-      drawn = r.drawn;
       words = r.words;
+      held = held;
       each = each;
       alone = λ i j a b t e f at_a at_b. r.alone i j a b t (with_ticket i t a e at_a) (with_ticket j t b f at_b) at_a at_b;
       tickets = let a = sum_of-replaced (out {T = T} {A = A} {S = S}) s.views id v u at in let b = sum_of-replaced (out {T = T} {A = A} {S = S}) vs₁ other w spent at₁ in
           let none_w : has w.ticket ≡ 0 = ap has free_w in omega (arith, a, b, none_w, r.tickets);
       shares = let a = sum_of-replaced (share {T = T} {A = A} {S = S}) s.views id v u at in let b = sum_of-replaced (share {T = T} {A = A} {S = S}) vs₁ other w spent at₁ in omega (arith, a, b, r.shares);
-      place = ⊎_elim (λ (home : AtHome stands o r.log s). inl (home.0, home.1, home.2, still_idle home.3)) (λ (away : Away stands s). inr (still_away away)) r.place;
+      place = ⊎_elim (λ (home : AtHome stands o log s). inl (home.0, home.1, home.2, still_idle home.3)) (λ (away : Away stands s). inr (still_away away)) r.place;
       whole = still_whole r.whole;
     }
 
-  pub meets : (o : T) (id other : ℕ) (m n : M) → AtRest m → AtRest n → Joins (InTurn stands o) id m.0 other n.0 (both m.0 n.0) spent
-  meets o id other m n a b s r at apart e = meet_keeps o s r id other m.0 n.0 at apart (sym (set_else s.views id other (both m.0 n.0) apart) ∙ e) a.1 a.2 a.3 b.1 b.2
+  pub meets : (o : T) (id other : ℕ) (m n : M) → AtRest m → AtRest n → Joins (OneList stands o) id m.0 other n.0 (both m.0 n.0) spent
+  meets o id other m n a b s (log, drawn, r, numbers) at apart e =
+      let at_n = sym (set_else s.views id other (both m.0 n.0) apart) ∙ e in (
+        log,
+        drawn,
+        meet_keeps o log drawn s r id other m.0 n.0 at apart at_n a.1 a.2 a.3 b.1 b.2,
+        meet_numbers log s.views numbers id other m.0 n.0 at apart at_n a.3 b.3 (r.each id m.0 at).prefix (r.each other n.0 at_n).prefix,
+      )
 
-  pub learns : (o : T) (slots id : ℕ) (m : M) → Allows (InTurn stands o) slots id m 1 (λ n. n) (Learns stands (step slots 1 0 0 none) m)
-  learns o slots id m s r deep at small =
+  pub learns : (o : T) (slots id : ℕ) (m : M) → 0 < m.0.share → Allows (OneList stands o) slots id m 1 (λ n. n) (Learns stands (step slots 1 0 0 none) m)
+  learns o slots id m live s (log, drawn, r, n) deep at small =
       let same_words : set s.words 1 (get_or s.words 1 0) ≡ s.words = ap (λ (ws : List ℕ). set ws 1 (get_or ws 1 0)) r.words ∙ sym r.words in (
         m.0,
         keeps,
         tt,
-        subst (λ (z : List ℕ × List D). InTurn stands o (record { words = z.0; homes = s.homes; views = z.1 })) (λ i. (sym same_words i, sym (set_again s.views id m.0 at) i)) r,
-        ((r.each id m.0 at).older, refl),
+        subst (λ (z : List ℕ × List D). OneList stands o (record { words = z.0; homes = s.homes; views = z.1 })) (λ i. (sym same_words i, sym (set_again s.views id m.0 at) i)) (log, drawn, r, n),
+        ((r.each id m.0 at).older, (n.named id m.0 at live).counted, refl),
       )
 
-  pub is_met : (m m' m'' n : M) → m' ≡ (both m.0 n.0, m.1) → Learned m' m'' → Met m.0 n.0 m''.0
-  is_met m m' m'' n joined learned =
-      let is : m''.0 ≡ both m.0 n.0 = ap (λ (x : M). x.0) (learned.1 ∙ joined) in
+  pub is_joined : (m m' m'' n : M) → m' ≡ (both m.0 n.0, m.1) → Learned m' m'' → Joined m.0 n.0 m''.0
+  is_joined m m' m'' n joined learned =
+      let is : m''.0 ≡ both m.0 n.0 = ap (λ (x : M). x.0) (learned.2 ∙ joined) in
       let older = subst (λ (x : M). IsPrefix x.0.older x.0.seen) joined learned.0 in
-      let two = each_begins m.0.seen n.0.seen older in
-      (is, subst (λ (x : D). IsPrefix m.0.seen x.seen) (sym is) two.0, subst (λ (x : D). IsPrefix n.0.seen x.seen) (sym is) two.1)
+      let two = each_begins m.0.seen n.0.seen older in record {
+        both = is;
+        begins = subst (λ (x : D). IsPrefix m.0.seen x.seen) (sym is) two.0;
+        begins_too = subst (λ (x : D). IsPrefix n.0.seen x.seen) (sym is) two.1;
+      }
+
+  -- what is known of a pass that did not change
+  pub still_counted : (m m' : M) → Learned m m' → Counted m'.0
+  still_counted m m' learned = subst (λ (x : M). Counted x.0) (sym learned.2) learned.1

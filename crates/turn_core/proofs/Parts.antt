@@ -8,7 +8,9 @@ use native.Mathlib.Decide.{ℕ_discrete}
 use mathlib.Core.List.{map-append}
 use Rattle.atomic_table.specs.Table.{Me, rest}
 use Rattle.turn_core.specs.declared.view.Call.{Call}
-use Rattle.turn_core.specs.Turns.{sum_of, plain, StandsFor}
+use Rattle.turn_core.specs.Calls.{plain}
+use Rattle.turn_core.specs.Rule.{sum_of}
+use Rattle.turn_core.specs.Views.{StandsFor, IsLawful}
 
 module _ {V : Type 0} where
   pub sum_of-replaced : (f : V → ℕ) (l : List V) (i : ℕ) (v w : V) → get_elem? l i ≡ some v → sum_of f (set l i w) + f v ≡ sum_of f l + f w
@@ -43,6 +45,13 @@ module _ {V : Type 0} where
 
   pub one_view : (l : List V) (i : ℕ) (v w : V) → get_elem? l i ≡ some v → get_elem? l i ≡ some w → v ≡ w
   one_view l i v w e f = some-injective v w (sym e ∙ f)
+
+  -- a view at the end of a list has its length for a number
+  pub at_end : (l : List V) (x u : V) (by : ℕ) → get_elem? (l ++ x ∷ []) by ≡ some u → (get_elem? l by ≡ some u) ⊎ ((x ≡ u) × (by ≡ length l))
+  at_end [] x u zero e = inr (some-injective x u e, refl)
+  at_end [] x u (suc by) e = absurd (some-ne-none u (sym e))
+  at_end (y ∷ ys) x u zero e = inl e
+  at_end (y ∷ ys) x u (suc by) e = ⊎_elim (λ (p : get_elem? ys by ≡ some u). inl p) (λ (p : (x ≡ u) × (by ≡ length ys)). inr (p.0, ap suc p.1)) (at_end ys x u by e)
 
   pub placed : (l : List V) (i : ℕ) (v w : V) → get_elem? l i ≡ some v → get_elem? (set l i w) i ≡ some w
   placed [] i v w e = absurd (some-ne-none v (sym e))
@@ -114,5 +123,10 @@ module _ {T A S : Type 0} (stands : T → T → List (A × S) → Type 0) where
       → ((opening : T) (calls : List (A × S)) → stands opening value calls → stands opening value' (calls ++ (a, s) ∷ []))
       → c.ask ≡ a → c.say ≡ s → StandsFor stands o value log → StandsFor stands o value' (log ++ c ∷ [])
   makes_call None value value' log c a s step asked said h = tt
-  makes_call (Some o) value value' log c a s step asked said h = λ first.
-      subst (λ (l : List (A × S)). stands o value' l) (ap (λ (p : A × S). plain log ++ p ∷ []) (λ i. (sym asked i, sym said i)) ∙ sym (plain_more log c)) (step o (plain log) (h first))
+  makes_call (Some o) value value' log c a s step asked said h =
+      subst (λ (l : List (A × S)). stands o value' l) (ap (λ (p : A × S). plain log ++ p ∷ []) (λ i. (sym asked i, sym said i)) ∙ sym (plain_more log c)) (step o (plain log) h)
+
+  -- what a value stands for is lawful
+  pub lawful_of : (lawful : T → List (A × S) → Type 0) → ((first now : T) (calls : List (A × S)) → stands first now calls → lawful first calls)
+      → (o : Option T) (value : T) (log : List (Call A S)) → StandsFor stands o value log → (first : T) → o ≡ Some first → lawful first (plain log)
+  lawful_of lawful law o value log h first e = law first value (plain log) (subst (λ (x : Option T). StandsFor stands x value log) e h)

@@ -3,7 +3,7 @@ use Rattle.std.proofs.Common.{◌≡◌, ◌≢◌, ◌∙◌, sym, ap, refl, su
 use Rattle.std.proofs.lemmas.Bool.Decides.{nat_tests}
 use mathlib.Core.List.{IsPrefix}
 use Rattle.turn_core.specs.declared.view.Call.{Call}
-use Rattle.turn_core.specs.Turns.{longer, shorter}
+use Rattle.turn_core.specs.Calls.{longer, shorter}
 
 module _ {A : Type 0} where
   abbrev head_of : A → List A → A

@@ -1,52 +1,58 @@
-//! The steps of a turn.
-ghost use Rattle.std.specs.Prelude.{◌≡◌, ◌≢◌, ◌⊎◌, ℕ, ◌+◌, ◌%◌, ◌^◌, ◌<◌, ◌≤◌, List, [], ◌∷◌, ◌++◌, Some, None, true, false, IsTrue, MatchBool};
+// The steps of a turn.
+ghost use Rattle.std.specs.Prelude.{◌≡◌, ◌≢◌, ◌⊎◌, ℕ, ◌+◌, ◌%◌, ◌^◌, ◌<◌, ◌≤◌, List, [], ◌∷◌, ◌++◌, Some, None, true, false};
 ghost use mathlib.Core.List.{IsPrefix};
-ghost use Rattle.turn_core.specs.Turns.{has, StandsFor, Served, Called, AtRest, Learned, next_call};
+ghost use Rattle.turn_core.specs.Plays.{Learned, Served, moved};
+ghost use Rattle.turn_core.specs.Rule.{has};
+ghost use Rattle.turn_core.specs.Views.{AtRest, Called, Counted, IsLawful, StandsFor, next_call};
 
-use crate::desk::{Held, Known, Law, Turned};
+use crate::rule::{Held, Known, Law};
+use crate::turned::Turned;
 use crate::view::{Done, Kept};
 use atomic_table::{Play, Seat, Shared};
 use std::marker::PhantomData;
 use std::snapshot::Snapshot;
 use std::sync::Wait;
 
+/// A ticket is drawn.
 pub struct Draw<T> {
     of: PhantomData<T>,
 }
 
 impl<T: Turned> Play<Held<T>, Known<T>> for Draw<T> {
-    ghost use Rattle.turn_core.specs.Turns.{Draws};
+    ghost use Rattle.turn_core.specs.Plays.{Draws};
 
     ghost then = { Draws T.stands };
 }
 
+/// A pass looks whether it is served.
 pub struct Look<T> {
     of: PhantomData<T>,
 }
 
 impl<T: Turned> Play<Held<T>, Known<T>> for Look<T> {
-    ghost use Rattle.turn_core.specs.Turns.{Looks};
+    ghost use Rattle.turn_core.specs.Plays.{Looks};
 
     ghost then = { Looks T.stands };
 }
 
+/// The turn moves on.
 pub struct Move<T> {
     of: PhantomData<T>,
 }
 
 impl<T: Turned> Play<Held<T>, Known<T>> for Move<T> {
-    ghost use Rattle.turn_core.specs.Turns.{Moves};
+    ghost use Rattle.turn_core.specs.Plays.{Moves};
 
     ghost then = { Moves T.stands };
 }
 
-/// What a look tells a pass after a meeting.
-pub struct Learn<T> {
+/// A pass looks what is known of it after a split or a meeting.
+pub struct LookBack<T> {
     of: PhantomData<T>,
 }
 
-impl<T: Turned> Play<Held<T>, Known<T>> for Learn<T> {
-    ghost use Rattle.turn_core.specs.Turns.{Learns};
+impl<T: Turned> Play<Held<T>, Known<T>> for LookBack<T> {
+    ghost use Rattle.turn_core.specs.Plays.{Learns};
 
     ghost then = { Learns T.stands };
 }
@@ -55,13 +61,15 @@ pub(crate) type Top<T> = Shared<Held<T>, Known<T>, Snapshot<T>, Law<T>>;
 
 pub(crate) type Place<T> = Seat<Held<T>, Known<T>>;
 
+/// The word with the number of the next ticket, modulo 2^64.
 const TICKET: usize = 0;
 
+/// The word with the number of the ticket that is served, modulo 2^64.
 const SERVING: usize = 1;
 
 pub(crate) fn draw_ticket<T: Turned>(top: &Top<T>, place: &mut Place<T>) -> u64
     requires table { (place.old.table_id ≡ top.now.table_id) × (top.now.table_id.words ≡ 2) × (top.now.table_id.slots ≡ 1) }
-    requires free { (place.old.me.1 ≡ []) × (place.old.me.0.ticket ≡ None) × (place.old.me.0.served ≡ false) × (0 < place.old.me.0.share) }
+    requires rest { AtRest place.old.me }
     ensures same { (place.new.table_id ≡ place.old.table_id) × (place.new.id ≡ place.old.id) }
     ensures drawn { (t : ℕ) × (result ≡ t % 2 ^ 64) × (place.new.me ≡ (record place.old.me.0 { ticket = Some t }, [])) }
 {
@@ -77,18 +85,19 @@ pub(crate) fn look_once<T: Turned>(top: &Top<T>, place: &mut Place<T>) -> u64
     top.load::<Look<T>>(place, SERVING)
 }
 
+// Ends the turn: the call is then in the list, and the next ticket is served.
 pub(crate) fn move_on<T: Turned>(top: &Top<T>, place: &mut Place<T>)
     requires table { (place.old.table_id ≡ top.now.table_id) × (top.now.table_id.words ≡ 2) × (top.now.table_id.slots ≡ 1) }
     requires served { place.old.me.0.served ≡ true }
     requires holds { (k : _) × (d : _) × (place.old.me.1 ≡ (0, Some k) ∷ []) × (k.last ≡ Some d) × StandsFor T.stands place.old.me.0.opening k.value (place.old.me.0.seen ++ next_call place.old.me.0 d.ask.value d.say.value ∷ []) }
     ensures same { (place.new.table_id ≡ place.old.table_id) × (place.new.id ≡ place.old.id) }
-    ensures called { (k : _) (d : _) → place.old.me.1 ≡ (0, Some k) ∷ [] → k.last ≡ Some d → (place.new.me ≡ (record place.old.me.0 { seen = place.old.me.0.seen ++ next_call place.old.me.0 d.ask.value d.say.value ∷ []; calls = place.old.me.0.calls + 1; ticket = None; served = false }, [])) }
+    ensures called { (k : _) (d : _) → place.old.me.1 ≡ (0, Some k) ∷ [] → k.last ≡ Some d → (place.new.me ≡ (moved place.old.me.0 d, [])) × Counted place.new.me.0 }
 {
     top.fetch_add::<Move<T>>(place, SERVING, 1);
     top.wake_all(SERVING);
 }
 
-/// Takes the value out of the slot, makes the call, and puts it back.
+// Takes the value out of the slot, makes the call, and puts it back.
 pub(crate) fn call<T: Turned>(top: &Top<T>, place: &mut Place<T>, ask: &T::Ask) -> T::Say
     requires table { (place.old.table_id ≡ top.now.table_id) × (top.now.table_id.words ≡ 2) × (top.now.table_id.slots ≡ 1) }
     requires holds { (k : _) × (place.old.me.1 ≡ (0, Some k) ∷ []) × StandsFor T.stands place.old.me.0.opening k.value place.old.me.0.seen }
@@ -113,7 +122,7 @@ pub(crate) fn call<T: Turned>(top: &Top<T>, place: &mut Place<T>, ask: &T::Ask) 
     say
 }
 
-/// Waits until the ticket is served.
+// Parks until the ticket is served.
 pub(crate) fn wait_for<T: Turned, R: Wait>(rt: &R, top: &Top<T>, place: &mut Place<T>, ticket: u64)
     requires table { (place.old.table_id ≡ top.now.table_id) × (top.now.table_id.words ≡ 2) × (top.now.table_id.slots ≡ 1) }
     requires waits { (place.old.me.1 ≡ []) × (place.old.me.0.served ≡ false) × ((t : ℕ) × (ticket ≡ t % 2 ^ 64) × (place.old.me.0.ticket ≡ Some t)) }
@@ -130,7 +139,7 @@ pub(crate) fn wait_for<T: Turned, R: Wait>(rt: &R, top: &Top<T>, place: &mut Pla
     unreachable!()
 }
 
-/// Draws a ticket, waits for it, makes the call and moves the turn on.
+// Draws a ticket, waits for it, makes the call and moves the turn on.
 pub(crate) fn take_turn<T: Turned, R: Wait>(
     rt: &R,
     top: &Top<T>,
@@ -141,7 +150,9 @@ pub(crate) fn take_turn<T: Turned, R: Wait>(
     requires rest { AtRest place.old.me }
     ensures same { (place.new.table_id ≡ place.old.table_id) × (place.new.id ≡ place.old.id) }
     ensures rest { AtRest place.new.me }
-    ensures called { Called T.stands place.old.me.0 ask.now result place.new.me.0 }
+    ensures called { Called place.old.me.0 ask.now result place.new.me.0 }
+    ensures counted { Counted place.new.me.0 }
+    ensures lawful { IsLawful T.lawful place.new.me.0 }
 {
     let ticket = draw_ticket(top, place);
     wait_for(rt, top, place, ticket);
@@ -150,11 +161,12 @@ pub(crate) fn take_turn<T: Turned, R: Wait>(
     say
 }
 
-/// The shorter list of a meeting begins the longer one.
-pub(crate) fn learn_order<T: Turned>(top: &Top<T>, place: &mut Place<T>)
+// Tells what is known of a pass: nothing changes.
+pub(crate) fn look_back<T: Turned>(top: &Top<T>, place: &mut Place<T>)
     requires table { (place.old.table_id ≡ top.now.table_id) × (top.now.table_id.words ≡ 2) }
+    requires live { 0 < place.old.me.0.share }
     ensures same { (place.new.table_id ≡ place.old.table_id) × (place.new.id ≡ place.old.id) }
     ensures learned { Learned place.old.me place.new.me }
 {
-    top.load::<Learn<T>>(place, SERVING);
+    top.load::<LookBack<T>>(place, SERVING);
 }

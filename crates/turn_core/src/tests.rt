@@ -1,6 +1,6 @@
-//! A counter that threads take in turns.
-ghost use Rattle.turn_core.specs.Turns.{AtRest};
-ghost use Rattle.std.specs.Prelude.{◌≡◌, ◌+◌, length, List};
+// A counter that threads take in turns.
+ghost use Rattle.std.specs.Prelude.{◌≡◌, ◌+◌, ◌<◌, ◌≤◌, length, List, tt};
+ghost use Rattle.turn_core.specs.Passes.{IsPassOf};
 
 use crate::{Pass, Turned, Turns};
 use std::alloc::Global;
@@ -10,7 +10,7 @@ use std::thread::{Threads, join};
 
 #[derive(Drop)]
 struct Counter {
-    calls: u64,
+    count: u64,
 }
 
 impl Turned for Counter {
@@ -18,11 +18,15 @@ impl Turned for Counter {
 
     type Say = u64;
 
-    ghost stands = { λ opening now calls. Unit {0} };
+    ghost stands = { λ first now calls. Unit {0} };
+
+    ghost lawful = { λ first calls. Unit {0} };
+
+    ghost is_lawful = { λ first now calls h. tt };
 
     fn take(&mut self, _ask: &u64) -> u64 {
-        self.calls = self.calls.wrapping_add(1);
-        self.calls
+        self.count = self.count.wrapping_add(1);
+        self.count
     }
 }
 
@@ -37,33 +41,16 @@ fn two<T: Turned + Send, R: Threads + Wait + Sync>(
 where
     T::Ask: Sync,
     T::Say: Send,
-    requires first { (one.old.seat.table_id ≡ turns.now.table.shared.table_id) × AtRest one.old.seat.me }
-    requires second { (two.old.seat.table_id ≡ turns.now.table.shared.table_id) × AtRest two.old.seat.me }
+    requires first { IsPassOf turns.now one.old }
+    requires second { IsPassOf turns.now two.old }
 {
     join(
         rt,
         || -> T::Say
-            requires { (one.now.seat.table_id ≡ turns.now.table.shared.table_id) × AtRest one.now.seat.me }
+            requires { IsPassOf turns.now one.now }
         { turns.turn(rt, one, a) },
         || -> T::Say
-            requires { (two.now.seat.table_id ≡ turns.now.table.shared.table_id) × AtRest two.now.seat.me }
+            requires { IsPassOf turns.now two.now }
         { turns.turn(rt, two, b) },
     )
-}
-
-#[test]
-fn turns_are_counted(rt: HostRuntime) -> Result<(), Fail> {
-    let made = Turns::new(rt.alloc(), Counter { calls: 0 });
-    let Ok((turns, mut pass)) = made else {
-        panic!(rt; "no memory")
-    };
-    let a = turns.turn(&rt, &mut pass, &7);
-    let b = turns.turn(&rt, &mut pass, &7);
-    let mut other = turns.split(&mut pass);
-    let c = turns.turn(&rt, &mut other, &7);
-    assert!(rt; a == 1 && b == 2 && c == 3);
-    turns.meet(&mut pass, other);
-    let counter = turns.close(pass);
-    assert!(rt; counter.calls == 3);
-    Ok(())
 }

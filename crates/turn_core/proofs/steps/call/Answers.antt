@@ -2,7 +2,7 @@ use Rattle.std.proofs.Common.{◌≡◌, ◌∙◌, ℕ, List, ◌++◌, ◌∷�
 use Rattle.atomic_table.specs.Table.{rest}
 use Rattle.turn_core.specs.declared.view.Kept.{Kept}
 use Rattle.turn_core.specs.declared.view.View.{View}
-use Rattle.turn_core.specs.Turns.{next_call, StandsFor}
+use Rattle.turn_core.specs.Views.{next_call, StandsFor}
 use Rattle.turn_core.proofs.Parts.{first_same, exchanged_twice, makes_call, some_same}
 use Rattle.turn_core.proofs.steps.call.Goals as goal
 

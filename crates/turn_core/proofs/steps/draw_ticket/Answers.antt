@@ -6,5 +6,5 @@ pub fetch_add-requires : goal.fetch_add-requires
 fetch_add-requires g c = (
   c.requires.table.0,
   omega (arith, c.requires.table.1),
-  draws g.T.Turned.stands c.args.top.now.key.value c.args.top.now.table_id.slots c.args.place.now.id c.args.place.now.me c.requires.free.1 c.requires.free.2 c.requires.free.3,
+  draws g.T.Turned.stands c.args.top.now.key.value c.args.top.now.table_id.slots c.args.place.now.id c.args.place.now.me c.requires.rest,
 )
