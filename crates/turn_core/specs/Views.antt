@@ -12,11 +12,6 @@ use Rattle.turn_core.specs.Calls.{plain, calls_of, longer, shorter}
 abbrev pub all_shares : ℕ
 all_shares = 4_294_967_295
 
--- whether a pass holds no slot and no ticket, is not served, and has a share
-abbrev pub is_free : {X : Type 0} → List X → Option ℕ → Bool → ℕ → Bool
-is_free [] None false (suc share) = true
-is_free slots ticket served share = false
-
 module _ {A S : Type 0} where
   -- the list has under this number the calls that were made under it, each once and in order
   abbrev pub HasMade : List (Call A S) → Met A S → Type 0
@@ -78,10 +73,6 @@ module _ {T A S : Type 0} where
   -- between two calls: no slot, no ticket, not served, and not spent
   abbrev pub AtRest : Me (Option (Kept T A S)) (View T A S) → Type 0
   AtRest m = (m.1 ≡ []) × (m.0.ticket ≡ None) × (m.0.served ≡ false) × (0 < m.0.share)
-
-  -- the test of the same
-  abbrev pub is_at_rest : Me (Option (Kept T A S)) (View T A S) → Bool
-  is_at_rest m = is_free m.1 m.0.ticket m.0.served m.0.share
 
 module _ {T A S : Type 0} (stands : T → T → List (A × S) → Type 0) where
   -- the value stands for these calls since the opening

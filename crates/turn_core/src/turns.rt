@@ -22,10 +22,10 @@ pub struct TicketLock<S, V, K, P: TableRule<S, V, K>> {
 pub type Turns<T> = TicketLock<Held<T>, Known<T>, Snapshot<T>, Law<T>>;
 
 /// A right to take turns on a `T`.
-pub type Pass<T> = TicketPass<T, <T as Turned>::Ask, <T as Turned>::Say>;
+pub type Pass<T> = TicketPass<Held<T>, Known<T>>;
 
 impl<T: Turned> TicketLock<Held<T>, Known<T>, Snapshot<T>, Law<T>> {
-    ghost use Rattle.turn_core.specs.Passes.{view, IsPassOf, IsSamePass, IsFellow};
+    ghost use Rattle.turn_core.specs.Passes.{view, IsPassOf};
 
     /// Makes turns on a value, with the first pass, which has every share.
     ///
@@ -64,7 +64,7 @@ impl<T: Turned> TicketLock<Held<T>, Known<T>, Snapshot<T>, Law<T>> {
     /// It draws a ticket, parks until that is served, and may wait for other passes without end.
     pub fn turn<R: Wait>(&self, rt: &R, pass: &mut Pass<T>, ask: &T::Ask) -> T::Say
         requires own { IsPassOf self.now pass.old }
-        ensures same { IsSamePass pass.old pass.new }
+        ensures own { IsPassOf self.now pass.new }
         ensures called { Called (view pass.old) ask.now result (view pass.new) }
         ensures counted { Counted (view pass.new) }
         ensures lawful { IsLawful T.lawful (view pass.new) }
@@ -80,8 +80,8 @@ impl<T: Turned> TicketLock<Held<T>, Known<T>, Snapshot<T>, Law<T>> {
     pub fn split(&self, pass: &mut Pass<T>) -> Pass<T>
         requires own { IsPassOf self.now pass.old }
         requires share { 1 < (view pass.old).share }
-        ensures same { IsSamePass pass.old pass.new }
-        ensures fellow { IsFellow pass.old result }
+        ensures own { IsPassOf self.now pass.new }
+        ensures fellow { IsPassOf self.now result }
         ensures old { view pass.new ≡ left (view pass.old) }
         ensures new { view result ≡ right (view pass.old) }
         ensures counted { Counted (view result) }
@@ -97,7 +97,7 @@ impl<T: Turned> TicketLock<Held<T>, Known<T>, Snapshot<T>, Law<T>> {
     pub fn meet(&self, pass: &mut Pass<T>, other: Pass<T>)
         requires own { IsPassOf self.now pass.old }
         requires fellow { IsPassOf self.now other }
-        ensures same { IsSamePass pass.old pass.new }
+        ensures own { IsPassOf self.now pass.new }
         ensures met { Joined (view pass.old) (view other) (view pass.new) }
         ensures counted { Counted (view pass.new) }
     {

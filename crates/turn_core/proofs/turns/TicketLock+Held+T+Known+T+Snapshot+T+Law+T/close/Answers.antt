@@ -3,20 +3,19 @@ use Rattle.turn_core.specs.Views.{StandsFor}
 use Rattle.turn_core.specs.declared.view.Kept.{Kept}
 use Rattle.turn_core.proofs.Ends.{last_value}
 use Rattle.turn_core.proofs.Parts.{some_same}
-use Rattle.turn_core.proofs.Rests.{rests}
 use Rattle.turn_core.proofs.turns.TicketLock+Held+T+Known+T+Snapshot+T+Law+T.close.Goals as goal
 
 pub given_back-requires : goal.given_back-requires
 given_back-requires g c =
     let p = c.args.pass in
-    let r = rests p.seat.me p.rests in
+    let r = c.requires.own.1.0 in
     let h = last_value g.T.Turned.stands c.args.self.table.shared.key.value p.seat.id p.seat.me.0 _ _ c.take-slot.result r.2 c.requires.share c.close_with-closed.ensures.values.2 c.take-slot.ensures.value in
     subst (λ (x : Option (Kept g.row.T.Denot g.row.T-Ask.Denot g.row.T-Say.Denot)). IsSome x) (sym h.1) (search rules)
 
 pub returns : goal.returns
 returns g c =
     let p = c.args.pass in
-    let r = rests p.seat.me p.rests in
+    let r = c.requires.own.1.0 in
     let h = last_value g.T.Turned.stands c.args.self.table.shared.key.value p.seat.id p.seat.me.0 _ _ c.take-slot.result r.2 c.requires.share c.close_with-closed.ensures.values.2 c.take-slot.ensures.value in
     let b = c.given_back.ensures in
     subst (λ (x : g.row.T.Denot). StandsFor g.T.Turned.stands p.seat.me.0.opening x p.seat.me.0.seen)
