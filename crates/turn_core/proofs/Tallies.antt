@@ -18,5 +18,5 @@ module _ {A : Type 0} (first now now' : ℕ) (calls : List (A × ℕ)) (ask : A)
       let is : now' ≡ first + 1 + length calls = omega (arith, step, was, small, more) in (
         omega (arith, is, more),
         map-append (λ c. c.1) calls ((ask, now') ∷ []) ∙ ap (λ (l : List ℕ). l ++ now' ∷ []) old.1 ∙ ap (λ (n : ℕ). told (length calls) ++ n ∷ []) is
-        ∙ sym (map-range_with_len_more (λ k. first + 1 + k) 0 (length calls) (length calls) (omega arith)) ∙ ap told (sym more),
+            ∙ sym (map-range_with_len_more (λ k. first + 1 + k) 0 (length calls) (length calls) (omega arith)) ∙ ap told (sym more),
       )

@@ -5,6 +5,9 @@ use crate::view::{Kept, View};
 use atomic_table::Seat;
 
 /// A right to take turns. Contracts see its `View`.
+///
+/// One that is dropped takes its shares with it, and the turns can then not be closed.
+#[derive(Drop)]
 pub struct TicketPass<S, V> {
     pub(crate) seat: Seat<S, V>,
     pub(crate) calls: u64,

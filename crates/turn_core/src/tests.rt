@@ -93,6 +93,33 @@ fn three_and_one<R: Wait>(rt: &R, turns: &Turns<Counter>, pass: &mut Pass<Counte
     [first, second, third, fourth]
 }
 
+// Each of two threads takes turns with a pass of its own.
+fn in_two_threads<R: Threads + Wait + Sync>(
+    rt: &R,
+    turns: &Turns<Counter>,
+    first: (Vec<u64>, Pass<Counter>),
+    second: (Vec<u64>, Pass<Counter>),
+) -> ((Vec<u64>, Pass<Counter>), (Vec<u64>, Pass<Counter>))
+    requires first { IsPassOf turns.now first.1 }
+    requires second { IsPassOf turns.now second.1 }
+    ensures first { IsPassOf turns.now result.0.1 × ((view result.0.1).share ≡ (view first.1).share) }
+    ensures second { IsPassOf turns.now result.1.1 × ((view result.1.1).share ≡ (view second.1).share) }
+{
+    let (first_told, first_pass) = first;
+    let (second_told, second_pass) = second;
+    join(
+        rt,
+        move || -> (Vec<u64>, Pass<Counter>)
+            requires { IsPassOf turns.now first_pass }
+            ensures { IsPassOf turns.entry.now result.1 × ((view result.1).share ≡ (view first_pass).share) }
+        { take_turns(rt, turns, first_pass, first_told) },
+        move || -> (Vec<u64>, Pass<Counter>)
+            requires { IsPassOf turns.now second_pass }
+            ensures { IsPassOf turns.entry.now result.1 × ((view result.1).share ≡ (view second_pass).share) }
+        { take_turns(rt, turns, second_pass, second_told) },
+    )
+}
+
 #[test]
 fn four_calls_are_counted(rt: HostRuntime) -> Result<(), Fail> {
     let Ok((turns, mut pass)) = Turns::new(rt.alloc(), Counter { count: 0 }) else {
@@ -101,5 +128,35 @@ fn four_calls_are_counted(rt: HostRuntime) -> Result<(), Fail> {
     assert_eq!(rt; three_and_one(&rt, &turns, &mut pass), [1, 2, 3, 4]);
     assert_eq!(rt; pass.calls(), 3);
     assert_eq!(rt; turns.close(pass).count, 4);
+    Ok(())
+}
+
+fn counts_from_one(told: &[u64]) -> bool {
+    told.iter()
+        .enumerate()
+        .all(|(i, told)| *told == (i as u64).wrapping_add(1))
+}
+
+// Two threads take 10,000 turns each, and each of the numbers up to 20,000 is told once.
+#[test]
+fn two_threads_are_told_each_number_once(rt: HostRuntime) -> Result<(), Fail> {
+    let first_told = vec![in rt.alloc(); 0; 10_000]?;
+    let second_told = vec![in rt.alloc(); 0; 10_000]?;
+    let Ok((turns, mut pass)) = Turns::new(rt.alloc(), Counter { count: 0 }) else {
+        panic!(rt; "no memory")
+    };
+    let other = turns.split(&mut pass);
+    let ((mut told, mut pass), (more, other)) = in_two_threads(
+        &rt,
+        &turns,
+        (first_told, pass),
+        (second_told, other),
+    );
+    assert!(rt; pass.calls() == 10_000 && other.calls() == 10_000);
+    turns.meet(&mut pass, other);
+    assert_eq!(rt; turns.close(pass).count, 20_000);
+    told.extend_from_slice(&more)?;
+    told.sort()?;
+    assert!(rt; told.len() == 20_000 && counts_from_one(&told));
     Ok(())
 }
