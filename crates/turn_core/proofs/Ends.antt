@@ -1,5 +1,6 @@
 -- The rule at the start, and what it says at the end.
 use Rattle.std.proofs.Common.{◌≡◌, ◌≢◌, ◌∙◌, sym, ap, refl, subst, ℕ, ◌+◌, ◌-◌, ◌%◌, ◌^◌, ◌<◌, ◌≤◌, List, [], ◌∷◌, ◌++◌, length, length-append, append-nil, get_or, set, ⊎_elim, ◌⊎◌, inl, inr, arith, Option, Some, None, Bool, true, false}
+use Rattle.std.specs.Prelude.{All, Contains}
 use mathlib.Core.Logic.{dite}
 use native.Mathlib.Decide.{ℕ_discrete}
 use mathlib.Core.Option.{some, none, some-injective}
@@ -12,7 +13,7 @@ use Rattle.turn_core.specs.declared.view.View.{View}
 use Rattle.turn_core.specs.declared.view.Done.{Done}
 use Rattle.turn_core.specs.declared.view.Kept.{Kept}
 use Rattle.turn_core.specs.Rule.{InTurn, Fits, AtHome, Away, out, share, has, sum_of, OneList, IsOut}
-use Rattle.turn_core.specs.Views.{StandsFor, AtRest, newcomer, left, right, all_shares}
+use Rattle.turn_core.specs.Views.{IsWhole, numbers, StandsFor, AtRest, newcomer, left, right, all_shares}
 use Rattle.turn_core.proofs.Numbers.{start_numbers, split_numbers}
 use Rattle.turn_core.proofs.Parts.{sum_of-replaced, sum_of-below, prefix_more, one_view, placed, true_not_false, some_same, none_some, same_or_not, not_served, sum_of-snoc, sum_of-two, only}
 
@@ -88,3 +89,16 @@ module _ {T A S : Type 0} (stands : T → T → List (A × S) → Type 0) where
       let h = closes o last.1.0.0 last.1.0.1 s last.1.0.2 id v last.1.1 idle all in
       let here : get_elem? xs 0 ≡ some (Some h.0) = last.4 0 (Some h.0) (ap (λ (hs : List _). get_elem? hs 0) h.1) in
       (h.0, some-injective x (Some h.0) (sym e ∙ here), h.2)
+
+  -- each call of the whole list was made under a number that the last pass knows
+  pub last_list : (o : T) (id : ℕ) (v : D) (ws : List ℕ) (xs : List (Option K)) → v.share ≡ all_shares → v.served ≡ false → Final (Seen (OneList stands o) id v) ws xs → IsWhole v
+  last_list o id v ws xs all idle last =
+      let s = last.0 in
+      let log = last.1.0.0 in
+      let n = last.1.0.3 in
+      let r = last.1.0.2 in
+      let whole : All (λ c. Contains (numbers v) c.by) log = λ k c h. (let known = n.known k c h in ⊎_elim
+          (λ (same : known.0 ≡ id). subst (λ (u : D). Contains (numbers u) (get_or log k c).by) (sym (one_view s.views id v known.1 last.1.1 (subst (λ (j : ℕ). get_elem? s.views j ≡ some known.1) same known.2))) known.4)
+          (λ (apart : known.0 ≢ id). absurd (let gone = others_spent o log last.1.0.1 s r id v last.1.1 idle all known.0 known.1 apart known.2 in omega (arith, gone, known.3)))
+          (same_or_not known.0 id)) in
+      subst (All (λ c. Contains (numbers v) c.by)) (sym (sees_all o log last.1.0.1 s r id v last.1.1 idle all)) whole

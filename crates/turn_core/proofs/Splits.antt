@@ -116,4 +116,4 @@ module _ {T A S : Type 0} (stands : T → T → List (A × S) → Type 0) where
     }
 
   pub splits : (o : T) (id : ℕ) (v : D) → v.ticket ≡ None → v.served ≡ false → 1 < v.share → Splits (OneList stands o) id v (left v) (right v)
-  splits o id v free idle more s (log, drawn, r, n) at = (log, drawn, split_keeps o log drawn s r id v at free idle more, split_numbers log s.views n id v at (omega (arith, more)) (r.each id v at).prefix)
+  splits o id v free idle more s (log, drawn, r, n) at = (log, drawn, split_keeps o log drawn s r id v at free idle more, split_numbers log s.views n id v at more (r.each id v at).prefix)

@@ -1,5 +1,5 @@
 -- What holds between any two steps, whatever thread makes them.
-use Rattle.std.specs.Prelude.{◌≡◌, ◌≢◌, ◌⊎◌, ℕ, ◌+◌, ◌%◌, ◌^◌, ◌<◌, ◌≤◌, List, [], ◌∷◌, length, All, Option, Some, None, true, false}
+use Rattle.std.specs.Prelude.{◌≡◌, ◌≢◌, ◌⊎◌, ℕ, ◌+◌, ◌%◌, ◌^◌, ◌<◌, ◌≤◌, List, [], ◌∷◌, length, All, Contains, Option, Some, None, true, false}
 use mathlib.Core.List.{IsPrefix}
 use mathlib.Core.Option.{some, none}
 use lib.ListN.{get_elem?}
@@ -8,7 +8,7 @@ use Rattle.turn_core.specs.declared.view.Call.{Call}
 use Rattle.turn_core.specs.declared.view.Kept.{Kept}
 use Rattle.turn_core.specs.declared.view.View.{View}
 use Rattle.turn_core.specs.Calls.{calls_of}
-use Rattle.turn_core.specs.Views.{all_shares, HasMade, Owns, Counted, StandsFor}
+use Rattle.turn_core.specs.Views.{all_shares, HasMade, Owns, Counted, StandsFor, numbers}
 
 -- the sum of f over a list
 abbrev pub sum_of : {V : Type 0} → (V → ℕ) → List V → ℕ
@@ -18,6 +18,10 @@ sum_of f (x ∷ xs) = f x + sum_of f xs
 abbrev pub has : Option ℕ → ℕ
 has None = 0
 has (Some t) = 1
+
+-- no number is in both lists
+abbrev pub Disjoint : List ℕ → List ℕ → Type 0
+Disjoint xs ys = All (λ x. All (λ y. x ≢ y) ys) xs
 
 module _ {T A S : Type 0} where
   -- how many tickets the pass has
@@ -40,11 +44,18 @@ module _ {T A S : Type 0} where
     pub unused : (number : ℕ) → Owns v number → number ≢ v.number → calls_of number log ≡ []
     pub met : All (HasMade log) v.met
 
-  -- no number is two passes', and a number that was met is no pass's any more
+  -- some pass that is not spent knows the calls under the number
+  abbrev pub IsKnown : List (View T A S) → ℕ → Type 0
+  IsKnown views number = (by : ℕ) × (v : View T A S) × (get_elem? views by ≡ some v) × (0 < v.share) × Contains (numbers v) number
+
+  -- no number is two passes'; a number that was met is no pass's any more, and met by one pass alone; and each call
+  -- of the whole list was made under a number that is a pass's or met
   pub record Numbered (log : List (Call A S)) (views : List (View T A S)) : Type 0 where
     pub named : (by : ℕ) (v : View T A S) → get_elem? views by ≡ some v → 0 < v.share → Named log v
     pub apart : (i j : ℕ) (v w : View T A S) (number : ℕ) → get_elem? views i ≡ some v → get_elem? views j ≡ some w → 0 < v.share → 0 < w.share → Owns v number → Owns w number → i ≡ j
     pub gone : (i j : ℕ) (v w : View T A S) → get_elem? views i ≡ some v → get_elem? views j ≡ some w → 0 < v.share → 0 < w.share → All (λ m. Owns w m.number → ⊥) v.met
+    pub once : (i j : ℕ) (v w : View T A S) → i ≢ j → get_elem? views i ≡ some v → get_elem? views j ≡ some w → 0 < v.share → 0 < w.share → Disjoint (numbers v) (numbers w)
+    pub known : All (λ c. IsKnown views c.by) log
 
 module _ {T A S : Type 0} (stands : T → T → List (A × S) → Type 0) where
   -- what is true of one pass

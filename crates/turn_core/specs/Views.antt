@@ -1,5 +1,5 @@
 -- What a pass knows: at the beginning, after a turn, after a split and after a meeting.
-use Rattle.std.specs.Prelude.{◌≡◌, ℕ, ◌+◌, ◌*◌, ◌-◌, ◌<◌, List, [], ◌∷◌, ◌++◌, length, All, Option, Some, None, Bool, true, false, zero, suc}
+use Rattle.std.specs.Prelude.{◌≡◌, ◌≢◌, ℕ, ◌+◌, ◌*◌, ◌-◌, ◌<◌, List, [], ◌∷◌, ◌++◌, length, map, All, AllPairs, Contains, Option, Some, None, Bool, true, false, zero, suc}
 use mathlib.Core.List.{IsPrefix}
 use Rattle.atomic_table.specs.Table.{Me}
 use Rattle.turn_core.specs.declared.view.Call.{Call}
@@ -40,7 +40,7 @@ module _ {T A S : Type 0} where
       record v {
         seen = longer v.seen w.seen;
         older = shorter v.seen w.seen;
-        met = v.met ++ w.met ++ record { number = w.number; made = w.made } ∷ [];
+        met = v.met ++ record { number = w.number; made = w.made } ∷ w.met;
         share = v.share + w.share;
       }
 
@@ -48,15 +48,24 @@ module _ {T A S : Type 0} where
   abbrev pub Owns : View T A S → ℕ → Type 0
   Owns v number = (k : ℕ) × (number ≡ v.number + k * v.stride)
 
+  -- the numbers under which the pass knows all calls: its own, and those that it met
+  abbrev pub numbers : View T A S → List ℕ
+  numbers v = v.number ∷ map (λ m. m.number) v.met
+
   -- the call that the pass makes now
   abbrev pub next_call : View T A S → A → S → Call A S
   next_call v ask say = record { by = v.number; nth = length v.made; ask = ask; say = say }
 
   -- the calls in the list under the pass's number are those that it made, and under each number that it met
-  -- those that were made under that one, each once and in order
+  -- those that were made under that one, each once and in order; no two of these numbers are the same
   pub record Counted (v : View T A S) : Type 0 where
     pub own : calls_of v.number v.seen ≡ v.made
     pub met : All (HasMade v.seen) v.met
+    pub distinct : AllPairs (λ x y. x ≢ y) (numbers v)
+
+  -- the list has no call under a further number
+  abbrev pub IsWhole : View T A S → Type 0
+  IsWhole v = All (λ c. Contains (numbers v) c.by) v.seen
 
   -- v made this call, and is then w: its list begins with what it had seen and ends with the call
   pub record Called (v : View T A S) (ask : A) (say : S) (w : View T A S) : Type 0 where

@@ -1,6 +1,6 @@
 // The turns.
 ghost use Rattle.std.specs.Prelude.{◌≡◌, ◌<◌, List, [], ◌∷◌, ◌++◌, IfOk, IfErr, IsSome, Some};
-ghost use Rattle.turn_core.specs.Views.{Called, Counted, IsLawful, Joined, StandsFor, newcomer, left, right, all_shares};
+ghost use Rattle.turn_core.specs.Views.{Called, Counted, IsLawful, IsWhole, Joined, StandsFor, newcomer, left, right, all_shares};
 
 use crate::pass::TicketPass;
 use crate::rule::{Held, Known, Law, Meeting, Parting};
@@ -112,7 +112,8 @@ impl<T: Turned> TicketLock<Held<T>, Known<T>, Snapshot<T>, Law<T>> {
     pub fn close(self, pass: Pass<T>) -> T
         requires own { IsPassOf self pass }
         requires share { (view pass).share ≡ all_shares }
-        ensures { StandsFor T.stands (view pass).opening result (view pass).seen }
+        ensures value { StandsFor T.stands (view pass).opening result (view pass).seen }
+        ensures whole { IsWhole (view pass) }
     {
         let TicketLock { table } = self;
         let TicketPass { seat, calls: _ } = pass;
