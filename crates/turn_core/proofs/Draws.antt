@@ -116,7 +116,7 @@ module _ {T A S : Type 0} (stands : T → T → List (A × S) → Type 0) where
     }
 
   pub draws : (opening : T) (slots id : ℕ) (m : M) → AtRest m
-      → Allows (OneList stands opening) slots id m 0 (λ n. (n + 1) % 2 ^ 64) (Draws stands (step slots 0 1 0 none) m)
+      → Allows (OneList stands opening) slots id m 0 (λ n. (n + 1) % 2 ^ 64) (Draws (step slots 0 1 0 none) m)
   draws opening slots id m (empty, free, idle, member) s (log, drawn, r, n) deep at small =
       let found : get_or s.words 0 0 ≡ drawn % 2 ^ 64 = ap (λ (ws : List ℕ). get_or ws 0 0) r.words in (
         record m.0 { ticket = Some drawn },

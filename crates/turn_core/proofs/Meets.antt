@@ -158,7 +158,7 @@ module _ {T A S : Type 0} (stands : T → T → List (A × S) → Type 0) where
         meet_numbers log s.views numbers id other m.0 n.0 at apart at_n a.3 b.3 (r.each id m.0 at).prefix (r.each other n.0 at_n).prefix,
       )
 
-  pub learns : (o : T) (slots id : ℕ) (m : M) → 0 < m.0.share → Allows (OneList stands o) slots id m 1 (λ n. n) (Learns stands (step slots 1 0 0 none) m)
+  pub learns : (o : T) (slots id : ℕ) (m : M) → 0 < m.0.share → Allows (OneList stands o) slots id m 1 (λ n. n) (Learns (step slots 1 0 0 none) m)
   learns o slots id m live s (log, drawn, r, n) deep at small =
       let same_words : set s.words 1 (get_or s.words 1 0) ≡ s.words = ap (λ (ws : List ℕ). set ws 1 (get_or ws 1 0)) r.words ∙ sym r.words in (
         m.0,

@@ -127,7 +127,7 @@ module _ {T A S : Type 0} (stands : T → T → List (A × S) → Type 0) where
     }
 
   moves_at : (opening : T) (slots id : ℕ) (v : D) (k : K) (d : Done A S) → v.served ≡ true → k.last ≡ Some d → StandsFor stands v.opening k.value (v.seen ++ next_call v d.ask.value d.say.value ∷ [])
-      → Allows (OneList stands opening) slots id (v, (0, Some k) ∷ []) 1 (λ n. (n + 1) % 2 ^ 64) (Moves stands (step slots 1 1 0 none) (v, (0, Some k) ∷ []))
+      → Allows (OneList stands opening) slots id (v, (0, Some k) ∷ []) 1 (λ n. (n + 1) % 2 ^ 64) (Moves (step slots 1 1 0 none) (v, (0, Some k) ∷ []))
   moves_at opening slots id v k d served last for s (log, drawn, r, n) deep at small =
       let found : get_or s.words 1 0 ≡ length log % 2 ^ 64 = ap (λ (ws : List ℕ). get_or ws 1 0) r.words in (
         moved v d,
@@ -147,7 +147,7 @@ module _ {T A S : Type 0} (stands : T → T → List (A × S) → Type 0) where
       )
 
   pub moves : (opening : T) (slots id : ℕ) (m : M) (k : K) (d : Done A S) → m.0.served ≡ true → m.1 ≡ (0, Some k) ∷ [] → k.last ≡ Some d → StandsFor stands m.0.opening k.value (m.0.seen ++ next_call m.0 d.ask.value d.say.value ∷ [])
-      → Allows (OneList stands opening) slots id m 1 (λ n. (n + 1) % 2 ^ 64) (Moves stands (step slots 1 1 0 none) m)
+      → Allows (OneList stands opening) slots id m 1 (λ n. (n + 1) % 2 ^ 64) (Moves (step slots 1 1 0 none) m)
   moves opening slots id m k d served holds last for =
-      let P : List (ℕ × Option K) → Type 0 = λ c. Allows (OneList stands opening) slots id (m.0, c) 1 (λ n. (n + 1) % 2 ^ 64) (Moves stands (step slots 1 1 0 none) (m.0, c)) in
+      let P : List (ℕ × Option K) → Type 0 = λ c. Allows (OneList stands opening) slots id (m.0, c) 1 (λ n. (n + 1) % 2 ^ 64) (Moves (step slots 1 1 0 none) (m.0, c)) in
       subst P (sym holds) (moves_at opening slots id m.0 k d served last for)

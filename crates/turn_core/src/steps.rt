@@ -7,24 +7,22 @@ ghost use Rattle.turn_core.specs.Views.{AtRest, Called, Counted, IsLawful, Stand
 
 use crate::rule::{Held, Known, Law};
 use crate::turned::Turned;
-use crate::view::{Done, Kept};
+use crate::view::{Done, Kept, View};
 use atomic_table::{Play, Seat, Shared};
 use std::marker::PhantomData;
 use std::snapshot::Snapshot;
 use std::sync::Wait;
 
 /// A ticket is drawn.
-pub struct Draw<T> {
-    of: PhantomData<T>,
-}
+pub struct Draw;
 
-impl<T: Turned> Play<Held<T>, Known<T>> for Draw<T> {
+impl<T, A, S> Play<Option<Kept<T, A, S>>, View<T, A, S>> for Draw {
     ghost use Rattle.turn_core.specs.Plays.{Draws};
 
-    ghost then = { Draws T.stands };
+    ghost then = { Draws };
 }
 
-/// A pass looks whether it is served.
+/// A pass looks whether it is served, and takes the value out of the slot where it is.
 pub struct Look<T> {
     of: PhantomData<T>,
 }
@@ -35,26 +33,22 @@ impl<T: Turned> Play<Held<T>, Known<T>> for Look<T> {
     ghost then = { Looks T.stands };
 }
 
-/// The turn moves on.
-pub struct Move<T> {
-    of: PhantomData<T>,
-}
+/// The call enters the list, and the turn moves on.
+pub struct Move;
 
-impl<T: Turned> Play<Held<T>, Known<T>> for Move<T> {
+impl<T, A, S> Play<Option<Kept<T, A, S>>, View<T, A, S>> for Move {
     ghost use Rattle.turn_core.specs.Plays.{Moves};
 
-    ghost then = { Moves T.stands };
+    ghost then = { Moves };
 }
 
 /// A pass looks what is known of it after a split or a meeting.
-pub struct LookBack<T> {
-    of: PhantomData<T>,
-}
+pub struct LookBack;
 
-impl<T: Turned> Play<Held<T>, Known<T>> for LookBack<T> {
+impl<T, A, S> Play<Option<Kept<T, A, S>>, View<T, A, S>> for LookBack {
     ghost use Rattle.turn_core.specs.Plays.{Learns};
 
-    ghost then = { Learns T.stands };
+    ghost then = { Learns };
 }
 
 pub(crate) type Top<T> = Shared<Held<T>, Known<T>, Snapshot<T>, Law<T>>;
@@ -73,7 +67,7 @@ pub(crate) fn draw_ticket<T: Turned>(top: &Top<T>, place: &mut Place<T>) -> u64
     ensures same { (place.new.table_id ≡ place.old.table_id) × (place.new.id ≡ place.old.id) }
     ensures drawn { (t : ℕ) × (result ≡ t % 2 ^ 64) × (place.new.me ≡ (record place.old.me.0 { ticket = Some t }, [])) }
 {
-    top.fetch_add::<Draw<T>>(place, TICKET, 1)
+    top.fetch_add::<Draw>(place, TICKET, 1)
 }
 
 pub(crate) fn look_once<T: Turned>(top: &Top<T>, place: &mut Place<T>) -> u64
@@ -93,7 +87,7 @@ pub(crate) fn move_on<T: Turned>(top: &Top<T>, place: &mut Place<T>)
     ensures same { (place.new.table_id ≡ place.old.table_id) × (place.new.id ≡ place.old.id) }
     ensures called { (k : _) (d : _) → place.old.me.1 ≡ (0, Some k) ∷ [] → k.last ≡ Some d → (place.new.me ≡ (moved place.old.me.0 d, [])) × Counted place.new.me.0 }
 {
-    top.fetch_add::<Move<T>>(place, SERVING, 1);
+    top.fetch_add::<Move>(place, SERVING, 1);
     top.wake_all(SERVING);
 }
 
@@ -168,5 +162,5 @@ pub(crate) fn look_back<T: Turned>(top: &Top<T>, place: &mut Place<T>)
     ensures same { (place.new.table_id ≡ place.old.table_id) × (place.new.id ≡ place.old.id) }
     ensures learned { Learned place.old.me place.new.me }
 {
-    top.load::<LookBack<T>>(place, SERVING);
+    top.load::<LookBack>(place, SERVING);
 }
