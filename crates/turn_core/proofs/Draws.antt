@@ -1,14 +1,14 @@
 -- Drawing a ticket keeps the rule.
-use Rattle.std.proofs.Common.{◌≡◌, ◌≢◌, ◌∙◌, sym, ap, refl, subst, ℕ, ◌+◌, ◌%◌, ◌^◌, ◌<◌, ◌≤◌, List, [], ◌∷◌, ◌++◌, length, get_or, set, ⊎_elim, ◌⊎◌, inl, inr, arith, Option, Some, None, Bool, true, false}
-use mathlib.Core.Option.{some, none, some-injective}
+use Rattle.std.proofs.Common.{◌≡◌, ◌≢◌, ◌∙◌, sym, ap, refl, subst, ℕ, ◌+◌, ◌%◌, ◌^◌, ◌<◌, ◌≤◌, List, [], ◌∷◌, length, get_or, set, ⊎_elim, inl, inr, arith, Option, Some, None, false}
+use mathlib.Core.Option.{some, none}
 use lib.ListN.{get_elem?}
-use Rattle.atomic_table.specs.Table.{State, Me, step, Act, keeps, stepped, Allows}
+use Rattle.atomic_table.specs.Table.{State, Me, step, keeps, Allows}
 use Rattle.atomic_table.proofs.Lists.{at_set, set_else}
 use Rattle.turn_core.specs.declared.view.Call.{Call}
 use Rattle.turn_core.specs.declared.view.View.{View}
 use Rattle.turn_core.specs.declared.view.Kept.{Kept}
 use Rattle.turn_core.specs.Plays.{Draws}
-use Rattle.turn_core.specs.Rule.{InTurn, Fits, AtHome, Away, out, share, has, sum_of, OneList, IsOut}
+use Rattle.turn_core.specs.Rule.{InTurn, Fits, AtHome, Away, out, share, has, OneList, IsOut}
 use Rattle.turn_core.specs.Views.{AtRest}
 use Rattle.turn_core.proofs.Numbers.{drawn_keeps}
 use Rattle.turn_core.proofs.Parts.{sum_of-replaced, one_view, placed, true_not_false, some_same, none_some, same_or_not}

@@ -1,21 +1,16 @@
 -- The rule at the start, and what it says at the end.
-use Rattle.std.proofs.Common.{◌≡◌, ◌≢◌, ◌∙◌, sym, ap, refl, subst, ℕ, ◌+◌, ◌-◌, ◌%◌, ◌^◌, ◌<◌, ◌≤◌, List, [], ◌∷◌, ◌++◌, length, length-append, append-nil, get_or, set, ⊎_elim, ◌⊎◌, inl, inr, arith, Option, Some, None, Bool, true, false}
+use Rattle.std.proofs.Common.{◌≡◌, ◌≢◌, ◌∙◌, sym, ap, refl, subst, ℕ, ◌<◌, List, [], ◌∷◌, get_or, ⊎_elim, inl, arith, Option, Some, false}
 use Rattle.std.specs.Prelude.{All, Contains}
-use mathlib.Core.Logic.{dite}
-use native.Mathlib.Decide.{ℕ_discrete}
-use mathlib.Core.Option.{some, none, some-injective}
-use mathlib.Core.List.{IsPrefix}
+use mathlib.Core.Option.{some, some-injective}
 use lib.ListN.{get_elem?}
-use Rattle.atomic_table.specs.Table.{State, Me, step, Act, keeps, takes, gives, stepped, Allows, Splits, Joins, opening, Seen, Final}
-use Rattle.atomic_table.proofs.Lists.{at_set, set_else, set_again, at_snoc, at_longer, at_last, one_turn}
+use Rattle.atomic_table.specs.Table.{State, Me, opening, Seen, Final}
 use Rattle.turn_core.specs.declared.view.Call.{Call}
 use Rattle.turn_core.specs.declared.view.View.{View}
-use Rattle.turn_core.specs.declared.view.Done.{Done}
 use Rattle.turn_core.specs.declared.view.Kept.{Kept}
-use Rattle.turn_core.specs.Rule.{InTurn, Fits, AtHome, Away, out, share, has, sum_of, OneList, IsOut}
-use Rattle.turn_core.specs.Views.{IsWhole, numbers, StandsFor, AtRest, newcomer, left, right, all_shares}
-use Rattle.turn_core.proofs.Numbers.{start_numbers, split_numbers}
-use Rattle.turn_core.proofs.Parts.{sum_of-replaced, sum_of-below, prefix_more, one_view, placed, true_not_false, some_same, none_some, same_or_not, not_served, sum_of-snoc, sum_of-two, only}
+use Rattle.turn_core.specs.Rule.{InTurn, Fits, AtHome, Away, share, has, OneList}
+use Rattle.turn_core.specs.Views.{Counted, IsWhole, numbers, StandsFor, newcomer, all_shares}
+use Rattle.turn_core.proofs.Numbers.{start_numbers}
+use Rattle.turn_core.proofs.Parts.{one_view, true_not_false, none_some, same_or_not, sum_of-two, only}
 
 module _ {T A S : Type 0} (stands : T → T → List (A × S) → Type 0) where
   abbrev D : Type 0
@@ -98,7 +93,11 @@ module _ {T A S : Type 0} (stands : T → T → List (A × S) → Type 0) where
       let n = last.1.0.3 in
       let r = last.1.0.2 in
       let whole : All (λ c. Contains (numbers v) c.by) log = λ k c h. (let known = n.known k c h in ⊎_elim
-          (λ (same : known.0 ≡ id). subst (λ (u : D). Contains (numbers u) (get_or log k c).by) (sym (one_view s.views id v known.1 last.1.1 (subst (λ (j : ℕ). get_elem? s.views j ≡ some known.1) same known.2))) known.4)
-          (λ (apart : known.0 ≢ id). absurd (let gone = others_spent o log last.1.0.1 s r id v last.1.1 idle all known.0 known.1 apart known.2 in omega (arith, gone, known.3)))
-          (same_or_not known.0 id)) in
+      (λ (same : known.0 ≡ id). subst (λ (u : D). Contains (numbers u) (get_or log k c).by) (sym (one_view s.views id v known.1 last.1.1 (subst (λ (j : ℕ). get_elem? s.views j ≡ some known.1) same known.2))) known.4)
+      (λ (apart : known.0 ≢ id). absurd (let gone = others_spent o log last.1.0.1 s r id v last.1.1 idle all known.0 known.1 apart known.2 in omega (arith, gone, known.3)))
+      (same_or_not known.0 id)) in
       subst (All (λ c. Contains (numbers v) c.by)) (sym (sees_all o log last.1.0.1 s r id v last.1.1 idle all)) whole
+
+  -- and what is said of the calls under these numbers
+  pub last_counted : (o : T) (id : ℕ) (v : D) (ws : List ℕ) (xs : List (Option K)) → 0 < v.share → Final (Seen (OneList stands o) id v) ws xs → Counted v
+  last_counted o id v ws xs live last = (last.1.0.3.named id v last.1.1 live).counted

@@ -1,21 +1,19 @@
 -- A look at the number that is served keeps the rule.
-use Rattle.std.proofs.Common.{◌≡◌, ◌≢◌, ◌∙◌, sym, ap, refl, subst, ℕ, ◌+◌, ◌%◌, ◌^◌, ◌<◌, ◌≤◌, List, [], ◌∷◌, ◌++◌, length, length-append, append-nil, get_or, set, ⊎_elim, ◌⊎◌, inl, inr, arith, Option, Some, None, Bool, true, false}
+use Rattle.std.proofs.Common.{◌≡◌, ◌≢◌, ◌∙◌, sym, ap, refl, subst, ℕ, ◌+◌, ◌%◌, ◌^◌, ◌<◌, ◌≤◌, List, [], length, append-nil, get_or, set, ⊎_elim, inr, arith, Option, Some, None, true, false}
 use mathlib.Core.Logic.{dite}
 use native.Mathlib.Decide.{ℕ_discrete}
-use mathlib.Core.Option.{some, none, some-injective}
-use mathlib.Core.List.{IsPrefix}
+use mathlib.Core.Option.{some, none}
 use lib.ListN.{get_elem?}
-use Rattle.atomic_table.specs.Table.{State, Me, step, Act, keeps, takes, gives, stepped, Allows}
+use Rattle.atomic_table.specs.Table.{State, Me, step, keeps, takes, stepped, Allows}
 use Rattle.atomic_table.proofs.Lists.{at_set, set_else, set_again, one_turn}
 use Rattle.turn_core.specs.declared.view.Call.{Call}
 use Rattle.turn_core.specs.declared.view.View.{View}
-use Rattle.turn_core.specs.declared.view.Done.{Done}
 use Rattle.turn_core.specs.declared.view.Kept.{Kept}
-use Rattle.turn_core.specs.Plays.{Looks, Served}
+use Rattle.turn_core.specs.Plays.{Looks}
 use Rattle.turn_core.specs.Rule.{Numbered, InTurn, Fits, AtHome, Away, out, share, has, OneList, IsOut}
 use Rattle.turn_core.specs.Views.{StandsFor, all_shares}
 use Rattle.turn_core.proofs.Numbers.{served_keeps}
-use Rattle.turn_core.proofs.Parts.{sum_of-replaced, sum_of-below, prefix_more, one_view, placed, true_not_false, some_same, none_some, same_or_not, prefix_trans}
+use Rattle.turn_core.proofs.Parts.{sum_of-replaced, sum_of-below, one_view, placed, true_not_false, some_same, same_or_not, prefix_trans}
 
 module _ {T A S : Type 0} (stands : T → T → List (A × S) → Type 0) where
   abbrev D : Type 0

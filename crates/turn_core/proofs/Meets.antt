@@ -1,22 +1,18 @@
 -- A meeting of two passes keeps the rule, and a look tells which list begins the other.
-use Rattle.std.proofs.Common.{◌≡◌, ◌≢◌, ◌∙◌, sym, ap, refl, subst, ℕ, ◌+◌, ◌-◌, ◌%◌, ◌^◌, ◌<◌, ◌≤◌, List, [], ◌∷◌, ◌++◌, length, length-append, append-nil, get_or, set, ⊎_elim, ◌⊎◌, inl, inr, arith, Option, Some, None, Bool, true, false}
-use mathlib.Core.Logic.{dite}
-use native.Mathlib.Decide.{ℕ_discrete}
-use mathlib.Core.Option.{some, none, some-injective}
+use Rattle.std.proofs.Common.{◌≡◌, ◌≢◌, ◌∙◌, sym, ap, refl, subst, ℕ, ◌<◌, ◌≤◌, List, [], length, get_or, set, ⊎_elim, ◌⊎◌, inl, inr, arith, Option, Some, None, false}
+use mathlib.Core.Option.{some, none}
 use mathlib.Core.List.{IsPrefix}
 use lib.ListN.{get_elem?}
-use Rattle.atomic_table.specs.Table.{State, Me, step, Act, keeps, takes, gives, stepped, Allows, Splits, Joins, opening, Seen, Final}
-use Rattle.atomic_table.proofs.Lists.{at_set, set_else, set_again, at_snoc, at_longer, at_last, one_turn}
+use Rattle.atomic_table.specs.Table.{State, Me, step, keeps, Allows, Joins}
+use Rattle.atomic_table.proofs.Lists.{at_set, set_else, set_again}
 use Rattle.turn_core.specs.declared.view.Call.{Call}
 use Rattle.turn_core.specs.declared.view.View.{View}
-use Rattle.turn_core.specs.declared.view.Done.{Done}
 use Rattle.turn_core.specs.declared.view.Kept.{Kept}
-use Rattle.turn_core.specs.Calls.{longer, shorter}
 use Rattle.turn_core.specs.Plays.{Learns, Learned}
-use Rattle.turn_core.specs.Rule.{InTurn, Fits, AtHome, Away, out, share, has, sum_of, OneList, IsOut}
-use Rattle.turn_core.specs.Views.{StandsFor, AtRest, newcomer, left, right, both, spent, all_shares, Joined, Counted}
+use Rattle.turn_core.specs.Rule.{InTurn, Fits, AtHome, Away, out, share, has, OneList, IsOut}
+use Rattle.turn_core.specs.Views.{AtRest, both, spent, Joined, Counted}
 use Rattle.turn_core.proofs.Numbers.{meet_numbers}
-use Rattle.turn_core.proofs.Parts.{sum_of-replaced, sum_of-below, prefix_more, one_view, placed, true_not_false, some_same, none_some, same_or_not, not_served, sum_of-snoc, sum_of-two, only}
+use Rattle.turn_core.proofs.Parts.{sum_of-replaced, one_view, placed, true_not_false, none_some, same_or_not}
 use Rattle.turn_core.proofs.Prefixes.{longer_prefix, shorter_begins, longer_whole, each_begins}
 
 module _ {T A S : Type 0} (stands : T → T → List (A × S) → Type 0) where

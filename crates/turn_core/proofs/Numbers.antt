@@ -1,22 +1,21 @@
 -- Pass numbers: each step keeps them apart, and the calls under each of them.
-use Rattle.std.proofs.Common.{◌≡◌, ◌≢◌, ◌∙◌, sym, ap, refl, subst, ℕ, zero, suc, ◌+◌, ◌*◌, ◌-◌, ◌<◌, ◌≤◌, List, [], ◌∷◌, ◌++◌, length, get_or, map, set, ⊎_elim, ◌⊎◌, inl, inr, arith, Option, Some, None, Bool, true, false, zero-mul, one-mul, add-mul, mul_assoc, mul_comm, suc-mul, mul-le-mul_right}
+use Rattle.std.proofs.Common.{◌≡◌, ◌≢◌, ◌∙◌, sym, ap, refl, subst, ℕ, suc, ◌+◌, ◌*◌, ◌<◌, ◌≤◌, List, [], ◌∷◌, ◌++◌, length, get_or, map, set, ⊎_elim, ◌⊎◌, inl, inr, arith, Option, true, zero-mul, one-mul, add-mul, mul_assoc, suc-mul, mul-le-mul_right}
 use Rattle.std.specs.Prelude.{All, AllPairs, Contains}
 use Rattle.std.proofs.lemmas.List.Elements.{All-append, All-cons, All-map, All-nil, All-push, Contains-append_left, Contains-append_right}
 use Rattle.std.proofs.lemmas.List.Kept.{AllPairs-cons}
-use mathlib.Core.Logic.{dite}
 use native.Mathlib.Decide.{dec_le}
-use mathlib.Core.Option.{some, none}
+use mathlib.Core.Option.{some}
 use mathlib.Core.List.{IsPrefix, map-append}
 use lib.ListN.{get_elem?}
-use Rattle.atomic_table.proofs.Lists.{at_set, set_else, at_longer, at_last}
+use Rattle.atomic_table.proofs.Lists.{at_set, set_else, at_longer}
 use Rattle.turn_core.specs.declared.view.Call.{Call}
 use Rattle.turn_core.specs.declared.view.Done.{Done}
 use Rattle.turn_core.specs.declared.view.Met.{Met}
 use Rattle.turn_core.specs.declared.view.View.{View}
-use Rattle.turn_core.specs.Calls.{calls_of, longer, shorter}
+use Rattle.turn_core.specs.Calls.{calls_of}
 use Rattle.turn_core.specs.Plays.{moved}
 use Rattle.turn_core.specs.Rule.{Named, Numbered, Disjoint, IsKnown}
-use Rattle.turn_core.specs.Views.{HasMade, Owns, numbers, Counted, next_call, newcomer, spent, left, right, both}
+use Rattle.turn_core.specs.Views.{HasMade, Owns, numbers, next_call, newcomer, spent, left, right, both}
 use Rattle.turn_core.proofs.Counts.{all_one, under, not_under, between}
 use Rattle.turn_core.proofs.Parts.{only, at_end, one_view, placed, same_or_not}
 use Rattle.turn_core.proofs.Prefixes.{longer_prefix, shorter_begins, each_begins}
@@ -372,13 +371,23 @@ module _ {T A S : Type 0} where
     -- a number that was known is known still
     met_known : (number : ℕ) → IsKnown views number → IsKnown vs number
     met_known number (by, x, e, l, has) = ⊎_elim
-        (λ (same : by ≡ id). let is : v ≡ x = one_view views id v x at (subst (λ (k : ℕ). get_elem? views k ≡ some x) same e) in
-        (id, u, u_there, u_live, subst (λ (ns : List ℕ). Contains ns number) (sym numbers_of)
-        (Contains-append_left (numbers v) (numbers w) number (subst (λ (z : View T A S). Contains (numbers z) number) (sym is) has))))
+        (λ (same : by ≡ id). let is : v ≡ x = one_view views id v x at (subst (λ (k : ℕ). get_elem? views k ≡ some x) same e) in (
+          id,
+          u,
+          u_there,
+          u_live,
+          subst (λ (ns : List ℕ). Contains ns number) (sym numbers_of)
+              (Contains-append_left (numbers v) (numbers w) number (subst (λ (z : View T A S). Contains (numbers z) number) (sym is) has)),
+        ))
         (λ (not_id : by ≢ id). ⊎_elim
-        (λ (same : by ≡ other). let is : w ≡ x = one_view views other w x at_w (subst (λ (k : ℕ). get_elem? views k ≡ some x) same e) in
-        (id, u, u_there, u_live, subst (λ (ns : List ℕ). Contains ns number) (sym numbers_of)
-        (Contains-append_right (numbers v) (numbers w) number (subst (λ (z : View T A S). Contains (numbers z) number) (sym is) has))))
+        (λ (same : by ≡ other). let is : w ≡ x = one_view views other w x at_w (subst (λ (k : ℕ). get_elem? views k ≡ some x) same e) in (
+          id,
+          u,
+          u_there,
+          u_live,
+          subst (λ (ns : List ℕ). Contains ns number) (sym numbers_of)
+              (Contains-append_right (numbers v) (numbers w) number (subst (λ (z : View T A S). Contains (numbers z) number) (sym is) has)),
+        ))
         (λ (not_other : by ≢ other). (by, x, set_else (set views id u) other by spent not_other ∙ (set_else views id by u not_id ∙ e), l, has))
         (same_or_not by other))
         (same_or_not by id)

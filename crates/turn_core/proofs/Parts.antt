@@ -1,6 +1,6 @@
 -- Facts on lists of views, for each kind of step.
-use Rattle.std.proofs.Common.{◌≡◌, ◌≢◌, ◌∙◌, sym, ap, refl, subst, ℕ, zero, suc, ◌+◌, ◌%◌, ◌<◌, ◌≤◌, List, [], ◌∷◌, ◌++◌, length, set, ⊎_elim, ◌⊎◌, inl, inr, arith, Option, Some, None, Bool, true, false, append_assoc}
-use mathlib.Core.Option.{some, none, some-injective, some-ne-none}
+use Rattle.std.proofs.Common.{◌≡◌, ◌≢◌, ◌∙◌, sym, ap, refl, subst, ℕ, zero, suc, ◌+◌, ◌≤◌, List, [], ◌∷◌, ◌++◌, length, set, ⊎_elim, ◌⊎◌, inl, inr, arith, Option, Some, None, Bool, true, false, append_assoc}
+use mathlib.Core.Option.{some, some-injective, some-ne-none}
 use mathlib.Core.List.{IsPrefix}
 use lib.ListN.{get_elem?}
 use mathlib.Core.Logic.{dite}
@@ -10,7 +10,7 @@ use Rattle.atomic_table.specs.Table.{Me, rest}
 use Rattle.turn_core.specs.declared.view.Call.{Call}
 use Rattle.turn_core.specs.Calls.{plain}
 use Rattle.turn_core.specs.Rule.{sum_of}
-use Rattle.turn_core.specs.Views.{StandsFor, IsLawful}
+use Rattle.turn_core.specs.Views.{StandsFor}
 
 module _ {V : Type 0} where
   pub sum_of-replaced : (f : V → ℕ) (l : List V) (i : ℕ) (v w : V) → get_elem? l i ≡ some v → sum_of f (set l i w) + f v ≡ sum_of f l + f w
@@ -37,6 +37,10 @@ module _ {V : Type 0} where
   sum_of-two f (x ∷ xs) zero (suc j) v w apart e g = let is : f x ≡ f v = ap f (some-injective x v e) in let r = sum_of-one f xs j w g in omega arith
   sum_of-two f (x ∷ xs) (suc i) zero v w apart e g = let is : f x ≡ f w = ap f (some-injective x w g) in let r = sum_of-one f xs i v e in omega arith
   sum_of-two f (x ∷ xs) (suc i) (suc j) v w apart e g = let r = sum_of-two f xs i j v w (λ same. apart (ap suc same)) e g in omega arith
+
+  -- the first item that is pushed
+  pub pushed : (xs ys : List V) (v : V) → xs ≡ [] → ys ≡ xs ++ v ∷ [] → ys ≡ v ∷ []
+  pushed xs ys v none_yet e = e ∙ ap (λ (l : List V). l ++ v ∷ []) none_yet
 
   -- the only view of a list of one
   pub only : (x u : V) (by : ℕ) → get_elem? (x ∷ []) by ≡ some u → (by ≡ 0) × (x ≡ u)

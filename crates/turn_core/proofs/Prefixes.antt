@@ -1,5 +1,5 @@
 -- Two beginnings of one list.
-use Rattle.std.proofs.Common.{◌≡◌, ◌≢◌, ◌∙◌, sym, ap, refl, subst, ℕ, zero, suc, ◌+◌, ◌<◌, ◌≤◌, List, [], ◌∷◌, ◌++◌, length, length-append, append-nil, ⊎_elim, ◌⊎◌, inl, inr, arith, Bool, true, false, nat_lt, if◌then◌else◌}
+use Rattle.std.proofs.Common.{◌≡◌, ◌∙◌, sym, ap, refl, subst, ◌≤◌, List, [], ◌∷◌, ◌++◌, length, length-append, append-nil, ⊎_elim, ◌⊎◌, inl, inr, arith, Bool, true, false, nat_lt, if◌then◌else◌}
 use Rattle.std.proofs.lemmas.Bool.Decides.{nat_tests}
 use mathlib.Core.List.{IsPrefix}
 use Rattle.turn_core.specs.declared.view.Call.{Call}

@@ -1,20 +1,16 @@
 -- A split keeps the rule.
-use Rattle.std.proofs.Common.{◌≡◌, ◌≢◌, ◌∙◌, sym, ap, refl, subst, ℕ, ◌+◌, ◌-◌, ◌%◌, ◌^◌, ◌<◌, ◌≤◌, List, [], ◌∷◌, ◌++◌, length, length-append, append-nil, get_or, set, ⊎_elim, ◌⊎◌, inl, inr, arith, Option, Some, None, Bool, true, false}
-use mathlib.Core.Logic.{dite}
-use native.Mathlib.Decide.{ℕ_discrete}
-use mathlib.Core.Option.{some, none, some-injective}
-use mathlib.Core.List.{IsPrefix}
+use Rattle.std.proofs.Common.{◌≡◌, ◌≢◌, ◌∙◌, sym, ap, subst, ℕ, ◌<◌, ◌≤◌, List, [], ◌∷◌, ◌++◌, length, set, ⊎_elim, ◌⊎◌, inl, inr, arith, Option, Some, None, false}
+use mathlib.Core.Option.{some}
 use lib.ListN.{get_elem?}
-use Rattle.atomic_table.specs.Table.{State, Me, step, Act, keeps, takes, gives, stepped, Allows, Splits, Joins, opening, Seen, Final}
-use Rattle.atomic_table.proofs.Lists.{at_set, set_else, set_again, at_snoc, at_longer, at_last, one_turn}
+use Rattle.atomic_table.specs.Table.{State, Me, Splits}
+use Rattle.atomic_table.proofs.Lists.{at_set, set_else, at_snoc, at_longer}
 use Rattle.turn_core.specs.declared.view.Call.{Call}
 use Rattle.turn_core.specs.declared.view.View.{View}
-use Rattle.turn_core.specs.declared.view.Done.{Done}
 use Rattle.turn_core.specs.declared.view.Kept.{Kept}
-use Rattle.turn_core.specs.Rule.{InTurn, Fits, AtHome, Away, out, share, has, sum_of, OneList, IsOut}
-use Rattle.turn_core.specs.Views.{StandsFor, AtRest, newcomer, left, right, all_shares}
-use Rattle.turn_core.proofs.Numbers.{start_numbers, split_numbers}
-use Rattle.turn_core.proofs.Parts.{sum_of-replaced, sum_of-below, prefix_more, one_view, placed, true_not_false, some_same, none_some, same_or_not, not_served, sum_of-snoc, sum_of-two, only}
+use Rattle.turn_core.specs.Rule.{InTurn, Fits, AtHome, Away, out, share, has, OneList, IsOut}
+use Rattle.turn_core.specs.Views.{left, right}
+use Rattle.turn_core.proofs.Numbers.{split_numbers}
+use Rattle.turn_core.proofs.Parts.{sum_of-replaced, one_view, placed, true_not_false, none_some, same_or_not, sum_of-snoc}
 
 module _ {T A S : Type 0} (stands : T → T → List (A × S) → Type 0) where
   abbrev D : Type 0

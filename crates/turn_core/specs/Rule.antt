@@ -15,6 +15,7 @@ abbrev pub sum_of : {V : Type 0} → (V → ℕ) → List V → ℕ
 sum_of f [] = 0
 sum_of f (x ∷ xs) = f x + sum_of f xs
 
+-- how many tickets it is, 0 or 1
 abbrev pub has : Option ℕ → ℕ
 has None = 0
 has (Some t) = 1
@@ -28,6 +29,7 @@ module _ {T A S : Type 0} where
   abbrev pub out : View T A S → ℕ
   out v = has v.ticket
 
+  -- the share of the pass
   abbrev pub share : View T A S → ℕ
   share v = v.share
 
@@ -58,7 +60,8 @@ module _ {T A S : Type 0} where
     pub known : All (λ c. IsKnown views c.by) log
 
 module _ {T A S : Type 0} (stands : T → T → List (A × S) → Type 0) where
-  -- what is true of one pass
+  -- what is true of each pass: its list begins the whole one, its ticket is among those that are out, and where it is
+  -- served, its turn is now and it has seen all
   pub record Fits (opening : T) (log : List (Call A S)) (drawn : ℕ) (v : View T A S) : Type 0 where
     pub same : 0 < v.share → v.opening ≡ Some opening
     pub prefix : IsPrefix v.seen log

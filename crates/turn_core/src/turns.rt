@@ -113,6 +113,7 @@ impl<T: Turned> TicketLock<Held<T>, Known<T>, Snapshot<T>, Law<T>> {
         requires own { IsPassOf self pass }
         requires share { (view pass).share ≡ all_shares }
         ensures value { StandsFor T.stands (view pass).opening result (view pass).seen }
+        ensures counted { Counted (view pass) }
         ensures whole { IsWhole (view pass) }
     {
         let TicketLock { table } = self;

@@ -1,4 +1,4 @@
-use Rattle.std.proofs.Common.{◌≡◌, ◌<◌, arith}
+use Rattle.std.proofs.Common.{arith}
 use Rattle.turn_core.proofs.Draws.{draws}
 use Rattle.turn_core.proofs.steps.draw_ticket.Goals as goal
 

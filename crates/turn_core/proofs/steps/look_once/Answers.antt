@@ -1,4 +1,4 @@
-use Rattle.std.proofs.Common.{◌≡◌, ◌<◌, arith}
+use Rattle.std.proofs.Common.{arith}
 use Rattle.turn_core.proofs.Looks.{looks}
 use Rattle.turn_core.proofs.steps.look_once.Goals as goal
 

@@ -1,4 +1,4 @@
-use Rattle.std.proofs.Common.{◌≡◌, ◌<◌, arith}
+use Rattle.std.proofs.Common.{arith}
 use Rattle.turn_core.proofs.MovesOn.{moves}
 use Rattle.turn_core.proofs.steps.move_on.Goals as goal
 

@@ -1,8 +1,4 @@
-use Rattle.std.proofs.Common.{◌≡◌, ◌∙◌, ℕ, List, Option, Some, ap, subst}
-use Rattle.atomic_table.specs.Table.{Me}
-use Rattle.turn_core.specs.declared.view.Kept.{Kept}
-use Rattle.turn_core.specs.declared.view.View.{View}
-use Rattle.turn_core.specs.Plays.{Served}
+use Rattle.std.proofs.Common.{◌∙◌}
 use Rattle.turn_core.proofs.Whole.{served_from}
 use Rattle.turn_core.proofs.steps.wait_for.Goals as goal
 

@@ -1,7 +1,7 @@
-use Rattle.std.proofs.Common.{◌≡◌, ◌∙◌, sym, ap, subst, Option, Some, IsSome, rules}
+use Rattle.std.proofs.Common.{◌∙◌, sym, ap, subst, Option, IsSome, rules}
 use Rattle.turn_core.specs.Views.{StandsFor}
 use Rattle.turn_core.specs.declared.view.Kept.{Kept}
-use Rattle.turn_core.proofs.Ends.{last_list, last_value}
+use Rattle.turn_core.proofs.Ends.{last_counted, last_list, last_value}
 use Rattle.turn_core.proofs.Parts.{some_same}
 use Rattle.turn_core.proofs.turns.TicketLock+Held+T+Known+T+Snapshot+T+Law+T.close.Goals as goal
 
@@ -25,3 +25,8 @@ pub returns-clause-whole : goal.returns-clause-whole
 returns-clause-whole g c =
     let p = c.args.pass in
     last_list g.T.Turned.stands c.args.self.table.shared.key.value p.seat.id p.seat.me.0 _ _ c.requires.share c.requires.own.1.0.2 c.close_with-closed.ensures.values.2
+
+pub returns-clause-counted : goal.returns-clause-counted
+returns-clause-counted g c =
+    let p = c.args.pass in
+    last_counted g.T.Turned.stands c.args.self.table.shared.key.value p.seat.id p.seat.me.0 _ _ c.requires.own.1.0.3 c.close_with-closed.ensures.values.2
