@@ -47,7 +47,7 @@ module _ {T A S : Type 0} (stands : T → T → List (A × S) → Type 0) where
       held = λ t low high. absurd (omega (arith, high));
       tickets = omega arith;
       shares = omega arith;
-      place = inl (k, refl, subst (λ (x : T). stands value x []) (sym is) ok, λ by u e. sym (ap (λ (x : D). x.served) (only v₀ u by e).1));
+      place = inl (k, refl, (value, refl, subst (λ (x : T). stands value x []) (sym is) ok), λ by u e. sym (ap (λ (x : D). x.served) (only v₀ u by e).1));
       whole = (0, v₀, refl, omega arith, refl);
     }
 

@@ -126,11 +126,13 @@ module _ {T A S : Type 0} (stands : T → T → List (A × S) → Type 0) where
   pub makes_call : (o : Option T) (value value' : T) (log : List (Call A S)) (c : Call A S) (a : A) (s : S)
       → ((opening : T) (calls : List (A × S)) → stands opening value calls → stands opening value' (calls ++ (a, s) ∷ []))
       → c.ask ≡ a → c.say ≡ s → StandsFor stands o value log → StandsFor stands o value' (log ++ c ∷ [])
-  makes_call None value value' log c a s step asked said h = tt
-  makes_call (Some o) value value' log c a s step asked said h =
-      subst (λ (l : List (A × S)). stands o value' l) (ap (λ (p : A × S). plain log ++ p ∷ []) (λ i. (sym asked i, sym said i)) ∙ sym (plain_more log c)) (step o (plain log) h)
+  makes_call o value value' log c a s step asked said (first, opened, h) = (
+    first,
+    opened,
+    subst (λ (l : List (A × S)). stands first value' l) (ap (λ (p : A × S). plain log ++ p ∷ []) (λ i. (sym asked i, sym said i)) ∙ sym (plain_more log c)) (step first (plain log) h),
+  )
 
   -- what a value stands for is lawful
   pub lawful_of : (lawful : T → List (A × S) → Type 0) → ((first now : T) (calls : List (A × S)) → stands first now calls → lawful first calls)
       → (o : Option T) (value : T) (log : List (Call A S)) → StandsFor stands o value log → (first : T) → o ≡ Some first → lawful first (plain log)
-  lawful_of lawful law o value log h first e = law first value (plain log) (subst (λ (x : Option T). StandsFor stands x value log) e h)
+  lawful_of lawful law o value log (was, opened, h) first e = law first value (plain log) (subst (λ (x : T). stands x value (plain log)) (some_same was first (sym opened ∙ e)) h)

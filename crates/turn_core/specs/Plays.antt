@@ -37,7 +37,7 @@ module _ {T A S : Type 0} where
   Learns st m found m' = Learned m m'
 
 module _ {T A S : Type 0} (stands : T → T → List (A × S) → Type 0) where
-  -- the pass is served: it has taken the value, and has seen all calls
+  -- the pass is served: it has taken the value, which stands for a list, and has seen all calls
   abbrev pub Served : Place T A S → Place T A S → Type 0
   Served m m' =
       (k : Kept T A S) × (m'.1 ≡ (0, Some k) ∷ []) × StandsFor stands m.0.opening k.value m'.0.seen × IsPrefix m.0.seen m'.0.seen

@@ -84,10 +84,9 @@ module _ {T A S : Type 0} where
   AtRest m = (m.1 ≡ []) × (m.0.ticket ≡ None) × (m.0.served ≡ false) × (0 < m.0.share)
 
 module _ {T A S : Type 0} (stands : T → T → List (A × S) → Type 0) where
-  -- the value stands for these calls since the opening
+  -- there was an opening, and since then the value stands for these calls
   abbrev pub StandsFor : Option T → T → List (Call A S) → Type 0
-  StandsFor None value calls = Unit {0}
-  StandsFor (Some first) value calls = stands first value (plain calls)
+  StandsFor opening value calls = (first : T) × (opening ≡ Some first) × stands first value (plain calls)
 
 module _ {T A S : Type 0} (lawful : T → List (A × S) → Type 0) where
   -- the calls that the pass has seen are lawful for the opening

@@ -13,8 +13,10 @@ pub trait Turned {
     // These calls, in order, are legal for the first value.
     ghost lawful: { Self → List (Self.Ask × Self.Say) → Type 0 };
 
-    /// Answers one call. The value then stands for its calls so far and this one.
+    /// Answers one call of a value that stands for some list. It then stands for that list with the call added,
+    /// whatever first value and list it stood for.
     fn take(&mut self, ask: &Self::Ask) -> Self::Say
+        requires stands { (first : Self) × (calls : List (Self.Ask × Self.Say)) × stands first self.old calls }
         ensures { (first : Self) (calls : List (Self.Ask × Self.Say)) → stands first self.old calls → stands first self.new (calls ++ (ask.now, result) ∷ []) };
 
     // A value stands for legal calls alone.

@@ -2,6 +2,7 @@ use Rattle.std.proofs.Common.{◌≡◌, ◌∙◌, ℕ, List, ◌++◌, ◌∷�
 use Rattle.atomic_table.specs.Table.{rest}
 use Rattle.turn_core.specs.declared.view.Kept.{Kept}
 use Rattle.turn_core.specs.declared.view.View.{View}
+use Rattle.turn_core.specs.Calls.{plain}
 use Rattle.turn_core.specs.Views.{next_call, StandsFor}
 use Rattle.turn_core.proofs.Parts.{first_same, exchanged_twice, makes_call, some_same}
 use Rattle.turn_core.proofs.steps.call.Goals as goal
@@ -11,6 +12,15 @@ exchange-requires g c =
     let k = c.requires.holds.0 in
     let held = c.requires.holds.1 in
     (c.requires.table.0, (Some k, held ∙ ap (λ (s : List (ℕ × Option (Kept g.row.T.Denot g.row.T-Ask.Denot g.row.T-Say.Denot))). (0, Some k) ∷ rest s) (sym held)))
+
+pub take-say-requires : goal.take-say-requires
+take-say-requires g c =
+    let k = c.requires.holds.0 in
+    let held = c.requires.holds.1 in
+    let found : Some k ≡ c.exchange.result = first_same 0 (Some k) c.exchange.result [] (rest c.args.place.now.me.1) (sym held ∙ c.exchange.ensures.2) in
+    let same : k ≡ c.in-Some.kept = some_same k c.in-Some.kept (found ∙ c.in-Some.is) in
+    let stood = c.requires.holds.2 in
+    record { stands = (stood.0, plain c.args.place.now.me.0.seen, subst (λ (x : Kept g.row.T.Denot g.row.T-Ask.Denot g.row.T-Say.Denot). g.T.Turned.stands stood.0 x.value (plain c.args.place.now.me.0.seen)) same stood.2) }
 
 pub returns-clause-called : goal.returns-clause-called
 returns-clause-called g c =
