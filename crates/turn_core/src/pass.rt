@@ -1,0 +1,25 @@
+// A pass, with which a thread takes turns.
+ghost use Rattle.std.specs.Prelude.{◌≡◌, ◌-◌, ◌^◌, min, length};
+
+use crate::view::{Kept, View};
+use atomic_table::Seat;
+
+/// A right to take turns. Contracts see its `View`.
+///
+/// One that is dropped takes its shares with it, and the turns can then not be closed.
+#[derive(Drop)]
+pub struct TicketPass<S, V> {
+    pub(crate) seat: Seat<S, V>,
+    pub(crate) calls: u64,
+}
+
+impl<T, A, S> TicketPass<Option<Kept<T, A, S>>, View<T, A, S>> {
+    ghost use Rattle.turn_core.specs.Passes.{view, IsAtRest};
+
+    /// Tells how many calls the pass made, or the greatest number that a `u64` holds where it made more.
+    pub fn calls(&self) -> u64
+        ensures { IsAtRest self.now → result ≡ min (length (view self.now).made) (2 ^ 64 - 1) }
+    {
+        self.calls
+    }
+}

@@ -1,0 +1,46 @@
+// The rule of the table of words, slot and passes.
+use crate::turned::Turned;
+use crate::view::{Kept, View};
+use atomic_table::{Join, Split, TableRule};
+use std::marker::PhantomData;
+use std::snapshot::Snapshot;
+
+pub type Known<T> = View<T, <T as Turned>::Ask, <T as Turned>::Say>;
+
+pub type Held<T> = Option<Kept<T, <T as Turned>::Ask, <T as Turned>::Say>>;
+
+/// The rule between any two steps.
+pub struct Law<T> {
+    of: PhantomData<T>,
+}
+
+impl<T: Turned> TableRule<Held<T>, Known<T>, Snapshot<T>> for Law<T> {
+    ghost use Rattle.turn_core.specs.Rule.{OneList};
+    ghost use Rattle.turn_core.specs.Views.{newcomer};
+
+    ghost holds = { λ key. OneList T.stands key.value };
+
+    ghost first = { λ key. newcomer key.value };
+}
+
+/// How a pass is split.
+pub struct Parting;
+
+impl<T, A, S> Split<View<T, A, S>> for Parting {
+    ghost use Rattle.turn_core.specs.Views.{left, right};
+
+    ghost left = { left };
+
+    ghost right = { right };
+}
+
+/// How two passes meet.
+pub struct Meeting;
+
+impl<T, A, S> Join<View<T, A, S>> for Meeting {
+    ghost use Rattle.turn_core.specs.Views.{both, spent};
+
+    ghost both = { both };
+
+    ghost spent = { spent };
+}

@@ -1,0 +1,166 @@
+// The steps of a turn.
+ghost use Rattle.std.specs.Prelude.{◌≡◌, ◌≢◌, ◌⊎◌, ℕ, ◌+◌, ◌%◌, ◌^◌, ◌<◌, ◌≤◌, List, [], ◌∷◌, ◌++◌, Some, None, true, false};
+ghost use mathlib.Core.List.{IsPrefix};
+ghost use Rattle.turn_core.specs.Plays.{Learned, Served, moved};
+ghost use Rattle.turn_core.specs.Rule.{has};
+ghost use Rattle.turn_core.specs.Views.{AtRest, Called, Counted, IsLawful, StandsFor, next_call};
+
+use crate::rule::{Held, Known, Law};
+use crate::turned::Turned;
+use crate::view::{Done, Kept, View};
+use atomic_table::{Play, Seat, Shared};
+use std::marker::PhantomData;
+use std::snapshot::Snapshot;
+use std::sync::Wait;
+
+/// A ticket is drawn.
+pub struct Draw;
+
+impl<T, A, S> Play<Option<Kept<T, A, S>>, View<T, A, S>> for Draw {
+    ghost use Rattle.turn_core.specs.Plays.{Draws};
+
+    ghost then = { Draws };
+}
+
+/// A pass looks whether it is served, and takes the value out of the slot where it is.
+pub struct Look<T> {
+    of: PhantomData<T>,
+}
+
+impl<T: Turned> Play<Held<T>, Known<T>> for Look<T> {
+    ghost use Rattle.turn_core.specs.Plays.{Looks};
+
+    ghost then = { Looks T.stands };
+}
+
+/// The call enters the list, and the turn moves on.
+pub struct Move;
+
+impl<T, A, S> Play<Option<Kept<T, A, S>>, View<T, A, S>> for Move {
+    ghost use Rattle.turn_core.specs.Plays.{Moves};
+
+    ghost then = { Moves };
+}
+
+/// A pass looks what is known of it after a split or a meeting.
+pub struct LookBack;
+
+impl<T, A, S> Play<Option<Kept<T, A, S>>, View<T, A, S>> for LookBack {
+    ghost use Rattle.turn_core.specs.Plays.{Learns};
+
+    ghost then = { Learns };
+}
+
+pub(crate) type Top<T> = Shared<Held<T>, Known<T>, Snapshot<T>, Law<T>>;
+
+pub(crate) type Place<T> = Seat<Held<T>, Known<T>>;
+
+/// The word with the number of the next ticket, modulo 2^64.
+const TICKET: usize = 0;
+
+/// The word with the number of the ticket that is served, modulo 2^64.
+const SERVING: usize = 1;
+
+pub(crate) fn draw_ticket<T: Turned>(top: &Top<T>, place: &mut Place<T>) -> u64
+    requires table { (place.old.table_id ≡ top.now.table_id) × (top.now.table_id.words ≡ 2) × (top.now.table_id.slots ≡ 1) }
+    requires rest { AtRest place.old.me }
+    ensures same { (place.new.table_id ≡ place.old.table_id) × (place.new.id ≡ place.old.id) }
+    ensures drawn { (t : ℕ) × (result ≡ t % 2 ^ 64) × (place.new.me ≡ (record place.old.me.0 { ticket = Some t }, [])) }
+{
+    top.fetch_add::<Draw>(place, TICKET, 1)
+}
+
+pub(crate) fn look_once<T: Turned>(top: &Top<T>, place: &mut Place<T>) -> u64
+    requires table { (place.old.table_id ≡ top.now.table_id) × (top.now.table_id.words ≡ 2) × (top.now.table_id.slots ≡ 1) }
+    requires waits { (place.old.me.1 ≡ []) × (has place.old.me.0.ticket ≡ 1) × (place.old.me.0.served ≡ false) }
+    ensures same { (place.new.table_id ≡ place.old.table_id) × (place.new.id ≡ place.old.id) }
+    ensures looked { (t : ℕ) → place.old.me.0.ticket ≡ Some t → (result ≡ t % 2 ^ 64 → Served T.stands place.old.me place.new.me) × (result ≢ t % 2 ^ 64 → place.new.me ≡ place.old.me) }
+{
+    top.load::<Look<T>>(place, SERVING)
+}
+
+// Ends the turn: the call is then in the list, and the next ticket is served.
+pub(crate) fn move_on<T: Turned>(top: &Top<T>, place: &mut Place<T>)
+    requires table { (place.old.table_id ≡ top.now.table_id) × (top.now.table_id.words ≡ 2) × (top.now.table_id.slots ≡ 1) }
+    requires served { place.old.me.0.served ≡ true }
+    requires holds { (k : _) × (d : _) × (place.old.me.1 ≡ (0, Some k) ∷ []) × (k.last ≡ Some d) × StandsFor T.stands place.old.me.0.opening k.value (place.old.me.0.seen ++ next_call place.old.me.0 d.ask.value d.say.value ∷ []) }
+    ensures same { (place.new.table_id ≡ place.old.table_id) × (place.new.id ≡ place.old.id) }
+    ensures called { (k : _) (d : _) → place.old.me.1 ≡ (0, Some k) ∷ [] → k.last ≡ Some d → (place.new.me ≡ (moved place.old.me.0 d, [])) × Counted place.new.me.0 }
+{
+    top.fetch_add::<Move>(place, SERVING, 1);
+    top.wake_all(SERVING);
+}
+
+// Takes the value out of the slot, makes the call, and puts it back.
+pub(crate) fn call<T: Turned>(top: &Top<T>, place: &mut Place<T>, ask: &T::Ask) -> T::Say
+    requires table { (place.old.table_id ≡ top.now.table_id) × (top.now.table_id.words ≡ 2) × (top.now.table_id.slots ≡ 1) }
+    requires holds { (k : _) × (place.old.me.1 ≡ (0, Some k) ∷ []) × StandsFor T.stands place.old.me.0.opening k.value place.old.me.0.seen }
+    ensures same { (place.new.table_id ≡ place.old.table_id) × (place.new.id ≡ place.old.id) × (place.new.me.0 ≡ place.old.me.0) }
+    ensures called { (k : _) × (d : _) × (place.new.me.1 ≡ (0, Some k) ∷ []) × (k.last ≡ Some d) × (d.ask.value ≡ ask.now) × (d.say.value ≡ result) × StandsFor T.stands place.new.me.0.opening k.value (place.old.me.0.seen ++ next_call place.old.me.0 d.ask.value d.say.value ∷ []) }
+{
+    let Some(kept) = top.exchange(place, 0, None) else {
+        unreachable!()
+    };
+    let Kept { mut value, last: _ } = kept;
+    let say = value.take(ask);
+    let done = Done {
+        ask: Snapshot::of(ask),
+        say: Snapshot::of(&say),
+    };
+    let back = Kept {
+        value,
+        last: Some(done),
+    };
+    let left = top.exchange(place, 0, Some(back));
+    let None = left else { unreachable!() };
+    say
+}
+
+// Parks until the ticket is served.
+pub(crate) fn wait_for<T: Turned, R: Wait>(rt: &R, top: &Top<T>, place: &mut Place<T>, ticket: u64)
+    requires table { (place.old.table_id ≡ top.now.table_id) × (top.now.table_id.words ≡ 2) × (top.now.table_id.slots ≡ 1) }
+    requires waits { (place.old.me.1 ≡ []) × (place.old.me.0.served ≡ false) × ((t : ℕ) × (ticket ≡ t % 2 ^ 64) × (place.old.me.0.ticket ≡ Some t)) }
+    ensures same { (place.new.table_id ≡ place.old.table_id) × (place.new.id ≡ place.old.id) }
+    ensures served { Served T.stands place.old.me place.new.me }
+{
+    for _ in rt.forever() {
+        let found = look_once(top, place);
+        if found == ticket {
+            return;
+        }
+        top.park(rt, SERVING, (found & 0xffff_ffff) as u32);
+    }
+    unreachable!()
+}
+
+// Draws a ticket, waits for it, makes the call and moves the turn on.
+pub(crate) fn take_turn<T: Turned, R: Wait>(
+    rt: &R,
+    top: &Top<T>,
+    place: &mut Place<T>,
+    ask: &T::Ask,
+) -> T::Say
+    requires table { (place.old.table_id ≡ top.now.table_id) × (top.now.table_id.words ≡ 2) × (top.now.table_id.slots ≡ 1) }
+    requires rest { AtRest place.old.me }
+    ensures same { (place.new.table_id ≡ place.old.table_id) × (place.new.id ≡ place.old.id) }
+    ensures rest { AtRest place.new.me }
+    ensures called { Called place.old.me.0 ask.now result place.new.me.0 }
+    ensures counted { Counted place.new.me.0 }
+    ensures lawful { IsLawful T.lawful place.new.me.0 }
+{
+    let ticket = draw_ticket(top, place);
+    wait_for(rt, top, place, ticket);
+    let say = call(top, place, ask);
+    move_on(top, place);
+    say
+}
+
+// Tells what is known of a pass: nothing changes.
+pub(crate) fn look_back<T: Turned>(top: &Top<T>, place: &mut Place<T>)
+    requires table { (place.old.table_id ≡ top.now.table_id) × (top.now.table_id.words ≡ 2) }
+    requires live { 0 < place.old.me.0.share }
+    ensures same { (place.new.table_id ≡ place.old.table_id) × (place.new.id ≡ place.old.id) }
+    ensures learned { Learned place.old.me place.new.me }
+{
+    top.load::<LookBack>(place, SERVING);
+}
