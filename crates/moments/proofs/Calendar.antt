@@ -1,5 +1,5 @@
 -- The months are those of jiff's calendar.
-use Rattle.std.proofs.Common.{◌≡◌, ◌≢◌, ℕ, suc, zero, ◌+◌, ◌-◌, ◌/◌, ◌%◌, ◌<◌, ◌≤◌, ◌==◌, ℤ, pos, negsuc, ◌≤ℤ◌, Bool, true, false, refl, arith, subst}
+use Rattle.std.proofs.Common.{sym, ◌≡◌, ◌≢◌, ℕ, suc, zero, ◌+◌, ◌-◌, ◌/◌, ◌%◌, ◌<◌, ◌≤◌, ◌==◌, ℤ, pos, negsuc, ◌≤ℤ◌, Bool, true, false, refl, arith, subst}
 use Rattle.std.specs.Prelude.{nat_le, unsigned_abs}
 use Rattle.std.proofs.lemmas.Bool.Decides.{nat_tests}
 use Rattle.std.proofs.lemmas.Int.{ints, by_lt_z}
@@ -222,3 +222,20 @@ month_until_end k m begun small = until_end k m _ refl begun small
 -- a month of the office ends by 2100
 pub first_day_small : (k : ℕ) → k < months → first_day (k + 1) ≤ 47_482
 first_day_small k small = first_day_bound (k + 1) (omega (arith, small))
+
+-- each moment lies in a month
+some_case : (m n : ℕ) (b : Bool) → nat_le (month_start n) m ≡ b → m < month_end n → (m < month_start n → (k : ℕ) × IsInMonth k m) → (k : ℕ) × IsInMonth k m
+some_case m n true e small before = (n, record { begun = grind (arith, nat_tests); not_over = small })
+some_case m n false e small before = before (grind (arith, nat_tests))
+
+some_month : (m n : ℕ) → m < month_start n → (k : ℕ) × IsInMonth k m
+some_month m zero small = absurd (omega (arith, first_day_begin, small))
+some_month m (suc n) small =
+    let e : suc n ≡ n + 1 = omega arith in
+    some_case m n _ refl (subst (λ k. m < month_start k) e small) (some_month m n)
+
+pub in_month_at : (m : ℕ) → m < end_of_time → IsInMonth (months_over m months) m
+in_month_at m small =
+    let some = some_month m months (omega (arith, first_day_end, small)) in
+    let at : months_over m months ≡ some.0 = month_at_is m some.0 some.1 (month_until_end some.0 m some.1.begun (omega (arith, small))) in
+    subst (λ k. IsInMonth k m) (sym at) some.1

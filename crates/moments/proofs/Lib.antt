@@ -1,3 +1,4 @@
 mod Examples
 pub mod Calendar
+mod ReadBack
 mod Texts

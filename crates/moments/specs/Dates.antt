@@ -1,5 +1,5 @@
 -- How dates and months are read: YYYY-MM-DD, alone or followed by T, a time and an offset of zero; and YYYY-MM.
-use Rattle.std.specs.Prelude.{ℕ, ◌+◌, ◌-◌, ◌*◌, Bool, false, ◌&&◌, ◌||◌, ◌==◌, nat_le, nat_lt, List, [], ◌∷◌, length, drop, slice_index, take_while, bytes_eq, codes, if◌then◌else◌}
+use Rattle.std.specs.Prelude.{◌≡◌, ℕ, ◌+◌, ◌-◌, ◌*◌, Bool, true, false, ◌&&◌, ◌||◌, ◌==◌, nat_le, nat_lt, List, [], ◌∷◌, length, drop, slice_index, take_while, bytes_eq, codes, if◌then◌else◌}
 use Rattle.std.specs.List.{list_all}
 use Rattle.moments.specs.Months.{month_number, has_month, has_day, midnight_in}
 
@@ -83,3 +83,9 @@ is_at_midnight text = list_all is_zero (drop 10 text)
 -- the midnight at which it begins
 abbrev pub midnight_of : List ℕ → ℕ
 midnight_of text = midnight_in (month_number (year_in text) (month_in text)) (day_in text)
+
+-- it is read as this midnight
+pub record IsReadAs (text : List ℕ) (m : ℕ) : Type 0 where
+  pub date : is_date text ≡ true
+  pub at_midnight : is_at_midnight text ≡ true
+  pub midnight : m ≡ midnight_of text

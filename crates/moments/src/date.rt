@@ -1,9 +1,10 @@
 // How dates and months are read.
-ghost use Rattle.std.specs.Prelude.{◌≡◌, ◌≤◌, ◌<◌, ◌+◌, ◌==◌, ◌||◌, ◌↔◌, ◌&&◌, length, drop, true, false, IsOk, IfOk, IfErr, IsErrOf, IfSome, IfNone, OnSome, nat_le};
+ghost use Rattle.std.specs.Prelude.{◌≡◌, ◌≤◌, ◌<◌, ◌%◌, ℕ, ◌+◌, ◌==◌, ◌||◌, ◌↔◌, ◌&&◌, length, drop, true, false, IsOk, IfOk, IfErr, IsErrOf, IfSome, IfNone, OnSome, nat_le};
 ghost use Rattle.std.specs.List.{list_all};
 ghost use Rattle.moments.specs.Time.{day, end_of_time};
 ghost use Rattle.moments.specs.Months.{has_month, month_number};
-ghost use Rattle.moments.specs.Dates.{begins_with_month, year_in, month_in, is_month, begins_with_date, day_in, is_day, has_two_at, two_at, is_utc, digit_count, is_clock_end, has_part_at, begins_with_clock, is_time, is_zero, is_date, is_at_midnight, midnight_of};
+ghost use Rattle.moments.specs.Dates.{begins_with_month, year_in, month_in, is_month, begins_with_date, day_in, is_day, has_two_at, two_at, is_utc, digit_count, is_clock_end, has_part_at, begins_with_clock, is_time, is_zero, is_date, is_at_midnight, midnight_of, IsReadAs};
+ghost use Rattle.moments.specs.Texts.{moment_text};
 
 use crate::digits::{has_two, two};
 use crate::{Moment, MomentRefusal, Month};
@@ -185,8 +186,8 @@ fn is_midnight(time: &[u8]) -> bool
 /// `NotADate`: the text has not that form, or is no date from 1970-01-01 to 2099-12-31. `NotMidnight`: its time is not midnight.
 #[tactic(auto, unfolding(crate::specs::Dates::is_at_midnight))]
 pub fn read_date(text: &str) -> Result<Moment, MomentRefusal>
+    ensures ok { IfOk result (λ m. IsReadAs text.now m) }
     ensures succeeds { IsOk result ↔ ((is_date text.now ≡ true) × (is_at_midnight text.now ≡ true)) }
-    ensures ok { IfOk result (λ m. m ≡ midnight_of text.now) }
     ensures not_a_date { IsErrOf result MomentRefusal.NotADate ↔ (is_date text.now ≡ false) }
     ensures not_midnight { IsErrOf result MomentRefusal.NotMidnight ↔ ((is_date text.now ≡ true) × (is_at_midnight text.now ≡ false)) }
 {
@@ -202,3 +203,8 @@ pub fn read_date(text: &str) -> Result<Moment, MomentRefusal>
         None => Err(MomentRefusal::NotADate),
     }
 }
+
+/// States that the text of a midnight is a date, and is read as that midnight.
+pub fn midnights_read_back()
+    ensures { (m : ℕ) → m < end_of_time → m % day ≡ 0 → IsReadAs (moment_text m) m }
+{}

@@ -10,7 +10,7 @@ mod print;
 #[cfg(test)]
 mod tests;
 
-pub use date::{read_date, read_month};
+pub use date::{midnights_read_back, read_date, read_month};
 pub use due::{due_after, next_midnights, up};
 pub use moment::{END, Moment, MomentRefusal};
 pub use month::{Month, calendar_months, month_of, month_window};

@@ -144,4 +144,5 @@ pub fn calendar_months()
     ensures first { (k : ℕ) → IsFirstOfMonth k }
     ensures begin { month_start 0 ≡ 0 }
     ensures all { month_start months ≡ end_of_time }
+    ensures each { (m : ℕ) → m < end_of_time → IsInMonth (month_at m) m }
 {}
