@@ -147,7 +147,18 @@ fn tags_in_the_order_of_their_keys(rt: HostRuntime) -> Result<(), Fail> {
     );
     let long_key = "k".repeat(alloc, 129)?;
     let long_value = "v".repeat(alloc, 257)?;
-    let ten = ["a", "b", "c", "d", "e", "f", "g", "h", "i", "j"].map(|key| (key, ""));
+    let ten = [
+        ("a", ""),
+        ("b", ""),
+        ("c", ""),
+        ("d", ""),
+        ("e", ""),
+        ("f", ""),
+        ("g", ""),
+        ("h", ""),
+        ("i", ""),
+        ("j", ""),
+    ];
     assert_eq!(rt;
         Tags::read(alloc, pairs_of(alloc, &ten)?)?.pairs().len(),
         10
