@@ -4,7 +4,7 @@ use Rattle.std.specs.Prelude.{if◌then◌else◌, nat_le, IsPermutation}
 use Rattle.std.proofs.lemmas.Bool.Decides.{nat_tests}
 use Rattle.std.proofs.lemmas.List.Sorted.{IsPermutation-refl, IsPermutation-sym, IsPermutation-cons, IsPermutation-trans, IsPermutation-middle}
 use Rattle.std.specs.declared.alloc.Global.{Global}
-use Rattle.std.specs.List.{list_all, list_any, prefix_len}
+use Rattle.std.specs.List.{AllZip, list_all, list_any, prefix_len}
 use Rattle.std.specs.Str.{bytes_eq}
 use Rattle.std.specs.Ordering.{nat_cmp, is_lt, is_eq, ordering_reverse}
 use Rattle.std.specs.declared.cmp.Ordering.{Ordering}
@@ -259,3 +259,14 @@ kept_in_order [] rise = refl
 kept_in_order (tag ∷ tags) rise =
     let parts = both (list_all (comes_before tag) tags) (keys_rise tags) rise in
     ap (with_tag tag) (kept_in_order tags parts.1) ∙ in_front tag tags parts.0
+
+-- copies of pairs are the same tags
+pub copied : (R : String Global × String Global → String Global × String Global → Type 0) (xs ys : List (String Global × String Global))
+    → AllZip R xs ys → ((x y : String Global × String Global) → R x y → tag_of y ≡ tag_of x) → tags_of ys ≡ tags_of xs
+copied R [] [] all same = refl
+copied R [] (y ∷ ys) all same = absurd all
+copied R (x ∷ xs) [] all same = absurd all
+copied R (x ∷ xs) (y ∷ ys) all same = ap (λ t. t ∷ tags_of ys) (same x y all.0) ∙ ap (λ ts. tag_of x ∷ ts) (copied R xs ys all.1 same)
+
+pub same_tag : (x y : String Global × String Global) → string_bytes y.0 ≡ string_bytes x.0 → string_bytes y.1 ≡ string_bytes x.1 → tag_of y ≡ tag_of x
+same_tag x y key value = ap (λ k. (k, string_bytes y.1)) key ∙ ap (λ v. (string_bytes x.0, v)) value

@@ -121,6 +121,13 @@ fn are_few(pairs: &[(String, String)]) -> bool
     pairs.len() <= 10
 }
 
+fn copies(pairs: &Vec<(String, String)>) -> Result<Vec<(String, String)>, AllocError>
+    ensures { IfOk result (λ copies. tags_of copies.items ≡ tags_of pairs.now.items) }
+{
+    let copies = pairs.clone()?;
+    Ok(copies)
+}
+
 // The pairs are tags.
 #[tactic(auto, unfolding(crate::specs::Tags::are_tags))]
 fn is_valid(pairs: &[(String, String)]) -> bool
@@ -156,6 +163,14 @@ impl Tags {
             Ok(pairs) => Ok(Tags { pairs }),
             Err(_) => Err(NameRefusal::NoMemory),
         }
+    }
+
+    /// Copies the tags. Fails only for want of memory.
+    pub fn copy(&self) -> Result<Tags, AllocError>
+        ensures { IfOk result (λ tags. tags ≡ self.now) }
+    {
+        let pairs = copies(&self.pairs)?;
+        Ok(Tags { pairs })
     }
 
     /// Reads the pairs of a key and a value.
