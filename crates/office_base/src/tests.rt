@@ -134,7 +134,8 @@ fn tags_in_the_order_of_their_keys(rt: HostRuntime) -> Result<(), Fail> {
     let kept = [("Keep", "no"), ("a", "x"), ("kind", "raw"), ("ä", "")];
     let tags = Tags::read(alloc, pairs_of(alloc, &given)?)?;
     assert_eq!(rt; tags.pairs().len(), 4);
-    for (tag, wanted) in tags.copy()?.pairs().iter().zip(kept) {
+    let copy = tags.copy()?;
+    for (tag, wanted) in copy.pairs().iter().zip(kept) {
         assert_eq!(rt; (tag.0.as_str(), tag.1.as_str()), wanted);
     }
     let key = "ä".repeat(alloc, 128)?;
