@@ -5,7 +5,7 @@ use Rattle.atomic_table.specs.Table.{Me, Step}
 use Rattle.turn_core.specs.declared.view.Done.{Done}
 use Rattle.turn_core.specs.declared.view.Kept.{Kept}
 use Rattle.turn_core.specs.declared.view.View.{View}
-use Rattle.turn_core.specs.Views.{Counted, StandsFor, next_call}
+use Rattle.turn_core.specs.Views.{Counted, IsWhole, StandsFor, all_shares, next_call}
 
 -- what a pass knows, and the slot if it has taken it
 abbrev pub Place : Type 0 → Type 0 → Type 0 → Type 0
@@ -31,10 +31,10 @@ module _ {T A S : Type 0} where
   abbrev pub Moves : Step (Option (Kept T A S)) → Place T A S → ℕ → Place T A S → Type 0
   Moves st m found m' = (k : Kept T A S) (d : Done A S) → m.1 ≡ (0, Some k) ∷ [] → k.last ≡ Some d → Moved m d m'
 
-  -- nothing changed: the calls under its numbers are those that were made, and the shorter of the lists of a
-  -- meeting begins the longer
+  -- nothing changed: the shorter of the lists of a meeting begins the longer; the calls under the pass's numbers are
+  -- those that were made; and where it has every share it knows all calls
   abbrev pub Learned : Place T A S → Place T A S → Type 0
-  Learned m m' = IsPrefix m.0.older m.0.seen × Counted m.0 × (m' ≡ m)
+  Learned m m' = IsPrefix m.0.older m.0.seen × Counted m.0 × (m.0.share ≡ all_shares → IsWhole m.0) × (m' ≡ m)
 
   -- look after a split or a meeting
   abbrev pub Learns : Step (Option (Kept T A S)) → Place T A S → ℕ → Place T A S → Type 0

@@ -159,7 +159,7 @@ pub(crate) fn take_turn<T: Turned, R: Wait>(
 // Tells what is known of a pass: nothing changes.
 pub(crate) fn look_back<T: Turned>(top: &Top<T>, place: &mut Place<T>)
     requires table { IsSeatAt top.now place.old }
-    requires live { 0 < place.old.me.0.share }
+    requires rest { AtRest place.old.me }
     ensures same { IsSameSeat place.old place.new }
     ensures learned { Learned place.old.me place.new.me }
 {
