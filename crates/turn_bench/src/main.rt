@@ -1,16 +1,16 @@
 //! Counts by turns or under a lock, in one thread or in four, for a script that measures both.
 #![tactic(auto)]
+
 ghost use Rattle.std.specs.Prelude.{◌≡◌, ◌+◌, ◌<◌};
 ghost use Rattle.turn_core.specs.Passes.{IsPassOf, view};
 ghost use Rattle.turn_core.specs.Views.{all_shares};
 
 use std::alloc::{Alloc, Global};
-use std::env;
-use std::io;
 use std::process::ExitCode;
 use std::rt::Env;
 use std::sync::{Mutex, Wait};
 use std::thread::{Threads, join};
+use std::{env, io};
 use turn_core::{Pass, Turned, Turns};
 
 /// The turns of one run.
