@@ -7,7 +7,7 @@ use Rattle.atomic_table.specs.Table.{State, Me, opening, Seen, Final}
 use Rattle.turn_core.specs.declared.view.Call.{Call}
 use Rattle.turn_core.specs.declared.view.View.{View}
 use Rattle.turn_core.specs.declared.view.Kept.{Kept}
-use Rattle.turn_core.specs.Rule.{InTurn, Fits, AtHome, Away, share, has, OneList}
+use Rattle.turn_core.specs.Rule.{Numbered, InTurn, Fits, AtHome, Away, share, has, OneList}
 use Rattle.turn_core.specs.Views.{Counted, IsWhole, numbers, StandsFor, newcomer, all_shares}
 use Rattle.turn_core.proofs.Numbers.{start_numbers}
 use Rattle.turn_core.proofs.Parts.{one_view, true_not_false, none_some, same_or_not, sum_of-two, only}
@@ -86,17 +86,16 @@ module _ {T A S : Type 0} (stands : T → T → List (A × S) → Type 0) where
       (h.0, some-injective x (Some h.0) (sym e ∙ here), h.2)
 
   -- each call of the whole list was made under a number that the last pass knows
-  pub last_list : (o : T) (id : ℕ) (v : D) (ws : List ℕ) (xs : List (Option K)) → v.share ≡ all_shares → v.served ≡ false → Final (Seen (OneList stands o) id v) ws xs → IsWhole v
-  last_list o id v ws xs all idle last =
-      let s = last.0 in
-      let log = last.1.0.0 in
-      let n = last.1.0.3 in
-      let r = last.1.0.2 in
+  pub whole_list : (o : T) (log : List (Call A S)) (drawn : ℕ) (s : St) → InTurn stands o log drawn s → Numbered log s.views → (id : ℕ) (v : D) → get_elem? s.views id ≡ some v → v.served ≡ false → v.share ≡ all_shares → IsWhole v
+  whole_list o log drawn s r n id v at idle all =
       let whole : All (λ c. Contains (numbers v) c.by) log = λ k c h. (let known = n.known k c h in ⊎_elim
-      (λ (same : known.0 ≡ id). subst (λ (u : D). Contains (numbers u) (get_or log k c).by) (sym (one_view s.views id v known.1 last.1.1 (subst (λ (j : ℕ). get_elem? s.views j ≡ some known.1) same known.2))) known.4)
-      (λ (apart : known.0 ≢ id). absurd (let gone = others_spent o log last.1.0.1 s r id v last.1.1 idle all known.0 known.1 apart known.2 in omega (arith, gone, known.3)))
+      (λ (same : known.0 ≡ id). subst (λ (u : D). Contains (numbers u) (get_or log k c).by) (sym (one_view s.views id v known.1 at (subst (λ (j : ℕ). get_elem? s.views j ≡ some known.1) same known.2))) known.4)
+      (λ (apart : known.0 ≢ id). absurd (let gone = others_spent o log drawn s r id v at idle all known.0 known.1 apart known.2 in omega (arith, gone, known.3)))
       (same_or_not known.0 id)) in
-      subst (All (λ c. Contains (numbers v) c.by)) (sym (sees_all o log last.1.0.1 s r id v last.1.1 idle all)) whole
+      subst (All (λ c. Contains (numbers v) c.by)) (sym (sees_all o log drawn s r id v at idle all)) whole
+
+  pub last_list : (o : T) (id : ℕ) (v : D) (ws : List ℕ) (xs : List (Option K)) → v.share ≡ all_shares → v.served ≡ false → Final (Seen (OneList stands o) id v) ws xs → IsWhole v
+  last_list o id v ws xs all idle (s, ((log, drawn, r, n), at), words, len, homes) = whole_list o log drawn s r n id v at idle all
 
   -- and what is said of the calls under these numbers
   pub last_counted : (o : T) (id : ℕ) (v : D) (ws : List ℕ) (xs : List (Option K)) → 0 < v.share → Final (Seen (OneList stands o) id v) ws xs → Counted v

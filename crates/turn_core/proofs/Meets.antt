@@ -10,10 +10,11 @@ use Rattle.turn_core.specs.declared.view.View.{View}
 use Rattle.turn_core.specs.declared.view.Kept.{Kept}
 use Rattle.turn_core.specs.Plays.{Learns, Learned}
 use Rattle.turn_core.specs.Rule.{InTurn, Fits, AtHome, Away, out, share, has, OneList, IsOut}
-use Rattle.turn_core.specs.Views.{AtRest, both, spent, Joined, Counted}
+use Rattle.turn_core.specs.Views.{AtRest, both, spent, Joined, Counted, IsWhole, all_shares}
 use Rattle.turn_core.proofs.Numbers.{meet_numbers}
 use Rattle.turn_core.proofs.Parts.{sum_of-replaced, one_view, placed, true_not_false, none_some, same_or_not}
 use Rattle.turn_core.proofs.Prefixes.{longer_prefix, shorter_begins, longer_whole, each_begins}
+use Rattle.turn_core.proofs.Ends.{whole_list}
 
 module _ {T A S : Type 0} (stands : T → T → List (A × S) → Type 0) where
   abbrev D : Type 0
@@ -154,19 +155,19 @@ module _ {T A S : Type 0} (stands : T → T → List (A × S) → Type 0) where
         meet_numbers log s.views numbers id other m.0 n.0 at apart at_n a.3 b.3 (r.each id m.0 at).prefix (r.each other n.0 at_n).prefix,
       )
 
-  pub learns : (o : T) (slots id : ℕ) (m : M) → 0 < m.0.share → Allows (OneList stands o) slots id m 1 (λ n. n) (Learns (step slots 1 0 0 none) m)
-  learns o slots id m live s (log, drawn, r, n) deep at small =
+  pub learns : (o : T) (slots id : ℕ) (m : M) → AtRest m → Allows (OneList stands o) slots id m 1 (λ n. n) (Learns (step slots 1 0 0 none) m)
+  learns o slots id m (empty, free, idle, live) s (log, drawn, r, n) deep at small =
       let same_words : set s.words 1 (get_or s.words 1 0) ≡ s.words = ap (λ (ws : List ℕ). set ws 1 (get_or ws 1 0)) r.words ∙ sym r.words in (
         m.0,
         keeps,
         tt,
         subst (λ (z : List ℕ × List D). OneList stands o (record { words = z.0; homes = s.homes; views = z.1 })) (λ i. (sym same_words i, sym (set_again s.views id m.0 at) i)) (log, drawn, r, n),
-        ((r.each id m.0 at).older, (n.named id m.0 at live).counted, refl),
+        ((r.each id m.0 at).older, (n.named id m.0 at live).counted, whole_list stands o log drawn s r n id m.0 at idle, refl),
       )
 
   pub is_joined : (m m' m'' n : M) → m' ≡ (both m.0 n.0, m.1) → Learned m' m'' → Joined m.0 n.0 m''.0
   is_joined m m' m'' n joined learned =
-      let is : m''.0 ≡ both m.0 n.0 = ap (λ (x : M). x.0) (learned.2 ∙ joined) in
+      let is : m''.0 ≡ both m.0 n.0 = ap (λ (x : M). x.0) (learned.3 ∙ joined) in
       let older = subst (λ (x : M). IsPrefix x.0.older x.0.seen) joined learned.0 in
       let two = each_begins m.0.seen n.0.seen older in record {
         both = is;
@@ -176,4 +177,7 @@ module _ {T A S : Type 0} (stands : T → T → List (A × S) → Type 0) where
 
   -- what is known of a pass that did not change
   pub still_counted : (m m' : M) → Learned m m' → Counted m'.0
-  still_counted m m' learned = subst (λ (x : M). Counted x.0) (sym learned.2) learned.1
+  still_counted m m' learned = subst (λ (x : M). Counted x.0) (sym learned.3) learned.1
+
+  pub still_whole_list : (m m' : M) → Learned m m' → m'.0.share ≡ all_shares → IsWhole m'.0
+  still_whole_list m m' learned = subst (λ (x : M). x.0.share ≡ all_shares → IsWhole x.0) (sym learned.3) learned.2

@@ -137,8 +137,7 @@ module _ {T A S : Type 0} (stands : T → T → List (A × S) → Type 0) where
           moved_keeps log s.views n id v d at (live opening log drawn s r id v at served k d for),
         ),
         λ k' d' same last'. (
-          refl,
-          ap (moved v) (some_same d d' (sym last ∙ ap (λ (c : List (ℕ × Option K)). last_of c) same ∙ last')),
+          (λ i. (moved v (some_same d d' (sym last ∙ ap (λ (c : List (ℕ × Option K)). last_of c) same ∙ last') i), [])),
           (moved_named log s.views n id v d at (live opening log drawn s r id v at served k d for)).counted,
         ),
       )

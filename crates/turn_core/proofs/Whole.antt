@@ -1,5 +1,5 @@
 -- A whole turn: drawn, served, called, and moved on.
-use Rattle.std.proofs.Common.{◌≡◌, ◌≢◌, ◌∙◌, sym, ap, subst, ℕ, ◌%◌, ◌^◌, ◌<◌, List, [], ◌∷◌, ◌++◌, Option, Some, None, true, false}
+use Rattle.std.proofs.Common.{◌≡◌, ◌∙◌, sym, ap, subst, ℕ, ◌%◌, ◌^◌, ◌<◌, List, [], ◌∷◌, ◌++◌, Option, Some, None, true, false}
 use Rattle.atomic_table.specs.Table.{Me}
 use Rattle.turn_core.specs.declared.view.Call.{Call}
 use Rattle.turn_core.specs.declared.view.View.{View}
@@ -82,5 +82,5 @@ module _ {T A S : Type 0} (stands : T → T → List (A × S) → Type 0) where
         (lawful_of stands lawful law m₃.0.opening k.value (m₂.0.seen ++ next_call m₂.0 d.ask.value d.say.value ∷ []) for first (sym (ap (λ (u : D). u.opening) is) ∙ opened))
 
   pub served_from : (m m' n : M) (t found : ℕ) → m' ≡ m → m.0.ticket ≡ Some t → found ≡ t % 2 ^ 64
-      → ((t : ℕ) → m'.0.ticket ≡ Some t → (found ≡ t % 2 ^ 64 → Served stands m' n) × (found ≢ t % 2 ^ 64 → n ≡ m')) → Served stands m n
-  served_from m m' n t found same mine hit looked = subst (λ (x : M). Served stands x n) same ((looked t (ap (λ (x : M). x.0.ticket) same ∙ mine)).0 hit)
+      → ((t : ℕ) → m'.0.ticket ≡ Some t → found ≡ t % 2 ^ 64 → Served stands m' n) → Served stands m n
+  served_from m m' n t found same mine hit looked = subst (λ (x : M). Served stands x n) same (looked t (ap (λ (x : M). x.0.ticket) same ∙ mine) hit)

@@ -5,7 +5,7 @@ use Rattle.atomic_table.specs.Table.{Me, Step}
 use Rattle.turn_core.specs.declared.view.Done.{Done}
 use Rattle.turn_core.specs.declared.view.Kept.{Kept}
 use Rattle.turn_core.specs.declared.view.View.{View}
-use Rattle.turn_core.specs.Views.{Counted, StandsFor, next_call}
+use Rattle.turn_core.specs.Views.{Counted, IsWhole, StandsFor, all_shares, next_call}
 
 -- what a pass knows, and the slot if it has taken it
 abbrev pub Place : Type 0 → Type 0 → Type 0 → Type 0
@@ -22,15 +22,19 @@ module _ {T A S : Type 0} where
       let call = next_call v d.ask.value d.say.value in
       record v { seen = v.seen ++ call ∷ []; made = v.made ++ call ∷ []; ticket = None; served = false }
 
+  -- the call is the last one of the list, the value was given back, and the calls under the pass's numbers are those
+  -- that were made
+  abbrev pub Moved : Place T A S → Done A S → Place T A S → Type 0
+  Moved m d m' = (m' ≡ (moved m.0 d, [])) × Counted m'.0
+
   -- move: the call that the slot tells of is the last one of the list, and the value is given back
   abbrev pub Moves : Step (Option (Kept T A S)) → Place T A S → ℕ → Place T A S → Type 0
-  Moves st m found m' = (k : Kept T A S) (d : Done A S) → m.1 ≡ (0, Some k) ∷ [] → k.last ≡ Some d
-      → (m'.1 ≡ []) × (m'.0 ≡ moved m.0 d) × Counted m'.0
+  Moves st m found m' = (k : Kept T A S) (d : Done A S) → m.1 ≡ (0, Some k) ∷ [] → k.last ≡ Some d → Moved m d m'
 
-  -- nothing changed: the calls under its numbers are those that were made, and the shorter of the lists of a
-  -- meeting begins the longer
+  -- nothing changed: the shorter of the lists of a meeting begins the longer; the calls under the pass's numbers are
+  -- those that were made; and where it has every share it knows all calls
   abbrev pub Learned : Place T A S → Place T A S → Type 0
-  Learned m m' = IsPrefix m.0.older m.0.seen × Counted m.0 × (m' ≡ m)
+  Learned m m' = IsPrefix m.0.older m.0.seen × Counted m.0 × (m.0.share ≡ all_shares → IsWhole m.0) × (m' ≡ m)
 
   -- look after a split or a meeting
   abbrev pub Learns : Step (Option (Kept T A S)) → Place T A S → ℕ → Place T A S → Type 0

@@ -1,9 +1,8 @@
 // The steps of a turn.
-ghost use Rattle.std.specs.Prelude.{◌≡◌, ◌≢◌, ◌⊎◌, ℕ, ◌+◌, ◌%◌, ◌^◌, ◌<◌, ◌≤◌, List, [], ◌∷◌, ◌++◌, Some, None, true, false};
-ghost use mathlib.Core.List.{IsPrefix};
-ghost use Rattle.turn_core.specs.Plays.{Learned, Served, moved};
-ghost use Rattle.turn_core.specs.Rule.{has};
-ghost use Rattle.turn_core.specs.Views.{AtRest, Called, Counted, IsLawful, StandsFor, next_call};
+ghost use Rattle.std.specs.Prelude.{◌≡◌, ◌≢◌, ℕ, ◌%◌, ◌^◌, ◌<◌, [], ◌∷◌, Some, true};
+ghost use Rattle.turn_core.specs.Plays.{Learned, Moved, Served};
+ghost use Rattle.turn_core.specs.Seats.{IsSeatAt, IsSameSeat, IsWaiting, IsWaitingWith, HasValue, HasCalled, HasAnswered};
+ghost use Rattle.turn_core.specs.Views.{AtRest, Called, Counted, IsLawful};
 
 use crate::rule::{Held, Known, Law};
 use crate::turned::Turned;
@@ -62,30 +61,31 @@ const TICKET: usize = 0;
 const SERVING: usize = 1;
 
 pub(crate) fn draw_ticket<T: Turned>(top: &Top<T>, place: &mut Place<T>) -> u64
-    requires table { (place.old.table_id ≡ top.now.table_id) × (top.now.table_id.words ≡ 2) × (top.now.table_id.slots ≡ 1) }
+    requires table { IsSeatAt top.now place.old }
     requires rest { AtRest place.old.me }
-    ensures same { (place.new.table_id ≡ place.old.table_id) × (place.new.id ≡ place.old.id) }
+    ensures same { IsSameSeat place.old place.new }
     ensures drawn { (t : ℕ) × (result ≡ t % 2 ^ 64) × (place.new.me ≡ (record place.old.me.0 { ticket = Some t }, [])) }
 {
     top.fetch_add::<Draw>(place, TICKET, 1)
 }
 
 pub(crate) fn look_once<T: Turned>(top: &Top<T>, place: &mut Place<T>) -> u64
-    requires table { (place.old.table_id ≡ top.now.table_id) × (top.now.table_id.words ≡ 2) × (top.now.table_id.slots ≡ 1) }
-    requires waits { (place.old.me.1 ≡ []) × (has place.old.me.0.ticket ≡ 1) × (place.old.me.0.served ≡ false) }
-    ensures same { (place.new.table_id ≡ place.old.table_id) × (place.new.id ≡ place.old.id) }
-    ensures looked { (t : ℕ) → place.old.me.0.ticket ≡ Some t → (result ≡ t % 2 ^ 64 → Served T.stands place.old.me place.new.me) × (result ≢ t % 2 ^ 64 → place.new.me ≡ place.old.me) }
+    requires table { IsSeatAt top.now place.old }
+    requires waits { IsWaiting place.old.me }
+    ensures same { IsSameSeat place.old place.new }
+    ensures served { (t : ℕ) → place.old.me.0.ticket ≡ Some t → result ≡ t % 2 ^ 64 → Served T.stands place.old.me place.new.me }
+    ensures waits { (t : ℕ) → place.old.me.0.ticket ≡ Some t → result ≢ t % 2 ^ 64 → place.new.me ≡ place.old.me }
 {
     top.load::<Look<T>>(place, SERVING)
 }
 
 // Ends the turn: the call is then in the list, and the next ticket is served.
 pub(crate) fn move_on<T: Turned>(top: &Top<T>, place: &mut Place<T>)
-    requires table { (place.old.table_id ≡ top.now.table_id) × (top.now.table_id.words ≡ 2) × (top.now.table_id.slots ≡ 1) }
+    requires table { IsSeatAt top.now place.old }
     requires served { place.old.me.0.served ≡ true }
-    requires holds { (k : _) × (d : _) × (place.old.me.1 ≡ (0, Some k) ∷ []) × (k.last ≡ Some d) × StandsFor T.stands place.old.me.0.opening k.value (place.old.me.0.seen ++ next_call place.old.me.0 d.ask.value d.say.value ∷ []) }
-    ensures same { (place.new.table_id ≡ place.old.table_id) × (place.new.id ≡ place.old.id) }
-    ensures called { (k : _) (d : _) → place.old.me.1 ≡ (0, Some k) ∷ [] → k.last ≡ Some d → (place.new.me ≡ (moved place.old.me.0 d, [])) × Counted place.new.me.0 }
+    requires holds { HasCalled T.stands place.old.me }
+    ensures same { IsSameSeat place.old place.new }
+    ensures called { (k : _) (d : _) → place.old.me.1 ≡ (0, Some k) ∷ [] → k.last ≡ Some d → Moved place.old.me d place.new.me }
 {
     top.fetch_add::<Move>(place, SERVING, 1);
     top.wake_all(SERVING);
@@ -93,10 +93,11 @@ pub(crate) fn move_on<T: Turned>(top: &Top<T>, place: &mut Place<T>)
 
 // Takes the value out of the slot, makes the call, and puts it back.
 pub(crate) fn call<T: Turned>(top: &Top<T>, place: &mut Place<T>, ask: &T::Ask) -> T::Say
-    requires table { (place.old.table_id ≡ top.now.table_id) × (top.now.table_id.words ≡ 2) × (top.now.table_id.slots ≡ 1) }
-    requires holds { (k : _) × (place.old.me.1 ≡ (0, Some k) ∷ []) × StandsFor T.stands place.old.me.0.opening k.value place.old.me.0.seen }
-    ensures same { (place.new.table_id ≡ place.old.table_id) × (place.new.id ≡ place.old.id) × (place.new.me.0 ≡ place.old.me.0) }
-    ensures called { (k : _) × (d : _) × (place.new.me.1 ≡ (0, Some k) ∷ []) × (k.last ≡ Some d) × (d.ask.value ≡ ask.now) × (d.say.value ≡ result) × StandsFor T.stands place.new.me.0.opening k.value (place.old.me.0.seen ++ next_call place.old.me.0 d.ask.value d.say.value ∷ []) }
+    requires table { IsSeatAt top.now place.old }
+    requires holds { HasValue T.stands place.old.me }
+    ensures same { IsSameSeat place.old place.new }
+    ensures view { place.new.me.0 ≡ place.old.me.0 }
+    ensures called { HasAnswered T.stands place.old.me.0 ask.now result place.new.me }
 {
     let Some(kept) = top.exchange(place, 0, None) else {
         unreachable!()
@@ -118,9 +119,9 @@ pub(crate) fn call<T: Turned>(top: &Top<T>, place: &mut Place<T>, ask: &T::Ask) 
 
 // Parks until the ticket is served.
 pub(crate) fn wait_for<T: Turned, R: Wait>(rt: &R, top: &Top<T>, place: &mut Place<T>, ticket: u64)
-    requires table { (place.old.table_id ≡ top.now.table_id) × (top.now.table_id.words ≡ 2) × (top.now.table_id.slots ≡ 1) }
-    requires waits { (place.old.me.1 ≡ []) × (place.old.me.0.served ≡ false) × ((t : ℕ) × (ticket ≡ t % 2 ^ 64) × (place.old.me.0.ticket ≡ Some t)) }
-    ensures same { (place.new.table_id ≡ place.old.table_id) × (place.new.id ≡ place.old.id) }
+    requires table { IsSeatAt top.now place.old }
+    requires waits { IsWaitingWith place.old.me ticket }
+    ensures same { IsSameSeat place.old place.new }
     ensures served { Served T.stands place.old.me place.new.me }
 {
     for _ in rt.forever() {
@@ -140,9 +141,9 @@ pub(crate) fn take_turn<T: Turned, R: Wait>(
     place: &mut Place<T>,
     ask: &T::Ask,
 ) -> T::Say
-    requires table { (place.old.table_id ≡ top.now.table_id) × (top.now.table_id.words ≡ 2) × (top.now.table_id.slots ≡ 1) }
+    requires table { IsSeatAt top.now place.old }
     requires rest { AtRest place.old.me }
-    ensures same { (place.new.table_id ≡ place.old.table_id) × (place.new.id ≡ place.old.id) }
+    ensures same { IsSameSeat place.old place.new }
     ensures rest { AtRest place.new.me }
     ensures called { Called place.old.me.0 ask.now result place.new.me.0 }
     ensures counted { Counted place.new.me.0 }
@@ -157,9 +158,9 @@ pub(crate) fn take_turn<T: Turned, R: Wait>(
 
 // Tells what is known of a pass: nothing changes.
 pub(crate) fn look_back<T: Turned>(top: &Top<T>, place: &mut Place<T>)
-    requires table { (place.old.table_id ≡ top.now.table_id) × (top.now.table_id.words ≡ 2) }
-    requires live { 0 < place.old.me.0.share }
-    ensures same { (place.new.table_id ≡ place.old.table_id) × (place.new.id ≡ place.old.id) }
+    requires table { IsSeatAt top.now place.old }
+    requires rest { AtRest place.old.me }
+    ensures same { IsSameSeat place.old place.new }
     ensures learned { Learned place.old.me place.new.me }
 {
     top.load::<LookBack>(place, SERVING);

@@ -81,6 +81,7 @@ fn three_and_one<R: Wait>(rt: &R, turns: &Turns<Counter>, pass: &mut Pass<Counte
     requires new { view pass.old ≡ newcomer (record { count = 0 }) }
     ensures own { IsPassOf turns.now pass.new }
     ensures shares { (view pass.new).share ≡ (view pass.old).share }
+    ensures all { length (view pass.new).seen ≡ 4 }
     ensures first { length (calls_of 0 (view pass.new).seen) ≡ 3 }
     ensures second { length (calls_of 1 (view pass.new).seen) ≡ 1 }
 {

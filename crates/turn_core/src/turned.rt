@@ -3,8 +3,10 @@ ghost use Rattle.std.specs.Prelude.{◌≡◌, List, [], ◌∷◌, ◌++◌};
 
 /// A value whose calls threads make in turns.
 pub trait Turned {
+    /// What is asked of it.
     type Ask;
 
+    /// What it says.
     type Say;
 
     // The value now stands for these calls, in order, since it was the first value.

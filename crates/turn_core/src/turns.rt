@@ -100,6 +100,7 @@ impl<T: Turned> TicketLock<Held<T>, Known<T>, Snapshot<T>, Law<T>> {
         ensures own { IsPassOf self.now pass.new }
         ensures met { Joined (view pass.old) (view other) (view pass.new) }
         ensures counted { Counted (view pass.new) }
+        ensures whole { (view pass.new).share ≡ all_shares → IsWhole (view pass.new) }
     {
         let TicketPass { seat, calls: _ } = other;
         self.table.shared.join_seat::<Meeting>(&mut pass.seat, seat);

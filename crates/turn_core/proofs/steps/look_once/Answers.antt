@@ -8,3 +8,6 @@ load-requires g c = (
   omega (arith, c.requires.table.1),
   looks g.T.Turned.stands c.args.top.now.key.value c.args.top.now.table_id.slots c.args.place.now.id c.args.place.now.me c.requires.waits.0 c.requires.waits.1 c.requires.waits.2,
 )
+
+pub returns-clause-served : goal.returns-clause-served
+returns-clause-served g c t mine hit = (c.load.ensures.2 t mine).0 hit

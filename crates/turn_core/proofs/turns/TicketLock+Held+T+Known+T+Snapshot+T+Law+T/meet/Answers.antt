@@ -1,5 +1,5 @@
 use Rattle.std.proofs.Common.{arith}
-use Rattle.turn_core.proofs.Meets.{meets, is_joined}
+use Rattle.turn_core.proofs.Meets.{meets, is_joined, still_whole_list}
 use Rattle.turn_core.proofs.turns.TicketLock+Held+T+Known+T+Snapshot+T+Law+T.meet.Goals as goal
 
 pub join_seat-requires : goal.join_seat-requires
@@ -17,3 +17,6 @@ join_seat-requires g c =
 pub returns-clause-met : goal.returns-clause-met
 returns-clause-met g c =
     is_joined g.T.Turned.stands c.args.pass.now.seat.me c.join_seat.new.seat.me c.look_back.new.place.me c.args.other.seat.me c.join_seat.ensures.2 c.look_back.ensures.learned
+
+pub returns-clause-whole : goal.returns-clause-whole
+returns-clause-whole g c = still_whole_list g.T.Turned.stands c.join_seat.new.seat.me c.look_back.new.place.me c.look_back.ensures.learned
