@@ -1,0 +1,70 @@
+#!/bin/sh
+# Kills a run by signal 9 while it makes buckets, and shows that each bucket that was acknowledged is there afterwards.
+#
+#   killed.sh PROGRAM [TIMES]
+#
+# Each time another run gets the same requests from a folder of its own and is killed a little later than the one before.
+# Then a run over the same journal is asked for the acknowledged buckets again: each has to be refused as existing. Of the
+# bucket behind them nothing is asked, since its command may be in the journal or not. Prints 'N passed, M failed' last;
+# ends with 1 where a case failed.
+set -u
+
+for tool in mktemp head grep sleep awk; do
+    if ! command -v "$tool" >/dev/null 2>&1; then
+        echo "skipped: there is no command $tool"
+        exit 0
+    fi
+done
+if [ ! -x "${1:-}" ]; then
+    echo "skipped: there is no program '${1:-}'"
+    exit 0
+fi
+program=$(CDPATH='' cd -- "$(dirname -- "$1")" && pwd)/$(basename -- "$1")
+times=${2:-20}
+work=$(mktemp -d) || exit 1
+trap 'rm -rf "$work"' EXIT
+trap 'exit 1' HUP INT TERM
+passed=0
+failed=0
+acked_in_all=0
+
+cd "$work" || exit 1
+awk 'BEGIN { for (n = 100000; n < 120000; n++) printf "PUT /buckets/bucket-%d HTTP/1.1\r\nHost: office\r\n\r\n", n }' >requests
+
+# How many replies with this status a file holds.
+replies() {
+    # A reply has no line end behind it, so that two stand in one line.
+    grep -a -o "HTTP/1.1 $1 " "$2" | grep -c .
+}
+
+# One kill, this many milliseconds after the start.
+case_of() {
+    rm -rf office-data
+    "$program" init >/dev/null || return 1
+    "$program" run <requests >said 2>notes &
+    run=$!
+    sleep "$(awk -v ms="$1" 'BEGIN { printf "%.3f", ms / 1000 }')"
+    kill -9 "$run" 2>/dev/null
+    wait "$run" 2>/dev/null
+    acked=$(replies 201 said)
+    acked_in_all=$((acked_in_all + acked))
+    # A request is three lines.
+    head -n $((3 * acked)) requests >again
+    "$program" run <again >said_again 2>notes_again || return 1
+    [ "$(replies 409 said_again)" = "$acked" ] && [ "$(replies 201 said_again)" = 0 ]
+}
+
+n=0
+while [ "$n" -lt "$times" ]; do
+    after=$((5 + 17 * n % 300))
+    if case_of "$after"; then
+        passed=$((passed + 1))
+    else
+        failed=$((failed + 1))
+        echo "failed: killed after $after ms"
+    fi
+    n=$((n + 1))
+done
+echo "acknowledged: $acked_in_all"
+echo "$passed passed, $failed failed"
+[ "$failed" = 0 ]
