@@ -1,0 +1,48 @@
+#!/usr/bin/env python3
+"""How fast a journal is opened: python3 bench/opening.py PROGRAM [FOLDER] [ROUNDS] [ENTRIES]
+
+PROGRAM is crates/office_cli/out/office_cli. A journal with ENTRIES buckets (100,000) is made in FOLDER; then runs over an empty
+input, which open it and end, alternate with plain reads of the same file by this script. The time of a run includes the start of
+the process, about a millisecond.
+"""
+import datetime
+import os
+import statistics
+import subprocess
+import sys
+import tempfile
+import time
+
+
+def seconds(call):
+    start = time.perf_counter()
+    call()
+    return time.perf_counter() - start
+
+
+def read_all(path):
+    with open(path, "rb") as file:
+        return file.read()
+
+
+def main(program, folder=None, rounds=9, entries=100_000):
+    with tempfile.TemporaryDirectory(dir=folder) as work:
+        subprocess.run([program, "init"], cwd=work, check=True, stdout=subprocess.DEVNULL)
+        requests = b"".join(b"PUT /buckets/bucket-%06d HTTP/1.1\r\nHost: office\r\n\r\n" % n for n in range(entries))
+        made = subprocess.run([program, "run"], cwd=work, check=True, input=requests, capture_output=True).stdout
+        if made.count(b"HTTP/1.1 201 ") != entries:
+            sys.exit("not all buckets were made")
+        journal = os.path.join(work, "office-data", "journal")
+        opens, reads = [], []
+        for _ in range(rounds):
+            opens.append(seconds(lambda: subprocess.run([program, "run"], cwd=work, check=True, stdin=subprocess.DEVNULL)))
+            reads.append(seconds(lambda: read_all(journal)))
+        opened, read = statistics.median(opens), statistics.median(reads)
+        print(f"entries {entries} bytes {os.path.getsize(journal)} open_seconds {opened:.4f} read_seconds {read:.4f}", end=" ")
+        print(f"entries_per_second {entries / opened:.0f} rounds {rounds} date {datetime.date.today()}")
+
+
+if __name__ == "__main__":
+    if not 2 <= len(sys.argv) <= 5:
+        sys.exit(__doc__)
+    main(os.path.abspath(sys.argv[1]), *sys.argv[2:3], *map(int, sys.argv[3:]))
