@@ -6,23 +6,9 @@
 # Prints one line a case, and 'N passed, M failed' last; ends with 1 where a case failed.
 set -u
 
-for tool in mktemp cmp head tr sed awk; do
-    if ! command -v "$tool" >/dev/null 2>&1; then
-        echo "skipped: there is no command $tool"
-        exit 0
-    fi
-done
-if [ ! -x "${1:-}" ]; then
-    echo "skipped: there is no program '${1:-}'"
-    exit 0
-fi
-program=$(CDPATH='' cd -- "$(dirname -- "$1")" && pwd)/$(basename -- "$1")
-work=$(mktemp -d) || exit 1
-trap 'rm -rf "$work"' EXIT
-trap 'exit 1' HUP INT TERM
+tools='cmp head tr sed awk'
+. "$(dirname -- "$0")/common"
 cd "$work" || exit 1
-passed=0
-failed=0
 
 printf 'HTTP/1.1 501 Not Implemented\r\ncontent-type: application/json\r\ncontent-length: 33\r\n\r\n{"error":"NotBuilt","number":119}' >not_built
 printf 'HTTP/1.1 201 Created\r\ncontent-type: application/json\r\ncontent-length: 17\r\n\r\n{"bucket":"logs"}' >made

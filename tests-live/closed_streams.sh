@@ -7,22 +7,8 @@
 # then writes its replies there. Prints one line a case, and 'N passed, M failed' last; ends with 1 where a case failed.
 set -u
 
-for tool in mktemp od tr; do
-    if ! command -v "$tool" >/dev/null 2>&1; then
-        echo "skipped: there is no command $tool"
-        exit 0
-    fi
-done
-if [ ! -x "${1:-}" ]; then
-    echo "skipped: there is no program '${1:-}'"
-    exit 0
-fi
-program=$(CDPATH='' cd -- "$(dirname -- "$1")" && pwd)/$(basename -- "$1")
-work=$(mktemp -d) || exit 1
-trap 'rm -rf "$work"' EXIT
-trap 'exit 1' HUP INT TERM
-passed=0
-failed=0
+tools='od tr'
+. "$(dirname -- "$0")/common"
 
 # The open gate and the mark A5 'METERJRN1', a closed gate; and, with an entry between them, the entry's length, eight
 # bytes of its moment, and what makes the bucket 'logs'.

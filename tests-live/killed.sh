@@ -9,23 +9,9 @@
 # ends with 1 where a case failed.
 set -u
 
-for tool in mktemp head grep sleep awk; do
-    if ! command -v "$tool" >/dev/null 2>&1; then
-        echo "skipped: there is no command $tool"
-        exit 0
-    fi
-done
-if [ ! -x "${1:-}" ]; then
-    echo "skipped: there is no program '${1:-}'"
-    exit 0
-fi
-program=$(CDPATH='' cd -- "$(dirname -- "$1")" && pwd)/$(basename -- "$1")
+tools='head grep sleep awk'
+. "$(dirname -- "$0")/common"
 times=${2:-20}
-work=$(mktemp -d) || exit 1
-trap 'rm -rf "$work"' EXIT
-trap 'exit 1' HUP INT TERM
-passed=0
-failed=0
 acked_in_all=0
 
 cd "$work" || exit 1
@@ -65,6 +51,11 @@ while [ "$n" -lt "$times" ]; do
     fi
     n=$((n + 1))
 done
+# Kills that come before any reply would show nothing.
+if [ "$acked_in_all" = 0 ]; then
+    failed=$((failed + 1))
+    echo "failed: no bucket was acknowledged before a kill"
+fi
 echo "acknowledged: $acked_in_all"
 echo "$passed passed, $failed failed"
 [ "$failed" = 0 ]
