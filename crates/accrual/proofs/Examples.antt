@@ -1,0 +1,64 @@
+-- Worked examples, computed.
+use Rattle.std.proofs.Common.{◌≡◌, ℕ, ◌+◌, ◌*◌, List, [], ◌∷◌, refl}
+use Rattle.std.specs.Prelude.{Some, None}
+use Rattle.jiff_core.specs.Calendar.{days_of_months}
+use Rattle.moments.specs.Time.{day}
+use Rattle.moments.specs.Months.{first_day}
+use Rattle.class_rules.specs.Lines.{object_lines}
+use Rattle.class_rules.specs.declared.class.Class.TheVariants.{Standard, StandardIa, Glacier}
+use Rattle.accrual.specs.Books.{Book, empty_book, open_stay, ended_stay}
+use Rattle.accrual.specs.Meters.{meter, early_quantity, move_count}
+
+-- 2024-01-01 00:00 UTC; January 2024 is month 648, counted from January 1970
+abbrev new_year : ℕ
+new_year = 1_704_067_200_000
+
+abbrev january : ℕ
+january = 648
+
+-- 1,000 bytes for a day and then 2,000 bytes for a day
+abbrev two_puts : Book
+two_puts = record empty_book { stays = ended_stay (object_lines Standard 1_000) new_year (new_year + day) ∷ open_stay (object_lines Standard 2_000) (new_year + day) ∷ [] }
+
+two_days : meter january Standard (new_year + 2 * day) two_puts ≡ 259_200_000_000
+unfolding meter first_day days_of_months
+two_days = refl
+
+-- a month later the stay without an end fills the rest of January, and has begun to fill February
+rest_of_january : meter january Standard (new_year + 40 * day) two_puts ≡ (1_000 + 2_000 * 30) * day
+unfolding meter first_day days_of_months
+rest_of_january = refl
+
+february : meter (january + 1) Standard (new_year + 40 * day) two_puts ≡ 2_000 * 9 * day
+unfolding meter first_day days_of_months
+february = refl
+
+-- a transition at 2024-01-10, looked at on 2024-01-14 12:00
+abbrev moved_on_the_tenth : Book
+moved_on_the_tenth = record empty_book {
+  stays = ended_stay (object_lines Standard 1_000_000) 1_702_198_800_000 1_704_844_800_000
+      ∷ open_stay (object_lines StandardIa 1_000_000) 1_704_844_800_000 ∷ [];
+  moves = record { class = StandardIa; moment = 1_704_844_800_000 } ∷ [];
+}
+
+warm : meter january Standard 1_705_233_600_000 moved_on_the_tenth ≡ 777_600_000_000_000
+unfolding meter first_day days_of_months
+warm = refl
+
+cold : meter january StandardIa 1_705_233_600_000 moved_on_the_tenth ≡ 388_800_000_000_000
+unfolding meter first_day days_of_months
+cold = refl
+
+one_move : move_count january StandardIa moved_on_the_tenth ≡ 1
+unfolding move_count first_day days_of_months
+one_move = refl
+
+-- an archived object has bytes in two classes
+archived : meter january Standard (new_year + day) (record empty_book { stays = open_stay (object_lines Glacier 6_144) new_year ∷ [] }) ≡ 8_192 * day
+unfolding meter first_day days_of_months
+archived = refl
+
+-- what was deleted after 10 of 30 days
+early : early_quantity january StandardIa (record empty_book { early = record { class = StandardIa; amount = 131_072 * 20 * day; moment = new_year + 10 * day } ∷ [] }) ≡ 226_492_416_000_000
+unfolding early_quantity first_day days_of_months
+early = refl

@@ -1,0 +1,62 @@
+-- What is booked of a bucket: stays, early quantities and moves.
+use Rattle.std.specs.Prelude.{ℕ, ◌≤◌, List, [], ◌∷◌, ◌++◌, Option, Some, None}
+use Rattle.std.specs.List.{AllByRecursion}
+use Rattle.class_rules.specs.declared.class.Class.{Class}
+
+-- an interval in which one version or part has its lines: from a moment to one, or without an end yet
+pub record Stay : Type 0 where
+  pub lines : List (Class × ℕ)
+  pub from : ℕ
+  pub to : Option ℕ
+
+-- what an object owes that left its class before the least duration, in byte-milliseconds, and when it left (S3 User Guide,
+-- "Understanding and managing Amazon S3 storage classes": minimum storage durations)
+pub record Early : Type 0 where
+  pub class : Class
+  pub amount : ℕ
+  pub moment : ℕ
+
+-- a lifecycle transition to a class, and when
+pub record Move : Type 0 where
+  pub class : Class
+  pub moment : ℕ
+
+-- every stay ever opened, every early quantity and every move, in the order in which they were booked
+pub record Book : Type 0 where
+  pub stays : List Stay
+  pub early : List Early
+  pub moves : List Move
+
+abbrev pub empty_book : Book
+empty_book = record { stays = []; early = []; moves = [] }
+
+-- a stay without an end yet, and one that has ended
+abbrev pub open_stay : List (Class × ℕ) → ℕ → Stay
+open_stay lines from = record { lines = lines; from = from; to = None }
+
+abbrev pub ended_stay : List (Class × ℕ) → ℕ → ℕ → Stay
+ended_stay lines from at = record { lines = lines; from = from; to = Some at }
+
+abbrev pub with_stay : Stay → Book → Book
+with_stay stay book = record book { stays = book.stays ++ stay ∷ [] }
+
+abbrev pub with_early : Early → Book → Book
+with_early early book = record book { early = book.early ++ early ∷ [] }
+
+abbrev pub with_move : Move → Book → Book
+with_move move book = record book { moves = book.moves ++ move ∷ [] }
+
+-- ---- all that is booked has happened at a moment
+
+abbrev pub HasEndedBy : ℕ → Option ℕ → Type 0
+HasEndedBy t None = Unit {0}
+HasEndedBy t (Some to) = to ≤ t
+
+abbrev pub IsStayBy : ℕ → Stay → Type 0
+IsStayBy t stay = (stay.from ≤ t) × HasEndedBy t stay.to
+
+-- no moment in the book is after this one
+pub record IsBookedBy (t : ℕ) (book : Book) : Type 0 where
+  pub stays : AllByRecursion (IsStayBy t) book.stays
+  pub early : AllByRecursion (λ early. early.moment ≤ t) book.early
+  pub moves : AllByRecursion (λ move. move.moment ≤ t) book.moves

@@ -1,0 +1,2 @@
+//! What a bucket used: byte-milliseconds by month and storage class, early quantities and moves.
+#![tactic(auto)]
