@@ -1,34 +1,90 @@
 -- Worked examples, computed.
-use Rattle.std.proofs.Common.{◌≡◌, ℕ, List, [], ◌∷◌, refl}
-use Rattle.std.specs.Prelude.{Some, None, Err, codes}
-use Rattle.plain_office.specs.Step.{step}
+use Rattle.std.specs.Prelude.{◌≡◌, ℕ, ◌+◌, ◌*◌, List, [], ◌∷◌, refl, codes, map, option_map, Option, Some, None, Result, Ok, Err}
+use Rattle.jiff_core.specs.Calendar.{days_of_months}
+use Rattle.moments.specs.Time.{day}
+use Rattle.moments.specs.Months.{first_day}
+use Rattle.accrual.specs.Meters.{meter, early_quantity, move_count}
+use Rattle.class_rules.specs.declared.class.Class.TheVariants as class
+use Rattle.office_base.specs.declared.version_id.VersionId.TheVariants.{Null}
+use Rattle.plain_office.specs.Office.{Office, Account, empty_office, new_account, book_of}
+use Rattle.plain_office.specs.Counts.{count_of}
+use Rattle.plain_office.specs.Step.{step, outcome}
+use Rattle.plain_office.specs.Answers.{answer, class_meters}
 use Rattle.plain_office.specs.Run.{accept, run}
-use Rattle.plain_office.specs.declared.command.Command.TheVariants.{CreateBucket}
+use Rattle.plain_office.specs.declared.command.Command.{Command}
+use Rattle.plain_office.specs.declared.command.Command.TheVariants as command
+use Rattle.plain_office.specs.declared.command.Query.TheVariants as query
 use Rattle.plain_office.specs.declared.command.Entry.{Entry}
-use Rattle.plain_office.specs.declared.reply.Refusal.TheVariants.{BucketExists}
+use Rattle.plain_office.specs.declared.reply.Reply.TheVariants.{BucketMade, Stored, BucketShown, MetersShown}
+use Rattle.plain_office.specs.declared.reply.Refusal.TheVariants.{BucketExists, NoSuchBucket}
 
-abbrev made_at : ℕ → List ℕ → Entry
-made_at t name = record { moment = t; command = CreateBucket name }
+abbrev at : ℕ → Command → Entry
+at t command = record { moment = t; command = command }
 
--- 2024-01-01 00:00 UTC
+-- 2024-01-01 00:00 UTC; January 2024 is month 648, counted from January 1970
 abbrev new_year : ℕ
 new_year = 1_704_067_200_000
 
+abbrev january : ℕ
+january = 648
+
+abbrev logs : List ℕ
+logs = codes "logs"
+
+abbrev a : List ℕ
+a = codes "a"
+
 -- names stand in byte order, whatever the order of the commands
-in_order : run (made_at 1 (codes "logs") ∷ made_at 2 (codes "data") ∷ []) ≡ Some (record { last = Some 2; buckets = codes "data" ∷ codes "logs" ∷ [] })
-unfolding run accept step
+in_order : run (at 1 (command.CreateBucket logs) ∷ at 2 (command.CreateBucket (codes "data")) ∷ [])
+    ≡ Some (record { last = Some 2; accounts = (codes "data", new_account) ∷ (logs, new_account) ∷ [] })
+unfolding run accept step outcome count_of
 in_order = refl
 
 -- a name is taken once
-taken : step new_year (CreateBucket (codes "logs")) (record { last = Some new_year; buckets = codes "logs" ∷ [] }) ≡ (record { last = Some new_year; buckets = codes "logs" ∷ [] }, Err BucketExists)
-unfolding step
-taken = refl
-
-not_twice : run (made_at 1 (codes "logs") ∷ made_at 1 (codes "logs") ∷ []) ≡ None
-unfolding run accept step
+not_twice : run (at 1 (command.CreateBucket logs) ∷ at 1 (command.CreateBucket logs) ∷ []) ≡ None
+unfolding run accept step outcome count_of
 not_twice = refl
 
 -- time does not go back, but may stand still
-not_back : run (made_at 2 (codes "logs") ∷ made_at 1 (codes "data") ∷ []) ≡ None
-unfolding run accept step
+not_back : run (at 2 (command.CreateBucket logs) ∷ at 1 (command.CreateBucket (codes "data")) ∷ []) ≡ None
+unfolding run accept step outcome count_of
 not_back = refl
+
+-- a put asks for its bucket
+no_bucket : (step new_year (command.Put logs a 1 class.Standard) empty_office).1 ≡ Err NoSuchBucket
+unfolding step outcome
+no_bucket = refl
+
+-- an object of 1,000 bytes, and a day later one of 2,000 bytes under the same key
+abbrev two_puts : List Entry
+two_puts = at new_year (command.CreateBucket logs) ∷ at new_year (command.Put logs a 1_000 class.Standard) ∷ at (new_year + day) (command.Put logs a 2_000 class.Standard) ∷ []
+
+-- the bucket has one version
+one_version : option_map (answer (new_year + 2 * day) (query.Bucket logs)) (run two_puts) ≡ Some (Ok (BucketShown logs 1))
+unfolding run accept step outcome count_of answer
+one_version = refl
+
+-- another day later
+two_days : option_map (answer (new_year + 2 * day) (query.Meters logs january)) (run two_puts) ≡ Some (Ok (MetersShown logs january (
+    record { class = class.Standard; byte_ms = 259_200_000_000; early_byte_ms = 0; moves = 0 }
+    ∷ record { class = class.StandardIa; byte_ms = 0; early_byte_ms = 0; moves = 0 }
+    ∷ record { class = class.OnezoneIa; byte_ms = 0; early_byte_ms = 0; moves = 0 }
+    ∷ record { class = class.GlacierIr; byte_ms = 0; early_byte_ms = 0; moves = 0 }
+    ∷ record { class = class.Glacier; byte_ms = 0; early_byte_ms = 0; moves = 0 }
+    ∷ record { class = class.DeepArchive; byte_ms = 0; early_byte_ms = 0; moves = 0 } ∷ [])))
+unfolding run accept step outcome count_of answer meter early_quantity move_count first_day days_of_months
+two_days = refl
+
+-- an object of 200,000 bytes that leaves STANDARD_IA after 10 of 30 days owes the other 20
+abbrev left_early : List Entry
+left_early = at new_year (command.CreateBucket logs) ∷ at new_year (command.Put logs a 200_000 class.StandardIa) ∷ at (new_year + 10 * day) (command.Put logs a 1 class.Standard) ∷ []
+
+abbrev early_in_january : Office → ℕ
+early_in_january office = go office.accounts where
+  go : List (List ℕ × Account) → ℕ
+  go [] = 0
+  go (entry ∷ entries) = early_quantity january class.StandardIa (book_of entry.1.books)
+
+owes : option_map early_in_january (run left_early) ≡ Some 345_600_000_000_000
+unfolding run accept step outcome count_of early_quantity first_day days_of_months
+owes = refl

@@ -1,29 +1,34 @@
--- The office as plain data.
-use Rattle.std.specs.Prelude.{ℕ, Bool, List, [], Option, None}
-use Rattle.std.specs.declared.cmp.Ordering.{Ordering}
-use Rattle.std.specs.Ordering.{nat_cmp}
-use Rattle.std.specs.Cmp.Lexicographic.{slice_cmp}
-use Rattle.std.specs.List.{list_any}
-use Rattle.std.specs.BTreeMap.{is_at}
-use Rattle.std.specs.BTreeSet.{insert_key}
+-- The office as plain data: lists and nothing else.
+use Rattle.std.specs.Prelude.{ℕ, List, [], map, Option, None}
+use Rattle.accrual.specs.Books.{Stay, Early, Move, Book}
+use Rattle.plain_office.specs.declared.object.Object.{Object}
 
--- the moment of the last accepted command, and the names of the buckets in byte order
+-- every stay ever opened, with the key of its object; every early quantity; every move
+pub record Books : Type 0 where
+  pub stays : List (List ℕ × Stay)
+  pub early : List Early
+  pub moves : List Move
+
+-- a bucket: its objects in byte order of the keys, and its books
+pub record Account : Type 0 where
+  pub objects : List (List ℕ × Object)
+  pub books : Books
+
+-- the moment of the last accepted command, and the buckets in byte order of their names
 pub record Office : Type 0 where
   pub last : Option ℕ
-  pub buckets : List (List ℕ)
+  pub accounts : List (List ℕ × Account)
+
+abbrev pub empty_books : Books
+empty_books = record { stays = []; early = []; moves = [] }
+
+abbrev pub new_account : Account
+new_account = record { objects = []; books = empty_books }
 
 -- the office before the first command
 abbrev pub empty_office : Office
-empty_office = record { last = None; buckets = [] }
+empty_office = record { last = None; accounts = [] }
 
--- texts by their bytes
-abbrev pub bytes_cmp : List ℕ → List ℕ → Ordering
-bytes_cmp = slice_cmp nat_cmp
-
--- there is a bucket of this name
-abbrev pub has_bucket : List ℕ → Office → Bool
-has_bucket name office = list_any (is_at (bytes_cmp name)) office.buckets
-
--- the names with this one at its place in the order
-abbrev pub with_bucket : List ℕ → Office → List (List ℕ)
-with_bucket name office = insert_key bytes_cmp office.buckets name
+-- what is booked, whatever its key
+abbrev pub book_of : Books → Book
+book_of books = record { stays = map (λ (stay : List ℕ × Stay). stay.1) books.stays; early = books.early; moves = books.moves }

@@ -1,12 +1,29 @@
 // What the office is asked.
-use moments::Moment;
-use office_base::BucketName;
+use class_rules::Class;
+use moments::{Moment, Month};
+use office_base::{BucketName, Key, Size};
 
 /// A change that the office is asked to make. A command that it accepts becomes an entry of the journal.
 #[derive(Drop)]
 pub enum Command {
     /// Makes a bucket, without versions or rules.
     CreateBucket { bucket: BucketName },
+    /// Puts an object under a key, in the place of the one that was there.
+    Put {
+        bucket: BucketName,
+        key: Key,
+        size: Size,
+        class: Class,
+    },
+}
+
+/// A question that changes nothing.
+#[derive(Drop)]
+pub enum Query {
+    /// What a bucket holds.
+    Bucket(BucketName),
+    /// What a bucket used in a month, by class.
+    Meters(BucketName, Month),
 }
 
 /// What a message asks.
@@ -14,6 +31,8 @@ pub enum Command {
 pub enum Ask {
     /// A change.
     Command(Command),
+    /// A question.
+    Query(Query),
 }
 
 /// An accepted command, with the moment at which it was accepted.

@@ -3,7 +3,9 @@
 #![tactic(auto)]
 
 mod command;
+mod object;
 mod reply;
 
-pub use command::{Ask, Command, Entry};
-pub use reply::{Refusal, Reply};
+pub use command::{Ask, Command, Entry, Query};
+pub use object::Object;
+pub use reply::{ClassMeters, Refusal, Reply, What};
