@@ -1,2 +1,4 @@
 pub mod Examples
+pub mod OrderlyLists
+pub mod OrderlyMaps
 pub mod Runs
