@@ -23,6 +23,28 @@ pub every_map : {X Y : Type 0} (Q : X → Type 0) (P : Y → Type 0) (f : X → 
 every_map Q P f g [] h = tt
 every_map Q P f g (x ∷ xs) h = (g x h.0, every_map Q P f g xs h.1)
 
+pub every_of_map : {X Y : Type 0} (P : Y → Type 0) (f : X → Y) (xs : List X) → AllByRecursion P (map f xs) → AllByRecursion (λ (x : X). P (f x)) xs
+every_of_map P f [] h = tt
+every_of_map P f (x ∷ xs) h = (h.0, every_of_map P f xs h.1)
+
+-- ---- one element of a list
+
+pub record Held {X : Type 0} (x : X) (xs : List X) : Type 0 where
+  pub front : List X
+  pub back : List X
+  pub is : xs ≡ front ++ x ∷ back
+
+module _ {X : Type 0} (x : X) (xs : List X) (held : Held x xs) where
+  -- a part of the sum
+  pub held_part : (f : X → ℕ) → f x ≤ sum_by f xs
+  held_part f =
+      let is = ap (λ (l : List X). sum_by f l) held.is ∙ sum_by-append f held.front (x ∷ held.back) in
+      let cons = sum_by-cons f x held.back in
+      omega (arith, is, cons)
+
+  pub held_every : (P : X → Type 0) → AllByRecursion P xs → P x
+  held_every P all = (every_parts P held.front (x ∷ held.back) (subst (AllByRecursion P) held.is all)).1.0
+
 -- ---- one element more
 
 pub record Added {X : Type 0} (x : X) (xs ys : List X) : Type 0 where
@@ -73,20 +95,10 @@ module _ {X : Type 0} (old new : X) (xs ys : List X) (r : Replaced old new xs ys
       let cons_new = sum_by-cons f new r.back in
       omega (arith, was, is, cons_old, cons_new)
 
-  -- a part of the sum
-  pub replaced_part : (f : X → ℕ) → f old ≤ sum_by f xs
-  replaced_part f =
-      let was = ap (λ (l : List X). sum_by f l) r.was ∙ sum_by-append f r.front (old ∷ r.back) in
-      let cons = sum_by-cons f old r.back in
-      omega (arith, was, cons)
-
   pub replaced_every : (P : X → Type 0) → P new → AllByRecursion P xs → AllByRecursion P ys
   replaced_every P h all =
       let parts = every_parts P r.front (old ∷ r.back) (subst (AllByRecursion P) r.was all) in
       subst (AllByRecursion P) (sym r.is) (every_append P r.front (new ∷ r.back) parts.0 (h, parts.1.1))
-
-  pub replaced_old : (P : X → Type 0) → AllByRecursion P xs → P old
-  replaced_old P all = (every_parts P r.front (old ∷ r.back) (subst (AllByRecursion P) r.was all)).1.0
 
 -- ---- one element that passes a test
 

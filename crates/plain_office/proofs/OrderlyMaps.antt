@@ -10,7 +10,7 @@ use Rattle.std.proofs.lemmas.Cmp.{tied_itself, nat_list_cmp_total}
 use Rattle.std.proofs.lemmas.Slice.Eq.{bytes_eq-Decides}
 use Rattle.std.proofs.lemmas.Map.Text.{is_eq-slice_cmp}
 use Rattle.plain_office.specs.Maps.{bytes_cmp, at_name, with_name, Rises}
-use Rattle.plain_office.proofs.OrderlyLists.{Added, Replaced, every_weaker}
+use Rattle.plain_office.proofs.OrderlyLists.{Held, Added, Replaced, added_every, replaced_every, every_weaker}
 
 -- ---- names
 
@@ -45,7 +45,21 @@ module _ {X : Type 0} where
   none_above name [] h = refl
   none_above name (e ∷ es) h = let above = less_of (bytes_cmp name e.0) h.0 in rw above (none_above name es h.1)
 
-  -- ---- what stands under a name afterwards
+  -- ---- what stands under a name, and afterwards
+
+  held_at : (name : List ℕ) (value : X) (o : Ordering) (e : List ℕ × X) (es : List (List ℕ × X)) → bytes_cmp name e.0 ≡ o → cond (is_eq o) (Some e.1) (at_name name es) ≡ Some value
+      → (at_name name es ≡ Some value → Held (name, value) es) → Held (name, value) (e ∷ es)
+  held_at name value Less e es is h more = let m = more h in record { front = e ∷ m.front; back = m.back; is = ap (λ (l : List (List ℕ × X)). e ∷ l) m.is }
+  held_at name value Equal e es is h more =
+      let same = sym (equal_same name e.0 is) in
+      let holds : e.1 ≡ value = cc in
+      record { front = []; back = es; is = λ i. (same i, holds i) ∷ es }
+  held_at name value Greater e es is h more = let m = more h in record { front = e ∷ m.front; back = m.back; is = ap (λ (l : List (List ℕ × X)). e ∷ l) m.is }
+
+  -- what stands under a name is an entry
+  pub found : (name : List ℕ) (value : X) (es : List (List ℕ × X)) → at_name name es ≡ Some value → Held (name, value) es
+  found name value [] h = absurd cc
+  found name value (e ∷ es) h = held_at name value (bytes_cmp name e.0) e es refl h (found name value es)
 
   module _ (name : List ℕ) (value : X) where
     there_at : (o : Ordering) (e : List ℕ × X) (es rest : List (List ℕ × X)) → bytes_cmp name e.0 ≡ o → at_name name rest ≡ Some value
@@ -128,3 +142,12 @@ module _ {X : Type 0} where
     pub rises_kept : (es : List (List ℕ × X)) → Rises es → Rises (with_name name value es)
     rises_kept [] rises = (tt, tt)
     rises_kept (e ∷ es) rises = rises_at (bytes_cmp name e.0) e es refl rises (rises_kept es rises.1)
+
+    -- ---- what holds of each entry
+
+    every_by : (P : List ℕ × X → Type 0) (o : Option X) (es : List (List ℕ × X)) → Rises es → at_name name es ≡ o → P (name, value) → AllByRecursion P es → AllByRecursion P (with_name name value es)
+    every_by P None es rises is h all = added_every (name, value) es (with_name name value es) (added es is) P h all
+    every_by P (Some old) es rises is h all = replaced_every (name, old) (name, value) es (with_name name value es) (replaced old es rises is) P h all
+
+    pub every_kept : (P : List ℕ × X → Type 0) (es : List (List ℕ × X)) → Rises es → P (name, value) → AllByRecursion P es → AllByRecursion P (with_name name value es)
+    every_kept P es rises = every_by P (at_name name es) es rises refl
