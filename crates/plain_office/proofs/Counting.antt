@@ -21,7 +21,7 @@ abbrev key_length : List ℕ × Object → ℕ
 key_length entry = length entry.0
 
 -- the office with these buckets
-abbrev with_accounts : Option ℕ → List (List ℕ × Account) → Office
+abbrev pub with_accounts : Option ℕ → List (List ℕ × Account) → Office
 with_accounts last accounts = record { last = last; accounts = accounts }
 
 -- no count tells the last moment
