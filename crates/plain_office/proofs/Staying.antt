@@ -4,10 +4,10 @@ use Rattle.std.specs.Prelude.{Option, Some, None, is_none, bytes_eq, if◌then�
 use Rattle.std.proofs.lemmas.List.{map-append, append-nil}
 use Rattle.std.proofs.lemmas.List.Elements.{filter-append}
 use Rattle.class_rules.specs.Lines.{object_lines}
-use Rattle.accrual.specs.Books.{Stay, ended_stay}
+use Rattle.accrual.specs.Books.{Stay, Book, ended_stay, with_stay}
 use Rattle.plain_office.specs.Maps.{at_name, with_name}
 use Rattle.plain_office.specs.Office.{Account, Books, book_of}
-use Rattle.plain_office.specs.Changes.{is_open_at, stay_of, without_object, without_option, put_object}
+use Rattle.plain_office.specs.Changes.{is_open_at, stay_of, with_object, without_object, without_option, put_object}
 use Rattle.plain_office.specs.Orderly.{stay_expected, HasOpenStays}
 use Rattle.plain_office.specs.declared.object.Object.{Object}
 use Rattle.plain_office.proofs.OrderlyLists.{Alone, alone}
@@ -85,6 +85,11 @@ one_stay key at object account has found =
       ∙ map-append (λ (s : List ℕ × Stay). s.1) a.front ((key, ended_stay (object_lines object.class object.size) object.created at) ∷ a.back),
     )
 
+-- where an object comes, its stay is booked behind the others
+pub book_with : (key : List ℕ) (object : Object) (books : Books) → book_of (with_object key object books) ≡ with_stay (stay_of object) (book_of books)
+book_with key object books =
+    ap (λ (l : List Stay). record { stays = l; early = books.early; moves = books.moves }) (map-append (λ (s : List ℕ × Stay). s.1) books.stays ((key, stay_of object) ∷ []))
+
 -- ---- after a put
 
 module _ (key : List ℕ) (object : Object) (account : Account) (has : HasOpenStays account) where
@@ -117,3 +122,14 @@ module _ (key : List ℕ) (object : Object) (account : Account) (has : HasOpenSt
 
   pub put_open : HasOpenStays (put_object key object account)
   put_open other = open_by other (bytes_eq other key) refl
+
+-- the book after a put under a new key
+pub put_new_book : (key : List ℕ) (object : Object) (account : Account) → at_name key account.objects ≡ None → book_of (put_object key object account).books ≡ with_stay (stay_of object) (book_of account.books)
+put_new_book key object account none =
+    ap (λ (o : Option Object). book_of (with_object key object (without_option key object.created o account.books))) none ∙ book_with key object account.books
+
+-- and under a key that has an object
+pub put_same_book : (key : List ℕ) (object old : Object) (account : Account) → at_name key account.objects ≡ Some old
+    → book_of (put_object key object account).books ≡ with_stay (stay_of object) (book_of (without_object key object.created old account.books))
+put_same_book key object old account is =
+    ap (λ (o : Option Object). book_of (with_object key object (without_option key object.created o account.books))) is ∙ book_with key object (without_object key object.created old account.books)
