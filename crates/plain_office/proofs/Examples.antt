@@ -1,5 +1,5 @@
 -- Worked examples, computed.
-use Rattle.std.specs.Prelude.{◌≡◌, ℕ, ◌+◌, ◌*◌, List, [], ◌∷◌, refl, codes, replicate, map, option_map, Option, Some, None, Result, Ok, Err}
+use Rattle.std.specs.Prelude.{◌≡◌, ℕ, ◌+◌, ◌*◌, List, [], ◌∷◌, ◌++◌, refl, codes, replicate, length, map, option_map, Option, Some, None, Result, Ok, Err}
 use Rattle.jiff_core.specs.Calendar.{days_of_months}
 use Rattle.moments.specs.Time.{day}
 use Rattle.moments.specs.Months.{first_day}
@@ -128,3 +128,19 @@ no_more_versions = refl
 same_key : (step new_year (command.Put logs (codes "b") 5 class.Standard) (with_versions 200_000)).1 ≡ Ok (Stored new_year Null)
 unfolding step outcome count_of with_versions
 same_key = refl
+
+-- a bucket of one object, whose key is "b" and more behind it
+with_key : List ℕ → Office
+with_key more = record {
+  last = Some new_year;
+  accounts = (logs, record { objects = (codes "b" ++ more, record { size = 5; class = class.Standard; created = new_year }) ∷ []; books = empty_books }) ∷ [];
+}
+
+-- the last byte of keys, and one byte too many
+last_byte : (more : List ℕ) → length more ≡ 536_870_910 → (step new_year (command.Put logs a 5 class.Standard) (with_key more)).1 ≡ Ok (Stored new_year Null)
+unfolding step outcome count_of with_key
+last_byte more long = rw long refl
+
+no_more_names : (more : List ℕ) → length more ≡ 536_870_911 → (step new_year (command.Put logs a 5 class.Standard) (with_key more)).1 ≡ Err (Full what.Names 536_870_912)
+unfolding step outcome count_of with_key
+no_more_names more long = rw long refl
