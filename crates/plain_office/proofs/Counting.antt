@@ -1,5 +1,5 @@
 -- The counts of an office after a put and after a new bucket, and the part of one bucket.
-use Rattle.std.proofs.Common.{◌≡◌, ℕ, ◌+◌, ◌≤◌, List, length, refl, sym, ◌∙◌, arith}
+use Rattle.std.proofs.Common.{◌≡◌, ℕ, ◌+◌, ◌≤◌, List, length, refl, arith}
 use Rattle.std.specs.Prelude.{Option, Some, None}
 use Rattle.plain_office.specs.Maps.{at_name, with_name, Rises}
 use Rattle.plain_office.specs.Office.{Office, Account, new_account}

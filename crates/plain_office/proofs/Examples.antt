@@ -1,5 +1,5 @@
 -- Worked examples, computed.
-use Rattle.std.specs.Prelude.{◌≡◌, ℕ, ◌+◌, ◌*◌, List, [], ◌∷◌, ◌++◌, refl, codes, replicate, length, map, option_map, Option, Some, None, Result, Ok, Err}
+use Rattle.std.specs.Prelude.{◌≡◌, ℕ, ◌+◌, ◌*◌, List, [], ◌∷◌, ◌++◌, refl, codes, replicate, length, option_map, Some, None, Ok, Err}
 use Rattle.jiff_core.specs.Calendar.{days_of_months}
 use Rattle.moments.specs.Time.{day}
 use Rattle.moments.specs.Months.{first_day}
@@ -9,7 +9,7 @@ use Rattle.office_base.specs.declared.version_id.VersionId.TheVariants.{Null}
 use Rattle.plain_office.specs.Office.{Office, Account, empty_office, empty_books, new_account, book_of}
 use Rattle.plain_office.specs.Counts.{count_of}
 use Rattle.plain_office.specs.Step.{step, outcome}
-use Rattle.plain_office.specs.Answers.{answer, class_meters}
+use Rattle.plain_office.specs.Answers.{answer}
 use Rattle.plain_office.specs.Run.{accept, run}
 use Rattle.plain_office.specs.declared.command.Command.{Command}
 use Rattle.plain_office.specs.declared.command.Command.TheVariants as command

@@ -7,13 +7,13 @@ use Rattle.class_rules.specs.Classes.{least_stay}
 use Rattle.class_rules.specs.Lines.{own_bytes}
 use Rattle.office_base.specs.Sizes.{largest_size}
 use Rattle.accrual.specs.Books.{Stay, Early, Move, HasEndedBy, IsStayBy, IsBookedBy}
-use Rattle.plain_office.specs.Maps.{at_name, Rises}
+use Rattle.plain_office.specs.Maps.{at_name}
 use Rattle.plain_office.specs.Office.{Office, Account, Books, new_account, book_of}
-use Rattle.plain_office.specs.Changes.{is_open_at, stay_of, owed_at, with_object, without_object, without_option, put_object}
+use Rattle.plain_office.specs.Changes.{is_open_at, stay_of, owed_at, with_object, without_option, put_object}
 use Rattle.plain_office.specs.Orderly.{IsOrderlyAccount, AreOrderly, IsOrderly}
 use Rattle.plain_office.specs.Run.{is_not_before}
 use Rattle.plain_office.specs.declared.object.Object.{Object}
-use Rattle.plain_office.proofs.OrderlyLists.{every_append, every_weaker, every_map, every_of_map, held_every}
+use Rattle.plain_office.proofs.OrderlyLists.{every_append, every_weaker, held_every}
 use Rattle.plain_office.proofs.OrderlyMaps.{found, rises_kept, every_kept}
 use Rattle.plain_office.proofs.Staying.{after_end, put_open}
 

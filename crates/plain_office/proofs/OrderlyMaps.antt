@@ -1,5 +1,5 @@
 -- Maps as lists in rising order of the names: what stands in them after a write.
-use Rattle.std.proofs.Common.{◌≡◌, ℕ, List, [], ◌∷◌, ◌++◌, refl, ap, sym, ◌∙◌, Bool, true, false, cond, subst}
+use Rattle.std.proofs.Common.{◌≡◌, ℕ, List, [], ◌∷◌, refl, ap, sym, ◌∙◌, true, false, cond}
 use Rattle.std.specs.Prelude.{Option, Some, None, bytes_eq}
 use Rattle.std.specs.Bool.{IsTrue}
 use Rattle.std.specs.declared.cmp.Ordering.{Ordering}

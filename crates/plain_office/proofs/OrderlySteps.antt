@@ -1,25 +1,24 @@
 -- Every step keeps the office orderly, and so does every run.
-use Rattle.std.proofs.Common.{◌≡◌, ℕ, ◌+◌, ◌≤◌, List, [], ◌∷◌, refl, ap, sym, ◌∙◌, Bool, true, false, ◌&&◌, cond, subst, arith, find}
-use Rattle.std.specs.Prelude.{Option, Some, None, Result, Ok, Err, nat_lt, is_some, option_and_then, if◌then◌else◌}
+use Rattle.std.proofs.Common.{◌≡◌, ℕ, ◌≤◌, List, [], ◌∷◌, refl, Bool, true, false, ◌&&◌, cond, subst, arith}
+use Rattle.std.specs.Prelude.{Option, Some, None, Ok, Err, nat_lt, is_some}
 use Rattle.std.specs.Option.{ok_or}
 use Rattle.std.specs.List.{AllByRecursion}
 use Rattle.std.proofs.lemmas.Bool.Decides.{nat_tests}
 use Rattle.office_base.specs.Sizes.{largest_size}
 use Rattle.class_rules.specs.declared.class.Class.{Class}
-use Rattle.plain_office.specs.Maps.{at_name, with_name, Rises}
+use Rattle.plain_office.specs.Maps.{at_name, with_name}
 use Rattle.plain_office.specs.Office.{Office, Account, empty_office, new_account}
 use Rattle.plain_office.specs.Changes.{put_object}
 use Rattle.plain_office.specs.Counts.{limit_of, count_of, first_full}
 use Rattle.plain_office.specs.Orderly.{IsOrderlyAccount, AreOrderly, IsOrderly, SizeFits}
-use Rattle.plain_office.specs.Step.{◌>>=◌, Outcome, refuse_if, unless_full, within, on_bucket, create_bucket, put, outcome, settled, step, is_accepted}
+use Rattle.plain_office.specs.Step.{◌>>=◌, Outcome, refuse_if, unless_full, within, put, outcome, settled, step, is_accepted}
 use Rattle.plain_office.specs.Run.{is_not_before, accept, run_from, run}
 use Rattle.plain_office.specs.declared.object.Object.{Object}
 use Rattle.plain_office.specs.declared.command.Command.{Command}
 use Rattle.plain_office.specs.declared.command.Command.TheVariants as command
 use Rattle.plain_office.specs.declared.command.Entry.{Entry}
 use Rattle.plain_office.specs.declared.reply.Reply.{Reply}
-use Rattle.plain_office.specs.declared.reply.Reply.TheVariants.{BucketMade, Stored}
-use Rattle.plain_office.specs.declared.reply.Refusal.{Refusal}
+use Rattle.plain_office.specs.declared.reply.Reply.TheVariants.{BucketMade}
 use Rattle.plain_office.specs.declared.reply.Refusal.TheVariants.{BucketExists, NoSuchBucket}
 use Rattle.plain_office.specs.declared.reply.What.{What}
 use Rattle.plain_office.specs.declared.reply.What.TheVariants.{Buckets, Versions, Names}

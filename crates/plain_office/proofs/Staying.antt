@@ -1,16 +1,16 @@
 -- Stays: where a key has an object, one stay is open, and it alone ends where the object goes.
-use Rattle.std.proofs.Common.{◌≡◌, ℕ, ◌≤◌, List, [], ◌∷◌, ◌++◌, map, refl, ap, sym, ◌∙◌, Bool, true, false, ◌&&◌, cond, subst, filter, arith}
+use Rattle.std.proofs.Common.{◌≡◌, ℕ, List, [], ◌∷◌, ◌++◌, map, refl, ap, sym, ◌∙◌, Bool, true, false, ◌&&◌, cond, subst, filter}
 use Rattle.std.specs.Prelude.{Option, Some, None, is_none, bytes_eq, if◌then◌else◌}
 use Rattle.std.proofs.lemmas.List.{map-append, append-nil}
 use Rattle.std.proofs.lemmas.List.Elements.{filter-append}
 use Rattle.class_rules.specs.Lines.{object_lines}
-use Rattle.accrual.specs.Books.{Stay, Book, ended_stay, with_stay}
-use Rattle.plain_office.specs.Maps.{at_name, with_name}
+use Rattle.accrual.specs.Books.{Stay, ended_stay, with_stay}
+use Rattle.plain_office.specs.Maps.{at_name}
 use Rattle.plain_office.specs.Office.{Account, Books, book_of}
 use Rattle.plain_office.specs.Changes.{is_open_at, stay_of, with_object, without_object, without_option, put_object}
 use Rattle.plain_office.specs.Orderly.{stay_expected, HasOpenStays}
 use Rattle.plain_office.specs.declared.object.Object.{Object}
-use Rattle.plain_office.proofs.OrderlyLists.{Alone, alone}
+use Rattle.plain_office.proofs.OrderlyLists.{alone}
 use Rattle.plain_office.proofs.OrderlyMaps.{bytes_itself, bytes_same, at_written, at_other}
 
 -- a stay after the object of this key has gone
@@ -75,14 +75,13 @@ one_stay key at object account has found =
     let a = alone (is_open_at key) stay account.books.stays (has key ∙ ap (λ (o : Option Object). stay_expected key o) found) in
     let before = kept key at a.front a.none_before in
     let after = kept key at a.back a.none_after in
-    let ended = map-append (after_end key at) a.front (stay ∷ a.back) in
-    (
+    let ended = map-append (after_end key at) a.front (stay ∷ a.back) in (
       stays_of a.front,
       stays_of a.back,
       ap stays_of a.is ∙ map-append (λ (s : List ℕ × Stay). s.1) a.front (stay ∷ a.back),
       ap (λ (l : List (List ℕ × Stay)). stays_of (map (after_end key at) l)) a.is
-      ∙ ap stays_of (ended ∙ rw (before, after, a.passes) refl)
-      ∙ map-append (λ (s : List ℕ × Stay). s.1) a.front ((key, ended_stay (object_lines object.class object.size) object.created at) ∷ a.back),
+          ∙ ap stays_of (ended ∙ rw (before, after, a.passes) refl)
+          ∙ map-append (λ (s : List ℕ × Stay). s.1) a.front ((key, ended_stay (object_lines object.class object.size) object.created at) ∷ a.back),
     )
 
 -- where an object comes, its stay is booked behind the others

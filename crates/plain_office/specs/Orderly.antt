@@ -5,7 +5,7 @@ use Rattle.office_base.specs.Sizes.{largest_size}
 use Rattle.accrual.specs.Books.{Stay, IsBookedBy}
 use Rattle.plain_office.specs.declared.object.Object.{Object}
 use Rattle.plain_office.specs.Maps.{Rises, at_name}
-use Rattle.plain_office.specs.Office.{Office, Account, Books, book_of}
+use Rattle.plain_office.specs.Office.{Office, Account, book_of}
 use Rattle.plain_office.specs.Changes.{is_open_at, stay_of}
 use Rattle.plain_office.specs.Counts.{limit_of, count_of}
 use Rattle.plain_office.specs.declared.command.Command.{Command}
