@@ -1,7 +1,7 @@
 -- Reading bytes from left to right. Each reader takes one field from the front of the bytes that are left of an entry, and
 -- gives its value and what is left then. A fault is the place at which the first field that breaks the format begins, in
 -- bytes from the first byte of the entry.
-use Rattle.std.specs.Prelude.{◌≡◌, ℕ, ◌-◌, List, [], ◌∷◌, length, take, drop, Option, Some, None, Result, Ok, Err, nat_lt, nat_le, ◌==◌, if◌then◌else◌}
+use Rattle.std.specs.Prelude.{◌≡◌, ℕ, ◌-◌, List, [], ◌∷◌, length, take, drop, Option, ok_or, Result, Ok, Err, nat_lt, nat_le, ◌==◌, if◌then◌else◌}
 use Rattle.std.specs.Int.{Width, w16, w64, byte_len, from_be_bytes}
 use Rattle.std.specs.List.{find}
 use Rattle.moments.specs.Time.{end_of_time}
@@ -77,10 +77,9 @@ class_ranked rank = find (λ class. rank_of class == rank) all_classes
 -- a class by its rank
 unfoldable pub class_at : ℕ → List ℕ → Result (Class × List ℕ) ℕ
 class_at total [] = Err (place total [])
-class_at total (rank ∷ bytes) = found_or (class_ranked rank)
-  where found_or : Option Class → Result (Class × List ℕ) ℕ
-        found_or (Some class) = Ok (class, bytes)
-        found_or None = Err (place total (rank ∷ bytes))
+class_at total (rank ∷ bytes) = do
+  class ← ok_or (class_ranked rank) (place total (rank ∷ bytes))
+  Ok (class, bytes)
 
 -- no tags
 unfoldable pub no_tags_at : ℕ → List ℕ → Result (List ℕ) ℕ

@@ -148,6 +148,7 @@ fn put(alloc: Global, total: usize, bytes: &[u8]) -> Result<(Command, &[u8]), En
 {
     let (bucket, rest) = name_of(alloc, total, bytes)?;
     let (key, rest) = key_of(alloc, total, rest)?;
+    // A `?` would move a `Size` beside a borrow, which has no rule in the check.
     let (size, rest) = match size_of(total, rest) {
         Ok(read) => read,
         Err(e) => return Err(e),
