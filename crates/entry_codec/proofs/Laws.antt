@@ -19,7 +19,7 @@ use Rattle.class_rules.specs.declared.class.Class.{Class}
 use Rattle.class_rules.specs.declared.class.Class.TheVariants.{Standard, StandardIa, OnezoneIa, GlacierIr, Glacier, DeepArchive}
 use Rattle.entry_codec.specs.Spelling.{counted, no_tags, command_spelling, CommandFits, Fits, spelling}
 use Rattle.entry_codec.specs.Reading.{◌>>=◌, Gives, place, number_at, counted_at, moment_at, name_at, key_at, size_at, class_ranked, class_at, no_tags_at, create_bucket_at, put_at, kind_at, command_at, entry_of}
-use Rattle.entry_codec.proofs.Fields.{IsBytes, IsBytes-drop, bind_ok, guard_ok, ok_is, Takes, Takes-then, wide16, wide64, number_takes, number_again}
+use Rattle.entry_codec.proofs.Fields.{IsBytes, IsBytes-drop, bind_ok, guard_ok, done, ok_is, Takes, Takes-then, wide16, wide64, number_takes, number_again}
 
 -- a test that passed
 pub guard_passed : {A : Type 0} (b : Bool) (d : ℕ) (x y : A) → cond b (Ok x) (Err d) ≡ Ok y → (b ≡ true) × (x ≡ y)
@@ -153,14 +153,25 @@ no_tags_again : (total : ℕ) (rest : List ℕ) → no_tags_at total (no_tags ++
 unfolding no_tags_at
 no_tags_again total rest = refl
 
-create_bucket_takes : (total : ℕ) (bytes : List ℕ) (x : Command × List ℕ) → IsBytes bytes → create_bucket_at total bytes ≡ Ok x → Takes (1 ∷ bytes) (command_spelling x.0) x.1 × CommandFits x.0
+-- the command stands at the front of the bytes
+abbrev Reads : List ℕ → Command × List ℕ → Type 0
+Reads bytes x = Takes bytes (command_spelling x.0) x.1 × CommandFits x.0
+
+as_read : (bytes : List ℕ) (made x : Command × List ℕ) → done made ≡ done x → Reads bytes made → Reads bytes x
+as_read bytes made x e is = subst (Reads bytes) (ok_is made x e) is
+
+create_bucket_takes : (total : ℕ) (bytes : List ℕ) (x : Command × List ℕ) → IsBytes bytes → create_bucket_at total bytes ≡ Ok x → Reads (1 ∷ bytes) x
 unfolding create_bucket_at
 create_bucket_takes total bytes x fits e =
     let b = bind_ok (name_at total bytes) _ x e in
     let t = name_takes total bytes b.0 fits b.1 in
-    subst (λ (p : Command × List ℕ). Takes (1 ∷ bytes) (command_spelling p.0) p.1 × CommandFits p.0) (ok_is (CreateBucket b.0.0, b.0.1) x b.2) (behind 1 t.0, t.1)
+    as_read (1 ∷ bytes) (CreateBucket b.0.0, b.0.1) x b.2 (behind 1 t.0, t.1)
 
-put_takes : (total : ℕ) (bytes : List ℕ) (x : Command × List ℕ) → IsBytes bytes → put_at total bytes ≡ Ok x → Takes (5 ∷ bytes) (command_spelling x.0) x.1 × CommandFits x.0
+-- the fields of a put, one behind the other
+put_parts : (bytes bucket key : List ℕ) (size : ℕ) (class : Class) (b k s c left : List ℕ) → Takes bytes (counted bucket) b → Takes b (counted key) k → Takes k (to_be_bytes w64 size) s → Takes s (rank_of class ∷ []) c → Takes c no_tags left → Takes (5 ∷ bytes) (command_spelling (Put bucket key size class)) left
+put_parts bytes bucket key size class b k s c left t u v w y = Takes-then _ _ _ _ _ (Takes-then _ _ _ _ _ (Takes-then _ _ _ _ _ (behind 5 t) u) v) (Takes-then _ _ _ _ _ w y)
+
+put_takes : (total : ℕ) (bytes : List ℕ) (x : Command × List ℕ) → IsBytes bytes → put_at total bytes ≡ Ok x → Reads (5 ∷ bytes) x
 unfolding put_at
 put_takes total bytes x fits e =
     let bucket = bind_ok (name_at total bytes) _ x e in
@@ -173,18 +184,18 @@ put_takes total bytes x fits e =
     let v = size_takes total key.0.1 size.0 u.0.rest_fits size.1 in
     let w = class_takes total size.0.1 class.0 v.0.rest_fits class.1 in
     let y = no_tags_takes total class.0.1 tags.0 w.rest_fits tags.1 in
-    let all = Takes-then _ _ _ _ _ (Takes-then _ _ _ _ _ (Takes-then _ _ _ _ _ (behind 5 t.0) u.0) v.0) (Takes-then _ _ _ _ _ w y) in
-    subst (λ (p : Command × List ℕ). Takes (5 ∷ bytes) (command_spelling p.0) p.1 × CommandFits p.0) (ok_is (Put bucket.0.0 key.0.0 size.0.0 class.0.0, tags.0) x tags.2) (all, record { named = t.1; keyed = u.1; sized = v.1 })
+    let parts = put_parts bytes bucket.0.0 key.0.0 size.0.0 class.0.0 bucket.0.1 key.0.1 size.0.1 class.0.1 tags.0 t.0 u.0 v.0 w y in
+    as_read (5 ∷ bytes) (Put bucket.0.0 key.0.0 size.0.0 class.0.0, tags.0) x tags.2 (parts, record { named = t.1; keyed = u.1; sized = v.1 })
 
-kind_takes : (total : ℕ) (bytes : List ℕ) (x : Command × List ℕ) → IsBytes bytes → kind_at total bytes ≡ Ok x → Takes bytes (command_spelling x.0) x.1 × CommandFits x.0
+kind_takes : (total : ℕ) (bytes : List ℕ) (x : Command × List ℕ) → IsBytes bytes → kind_at total bytes ≡ Ok x → Reads bytes x
 unfolding kind_at
 kind_takes total [] x fits e = absurd cc
 kind_takes total (kind ∷ bytes) x fits e =
     elim (chosen (eqb kind 1) (create_bucket_at total bytes) _ _ e) [
-      | inl made ↦ subst (λ (k : ℕ). Takes (k ∷ bytes) (command_spelling x.0) x.1 × CommandFits x.0) (sym (eqb-true _ _ made.0)) (create_bucket_takes total bytes x (λ i. fits (suc i)) made.1)
+      | inl made ↦ subst (λ (k : ℕ). Reads (k ∷ bytes) x) (sym (eqb-true _ _ made.0)) (create_bucket_takes total bytes x (λ i. fits (suc i)) made.1)
       | inr other ↦
-        let g = guard_then (eqb kind 5) (place total (kind ∷ bytes)) (put_at total bytes) x other in
-        subst (λ (k : ℕ). Takes (k ∷ bytes) (command_spelling x.0) x.1 × CommandFits x.0) (sym (eqb-true _ _ g.0)) (put_takes total bytes x (λ i. fits (suc i)) g.1)
+          let g = guard_then (eqb kind 5) (place total (kind ∷ bytes)) (put_at total bytes) x other in
+          subst (λ (k : ℕ). Reads (k ∷ bytes) x) (sym (eqb-true _ _ g.0)) (put_takes total bytes x (λ i. fits (suc i)) g.1)
     ]
 
 kind_again : (total : ℕ) (c : Command) (rest : List ℕ) → CommandFits c → kind_at total (command_spelling c ++ rest) ≡ Ok (c, rest)
