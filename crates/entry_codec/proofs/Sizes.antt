@@ -5,7 +5,7 @@ use Rattle.plain_office.specs.declared.command.Command.TheVariants.{CreateBucket
 use Rattle.plain_office.specs.declared.command.Entry.{Entry}
 use Rattle.plain_office.specs.Run.{entry_at}
 use Rattle.office_base.proofs.Sizes.{name_small, key_small}
-use Rattle.entry_codec.specs.Spelling.{IsEntry, Fits, CommandFits, counted, command_spelling, spelling}
+use Rattle.entry_codec.specs.Spelling.{IsEntry, Fits, CommandFits, command_spelling, spelling}
 
 command_small : (c : Command) → CommandFits c → length (command_spelling c) ≤ 1_102
 command_small (CreateBucket bucket) fits = omega (arith, name_small bucket fits)
