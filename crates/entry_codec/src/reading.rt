@@ -201,7 +201,7 @@ fn whole_entry(alloc: Global, bytes: &[u8]) -> Result<Entry, EntryFault>
 
 /// Reads the entry that the bytes spell, all of the bytes.
 ///
-/// Cost: one pass over the bytes, and memory for the names.
+/// Cost: one pass over the bytes, and memory for the name and the key.
 ///
 /// # Errors
 ///
