@@ -1,0 +1,8 @@
+use Rattle.std.proofs.Common.{codes, decimal, ◌++◌, ◌∷◌, [], ap, ◌∙◌, sym}
+use Rattle.json.specs.Print.{quoted}
+use Rattle.http_text.proofs.RoomLemmas.{puts_then, puts_same}
+use Rattle.http_text.specs.Replies.{meters_text}
+use Rattle.http_text.proofs.meters.put_next.Goals as goal
+
+pub returns-clause-puts : goal.returns-clause-puts
+returns-clause-puts c = puts_then (codes ",") (meters_text c.args.meters.now) c.put-at.ensures c.put_meters.ensures.puts
