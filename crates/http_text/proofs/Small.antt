@@ -14,7 +14,7 @@ use Rattle.office_base.specs.declared.version_id.VersionId.{VersionId}
 use Rattle.office_base.specs.declared.version_id.VersionId.TheVariants.{Null, Number}
 use Rattle.plain_office.specs.declared.reply.ClassMeters.{ClassMeters}
 use Rattle.plain_office.specs.declared.reply.Reply.TheVariants.{BucketMade, Stored, BucketShown, MetersShown}
-use Rattle.plain_office.specs.declared.reply.Refusal.TheVariants.{BucketExists, NoSuchBucket, Full, ClockEnd, NoMemory}
+use Rattle.plain_office.specs.declared.reply.Refusal.TheVariants.{Full, ClockEnd}
 use Rattle.plain_office.specs.declared.reply.What.{What}
 use Rattle.plain_office.specs.declared.reply.What.TheVariants.{Buckets, Versions, Names}
 use Rattle.http_text.specs.Replies.{body_text, meters_text, classes_text, error_text, month_text, what_name}

@@ -1,5 +1,5 @@
 -- A head and a body behind it.
-use Rattle.std.proofs.Common.{◌≡◌, ℕ, ◌+◌, ◌^◌, ◌<◌, ◌≤◌, List, [], ◌++◌, length, codes, decimal, refl, ap, arith, length-append, unwrap_or}
+use Rattle.std.proofs.Common.{◌≡◌, ℕ, ◌<◌, ◌≤◌, List, [], ◌++◌, length, codes, decimal, refl, ap, arith, length-append, unwrap_or}
 use Rattle.std.proofs.lemmas.Fmt.{length-decimal-le}
 use Rattle.http.specs.StatusCode.{reason_phrase}
 use Rattle.http_text.specs.Room.{Holds, Puts}

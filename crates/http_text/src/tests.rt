@@ -19,7 +19,8 @@ fn is_printed(
     let size = put_answer(&mut room, answer);
     let wanted = format!(in alloc; "HTTP/1.1 {status}{HEADERS}{}\r\n\r\n{body}", body.len())?;
     assert_eq!(rt; size, wanted.len(), "{body}");
-    assert_eq!(rt; &room[..size], wanted.as_bytes(), "{body}");
+    room.truncate(size);
+    assert_eq!(rt; room.as_slice(), wanted.as_bytes(), "{body}");
     Ok(())
 }
 

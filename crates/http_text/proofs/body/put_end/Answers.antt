@@ -1,5 +1,4 @@
-use Rattle.std.proofs.Common.{codes, decimal, ◌++◌, ◌∷◌, [], ap, ◌∙◌, sym}
-use Rattle.json.specs.Print.{quoted}
+use Rattle.std.proofs.Common.{codes, decimal}
 use Rattle.http_text.proofs.RoomLemmas.{puts_then, puts_same}
 use Rattle.http_text.proofs.Texts.{end_is}
 use Rattle.http_text.proofs.body.put_end.Goals as goal

@@ -1,4 +1,4 @@
-use Rattle.std.proofs.Common.{codes, decimal, ◌++◌, ◌∷◌, [], ap, ◌∙◌, sym}
+use Rattle.std.proofs.Common.{codes}
 use Rattle.json.specs.Print.{quoted}
 use Rattle.http_text.proofs.RoomLemmas.{puts_then, puts_same}
 use Rattle.moments.specs.Texts.{moment_text}

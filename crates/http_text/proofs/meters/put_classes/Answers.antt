@@ -1,5 +1,4 @@
-use Rattle.std.proofs.Common.{codes, ◌++◌}
-use Rattle.http_text.specs.Replies.{meters_text}
+use Rattle.std.proofs.Common.{codes}
 use Rattle.http_text.proofs.RoomLemmas.{puts_then, puts_same}
 use Rattle.http_text.proofs.Small.{classes_small}
 use Rattle.http_text.proofs.Texts.{classes_by_place}

@@ -1,6 +1,5 @@
-use Rattle.std.proofs.Common.{codes, decimal, ◌++◌, ◌∷◌, [], ap, ◌∙◌, sym}
-use Rattle.json.specs.Print.{quoted}
-use Rattle.http_text.proofs.RoomLemmas.{puts_then, puts_same}
+use Rattle.std.proofs.Common.{codes}
+use Rattle.http_text.proofs.RoomLemmas.{puts_then}
 use Rattle.http_text.specs.Replies.{meters_text}
 use Rattle.http_text.proofs.meters.put_next.Goals as goal
 
