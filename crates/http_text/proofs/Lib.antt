@@ -1,0 +1,5 @@
+pub mod RoomLemmas
+pub mod Small
+pub mod Statuses
+pub mod Texts
+pub mod Whole
