@@ -1,6 +1,5 @@
 -- Worked examples, computed.
-use Rattle.std.proofs.Common.{◌≡◌, ℕ, ◌+◌, ◌*◌, List, [], ◌∷◌, refl}
-use Rattle.std.specs.Prelude.{Some, None}
+use Rattle.std.proofs.Common.{◌≡◌, ℕ, ◌+◌, ◌*◌, [], ◌∷◌, refl}
 use Rattle.jiff_core.specs.Calendar.{days_of_months}
 use Rattle.moments.specs.Time.{day}
 use Rattle.moments.specs.Months.{first_day}
