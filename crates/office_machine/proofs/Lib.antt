@@ -1,0 +1,6 @@
+pub mod Accounts
+pub mod Bookings
+pub mod Later
+pub mod Rebooked
+pub mod Replaced
+pub mod Steps
