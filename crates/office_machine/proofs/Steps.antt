@@ -55,8 +55,8 @@ module _ (t : ℕ) (name : List ℕ) (p : Office) where
 
 -- ---- a put
 
-module _ (t : ℕ) (name key : List ℕ) (object : Object) (p : Office) where
-  pub put_missing : at_name name p.accounts ≡ None → step t (command.Put name key object.size object.class) p ≡ (p, Err NoSuchBucket)
+module _ (name key : List ℕ) (object : Object) (p : Office) where
+  pub put_missing : at_name name p.accounts ≡ None → step object.created (command.Put name key object.size object.class) p ≡ (p, Err NoSuchBucket)
   unfolding step outcome
   put_missing none = rw none refl
 
@@ -64,17 +64,17 @@ module _ (t : ℕ) (name key : List ℕ) (object : Object) (p : Office) where
   placed account last = with_accounts last (with_name name (put_object key object account) p.accounts)
 
   abbrev pub put_result : Account → Result (ℕ × ℕ) Refusal → Office × Answer
-  put_result account (Ok counts) = (placed account (Some t), Ok (Stored t Null))
+  put_result account (Ok counts) = (placed account (Some object.created), Ok (Stored object.created Null))
   put_result account (Err refusal) = (p, Err refusal)
 
   decided : (account : Account) (versions names : ℕ) (many long : Bool)
-      → settled t p (unless_full (cond many (Some Versions) (cond long (Some Names) None)) (placed account p.last, Stored t Null))
+      → settled object.created p (unless_full (cond many (Some Versions) (cond long (Some Names) None)) (placed account p.last, Stored object.created Null))
       ≡ put_result account (cond many (Err (Full Versions 200_000)) (cond long (Err (Full Names 536_870_912)) (Ok (versions, names))))
   decided account versions names true long = refl
   decided account versions names false true = refl
   decided account versions names false false = refl
 
-  put_by : (account : Account) (versions names : ℕ) → object.created ≡ t → at_name name p.accounts ≡ Some account → count_of Versions (placed account p.last) ≡ versions → count_of Names (placed account p.last) ≡ names
-      → step t (command.Put name key object.size object.class) p ≡ put_result account (counted versions names)
+  pub put_by : (account : Account) (versions names : ℕ) → at_name name p.accounts ≡ Some account → count_of Versions (placed account p.last) ≡ versions → count_of Names (placed account p.last) ≡ names
+      → step object.created (command.Put name key object.size object.class) p ≡ put_result account (counted versions names)
   unfolding step outcome
-  put_by account versions names at there many long = rw (there, sym at, many, long) (decided account versions names (nat_lt 200_000 versions) (nat_lt 536_870_912 names))
+  put_by account versions names there many long = rw (there, many, long) (decided account versions names (nat_lt 200_000 versions) (nat_lt 536_870_912 names))
