@@ -1,1 +1,4 @@
+pub mod Cases
+pub mod Changes
 pub mod Examples
+pub mod Places

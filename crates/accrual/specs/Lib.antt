@@ -1,2 +1,4 @@
 pub mod Books
+pub mod Kept
 pub mod Meters
+pub mod Totals

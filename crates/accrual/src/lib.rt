@@ -1,2 +1,5 @@
 //! What a bucket used: byte-milliseconds by month and storage class, early quantities and moves.
 #![tactic(auto)]
+
+mod calendar;
+mod rows;
