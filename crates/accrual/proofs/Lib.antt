@@ -2,3 +2,5 @@ pub mod Cases
 pub mod Changes
 pub mod Examples
 pub mod Places
+pub mod Settling
+pub mod Windows

@@ -1,11 +1,15 @@
 // The kept numbers, a row for each month.
-ghost use Rattle.std.specs.Prelude.{◌^◌, ◌≡◌, ◌≢◌, ◌⊎◌, ◌<◌, ◌≤◌, ◌+◌, ◌-◌, ℕ, length, slice_set};
+ghost use Rattle.std.specs.Prelude.{OnOk, OnErr, ◌^◌, ◌≡◌, ◌≢◌, ◌⊎◌, ◌<◌, ◌≤◌, ◌+◌, ◌-◌, ℕ, length, slice_set};
 ghost use Rattle.class_rules.specs.Classes.{rank_of};
-ghost use Rattle.accrual.specs.Kept.{kept_in, HasRowIn, IsPut, IsAdded, HasRoom, IsWithin, IsModest, IsBegun, HasBegun, IsSettled, begun_numbers, ended_numbers};
+ghost use Rattle.accrual.specs.Kept.{kept_in, HasRowIn, IsPut, IsAdded, HasRoom, IsWithin, IsModest, IsBegun, HasBegun, IsSettled, IsEnded, running_to, begun_numbers, ended_numbers};
 ghost use Rattle.class_rules.specs.declared.class.Class.{Class};
-ghost use Rattle.accrual.specs.Totals.{IsBilled};
+ghost use Rattle.moments.specs.Months.{months, month_at, month_start, month_end};
+ghost use Rattle.accrual.specs.Totals.{IsBilled, ms_within};
 
+use crate::calendar::{number_of, window};
 use class_rules::{Class, Lines, rank};
+use moments::{Moment, month_of};
+use std::alloc::AllocError;
 
 /// What is kept of a class in a month.
 #[derive(Clone, Copy, Debug, PartialEq, Eq)]
@@ -124,6 +128,92 @@ impl Rows {
     {
         self.add(month, lines.class, ended(lines.bytes, ms));
         self.add(month, Class::Standard, ended(lines.standard, ms));
+    }
+
+    // Takes up a stay that has ended.
+    pub(crate) fn settle(&mut self, lines: &Lines, from: Moment, at: Moment)
+        requires rows { (month : ℕ) → month_at from ≤ month → month ≤ month_at at → HasRowIn self.old month }
+        requires modest { (month : ℕ) (class : Class) → IsModest (kept_in self.old month (rank_of class)) }
+        requires billed { IsBilled lines.now }
+        ensures { IsEnded self.old self.new lines.now (λ m. ms_within (month_start m) (month_end m) from at) }
+    {
+        let first = number_of(month_of(from));
+        let last = number_of(month_of(at));
+        for month in first..last + 1 {
+            let (start, end) = window(month);
+            let ms = at.ms().min(end).saturating_sub(from.ms().max(start));
+            self.settle_month(lines, month, ms);
+        }
+    }
+
+    // Sums the bytes of the stays without an end that began before the month.
+    pub(crate) fn running_before(&self, month: u64, class: Class) -> u128
+        requires run { self.now.first + length self.now.rows.items ≤ months }
+        requires small { (n : ℕ) → running_to self.now (rank_of class) n < 2 ^ 127 }
+        ensures { result ≡ running_to self.now (rank_of class) month }
+    {
+        let end = month.min(self.first + self.rows.len() as u64);
+        let mut bytes = 0u128;
+        for earlier in self.first..end {
+            bytes += self.kept(earlier, class).running;
+        }
+        bytes
+    }
+
+    // Makes rows for these months, and all between them and the rows that are there.
+    pub(crate) fn reserve(&mut self, from: u64, to: u64) -> Result<(), AllocError>
+        requires order { from ≤ to }
+        requires to { to < months }
+        requires run { self.old.first + length self.old.rows.items ≤ months }
+        ensures rows { OnOk result ((month : ℕ) → from ≤ month → month ≤ to → HasRowIn self.new month) }
+        ensures kept { (month : ℕ) → HasRowIn self.old month → HasRowIn self.new month }
+        ensures same { (month rank : ℕ) → kept_in self.new month rank ≡ kept_in self.old month rank }
+        ensures run { self.new.first + length self.new.rows.items ≤ months }
+    {
+        if self.rows.is_empty() {
+            self.first = from;
+        }
+        if from < self.first {
+            self.begin_earlier(from)?;
+        }
+        self.end_later(to)
+    }
+
+    // Puts rows in front, so that the first is that of this month.
+    fn begin_earlier(&mut self, from: u64) -> Result<(), AllocError>
+        requires earlier { from < self.old.first }
+        requires run { self.old.first + length self.old.rows.items ≤ months }
+        ensures first { OnOk result (self.new.first ≡ from) }
+        ensures kept { (month : ℕ) → HasRowIn self.old month → HasRowIn self.new month }
+        ensures same { (month rank : ℕ) → kept_in self.new month rank ≡ kept_in self.old month rank }
+        ensures run { self.new.first + length self.new.rows.items ≡ self.old.first + length self.old.rows.items }
+        ensures err { OnErr result (self.new ≡ self.old) }
+    {
+        let more = (self.first - from) as usize;
+        let mut rows = Vec::with_capacity(*self.rows.allocator(), more + self.rows.len())?;
+        rows.resize(more, [NOTHING; 6])?;
+        rows.extend_from_slice(&self.rows)?;
+        self.rows = rows;
+        self.first = from;
+        Ok(())
+    }
+
+    // Puts rows behind, until this month has one.
+    fn end_later(&mut self, to: u64) -> Result<(), AllocError>
+        requires to { to < months }
+        requires run { self.old.first + length self.old.rows.items ≤ months }
+        requires from { self.old.first ≤ to }
+        ensures rows { OnOk result (HasRowIn self.new to) }
+        ensures first { self.new.first ≡ self.old.first }
+        ensures kept { (month : ℕ) → HasRowIn self.old month → HasRowIn self.new month }
+        ensures same { (month rank : ℕ) → kept_in self.new month rank ≡ kept_in self.old month rank }
+        ensures run { self.new.first + length self.new.rows.items ≤ months }
+    {
+        let wanted = (to + 1 - self.first) as usize;
+        if self.rows.len() < wanted {
+            self.rows.resize(wanted, [NOTHING; 6])?;
+        }
+        Ok(())
     }
 }
 
