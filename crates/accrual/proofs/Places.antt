@@ -1,10 +1,11 @@
 -- Reading and writing one place of the rows.
-use Rattle.std.proofs.Common.{◌≡◌, ◌≢◌, ◌⊎◌, inl, inr, ◌<◌, ◌≤◌, ◌+◌, ◌-◌, ℕ, List, [], ◌∷◌, length, get_or, Bool, true, false, refl, ap, sym, ◌∙◌, arith, rules, subst}
+use Rattle.std.proofs.Common.{◌≡◌, ◌≢◌, ◌⊎◌, inl, inr, ◌<◌, ◌≤◌, ◌+◌, ◌-◌, ℕ, List, [], ◌∷◌, ◌++◌, length, get_or, Bool, true, false, refl, ap, sym, ◌∙◌, arith, rules, subst}
 use Rattle.std.specs.Prelude.{nat_le, nat_lt, nat_eq}
-use Rattle.std.proofs.Math.ListN.{set}
+use Rattle.std.proofs.Math.ListN.{set, get_or-eq_default}
+use Rattle.std.specs.Prelude.{replicate}
 use Rattle.std.proofs.lemmas.Bool.Decides.{nat_tests}
 use Rattle.std.proofs.lemmas.Grind.{common_steps}
-use Rattle.std.proofs.lemmas.List.{get_or-set_same, get_or-set_other, get_or_default}
+use Rattle.std.proofs.lemmas.List.{get_or-set_same, get_or-set_other, get_or_default, get_or_append_left, get_or-append_right, get_or-replicate, length-replicate, length-append}
 use Rattle.accrual.specs.declared.rows.Kept.{Kept}
 use Rattle.accrual.specs.declared.rows.Rows.{Rows}
 use Rattle.accrual.proofs.Cases.{by_less, by_same}
@@ -69,3 +70,63 @@ put_is old new month rank kept list has small is six first items as_many = recor
   first = first;
   as_many = as_many;
 }
+
+-- rows that were put in front or behind have nothing
+abbrev pub IsEmptied : List (List Kept) → Type 0
+IsEmptied more = (i r : ℕ) → get_or (get_or more i []) r nothing ≡ nothing
+
+pub emptied : (n : ℕ) → IsEmptied (replicate n (replicate 6 nothing))
+emptied n i r =
+    by_less i n
+    (λ less. ap (λ (l : List Kept). get_or l r nothing) (get_or-replicate n i (replicate 6 nothing) [] less) ∙ one_row r)
+    (λ more. ap (λ (l : List Kept). get_or l r nothing) (get_or-eq_default (replicate n (replicate 6 nothing)) [] (omega (arith, more, length-replicate n (replicate 6 nothing)))))
+  where
+  one_row : (r : ℕ) → get_or (replicate 6 nothing) r nothing ≡ nothing
+  one_row r =
+      by_less r 6
+      (λ less. get_or-replicate 6 r nothing nothing less)
+      (λ more. get_or-eq_default (replicate 6 nothing) nothing (omega (arith, more)))
+
+-- where there were no rows, they may begin anywhere
+pub kept_nowhere : (old new : Rows) (month rank : ℕ) → length old.rows.items ≡ 0 → length new.rows.items ≡ 0 → kept_in new month rank ≡ kept_in old month rank
+kept_nowhere old new month rank a b = kept_in_none new month rank b ∙ sym (kept_in_none old month rank a) where
+  kept_in_none : (rows : Rows) (month rank : ℕ) → length rows.rows.items ≡ 0 → kept_in rows month rank ≡ nothing
+  kept_in_none rows month rank none = by_less month rows.first (λ less. kept_before rows month rank less) (λ from. kept_behind rows month rank (omega (arith, from, none)))
+
+pub kept_extended : (old new : Rows) (more : List (List Kept)) (month rank : ℕ) → IsEmptied more → new.first ≡ old.first → new.rows.items ≡ old.rows.items ++ more
+    → kept_in new month rank ≡ kept_in old month rank
+kept_extended old new more month rank none first items =
+    let size : length new.rows.items ≡ length old.rows.items + length more = ap length items ∙ length-append old.rows.items more in
+    by_less month old.first
+    (λ less. kept_before new month rank (omega (arith, less, first)) ∙ sym (kept_before old month rank less))
+    (λ from. by_less month (old.first + length old.rows.items)
+        (λ inside.
+            let e : get_or new.rows.items (month - new.first) [] ≡ get_or old.rows.items (month - old.first) [] =
+                ap (λ k. get_or new.rows.items (month - k) []) first ∙ (ap (λ (l : List (List Kept)). get_or l (month - old.first) []) items ∙ get_or_append_left old.rows.items more [] (month - old.first) (omega (arith, from, inside))) in
+            kept_row new month rank (omega (arith, from, first), omega (arith, inside, first, size)) ∙ (ap (λ (l : List Kept). get_or l rank nothing) e ∙ sym (kept_row old month rank (from, inside))))
+        (λ behind. by_less month (new.first + length new.rows.items)
+            (λ within.
+                let e : get_or new.rows.items (month - new.first) [] ≡ get_or more (month - old.first - length old.rows.items) [] =
+                    ap (λ k. get_or new.rows.items (month - k) []) first ∙ (ap (λ (l : List (List Kept)). get_or l (month - old.first) []) items ∙ get_or-append_right old.rows.items more (length old.rows.items) (month - old.first) [] refl (omega (arith, behind))) in
+                kept_row new month rank (omega (arith, from, first), within) ∙ (ap (λ (l : List Kept). get_or l rank nothing) e ∙ (none (month - old.first - length old.rows.items) rank ∙ sym (kept_behind old month rank behind))))
+            (λ beyond. kept_behind new month rank beyond ∙ sym (kept_behind old month rank behind))))
+
+pub kept_preceded : (old new : Rows) (more : List (List Kept)) (month rank : ℕ) → IsEmptied more → new.first + length more ≡ old.first → new.rows.items ≡ more ++ old.rows.items
+    → kept_in new month rank ≡ kept_in old month rank
+kept_preceded old new more month rank none first items =
+    let size : length new.rows.items ≡ length more + length old.rows.items = ap length items ∙ length-append more old.rows.items in
+    by_less month new.first
+    (λ less. kept_before new month rank less ∙ sym (kept_before old month rank (omega (arith, less, first))))
+    (λ from. by_less month old.first
+        (λ before.
+            let e : get_or new.rows.items (month - new.first) [] ≡ get_or more (month - new.first) [] =
+                ap (λ (l : List (List Kept)). get_or l (month - new.first) []) items ∙ get_or_append_left more old.rows.items [] (month - new.first) (omega (arith, from, before, first)) in
+            kept_row new month rank (from, omega (arith, before, first, size)) ∙ (ap (λ (l : List Kept). get_or l rank nothing) e ∙ (none (month - new.first) rank ∙ sym (kept_before old month rank before))))
+        (λ since. by_less month (old.first + length old.rows.items)
+            (λ inside.
+                let e : get_or new.rows.items (month - new.first) [] ≡ get_or old.rows.items (month - new.first - length more) [] =
+                    ap (λ (l : List (List Kept)). get_or l (month - new.first) []) items ∙ get_or-append_right more old.rows.items (length more) (month - new.first) [] refl (omega (arith, since, first)) in
+                let k : month - new.first - length more ≡ month - old.first = omega (arith, since, first) in
+                kept_row new month rank (from, omega (arith, inside, first, size))
+                    ∙ (ap (λ (l : List Kept). get_or l rank nothing) (e ∙ ap (λ n. get_or old.rows.items n []) k) ∙ sym (kept_row old month rank (since, inside))))
+            (λ behind. kept_behind new month rank (omega (arith, behind, first, size)) ∙ sym (kept_behind old month rank behind))))

@@ -170,13 +170,28 @@ impl Rows {
         ensures same { (month rank : ℕ) → kept_in self.new month rank ≡ kept_in self.old month rank }
         ensures run { self.new.first + length self.new.rows.items ≤ months }
     {
+        self.begin_by(from)?;
+        self.end_later(to)
+    }
+
+    // Lets the rows begin in this month or an earlier one.
+    #[tactic(auto, using(crate::proofs::Places::kept_nowhere))]
+    fn begin_by(&mut self, from: u64) -> Result<(), AllocError>
+        requires from { from < months }
+        requires run { self.old.first + length self.old.rows.items ≤ months }
+        ensures first { OnOk result (self.new.first ≤ from) }
+        ensures kept { (month : ℕ) → HasRowIn self.old month → HasRowIn self.new month }
+        ensures same { (month rank : ℕ) → kept_in self.new month rank ≡ kept_in self.old month rank }
+        ensures run { self.new.first + length self.new.rows.items ≤ months }
+    {
         if self.rows.is_empty() {
             self.first = from;
+            return Ok(());
         }
         if from < self.first {
-            self.begin_earlier(from)?;
+            return self.begin_earlier(from);
         }
-        self.end_later(to)
+        Ok(())
     }
 
     // Puts rows in front, so that the first is that of this month.

@@ -1,4 +1,4 @@
-use Rattle.std.proofs.Common.{ap, sym, arith, ◌∙◌}
+use Rattle.std.proofs.Common.{ap, sym, arith, ◌∙◌, ◌+◌}
 use Rattle.class_rules.specs.Classes.{rank_of}
 use Rattle.accrual.proofs.Settling.{running_none, running_more, running_whole}
 use Rattle.accrual.proofs.rows.Rows.running_before.Goals as goal
