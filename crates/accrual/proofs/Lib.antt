@@ -1,3 +1,5 @@
+pub mod Bookings
+pub mod Bounds
 pub mod Cases
 pub mod Changes
 pub mod Examples

@@ -87,11 +87,12 @@ emptied n i r =
       (λ less. get_or-replicate 6 r nothing nothing less)
       (λ more. get_or-eq_default (replicate 6 nothing) nothing (omega (arith, more)))
 
--- where there were no rows, they may begin anywhere
+-- where there are no rows nothing is kept, and they may begin anywhere
+pub kept_none : (rows : Rows) (month rank : ℕ) → length rows.rows.items ≡ 0 → kept_in rows month rank ≡ nothing
+kept_none rows month rank none = by_less month rows.first (λ less. kept_before rows month rank less) (λ from. kept_behind rows month rank (omega (arith, from, none)))
+
 pub kept_nowhere : (old new : Rows) (month rank : ℕ) → length old.rows.items ≡ 0 → length new.rows.items ≡ 0 → kept_in new month rank ≡ kept_in old month rank
-kept_nowhere old new month rank a b = kept_in_none new month rank b ∙ sym (kept_in_none old month rank a) where
-  kept_in_none : (rows : Rows) (month rank : ℕ) → length rows.rows.items ≡ 0 → kept_in rows month rank ≡ nothing
-  kept_in_none rows month rank none = by_less month rows.first (λ less. kept_before rows month rank less) (λ from. kept_behind rows month rank (omega (arith, from, none)))
+kept_nowhere old new month rank a b = kept_none new month rank b ∙ sym (kept_none old month rank a)
 
 pub kept_extended : (old new : Rows) (more : List (List Kept)) (month rank : ℕ) → IsEmptied more → new.first ≡ old.first → new.rows.items ≡ old.rows.items ++ more
     → kept_in new month rank ≡ kept_in old month rank

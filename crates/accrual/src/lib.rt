@@ -2,4 +2,7 @@
 #![tactic(auto)]
 
 mod calendar;
+mod meters;
 mod rows;
+
+pub use meters::Meters;

@@ -9,7 +9,7 @@ ghost use Rattle.accrual.specs.Totals.{IsBilled, ms_within};
 use crate::calendar::{number_of, window};
 use class_rules::{Class, Lines, rank};
 use moments::{Moment, month_of};
-use std::alloc::AllocError;
+use std::alloc::{AllocError, Global};
 
 /// What is kept of a class in a month.
 #[derive(Clone, Copy, Debug, PartialEq, Eq)]
@@ -34,7 +34,7 @@ pub(crate) struct Rows {
     pub(crate) rows: Vec<[Kept; 6]>,
 }
 
-const NOTHING: Kept = Kept {
+pub(crate) const NOTHING: Kept = Kept {
     ended: 0,
     running: 0,
     since: 0,
@@ -43,6 +43,17 @@ const NOTHING: Kept = Kept {
 };
 
 impl Rows {
+    // Gives no rows.
+    pub(crate) fn new(alloc: Global) -> Rows
+        ensures first { result.first ≡ 0 }
+        ensures none { length result.rows.items ≡ 0 }
+    {
+        Rows {
+            first: 0,
+            rows: Vec::new(alloc),
+        }
+    }
+
     // Reads what is kept; nothing where there is no row.
     #[tactic(auto, using(crate::proofs::Places::kept_before, crate::proofs::Places::kept_behind, crate::proofs::Places::kept_row))]
     pub(crate) fn kept(&self, month: u64, class: Class) -> Kept
@@ -63,7 +74,7 @@ impl Rows {
     }
 
     // Adds to what is kept.
-    fn add(&mut self, month: u64, class: Class, more: Kept)
+    pub(crate) fn add(&mut self, month: u64, class: Class, more: Kept)
         requires row { HasRowIn self.old month }
         requires room { HasRoom (kept_in self.old month (rank_of class)) more }
         ensures { IsAdded self.old self.new month (rank_of class) more }
