@@ -1,10 +1,10 @@
 -- What lies in the window of a month.
-use Rattle.std.proofs.Common.{◌≡◌, ◌≢◌, ◌≤◌, ◌<◌, ◌+◌, ◌-◌, ◌*◌, ◌==◌, ℕ, pos, Bool, true, false, refl, ap, sym, ◌∙◌, arith}
-use Rattle.std.specs.Prelude.{◌^◌, nat_le, nat_lt, ◌&&◌, min, max}
+use Rattle.std.proofs.Common.{◌≡◌, ◌≢◌, ◌≤◌, ◌<◌, ◌+◌, ◌-◌, ◌*◌, ◌==◌, ℕ, zero, suc, pos, Bool, true, false, refl, ap, sym, ◌∙◌, arith}
+use Rattle.std.specs.Prelude.{◌^◌, nat_le, nat_lt, ◌&&◌, min, max, if◌then◌else◌}
 use Rattle.std.proofs.lemmas.Bool.Decides.{nat_tests}
 use Rattle.jiff_core.proofs.CalendarLemmas.{days_in_month_bounds}
 use Rattle.moments.specs.Time.{day, end_of_time}
-use Rattle.moments.specs.Months.{months, first_day, month_start, month_end, year_of, month_of_year, IsInMonth}
+use Rattle.moments.specs.Months.{months, first_day, month_start, month_end, year_of, month_of_year, months_over, month_at, IsInMonth}
 use Rattle.moments.proofs.Calendar.{first_day_next, first_day_order, month_small}
 use Rattle.accrual.specs.Meters.{is_in_month}
 use Rattle.accrual.specs.Totals.{ms_within}
@@ -61,3 +61,18 @@ in_month_is m k x is = in_month_case m k x _ refl is
 
 pub month_among : (k m : ℕ) → IsInMonth k m → m < end_of_time → k < months
 month_among k m is small = month_small k m is.begun small
+
+-- the months are in the order of the moments
+over_order : (a b n : ℕ) → a ≤ b → months_over a n ≤ months_over b n
+unfolding months_over
+over_order a b zero le = omega arith
+over_order a b (suc n) le =
+    let o = over_order a b n le in
+    let p = over_one (month_end n) a b le in
+    omega (arith, o, p)
+  where
+  over_one : (end a b : ℕ) → a ≤ b → (if nat_le end a then 1 else 0) ≤ (if nat_le end b then 1 else 0)
+  over_one end a b le = by_less a end (λ less. grind (arith, nat_tests)) (λ more. grind (arith, nat_tests))
+
+pub month_at_order : (a b : ℕ) → a ≤ b → month_at a ≤ month_at b
+month_at_order a b le = over_order a b months le

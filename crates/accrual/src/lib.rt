@@ -4,5 +4,7 @@
 mod calendar;
 mod meters;
 mod rows;
+#[cfg(test)]
+mod tests;
 
 pub use meters::Meters;

@@ -49,6 +49,13 @@ impl Meters {
         }
     }
 
+    /// Reads how many calls have booked something.
+    pub fn booked(&self) -> u64
+        ensures { result ≡ self.now.booked }
+    {
+        self.booked
+    }
+
     /// Makes rows for these months, and all between them and the rows that are there.
     ///
     /// # Errors

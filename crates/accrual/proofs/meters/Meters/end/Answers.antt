@@ -1,18 +1,21 @@
 use Rattle.std.proofs.Common.{◌≡◌, ◌<◌, ◌≤◌, ◌+◌, ◌-◌, ◌*◌, ℕ, List, subst, sym, ap, arith, rules, refl, ◌∙◌}
 use Rattle.std.specs.Prelude.{◌^◌}
-use Rattle.moments.specs.Months.{IsInMonth, month_start, month_end}
+use Rattle.moments.specs.Months.{IsInMonth, month_start, month_end, month_at}
 use Rattle.class_rules.specs.Classes.{rank_of, least_stay}
 use Rattle.class_rules.specs.Lines.{lines_of}
 use Rattle.accrual.specs.Books.{Stay, Book}
 use Rattle.accrual.specs.Totals.{Totals, StandsFor, HasOpenStay, ms_within}
-use Rattle.accrual.specs.Kept.{kept_in, HasBegun, IsBegun, IsEnded, IsAdded, running_to}
-use Rattle.accrual.proofs.Windows.{within_short}
+use Rattle.accrual.specs.Kept.{kept_in, HasRowIn, HasBegun, IsBegun, IsEnded, IsAdded, running_to}
+use Rattle.accrual.proofs.Windows.{within_short, month_at_order}
 use Rattle.accrual.proofs.Bounds.{bounded_finished, bounded_ended, bounded_modest}
 use Rattle.accrual.proofs.Bookings.{stands_begun, stands_ended}
 use Rattle.accrual.proofs.meters.Meters.end.Goals as goal
 
 pub finish-requires-clause-row : goal.finish-requires-clause-row
-finish-requires-clause-row c = ?
+finish-requires-clause-row c =
+    let at : c.number_of.result ≡ month_at c.args.from = c.number_of.ensures ∙ c.month_of-month.ensures.month in
+    let row = c.requires.rows (month_at c.args.from) (omega arith) (month_at_order c.args.from c.args.at c.requires.later) in
+    subst (λ k. HasRowIn c.self.inside.rows k) (sym at) (subst (λ (t : Totals). HasRowIn t.rows (month_at c.args.from)) (sym c.self.view_is) row)
 
 pub finish-requires-clause-within : goal.finish-requires-clause-within
 finish-requires-clause-within c =

@@ -24,8 +24,10 @@ begin-requires-clause-short c =
 
 pub invariant_of-self : goal.invariant_of-self
 invariant_of-self c =
+    let same : c.ms.result - c.month_window-start.result.0 ≡ c.args.from - month_start c.number_of.result = cc in
+    let short = short_ms (month_start c.number_of.result) (month_end c.number_of.result) c.args.from _ (month_short c.number_of.result) (subst (λ k. IsInMonth k c.args.from) (sym c.number_of.ensures) c.month_of-month.ensures.within).not_over same in
     let b = ap (λ (t : Totals). t.booked) c.self.view_is in let few : c.self.inside.booked < 2 ^ 44 = omega (arith, b, c.requires.few) in
-    bounded_begun c.self.inside.rows c.begin.new.self c.self.inside.booked c.args.lines.now c.number_of.result (c.ms.result - c.month_window-start.result.0) c.self.invariant few c.requires.billed (begin-requires-clause-short _) c.begin.ensures
+    bounded_begun c.self.inside.rows c.begin.new.self c.self.inside.booked c.args.lines.now c.number_of.result (c.ms.result - c.month_window-start.result.0) c.self.invariant few c.requires.billed short c.begin.ensures
 
 pub returns-clause-stands : goal.returns-clause-stands
 returns-clause-stands c book stands =
