@@ -1,4 +1,5 @@
 pub mod Dropped
+pub mod FieldLemmas
 pub mod Filled
 pub mod FrontLemmas
 pub mod Given

@@ -1,0 +1,28 @@
+-- The fields of a head as spans, and what they say of its body.
+use Rattle.std.specs.Prelude.{◌≡◌, ℕ, ◌≤◌, List, [], ◌∷◌, map, codes, Option, Some, Result, Ok, Err}
+use Rattle.std.specs.List.{filter}
+use Rattle.httparse.specs.Grammar.{RequestHead}
+use Rattle.httparse.specs.Spans.{span_bytes}
+use Rattle.httparse.specs.declared.spans.HeaderSpan.{HeaderSpan}
+use Rattle.httparse.specs.declared.spans.Span.{Span}
+use Rattle.http_wire.specs.Messages.{same_word, fields_named, body_length, body_room, refused, after_coding}
+use Rattle.http_wire.specs.declared.fields.Found.{Found}
+use Rattle.http_wire.specs.declared.fields.Found.TheVariants.{Absent, Once, Repeated}
+use Rattle.http_wire.specs.declared.framing.FramingRefusal.{FramingRefusal}
+
+-- where the values of the fields of this name are
+abbrev pub values_named : List ℕ → List ℕ → List HeaderSpan → List Span
+values_named bytes name headers = map (λ (h : HeaderSpan). h.value) (filter (λ (h : HeaderSpan). same_word (span_bytes bytes h.name) name) headers)
+
+-- none, one or several
+abbrev pub found_of : List Span → Found
+found_of [] = Absent
+found_of (s ∷ []) = Once s
+found_of (s ∷ t ∷ spans) = Repeated
+
+-- the body behind a head has so many bytes, or the head is refused whatever follows
+abbrev pub Frames : RequestHead → Result ℕ FramingRefusal → Type 0
+Frames h (Ok size) =
+    (fields_named (codes "Transfer-Encoding") h.fields ≡ [])
+    × (body_length (fields_named (codes "Content-Length") h.fields) ≡ Some size) × (size ≤ body_room)
+Frames h (Err bad) = (after rest : List ℕ) → after_coding h after (fields_named (codes "Transfer-Encoding") h.fields) (refused bad) rest
