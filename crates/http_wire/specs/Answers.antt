@@ -64,11 +64,12 @@ OnRefused (Ok (next.Refused bad)) P = P bad
 OnRefused (Ok next.End) P = ⊤
 OnRefused (Err e) P = ⊤
 
--- what an answer says of the bytes, with what the buffer then holds and the source has left
+-- what an answer says of the bytes, with what the buffer then holds and the source has left; the end is found by a read, so
+-- fewer bytes than the limit were taken
 abbrev pub Tells : Held → Option (List ℕ) → Result Next MessageStop → List ℕ → Type 0
 Tells held left (Ok (next.Request m)) bytes = Answers bytes held m
-Tells held left (Ok (next.Refused bad)) bytes = Refuses left bad bytes
-Tells held left (Ok next.End) bytes = (bytes ≡ []) × IsAtEnd left
+Tells held left (Ok (next.Refused bad)) bytes = Refuses left bad bytes × (bad ≡ CutShort → held.taken < take_limit)
+Tells held left (Ok next.End) bytes = (bytes ≡ []) × IsAtEnd left × (held.taken < take_limit)
 Tells held left (Err ReadFault) bytes = ⊤
-Tells held left (Err Spent) bytes = IsUnsettled bytes
+Tells held left (Err Spent) bytes = IsUnsettled bytes × (held.taken ≡ take_limit)
 Tells held left (Err NoMemory) bytes = AwaitsLongBody bytes

@@ -1,11 +1,13 @@
 -- The fields of a head as spans, and what they say of its body.
-use Rattle.std.specs.Prelude.{◌≡◌, ℕ, ◌≤◌, List, [], ◌∷◌, map, codes, Option, Some, Result, Ok, Err}
+use Rattle.std.specs.Prelude.{◌≡◌, ℕ, Bool, ◌≤◌, List, [], ◌∷◌, map, codes, Option, Some, Result, Ok, Err}
 use Rattle.std.specs.List.{filter}
 use Rattle.httparse.specs.Grammar.{RequestHead}
-use Rattle.httparse.specs.Spans.{span_bytes}
+use Rattle.httparse.specs.Spans.{span_bytes, IsRequestAt, IsRequestWithin}
 use Rattle.httparse.specs.declared.spans.HeaderSpan.{HeaderSpan}
+use Rattle.httparse.specs.declared.spans.RequestSpans.{RequestSpans}
 use Rattle.httparse.specs.declared.spans.Span.{Span}
-use Rattle.http_wire.specs.Messages.{same_word, fields_named, body_length, body_room, refused, after_coding}
+use Rattle.http_wire.specs.Held.{head_room}
+use Rattle.http_wire.specs.Messages.{same_word, fields_named, body_length, body_room, refused, after_coding, is_last}
 use Rattle.http_wire.specs.declared.fields.Found.{Found}
 use Rattle.http_wire.specs.declared.fields.Found.TheVariants.{Absent, Once, Repeated}
 use Rattle.http_wire.specs.declared.framing.FramingRefusal.{FramingRefusal}
@@ -26,3 +28,12 @@ Frames h (Ok size) =
     (fields_named (codes "Transfer-Encoding") h.fields ≡ [])
     × (body_length (fields_named (codes "Content-Length") h.fields) ≡ Some size) × (size ≤ body_room)
 Frames h (Err bad) = (after rest : List ℕ) → after_coding h after (fields_named (codes "Transfer-Encoding") h.fields) (refused bad) rest
+
+-- A head stands at the front of the bytes, and its body has so many.
+pub record HasFrame (bytes : List ℕ) (headers : List HeaderSpan) (spans : RequestSpans) (size : ℕ) (last : Bool) : Type 0 where
+  pub head : RequestHead
+  pub at : IsRequestAt bytes headers spans head
+  pub within : IsRequestWithin bytes headers spans
+  pub short : spans.len ≤ head_room
+  pub frames : Frames head (Ok size)
+  pub ends : last ≡ is_last head

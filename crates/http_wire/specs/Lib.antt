@@ -5,3 +5,4 @@ pub mod Held
 pub mod Headings
 pub mod Messages
 pub mod Parts
+pub mod Read

@@ -1,5 +1,5 @@
 // The bytes of a body.
-ghost use Rattle.std.specs.Prelude.{◌≡◌, ◌<◌, ◌≤◌, ◌+◌, ◌++◌, ℕ, List, Option, length, take, OnOk, OnErr, IsErrOf};
+ghost use Rattle.std.specs.Prelude.{◌≡◌, ◌<◌, ◌≤◌, ◌+◌, ◌++◌, ℕ, List, Option, length, take, drop, OnOk, OnErr, IsErrOf};
 ghost use Rattle.std.specs.Io.KnownBytes.{Consumes, IsAtEnd};
 ghost use Rattle.office_base.specs.Faults.{Rose};
 ghost use Rattle.http_wire.specs.Held.{Took, TookPast, take_limit};
@@ -50,13 +50,14 @@ pub(crate) fn fill_to<R: Source>(
 }
 
 /// Takes bytes that the buffer does not hold, until they fill the body from an index on.
-pub(crate) fn fill_rest<R: Source>(
+fn fill_rest<R: Source>(
     source: &mut R,
     buffer: &mut Buffer,
     body: &mut [u8],
     from: usize,
 ) -> Result<(), Gap>
     requires inside { from ≤ length body.old }
+    requires limit { buffer.old.taken ≤ take_limit }
     ensures took { TookPast buffer.old buffer.new (R.left source.old) (R.left source.new) (λ given.
         OnOk result (body.new ≡ take from body.old ++ given) × OnErr result (from + length given < length body.old)) }
     ensures limit { buffer.new.taken ≤ take_limit }
@@ -77,4 +78,28 @@ pub(crate) fn fill_rest<R: Source>(
         }
     }
     Ok(())
+}
+
+/// Copies the bytes that the buffer holds from an index on into a longer body, and takes the rest of it.
+#[tactic(auto, using(crate::proofs::Copied::copied))]
+pub(crate) fn fill_body<R: Source>(
+    source: &mut R,
+    buffer: &mut Buffer,
+    body: &mut [u8],
+    start: usize,
+) -> Result<(), Gap>
+    requires inside { start ≤ length buffer.old.bytes }
+    requires longer { length buffer.old.bytes ≤ start + length body.old }
+    ensures took { TookPast buffer.old buffer.new (R.left source.old) (R.left source.new) (λ given.
+        OnOk result (body.new ≡ drop start buffer.old.bytes ++ given) × OnErr result (length buffer.old.bytes + length given < start + length body.old)) }
+    ensures limit { buffer.new.taken ≤ take_limit }
+    ensures end { IsErrOf result Gap.Ended → IsAtEnd (R.left source.new) × (buffer.new.taken < take_limit) }
+    ensures spent { IsErrOf result Gap.Spent → buffer.new.taken ≡ take_limit }
+    ensures later { R.faults source.old ≤ R.faults source.new }
+    ensures fault { IsErrOf result Gap.ReadFault → Rose (R.faults source.old) (R.faults source.new) }
+{
+    let held = buffer.held();
+    let front = held.len() - start;
+    body[..front].copy_from_slice(&held[start..]);
+    fill_rest(source, buffer, body, front)
 }
