@@ -1,5 +1,5 @@
 -- A body whose first bytes were copied.
-use Rattle.std.proofs.Common.{◌≡◌, ℕ, ◌-◌, ◌≤◌, List, ◌++◌, length, take, drop, ap, ◌∙◌, subst, sym, arith, length-drop}
+use Rattle.std.proofs.Common.{◌≡◌, ℕ, ◌-◌, List, ◌++◌, length, take, drop, ap, ◌∙◌, arith, length-drop}
 use Rattle.std.proofs.lemmas.List.{take_all, take-append-le}
 
 pub copied : (bytes behind : List ℕ) (start : ℕ) → take (length bytes - start) (take (length bytes - start) (drop start bytes) ++ behind) ≡ drop start bytes

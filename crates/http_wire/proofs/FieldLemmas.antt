@@ -1,19 +1,15 @@
 -- The fields of a head, by the spans of their names and values.
-use Rattle.std.proofs.Common.{inl, ◌≡◌, ℕ, ◌+◌, ◌-◌, ◌*◌, ◌^◌, ◌<◌, ◌≤◌, Bool, true, false, ◌&&◌, ◌||◌, List, [], ◌∷◌, ◌++◌, length, take, drop, map, min, codes, get_or, refl, sym, ap, ◌∙◌, subst, arith, Option, Some, None, Result, Ok, Err}
+use Rattle.std.proofs.Common.{inl, ◌≡◌, ℕ, ◌-◌, ◌^◌, ◌<◌, ◌≤◌, Bool, true, false, ◌&&◌, List, [], ◌∷◌, map, min, codes, refl, sym, ap, ◌∙◌, subst, arith, Option, Some, None, Ok, Err}
 use Rattle.std.specs.Prelude.{All, option_map}
-use Rattle.std.specs.List.{filter, list_any, list_all}
-use Rattle.std.specs.Char.{is_ascii_digit, digit_value}
-use Rattle.std.specs.Str.Parse.{digits_value}
+use Rattle.std.specs.List.{filter, list_any}
 use Rattle.std.proofs.lemmas.Simd.{map-map}
-use Rattle.std.proofs.lemmas.Bool.{and_parts}
 use Rattle.std.proofs.lemmas.List.Elements.{All-head, All-filter}
 use Rattle.httparse.specs.Grammar.{RequestHead, Field, field_value}
 use Rattle.httparse.specs.Spans.{IsHeaderWithin, IsWithin, header_bytes, name_and_value, span_bytes}
 use Rattle.httparse.specs.declared.spans.HeaderSpan.{HeaderSpan}
 use Rattle.httparse.specs.declared.spans.Span.{Span}
-use Rattle.http_wire.specs.Messages.{refused, same_word, fields_named, body_length, number_of, is_last, after_coding, after_length, body_room}
+use Rattle.http_wire.specs.Messages.{refused, same_word, fields_named, body_length, number_of, after_coding, after_length, body_room}
 use Rattle.http_wire.specs.Framing.{Frames, values_named, found_of}
-use Rattle.http_wire.specs.declared.fields.Found.{Found}
 use Rattle.http_wire.specs.declared.fields.Found.TheVariants.{Absent, Once, Repeated}
 use Rattle.http_wire.specs.declared.framing.FramingRefusal.{FramingRefusal}
 use Rattle.http_wire.specs.declared.framing.FramingRefusal.TheVariants.{BadHead, BodyTooLarge, ChunkedBody}

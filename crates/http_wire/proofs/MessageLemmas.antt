@@ -1,22 +1,22 @@
 -- What is read of a message.
-use Rattle.std.proofs.Common.{◌≡◌, ◌≢◌, ℕ, ◌+◌, ◌-◌, ◌<◌, ◌≤◌, Bool, true, false, List, [], ◌∷◌, ◌++◌, length, take, drop, map, codes, refl, sym, ap, ◌∙◌, subst, arith, length-append, length-drop, append_assoc, append-nil, inl, inr, Option, Some, None, Result, Ok, Err}
+use Rattle.std.proofs.Common.{◌≡◌, ℕ, ◌+◌, ◌-◌, ◌<◌, ◌≤◌, Bool, List, [], ◌∷◌, ◌++◌, length, take, drop, map, codes, refl, sym, ap, ◌∙◌, subst, arith, length-append, length-drop, append_assoc, append-nil, inl, inr, Option, Some, None, Result, Ok, Err}
 use Rattle.std.specs.Prelude.{◌⊎◌, All, ⊤, IsErrOf}
-use Rattle.std.specs.Io.KnownBytes.{Consumes, IsAtEnd}
+use Rattle.std.specs.Io.KnownBytes.{IsAtEnd}
 use Rattle.std.proofs.lemmas.Bool.{cases_lt}
 use Rattle.std.proofs.lemmas.List.{take_all, drop_all, drop-drop, take-append-le, drop-append-le}
 use Rattle.std.proofs.lemmas.List.Elements.{All-head, All-tail}
 use Rattle.httparse.specs.Grammar.{RequestHead, Field, print_request, print_blank, print_version, print_end, print_section, ReadsRequest}
-use Rattle.httparse.specs.Spans.{IsWithin, IsHeaderWithin, IsSectionWithin, IsRequestAt, IsRequestOf, IsRequestWithin, span_bytes, header_bytes, name_and_value}
+use Rattle.httparse.specs.Spans.{IsHeaderWithin, IsRequestAt, IsRequestWithin, span_bytes, header_bytes, name_and_value}
 use Rattle.httparse.specs.declared.spans.HeaderSpan.{HeaderSpan}
 use Rattle.httparse.specs.declared.spans.RequestSpans.{RequestSpans}
 use Rattle.httparse.specs.declared.spans.Span.{Span}
 use Rattle.httparse.proofs.GrammarLemmas.{ReadsRequest-append, print_request-append}
-use Rattle.http_wire.specs.Heads.{IsHopeless, IsOpen}
-use Rattle.http_wire.specs.Headings.{OnHead, HasHeading}
+use Rattle.http_wire.specs.Heads.{IsOpen}
+use Rattle.http_wire.specs.Headings.{HasHeading}
 use Rattle.http_wire.specs.Held.{Held, Took, TookPast, head_room, take_limit}
-use Rattle.http_wire.specs.Messages.{Framed, Request, request, refused, Stands, HasHead, IsUnsettled, IsCutShort, after_length, after_coding, fields_named, body_length, body_room, is_last}
+use Rattle.http_wire.specs.Messages.{Request, request, refused, Stands, HasHead, IsUnsettled, IsCutShort, after_length, after_coding, fields_named, is_last}
 use Rattle.http_wire.specs.Framing.{Frames, HasFrame}
-use Rattle.http_wire.specs.Parts.{Parts, body_of}
+use Rattle.http_wire.specs.Parts.{Parts}
 use Rattle.http_wire.specs.Answers.{Gave, Answers, Refuses, AwaitsLongBody, OnRequest, OnRefused, Tells}
 use Rattle.http_wire.specs.declared.body.Gap.{Gap}
 use Rattle.http_wire.specs.declared.body.Gap.TheVariants as gaps
@@ -28,7 +28,6 @@ use Rattle.http_wire.specs.declared.message.MessageStop.{MessageStop}
 use Rattle.http_wire.specs.declared.message.MessageStop.TheVariants.{ReadFault, Spent, NoMemory}
 use Rattle.http_wire.specs.declared.reading.Heading.{Heading}
 use Rattle.http_wire.specs.declared.reading.Heading.TheVariants as heading
-use Rattle.http_wire.specs.declared.reading.Stop.{Stop}
 use Rattle.http_wire.proofs.Taking.{consumes_none, consumes_then}
 use Rattle.http_wire.proofs.Unique.{stands_more, short_body, open_unsettled, open_too_large, hopeless_bad}
 
@@ -372,6 +371,12 @@ module _ (a b : Held) (la lb : Option (List ℕ)) where
 
   pub given_part : (result : Result Next MessageStop) → Told result → Gave a b la lb (λ bytes. ⊤)
   given_part result gave = weaker a b la lb _ (λ bytes. ⊤) (λ bytes x. tt) gave
+
+  pub fits_part : (result : Result Next MessageStop) → Told result → OnRequest result (λ (m : Parts). m.used ≤ length b.bytes)
+  fits_part (Ok (next.Request m)) gave = gave.so.fits
+  fits_part (Ok (next.Refused bad)) gave = tt
+  fits_part (Ok next.End) gave = tt
+  fits_part (Err e) gave = tt
 
   pub uses_part : (result : Result Next MessageStop) → Told result → OnRequest result (λ (m : Parts). a.taken + length (drop m.used b.bytes) < b.taken + length a.bytes)
   uses_part (Ok (next.Request m)) gave =

@@ -1,8 +1,8 @@
 -- The answers of reads are the messages of the stream.
-use Rattle.std.proofs.Common.{◌≡◌, ℕ, ◌<◌, true, false, Bool, List, [], ◌∷◌, ◌++◌, length, drop, refl, sym, ap, ◌∙◌, subst, arith, append_assoc, append-nil, inl, inr, Option, Some}
+use Rattle.std.proofs.Common.{◌≡◌, ℕ, true, false, List, [], ◌∷◌, ◌++◌, length, drop, refl, sym, ap, ◌∙◌, subst, arith, append_assoc, append-nil, inl, inr, Some}
 use Rattle.std.specs.Prelude.{◌⊎◌}
 use Rattle.http_wire.specs.Held.{Held}
-use Rattle.http_wire.specs.Messages.{Framed, Request, request, refused, Stands, IsCutShort, Messages, ends_session}
+use Rattle.http_wire.specs.Messages.{Framed, request, refused, Stands, IsCutShort, Messages, ends_session}
 use Rattle.http_wire.specs.Parts.{Parts}
 use Rattle.http_wire.specs.Answers.{Gave, Answers, Refuses}
 use Rattle.http_wire.specs.declared.framing.FramingRefusal.{FramingRefusal}

@@ -1,5 +1,5 @@
 -- The fields of a head as spans, and what they say of its body.
-use Rattle.std.specs.Prelude.{◌≡◌, ℕ, Bool, ◌≤◌, List, [], ◌∷◌, map, codes, Option, Some, Result, Ok, Err}
+use Rattle.std.specs.Prelude.{◌≡◌, ℕ, Bool, ◌≤◌, List, [], ◌∷◌, map, codes, Some, Result, Ok, Err}
 use Rattle.std.specs.List.{filter}
 use Rattle.httparse.specs.Grammar.{RequestHead}
 use Rattle.httparse.specs.Spans.{span_bytes, IsRequestAt, IsRequestWithin}

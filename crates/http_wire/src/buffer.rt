@@ -158,9 +158,9 @@ impl Buffer {
     {
         let most = askable(room.len() - at, self.taken);
         match read_on(source, room, at, most) {
-            Ok(count) => {
-                self.taken += count as u64;
-                Ok(count)
+            Ok(given) => {
+                self.taken += given as u64;
+                Ok(given)
             }
             Err(e) => Err(e),
         }

@@ -30,12 +30,14 @@ pub struct Message {
 }
 
 impl Model for Message {
-    ghost use Rattle.std.specs.Prelude.{option_map};
+    ghost use Rattle.std.specs.Prelude.{◌≤◌, option_map};
     ghost use Rattle.http_wire.specs.Parts.{Parts};
 
     ghost Value = { Parts };
 
     ghost view = { λ m. record { head = m.head; used = m.used; last = m.last; apart = option_map (λ v. v.items) m.apart } };
+
+    ghost invariant = { λ m. m.head.len ≤ m.used };
 }
 
 impl Message {
@@ -62,7 +64,6 @@ impl Message {
 
     /// Reads the body.
     pub fn body<'a>(&'a self, buffer: &'a Buffer) -> &'a [u8]
-        requires head { self.now.head.len ≤ self.now.used }
         requires held { self.now.used ≤ length buffer.now.bytes }
         ensures { result.now ≡ body_of self.now buffer.now.bytes }
     {
@@ -252,6 +253,7 @@ pub fn read_message<R: Source>(
     ensures no_memory { IsErrOf result MessageStop.NoMemory → Gave buffer.old buffer.new (R.left source.old) (R.left source.new) AwaitsLongBody }
     ensures given { Gave buffer.old buffer.new (R.left source.old) (R.left source.new) (λ bytes. ⊤) }
     ensures limit { buffer.new.taken ≤ take_limit }
+    ensures fits { OnRequest result (λ m. m.used ≤ length buffer.new.bytes) }
     // A message has at least one byte.
     ensures uses { OnRequest result (λ m. buffer.old.taken + length (drop m.used buffer.new.bytes) < buffer.new.taken + length buffer.old.bytes) }
     // A message whose bytes are held is answered without a read.

@@ -1,5 +1,8 @@
+ghost use Rattle.std.specs.Prelude.{◌≤◌, length};
+
 use super::*;
 use httparse::spans::EMPTY_HEADER_SPAN;
+use std::alloc::Global;
 use std::test::Fail;
 
 const WHOLE: u8 = 1;
@@ -71,14 +74,32 @@ enum Seen<'a> {
     End,
 }
 
-fn is_seen(next: &Next, buffer: &Buffer, wanted: &Seen<'_>) -> bool {
-    match (next, wanted) {
-        (Next::Request(message), Seen::Message { body, last }) => {
-            message.last() == *last && message.body(buffer) == *body
-        }
-        (Next::Refused(bad), Seen::Refused(refusal)) => bad == refusal,
-        (Next::End, Seen::End) => true,
+/// Whether the message is the one that is wanted.
+fn is_message(message: &Message, buffer: &Buffer, wanted: &Seen<'_>) -> bool
+    requires { message.now.used ≤ length buffer.now.bytes }
+{
+    match wanted {
+        Seen::Message { body, last } => { message.last() == *last && message.body(buffer) == *body }
         _ => false,
+    }
+}
+
+/// Whether the message behind those read is the one that is wanted.
+fn reads_one(
+    alloc: Global,
+    source: &mut MemorySource,
+    buffer: &mut Buffer,
+    wanted: &Seen<'_>,
+) -> bool {
+    match read_message(alloc, source, buffer) {
+        Ok(Next::Request(message)) => {
+            let same = is_message(&message, buffer, wanted);
+            buffer.drop_front(message.used());
+            same
+        }
+        Ok(Next::Refused(bad)) => matches!(wanted, Seen::Refused(refusal) if bad == *refusal),
+        Ok(Next::End) => matches!(wanted, Seen::End),
+        Err(_) => false,
     }
 }
 
@@ -89,14 +110,8 @@ fn reads(rt: HostRuntime, bytes: &[u8], wanted: &[Seen<'_>]) -> Result<bool, Fai
         let mut source = MemorySource::new(bytes.to_vec(alloc)?, cut, Vec::new(alloc));
         let mut buffer = Buffer::new(alloc)?;
         for seen in wanted {
-            let Ok(next) = read_message(alloc, &mut source, &mut buffer) else {
+            if !reads_one(alloc, &mut source, &mut buffer, seen) {
                 return Ok(false);
-            };
-            if !is_seen(&next, &buffer, seen) {
-                return Ok(false);
-            }
-            if let Next::Request(message) = next {
-                buffer.drop_front(message.used());
             }
         }
     }
@@ -107,35 +122,152 @@ fn reads(rt: HostRuntime, bytes: &[u8], wanted: &[Seen<'_>]) -> Result<bool, Fai
 fn one_thing_stands_at_the_front(rt: HostRuntime) -> Result<(), Fail> {
     let rows: [(&[u8], Seen<'_>); 30] = [
         (b"", Seen::End),
-        (b"GET / HTTP/1.1\r\n\r\n", Seen::Message { body: b"", last: false }),
-        (b"PUT / HTTP/1.1\r\nContent-Length: 3\r\n\r\nabcd", Seen::Message { body: b"abc", last: false }),
-        (b"PUT / HTTP/1.1\r\nCONTENT-length:\t02 \t\r\n\r\nabcd", Seen::Message { body: b"ab", last: false }),
-        (b"PUT / HTTP/1.1\nContent-Length: 0010\n\n0123456789", Seen::Message { body: b"0123456789", last: false }),
-        (b"PUT / HTTP/1.1\r\nContent-Length: 000000000000000000000000000000000000000000000000000000000001\r\n\r\nabcd", Seen::Message { body: b"a", last: false }),
-        (b"PUT / HTTP/1.1\r\nContent-Length: 0\r\n\r\n", Seen::Message { body: b"", last: false }),
-        (b"GET / HTTP/1.0\r\n\r\n", Seen::Message { body: b"", last: true }),
-        (b"GET / HTTP/1.0\r\nConnection: keep-alive\r\n\r\n", Seen::Message { body: b"", last: true }),
-        (b"GET / HTTP/1.1\r\nConnection: close\r\n\r\n", Seen::Message { body: b"", last: true }),
-        (b"GET / HTTP/1.1\r\ncONNECTION:  CLose\r\n\r\n", Seen::Message { body: b"", last: true }),
-        (b"GET / HTTP/1.1\r\nConnection: a\r\nConnection: close\r\n\r\n", Seen::Message { body: b"", last: true }),
-        (b"GET / HTTP/1.1\r\nConnection: close, a\r\n\r\n", Seen::Message { body: b"", last: false }),
-        (b"GET / HTTP/1.1\r\nKeep: close\r\n\r\n", Seen::Message { body: b"", last: false }),
+        (
+            b"GET / HTTP/1.1\r\n\r\n",
+            Seen::Message {
+                body: b"",
+                last: false,
+            },
+        ),
+        (
+            b"PUT / HTTP/1.1\r\nContent-Length: 3\r\n\r\nabcd",
+            Seen::Message {
+                body: b"abc",
+                last: false,
+            },
+        ),
+        (
+            b"PUT / HTTP/1.1\r\nCONTENT-length:\t02 \t\r\n\r\nabcd",
+            Seen::Message {
+                body: b"ab",
+                last: false,
+            },
+        ),
+        (
+            b"PUT / HTTP/1.1\nContent-Length: 0010\n\n0123456789",
+            Seen::Message {
+                body: b"0123456789",
+                last: false,
+            },
+        ),
+        (
+            b"PUT / HTTP/1.1\r\nContent-Length: 000000000000000000000000000000000000000000000000000000000001\r\n\r\nabcd",
+            Seen::Message {
+                body: b"a",
+                last: false,
+            },
+        ),
+        (
+            b"PUT / HTTP/1.1\r\nContent-Length: 0\r\n\r\n",
+            Seen::Message {
+                body: b"",
+                last: false,
+            },
+        ),
+        (
+            b"GET / HTTP/1.0\r\n\r\n",
+            Seen::Message {
+                body: b"",
+                last: true,
+            },
+        ),
+        (
+            b"GET / HTTP/1.0\r\nConnection: keep-alive\r\n\r\n",
+            Seen::Message {
+                body: b"",
+                last: true,
+            },
+        ),
+        (
+            b"GET / HTTP/1.1\r\nConnection: close\r\n\r\n",
+            Seen::Message {
+                body: b"",
+                last: true,
+            },
+        ),
+        (
+            b"GET / HTTP/1.1\r\ncONNECTION:  CLose\r\n\r\n",
+            Seen::Message {
+                body: b"",
+                last: true,
+            },
+        ),
+        (
+            b"GET / HTTP/1.1\r\nConnection: a\r\nConnection: close\r\n\r\n",
+            Seen::Message {
+                body: b"",
+                last: true,
+            },
+        ),
+        (
+            b"GET / HTTP/1.1\r\nConnection: close, a\r\n\r\n",
+            Seen::Message {
+                body: b"",
+                last: false,
+            },
+        ),
+        (
+            b"GET / HTTP/1.1\r\nKeep: close\r\n\r\n",
+            Seen::Message {
+                body: b"",
+                last: false,
+            },
+        ),
         (b"G(T", Seen::Refused(FramingRefusal::BadHead)),
-        (b"PUT / HTTP/1.1\r\nContent-Length: +5\r\n\r\nabcde", Seen::Refused(FramingRefusal::BadHead)),
-        (b"PUT / HTTP/1.1\r\nContent-Length:\r\n\r\n", Seen::Refused(FramingRefusal::BadHead)),
-        (b"PUT / HTTP/1.1\r\nContent-Length: 5 5\r\n\r\nabcde", Seen::Refused(FramingRefusal::BadHead)),
-        (b"PUT / HTTP/1.1\r\nContent-Length: 0x5\r\n\r\nabcde", Seen::Refused(FramingRefusal::BadHead)),
-        (b"PUT / HTTP/1.1\r\nContent-Length: 5\r\ncontent-length: 5\r\n\r\nabcde", Seen::Refused(FramingRefusal::BadHead)),
-        (b"PUT / HTTP/1.1\r\nContent-Length: 1048577\r\n\r\n", Seen::Refused(FramingRefusal::BodyTooLarge)),
-        (b"PUT / HTTP/1.1\r\nContent-Length: 9999999999999999999999999999999999999999\r\n\r\n", Seen::Refused(FramingRefusal::BodyTooLarge)),
-        (b"PUT / HTTP/1.1\r\nTransfer-Encoding: gzip\r\n\r\n", Seen::Refused(FramingRefusal::ChunkedBody)),
-        (b"PUT / HTTP/1.1\r\nContent-Length: 5\r\nContent-Length: 5\r\ntransfer-encoding:\r\n\r\n", Seen::Refused(FramingRefusal::ChunkedBody)),
-        (b"PUT / HTTP/1.1\r\nContent-Length: 1048577\r\nContent-Length: 1048577\r\n\r\n", Seen::Refused(FramingRefusal::BadHead)),
+        (
+            b"PUT / HTTP/1.1\r\nContent-Length: +5\r\n\r\nabcde",
+            Seen::Refused(FramingRefusal::BadHead),
+        ),
+        (
+            b"PUT / HTTP/1.1\r\nContent-Length:\r\n\r\n",
+            Seen::Refused(FramingRefusal::BadHead),
+        ),
+        (
+            b"PUT / HTTP/1.1\r\nContent-Length: 5 5\r\n\r\nabcde",
+            Seen::Refused(FramingRefusal::BadHead),
+        ),
+        (
+            b"PUT / HTTP/1.1\r\nContent-Length: 0x5\r\n\r\nabcde",
+            Seen::Refused(FramingRefusal::BadHead),
+        ),
+        (
+            b"PUT / HTTP/1.1\r\nContent-Length: 5\r\ncontent-length: 5\r\n\r\nabcde",
+            Seen::Refused(FramingRefusal::BadHead),
+        ),
+        (
+            b"PUT / HTTP/1.1\r\nContent-Length: 1048577\r\n\r\n",
+            Seen::Refused(FramingRefusal::BodyTooLarge),
+        ),
+        (
+            b"PUT / HTTP/1.1\r\nContent-Length: 9999999999999999999999999999999999999999\r\n\r\n",
+            Seen::Refused(FramingRefusal::BodyTooLarge),
+        ),
+        (
+            b"PUT / HTTP/1.1\r\nTransfer-Encoding: gzip\r\n\r\n",
+            Seen::Refused(FramingRefusal::ChunkedBody),
+        ),
+        (
+            b"PUT / HTTP/1.1\r\nContent-Length: 5\r\nContent-Length: 5\r\ntransfer-encoding:\r\n\r\n",
+            Seen::Refused(FramingRefusal::ChunkedBody),
+        ),
+        (
+            b"PUT / HTTP/1.1\r\nContent-Length: 1048577\r\nContent-Length: 1048577\r\n\r\n",
+            Seen::Refused(FramingRefusal::BadHead),
+        ),
         (b"GET / HT", Seen::Refused(FramingRefusal::CutShort)),
         (b"\r\n", Seen::Refused(FramingRefusal::CutShort)),
-        (b"PUT / HTTP/1.1\r\nContent-Length: 5\r\n\r\nabcd", Seen::Refused(FramingRefusal::CutShort)),
-        (b"PUT / HTTP/1.1\r\nContent-Length: 1048576\r\n\r\nabcd", Seen::Refused(FramingRefusal::CutShort)),
-        (b"PUT / HTTP/1.1\r\nContent-Length: 1\r\n\r\n", Seen::Refused(FramingRefusal::CutShort)),
+        (
+            b"PUT / HTTP/1.1\r\nContent-Length: 5\r\n\r\nabcd",
+            Seen::Refused(FramingRefusal::CutShort),
+        ),
+        (
+            b"PUT / HTTP/1.1\r\nContent-Length: 1048576\r\n\r\nabcd",
+            Seen::Refused(FramingRefusal::CutShort),
+        ),
+        (
+            b"PUT / HTTP/1.1\r\nContent-Length: 1\r\n\r\n",
+            Seen::Refused(FramingRefusal::CutShort),
+        ),
     ];
     for row in rows {
         assert!(rt; reads(rt, row.0, &[row.1])?);
@@ -145,11 +277,21 @@ fn one_thing_stands_at_the_front(rt: HostRuntime) -> Result<(), Fail> {
 
 #[test]
 fn messages_stand_behind_one_another(rt: HostRuntime) -> Result<(), Fail> {
-    let stream = b"PUT /a HTTP/1.1\r\nContent-Length: 3\r\n\r\nabc\r\nPUT /b HTTP/1.1\r\nContent-Length: 2\r\n\r\ndeGET / HTTP/1.0\r\n\r\nG";
+    let stream =
+        b"PUT /a HTTP/1.1\r\nContent-Length: 3\r\n\r\nabc\r\nPUT /b HTTP/1.1\r\nContent-Length: 2\r\n\r\ndeGET / HTTP/1.0\r\n\r\nG";
     let wanted = [
-        Seen::Message { body: b"abc", last: false },
-        Seen::Message { body: b"de", last: false },
-        Seen::Message { body: b"", last: true },
+        Seen::Message {
+            body: b"abc",
+            last: false,
+        },
+        Seen::Message {
+            body: b"de",
+            last: false,
+        },
+        Seen::Message {
+            body: b"",
+            last: true,
+        },
         Seen::Refused(FramingRefusal::CutShort),
     ];
     assert!(rt; reads(rt, stream, &wanted)?);
@@ -162,7 +304,10 @@ fn long_bodies_leave_what_follows(rt: HostRuntime) -> Result<(), Fail> {
     let rows: [(&[u8], usize); 3] = [
         (b"PUT /a HTTP/1.1\r\nContent-Length: 8000\r\n\r\n", 8_000),
         (b"PUT /a HTTP/1.1\r\nContent-Length: 8192\r\n\r\n", 8_192),
-        (b"PUT /a HTTP/1.1\r\nContent-Length: 100000\r\n\r\n", 100_000),
+        (
+            b"PUT /a HTTP/1.1\r\nContent-Length: 100000\r\n\r\n",
+            100_000,
+        ),
     ];
     for row in rows {
         let mut body = Vec::new(alloc);
@@ -173,8 +318,14 @@ fn long_bodies_leave_what_follows(rt: HostRuntime) -> Result<(), Fail> {
         stream.extend_from_slice(&body)?;
         stream.extend_from_slice(b"PUT /b HTTP/1.1\r\nContent-Length: 2\r\n\r\nde")?;
         let wanted = [
-            Seen::Message { body: &body, last: false },
-            Seen::Message { body: b"de", last: false },
+            Seen::Message {
+                body: &body,
+                last: false,
+            },
+            Seen::Message {
+                body: b"de",
+                last: false,
+            },
             Seen::End,
         ];
         assert!(rt; reads(rt, &stream, &wanted)?);
@@ -186,13 +337,22 @@ fn long_bodies_leave_what_follows(rt: HostRuntime) -> Result<(), Fail> {
 fn a_head_is_whole_within_8192_bytes(rt: HostRuntime) -> Result<(), Fail> {
     let alloc = rt.alloc();
     let mut head = b"GET / HTTP/1.1\r\nA: ".to_vec(alloc)?;
-    while head.len() < 8_188 {
+    for _ in head.len()..8_188 {
         head.push(b'a')?;
     }
     head.extend_from_slice(b"\r\n\r")?;
     assert!(rt; reads(rt, &head, &[Seen::Refused(FramingRefusal::CutShort)])?);
     head.push(b'\n')?;
-    assert!(rt; reads(rt, &head, &[Seen::Message { body: b"", last: false }])?);
+    assert!(rt;
+        reads(
+            rt,
+            &head,
+            &[Seen::Message {
+                body: b"",
+                last: false
+            }]
+        )?
+    );
     head.truncate(8_191);
     head.push(b'\r')?;
     assert!(rt; reads(rt, &head, &[Seen::Refused(FramingRefusal::BadHead)])?);

@@ -1,4 +1,4 @@
-use Rattle.std.proofs.Common.{arith, sym, ◌∙◌, ap, subst, List, ℕ, ◌≡◌, Option, Some, None, min, ◌^◌, ◌-◌}
+use Rattle.std.proofs.Common.{arith, sym, ◌∙◌, ap, List, ℕ, min, ◌^◌, ◌-◌}
 use Rattle.std.specs.Prelude.{option_map}
 use Rattle.http_wire.specs.Messages.{number_of}
 use Rattle.http_wire.proofs.FieldLemmas.{is_coded, no_length, two_lengths, fit_length, great_length, bad_length, value_within}

@@ -1,4 +1,4 @@
-use Rattle.std.proofs.Common.{◌≡◌, List, ℕ, ap, subst, sym, ◌∙◌, length, arith, rules, Ok, Err, Some}
+use Rattle.std.proofs.Common.{◌≡◌, List, ℕ, ap, subst, sym, length, arith, rules, Ok, Err, Some}
 use Rattle.std.proofs.lemmas.List.{with_items_is}
 use Rattle.http_wire.specs.Answers.{Gave, Tells}
 use Rattle.http_wire.specs.declared.message.Next.TheVariants.{Request}

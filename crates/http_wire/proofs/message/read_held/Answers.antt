@@ -1,4 +1,4 @@
-use Rattle.std.proofs.Common.{◌≡◌, ◌+◌, ap, subst, sym, inl, inr, length, arith, Err}
+use Rattle.std.proofs.Common.{◌≡◌, ap, Err}
 use Rattle.http_wire.proofs.MessageLemmas.{held_told, held_short, gap_told, by_frame}
 use Rattle.http_wire.proofs.message.read_held.Goals as goal
 

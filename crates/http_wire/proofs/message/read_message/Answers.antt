@@ -1,7 +1,7 @@
 use Rattle.std.proofs.Common.{◌≡◌, ◌∙◌, ap, subst, Err}
 use Rattle.http_wire.specs.declared.message.MessageStop.TheVariants.{Spent}
 use Rattle.http_wire.specs.Messages.{IsUnsettled}
-use Rattle.http_wire.proofs.MessageLemmas.{request_part, refused_part, end_part, spent_part, given_part, uses_part, told_more, spent_head, head_settled, unsettled_front}
+use Rattle.http_wire.proofs.MessageLemmas.{request_part, refused_part, end_part, spent_part, given_part, uses_part, fits_part, told_more, spent_head, head_settled, unsettled_front}
 use Rattle.http_wire.proofs.message.read_message.Goals as goal
 
 pub returns-in-Ok-clause-request : goal.returns-in-Ok-clause-request
@@ -43,6 +43,13 @@ pub returns-in-Ok-clause-uses : goal.returns-in-Ok-clause-uses
 returns-in-Ok-clause-uses g c =
     let left = g.R.Source.left in
     uses_part c.args.buffer.now c.next_of.new.buffer (left c.args.source.now) (left c.next_of.new.source) c.next_of.result
+    (told_more c.args.buffer.now c.read_head.new.buffer c.next_of.new.buffer (left c.args.source.now) (left c.read_head.new.source) (left c.next_of.new.source) c.next_of.result
+    c.in-Ok.ensures.took c.next_of.ensures.tells)
+
+pub returns-in-Ok-clause-fits : goal.returns-in-Ok-clause-fits
+returns-in-Ok-clause-fits g c =
+    let left = g.R.Source.left in
+    fits_part c.args.buffer.now c.next_of.new.buffer (left c.args.source.now) (left c.next_of.new.source) c.next_of.result
     (told_more c.args.buffer.now c.read_head.new.buffer c.next_of.new.buffer (left c.args.source.now) (left c.read_head.new.source) (left c.next_of.new.source) c.next_of.result
     c.in-Ok.ensures.took c.next_of.ensures.tells)
 
