@@ -1,0 +1,9 @@
+mod Closed
+mod Complete
+mod Leads
+mod Patterns
+mod Rows
+mod Sound
+mod Taken
+mod Texts
+mod Unique
