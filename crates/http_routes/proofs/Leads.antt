@@ -13,16 +13,16 @@ use Rattle.http_routes.proofs.Unique.{apart, no_common_path, parts_unique}
 -- ---- an arm for each route
 
 -- the routes, one after another
-abbrev kinds : List Kind
+abbrev pub kinds : List Kind
 kinds = Bucket ∷ Object ∷ Meters ∷ []
 
 -- where a kind stands among them
-record HasPlace (kind : Kind) : Type 0 where
-  place : ℕ
-  within : place < length kinds
-  is : get_or kinds place Bucket ≡ kind
+pub record HasPlace (kind : Kind) : Type 0 where
+  pub place : ℕ
+  pub within : place < length kinds
+  pub is : get_or kinds place Bucket ≡ kind
 
-place_of : (kind : Kind) → HasPlace kind
+pub place_of : (kind : Kind) → HasPlace kind
 place_of Bucket = record { place = 0; within = omega arith; is = refl }
 place_of Object = record { place = 1; within = omega arith; is = refl }
 place_of Meters = record { place = 2; within = omega arith; is = refl }

@@ -1,5 +1,5 @@
 -- The rows of the router.
-use Rattle.std.proofs.Common.{◌≡◌, ℕ, Bool, true, false, cond, ◌==◌, ◌&&◌, List, [], ◌∷◌, length, nat_eq, refl, sym, ap, ◌∙◌, subst, inl, inr, Result, Ok, Err}
+use Rattle.std.proofs.Common.{◌≡◌, ℕ, zero, suc, ◌<◌, ◌++◌, get_or, arith, Bool, true, false, cond, ◌==◌, ◌&&◌, List, [], ◌∷◌, length, nat_eq, refl, sym, ap, ◌∙◌, subst, inl, inr, Result, Ok, Err}
 use Rattle.std.specs.Prelude.{◌⊎◌}
 use Rattle.std.proofs.lemmas.Bool.{eqb-true, false≢true}
 use Rattle.matchit.specs.Rows.{RowsOf, comes_before}
@@ -9,7 +9,9 @@ use Rattle.matchit.specs.Route.{Scan}
 use Rattle.matchit.specs.Seek.{same_text}
 use Rattle.matchit.specs.declared.error.InsertError.{InsertError}
 use Rattle.http_routes.specs.declared.routes.Kind.{Kind}
-use Rattle.http_routes.specs.Table.{pattern_of, part_count, reads_as, IsRow, AreRows, Among, HasKind, AddsKind}
+use Rattle.http_routes.specs.Table.{pattern_of, part_count, reads_as, IsRow, AreRows, Among, HasKind, AddsKind, IsTable}
+use Rattle.http_routes.specs.declared.routes.Kind.TheVariants.{Bucket}
+use Rattle.http_routes.proofs.Leads.{kinds, place_of}
 
 and_true : (a b : Bool) → a && b ≡ true → (a ≡ true) × (b ≡ true)
 and_true true true e = (refl, refl)
@@ -78,3 +80,36 @@ adds (Ok s) kind old new reads inserts =
         subst (λ (rows : RowsOf (RouteOf Kind)). Among rows (pattern_of other) has.0) (sym inserts.1) (stays_among s.pattern (route_from s kind) old (pattern_of other) has.0 has.2),
       );
     }
+
+-- ---- all routes, one after another
+
+abbrev HaveRows : List Kind → RowsOf (RouteOf Kind) → Type 0
+HaveRows [] rows = Unit {0}
+HaveRows (kind ∷ kinds) rows = HasKind rows kind × HaveRows kinds rows
+
+-- the rows are routes, and these kinds are among them
+pub record Holds (kinds : List Kind) (rows : RowsOf (RouteOf Kind)) : Type 0 where
+  routes : AreRows rows
+  whole : HaveRows kinds rows
+
+pub holds_none : (rows : RowsOf (RouteOf Kind)) → rows ≡ [] → Holds [] rows
+holds_none rows e = record { routes = subst AreRows (sym e) tt; whole = tt }
+
+have_more : (kinds : List Kind) (kind : Kind) (old new : RowsOf (RouteOf Kind)) → HaveRows kinds old → AddsKind kind old new → HaveRows (kinds ++ kind ∷ []) new
+have_more [] kind old new have adds = (adds.added, tt)
+have_more (other ∷ kinds) kind old new have adds = (adds.kept other have.0, have_more kinds kind old new have.1 adds)
+
+pub holds_more : (kinds : List Kind) (kind : Kind) (old new : RowsOf (RouteOf Kind)) → Holds kinds old → AddsKind kind old new → Holds (kinds ++ kind ∷ []) new
+holds_more kinds kind old new holds adds = record { routes = adds.routes holds.routes; whole = have_more kinds kind old new holds.whole adds }
+
+have_at : (kinds : List Kind) (rows : RowsOf (RouteOf Kind)) (n : ℕ) → n < length kinds → HaveRows kinds rows → HasKind rows (get_or kinds n Bucket)
+have_at [] rows n within have = absurd (omega (arith, within))
+have_at (kind ∷ kinds) rows zero within have = have.0
+have_at (kind ∷ kinds) rows (suc n) within have = have_at kinds rows n (omega (arith, within)) have.1
+
+-- all kinds are among the rows
+pub table : (rows : RowsOf (RouteOf Kind)) → Holds kinds rows → IsTable rows
+table rows holds = record {
+  routes = holds.routes;
+  whole = λ kind. subst (λ (k : Kind). HasKind rows k) (place_of kind).is (have_at kinds rows (place_of kind).place (place_of kind).within holds.whole);
+}

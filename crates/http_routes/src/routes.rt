@@ -58,13 +58,11 @@ fn parts_of<'v>(params: &Params<'_, 'v>) -> (&'v str, &'v str)
     }
 {
     let mut parts = params.iter();
-    let first = match parts.next() {
-        Some((_, part)) => part,
-        None => "",
+    let Some((_, first)) = parts.next() else {
+        return ("", "");
     };
-    let second = match parts.next() {
-        Some((_, part)) => part,
-        None => "",
+    let Some((_, second)) = parts.next() else {
+        return (first, "");
     };
     (first, second)
 }
@@ -91,6 +89,7 @@ impl Routes {
     /// # Errors
     ///
     /// `NoMemory`: memory ran out.
+    #[tactic(auto, unfolding(matchit::proofs::OnLiterals::matchit_on_literals, crate::specs::Table::pattern_of))]
     pub fn new(alloc: Global) -> Result<Routes, NoMemory>
     {
         let mut router = Router::new(alloc);
