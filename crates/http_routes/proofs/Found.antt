@@ -47,7 +47,7 @@ not_found rows target path table same missing resource has =
 -- what the parameters of the row took, and what they name
 record IsFound (path : List ℕ) (row : RouteOf Kind) : Type 0 where
   texts : AreTexts (taken (walk row.pattern row.text path row.names 0 0))
-  spelled : Spells path (named row.value (first_of (taken (walk row.pattern row.text path row.names 0 0))) (first_of (after_first (taken (walk row.pattern row.text path row.names 0 0)))))
+  spelled : Spells path (named row.value (taken (walk row.pattern row.text path row.names 0 0)))
 
 row_found : (rows : RowsOf (RouteOf Kind)) (path : List ℕ) (row : RouteOf Kind) → IsTable rows → AreBytes path → IsUtf8 path → seek 0 rows path ≡ Some row
     → IsFound path row
@@ -61,23 +61,20 @@ row_found rows path row table bytes text found =
     ∙ taken_are (pattern_of row.value) row.text path row.names has.1 (short row.value) (plain row.value) takes (is.names ∙ ap part_count is.is_route) in
     record {
       texts = subst AreTexts (sym parts) (are_texts (pattern_of row.value) path has.1 (plain row.value) (spelled_good (pattern_of row.value) (good row.value)) takes text);
-      spelled = subst (λ (p : List (List ℕ)). Spells path (named row.value (first_of p) (first_of (after_first p)))) (sym parts) (leads row.value path has.1 takes);
+      spelled = subst (λ (p : List (List ℕ)). Spells path (named row.value p)) (sym parts) (leads row.value path has.1 takes);
     }
 
 -- a target that the router knows leads where its parts say
-pub found : (rows : RowsOf (RouteOf Kind)) (target path same_path : List ℕ) (row : RouteOf Kind) (first second : List ℕ) (resource : Resource)
-    → IsTable rows → AreBytes target → path ≡ target → same_path ≡ path → IsUtf8 target → has_byte 63 target ≡ false → seek 0 rows path ≡ Some row
-    → (AreTexts (taken (walk row.pattern row.text same_path row.names 0 0)) → first ≡ first_of (taken (walk row.pattern row.text same_path row.names 0 0)))
-    → (AreTexts (taken (walk row.pattern row.text same_path row.names 0 0)) → second ≡ first_of (after_first (taken (walk row.pattern row.text same_path row.names 0 0))))
-    → resource ≡ named row.value first second → HasRoute target resource
-found rows target path same_path row first second resource table bytes same again text no_query seeks is_first is_second is =
+pub found : (rows : RowsOf (RouteOf Kind)) (target path same_path : List ℕ) (row : RouteOf Kind) (resource : Resource) → IsTable rows → AreBytes target
+    → path ≡ target → same_path ≡ path → IsUtf8 target → has_byte 63 target ≡ false → seek 0 rows path ≡ Some row
+    → (AreTexts (taken (walk row.pattern row.text same_path row.names 0 0)) → resource ≡ named row.value (taken (walk row.pattern row.text same_path row.names 0 0)))
+    → HasRoute target resource
+found rows target path same_path row resource table bytes same again text no_query seeks is =
     let known = row_found rows target row table bytes text (subst (λ (p : List ℕ). seek 0 rows p ≡ Some row) same seeks) in
-    let p = again ∙ same in
-    let texts = subst (λ (t : List ℕ). AreTexts (taken (walk row.pattern row.text t row.names 0 0))) (sym p) known.texts in
-    let one = is_first texts ∙ ap (λ (t : List ℕ). first_of (taken (walk row.pattern row.text t row.names 0 0))) p in
-    let two = is_second texts ∙ ap (λ (t : List ℕ). first_of (after_first (taken (walk row.pattern row.text t row.names 0 0)))) p in
+    let names = subst (λ (t : List ℕ). AreTexts (taken (walk row.pattern row.text t row.names 0 0)) → resource ≡ named row.value (taken (walk row.pattern row.text t row.names 0 0)))
+    (again ∙ same) is in
     record {
       text = is_utf8-from_IsUtf8 target text;
       no_query = no_query;
-      spelled = subst (λ (r : Resource). Spells target r) (sym (is ∙ ap (λ (f : List ℕ). named row.value f second) one ∙ ap (λ (s : List ℕ). named row.value (first_of (taken (walk row.pattern row.text target row.names 0 0))) s) two)) known.spelled;
+      spelled = subst (λ (r : Resource). Spells target r) (sym (names known.texts)) known.spelled;
     }

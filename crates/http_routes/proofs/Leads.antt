@@ -39,32 +39,50 @@ parts_of (object name key) = name ∷ key ∷ []
 parts_of (meters name month) = name ∷ month ∷ []
 
 -- by them it is named
-rebuilt : (resource : Resource) → named (kind_of resource) (first_of (parts_of resource)) (first_of (after_first (parts_of resource))) ≡ resource
+rebuilt : (resource : Resource) → named (kind_of resource) (parts_of resource) ≡ resource
 rebuilt (bucket name) = refl
 rebuilt (object name key) = refl
 rebuilt (meters name month) = refl
 
-is_good_route : (kind : Kind) → is_good (pattern_of kind) ≡ true
+-- each pattern is of a good form, and short
+abbrev is_fine : List ℕ → Bool
+is_fine pattern = is_good pattern && ltb (length pattern) (2 ^ 32)
+
+abbrev are_fine : List Kind → Bool
+are_fine [] = true
+are_fine (kind ∷ rest) = is_fine (pattern_of kind) && are_fine rest
+
+kinds_fine : are_fine kinds ≡ true
 unfolding pattern_of
-is_good_route Bucket = refl
-is_good_route Object = refl
-is_good_route Meters = refl
+kinds_fine = refl
+
+both : (a b : Bool) → a && b ≡ true → (a ≡ true) × (b ≡ true)
+both true true e = (refl, refl)
+both true false e = absurd cc
+both false b e = absurd cc
+
+fine_in : (ks : List Kind) (n : ℕ) → n < length ks → are_fine ks ≡ true → is_fine (pattern_of (get_or ks n Bucket)) ≡ true
+fine_in [] n within e = absurd (omega (arith, within))
+fine_in (kind ∷ rest) zero within e = (both (is_fine (pattern_of kind)) (are_fine rest) e).0
+fine_in (kind ∷ rest) (suc n) within e = fine_in rest n (omega (arith, within)) (both (is_fine (pattern_of kind)) (are_fine rest) e).1
+
+fine : (kind : Kind) → (is_good (pattern_of kind) ≡ true) × (ltb (length (pattern_of kind)) (2 ^ 32) ≡ true)
+fine kind =
+    both (is_good (pattern_of kind)) (ltb (length (pattern_of kind)) (2 ^ 32))
+    (subst (λ (k : Kind). is_fine (pattern_of k) ≡ true) (place_of kind).is (fine_in kinds (place_of kind).place (place_of kind).within kinds_fine))
 
 pub short : (kind : Kind) → length (pattern_of kind) < 2 ^ 32
-unfolding pattern_of
-short Bucket = omega arith
-short Object = omega arith
-short Meters = omega arith
+short kind = let e = (fine kind).1 in grind arith
 
 pub good : (kind : Kind) → IsGood (pattern_of kind)
-good kind = good_is (pattern_of kind) (is_good_route kind)
+good kind = good_is (pattern_of kind) (fine kind).0
 
 pub plain : (kind : Kind) → IsPlain (pattern_of kind)
 plain kind = plain_good (pattern_of kind) (good kind)
 
 -- a target that has the pattern is spelled with its parts
 pub leads : (kind : Kind) (target : List ℕ) (parts : List (List ℕ)) → Takes (pattern_of kind) target parts
-    → Spells target (named kind (first_of parts) (first_of (after_first parts)))
+    → Spells target (named kind parts)
 unfolding pattern_of
 leads Bucket target parts takes = let c = closed (pattern_of Bucket) target parts takes in (c.0, c.1.0)
 leads Object target parts takes = let c = closed (pattern_of Object) target parts takes in (c.0, c.1.0, c.1.1.0)
@@ -91,11 +109,6 @@ all_apart (kind ∷ rest) = apart_from kind rest && all_apart rest
 kinds_apart : all_apart kinds ≡ true
 unfolding pattern_of
 kinds_apart = refl
-
-both : (a b : Bool) → a && b ≡ true → (a ≡ true) × (b ≡ true)
-both true true e = (refl, refl)
-both true false e = absurd cc
-both false b e = absurd cc
 
 apart_in : (kind : Kind) (rest : List Kind) (n : ℕ) → n < length rest → apart_from kind rest ≡ true
     → apart (pattern_of kind) (pattern_of (get_or rest n Bucket)) ≡ true
@@ -146,6 +159,6 @@ one_route target one other has also =
     parts_unique (pattern_of (kind_of other)) target (parts_of one) (parts_of other) (plain (kind_of other))
     (subst (λ (k : Kind). Takes (pattern_of k) target (parts_of one)) kind takes) again in
     sym (rebuilt one)
-    ∙ ap (λ (k : Kind). named k (first_of (parts_of one)) (first_of (after_first (parts_of one)))) kind
-    ∙ ap (λ (p : List (List ℕ)). named (kind_of other) (first_of p) (first_of (after_first p))) parts
+    ∙ ap (λ (k : Kind). named k (parts_of one)) kind
+    ∙ ap (λ (p : List (List ℕ)). named (kind_of other) p) parts
     ∙ rebuilt other

@@ -16,11 +16,23 @@ pattern_of Bucket = codes "/buckets/" ++ param_token ∷ []
 pattern_of Object = codes "/buckets/" ++ (param_token ∷ (codes "/objects/" ++ catch_all_token ∷ []))
 pattern_of Meters = codes "/buckets/" ++ (param_token ∷ (codes "/meters/" ++ param_token ∷ []))
 
--- what a route of a kind names, by its first two parts
-abbrev pub named : Kind → List ℕ → List ℕ → Resource
-named Bucket first second = bucket first
-named Object first second = object first second
-named Meters first second = meters first second
+-- the first of some parts, and those after it; no part is as an empty one
+abbrev pub first_of : List (List ℕ) → List ℕ
+first_of [] = []
+first_of (part ∷ parts) = part
+
+abbrev pub after_first : List (List ℕ) → List (List ℕ)
+after_first [] = []
+after_first (part ∷ parts) = parts
+
+abbrev pub second_of : List (List ℕ) → List ℕ
+second_of parts = first_of (after_first parts)
+
+-- what a route of a kind names, by its parts
+abbrev pub named : Kind → List (List ℕ) → Resource
+named Bucket parts = bucket (first_of parts)
+named Object parts = object (first_of parts) (second_of parts)
+named Meters parts = meters (first_of parts) (second_of parts)
 
 -- how many parts a pattern has
 abbrev pub part_count : List ℕ → ℕ
@@ -62,15 +74,7 @@ pub record IsTable (rows : RowsOf (RouteOf Kind)) : Type 0 where
   pub routes : AreRows rows
   pub whole : (kind : Kind) → HasKind rows kind
 
--- the parts one after another: none is as an empty one
-abbrev pub first_of : List (List ℕ) → List ℕ
-first_of [] = []
-first_of (part ∷ parts) = part
-
-abbrev pub after_first : List (List ℕ) → List (List ℕ)
-after_first [] = []
-after_first (part ∷ parts) = parts
-
+-- the parts are UTF-8
 abbrev pub AreTexts : List (List ℕ) → Type 0
 AreTexts [] = Unit {0}
 AreTexts (part ∷ parts) = IsUtf8 part × AreTexts parts

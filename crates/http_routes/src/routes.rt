@@ -3,7 +3,7 @@ ghost use Rattle.std.specs.Prelude.{◌≡◌, true, None, OnOk, IfSome, MatchOp
 ghost use Rattle.matchit.specs.Params.{walk};
 ghost use Rattle.matchit.specs.Route.{parse_route};
 ghost use Rattle.http_routes.specs.Targets.{Resource, HasRoute, resource_of};
-ghost use Rattle.http_routes.specs.Table.{AddsKind, AreTexts, taken, first_of, after_first, named, reads_as};
+ghost use Rattle.http_routes.specs.Table.{AddsKind, AreTexts, taken, first_of, second_of, named, reads_as};
 
 use crate::route::Route;
 use matchit::{Params, Router};
@@ -47,14 +47,14 @@ fn add(router: &mut Router<Kind>, pattern: &str, kind: Kind) -> Result<(), NoMem
 }
 
 // What the first two parameters of a match took, and nothing where there are fewer.
-fn parts_of<'v>(params: &Params<'_, 'v>) -> (&'v str, &'v str)
+fn parts_of<'t>(params: &Params<'_, 't>) -> (&'t str, &'t str)
     ensures first {
         let parts = taken (walk params.now.pattern.now params.now.text.now params.now.path.now params.now.names.now 0 0) in
         AreTexts parts → result.0.now ≡ first_of parts
     }
     ensures second {
         let parts = taken (walk params.now.pattern.now params.now.text.now params.now.path.now params.now.names.now 0 0) in
-        AreTexts parts → result.1.now ≡ first_of (after_first parts)
+        AreTexts parts → result.1.now ≡ second_of parts
     }
 {
     let mut parts = params.iter();
@@ -67,9 +67,14 @@ fn parts_of<'v>(params: &Params<'_, 'v>) -> (&'v str, &'v str)
     (first, second)
 }
 
-fn route_of<'t>(kind: Kind, first: &'t str, second: &'t str) -> Route<'t>
-    ensures { resource_of result ≡ named kind first.now second.now }
+// The route of this kind, with what the parameters took.
+fn route_of<'t>(kind: Kind, params: &Params<'_, 't>) -> Route<'t>
+    ensures {
+        let parts = taken (walk params.now.pattern.now params.now.text.now params.now.path.now params.now.names.now 0 0) in
+        AreTexts parts → resource_of result ≡ named kind parts
+    }
 {
+    let (first, second) = parts_of(params);
     match kind {
         Kind::Bucket => Route::Bucket { bucket: first },
         Kind::Object => Route::Object {
@@ -125,7 +130,6 @@ impl Routes {
             Ok(found) => found,
             Err(_) => return None,
         };
-        let (first, second) = parts_of(&found.params);
-        Some(route_of(*found.value, first, second))
+        Some(route_of(*found.value, &found.params))
     }
 }

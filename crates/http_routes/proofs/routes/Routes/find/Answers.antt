@@ -10,13 +10,11 @@ returns-in-Err-at-clause-none c = λ none. not_found _ _ _ c.self.invariant c.in
 
 pub returns-clause-found : goal.returns-clause-found
 returns-clause-found c =
-    found _ _ _ _ _ _ _ _ c.self.invariant
+    found _ _ _ _ _ _ c.self.invariant
     (are_bytes _ (λ i. omega (arith, c.type_inv.target i)))
     c.in-Ok.ensures.cases.0
     c.in-Ok-at.ensures.path
     c.in-Ok.ensures.cases.1
     (sym c.contains.ensures.value ∙ c.if-contains.false)
     c.in-Ok-at.ensures.found
-    c.parts_of.ensures.first
-    c.parts_of.ensures.second
     c.route_of.ensures
