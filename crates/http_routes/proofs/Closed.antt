@@ -40,7 +40,7 @@ slash_byte (b ∷ part) = go (b == 47) (slash_byte part)
 part_of_segment : (part : List ℕ) → IsSegment part → IsPart part
 part_of_segment part is = record { some = is.some; plain = sym (slash_byte part) ∙ is.plain }
 
-segment_of_part : (part : List ℕ) → IsPart part → IsSegment part
+pub segment_of_part : (part : List ℕ) → IsPart part → IsSegment part
 segment_of_part part is = record { some = is.some; plain = slash_byte part ∙ is.plain }
 
 joined_append : (part p : List ℕ) (parts : List (List ℕ)) → joined part p (filled p parts) ≡ part ++ filled p parts

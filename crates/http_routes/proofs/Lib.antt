@@ -1,5 +1,6 @@
 mod Closed
 mod Complete
+mod Examples
 mod Found
 mod Leads
 mod Patterns
