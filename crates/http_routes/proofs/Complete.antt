@@ -128,7 +128,7 @@ longest_found {K} seg ((t, k) ∷ rest) p key ends cut a is =
         ap (λ (y : List ℕ). longest_from seg (better seg [] y) rest) e ∙ ap (λ (y : List ℕ). longest_from seg y rest) slash_better ∙ slash
     go s st (inl e) slash later (inr a) = ap (λ (y : List ℕ). longest_from seg (better seg [] y) rest) e ∙ later a
     go s st (inl e) slash later (inl same) =
-        let other : 47 ∷ [] ≡ [] = sym is ∙ sym (ap segment same.0) ∙ st ∙ e in absurd (cc)
+        let other : ◌≡◌ {A = List ℕ} (47 ∷ []) [] = sym is ∙ sym (ap segment same.0) ∙ st ∙ e in absurd (cc)
 
 longest_none : {K : Type 0} (seg : List ℕ) (rs : RowsOf K) → AreEnds rs → cuts seg (47 ∷ []) ≡ false → longest_from seg [] rs ≡ []
 longest_none seg [] ends cut = refl
