@@ -1,7 +1,6 @@
 -- A path that has a pattern is the pattern with the parts in it.
-use Rattle.std.proofs.Common.{◌≡◌, ℕ, ◌<◌, ◌≤◌, Bool, true, false, cond, ◌==◌, ◌||◌, List, [], ◌∷◌, ◌++◌, length, refl, sym, ap, ◌∙◌, subst, arith, inl, inr, ltb, append-nil}
-use Rattle.std.specs.Prelude.{◌⊎◌}
-use Rattle.std.proofs.lemmas.Bool.{eqb-true, eq-eqb, lt-ltb, false≢true}
+use Rattle.std.proofs.Common.{◌≡◌, ℕ, ◌<◌, Bool, true, false, cond, ◌==◌, ◌||◌, List, [], ◌∷◌, ◌++◌, length, refl, sym, ap, ◌∙◌, subst, arith, inl, inr, ltb, append-nil}
+use Rattle.std.proofs.lemmas.Bool.{lt-ltb}
 use Rattle.matchit.specs.Rows.{param_token, catch_all_token}
 use Rattle.matchit.specs.Seek.{has_slash}
 use Rattle.http_routes.specs.Table.{first_of, after_first}
@@ -53,7 +52,7 @@ closed (x ∷ p) path parts (inl (small, rest, e, t)) =
     let later = closed p rest parts t in
     let byte : ltb x param_token ≡ true = lt-ltb x param_token small in (
       e ∙ ap (λ (y : List ℕ). x ∷ y) later.0
-      ∙ sym (ap (λ (v : Bool). cond v (x ∷ filled p parts) (joined (first_of parts) p (filled p (after_first parts)))) byte),
+          ∙ sym (ap (λ (v : Bool). cond v (x ∷ filled p parts) (joined (first_of parts) p (filled p (after_first parts)))) byte),
       subst (λ (v : Bool). FitsToken v (x == param_token) (Fits p) parts) (sym byte) later.1,
     )
 closed (x ∷ p) path parts (inr (inl (is, part, rest, others, segment, e, q, t))) =

@@ -1,7 +1,6 @@
 -- What the router answers, and where the target leads.
-use Rattle.std.proofs.Common.{◌≡◌, ℕ, suc, ◌<◌, ◌≤◌, ◌^◌, Bool, true, false, List, [], ◌∷◌, length, get_or, refl, sym, ap, ◌∙◌, subst, arith, inl, inr, Option, Some, None}
-use Rattle.std.specs.Prelude.{◌⊎◌}
-use Rattle.std.specs.Str.{IsUtf8, is_utf8}
+use Rattle.std.proofs.Common.{◌≡◌, ℕ, suc, ◌<◌, false, List, [], ◌∷◌, get_or, sym, ap, ◌∙◌, subst, arith, inl, inr, Some, None}
+use Rattle.std.specs.Str.{IsUtf8}
 use Rattle.std.proofs.lemmas.Str.{IsUtf8-from_is_utf8, is_utf8-from_IsUtf8}
 use Rattle.matchit.specs.Rows.{RowsOf, param_token}
 use Rattle.matchit.specs.Router.{RouteOf}
@@ -9,7 +8,7 @@ use Rattle.matchit.specs.Seek.{seek}
 use Rattle.matchit.specs.Params.{walk}
 use Rattle.http_routes.specs.declared.routes.Kind.{Kind}
 use Rattle.http_routes.specs.Targets.{Resource, Spells, HasRoute, has_byte}
-use Rattle.http_routes.specs.Table.{pattern_of, part_count, named, IsRow, AreRows, Among, IsTable, AreTexts, taken, first_of, after_first}
+use Rattle.http_routes.specs.Table.{pattern_of, part_count, named, IsRow, AreRows, Among, IsTable, AreTexts, taken}
 use Rattle.http_routes.proofs.Patterns.{Takes, AreBytes, IsPlain, ArePlain, spelled_good}
 use Rattle.http_routes.proofs.Sound.{sound}
 use Rattle.http_routes.proofs.Complete.{Answers, complete}

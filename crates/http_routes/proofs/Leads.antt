@@ -1,11 +1,10 @@
 -- The patterns of the routes, and what the parts of a target name.
-use Rattle.std.proofs.Common.{◌≡◌, ◌≢◌, ℕ, zero, suc, ◌^◌, ◌<◌, ◌≤◌, Bool, true, false, ◌==◌, ◌&&◌, List, [], ◌∷◌, length, get_or, refl, sym, ap, ◌∙◌, subst, arith, inl, inr, ltb}
+use Rattle.std.proofs.Common.{◌≡◌, ℕ, zero, suc, ◌^◌, ◌<◌, Bool, true, false, ◌&&◌, List, [], ◌∷◌, length, get_or, refl, sym, ap, ◌∙◌, subst, arith, inl, inr, ltb}
 use Rattle.std.specs.Prelude.{◌⊎◌}
-use Rattle.std.proofs.lemmas.Bool.{false≢true}
 use Rattle.http_routes.specs.declared.routes.Kind.{Kind}
 use Rattle.http_routes.specs.declared.routes.Kind.TheVariants.{Bucket, Object, Meters}
 use Rattle.http_routes.specs.Targets.{Resource, bucket, object, meters, Spells, HasRoute}
-use Rattle.http_routes.specs.Table.{pattern_of, named, first_of, after_first}
+use Rattle.http_routes.specs.Table.{pattern_of, named}
 use Rattle.http_routes.proofs.Patterns.{Takes, IsGood, IsPlain, is_good, good_is, plain_good}
 use Rattle.http_routes.proofs.Closed.{closed, opened}
 use Rattle.http_routes.proofs.Unique.{apart, no_common_path, parts_unique}
@@ -13,14 +12,14 @@ use Rattle.http_routes.proofs.Unique.{apart, no_common_path, parts_unique}
 -- ---- an arm for each route
 
 -- the routes, one after another
-abbrev pub kinds : List Kind
-kinds = Bucket ∷ Object ∷ Meters ∷ []
+abbrev pub all_kinds : List Kind
+all_kinds = Bucket ∷ Object ∷ Meters ∷ []
 
 -- where a kind stands among them
 pub record HasPlace (kind : Kind) : Type 0 where
   pub place : ℕ
-  pub within : place < length kinds
-  pub is : get_or kinds place Bucket ≡ kind
+  pub within : place < length all_kinds
+  pub is : get_or all_kinds place Bucket ≡ kind
 
 pub place_of : (kind : Kind) → HasPlace kind
 place_of Bucket = record { place = 0; within = omega arith; is = refl }
@@ -52,7 +51,7 @@ abbrev are_fine : List Kind → Bool
 are_fine [] = true
 are_fine (kind ∷ rest) = is_fine (pattern_of kind) && are_fine rest
 
-kinds_fine : are_fine kinds ≡ true
+kinds_fine : are_fine all_kinds ≡ true
 unfolding pattern_of
 kinds_fine = refl
 
@@ -69,7 +68,7 @@ fine_in (kind ∷ rest) (suc n) within e = fine_in rest n (omega (arith, within)
 fine : (kind : Kind) → (is_good (pattern_of kind) ≡ true) × (ltb (length (pattern_of kind)) (2 ^ 32) ≡ true)
 fine kind =
     both (is_good (pattern_of kind)) (ltb (length (pattern_of kind)) (2 ^ 32))
-    (subst (λ (k : Kind). is_fine (pattern_of k) ≡ true) (place_of kind).is (fine_in kinds (place_of kind).place (place_of kind).within kinds_fine))
+    (subst (λ (k : Kind). is_fine (pattern_of k) ≡ true) (place_of kind).is (fine_in all_kinds (place_of kind).place (place_of kind).within kinds_fine))
 
 pub short : (kind : Kind) → length (pattern_of kind) < 2 ^ 32
 short kind = let e = (fine kind).1 in grind arith
@@ -106,7 +105,7 @@ all_apart [] = true
 all_apart (kind ∷ rest) = apart_from kind rest && all_apart rest
 
 -- no two patterns have one path
-kinds_apart : all_apart kinds ≡ true
+kinds_apart : all_apart all_kinds ≡ true
 unfolding pattern_of
 kinds_apart = refl
 
@@ -141,13 +140,13 @@ same_kind one other target parts more takes has = by_order (order (place_of one)
     far : (a b : Kind) → (place_of a).place < (place_of b).place → apart (pattern_of a) (pattern_of b) ≡ true
     far a b less =
         subst (λ (k : Kind). apart (pattern_of k) (pattern_of b) ≡ true) (place_of a).is
-        (subst (λ (k : Kind). apart (pattern_of (get_or kinds (place_of a).place Bucket)) (pattern_of k) ≡ true) (place_of b).is
-        (all_in kinds (place_of a).place (place_of b).place less (place_of b).within kinds_apart))
+        (subst (λ (k : Kind). apart (pattern_of (get_or all_kinds (place_of a).place Bucket)) (pattern_of k) ≡ true) (place_of b).is
+        (all_in all_kinds (place_of a).place (place_of b).place less (place_of b).within kinds_apart))
 
     by_order : ((place_of one).place < (place_of other).place) ⊎ (((place_of other).place < (place_of one).place) ⊎ ((place_of one).place ≡ (place_of other).place)) → one ≡ other
     by_order (inl less) = absurd (no_common_path (pattern_of one) (pattern_of other) target parts more (plain one) (plain other) (far one other less) takes has)
     by_order (inr (inl less)) = absurd (no_common_path (pattern_of other) (pattern_of one) target more parts (plain other) (plain one) (far other one less) has takes)
-    by_order (inr (inr same)) = sym (place_of one).is ∙ ap (λ (n : ℕ). get_or kinds n Bucket) same ∙ (place_of other).is
+    by_order (inr (inr same)) = sym (place_of one).is ∙ ap (λ (n : ℕ). get_or all_kinds n Bucket) same ∙ (place_of other).is
 
 -- a target names one resource
 pub one_route : (target : List ℕ) (one other : Resource) → HasRoute target one → HasRoute target other → one ≡ other

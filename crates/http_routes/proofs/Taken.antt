@@ -1,11 +1,10 @@
 -- What the parameters of a match took are the parts of the path.
-use Rattle.std.proofs.Common.{◌≡◌, ◌≢◌, ℕ, zero, suc, ◌+◌, ◌-◌, ◌^◌, ◌<◌, ◌≤◌, Bool, true, false, cond, ◌==◌, ◌&&◌, List, [], ◌∷◌, ◌++◌, length, take, drop, get_or, refl, sym, ap, ◌∙◌, subst, arith, inl, inr, ltb, leb, min, length-append, append-nil}
-use Rattle.std.specs.Prelude.{◌⊎◌}
-use Rattle.std.proofs.lemmas.Bool.{eqb-true, eq-eqb, ne_eqb, lt-ltb}
+use Rattle.std.proofs.Common.{◌≡◌, ℕ, zero, suc, ◌+◌, ◌-◌, ◌^◌, ◌<◌, ◌≤◌, Bool, true, false, cond, List, [], ◌∷◌, ◌++◌, length, drop, get_or, refl, sym, ap, ◌∙◌, subst, arith, inl, inr, ltb, leb, length-append, append-nil}
+use Rattle.std.proofs.lemmas.Bool.{lt-ltb}
 use Rattle.std.proofs.Math.Seq.{drop-append_seam, take-append_seam}
 use Rattle.matchit.specs.Rows.{param_token, catch_all_token}
 use Rattle.matchit.specs.Seek.{segment}
-use Rattle.matchit.specs.Params.{walk, wild_from, wild_stop, part_of, after_token, next_at}
+use Rattle.matchit.specs.Params.{walk, wild_from, wild_stop, part_of, after_token}
 use Rattle.http_routes.specs.Table.{part_count, taken}
 use Rattle.http_routes.proofs.Patterns.{IsSegment, Takes, IsPlain}
 use Rattle.http_routes.proofs.Complete.{segment_part}
@@ -46,7 +45,6 @@ drop_part (suc n) (y ∷ l) part rest e = let s : suc n + length part ≡ suc (n
 -- what is taken between two places
 part_is : (path : List ℕ) (at stop : ℕ) (part rest : List ℕ) → drop at path ≡ part ++ rest → stop ≡ at + length part → at ≤ length path
     → part_of path at stop ≡ part
-
 part_is path at stop part rest e is fits =
     let all : length path ≡ at + length (part ++ rest) = length_from at path (part ++ rest) fits e in
     let count : stop - at ≡ length part = omega (arith, is) in

@@ -1,11 +1,10 @@
 -- A path has one list of parts, and no two patterns that differ soon enough.
-use Rattle.std.proofs.Common.{◌≡◌, ◌≢◌, ℕ, ◌<◌, ◌≤◌, Bool, true, false, cond, ◌==◌, ◌&&◌, List, [], ◌∷◌, ◌++◌, length, refl, sym, ap, ◌∙◌, subst, arith, inl, inr, ltb, length-append}
-use Rattle.std.specs.Prelude.{◌⊎◌}
-use Rattle.std.proofs.lemmas.Bool.{eqb-true, eq-eqb, lt-ltb, false≢true}
+use Rattle.std.proofs.Common.{◌≡◌, ℕ, ◌<◌, ◌≤◌, Bool, true, false, cond, ◌==◌, ◌&&◌, List, [], ◌∷◌, ◌++◌, length, refl, sym, ap, ◌∙◌, subst, arith, inl, inr, ltb, length-append}
+use Rattle.std.proofs.lemmas.Bool.{eq-eqb, lt-ltb, false≢true}
 use Rattle.matchit.specs.Rows.{param_token, catch_all_token}
 use Rattle.matchit.specs.Seek.{has_slash}
 use Rattle.http_routes.proofs.Complete.{plain_tail}
-use Rattle.http_routes.proofs.Patterns.{IsSegment, Takes, IsEndOrSlash, IsPlain}
+use Rattle.http_routes.proofs.Patterns.{Takes, IsEndOrSlash, IsPlain}
 
 head_is : (x y : ℕ) (a b : List ℕ) → x ∷ a ≡ y ∷ b → x ≡ y
 head_is x y a b e = cc

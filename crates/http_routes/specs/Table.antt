@@ -1,10 +1,11 @@
 -- What the router of the routes holds, in matchit's words.
-use Rattle.std.specs.Prelude.{◌≡◌, ◌⊎◌, ℕ, ◌+◌, Bool, true, false, ◌&&◌, ◌==◌, ltb, cond, List, [], ◌∷◌, ◌++◌, length, codes, Result, Ok, Err}
+use Rattle.std.specs.Prelude.{◌≡◌, ◌⊎◌, ℕ, ◌+◌, Bool, false, ◌&&◌, ◌==◌, ltb, cond, List, [], ◌∷◌, ◌++◌, length, codes, Result, Ok, Err, None}
 use Rattle.matchit.specs.Rows.{RowsOf, param_token, catch_all_token}
 use Rattle.std.specs.Str.{IsUtf8}
 use Rattle.matchit.specs.Seek.{same_text}
-use Rattle.matchit.specs.Router.{RouteOf, route_from}
-use Rattle.matchit.specs.Route.{Scan, parse_route}
+use Rattle.matchit.specs.Router.{RouteOf, nearest}
+use Rattle.matchit.specs.Order.{placed}
+use Rattle.matchit.specs.Route.{Scan}
 use Rattle.matchit.specs.declared.error.InsertError.{InsertError}
 use Rattle.http_routes.specs.Targets.{Resource, bucket, object, meters}
 use Rattle.http_routes.specs.declared.routes.Kind.{Kind}
@@ -63,11 +64,16 @@ Among ((p, r) ∷ rows) pattern row = ((p ≡ pattern) × (r ≡ row)) ⊎ Among
 abbrev pub HasKind : RowsOf (RouteOf Kind) → Kind → Type 0
 HasKind rows kind = (row : RouteOf Kind) × (row.value ≡ kind) × Among rows (pattern_of kind) row
 
--- one more route: the rows stay such, and those that were there stay
+-- one more row, of this kind
 pub record AddsKind (kind : Kind) (old new : RowsOf (RouteOf Kind)) : Type 0 where
-  pub routes : AreRows old → AreRows new
-  pub added : HasKind new kind
-  pub kept : (other : Kind) → HasKind old other → HasKind new other
+  pub row : RouteOf Kind
+  pub value : row.value ≡ kind
+  pub is_row : IsRow (pattern_of kind) row
+  pub added : new ≡ placed (pattern_of kind, row) old
+
+-- no row stands in the way of one more of this kind
+abbrev pub IsFree : Kind → RowsOf (RouteOf Kind) → Type 0
+IsFree kind rows = nearest (pattern_of kind) rows ≡ None
 
 -- the router of the routes: each row is a route, and each route has a row
 pub record IsTable (rows : RowsOf (RouteOf Kind)) : Type 0 where

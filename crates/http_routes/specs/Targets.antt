@@ -3,7 +3,7 @@
 --     /buckets/{bucket}/objects/{*key}     an object of a bucket
 --     /buckets/{bucket}/meters/{month}     the meters of a bucket in a month
 -- {name} stands for a segment that is not empty, and {*key} for all that is left, if anything is. Parts are the bytes of the target: nothing is percent-decoded.
-use Rattle.std.specs.Prelude.{◌≡◌, ℕ, ◌<◌, Bool, false, ◌==◌, List, [], ◌∷◌, ◌++◌, length, codes, IsTrue}
+use Rattle.std.specs.Prelude.{◌≡◌, ℕ, ◌<◌, Bool, false, ◌==◌, List, ◌++◌, length, codes, IsTrue}
 use Rattle.std.specs.List.{list_any}
 use Rattle.std.specs.Str.{is_utf8}
 use Rattle.http_routes.specs.declared.route.Route.{Route}

@@ -3,10 +3,10 @@ ghost use Rattle.std.specs.Prelude.{◌≡◌, true, None, OnOk, IfSome, MatchOp
 ghost use Rattle.matchit.specs.Params.{walk};
 ghost use Rattle.matchit.specs.Route.{parse_route};
 ghost use Rattle.http_routes.specs.Targets.{Resource, HasRoute, resource_of};
-ghost use Rattle.http_routes.specs.Table.{AddsKind, AreTexts, taken, first_of, second_of, named, reads_as};
+ghost use Rattle.http_routes.specs.Table.{AddsKind, IsFree, AreTexts, taken, first_of, second_of, named, reads_as};
 
 use crate::route::Route;
-use matchit::{Params, Router};
+use matchit::{InsertError, Params, Router};
 use office_base::NoMemory;
 use std::alloc::Global;
 use std::marker::Model;
@@ -36,26 +36,27 @@ impl Model for Routes {
     ghost invariant = { λ r. IsTable r.router };
 }
 
+#[tactic(auto, using(crate::proofs::Rows::adds, crate::proofs::Rows::refused))]
 fn add(router: &mut Router<Kind>, pattern: &str, kind: Kind) -> Result<(), NoMemory>
     requires reads { reads_as (parse_route pattern.now) kind ≡ true }
+    requires free { IsFree kind router.old }
     ensures { OnOk result (AddsKind kind router.old router.new) }
 {
     match router.insert(pattern, kind) {
         Ok(()) => Ok(()),
-        Err(_) => Err(NoMemory),
+        Err(refusal) => match refusal {
+            InsertError::OutOfMemory => Err(NoMemory),
+            _ => unreachable!(),
+        },
     }
 }
 
 // What the first two parameters of a match took, and nothing where there are fewer.
 fn parts_of<'t>(params: &Params<'_, 't>) -> (&'t str, &'t str)
-    ensures first {
-        let parts = taken (walk params.now.pattern.now params.now.text.now params.now.path.now params.now.names.now 0 0) in
-        AreTexts parts → result.0.now ≡ first_of parts
-    }
-    ensures second {
-        let parts = taken (walk params.now.pattern.now params.now.text.now params.now.path.now params.now.names.now 0 0) in
-        AreTexts parts → result.1.now ≡ second_of parts
-    }
+    ensures first { let parts = taken (walk params.now.pattern.now params.now.text.now params.now.path.now params.now.names.now 0 0) in
+        AreTexts parts → result.0.now ≡ first_of parts }
+    ensures second { let parts = taken (walk params.now.pattern.now params.now.text.now params.now.path.now params.now.names.now 0 0) in
+        AreTexts parts → result.1.now ≡ second_of parts }
 {
     let mut parts = params.iter();
     let Some((_, first)) = parts.next() else {
@@ -69,10 +70,8 @@ fn parts_of<'t>(params: &Params<'_, 't>) -> (&'t str, &'t str)
 
 // The route of this kind, with what the parameters took.
 fn route_of<'t>(kind: Kind, params: &Params<'_, 't>) -> Route<'t>
-    ensures {
-        let parts = taken (walk params.now.pattern.now params.now.text.now params.now.path.now params.now.names.now 0 0) in
-        AreTexts parts → resource_of result ≡ named kind parts
-    }
+    ensures { let parts = taken (walk params.now.pattern.now params.now.text.now params.now.path.now params.now.names.now 0 0) in
+        AreTexts parts → resource_of result ≡ named kind parts }
 {
     let (first, second) = parts_of(params);
     match kind {
@@ -94,9 +93,7 @@ impl Routes {
     /// # Errors
     ///
     /// `NoMemory`: memory ran out.
-    #[tactic(auto, unfolding(matchit::proofs::OnLiterals::matchit_on_literals, crate::specs::Table::pattern_of))]
-    pub fn new(alloc: Global) -> Result<Routes, NoMemory>
-    {
+    pub fn new(alloc: Global) -> Result<Routes, NoMemory> {
         let mut router = Router::new(alloc);
         add(&mut router, "/buckets/{bucket}", Kind::Bucket)?;
         add(

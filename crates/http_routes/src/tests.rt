@@ -28,7 +28,11 @@ fn objects(rt: HostRuntime) -> Result<(), Fail> {
         ("/buckets/a/objects/b%2Fc", "a", "b%2Fc"),
         ("/buckets/a/objects/objects/x", "a", "objects/x"),
         ("/buckets/a/objects/%zz", "a", "%zz"),
-        ("/buckets/meters/objects/meters/2024-01", "meters", "meters/2024-01"),
+        (
+            "/buckets/meters/objects/meters/2024-01",
+            "meters",
+            "meters/2024-01",
+        ),
     ] {
         let found = routes.find(target.as_bytes());
         assert_eq!(rt; found, Some(Route::Object { bucket, key }), "{target}");
