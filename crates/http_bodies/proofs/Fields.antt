@@ -1,11 +1,11 @@
 -- The members of an object, as the map holds them.
-use Rattle.std.proofs.Common.{◌≡◌, ℕ, Bool, true, false, ◌||◌, List, [], ◌∷◌, ◌++◌, refl, ap, Option, Some, None, option_map, map, String, string_bytes}
+use Rattle.std.proofs.Common.{◌≡◌, ℕ, Bool, true, false, ◌||◌, List, [], ◌∷◌, refl, ap, option_map, map, String, string_bytes}
 use Rattle.std.specs.List.{find, list_any}
 use Rattle.std.specs.Map.{keys_of}
 use Rattle.std.specs.declared.alloc.Global.{Global}
 use Rattle.serde_json.specs.View.{members_view}
 use Rattle.serde_json.specs.declared.value.Value.{Value}
-use Rattle.http_bodies.specs.Bodies.{names_of, is_among}
+use Rattle.http_bodies.specs.Bodies.{names_of}
 
 pub find_names : (test : List ℕ → Bool) (es : List (String Global × Value))
     → find test (names_of (members_view es)) ≡ option_map string_bytes (find (λ name. test (string_bytes name)) (keys_of es))

@@ -46,14 +46,14 @@ text_members (member name value ms) = option_and_then (λ text. option_map (λ p
 abbrev pub text_pairs : Data → Option (List Tag)
 text_pairs value = option_and_then text_members (as_object value)
 
+abbrev pub if_there : {T : Type 0} → (Data → Option T) → Option Data → Option (Option T)
+if_there kind None = Some None
+if_there kind (Some value) = option_map Some (kind value)
+
 -- what a field holds that has to be there
 abbrev pub held : {T : Type 0} → (Data → Option T) → List ℕ → Data → Option T
 held kind name body = option_and_then kind (get name body)
 
-abbrev pub unless_missing : {T : Type 0} → T → (Data → Option T) → Option Data → Option T
-unless_missing missing kind None = Some missing
-unless_missing missing kind (Some value) = kind value
-
 -- what a field holds that may be missing; a null is not missing
-abbrev pub held_or : {T : Type 0} → T → (Data → Option T) → List ℕ → Data → Option T
-held_or missing kind name body = unless_missing missing kind (get name body)
+abbrev pub if_held : {T : Type 0} → (Data → Option T) → List ℕ → Data → Option (Option T)
+if_held kind name body = if_there kind (get name body)

@@ -6,8 +6,8 @@ ghost use Rattle.std.specs.Map.{keys_of};
 ghost use Rattle.serde_json.specs.Find.{as_str};
 ghost use Rattle.serde_json.specs.View.{view, members_view};
 ghost use Rattle.office_base.specs.Tags.{tags_of};
-ghost use Rattle.http_bodies.specs.Bodies.{body_of, names_of, is_among, first_unknown, whole_number, text_members, text_pairs, held, held_or};
-ghost use Rattle.http_bodies.specs.Flaws.{Gives, bad_body};
+ghost use Rattle.http_bodies.specs.Bodies.{body_of, names_of, is_among, first_unknown, whole_number, text_members, text_pairs, held, if_held};
+ghost use Rattle.http_bodies.specs.Flaws.{Gives, bad_body, with_fields};
 
 use crate::fault::{BodyFault, bad_field};
 use serde_json::{Map, Value};
@@ -70,13 +70,23 @@ fn first_other<'m>(members: &'m Map<String, Value>, known: &[&str]) -> Option<&'
 }
 
 // The first field, in the order of the names' bytes, that is none of these.
-pub(crate) fn first_unknown<'b>(body: &'b Value, known: &[&str]) -> Option<&'b str>
+fn first_unknown<'b>(body: &'b Value, known: &[&str]) -> Option<&'b str>
     ensures { option_map (λ name. name.now) result
         ≡ first_unknown (map (λ k. k.now) known.now) (view body.now) }
 {
     match body.as_object() {
         Some(members) => first_other(members, known),
         None => None,
+    }
+}
+
+// Refuses a field that is none of these.
+pub(crate) fn check_fields(alloc: Global, body: &Value, known: &[&str]) -> Result<(), BodyFault>
+    ensures { Gives (λ _. view body.now) result (with_fields (map (λ k. k.now) known.now) (view body.now)) }
+{
+    match first_unknown(body, known) {
+        Some(name) => Err(bad_field(alloc, name)),
+        None => Ok(()),
     }
 }
 
@@ -100,7 +110,7 @@ pub(crate) fn text<'b>(
     name: &str,
 ) -> Result<Option<&'b str>, BodyFault>
     ensures { Gives (λ found. option_map (λ t. t.now) found) result
-        (ok_or (held_or None (λ value. option_map Some (as_str value)) name.now (view body.now)) (bad_body name.now)) }
+        (ok_or (if_held as_str name.now (view body.now)) (bad_body name.now)) }
 {
     match body.get(name) {
         Some(value) => match value.as_str() {
@@ -137,16 +147,20 @@ fn text_pairs(alloc: Global, value: Value) -> Result<Option<Vec<(String, String)
 }
 
 // Takes the pairs of texts out of a field that may be missing.
-pub(crate) fn take_pairs(alloc: Global, body: &mut Value, name: &str) -> Result<Vec<(String, String)>, BodyFault>
-    ensures { Gives (λ pairs. tags_of pairs.items) result
-        (ok_or (held_or [] text_pairs name.now (view body.old)) (bad_body name.now)) }
+pub(crate) fn take_pairs(
+    alloc: Global,
+    body: &mut Value,
+    name: &str,
+) -> Result<Option<Vec<(String, String)>>, BodyFault>
+    ensures { Gives (λ found. option_map (λ pairs. tags_of pairs.items) found) result
+        (ok_or (if_held text_pairs name.now (view body.old)) (bad_body name.now)) }
 {
     match body.get_mut(name) {
         Some(value) => match text_pairs(alloc, value.take()) {
-            Ok(Some(pairs)) => Ok(pairs),
+            Ok(Some(pairs)) => Ok(Some(pairs)),
             Ok(None) => Err(bad_field(alloc, name)),
             Err(_) => Err(BodyFault::NoMemory),
         },
-        None => Ok(Vec::new(alloc)),
+        None => Ok(None),
     }
 }

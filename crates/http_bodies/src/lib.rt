@@ -4,6 +4,7 @@
 mod body;
 mod fault;
 mod put;
+mod ranges;
 #[cfg(test)]
 mod tests;
 

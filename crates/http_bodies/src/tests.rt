@@ -34,10 +34,7 @@ fn bodies_and_their_answers(rt: HostRuntime) -> Result<(), Fail> {
         ("{\"size\":0}", "0 STANDARD"),
         ("{\"size\":5497558138880}", "5497558138880 STANDARD"),
         (" \t\r\n{ \"size\" : 7 } \n", "7 STANDARD"),
-        (
-            "{\"class\":\"GLACIER_IR\",\"size\":1}",
-            "1 GLACIER_IR",
-        ),
+        ("{\"class\":\"GLACIER_IR\",\"size\":1}", "1 GLACIER_IR"),
         (
             "{\"size\":1,\"tags\":{\"kind\":\"raw\",\"Keep\":\"no\"}}",
             "1 STANDARD Keep=no kind=raw",
@@ -48,8 +45,14 @@ fn bodies_and_their_answers(rt: HostRuntime) -> Result<(), Fail> {
         ("{\"size\":1,\"size\":2}", "2 STANDARD"),
         ("{\"size\":\"1\",\"size\":2}", "2 STANDARD"),
         ("{\"size\":2,\"size\":\"1\"}", "BadBody size"),
-        ("{\"size\":1,\"tags\":{\"a\":1,\"a\":\"x\"}}", "1 STANDARD a=x"),
-        ("{\"size\":1,\"tags\":{\"a\":\"x\",\"a\":\"y\"}}", "1 STANDARD a=y"),
+        (
+            "{\"size\":1,\"tags\":{\"a\":1,\"a\":\"x\"}}",
+            "1 STANDARD a=x",
+        ),
+        (
+            "{\"size\":1,\"tags\":{\"a\":\"x\",\"a\":\"y\"}}",
+            "1 STANDARD a=y",
+        ),
         // No JSON object.
         ("[]", "BadBody "),
         ("null", "BadBody "),
@@ -88,7 +91,10 @@ fn bodies_and_their_answers(rt: HostRuntime) -> Result<(), Fail> {
         ("{\"size\":1,\"tags\":null}", "BadBody tags"),
         ("{\"size\":1,\"tags\":[]}", "BadBody tags"),
         ("{\"size\":1,\"tags\":{\"a\":1}}", "BadBody tags"),
-        ("{\"size\":1,\"tags\":{\"a\":\"x\",\"b\":null}}", "BadBody tags"),
+        (
+            "{\"size\":1,\"tags\":{\"a\":\"x\",\"b\":null}}",
+            "BadBody tags",
+        ),
         (
             "{\"size\":5497558138881,\"class\":\"FOO\",\"tags\":{\"\":1}}",
             "BadBody tags",
@@ -106,7 +112,10 @@ fn bodies_and_their_answers(rt: HostRuntime) -> Result<(), Fail> {
     for (text, answer) in cases {
         assert_eq!(rt; told(alloc, text.as_bytes())?.as_str(), answer, "{text}");
     }
-    assert_eq!(rt; told(alloc, b"{\"size\":1,\"tags\":{\"a\":\"\xff\"}}")?.as_str(), "BadBody ");
+    assert_eq!(rt;
+        told(alloc, b"{\"size\":1,\"tags\":{\"a\":\"\xff\"}}")?.as_str(),
+        "BadBody "
+    );
     Ok(())
 }
 
@@ -138,7 +147,12 @@ fn nested(alloc: Global, depth: usize) -> Result<String, AllocError> {
 fn bounds_of_tags_and_of_depth(rt: HostRuntime) -> Result<(), Fail> {
     let alloc = rt.alloc();
     let ten = with_tags(alloc, 10)?;
-    assert_eq!(rt; read_put(alloc, ten.as_bytes()).map(|b| b.tags.pairs().len()).ok(), Some(10));
+    assert_eq!(rt;
+        read_put(alloc, ten.as_bytes())
+            .map(|b| b.tags.pairs().len())
+            .ok(),
+        Some(10)
+    );
     let eleven = with_tags(alloc, 11)?;
     assert_eq!(rt; told(alloc, eleven.as_bytes())?.as_str(), "BadTags");
     let deep = nested(alloc, 126)?;

@@ -1,4 +1,4 @@
-use Rattle.std.proofs.Common.{◌≡◌, ℕ, List, map, Bor, ◌∙◌}
+use Rattle.std.proofs.Common.{◌∙◌}
 use Rattle.std.specs.Str.{bytes_eq}
 use Rattle.http_bodies.proofs.Fields.{any_of_names}
 use Rattle.http_bodies.proofs.body.is_known.Goals as goal
