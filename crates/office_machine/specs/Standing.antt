@@ -28,10 +28,14 @@ abbrev pub most_commands : ℕ
 most_commands = 2 ^ 42
 
 -- a bucket's objects are these, and its meters stand for its book
+pub record StandsForBucket (records : BucketRecords) (account : Account) : Type 0 where
+  pub objects : records.objects ≡ account.objects
+  pub meters : StandsFor records.meters (book_of account.books)
+
+-- so do those of the bucket of this name
 pub record StandsForAccount (records : List ℕ × BucketRecords) (account : List ℕ × Account) : Type 0 where
   pub name : records.0 ≡ account.0
-  pub objects : records.1.objects ≡ account.1.objects
-  pub meters : StandsFor records.1.meters (book_of account.1.books)
+  pub bucket : StandsForBucket records.1 account.1
 
 abbrev pub StandForAccounts : List (List ℕ × BucketRecords) → List (List ℕ × Account) → Type 0
 StandForAccounts [] [] = Unit {0}

@@ -1,22 +1,23 @@
 -- Worked examples, computed.
-use Rattle.std.specs.Prelude.{◌≡◌, ℕ, ◌+◌, ◌*◌, List, [], ◌∷◌, refl, codes, map, option_map, Option, Some, None, Result, Ok, Err}
+use Rattle.std.specs.Prelude.{◌≡◌, ℕ, ◌+◌, ◌*◌, List, [], ◌∷◌, ◌++◌, refl, codes, replicate, length, option_map, Some, None, Ok, Err}
 use Rattle.jiff_core.specs.Calendar.{days_of_months}
 use Rattle.moments.specs.Time.{day}
 use Rattle.moments.specs.Months.{first_day}
 use Rattle.accrual.specs.Meters.{meter, early_quantity, move_count}
 use Rattle.class_rules.specs.declared.class.Class.TheVariants as class
 use Rattle.office_base.specs.declared.version_id.VersionId.TheVariants.{Null}
-use Rattle.plain_office.specs.Office.{Office, Account, empty_office, new_account, book_of}
+use Rattle.plain_office.specs.Office.{Office, Account, empty_office, empty_books, new_account, book_of}
 use Rattle.plain_office.specs.Counts.{count_of}
 use Rattle.plain_office.specs.Step.{step, outcome}
-use Rattle.plain_office.specs.Answers.{answer, class_meters}
+use Rattle.plain_office.specs.Answers.{answer}
 use Rattle.plain_office.specs.Run.{accept, run}
 use Rattle.plain_office.specs.declared.command.Command.{Command}
 use Rattle.plain_office.specs.declared.command.Command.TheVariants as command
 use Rattle.plain_office.specs.declared.command.Query.TheVariants as query
 use Rattle.plain_office.specs.declared.command.Entry.{Entry}
 use Rattle.plain_office.specs.declared.reply.Reply.TheVariants.{BucketMade, Stored, BucketShown, MetersShown}
-use Rattle.plain_office.specs.declared.reply.Refusal.TheVariants.{BucketExists, NoSuchBucket}
+use Rattle.plain_office.specs.declared.reply.Refusal.TheVariants.{BucketExists, NoSuchBucket, Full}
+use Rattle.plain_office.specs.declared.reply.What.TheVariants as what
 
 abbrev at : ℕ → Command → Entry
 at t command = record { moment = t; command = command }
@@ -88,3 +89,58 @@ early_in_january office = go office.accounts where
 owes : option_map early_in_january (run left_early) ≡ Some 345_600_000_000_000
 unfolding run accept step outcome count_of early_quantity first_day days_of_months
 owes = refl
+
+-- ---- limits
+
+-- as many buckets, all of one name before `logs`
+with_buckets : ℕ → Office
+with_buckets n = record { last = Some new_year; accounts = replicate n (codes "box", new_account) }
+
+last_bucket : (step new_year (command.CreateBucket logs) (with_buckets 999)).1 ≡ Ok (BucketMade logs)
+unfolding step outcome count_of with_buckets
+last_bucket = refl
+
+no_more_buckets : step new_year (command.CreateBucket logs) (with_buckets 1_000) ≡ (with_buckets 1_000, Err (Full what.Buckets 1_000))
+unfolding step outcome count_of with_buckets
+no_more_buckets = refl
+
+-- a name that is taken is refused as such, though there are as many buckets as there may be
+taken_at_the_limit : (step new_year (command.CreateBucket (codes "box")) (with_buckets 1_000)).1 ≡ Err BucketExists
+unfolding step outcome count_of with_buckets
+taken_at_the_limit = refl
+
+-- a bucket of as many objects, all of one key behind `a`
+with_versions : ℕ → Office
+with_versions n = record {
+  last = Some new_year;
+  accounts = (logs, record { objects = replicate n (codes "b", record { size = 5; class = class.Standard; created = new_year }); books = empty_books }) ∷ [];
+}
+
+last_version : (step new_year (command.Put logs a 5 class.Standard) (with_versions 199_999)).1 ≡ Ok (Stored new_year Null)
+unfolding step outcome count_of with_versions
+last_version = refl
+
+-- at the limit a new key is refused, and a key that is there is not
+no_more_versions : (step new_year (command.Put logs a 5 class.Standard) (with_versions 200_000)).1 ≡ Err (Full what.Versions 200_000)
+unfolding step outcome count_of with_versions
+no_more_versions = refl
+
+same_key : (step new_year (command.Put logs (codes "b") 5 class.Standard) (with_versions 200_000)).1 ≡ Ok (Stored new_year Null)
+unfolding step outcome count_of with_versions
+same_key = refl
+
+-- a bucket of one object, whose key is "b" and more behind it
+with_key : List ℕ → Office
+with_key more = record {
+  last = Some new_year;
+  accounts = (logs, record { objects = (codes "b" ++ more, record { size = 5; class = class.Standard; created = new_year }) ∷ []; books = empty_books }) ∷ [];
+}
+
+-- the last byte of keys, and one byte too many
+last_byte : (more : List ℕ) → length more ≡ 536_870_910 → (step new_year (command.Put logs a 5 class.Standard) (with_key more)).1 ≡ Ok (Stored new_year Null)
+unfolding step outcome count_of with_key
+last_byte more long = rw long refl
+
+no_more_names : (more : List ℕ) → length more ≡ 536_870_911 → (step new_year (command.Put logs a 5 class.Standard) (with_key more)).1 ≡ Err (Full what.Names 536_870_912)
+unfolding step outcome count_of with_key
+no_more_names more long = rw long refl

@@ -1,10 +1,10 @@
 -- The replies to queries.
-use Rattle.std.specs.Prelude.{ℕ, List, map, Result, Ok}
+use Rattle.std.specs.Prelude.{ℕ, map, Result, Ok}
 use Rattle.class_rules.specs.Classes.{all_classes}
 use Rattle.class_rules.specs.declared.class.Class.{Class}
 use Rattle.accrual.specs.Books.{Book}
 use Rattle.accrual.specs.Meters.{meter, early_quantity, move_count}
-use Rattle.plain_office.specs.Office.{Office, Account, book_of}
+use Rattle.plain_office.specs.Office.{Office, book_of}
 use Rattle.plain_office.specs.Counts.{version_count}
 use Rattle.plain_office.specs.Step.{◌>>=◌, account_at}
 use Rattle.plain_office.specs.declared.command.Query.{Query}

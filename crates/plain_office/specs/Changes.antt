@@ -2,7 +2,7 @@
 use Rattle.std.specs.Prelude.{ℕ, ◌+◌, ◌-◌, ◌*◌, Bool, ◌&&◌, List, [], ◌∷◌, ◌++◌, map, bytes_eq, nat_lt, Option, Some, None, is_none, if◌then◌else◌}
 use Rattle.class_rules.specs.Classes.{least_stay}
 use Rattle.class_rules.specs.Lines.{own_bytes, object_lines}
-use Rattle.accrual.specs.Books.{Stay, Early, open_stay, ended_stay}
+use Rattle.accrual.specs.Books.{Stay, Early, open_stay}
 use Rattle.plain_office.specs.declared.object.Object.{Object}
 use Rattle.plain_office.specs.Maps.{at_name, with_name}
 use Rattle.plain_office.specs.Office.{Books, Account}

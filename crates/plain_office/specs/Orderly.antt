@@ -5,9 +5,11 @@ use Rattle.office_base.specs.Sizes.{largest_size}
 use Rattle.accrual.specs.Books.{Stay, IsBookedBy}
 use Rattle.plain_office.specs.declared.object.Object.{Object}
 use Rattle.plain_office.specs.Maps.{Rises, at_name}
-use Rattle.plain_office.specs.Office.{Office, Account, Books, book_of}
+use Rattle.plain_office.specs.Office.{Office, Account, book_of}
 use Rattle.plain_office.specs.Changes.{is_open_at, stay_of}
 use Rattle.plain_office.specs.Counts.{limit_of, count_of}
+use Rattle.plain_office.specs.declared.command.Command.{Command}
+use Rattle.plain_office.specs.declared.command.Command.TheVariants as command
 use Rattle.plain_office.specs.declared.reply.What.TheVariants.{Buckets, Versions, Names}
 
 -- the stay that a key asks to be open, where it has an object
@@ -37,3 +39,8 @@ pub record IsOrderly (office : Office) : Type 0 where
   pub buckets : count_of Buckets office ≤ limit_of Buckets
   pub versions : count_of Versions office ≤ limit_of Versions
   pub key_bytes : count_of Names office ≤ limit_of Names
+
+-- a put's size is up to the largest, as in every command of the program
+abbrev pub SizeFits : Command → Type 0
+SizeFits (command.CreateBucket name) = Unit {0}
+SizeFits (command.Put name key size class) = size ≤ largest_size

@@ -7,7 +7,9 @@ use office_base::{BucketName, Key, Size};
 #[derive(Drop)]
 pub enum Command {
     /// Makes a bucket, without versions or rules.
-    CreateBucket { bucket: BucketName },
+    CreateBucket {
+        bucket: BucketName,
+    },
     /// Puts an object under a key, in the place of the one that was there.
     Put {
         bucket: BucketName,

@@ -19,11 +19,19 @@ pub struct ClassMeters {
 #[derive(Drop)]
 pub enum Reply {
     /// The bucket was made.
-    BucketMade { bucket: BucketName },
+    BucketMade {
+        bucket: BucketName,
+    },
     /// The object was put, as this version.
-    Stored { moment: Moment, version: VersionId },
+    Stored {
+        moment: Moment,
+        version: VersionId,
+    },
     /// The bucket has so many versions.
-    BucketShown { bucket: BucketName, versions: u32 },
+    BucketShown {
+        bucket: BucketName,
+        versions: u32,
+    },
     /// What the bucket used in the month, from the warmest class to the coldest.
     MetersShown {
         bucket: BucketName,

@@ -1,0 +1,7 @@
+pub mod Accounts
+pub mod Bookings
+pub mod Later
+pub mod Offices
+pub mod Rebooked
+pub mod Replaced
+pub mod Steps
