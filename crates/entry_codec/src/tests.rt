@@ -1,31 +1,49 @@
 use super::*;
+use class_rules::Class;
 use moments::Moment;
-use office_base::BucketName;
+use office_base::{BucketName, Key, Size};
+use std::alloc::AllocError;
 use std::test::Fail;
 
-// A bucket `logs` made at 2024-01-01 00:00 UTC, and one byte more.
+// 2024-01-01 00:00 UTC.
+const NEW_YEAR: u64 = 1_704_067_200_000;
+
+// A bucket `logs` made at NEW_YEAR, and one byte more.
 const LOGS: [u8; 16] = [
     0x00, 0x00, 0x01, 0x8c, 0xc2, 0x51, 0xf4, 0x00, 0x01, 0x00, 0x04, 0x6c, 0x6f, 0x67, 0x73, 0x00,
 ];
 
-// What the bytes of LOGS give, with one of them changed and all behind an end cut off.
-fn fault(rt: &HostRuntime, place: usize, byte: u8, end: usize) -> Option<EntryFault> {
-    let mut bytes = LOGS;
+// 1,000 bytes put there at NEW_YEAR under the key `a`, in STANDARD, and one byte more.
+const A_PUT: [u8; 29] = [
+    0x00, 0x00, 0x01, 0x8c, 0xc2, 0x51, 0xf4, 0x00, 0x05, 0x00, 0x04, 0x6c, 0x6f, 0x67, 0x73, 0x00,
+    0x01, 0x61, 0x00, 0x00, 0x00, 0x00, 0x00, 0x00, 0x03, 0xe8, 0x00, 0x00, 0x00,
+];
+
+fn bad(offset: u64) -> Option<EntryFault> {
+    Some(EntryFault::BadEntry { offset })
+}
+
+// The fault of an entry's bytes, with one of them changed and all behind an end cut off.
+fn fault(
+    rt: &HostRuntime,
+    entry: &[u8],
+    place: usize,
+    byte: u8,
+    end: usize,
+) -> Result<Option<EntryFault>, AllocError> {
+    let mut bytes = entry.to_vec(rt.alloc())?;
     if let Some(there) = bytes.get_mut(place) {
         *there = byte;
     }
-    let shown: &[u8] = &bytes;
-    match decode(rt.alloc(), shown.get(..end).unwrap_or(shown)) {
-        Ok(_) => None,
-        Err(fault) => Some(fault),
-    }
+    let shown = bytes.as_slice();
+    Ok(decode(rt.alloc(), shown.get(..end).unwrap_or(shown)).err())
 }
 
 #[test]
 fn an_entry_is_written_and_read(rt: HostRuntime) -> Result<(), Fail> {
     let alloc = rt.alloc();
     let entry = Entry {
-        moment: Moment::of(1_704_067_200_000)?,
+        moment: Moment::of(NEW_YEAR)?,
         command: Command::CreateBucket {
             bucket: BucketName::read(alloc, "logs")?,
         },
@@ -33,16 +51,49 @@ fn an_entry_is_written_and_read(rt: HostRuntime) -> Result<(), Fail> {
     let spelled: &[u8] = &LOGS[..15];
     assert_eq!(rt; encode(alloc, &entry)?.as_slice(), spelled);
     let again = decode(alloc, spelled)?;
-    assert_eq!(rt; again.moment.ms(), 1_704_067_200_000);
-    let Command::CreateBucket { bucket } = &again.command;
+    assert_eq!(rt; again.moment.ms(), NEW_YEAR);
+    let Command::CreateBucket { bucket } = &again.command else {
+        panic!(rt; "another command");
+    };
     assert_eq!(rt; bucket.text(), "logs");
     Ok(())
 }
 
 #[test]
-fn a_fault_names_its_field(rt: HostRuntime) {
+fn a_put_is_written_and_read(rt: HostRuntime) -> Result<(), Fail> {
+    let alloc = rt.alloc();
+    let entry = Entry {
+        moment: Moment::of(NEW_YEAR)?,
+        command: Command::Put {
+            bucket: BucketName::read(alloc, "logs")?,
+            key: Key::read(alloc, b"a")?,
+            size: Size::of(1_000)?,
+            class: Class::Standard,
+        },
+    };
+    let spelled: &[u8] = &A_PUT[..28];
+    assert_eq!(rt; encode(alloc, &entry)?.as_slice(), spelled);
+    let again = decode(alloc, spelled)?;
+    assert_eq!(rt; again.moment.ms(), NEW_YEAR);
+    let Command::Put {
+        bucket,
+        key,
+        size,
+        class,
+    } = &again.command
+    else {
+        panic!(rt; "another command");
+    };
+    assert_eq!(rt; bucket.text(), "logs");
+    assert_eq!(rt; key.bytes(), b"a".as_slice());
+    assert_eq!(rt; (size.bytes(), *class), (1_000, Class::Standard));
+    Ok(())
+}
+
+#[test]
+fn a_fault_names_its_field(rt: HostRuntime) -> Result<(), Fail> {
     // The place and the byte that stands there, how many bytes there are, and where the field of the fault begins.
-    let cases = [
+    let made = [
         (0, 0x00, 0, 0),
         (0, 0x00, 7, 0),
         (2, 0x04, 15, 0),
@@ -57,12 +108,112 @@ fn a_fault_names_its_field(rt: HostRuntime) {
         (10, 0x03, 15, 14),
         (0, 0x00, 16, 15),
     ];
-    for (place, byte, end, offset) in cases {
+    for (place, byte, end, offset) in made {
         assert_eq!(rt;
-            fault(&rt, place, byte, end),
-            Some(EntryFault::BadEntry { offset }),
+            fault(&rt, &LOGS, place, byte, end)?,
+            bad(offset),
             "{place} {byte} {end}"
         );
     }
-    assert_eq!(rt; fault(&rt, 0, 0x00, 15), None);
+    let put = [
+        (2, 0x04, 28, 0),
+        (8, 0x06, 28, 8),
+        (8, 0x01, 28, 15),
+        (9, 0xff, 28, 9),
+        (11, 0x4c, 28, 9),
+        (0, 0x00, 15, 15),
+        (0, 0x00, 16, 15),
+        (0, 0x00, 17, 15),
+        (15, 0x01, 28, 15),
+        (16, 0x00, 28, 15),
+        (17, 0xff, 28, 15),
+        (0, 0x00, 25, 18),
+        (18, 0xff, 28, 18),
+        (20, 0x05, 28, 18),
+        (0, 0x00, 26, 26),
+        (26, 0x06, 28, 26),
+        (26, 0xff, 28, 26),
+        (0, 0x00, 27, 27),
+        (27, 0x01, 28, 27),
+        (0, 0x00, 29, 28),
+    ];
+    for (place, byte, end, offset) in put {
+        assert_eq!(rt;
+            fault(&rt, &A_PUT, place, byte, end)?,
+            bad(offset),
+            "{place} {byte} {end}"
+        );
+    }
+    assert_eq!(rt; fault(&rt, &LOGS, 0, 0x00, 15)?, None);
+    assert_eq!(rt; fault(&rt, &A_PUT, 0, 0x00, 28)?, None);
+    Ok(())
+}
+
+#[test]
+fn every_class_by_its_rank(rt: HostRuntime) -> Result<(), Fail> {
+    let alloc = rt.alloc();
+    let classes = [
+        (0, Class::Standard),
+        (1, Class::StandardIa),
+        (2, Class::OnezoneIa),
+        (3, Class::GlacierIr),
+        (4, Class::Glacier),
+        (5, Class::DeepArchive),
+    ];
+    for (place, class) in classes {
+        let mut bytes = A_PUT;
+        bytes[26] = place;
+        let entry = decode(alloc, &bytes[..28])?;
+        let Command::Put { class: read, .. } = &entry.command else {
+            panic!(rt; "another command");
+        };
+        assert_eq!(rt; *read, class);
+        assert_eq!(rt; encode(alloc, &entry)?.as_slice(), &bytes[..28]);
+    }
+    Ok(())
+}
+
+#[test]
+fn sizes_up_to_the_largest(rt: HostRuntime) -> Result<(), Fail> {
+    let sizes: [(u64, Option<EntryFault>); 5] = [
+        (0, None),
+        (1, None),
+        (5_497_558_138_880, None),
+        (5_497_558_138_881, bad(18)),
+        (u64::MAX, bad(18)),
+    ];
+    for (size, fault) in sizes {
+        let mut bytes = Vec::new(rt.alloc());
+        bytes.extend_from_slice(&A_PUT[..18])?;
+        bytes.extend_from_slice(&size.to_be_bytes())?;
+        bytes.extend_from_slice(&[0x00, 0x00])?;
+        assert_eq!(rt; decode(rt.alloc(), &bytes).err(), fault, "{size}");
+    }
+    Ok(())
+}
+
+#[test]
+fn keys_in_and_out_of_range(rt: HostRuntime) -> Result<(), Fail> {
+    // The length in two bytes, the byte of which the key consists, how often, and the fault.
+    let keys = [
+        ([0x00, 0x00], 0x61, 0, bad(15)),
+        ([0x04, 0x00], 0x61, 1_024, None),
+        ([0x04, 0x01], 0x61, 1_025, bad(15)),
+        ([0x00, 0x02], 0x7f, 2, None),
+        ([0x00, 0x02], 0x80, 2, bad(15)),
+        ([0x00, 0x02], 0xc3, 2, bad(15)),
+    ];
+    for (len, byte, count, fault) in keys {
+        let mut bytes = Vec::new(rt.alloc());
+        bytes.extend_from_slice(&A_PUT[..15])?;
+        bytes.extend_from_slice(&len)?;
+        bytes.extend_from_slice(&vec![in rt.alloc(); byte; count]?)?;
+        bytes.extend_from_slice(&A_PUT[18..28])?;
+        assert_eq!(rt;
+            decode(rt.alloc(), &bytes).err(),
+            fault,
+            "{count} of {byte}"
+        );
+    }
+    Ok(())
 }

@@ -1,19 +1,21 @@
 // Writing an entry.
-ghost use Rattle.std.specs.Prelude.{◌≡◌, ◌++◌, IfOk, OnOk};
-ghost use Rattle.office_base.specs.Names.{IsBucketName};
+ghost use Rattle.std.specs.Prelude.{◌≡◌, ◌++◌, ◌<◌, ◌^◌, length, IfOk, OnOk};
 ghost use Rattle.plain_office.specs.Run.{entry_at};
-ghost use Rattle.entry_codec.specs.Spelling.{Fits, IsEntry, name, command_spelling, CommandFits, spelling};
+ghost use Rattle.entry_codec.specs.Spelling.{Fits, IsEntry, counted, command_spelling, CommandFits, spelling};
 
+use class_rules::rank;
 use moments::Moment;
-use office_base::{BucketName, NoMemory};
+use office_base::NoMemory;
 use plain_office::{Command, Entry};
 use std::alloc::{AllocError, Global};
 
-fn put_name(out: &mut Vec<u8>, bucket: &BucketName) -> Result<(), AllocError>
-    ensures bytes { OnOk result (out.new.items ≡ out.old.items ++ name bucket.now) }
-    ensures fits { OnOk result (IsBucketName bucket.now) }
+/// How many tags an object has.
+const NO_TAGS: u8 = 0;
+
+fn put_counted(out: &mut Vec<u8>, text: &[u8]) -> Result<(), AllocError>
+    requires { length text.now < 2 ^ 16 }
+    ensures { OnOk result (out.new.items ≡ out.old.items ++ counted text.now) }
 {
-    let text = bucket.text().as_bytes();
     out.extend_from_slice(&(text.len() as u16).to_be_bytes())?;
     out.extend_from_slice(text)
 }
@@ -25,7 +27,19 @@ fn put_command(out: &mut Vec<u8>, command: &Command) -> Result<(), AllocError>
     match command {
         Command::CreateBucket { bucket } => {
             out.push(1)?;
-            put_name(out, bucket)
+            put_counted(out, bucket.text().as_bytes())
+        }
+        Command::Put {
+            bucket,
+            key,
+            size,
+            class,
+        } => {
+            out.push(5)?;
+            put_counted(out, bucket.text().as_bytes())?;
+            put_counted(out, key.bytes())?;
+            out.extend_from_slice(&size.bytes().to_be_bytes())?;
+            out.extend_from_slice(&[rank(*class), NO_TAGS])
         }
     }
 }
