@@ -12,7 +12,7 @@ use Rattle.plain_office.specs.declared.command.Entry.{Entry}
 use Rattle.plain_office.specs.declared.reply.Reply.{Reply}
 use Rattle.plain_office.specs.declared.reply.Refusal.{Refusal}
 use Rattle.plain_office.specs.declared.reply.Refusal.TheVariants.{NoMemory}
-use Rattle.plain_office.proofs.Orderly.{empty_orderly, accept_orderly}
+use Rattle.plain_office.proofs.OrderlySteps.{empty_orderly, accept_orderly}
 use Rattle.plain_office.proofs.Runs.{accepted_by, refused_by, early_refused, step_refused, step_has_memory, run_more, run_none}
 use Rattle.office_machine.specs.Standing.{Records, StandsForOffice, Does, accepted_after, most_commands}
 use Rattle.entry_codec.specs.Spelling.{Fits, CommandFits, spelling}
@@ -38,7 +38,7 @@ refusal_same a b e = cc
 -- the size of a command in range is one that is taken
 sized_command : (c : Command) → CommandFits c → SizeFits c
 sized_command (command.CreateBucket name) fits = tt
-sized_command (command.Put name key size class) fits = absurd fits
+sized_command (command.Put name key size class) fits = fits.sized
 
 pub sized : (e : Entry) → Fits e → SizeFits e.command
 sized e fits = sized_command e.command fits.command

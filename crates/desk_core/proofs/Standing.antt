@@ -14,6 +14,7 @@ use Rattle.plain_office.specs.declared.command.Entry.{Entry}
 use Rattle.plain_office.specs.declared.reply.Refusal.TheVariants.{ClockEnd}
 use Rattle.plain_office.proofs.Runs.{run_more}
 use Rattle.entry_codec.specs.Spelling.{spelling}
+use Rattle.entry_codec.proofs.Sizes.{same_length}
 use Rattle.meter_journal.specs.History.{header, end_gate}
 use Rattle.meter_journal.proofs.History.{each_image}
 use Rattle.desk_core.specs.declared.fault.DeskFault.{DeskFault}
@@ -28,12 +29,8 @@ use Rattle.desk_core.proofs.OneMore.{last_faults, IsKept, Makes, one_more, recov
 
 -- ---- legal answers
 
-pub same_size : (t u : ℕ) (command : Command) → length (spelling (entry_at t command)) ≡ length (spelling (entry_at u command))
-unfolding spelling
-same_size t u command = omega arith
-
 full_at : (t gate limit : ℕ) (question : Ask) (before : List Entry) → gate ≡ end_gate header before → PassesLimit t gate limit question → IsFull limit question before
-full_at t gate limit (ask.Command command) before is_end passes = λ fits. omega (arith, is_end, passes.1, same_size t 0 command, fits)
+full_at t gate limit (ask.Command command) before is_end passes = λ fits. omega (arith, is_end, passes.1, same_length t 0 command, fits)
 full_at t gate limit (ask.Query query) before is_end passes = absurd passes
 
 pub still_true : (b : Bool) → b ≡ true → b ≡ false → ⊥

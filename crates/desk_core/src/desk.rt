@@ -203,7 +203,7 @@ impl<D: Disk + Drop, C: Clock + Drop> Desk<D, C> {
             Ok(reply) => Ok(self.answer(moment.ms(), told, Ok(reply))),
             Err(refusal) => match refusal {
                 Refusal::NoMemory => Err(DeskFault::NoMemory),
-                other => Ok(self.answer(moment.ms(), told, Err(other))),
+                refused => Ok(self.answer(moment.ms(), told, Err(refused))),
             },
         }
     }
