@@ -1,15 +1,16 @@
 -- Why a journal is not opened.
-use Rattle.std.proofs.Common.{◌≡◌, ◌⊎◌, ℕ, ◌+◌, ◌<◌, List, [], ◌∷◌, ◌++◌, length, get_or, Bool, true, false, sym, ap, ◌∙◌, subst, refl, Option, Some, None, Ok, Err, inl, inr, ⊎_elim, arith}
+use Rattle.std.proofs.Common.{◌≡◌, ◌⊎◌, ℕ, ◌+◌, ◌<◌, ◌≤◌, ◌^◌, List, [], ◌∷◌, ◌++◌, length, get_or, Bool, true, false, sym, ap, ◌∙◌, subst, refl, Option, Some, None, Ok, Err, inl, inr, ⊎_elim, arith}
 use Rattle.std.specs.Prelude.{IsTrue, IsSome, option_and_then}
 use Rattle.disk_core.specs.Files.{State, File, synced_file}
 use Rattle.plain_office.specs.Office.{Office, empty_office}
-use Rattle.plain_office.specs.Step.{step, IsStep}
+use Rattle.plain_office.specs.Orderly.{IsOrderly}
+use Rattle.plain_office.specs.Step.{step}
 use Rattle.plain_office.specs.Run.{run, run_from, accept, is_not_before}
 use Rattle.plain_office.specs.declared.command.Entry.{Entry}
-use Rattle.plain_office.specs.declared.reply.Reply.{Reply}
 use Rattle.plain_office.specs.declared.reply.Refusal.{Refusal}
 use Rattle.plain_office.specs.declared.reply.Refusal.TheVariants as refusals
-use Rattle.plain_office.proofs.Runs.{accepted_by, refused_by, early_refused, run_more, run_none}
+use Rattle.plain_office.proofs.Runs.{early_refused}
+use Rattle.office_machine.specs.Standing.{Records, StandsForOffice, Does, most_commands}
 use Rattle.meter_journal.specs.declared.fault.OpenFault.{OpenFault}
 use Rattle.meter_journal.specs.declared.fault.OpenFault.TheVariants as faults
 use Rattle.entry_codec.specs.Spelling.{Fits, spelling}
@@ -18,20 +19,29 @@ use Rattle.meter_journal.specs.Reading.{IsMade, HeadGives, NextGives, Advances, 
 use Rattle.meter_journal.proofs.Heads.{made_head, made_not_none, made_not_foreign, history_made}
 use Rattle.meter_journal.proofs.Prefix.{read_start, read_more, read_end}
 use Rattle.meter_journal.proofs.Unique.{goes_on, never_broken}
-use Rattle.desk_core.specs.Histories.{HasHistory}
+use Rattle.desk_core.specs.Histories.{HasAcceptedHistory}
 use Rattle.desk_core.specs.Opening.{IsDamagedAt, OpenFails, ReplayFails, HasRead, HasReplayed}
+use Rattle.desk_core.specs.Offices.{StandsAfter}
 use Rattle.desk_core.proofs.Adding.{end_more}
+use Rattle.desk_core.proofs.Offices.{few}
+use Rattle.desk_core.proofs.Offices.{not_taken as refused}
 
-pub not_in_order : (p : Office) (e : Entry) → is_not_before p.last e.moment ≡ false → accept p e ≡ None
-not_in_order p e is = early_refused p e is
+-- why an entry is not taken
+pub not_taken : (old new : Records) (e : Entry) (refusal : Refusal) (fault : OpenFault) (gate : ℕ) → ((p : Office) → StandsForOffice old p → IsOrderly p → Does (step e.moment e.command p) p new (Err refusal))
+    → (refusal ≡ refusals.NoMemory → fault ≡ faults.NoMemory) → ((refusal ≡ refusals.NoMemory → ⊥) → fault ≡ faults.Damaged gate)
+    → (fault ≡ faults.NoMemory) ⊎ ((fault ≡ faults.Damaged gate) × ((history : List Entry) (is : StandsAfter history old) → accept is.plain e ≡ None))
+not_taken old new e refusals.NoMemory fault gate does memory damaged = inl (memory refl)
+not_taken old new e refusals.BucketExists fault gate does memory damaged =
+    inr (damaged (λ e. cc), λ history is. refused is.plain e new refusals.BucketExists (λ e. cc) (does is.plain is.stands is.orderly))
+not_taken old new e refusals.NoSuchBucket fault gate does memory damaged =
+    inr (damaged (λ e. cc), λ history is. refused is.plain e new refusals.NoSuchBucket (λ e. cc) (does is.plain is.stands is.orderly))
+not_taken old new e (refusals.Full what limit) fault gate does memory damaged =
+    inr (damaged (λ e. cc), λ history is. refused is.plain e new (refusals.Full what limit) (λ e. cc) (does is.plain is.stands is.orderly))
+not_taken old new e (refusals.ClockEnd moment) fault gate does memory damaged =
+    inr (damaged (λ e. cc), λ history is. refused is.plain e new (refusals.ClockEnd moment) (λ e. cc) (does is.plain is.stands is.orderly))
 
-pub taken : (p q : Office) (e : Entry) (reply : Reply) → is_not_before p.last e.moment ≡ true → IsStep (step e.moment e.command p) p q (Ok reply) → accept p e ≡ Some q
-taken p q e reply later is = accepted_by p q e reply later is
-
-pub not_taken : (p q : Office) (e : Entry) (refusal : Refusal) (fault : OpenFault) (gate : ℕ) → IsStep (step e.moment e.command p) p q (Err refusal) → (refusal ≡ refusals.NoMemory → fault ≡ faults.NoMemory)
-    → ((refusal ≡ refusals.NoMemory → ⊥) → fault ≡ faults.Damaged gate) → (fault ≡ faults.NoMemory) ⊎ ((fault ≡ faults.Damaged gate) × (accept p e ≡ None))
-not_taken p q e refusals.NoMemory fault gate is memory damaged = inl (memory refl)
-not_taken p q e refusals.BucketExists fault gate is memory damaged = inr (damaged (λ e. cc), (refused_by p q e refusals.BucketExists (λ e. cc) is).0)
+pub not_in_order : (old : Records) (e : Entry) → is_not_before old.last e.moment ≡ false → (history : List Entry) (is : StandsAfter history old) → accept is.plain e ≡ None
+not_in_order old e early history is = early_refused is.plain e (subst (λ (last : Option ℕ). is_not_before last e.moment ≡ false) is.stands.last early)
 
 -- ---- reading all entries
 
@@ -40,34 +50,40 @@ unfolding whole
 end_none = refl
 
 module _ {D : Type 0} (honest : Bool) (state : D → State) where
-  pub none_read : (disk : D) (gate : ℕ) (office : Office) → gate ≡ 10 → office ≡ empty_office → HasRead honest state disk gate office
+  pub none_read : (disk : D) (gate : ℕ) (office : Records) → gate ≡ 10 → StandsAfter [] office → HasRead honest state disk gate office
   none_read disk gate office first empty = record {
     history = [];
-    is_run = run_none ∙ ap (λ (p : Office). Some p) (sym empty);
+    office_is = empty;
     end = first ∙ sym end_none;
+    small = omega (arith, first);
     prefix = λ tells file on_disk made. subst (λ (k : ℕ). HasPrefix header [] k file) (sym first) (read_start header [] 10 file refl (made_head file made) refl);
   }
 
-  pub one_read : (disk mid : D) (gate next : ℕ) (office after : Office) (o : Option Entry) (e : Entry) → HasRead honest state disk gate office → (IsTrue honest → state mid ≡ state disk)
+  pub one_read : (disk mid : D) (gate next : ℕ) (office after : Records) (o : Option Entry) (e : Entry) → HasRead honest state disk gate office → (IsTrue honest → state mid ≡ state disk)
       → (IsTrue honest → (i : ℕ) → get_or (state disk).journal.seen i 0 < 256) → o ≡ Some e → (IsTrue honest → NextGives (Ok o) gate next (frame_at gate (state mid).journal.seen)) → Advances (Ok o) gate next
-      → accept office e ≡ Some after → HasRead honest state disk next after
-  one_read disk mid gate next office after o e read same bytes is gives advances accepted =
+      → next ≤ 2 ^ 45 → ((history : List Entry) → StandsAfter history office → StandsAfter (history ++ e ∷ []) after) → HasRead honest state disk next after
+  one_read disk mid gate next office after o e read same bytes is gives advances small taken =
       let passed : Fits e × (next ≡ gate + 5 + length (spelling e)) = subst (λ (x : Option Entry). Advances (Ok x) gate next) is advances in
       record {
         history = read.history ++ e ∷ [];
-        is_run = run_more read.history e office after read.is_run accepted;
+        office_is = taken read.history read.office_is;
         end = omega (arith, passed.1, read.end, end_more header read.history e);
+        small = small;
         prefix = λ tells file on_disk made. read_more header (state disk) (state mid) file read.history (read.history ++ e ∷ []) gate next o e (same tells) on_disk (bytes tells) (read.prefix tells file on_disk made) is (gives tells) refl;
       }
 
-  pub all_read : (disk mid new : D) (gate next : ℕ) (office : Office) (o : Option Entry) → HasRead honest state disk gate office → (IsTrue honest → state mid ≡ state disk) → (IsTrue honest → state new ≡ state mid)
+  pub all_read : (disk mid new : D) (gate next : ℕ) (office : Records) (o : Option Entry) → HasRead honest state disk gate office → (IsTrue honest → state mid ≡ state disk) → (IsTrue honest → state new ≡ state mid)
       → o ≡ None → (IsTrue honest → NextGives (Ok o) gate next (frame_at gate (state mid).journal.seen)) → Advances (Ok o) gate next → HasReplayed honest state disk new next office
   all_read disk mid new gate next office o read same still is gives advances = record {
     history = read.history;
-    is_run = read.is_run;
+    office_is = read.office_is;
     end = subst (λ (x : Option Entry). Advances (Ok x) gate next) is advances ∙ read.end;
     at_rest = λ tells file on_disk made. read_end header (state disk) (state mid) (state new) file read.history gate next o (same tells) (still tells) on_disk (read.prefix tells file on_disk made) is (gives tells);
   }
+
+  -- the next entry is taken as far as the office can count
+  pub few_read : (disk : D) (gate : ℕ) (office : Records) → HasRead honest state disk gate office → office.accepted < most_commands
+  few_read disk gate office read = few read.history office gate read.office_is read.end read.small
 
 -- ---- why reading fails
 
@@ -140,7 +156,7 @@ is_defined (Some p) some is = absurd cc
 same_entry : (a b : Entry) (m n : ℕ) → Whole a m ≡ Whole b n → a ≡ b
 same_entry a b m n is = cc
 
-not_damaged : (history : List Entry) (file : List ℕ) (at : ℕ) → HasHistory history file → IsDamagedAt at file → ⊥
+not_damaged : (history : List Entry) (file : List ℕ) (at : ℕ) → HasAcceptedHistory history file → IsDamagedAt at file → ⊥
 not_damaged history file at has damaged = ⊎_elim
     (λ broken. never_broken header damaged.history history at file has.entries damaged.before broken)
     (λ stands. ⊎_elim (λ ended. let both = sym ended.1 ∙ stands.2 in absurd (ended_whole stands.0 stands.1 both))
@@ -154,7 +170,7 @@ not_damaged history file at has damaged = ⊎_elim
     ended_whole : (e : Entry) (n : ℕ) → Ended ≡ Whole e n → ⊥
     ended_whole e n is = cc
 
-pub opens : (fault : OpenFault) (history : List Entry) (file : List ℕ) → HasHistory history file → OpenFails fault file → (fault ≡ faults.StoreFault) ⊎ (fault ≡ faults.NoMemory)
+pub opens : (fault : OpenFault) (history : List Entry) (file : List ℕ) → HasAcceptedHistory history file → OpenFails fault file → (fault ≡ faults.StoreFault) ⊎ (fault ≡ faults.NoMemory)
 opens faults.NotMade history file has fails = absurd (made_not_none file (history_made history file has.entries) fails)
 opens faults.Foreign history file has fails = absurd (made_not_foreign file (history_made history file has.entries) fails)
 opens (faults.Damaged at) history file has fails = absurd (not_damaged history file at has fails)

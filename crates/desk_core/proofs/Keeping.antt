@@ -15,7 +15,7 @@ use Rattle.desk_core.specs.declared.fault.DeskFault.{DeskFault}
 use Rattle.desk_core.specs.declared.fault.DeskFault.TheVariants as faults
 use Rattle.desk_core.specs.Answers.{Answer, Call}
 use Rattle.desk_core.specs.Calls.{Legal, IsLegal, faults_after}
-use Rattle.desk_core.specs.Histories.{HasHistory}
+use Rattle.desk_core.specs.Histories.{HasAcceptedHistory}
 use Rattle.desk_core.specs.Serving.{AreToldBy, IsToldBy}
 use Rattle.desk_core.proofs.OneMore.{HasImageOf, last_faults, InCall, IsKept, Makes}
 
@@ -43,10 +43,10 @@ last_below first now (call ∷ calls) le told = last_below (faults_after first c
 some_run : (before : List Entry) (p : Office) → run before ≡ Some p → IsSome (run before)
 some_run before p is = subst (λ (o : Option Office). IsSome o) (sym is) refl
 
-pub rest_image : (s : State) (gate : ℕ) (before : List Entry) (p : Office) → IsAtRest header s gate before → run before ≡ Some p → (image : List ℕ) → IsImage s.journal image → HasHistory before image
+pub rest_image : (s : State) (gate : ℕ) (before : List Entry) (p : Office) → IsAtRest header s gate before → run before ≡ Some p → (image : List ℕ) → IsImage s.journal image → HasAcceptedHistory before image
 rest_image s gate before p rest is image has = record { entries = each_image header s gate before rest image has; accepted = some_run before p is }
 
-pub unique : (h before : List Entry) (image : List ℕ) → HasHistory h image → HasEntries header before image → h ≡ before
+pub unique : (h before : List Entry) (image : List ℕ) → HasAcceptedHistory h image → HasEntries header before image → h ≡ before
 unique h before image has entries = entries_unique header h before image has.entries entries
 
 module _ {D : Type 0} (state : D → State) (moment : D → ℕ) (had_since : D → ℕ → State → Type 0) (fault_count : D → ℕ)

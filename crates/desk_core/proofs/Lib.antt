@@ -1,7 +1,9 @@
 pub mod Adding
 pub mod Breaking
 pub mod Keeping
+pub mod Offices
 pub mod OneMore
 pub mod Opened
 pub mod Standing
+pub mod Submitted
 pub mod Told

@@ -3,6 +3,7 @@ use Rattle.std.proofs.Common.{◌≡◌, ◌⊎◌, inl, inr, ⊎_elim, ℕ, zer
 use Rattle.std.specs.Prelude.{IsSomeAnd}
 use Rattle.std.proofs.lemmas.Bool.{cases_lt}
 use Rattle.std.proofs.lemmas.List.{take-append-le, take_all, append-nil}
+use Rattle.moments.specs.Time.{end_of_time}
 use Rattle.disk_core.specs.Files.{State, IsImage}
 use Rattle.disk_core.specs.Moments.{KeepsTo}
 use Rattle.disk_core.proofs.Time.{weakened}
@@ -17,15 +18,15 @@ use Rattle.meter_journal.specs.History.{header, end_gate}
 use Rattle.desk_core.specs.declared.fault.DeskFault.{DeskFault}
 use Rattle.desk_core.specs.declared.fault.DeskFault.TheVariants as faults
 use Rattle.desk_core.specs.Answers.{Answer, Call}
-use Rattle.desk_core.specs.Calls.{Legal, IsLegal, IsReply, MayBeKept, GrowsBy, faults_after}
-use Rattle.desk_core.specs.Histories.{HasHistory, IsSound, Begins, BeginsButOne}
+use Rattle.desk_core.specs.Calls.{Legal, IsLegal, IsReply, IsKeptAt, MayBeKept, GrowsBy, faults_after, moment_after}
+use Rattle.desk_core.specs.Histories.{HasAcceptedHistory, IsSound, Begins, BeginsButOne}
 use Rattle.desk_core.specs.Serving.{IsAckedAt, IsToldBy, AreToldBy, Opened, Recoverable, Recovers, Agrees, Serves}
 
 -- some image of the journal file has this history
 pub record HasImageOf (s : State) (history : List Entry) : Type 0 where
   pub image : List ℕ
   pub is_image : IsImage s.journal image
-  pub has : HasHistory history image
+  pub has : HasAcceptedHistory history image
 
 -- the count of the last fault of the store that was told, and at first that of the opening
 abbrev pub last_faults : ℕ → List Call → ℕ
@@ -36,13 +37,13 @@ module _ {D : Type 0} (state : D → State) (moment : D → ℕ) (had_since : D 
   -- in a call each image has the history on which it settled, one from before, or what the call made of the settled one
   pub record InCall (old : D) (limit last : ℕ) (call : Call) (settled : List Entry) (s : State) : Type 0 where
     pub sound : IsSound s
-    pub each : (image : List ℕ) (history : List Entry) → IsImage s.journal image → HasHistory history image → HasImageOf (state old) history ⊎ Legal limit last (call ∷ []) settled history
+    pub each : (image : List ℕ) (history : List Entry) → IsImage s.journal image → HasAcceptedHistory history image → HasImageOf (state old) history ⊎ Legal limit last (call ∷ []) settled history
 
   -- the acknowledgement has the moment of the return, where all images have one history, which ends at its position
   abbrev pub IsKept : D → Result Answer DeskFault → Type 0
   IsKept new (Ok answer) =
       (answer.disk_moment ≡ moment new) × (entries : List Entry) × (end_gate header entries ≡ answer.position)
-      × ((image : List ℕ) (history : List Entry) → IsImage (state new).journal image → HasHistory history image → history ≡ entries)
+      × ((image : List ℕ) (history : List Entry) → IsImage (state new).journal image → HasAcceptedHistory history image → history ≡ entries)
   IsKept new (Err fault) = Unit {0}
 
   -- what a call does to the disk, as the plain office has it
@@ -50,7 +51,7 @@ module _ {D : Type 0} (state : D → State) (moment : D → ℕ) (had_since : D 
     pub settled : List Entry
     pub is_settled : HasImageOf (state old) settled
     pub run : KeepsTo state moment had_since old new (InCall old limit last call settled)
-    pub done : (image : List ℕ) (history : List Entry) → IsImage (state new).journal image → HasHistory history image → Legal limit last (call ∷ []) settled history
+    pub done : (image : List ℕ) (history : List Entry) → IsImage (state new).journal image → HasAcceptedHistory history image → Legal limit last (call ∷ []) settled history
     pub kept : IsKept new call.said
     pub faults : (fault_count old ≤ fault_count new) × IsToldBy (fault_count new) call.said
 
@@ -74,15 +75,23 @@ reply_grows reply entry before after (inr same) = same_grows before after same.1
 
 asked_grows : (limit t : ℕ) (question : Ask) (office : Office) (reply : Result Reply Refusal) (before after : List Entry) → IsReply limit t question office reply before after → Grows before after
 asked_grows limit t (ask.Command command) office reply before after is = reply_grows reply (entry_at t command) before after is.1
+asked_grows limit t (ask.Query query) office reply before after is = same_grows before after is.1
+
+kept_grows_at : (t : ℕ) (question : Ask) (office : Office) (before after : List Entry) → IsKeptAt t question office before after → Grows before after
+kept_grows_at t (ask.Command command) office before after is = inr (_, is.2)
+kept_grows_at t (ask.Query query) office before after is = absurd is
 
 kept_grows : (number : Option ℕ) (question : Ask) (office : Office) (before after : List Entry) → MayBeKept number question office before after → Grows before after
-kept_grows (Some number) (ask.Command command) office before after is = inr (_, is.1)
+kept_grows (Some number) question office before after is = kept_grows_at (moment_after number office.last) question office before after is
 kept_grows None question office before after is = absurd is
 
 one_grows : (limit told : ℕ) (question : Ask) (said : Result Answer DeskFault) (office : Office) (before after : List Entry) → IsLegal limit told question said office before after → Grows before after
-one_grows limit told question (Ok answer) office before after is = asked_grows limit answer.moment question office answer.reply before after is.reply
+one_grows limit told question (Ok answer) office before after is = elim (cases_lt answer.moment end_of_time) [
+  | inl lt ↦ asked_grows limit answer.moment question office answer.reply before after (is.reply lt)
+  | inr past ↦ same_grows before after (is.ended past).1
+]
 one_grows limit told question (Err (faults.StoreFault number count)) office before after is =
-    ⊎_elim (λ same. same_grows before after same) (λ kept. kept_grows number question office before after kept) is.1
+    ⊎_elim (λ same. same_grows before after same) (λ kept. kept_grows number question office before after kept) is.2
 one_grows limit told question (Err faults.JournalFull) office before after is = same_grows before after is.1
 one_grows limit told question (Err faults.NoMemory) office before after is = same_grows before after is
 
@@ -165,7 +174,7 @@ module _ {D : Type 0} (state : D → State) (moment : D → ℕ) (had_since : D 
     abbrev Last : ℕ
     Last = last_faults opened.faults calls
 
-    whole_at_return : (image : List ℕ) (history : List Entry) → IsImage (state new).journal image → HasHistory history image → Rule all history
+    whole_at_return : (image : List ℕ) (history : List Entry) → IsImage (state new).journal image → HasAcceptedHistory history image → Rule all history
     whole_at_return image history is stands = whole_of_new makes.settled history makes.is_settled (makes.done image history is stands)
 
     all_of_new : (history : List Entry) → Rule all history → Rule (take (length calls + 1) all) history
@@ -178,7 +187,7 @@ module _ {D : Type 0} (state : D → State) (moment : D → ℕ) (had_since : D 
     in_old : (answer : Answer) (place t : ℕ) → t < moment new → IsAckedAt all place answer → answer.disk_moment ≤ t → IsAckedAt calls place answer
     in_old answer place t lt is le = ⊎_elim (λ old_one. old_one) (λ this. absurd (not_this answer t lt this le)) (acked_split calls call place answer is)
 
-    recovers_old : (t : ℕ) (image : List ℕ) (history : List Entry) → t < moment new → HasHistory history image → HasImageOf (state old) history → Recovers opened all t image
+    recovers_old : (t : ℕ) (image : List ℕ) (history : List Entry) → t < moment new → HasAcceptedHistory history image → HasImageOf (state old) history → Recovers opened all t image
     recovers_old t image history lt stands has = record {
       history = history;
       has = stands;
@@ -188,7 +197,7 @@ module _ {D : Type 0} (state : D → State) (moment : D → ℕ) (had_since : D 
       acked = λ place answer is le. acked_inside calls place answer (in_old answer place t lt is le);
     }
 
-    recovers_whole : (t : ℕ) (image : List ℕ) (history : List Entry) → HasHistory history image → Rule all history → Recovers opened all t image
+    recovers_whole : (t : ℕ) (image : List ℕ) (history : List Entry) → HasAcceptedHistory history image → Rule all history → Recovers opened all t image
     recovers_whole t image history stands rule = record {
       history = history;
       has = stands;
@@ -198,7 +207,7 @@ module _ {D : Type 0} (state : D → State) (moment : D → ℕ) (had_since : D 
       acked = λ place answer is le. omega (arith, size, acked_inside all place answer is);
     }
 
-    recovers_by : (t : ℕ) (image : List ℕ) (history : List Entry) → t < moment new → HasHistory history image → HasImageOf (state old) history ⊎ Legal opened.limit Last (call ∷ []) makes.settled history → Recovers opened all t image
+    recovers_by : (t : ℕ) (image : List ℕ) (history : List Entry) → t < moment new → HasAcceptedHistory history image → HasImageOf (state old) history ⊎ Legal opened.limit Last (call ∷ []) makes.settled history → Recovers opened all t image
     recovers_by t image history lt stands (inl has) = recovers_old t image history lt stands has
     recovers_by t image history lt stands (inr one) = recovers_whole t image history stands (whole_of_new makes.settled history makes.is_settled one)
 
@@ -261,13 +270,13 @@ module _ {D : Type 0} (state : D → State) (moment : D → ℕ) (had_since : D 
     but_one_in_call h now (inr one) done =
         grown_but_one makes.settled h now (call_grows opened.limit Last call makes.settled h one) (begins_grown makes.settled now (call_grows opened.limit Last call makes.settled now done))
 
-    steady_call : (s : State) (image : List ℕ) (h : List Entry) → InCall state moment had_since fault_count old opened.limit Last call makes.settled s → IsImage s.journal image → HasHistory h image
-        → (image_now : List ℕ) (now : List Entry) → IsImage (state new).journal image_now → HasHistory now image_now → BeginsButOne h now
+    steady_call : (s : State) (image : List ℕ) (h : List Entry) → InCall state moment had_since fault_count old opened.limit Last call makes.settled s → IsImage s.journal image → HasAcceptedHistory h image
+        → (image_now : List ℕ) (now : List Entry) → IsImage (state new).journal image_now → HasAcceptedHistory now image_now → BeginsButOne h now
     steady_call s image h has is stands image_now now is_now stands_now =
         but_one_in_call h now (has.each image h is stands) (makes.done image_now now is_now stands_now)
 
-    steady_new : (t : ℕ) (s : State) (image : List ℕ) (h : List Entry) → opened.moment ≤ t → had_since new t s → IsImage s.journal image → HasHistory h image
-        → (image_now : List ℕ) (now : List Entry) → IsImage (state new).journal image_now → HasHistory now image_now → BeginsButOne h now
+    steady_new : (t : ℕ) (s : State) (image : List ℕ) (h : List Entry) → opened.moment ≤ t → had_since new t s → IsImage s.journal image → HasAcceptedHistory h image
+        → (image_now : List ℕ) (now : List Entry) → IsImage (state new).journal image_now → HasAcceptedHistory now image_now → BeginsButOne h now
     steady_new t s image h since had is stands image_now now is_now stands_now = elim (cases_lt (moment old) t) [
       | inl in_it ↦ steady_call s image h (makes.run.each s (since_earlier new (moment old) t s (omega (arith, in_it)) had)) is stands image_now now is_now stands_now
       | inr le ↦ ⊎_elim
@@ -323,7 +332,7 @@ module _ {D : Type 0} (state : D → State) (moment : D → ℕ) (had_since : D 
 
   -- at the return of an opening whose disk has one history
   pub starts : (opened : Opened) (disk : D) → IsSound (state disk)
-      → ((image : List ℕ) (history : List Entry) → IsImage (state disk).journal image → HasHistory history image → history ≡ opened.history)
+      → ((image : List ℕ) (history : List Entry) → IsImage (state disk).journal image → HasAcceptedHistory history image → history ≡ opened.history)
       → opened.moment ≡ moment disk → opened.faults ≡ fault_count disk → Serving opened disk []
   starts opened disk sound one at counts = record {
     later = omega (arith, at);

@@ -1,68 +1,63 @@
 -- The list of calls that a desk stands for grows by each call.
-use Rattle.std.proofs.Common.{◌≡◌, inl, inr, ⊎_elim, ℕ, ◌+◌, ◌≤◌, Bool, true, false, ◌&&◌, List, [], ◌∷◌, ◌++◌, length, Some, None, Result, Ok, Err, refl, sym, ap, ◌∙◌, subst, arith}
-use Rattle.std.specs.Prelude.{IsTrue, if◌then◌else◌}
+use Rattle.std.proofs.Common.{◌≡◌, inl, inr, ⊎_elim, ℕ, ◌+◌, ◌^◌, ◌<◌, ◌≤◌, Bool, true, false, List, [], ◌∷◌, ◌++◌, length, Some, None, Option, Result, Ok, Err, refl, sym, ap, ◌∙◌, subst, arith}
+use Rattle.std.specs.Prelude.{IsTrue}
 use Rattle.office_base.specs.Faults.{Rose}
+use Rattle.moments.specs.Time.{end_of_time}
 use Rattle.disk_core.specs.Files.{State, IsImage}
 use Rattle.plain_office.specs.Office.{Office}
 use Rattle.plain_office.specs.Step.{step, is_accepted}
-use Rattle.plain_office.specs.Run.{accept, entry_at, is_not_before}
+use Rattle.plain_office.specs.Run.{accept, entry_at}
 use Rattle.plain_office.specs.declared.command.Ask.{Ask}
 use Rattle.plain_office.specs.declared.command.Ask.TheVariants as ask
 use Rattle.plain_office.specs.declared.command.Command.{Command}
 use Rattle.plain_office.specs.declared.command.Entry.{Entry}
+use Rattle.plain_office.specs.declared.reply.Refusal.TheVariants.{ClockEnd}
 use Rattle.plain_office.proofs.Runs.{run_more}
 use Rattle.entry_codec.specs.Spelling.{spelling}
-use Rattle.meter_journal.specs.History.{header, end_gate, IsAtRest}
+use Rattle.entry_codec.proofs.Sizes.{same_length}
+use Rattle.meter_journal.specs.History.{header, end_gate}
 use Rattle.meter_journal.proofs.History.{each_image}
 use Rattle.desk_core.specs.declared.fault.DeskFault.{DeskFault}
 use Rattle.desk_core.specs.declared.fault.DeskFault.TheVariants as faults
 use Rattle.desk_core.specs.Answers.{Answer, Call}
-use Rattle.desk_core.specs.Calls.{Legal, IsLegal, IsReply, GrowsBy, FitsIn, IsFull, moment_after}
+use Rattle.desk_core.specs.Calls.{Legal, IsLegal, IsReply, IsFull, IsKeptAt, moment_after}
 use Rattle.desk_core.specs.Serving.{Opened, IsToldBy}
-use Rattle.desk_core.specs.Desk.{Seat, Holds, IsReady, StandsFor, GoesOn, HasStoreReason, PassesLimit, is_store_fault}
-use Rattle.desk_core.specs.Keeping.{Replied, Grows, Stays, Fails, Keeps}
+use Rattle.desk_core.specs.Desk.{Seat, Holds, StandsFor, GoesOn, PassesLimit, is_store_fault}
+use Rattle.desk_core.specs.Keeping.{IsMade, Grows, Fails, IsDone, HasFailed, Keeps, IsEnded, Answers}
 use Rattle.desk_core.proofs.Keeping.{one_legal, rose_from, last_below, unique, makes_still, makes_grown, makes_failed}
 use Rattle.desk_core.proofs.OneMore.{last_faults, IsKept, Makes, one_more, recoverable, legal_append, told_more}
 
 -- ---- legal answers
 
-reply_at : (limit t number : ℕ) (command : Command) (office : Office) (answer : Answer) (before after : List Entry) → Replied t number command office answer
-    → GrowsBy answer.reply (entry_at t command) before after → FitsIn limit before (entry_at t command) → IsReply limit answer.moment (ask.Command command) office answer.reply before after
-reply_at limit t number command office answer before after replied grows fits =
-    subst (λ (m : ℕ). IsReply limit m (ask.Command command) office answer.reply before after) (sym replied.moment) (replied.reply, grows, fits)
+full_at : (t gate limit : ℕ) (question : Ask) (before : List Entry) → gate ≡ end_gate header before → PassesLimit t gate limit question → IsFull limit question before
+full_at t gate limit (ask.Command command) before is_end passes = λ fits. omega (arith, is_end, passes.1, same_length t 0 command, fits)
+full_at t gate limit (ask.Query query) before is_end passes = absurd passes
 
-answered : (limit told t number end : ℕ) (command : Command) (office : Office) (answer : Answer) (before after : List Entry) → t ≡ moment_after number office → Replied t number command office answer
-    → GrowsBy answer.reply (entry_at t command) before after → FitsIn limit before (entry_at t command) → answer.position ≡ end → end ≡ end_gate header after
-    → IsLegal limit told (ask.Command command) (Ok answer) office before after
-answered limit told t number end command office answer before after at replied grows fits stamped is_end = record {
-  moment = replied.moment ∙ at ∙ ap (λ (n : ℕ). moment_after n office) (sym replied.told);
-  reply = reply_at limit t number command office answer before after replied grows fits;
-  position = stamped ∙ is_end;
-}
-
-both_true : (a b : Bool) (p q : Office) → (if a && b then Some p else None) ≡ Some q → IsTrue b
-both_true true true p q is = refl
-both_true true false p q is = absurd cc
-both_true false b p q is = absurd cc
-
-accepted_step : (p q : Office) (e : Entry) → accept p e ≡ Some q → IsTrue (is_accepted (step e.moment e.command p).1)
-unfolding accept
-accepted_step p q e is = both_true (is_not_before p.last e.moment) (is_accepted (step e.moment e.command p).1) (step e.moment e.command p).0 q is
-
-pub same_size : (t u : ℕ) (command : Command) → length (spelling (entry_at t command)) ≡ length (spelling (entry_at u command))
-unfolding spelling
-same_size t u command = omega arith
-
-full_at : (limit t end size : ℕ) (command : Command) (before : List Entry) → end ≡ end_gate header before → size ≡ length (spelling (entry_at t command)) → (end + 6 + size ≤ limit → ⊥) → IsFull limit (ask.Command command) before
-full_at limit t end size command before is_end is_size full fits = full (omega (arith, is_end, is_size, same_size t 0 command, fits))
-
--- a frame that fits at one moment passes the limit at none
-pub too_long : (gate limit size t : ℕ) (command : Command) → size ≡ length (spelling (entry_at t command)) → gate + 6 + size ≤ limit → PassesLimit gate limit (ask.Command command) → ⊥
-too_long gate limit size t command is_size fits long = omega (arith, is_size, same_size t 0 command, fits, long)
-
-still_true : (b : Bool) → b ≡ true → b ≡ false → ⊥
+pub still_true : (b : Bool) → b ≡ true → b ≡ false → ⊥
 still_true true is not = absurd cc
 still_true false is not = absurd cc
+
+module _ {D : Type 0} {C : Type 0} (honest : Bool) (state : D → State) (moment : D → ℕ) (had_since : D → ℕ → State → Type 0) (fault_count : D → ℕ) where
+  module _ (limit counted t number : ℕ) (question : Ask) (office : Office) (said : Answer) (before after : List Entry) (new : Seat D C)
+      (at : t ≡ moment_after number office.last) (made : IsMade moment t number new said) (end : new.gate ≡ end_gate header after) where
+    at_moment : said.moment ≡ moment_after said.told office.last
+    at_moment = made.moment ∙ at ∙ ap (λ (n : ℕ). moment_after n office.last) (sym made.told)
+
+    answered : t < end_of_time → IsReply limit t question office said.reply before after → IsLegal limit counted question (Ok said) office before after
+    answered lt is = record {
+      moment = at_moment;
+      reply = λ _. subst (λ (m : ℕ). IsReply limit m question office said.reply before after) (sym made.moment) is;
+      ended = λ past. absurd (omega (arith, made.moment, lt, past));
+      position = made.position ∙ end;
+    }
+
+    past_end : end_of_time ≤ t → said.reply ≡ Err (ClockEnd t) → after ≡ before → IsLegal limit counted question (Ok said) office before after
+    past_end past is same = record {
+      moment = at_moment;
+      reply = λ lt. absurd (omega (arith, made.moment, lt, past));
+      ended = λ _. (is ∙ ap (λ (m : ℕ). Err (ClockEnd m)) (sym made.moment), same);
+      position = made.position ∙ end;
+    }
 
 module _ {D : Type 0} {C : Type 0} (honest : Bool) (state : D → State) (moment : D → ℕ) (had_since : D → ℕ → State → Type 0) (fault_count : D → ℕ)
     (counts_now : (disk : D) (t : ℕ) → t ≤ moment disk → had_since disk t (state disk))
@@ -72,13 +67,13 @@ module _ {D : Type 0} {C : Type 0} (honest : Bool) (state : D → State) (moment
   abbrev Stands : Opened → List Call → Seat D C → Type 0
   Stands opened calls desk = StandsFor honest state moment had_since fault_count opened calls desk
 
-  pub at_clock : (opened : Opened) (calls : List Call) (desk : Seat D C) (clock : C) → Stands opened calls desk → Stands opened calls (record desk { clock = clock })
+  at_clock : (opened : Opened) (calls : List Call) (desk : Seat D C) (clock : C) → Stands opened calls desk → Stands opened calls (record desk { clock = clock })
   at_clock opened calls desk clock s = record {
     limit = s.limit;
     faults = s.faults;
     history = s.history;
     legal = s.legal;
-    holds = λ fresh. let h = s.holds fresh in record { office = h.office; end = h.end; at_rest = h.at_rest };
+    holds = λ fresh. let h = s.holds fresh in record { office = h.office; end = h.end; limit = h.limit; at_rest = h.at_rest };
     serves = s.serves;
   }
 
@@ -103,144 +98,123 @@ module _ {D : Type 0} {C : Type 0} (honest : Bool) (state : D → State) (moment
       any_moment = λ tells. recoverable state moment had_since fault_count counts_now only_now since_earlier opened old.disk new.disk calls call (s.serves tells) (makes tells);
     }
 
-    held : Holds honest state s.history old
+    pub held : Holds honest state s.history old
     held = s.holds fresh
 
+    abbrev plain : Office
+    plain = held.office.plain
+
     -- a call that wrote nothing
-    still_by : (call : Call) → new.disk ≡ old.disk → Holds honest state s.history new → IsLegal opened.limit last call.ask call.said old.office s.history s.history → IsToldBy (fault_count new.disk) call.said
+    still_by : (call : Call) → new.disk ≡ old.disk → Holds honest state s.history new → IsLegal opened.limit last call.ask call.said plain s.history s.history → IsToldBy (fault_count new.disk) call.said
         → (IsTrue honest → IsKept state moment had_since fault_count new.disk call.said) → Next call
     still_by call same holds legal told kept =
-        let rule = one_legal opened.limit last call s.history s.history old.office held.office legal in
+        let rule = one_legal opened.limit last call s.history s.history plain held.office.is_run legal in
         grown_by call s.history rule (λ _. holds) told (λ tells.
-        makes_still state moment had_since fault_count counts_now only_now since_earlier old.disk old.gate s.history old.office (held.at_rest tells) held.office (own tells old.disk) opened.limit last call new.disk same rule (kept tells) told)
+        makes_still state moment had_since fault_count counts_now only_now since_earlier old.disk old.gate s.history plain (held.at_rest tells) held.office.is_run (own tells old.disk) opened.limit last call new.disk same rule (kept tells) told)
 
-    kept_at : (after : List Entry) (q : Office) (answer : Answer) → Holds honest state after new → answer.position ≡ new.gate → answer.disk_moment ≡ moment new.disk
-        → IsTrue honest → IsKept state moment had_since fault_count new.disk (Ok answer)
-    kept_at after q answer holds place at tells = (
-      at,
+    kept_at : (after : List Entry) (t number : ℕ) (said : Answer) → Holds honest state after new → IsMade moment t number new said
+        → IsTrue honest → IsKept state moment had_since fault_count new.disk (Ok said)
+    kept_at after t number said holds made tells = (
+      made.disk_moment,
       after,
-      sym (place ∙ holds.end),
+      sym (made.position ∙ holds.end),
       λ image h is has. unique h after image has (each_image header (state new.disk) new.gate after (holds.at_rest tells) image is),
     )
 
-    module _ (t number : ℕ) (command : Command) (at : t ≡ moment_after number old.office) (fits : old.gate + 6 + length (spelling (entry_at t command)) ≤ old.limit) where
-      room : FitsIn opened.limit s.history (entry_at t command)
-      room = omega (arith, fits, held.end, s.limit)
+    abbrev asked : Ask → Result Answer DeskFault → Call
+    asked question said = record { ask = question; said = said }
 
-      abbrev this : Result Answer DeskFault → Call
-      this said = record { ask = ask.Command command; said = said }
+    module _ (t number : ℕ) (at : t ≡ moment_after number old.office.last) where
+      at_plain : t ≡ moment_after number plain.last
+      at_plain = at ∙ ap (λ (o : Option ℕ). moment_after number o) held.office.stands.last
 
-      replied_still : (answer : Answer) → Replied t number command old.office answer → answer.position ≡ new.gate → answer.disk_moment ≡ moment new.disk → is_accepted answer.reply ≡ false
-          → Stays honest state moment had_since fault_count s.history old new → Next (this (Ok answer))
-      replied_still answer replied place stamp refused stays =
-          still_by (this (Ok answer)) stays.disk stays.holds
-          (answered opened.limit last t number new.gate command old.office answer s.history s.history at replied (inr (refused, refl)) room place stays.holds.end)
-          tt (kept_at s.history old.office answer stays.holds place stamp)
+      -- an answer with which nothing was written
+      answered_still : (question : Ask) (said : Answer) → IsMade moment t number new said → new.disk ≡ old.disk → Holds honest state s.history new
+          → IsLegal opened.limit last question (Ok said) plain s.history s.history → Next (asked question (Ok said))
+      answered_still question said made disk holds legal = still_by (asked question (Ok said)) disk holds legal tt (kept_at s.history t number said holds made)
 
-      replied_grown : (answer : Answer) → Replied t number command old.office answer → answer.position ≡ new.gate → answer.disk_moment ≡ moment new.disk → IsTrue (is_accepted answer.reply)
-          → Grows honest state moment had_since fault_count s.history (entry_at t command) old new → Next (this (Ok answer))
-      replied_grown answer replied place stamp accepted grows =
-          let e = entry_at t command in
-          let rule = one_legal opened.limit last (this (Ok answer)) s.history (s.history ++ e ∷ []) old.office held.office
-          (answered opened.limit last t number new.gate command old.office answer s.history (s.history ++ e ∷ []) at replied (inl (accepted, refl)) room place grows.holds.end) in
-          grown_by (this (Ok answer)) (s.history ++ e ∷ []) rule (λ _. grows.holds) tt (λ tells.
-          makes_grown state moment had_since fault_count counts_now only_now since_earlier old.disk old.gate s.history old.office (held.at_rest tells) held.office (own tells old.disk) opened.limit last (this (Ok answer))
-          e new.office (run_more s.history e old.office new.office held.office grows.accepted) rule new.disk new.gate (grows.run tells) (grows.holds.at_rest tells)
-          (kept_at (s.history ++ e ∷ []) new.office answer grows.holds place stamp tells) (later, tt))
+      ended_call : (question : Ask) (said : Result Answer DeskFault) → end_of_time ≤ t → IsEnded honest state moment had_since fault_count t number s.history old new said → Next (asked question said)
+      ended_call question (Ok said) past ended =
+          answered_still question said ended.0 ended.2.disk ended.2.holds
+          (past_end honest state moment had_since fault_count opened.limit last t number question plain said s.history s.history new at_plain ended.0 ended.2.holds.end past ended.1 refl)
+      ended_call question (Err fault) past ended = absurd ended
 
-      failed : (count : ℕ) → count ≡ fault_count new.disk → new.stale ≡ true → Fails honest state moment had_since fault_count s.history (entry_at t command) old new
-          → Next (this (Err (faults.StoreFault (Some number) count)))
-      failed count is stale fails =
-          let e = entry_at t command in
-          let call = this (Err (faults.StoreFault (Some number) count)) in
-          let rose : Rose last count = subst (λ (k : ℕ). Rose last k) (sym is) (rose_from last (fault_count old.disk) (fault_count new.disk) (last_below opened.faults (fault_count old.disk) calls s.faults.0 s.faults.1) fails.rose) in
-          let rule = one_legal opened.limit last call s.history s.history old.office held.office (rose, inl refl) in
-          let kept = one_legal opened.limit last call s.history (s.history ++ e ∷ []) old.office held.office (
-            rose,
-            inr (
-              subst (λ (m : ℕ). IsTrue (is_accepted (step m command old.office).1)) at (accepted_step old.office fails.accepted.0 e fails.accepted.1),
-              ap (λ (m : ℕ). s.history ++ entry_at m command ∷ []) at,
-            ),
-          ) in
-          let told : IsToldBy (fault_count new.disk) call.said = omega (arith, is) in
-          grown_by call s.history rule (λ not. absurd (still_true new.stale stale not)) told (λ tells.
-          makes_failed state moment had_since fault_count counts_now only_now since_earlier old.disk old.gate s.history old.office (held.at_rest tells) held.office (own tells old.disk) opened.limit last call
-          e fails.accepted.0 (run_more s.history e old.office fails.accepted.0 held.office fails.accepted.1) kept new.disk rule (fails.run tells) tt (later, told))
+      module _ (lt : t < end_of_time) where
+        abbrev legal_at : (question : Ask) (said : Answer) (after : List Entry) → IsMade moment t number new said → new.gate ≡ end_gate header after
+            → IsReply opened.limit t question plain said.reply s.history after → IsLegal opened.limit last question (Ok said) plain s.history after
+        legal_at question said after made end is = answered honest state moment had_since fault_count opened.limit last t number question plain said s.history after new at_plain made end lt is
 
-      pub kept_call : (said : Result Answer DeskFault) → new.stale ≡ is_store_fault said → Keeps honest state moment had_since fault_count t number command s.history old new said → Next (this said)
-      kept_call (Ok answer) stale keeps = ⊎_elim (λ grew. replied_grown answer keeps.0 keeps.1.0 keeps.1.1 grew.0 grew.1) (λ stayed. replied_still answer keeps.0 keeps.1.0 keeps.1.1 stayed.0 stayed.1) keeps.2
-      kept_call (Err (faults.StoreFault (Some told) count)) stale keeps =
-          subst (λ (n : ℕ). Next (this (Err (faults.StoreFault (Some n) count)))) (sym keeps.0) (failed count keeps.1 stale keeps.2)
-      kept_call (Err (faults.StoreFault None count)) stale keeps = absurd keeps
-      kept_call (Err faults.JournalFull) stale keeps = absurd keeps
-      kept_call (Err faults.NoMemory) stale keeps = still_by (this (Err faults.NoMemory)) keeps.disk keeps.holds refl tt (λ tells. tt)
+        module _ (command : Command) where
+          abbrev e : Entry
+          e = entry_at t command
 
-    -- nothing was done, for want of memory or of room
-    pub unkept_call : (question : Ask) (fault : DeskFault) → new.disk ≡ old.disk → new.office ≡ old.office → new.gate ≡ old.gate → IsLegal opened.limit last question (Err fault) old.office s.history s.history → IsToldBy (fault_count new.disk) (Err fault)
-        → Next (record { ask = question; said = Err fault })
-    unkept_call question fault disk office gate legal told = still_by (record { ask = question; said = Err fault }) disk (record {
-      office = held.office ∙ ap (λ (p : Office). Some p) (sym office);
-      end = gate ∙ held.end;
-      at_rest = λ tells. subst (λ (d : D). IsAtRest header (state d) new.gate s.history) (sym disk) (subst (λ (k : ℕ). IsAtRest header (state old.disk) k s.history) (sym gate) (held.at_rest tells));
-    }) legal told (λ tells. tt)
+          room : old.gate + 6 + length (spelling e) ≤ old.limit → end_gate header s.history + 6 + length (spelling e) ≤ opened.limit
+          room fits = omega (arith, fits, held.end, s.limit)
 
-    pub full_call : (t size : ℕ) (command : Command) → new.disk ≡ old.disk → new.office ≡ old.office → new.gate ≡ old.gate → size ≡ length (spelling (entry_at t command)) → (old.gate + 6 + size ≤ old.limit → ⊥)
-        → Next (record { ask = ask.Command command; said = Err faults.JournalFull })
-    full_call t size command disk office gate is full =
-        unkept_call (ask.Command command) faults.JournalFull disk office gate
-        (full_at opened.limit t old.gate size command s.history held.end is (λ fit. full (omega (arith, fit, s.limit))), refl) tt
+          grown : (said : Answer) → IsMade moment t number new said → said.reply ≡ (step t command plain).1 → old.gate + 6 + length (spelling e) ≤ old.limit → IsTrue (is_accepted said.reply)
+              → Grows honest state moment had_since fault_count s.history e old new → Next (asked (ask.Command command) (Ok said))
+          grown said made reply fits accepted grows =
+              let call = asked (ask.Command command) (Ok said) in
+              let after = s.history ++ e ∷ [] in
+              let rule = one_legal opened.limit last call s.history after plain held.office.is_run
+              (legal_at (ask.Command command) said after made grows.holds.end (reply, inl (accepted, refl), room fits)) in
+              grown_by call after rule (λ _. grows.holds) tt (λ tells.
+              makes_grown state moment had_since fault_count counts_now only_now since_earlier old.disk old.gate s.history plain (held.at_rest tells) held.office.is_run (own tells old.disk) opened.limit last call
+              e grows.holds.office.plain grows.holds.office.is_run rule new.disk new.gate (grows.run tells) (grows.holds.at_rest tells)
+              (kept_at after t number said grows.holds made tells) (later, tt))
 
-  -- ---- a call of which the clock told its number
+          failed : (count : ℕ) → count ≡ fault_count new.disk → new.stale ≡ true → Fails honest state moment had_since fault_count plain s.history e old new
+              → Next (asked (ask.Command command) (Err (faults.StoreFault (Some number) count)))
+          failed count is stale fails =
+              let call = asked (ask.Command command) (Err (faults.StoreFault (Some number) count)) in
+              let rose : Rose last count = subst (λ (k : ℕ). Rose last k) (sym is) (rose_from last (fault_count old.disk) (fault_count new.disk) (last_below opened.faults (fault_count old.disk) calls s.faults.0 s.faults.1) fails.rose) in
+              let rule = one_legal opened.limit last call s.history s.history plain held.office.is_run (tt, rose, inl refl) in
+              let accepted : IsTrue (is_accepted (step t command plain).1) = fails.accepted plain held.office.stands held.office.orderly in
+              let there : IsKeptAt (moment_after number plain.last) (ask.Command command) plain s.history (s.history ++ e ∷ []) =
+              subst (λ (m : ℕ). (m < end_of_time) × IsTrue (is_accepted (step m command plain).1) × (s.history ++ e ∷ [] ≡ s.history ++ entry_at m command ∷ [])) at_plain (lt, accepted, refl) in
+              let kept = one_legal opened.limit last call s.history (s.history ++ e ∷ []) plain held.office.is_run (tt, rose, inr there) in
+              let told : IsToldBy (fault_count new.disk) call.said = omega (arith, is) in
+              grown_by call s.history rule (λ not. absurd (still_true new.stale stale not)) told (λ tells.
+              makes_failed state moment had_since fault_count counts_now only_now since_earlier old.disk old.gate s.history plain (held.at_rest tells) held.office.is_run (own tells old.disk) opened.limit last call
+              e fails.next.0 (run_more s.history e plain fails.next.0 held.office.is_run fails.next.1) kept new.disk rule (fails.run tells) tt (later, told))
 
-  module _ (desk : Seat D C) (clock : C) (fresh : desk.stale ≡ false) (opened : Opened) (calls : List Call) (s : Stands opened calls desk) where
-    abbrev told : Seat D C
-    told = record desk { clock = clock }
+        done : (question : Ask) (said : Answer) → IsMade moment t number new said → IsDone honest state moment had_since fault_count t question plain s.history old new said.reply
+            → Next (asked question (Ok said))
+        done (ask.Command command) said made is = ⊎_elim (λ grew. grown command said made is.0 is.1 grew.0 grew.1)
+            (λ stayed. answered_still (ask.Command command) said made stayed.1.disk stayed.1.holds
+            (legal_at (ask.Command command) said s.history made stayed.1.holds.end (is.0, inr (stayed.0, refl), room command is.1))) is.2
+        done (ask.Query query) said made is =
+            answered_still (ask.Query query) said made is.1.disk is.1.holds (legal_at (ask.Query query) said s.history made is.1.holds.end (is.0, refl))
 
-    told_stands : Stands opened calls told
-    told_stands = at_clock opened calls desk clock s
+        failed_call : (question : Ask) (count : ℕ) → count ≡ fault_count new.disk → new.stale ≡ true → HasFailed honest state moment had_since fault_count t question plain s.history old new
+            → Next (asked question (Err (faults.StoreFault (Some number) count)))
+        failed_call (ask.Command command) count is stale fails = failed command count is stale fails
+        failed_call (ask.Query query) count is stale fails = absurd fails
 
-    pub no_memory : (question : Ask) → GoesOn honest state moment had_since fault_count opened (calls ++ record { ask = question; said = Err faults.NoMemory } ∷ []) desk.disk told
-    no_memory question = unkept_call told told fresh refl (omega arith) opened calls told_stands question faults.NoMemory refl refl refl refl tt
+        kept_call : (question : Ask) (said : Result Answer DeskFault) → new.stale ≡ is_store_fault said → Keeps honest state moment had_since fault_count t number question plain s.history old new said → Next (asked question said)
+        kept_call question (Ok said) stale keeps = done question said keeps.0 keeps.1
+        kept_call question (Err (faults.StoreFault (Some told) count)) stale keeps =
+            subst (λ (n : ℕ). Next (asked question (Err (faults.StoreFault (Some n) count)))) (sym keeps.0) (failed_call question count keeps.1 stale keeps.2)
+        kept_call question (Err (faults.StoreFault None count)) stale keeps = absurd keeps
+        kept_call question (Err faults.JournalFull) stale keeps =
+            still_by (asked question (Err faults.JournalFull)) keeps.1.disk keeps.1.holds
+            (subst (λ (n : ℕ). IsFull n question s.history) s.limit (full_at t old.gate old.limit question s.history held.end keeps.0), refl) tt (λ tells. tt)
+        kept_call question (Err faults.NoMemory) stale keeps = still_by (asked question (Err faults.NoMemory)) keeps.disk keeps.holds refl tt (λ tells. tt)
 
-    pub no_room : (t size : ℕ) (command : Command) → size ≡ length (spelling (entry_at t command)) → (desk.gate + 6 + size ≤ desk.limit → ⊥)
-        → GoesOn honest state moment had_since fault_count opened (calls ++ record { ask = ask.Command command; said = Err faults.JournalFull } ∷ []) desk.disk told
-    no_room t size command is full = full_call told told fresh refl (omega arith) opened calls told_stands t size command refl refl refl is full
+      pub answers_call : (question : Ask) (said : Result Answer DeskFault) → new.stale ≡ is_store_fault said → Answers honest state moment had_since fault_count t number question plain s.history old new said → Next (asked question said)
+      answers_call question said stale (inl in_time) = kept_call in_time.0 question said stale in_time.1
+      answers_call question said stale (inr past) = ended_call question said past.0 past.1
 
-    pub kept_one : (new : Seat D C) (t number size : ℕ) (command : Command) (said : Result Answer DeskFault) → new.limit ≡ desk.limit → fault_count desk.disk ≤ fault_count new.disk → t ≡ moment_after number desk.office
-        → size ≡ length (spelling (entry_at t command)) → desk.gate + 6 + size ≤ desk.limit → new.stale ≡ is_store_fault said
-        → ((before : List Entry) → Holds honest state before told → Keeps honest state moment had_since fault_count t number command before told new said)
-        → GoesOn honest state moment had_since fault_count opened (calls ++ record { ask = ask.Command command; said = said } ∷ []) desk.disk new
-    kept_one new t number size command said limit later at is fits stale keeps =
-        kept_call told new fresh limit later opened calls told_stands t number command at (subst (λ (n : ℕ). desk.gate + 6 + n ≤ desk.limit) is fits) said stale (keeps told_stands.history (told_stands.holds fresh))
+  pub clock_holds : (history : List Entry) (desk : Seat D C) (clock : C) → Holds honest state history desk → Holds honest state history (record desk { clock = clock })
+  clock_holds history desk clock h = record { office = h.office; end = h.end; limit = h.limit; at_rest = h.at_rest }
 
-  pub reason_of : (t number : ℕ) (command : Command) (before : List Entry) (old new : Seat D C) (said : Result Answer DeskFault) → t ≡ moment_after number old.office
-      → Keeps honest state moment had_since fault_count t number command before old new said → HasStoreReason said (ask.Command command) old.office (fault_count old.disk) (fault_count new.disk)
-  reason_of t number command before old new (Ok answer) at keeps = tt
-  reason_of t number command before old new (Err (faults.StoreFault (Some its) count)) at keeps = (
-    keeps.2.rose,
-    keeps.1,
-    subst (λ (m : ℕ). IsTrue (is_accepted (step m command old.office).1)) (at ∙ ap (λ (n : ℕ). moment_after n old.office) (sym keeps.0)) (accepted_step old.office keeps.2.accepted.0 (entry_at t command) keeps.2.accepted.1),
-  )
-  reason_of t number command before old new (Err (faults.StoreFault None count)) at keeps = keeps
-  reason_of t number command before old new (Err faults.JournalFull) at keeps = tt
-  reason_of t number command before old new (Err faults.NoMemory) at keeps = tt
-
-  -- ---- a further call
-
-  holds_on : (t number : ℕ) (command : Command) (before : List Entry) (old new : Seat D C) (said : Result Answer DeskFault) → Keeps honest state moment had_since fault_count t number command before old new said
-      → is_store_fault said ≡ false → (history : List Entry) × Holds honest state history new
-  holds_on t number command before old new (Ok answer) keeps fine =
-      ⊎_elim (λ grew. (before ++ entry_at t command ∷ [], grew.1.holds)) (λ stayed. (before, stayed.1.holds)) keeps.2
-  holds_on t number command before old new (Err (faults.StoreFault (Some other) count)) keeps fine = absurd (still_true true refl fine)
-  holds_on t number command before old new (Err (faults.StoreFault None count)) keeps fine = absurd keeps
-  holds_on t number command before old new (Err faults.JournalFull) keeps fine = absurd keeps
-  holds_on t number command before old new (Err faults.NoMemory) keeps fine = (before, keeps.holds)
-
-  pub ready_on : (t number : ℕ) (command : Command) (before : List Entry) (old new : Seat D C) (said : Result Answer DeskFault) → Keeps honest state moment had_since fault_count t number command before old new said
-      → new.stale ≡ is_store_fault said → is_store_fault said ≡ false → IsReady honest state new
-  ready_on t number command before old new said keeps stale fine =
-      let on = holds_on t number command before old new said keeps fine in
-      record { fresh = stale ∙ fine; history = on.0; holds = on.1 }
-
-  pub ready_still : (desk : Seat D C) (clock : C) → IsReady honest state desk → IsReady honest state (record desk { clock = clock })
-  ready_still desk clock ready = record { fresh = ready.fresh; history = ready.history; holds = record { office = ready.holds.office; end = ready.holds.end; at_rest = ready.holds.at_rest } }
+  -- a call of which the clock told its number
+  pub submitted : (desk : Seat D C) (clock : C) (new : Seat D C) (opened : Opened) (calls : List Call) (t number : ℕ) (question : Ask) (said : Result Answer DeskFault)
+      → desk.stale ≡ false → Stands opened calls desk → new.limit ≡ desk.limit → fault_count desk.disk ≤ fault_count new.disk → t ≡ moment_after number desk.office.last → new.stale ≡ is_store_fault said
+      → ((before : List Entry) (hold : Holds honest state before (record desk { clock = clock })) → Answers honest state moment had_since fault_count t number question hold.office.plain before (record desk { clock = clock }) new said)
+      → GoesOn honest state moment had_since fault_count opened (calls ++ record { ask = question; said = said } ∷ []) desk.disk new
+  unfolding held at_clock
+  submitted desk clock new opened calls t number question said fresh s limit later at stale answers =
+      let told = record desk { clock = clock } in
+      let stands = at_clock opened calls desk clock s in
+      answers_call told new fresh limit later opened calls stands t number at question said stale (answers stands.history (stands.holds fresh))

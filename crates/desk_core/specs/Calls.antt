@@ -1,12 +1,14 @@
 -- Lists of calls that the plain office allows, from one history to another.
-use Rattle.std.specs.Prelude.{◌≡◌, ◌⊎◌, ℕ, ◌+◌, ◌≤◌, min, max, false, List, [], ◌∷◌, ◌++◌, length, Option, Some, None, Result, Ok, Err, IsTrue, IsSomeAnd, unwrap_or}
+use Rattle.std.specs.Prelude.{◌≡◌, ◌⊎◌, ℕ, ◌+◌, ◌<◌, ◌≤◌, max, false, List, [], ◌∷◌, ◌++◌, length, Option, Some, None, Result, Ok, Err, IsTrue, IsSomeAnd, unwrap_or}
 use Rattle.office_base.specs.Faults.{Rose}
-use Rattle.moments.specs.Time.{last_moment}
+use Rattle.moments.specs.Time.{end_of_time}
 use Rattle.plain_office.specs.declared.command.Ask.{Ask}
 use Rattle.plain_office.specs.declared.command.Ask.TheVariants as ask
 use Rattle.plain_office.specs.declared.command.Entry.{Entry}
 use Rattle.plain_office.specs.declared.reply.Reply.{Reply}
 use Rattle.plain_office.specs.declared.reply.Refusal.{Refusal}
+use Rattle.plain_office.specs.declared.reply.Refusal.TheVariants.{ClockEnd}
+use Rattle.plain_office.specs.Answers.{answer}
 use Rattle.plain_office.specs.Office.{Office}
 use Rattle.plain_office.specs.Step.{step, is_accepted}
 use Rattle.plain_office.specs.Run.{run, entry_at}
@@ -16,10 +18,10 @@ use Rattle.desk_core.specs.Answers.{Answer, Call}
 use Rattle.desk_core.specs.declared.fault.DeskFault.{DeskFault}
 use Rattle.desk_core.specs.declared.fault.DeskFault.TheVariants as faults
 
--- the moment of a call: the later of the clock's number and the moment of the last accepted command; a number past
--- the end of time counts as the last moment that there is
-abbrev pub moment_after : ℕ → Office → ℕ
-moment_after told office = min (max told (unwrap_or office.last 0)) last_moment
+-- the moment of a call: the later of the clock's number and the moment of the last accepted command (own: time does not
+-- go back, whatever a clock tells)
+abbrev pub moment_after : ℕ → Option ℕ → ℕ
+moment_after told last = max told (unwrap_or last 0)
 
 -- the command's frame, with the gate behind it, ends within the limit
 abbrev pub FitsIn : ℕ → List Entry → Entry → Type 0
@@ -30,48 +32,61 @@ abbrev pub GrowsBy : Result Reply Refusal → Entry → List Entry → List Entr
 GrowsBy reply entry before after =
     (IsTrue (is_accepted reply) × (after ≡ before ++ entry ∷ [])) ⊎ ((is_accepted reply ≡ false) × (after ≡ before))
 
--- the office's reply to a command at this moment, where its frame fits
+-- the office's reply at this moment: to a command where its frame fits, and to a query, which changes nothing
 abbrev pub IsReply : ℕ → ℕ → Ask → Office → Result Reply Refusal → List Entry → List Entry → Type 0
 IsReply limit t (ask.Command command) office reply before after =
     (reply ≡ (step t command office).1) × GrowsBy reply (entry_at t command) before after × FitsIn limit before (entry_at t command)
+IsReply limit t (ask.Query query) office reply before after = (reply ≡ answer t query office) × (after ≡ before)
 
--- an answer is the plain office's at the call's moment, and its position is the end of the journal then
-pub record IsAnswered (limit : ℕ) (question : Ask) (office : Office) (answer : Answer) (before after : List Entry) : Type 0 where
-  pub moment : answer.moment ≡ moment_after answer.told office
-  pub reply : IsReply limit answer.moment question office answer.reply before after
-  pub position : answer.position ≡ end_gate header after
+-- An answer is the plain office's at the call's moment, and its position is the end of the journal then. From the end of
+-- time on the answer to every ask is that the clock has ended, and nothing is done (own).
+pub record IsAnswered (limit : ℕ) (question : Ask) (office : Office) (said : Answer) (before after : List Entry) : Type 0 where
+  pub moment : said.moment ≡ moment_after said.told office.last
+  pub reply : said.moment < end_of_time → IsReply limit said.moment question office said.reply before after
+  pub ended : end_of_time ≤ said.moment → (said.reply ≡ Err (ClockEnd said.moment)) × (after ≡ before)
+  pub position : said.position ≡ end_gate header after
+
+abbrev pub IsCommand : Ask → Type 0
+IsCommand (ask.Command command) = Unit {0}
+IsCommand (ask.Query query) = ⊥
+
+-- the office accepts the ask as a command at this moment, and it is kept
+abbrev pub IsKeptAt : ℕ → Ask → Office → List Entry → List Entry → Type 0
+IsKeptAt t (ask.Command command) office before after =
+    (t < end_of_time) × IsTrue (is_accepted (step t command office).1) × (after ≡ before ++ entry_at t command ∷ [])
+IsKeptAt t (ask.Query query) office before after = ⊥
 
 -- a command that the office accepts may have been kept though a fault was told; a call that read no clock kept
 -- nothing
 abbrev pub MayBeKept : Option ℕ → Ask → Office → List Entry → List Entry → Type 0
-MayBeKept (Some told) (ask.Command command) office before after =
-    IsTrue (is_accepted (step (moment_after told office) command office).1) × (after ≡ before ++ entry_at (moment_after told office) command ∷ [])
+MayBeKept (Some told) question office before after = IsKeptAt (moment_after told office.last) question office before after
 MayBeKept None question office before after = ⊥
 
 -- the command's frame does not fit; its size is the same at each moment
 abbrev pub IsFull : ℕ → Ask → List Entry → Type 0
 IsFull limit (ask.Command command) before = ¬ FitsIn limit before (entry_at 0 command)
+IsFull limit (ask.Query query) before = ⊥
 
--- one call, on the office of the history before it; told is the disk's count of faults that the last fault of the
+-- one call, on the office of the history before it; counted is the disk's count of faults that the last fault of the
 -- store told, and before the first one that of the opening
 abbrev pub IsLegal : ℕ → ℕ → Ask → Result Answer DeskFault → Office → List Entry → List Entry → Type 0
-IsLegal limit told question (Ok answer) office before after = IsAnswered limit question office answer before after
-IsLegal limit told question (Err (faults.StoreFault number count)) office before after =
-    Rose told count × ((after ≡ before) ⊎ MayBeKept number question office before after)
-IsLegal limit told question (Err faults.JournalFull) office before after = IsFull limit question before × (after ≡ before)
-IsLegal limit told question (Err faults.NoMemory) office before after = after ≡ before
+IsLegal limit counted question (Ok answer) office before after = IsAnswered limit question office answer before after
+IsLegal limit counted question (Err (faults.StoreFault number count)) office before after =
+    IsCommand question × Rose counted count × ((after ≡ before) ⊎ MayBeKept number question office before after)
+IsLegal limit counted question (Err faults.JournalFull) office before after = IsFull limit question before × (after ≡ before)
+IsLegal limit counted question (Err faults.NoMemory) office before after = after ≡ before
 
 -- the count of faults that was told last, after one more call
 abbrev pub faults_after : ℕ → Result Answer DeskFault → ℕ
-faults_after told (Ok answer) = told
-faults_after told (Err (faults.StoreFault number count)) = count
-faults_after told (Err faults.JournalFull) = told
-faults_after told (Err faults.NoMemory) = told
+faults_after counted (Ok answer) = counted
+faults_after counted (Err (faults.StoreFault number count)) = count
+faults_after counted (Err faults.JournalFull) = counted
+faults_after counted (Err faults.NoMemory) = counted
 
 -- the calls in order, each on the history that the ones before it left
 abbrev pub Legal : ℕ → ℕ → List Call → List Entry → List Entry → Type 0
-Legal limit told [] before after = after ≡ before
-Legal limit told (call ∷ calls) before after =
+Legal limit counted [] before after = after ≡ before
+Legal limit counted (call ∷ calls) before after =
     (between : List Entry)
-    × IsSomeAnd (run before) (λ office. IsLegal limit told call.ask call.said office before between)
-    × Legal limit (faults_after told call.said) calls between after
+    × IsSomeAnd (run before) (λ office. IsLegal limit counted call.ask call.said office before between)
+    × Legal limit (faults_after counted call.said) calls between after

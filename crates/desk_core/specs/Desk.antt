@@ -4,34 +4,41 @@ use Rattle.std.specs.Io.KnownBytes.{Appends}
 use Rattle.office_base.specs.Faults.{Rose}
 use Rattle.disk_core.specs.Files.{State}
 use Rattle.disk_core.specs.Moments.{KeepsTo}
+use Rattle.moments.specs.Time.{end_of_time}
 use Rattle.plain_office.specs.Office.{Office}
+use Rattle.plain_office.specs.Orderly.{IsOrderly}
 use Rattle.plain_office.specs.Step.{step, is_accepted}
-use Rattle.plain_office.specs.Run.{run, entry_at}
+use Rattle.plain_office.specs.Run.{entry_at}
 use Rattle.plain_office.specs.declared.command.Ask.{Ask}
 use Rattle.plain_office.specs.declared.command.Ask.TheVariants as ask
 use Rattle.plain_office.specs.declared.command.Entry.{Entry}
+use Rattle.plain_office.specs.declared.reply.Refusal.TheVariants.{ClockEnd}
+use Rattle.office_machine.specs.Standing.{Records, StandsForOffice}
 use Rattle.entry_codec.specs.Spelling.{spelling}
 use Rattle.meter_journal.specs.History.{header, end_gate, IsAtRest}
 use Rattle.desk_core.specs.Answers.{Answer, Call}
 use Rattle.desk_core.specs.Calls.{Legal, moment_after}
+use Rattle.desk_core.specs.Offices.{StandsAfter}
 use Rattle.desk_core.specs.Serving.{Opened, AreToldBy, Recoverable, Serves}
 use Rattle.desk_core.specs.declared.fault.DeskFault.{DeskFault}
 use Rattle.desk_core.specs.declared.fault.DeskFault.TheVariants as faults
 
--- what contracts see of a desk: its disk and clock, its office, the offset of the journal's end gate and the
+-- what contracts see of a desk: its disk and clock, its office in memory, the offset of the journal's end gate and the
 -- journal's limit, both in bytes, and whether a call was told a fault of the store
 pub record Seat (D C : Type 0) : Type 0 where
   pub disk : D
   pub clock : C
-  pub office : Office
+  pub office : Records
   pub gate : ℕ
   pub limit : ℕ
   pub stale : Bool
 
--- the desk holds the office after this history, and the end of its journal; an honest disk holds that journal, synced
+-- the desk holds the office after this history, and the end of its journal, whose limit is at most 2^45 bytes; an honest
+-- disk holds that journal, synced
 pub record Holds {D C : Type 0} (honest : Bool) (state : D → State) (history : List Entry) (desk : Seat D C) : Type 0 where
-  pub office : run history ≡ Some desk.office
+  pub office : StandsAfter history desk.office
   pub end : desk.gate ≡ end_gate header history
+  pub limit : desk.limit ≤ 2 ^ 45
   pub at_rest : IsTrue honest → IsAtRest header (state desk.disk) desk.gate history
 
 -- it takes a further call
@@ -83,25 +90,38 @@ IsLast last (Err faults.JournalFull) = Unit {0}
 IsLast last (Err faults.NoMemory) = Unit {0}
 
 -- the disk is left alone, but for a command that the office accepts
-abbrev pub LeavesDisk : {D : Type 0} → Result Answer DeskFault → D → D → Type 0
-LeavesDisk (Ok answer) before after = is_accepted answer.reply ≡ false → after ≡ before
-LeavesDisk (Err (faults.StoreFault number count)) before after = Unit {0}
-LeavesDisk (Err faults.JournalFull) before after = after ≡ before
-LeavesDisk (Err faults.NoMemory) before after = after ≡ before
+abbrev pub LeavesDisk : {D : Type 0} → Result Answer DeskFault → Ask → D → D → Type 0
+LeavesDisk (Ok answer) (ask.Command command) before after = is_accepted answer.reply ≡ false → after ≡ before
+LeavesDisk (Ok answer) (ask.Query query) before after = after ≡ before
+LeavesDisk (Err (faults.StoreFault number count)) question before after = Unit {0}
+LeavesDisk (Err faults.JournalFull) question before after = after ≡ before
+LeavesDisk (Err faults.NoMemory) question before after = after ≡ before
+
+-- before the end of time the plain office accepts this command, whichever of those it is that the records stand for
+abbrev pub IsAcceptedAt : ℕ → Ask → Records → Type 0
+IsAcceptedAt t (ask.Command command) records =
+    (t < end_of_time) × ((office : Office) → StandsForOffice records office → IsOrderly office → IsTrue (is_accepted (step t command office).1))
+IsAcceptedAt t (ask.Query query) records = ⊥
 
 -- a fault of the store comes only where the disk failed in the call, and only for a command that the office accepts;
 -- the count that it tells is the disk's at the return
-abbrev pub HasStoreReason : Result Answer DeskFault → Ask → Office → ℕ → ℕ → Type 0
-HasStoreReason (Err (faults.StoreFault (Some number) count)) (ask.Command command) office before after =
-    Rose before after × (count ≡ after) × IsTrue (is_accepted (step (moment_after number office) command office).1)
-HasStoreReason (Err (faults.StoreFault None count)) question office before after = ⊥
-HasStoreReason (Ok answer) question office before after = Unit {0}
-HasStoreReason (Err faults.JournalFull) question office before after = Unit {0}
-HasStoreReason (Err faults.NoMemory) question office before after = Unit {0}
+abbrev pub HasStoreReason : Result Answer DeskFault → Ask → Records → ℕ → ℕ → Type 0
+HasStoreReason (Err (faults.StoreFault (Some number) count)) question records before after =
+    Rose before after × (count ≡ after) × IsAcceptedAt (moment_after number records.last) question records
+HasStoreReason (Err (faults.StoreFault None count)) question records before after = ⊥
+HasStoreReason (Ok answer) question records before after = Unit {0}
+HasStoreReason (Err faults.JournalFull) question records before after = Unit {0}
+HasStoreReason (Err faults.NoMemory) question records before after = Unit {0}
 
--- the frame of this command, with the gate behind it, would end past the limit
-abbrev pub PassesLimit : ℕ → ℕ → Ask → Type 0
-PassesLimit gate limit (ask.Command command) = limit < gate + 6 + length (spelling (entry_at 0 command))
+-- the ask is a command before the end of time, and its frame, with the gate behind it, would end past the limit
+abbrev pub PassesLimit : ℕ → ℕ → ℕ → Ask → Type 0
+PassesLimit t gate limit (ask.Command command) = (t < end_of_time) × (limit < gate + 6 + length (spelling (entry_at t command)))
+PassesLimit t gate limit (ask.Query query) = ⊥
+
+-- the answer is that the clock has ended at this moment
+abbrev pub IsClockEnd : ℕ → Result Answer DeskFault → Type 0
+IsClockEnd t (Ok answer) = answer.reply ≡ Err (ClockEnd t)
+IsClockEnd t (Err fault) = ⊥
 
 -- an answer has the end of the journal and the disk's moment at its return
 abbrev pub IsStamped : Result Answer DeskFault → ℕ → ℕ → Type 0

@@ -7,13 +7,13 @@ use Rattle.meter_journal.specs.History.{header, HasEntries}
 
 -- the image has these entries from its first gate on, up to the first gate that is not open, and the office accepts
 -- each at its place
-pub record HasHistory (history : List Entry) (image : List ℕ) : Type 0 where
+pub record HasAcceptedHistory (history : List Entry) (image : List ℕ) : Type 0 where
   pub entries : HasEntries header history image
   pub accepted : IsSome (run history)
 
 -- each image of the journal file has a history
 abbrev pub IsSound : State → Type 0
-IsSound s = (image : List ℕ) → IsImage s.journal image → (history : List Entry) × HasHistory history image
+IsSound s = (image : List ℕ) → IsImage s.journal image → (history : List Entry) × HasAcceptedHistory history image
 
 -- the second begins with the first
 abbrev pub Begins : List Entry → List Entry → Type 0

@@ -1,31 +1,38 @@
--- What a call does once its moment is told and its entry is spelled and fits.
-use Rattle.std.specs.Prelude.{◌≡◌, ◌⊎◌, ℕ, Bool, false, List, [], ◌∷◌, ◌++◌, Some, None, Result, Ok, Err, IsTrue}
+-- What a call does once its moment is told.
+use Rattle.std.specs.Prelude.{◌≡◌, ◌⊎◌, ℕ, ◌+◌, ◌<◌, ◌≤◌, Bool, false, List, [], ◌∷◌, ◌++◌, length, Some, None, Result, Ok, Err, IsTrue}
 use Rattle.office_base.specs.Faults.{Rose}
+use Rattle.moments.specs.Time.{end_of_time}
 use Rattle.disk_core.specs.Files.{State}
 use Rattle.disk_core.specs.Moments.{KeepsTo}
+use Rattle.plain_office.specs.Answers.{answer}
 use Rattle.plain_office.specs.Office.{Office}
+use Rattle.plain_office.specs.Orderly.{IsOrderly}
 use Rattle.plain_office.specs.Step.{step, is_accepted}
 use Rattle.plain_office.specs.Run.{accept, entry_at}
-use Rattle.plain_office.specs.declared.command.Command.{Command}
+use Rattle.plain_office.specs.declared.command.Ask.{Ask}
+use Rattle.plain_office.specs.declared.command.Ask.TheVariants as ask
 use Rattle.plain_office.specs.declared.command.Entry.{Entry}
 use Rattle.plain_office.specs.declared.reply.Reply.{Reply}
 use Rattle.plain_office.specs.declared.reply.Refusal.{Refusal}
+use Rattle.plain_office.specs.declared.reply.Refusal.TheVariants.{ClockEnd}
+use Rattle.office_machine.specs.Standing.{StandsForOffice}
+use Rattle.entry_codec.specs.Spelling.{spelling}
 use Rattle.meter_journal.specs.History.{header, end_gate, IsAtRest, BeforeOrAfter}
 use Rattle.desk_core.specs.Answers.{Answer}
-use Rattle.desk_core.specs.Desk.{Seat, Holds, IsStamped}
+use Rattle.desk_core.specs.Desk.{Seat, Holds, PassesLimit}
 use Rattle.desk_core.specs.declared.fault.DeskFault.{DeskFault}
 use Rattle.desk_core.specs.declared.fault.DeskFault.TheVariants as faults
 
--- the answer is the office's to the command at this moment
-pub record Replied (t number : ℕ) (command : Command) (office : Office) (answer : Answer) : Type 0 where
-  pub moment : answer.moment ≡ t
-  pub told : answer.told ≡ number
-  pub reply : answer.reply ≡ (step t command office).1
+-- the answer has this moment and number, and was given by this desk, at its disk's moment
+pub record IsMade {D C : Type 0} (disk_time : D → ℕ) (t number : ℕ) (new : Seat D C) (said : Answer) : Type 0 where
+  pub moment : said.moment ≡ t
+  pub told : said.told ≡ number
+  pub position : said.position ≡ new.gate
+  pub disk_moment : said.disk_moment ≡ disk_time new.disk
 
 module _ {D C : Type 0} (honest : Bool) (state : D → State) (moment : D → ℕ) (had_since : D → ℕ → State → Type 0) (fault_count : D → ℕ) where
   -- the history grew by the entry, and in between each image had it or had it not
   pub record Grows (before : List Entry) (entry : Entry) (old new : Seat D C) : Type 0 where
-    pub accepted : accept old.office entry ≡ Some new.office
     pub holds : Holds honest state (before ++ entry ∷ []) new
     pub run : IsTrue honest → KeepsTo state moment had_since old.disk new.disk (BeforeOrAfter header before entry (state old.disk))
 
@@ -35,15 +42,16 @@ module _ {D C : Type 0} (honest : Bool) (state : D → State) (moment : D → �
     pub disk : new.disk ≡ old.disk
 
   -- the disk failed while the entry was added
-  pub record Fails (before : List Entry) (entry : Entry) (old new : Seat D C) : Type 0 where
-    pub accepted : (next : Office) × (accept old.office entry ≡ Some next)
+  pub record Fails (office : Office) (before : List Entry) (entry : Entry) (old new : Seat D C) : Type 0 where
+    pub accepted : (plain : Office) → StandsForOffice old.office plain → IsOrderly plain → IsTrue (is_accepted (step entry.moment entry.command plain).1)
+    pub next : (after : Office) × (accept office entry ≡ Some after)
     pub run : IsTrue honest → KeepsTo state moment had_since old.disk new.disk (BeforeOrAfter header before entry (state old.disk))
     pub rose : Rose (fault_count old.disk) (fault_count new.disk)
 
   -- what adding the entry of a command does, to which this is the reply: the entry is there, or the disk failed
   abbrev pub Adds : ℕ → ℕ → Result Reply Refusal → List Entry → Entry → Seat D C → Seat D C → Result Answer DeskFault → Type 0
-  Adds t number reply before entry old new (Ok answer) =
-      (answer ≡ record { moment = t; told = number; reply = reply; position = new.gate; disk_moment = moment new.disk })
+  Adds t number reply before entry old new (Ok said) =
+      (said ≡ record { moment = t; told = number; reply = reply; position = new.gate; disk_moment = moment new.disk })
       × (new.gate ≡ end_gate header (before ++ entry ∷ []))
       × (IsTrue honest → IsAtRest header (state new.disk) new.gate (before ++ entry ∷ []) × KeepsTo state moment had_since old.disk new.disk (BeforeOrAfter header before entry (state old.disk)))
   Adds t number reply before entry old new (Err (faults.StoreFault (Some told) count)) =
@@ -53,13 +61,34 @@ module _ {D C : Type 0} (honest : Bool) (state : D → State) (moment : D → �
   Adds t number reply before entry old new (Err faults.JournalFull) = ⊥
   Adds t number reply before entry old new (Err faults.NoMemory) = ⊥
 
-  -- what a command does: the history grows by its entry, or nothing is written, or the disk failed
-  abbrev pub Keeps : ℕ → ℕ → Command → List Entry → Seat D C → Seat D C → Result Answer DeskFault → Type 0
-  Keeps t number command before old new (Ok answer) =
-      Replied t number command old.office answer × IsStamped (Ok answer) new.gate (moment new.disk)
-      × ((IsTrue (is_accepted answer.reply) × Grows before (entry_at t command) old new) ⊎ ((is_accepted answer.reply ≡ false) × Stays before old new))
-  Keeps t number command before old new (Err (faults.StoreFault (Some told) count)) =
-      (told ≡ number) × (count ≡ fault_count new.disk) × Fails before (entry_at t command) old new
-  Keeps t number command before old new (Err (faults.StoreFault None count)) = ⊥
-  Keeps t number command before old new (Err faults.JournalFull) = ⊥
-  Keeps t number command before old new (Err faults.NoMemory) = Stays before old new
+  -- what an ask does that is answered before the end of time: by a command that is accepted the history grows, and by
+  -- none else is anything written
+  abbrev pub IsDone : ℕ → Ask → Office → List Entry → Seat D C → Seat D C → Result Reply Refusal → Type 0
+  IsDone t (ask.Command command) office before old new reply =
+      (reply ≡ (step t command office).1) × (old.gate + 6 + length (spelling (entry_at t command)) ≤ old.limit)
+      × ((IsTrue (is_accepted reply) × Grows before (entry_at t command) old new) ⊎ ((is_accepted reply ≡ false) × Stays before old new))
+  IsDone t (ask.Query query) office before old new reply = (reply ≡ answer t query office) × Stays before old new
+
+  -- what an ask does that the disk failed
+  abbrev pub HasFailed : ℕ → Ask → Office → List Entry → Seat D C → Seat D C → Type 0
+  HasFailed t (ask.Command command) office before old new = Fails office before (entry_at t command) old new
+  HasFailed t (ask.Query query) office before old new = ⊥
+
+  -- what an ask does before the end of time, on the plain office after this history
+  abbrev pub Keeps : ℕ → ℕ → Ask → Office → List Entry → Seat D C → Seat D C → Result Answer DeskFault → Type 0
+  Keeps t number question office before old new (Ok said) = IsMade moment t number new said × IsDone t question office before old new said.reply
+  Keeps t number question office before old new (Err (faults.StoreFault (Some told) count)) =
+      (told ≡ number) × (count ≡ fault_count new.disk) × HasFailed t question office before old new
+  Keeps t number question office before old new (Err (faults.StoreFault None count)) = ⊥
+  Keeps t number question office before old new (Err faults.JournalFull) = PassesLimit t old.gate old.limit question × Stays before old new
+  Keeps t number question office before old new (Err faults.NoMemory) = Stays before old new
+
+  -- from the end of time on the ask is answered so, and nothing is written
+  abbrev pub IsEnded : ℕ → ℕ → List Entry → Seat D C → Seat D C → Result Answer DeskFault → Type 0
+  IsEnded t number before old new (Ok said) = IsMade moment t number new said × (said.reply ≡ Err (ClockEnd t)) × Stays before old new
+  IsEnded t number before old new (Err fault) = ⊥
+
+  -- what an ask does
+  abbrev pub Answers : ℕ → ℕ → Ask → Office → List Entry → Seat D C → Seat D C → Result Answer DeskFault → Type 0
+  Answers t number question office before old new said =
+      ((t < end_of_time) × Keeps t number question office before old new said) ⊎ ((end_of_time ≤ t) × IsEnded t number before old new said)

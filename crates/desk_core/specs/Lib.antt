@@ -4,5 +4,6 @@ pub mod Clocks
 pub mod Desk
 pub mod Histories
 pub mod Keeping
+pub mod Offices
 pub mod Opening
 pub mod Serving

@@ -1,16 +1,18 @@
 -- What opening a desk gives, and why a journal is not opened.
-use Rattle.std.specs.Prelude.{◌≡◌, ◌⊎◌, ℕ, ◌≤◌, Bool, false, List, [], Some, None, IsTrue}
+use Rattle.std.specs.Prelude.{◌≡◌, ◌⊎◌, ℕ, ◌≤◌, ◌^◌, Bool, false, List, [], Some, None, IsTrue}
 use Rattle.disk_core.specs.Files.{State, synced_file}
 use Rattle.disk_core.specs.Kept.{Narrower}
 use Rattle.disk_core.specs.Moments.{KeepsTo}
 use Rattle.plain_office.specs.Office.{Office}
 use Rattle.plain_office.specs.Run.{run, accept}
 use Rattle.plain_office.specs.declared.command.Entry.{Entry}
+use Rattle.office_machine.specs.Standing.{Records}
 use Rattle.meter_journal.specs.declared.fault.OpenFault.{OpenFault}
 use Rattle.meter_journal.specs.declared.fault.OpenFault.TheVariants as faults
 use Rattle.meter_journal.specs.History.{header, end_gate, IsAtRest}
 use Rattle.meter_journal.specs.Reading.{IsMade, IsNotMade, IsForeign, HasPrefix, frame_at, Broken, Whole}
-use Rattle.desk_core.specs.Histories.{HasHistory}
+use Rattle.desk_core.specs.Histories.{HasAcceptedHistory}
+use Rattle.desk_core.specs.Offices.{StandsAfter}
 use Rattle.desk_core.specs.Serving.{Opened}
 use Rattle.desk_core.specs.Desk.{Seat, StandsFor}
 
@@ -42,16 +44,17 @@ ReplayFails faults.StoreFault file = Unit {0}
 ReplayFails faults.NoMemory file = Unit {0}
 
 -- the entries up to this gate were read, on every disk; on an honest one they are those of its journal file
-pub record HasRead {D : Type 0} (honest : Bool) (state : D → State) (disk : D) (gate : ℕ) (office : Office) : Type 0 where
+pub record HasRead {D : Type 0} (honest : Bool) (state : D → State) (disk : D) (gate : ℕ) (office : Records) : Type 0 where
   pub history : List Entry
-  pub is_run : run history ≡ Some office
+  pub office_is : StandsAfter history office
   pub end : gate ≡ end_gate header history
+  pub small : gate ≤ 2 ^ 45
   pub prefix : IsTrue honest → (file : List ℕ) → (state disk).journal ≡ synced_file file → IsMade file → HasPrefix header history gate file
 
 -- all entries were read
-pub record HasReplayed {D : Type 0} (honest : Bool) (state : D → State) (old new : D) (gate : ℕ) (office : Office) : Type 0 where
+pub record HasReplayed {D : Type 0} (honest : Bool) (state : D → State) (old new : D) (gate : ℕ) (office : Records) : Type 0 where
   pub history : List Entry
-  pub is_run : run history ≡ Some office
+  pub office_is : StandsAfter history office
   pub end : gate ≡ end_gate header history
   pub at_rest : IsTrue honest → (file : List ℕ) → (state old).journal ≡ synced_file file → IsMade file → IsAtRest header (state new) gate history
 
@@ -68,6 +71,6 @@ pub record Opens {D C : Type 0} (honest : Bool) (state : D → State) (moment : 
   pub fresh : desk.stale ≡ false
   pub limit_is : desk.limit ≡ limit
   pub clock_is : desk.clock ≡ clock
-  pub read : IsTrue honest → HasHistory history (state disk).journal.seen
+  pub read : IsTrue honest → HasAcceptedHistory history (state disk).journal.seen
   pub any_moment : IsTrue honest → KeepsTo state moment had_since disk desk.disk (Narrower (state disk))
   pub later : fault_count disk ≤ fault_count desk.disk

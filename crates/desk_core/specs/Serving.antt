@@ -5,7 +5,7 @@ use Rattle.plain_office.specs.declared.command.Entry.{Entry}
 use Rattle.meter_journal.specs.History.{header, end_gate}
 use Rattle.desk_core.specs.Answers.{Answer, Call}
 use Rattle.desk_core.specs.Calls.{Legal}
-use Rattle.desk_core.specs.Histories.{HasHistory, Begins, BeginsButOne}
+use Rattle.desk_core.specs.Histories.{HasAcceptedHistory, Begins, BeginsButOne}
 use Rattle.desk_core.specs.declared.fault.DeskFault.{DeskFault}
 use Rattle.desk_core.specs.declared.fault.DeskFault.TheVariants as faults
 
@@ -45,7 +45,7 @@ pub record Opened : Type 0 where
 -- call that was acknowledged by then is among them.
 pub record Recovers (opened : Opened) (calls : List Call) (moment : ℕ) (image : List ℕ) : Type 0 where
   pub history : List Entry
-  pub has : HasHistory history image
+  pub has : HasAcceptedHistory history image
   pub count : ℕ
   pub most : count ≤ length calls
   pub legal : Legal opened.limit opened.faults (take count calls) opened.history history
@@ -54,7 +54,7 @@ pub record Recovers (opened : Opened) (calls : List Call) (moment : ℕ) (image 
 -- the image has the history after some number of the first calls
 abbrev pub HasFront : Opened → List Call → List ℕ → Type 0
 HasFront opened calls image =
-    (history : List Entry) × (count : ℕ) × HasHistory history image × (count ≤ length calls) × Legal opened.limit opened.faults (take count calls) opened.history history
+    (history : List Entry) × (count : ℕ) × HasAcceptedHistory history image × (count ≤ length calls) × Legal opened.limit opened.faults (take count calls) opened.history history
 
 -- each image of the journal file does
 abbrev pub Recoverable : Opened → List Call → State → Type 0
@@ -65,7 +65,7 @@ module _ {D : Type 0} (state : D → State) (moment : D → ℕ) (had_since : D 
   pub record Agrees (disk : D) (answer : Answer) : Type 0 where
     pub entries : List Entry
     pub place : end_gate header entries ≡ answer.position
-    pub kept : (s : State) (image : List ℕ) (history : List Entry) → had_since disk answer.disk_moment s → IsImage s.journal image → HasHistory history image
+    pub kept : (s : State) (image : List ℕ) (history : List Entry) → had_since disk answer.disk_moment s → IsImage s.journal image → HasAcceptedHistory history image
         → Begins entries history
 
   -- What holds of an honest disk since the opening, whatever was asked and answered.
@@ -75,10 +75,10 @@ module _ {D : Type 0} (state : D → State) (moment : D → ℕ) (had_since : D 
     pub left : (t : ℕ) (s : State) (image : List ℕ) → opened.moment ≤ t → t ≤ moment disk → had_since disk t s → IsImage s.journal image → Recovers opened calls t image
     pub agrees : (place : ℕ) (answer : Answer) → IsAckedAt calls place answer → Agrees disk answer
     -- of every image now the calls are all there
-    pub whole : (image : List ℕ) (history : List Entry) → IsImage (state disk).journal image → HasHistory history image → Legal opened.limit opened.faults calls opened.history history
+    pub whole : (image : List ℕ) (history : List Entry) → IsImage (state disk).journal image → HasAcceptedHistory history image → Legal opened.limit opened.faults calls opened.history history
     -- what a crash would have left is there still, but for one entry at its end
-    pub steady : (t : ℕ) (s : State) (image : List ℕ) (history : List Entry) → opened.moment ≤ t → t ≤ moment disk → had_since disk t s → IsImage s.journal image → HasHistory history image
-        → (image_now : List ℕ) (history_now : List Entry) → IsImage (state disk).journal image_now → HasHistory history_now image_now → BeginsButOne history history_now
+    pub steady : (t : ℕ) (s : State) (image : List ℕ) (history : List Entry) → opened.moment ≤ t → t ≤ moment disk → had_since disk t s → IsImage s.journal image → HasAcceptedHistory history image
+        → (image_now : List ℕ) (history_now : List Entry) → IsImage (state disk).journal image_now → HasAcceptedHistory history_now image_now → BeginsButOne history history_now
     -- no moment or count that was told is one to come
     pub told : (place : ℕ) (answer : Answer) → IsAckedAt calls place answer → (opened.moment ≤ answer.disk_moment) × (answer.disk_moment ≤ moment disk)
     pub faults : (opened.faults ≤ fault_count disk) × AreToldBy (fault_count disk) calls

@@ -2,17 +2,16 @@
 ghost use Rattle.std.specs.Prelude.{◌≡◌, Err};
 ghost use Rattle.plain_office.specs.declared.reply.Refusal.TheVariants.{NoMemory};
 
-use moments::Moment;
 use plain_office::{Refusal, Reply};
 use std::marker::Model;
 use std::snapshot::Snapshot;
 
 /// An answer of the office, given once its effect is on the disk. Only a desk makes one.
 ///
-/// Its moment, the clock's number and the disk's moment are for contracts alone.
+/// Its moment in milliseconds, the clock's number and the disk's moment are for contracts alone.
 #[derive(Drop)]
 pub struct Acked {
-    moment: Moment,
+    moment: u64,
     told: u64,
     reply: Result<Reply, Refusal>,
     position: u64,
@@ -34,7 +33,7 @@ impl Model for Acked {
 
 impl Acked {
     pub(crate) fn new(
-        moment: Moment,
+        moment: u64,
         told: u64,
         reply: Result<Reply, Refusal>,
         position: u64,

@@ -1,20 +1,19 @@
 // An office over its journal.
-ghost use Rattle.std.specs.Prelude.{◌≡◌, ◌⊎◌, ◌+◌, ◌-◌, ◌<◌, ◌≤◌, ◌^◌, ◌++◌, ◌∷◌, [], ℕ, List, length, min, max, unwrap_or, true, false, IsTrue, Some, None, Ok, Err, IfOk, IfErr, OnOk, IsErrOf};
+ghost use Rattle.std.specs.Prelude.{◌≡◌, ◌⊎◌, ◌+◌, ◌-◌, ◌<◌, ◌≤◌, ◌^◌, ◌++◌, ◌∷◌, [], ℕ, List, length, true, false, IsTrue, Some, None, Ok, Err, IfOk, IfErr, OnOk, IsErrOf};
 ghost use Rattle.office_base.specs.Faults.{Rose};
-ghost use Rattle.moments.specs.Time.{last_moment};
+ghost use Rattle.moments.specs.Time.{end_of_time};
 ghost use Rattle.disk_core.specs.Kept.{Narrower};
 ghost use Rattle.disk_core.specs.Moments.{KeepsTo};
 ghost use Rattle.plain_office.specs.declared.command.Entry.{Entry};
 ghost use Rattle.plain_office.specs.declared.command.Ask.TheVariants as ask_of;
 ghost use Rattle.plain_office.specs.declared.reply.Refusal.TheVariants.{NoMemory};
 ghost use Rattle.plain_office.specs.Run.{is_not_before, entry_at};
-ghost use Rattle.plain_office.specs.Step.{step};
 ghost use Rattle.entry_codec.specs.Spelling.{Fits, IsEntry, spelling};
 ghost use Rattle.meter_journal.specs.History.{header, end_gate, IsAtRest};
 ghost use Rattle.desk_core.specs.Answers.{Call};
 ghost use Rattle.desk_core.specs.Calls.{moment_after};
-ghost use Rattle.desk_core.specs.Desk.{Seat, Holds, IsReady, StandsFor, GoesOn, IsNumber, IsLast, LeavesDisk, HasStoreReason, PassesLimit, IsStamped, is_store_fault};
-ghost use Rattle.desk_core.specs.Keeping.{Adds, Keeps};
+ghost use Rattle.desk_core.specs.Desk.{Seat, Holds, IsReady, StandsFor, GoesOn, IsNumber, IsLast, LeavesDisk, HasStoreReason, PassesLimit, IsStamped, IsClockEnd, is_store_fault};
+ghost use Rattle.desk_core.specs.Keeping.{Adds, Keeps, Answers};
 ghost use Rattle.desk_core.specs.Serving.{Opened};
 
 use crate::acked::Acked;
@@ -25,7 +24,7 @@ use entry_codec::encode_command;
 use meter_journal::{AppendFault, Journal};
 use moments::Moment;
 use office_machine::Office;
-use plain_office::{Ask, Command, Refusal, Reply};
+use plain_office::{Ask, Command, Query, Refusal, Reply};
 use std::alloc::Global;
 use std::marker::Model;
 
@@ -47,18 +46,14 @@ impl<D: Disk + Drop, C: Clock + Drop> Model for Desk<D, C> {
     ghost view = { λ d. record { disk = d.journal.disk; clock = d.clock; office = d.office; gate = d.journal.gate; limit = d.journal.limit; stale = d.stale } };
 }
 
-// The later of the clock's number and the last moment, or the last moment that there is.
-fn moment_for(told: u64, last: Option<Moment>) -> Moment
-    ensures same { result ≡ min (max told (unwrap_or last 0)) last_moment }
+// The later of the clock's number and the last moment.
+fn moment_for(told: u64, last: Option<Moment>) -> u64
+    ensures same { result ≡ moment_after told last }
     ensures later { IsTrue (is_not_before last result) }
 {
-    let least = match last {
-        Some(moment) => moment.ms(),
-        None => 0,
-    };
-    match Moment::of(told.max(least)) {
-        Ok(moment) => moment,
-        Err(_) => Moment::last(),
+    match last {
+        Some(moment) => told.max(moment.ms()),
+        None => told,
     }
 }
 
@@ -90,7 +85,7 @@ impl<D: Disk + Drop, C: Clock + Drop> Desk<D, C> {
         (self.journal.give_back(), self.clock)
     }
 
-    fn answer(&self, moment: Moment, told: u64, reply: Result<Reply, Refusal>) -> Acked
+    fn answer(&self, moment: u64, told: u64, reply: Result<Reply, Refusal>) -> Acked
         requires { reply ≡ Err NoMemory → ⊥ }
         ensures { result ≡ record { moment = moment; told = told; reply = reply; position = self.now.gate; disk_moment = D.moment self.now.disk } }
     {
@@ -126,7 +121,7 @@ impl<D: Disk + Drop, C: Clock + Drop> Desk<D, C> {
         ensures later { D.fault_count self.old.disk ≤ D.fault_count self.new.disk }
     {
         match self.journal.append(bytes) {
-            Ok(_) => Ok(self.answer(moment, told, Ok(reply))),
+            Ok(_) => Ok(self.answer(moment.ms(), told, Ok(reply))),
             Err(AppendFault::JournalFull) => Err(DeskFault::JournalFull),
             Err(AppendFault::StoreFault) => {
                 self.stale = true;
@@ -152,8 +147,8 @@ impl<D: Disk + Drop, C: Clock + Drop> Desk<D, C> {
         requires fits { self.old.gate + 6 + length bytes.now ≤ self.old.limit }
         requires ready { IsReady D.honest D.state self.old }
 
-        ensures keeps { (before : List Entry) → Holds D.honest D.state before self.old
-            → Keeps D.honest D.state D.moment D.had_since D.fault_count moment told command.now before self.old self.new result }
+        ensures keeps { (before : List Entry) (hold : Holds D.honest D.state before self.old)
+            → Keeps D.honest D.state D.moment D.had_since D.fault_count moment told (ask_of.Command command.now) hold.office.plain before self.old self.new result }
         ensures clock { self.new.clock ≡ self.old.clock }
         ensures limit { self.new.limit ≡ self.old.limit }
         ensures stale { self.new.stale ≡ is_store_fault result }
@@ -163,38 +158,29 @@ impl<D: Disk + Drop, C: Clock + Drop> Desk<D, C> {
             Ok(reply) => self.add(moment, told, reply, bytes),
             Err(refusal) => match refusal {
                 Refusal::NoMemory => Err(DeskFault::NoMemory),
-                Refusal::BucketExists => {
-                    Ok(self.answer(moment, told, Err(Refusal::BucketExists)))
-                }
+                other => Ok(self.answer(moment.ms(), told, Err(other))),
             },
         }
     }
 
-    // Makes the call of this command.
-    fn command(&mut self, ask: &Ask, command: &Command) -> Result<Acked, DeskFault>
-        requires same { ask.now ≡ ask_of.Command command.now }
+    // Does a command at a moment, where its frame fits.
+    fn command(
+        &mut self,
+        moment: Moment,
+        told: u64,
+        command: &Command,
+    ) -> Result<Acked, DeskFault>
+        requires later { IsTrue (is_not_before self.old.office.last moment) }
         requires ready { IsReady D.honest D.state self.old }
 
-        ensures stands { (opened : Opened) (calls : List Call) → StandsFor D.honest D.state D.moment D.had_since D.fault_count opened calls self.old
-            → GoesOn D.honest D.state D.moment D.had_since D.fault_count opened (calls ++ record { ask = ask.now; said = result } ∷ []) self.old.disk self.new }
-
-        ensures number { C.count self.new.clock < 2 ^ 64 - 1 → IsNumber (C.told self.old.clock) (C.told self.new.clock) result }
-        ensures last { IsLast (C.last self.new.clock) result }
-        ensures stamped { IsStamped result self.new.gate (D.moment self.new.disk) }
-        ensures quiet { LeavesDisk result self.old.disk self.new.disk }
-        ensures reason { HasStoreReason result ask.now self.old.office (D.fault_count self.old.disk) (D.fault_count self.new.disk) }
-        // Where the command's frame would pass the limit nothing else is told, but want of memory.
-        ensures full { PassesLimit self.old.gate self.old.limit ask.now → (result ≡ Err DeskFault.JournalFull) ⊎ (result ≡ Err DeskFault.NoMemory) }
-        ensures stale { self.new.stale ≡ is_store_fault result }
-        // It takes a further call, but after a fault of the store.
-        ensures ready { is_store_fault result ≡ false → IsReady D.honest D.state self.new }
+        ensures keeps { (before : List Entry) (hold : Holds D.honest D.state before self.old)
+            → Keeps D.honest D.state D.moment D.had_since D.fault_count moment told (ask_of.Command command.now) hold.office.plain before self.old self.new result }
+        ensures full { PassesLimit moment self.old.gate self.old.limit (ask_of.Command command.now) → (result ≡ Err DeskFault.JournalFull) ⊎ (result ≡ Err DeskFault.NoMemory) }
+        ensures clock { self.new.clock ≡ self.old.clock }
         ensures limit { self.new.limit ≡ self.old.limit }
-        ensures clock_once { C.count self.new.clock ≤ C.count self.old.clock + 1 }
-        ensures clock_later { C.count self.old.clock ≤ C.count self.new.clock }
-        ensures disk_later { D.fault_count self.old.disk ≤ D.fault_count self.new.disk }
+        ensures stale { self.new.stale ≡ is_store_fault result }
+        ensures later { D.fault_count self.old.disk ≤ D.fault_count self.new.disk }
     {
-        let told = self.clock.now();
-        let moment = moment_for(told, self.office.last());
         let Ok(bytes) = encode_command(self.alloc, moment, command) else {
             return Err(DeskFault::NoMemory);
         };
@@ -204,12 +190,53 @@ impl<D: Disk + Drop, C: Clock + Drop> Desk<D, C> {
         self.keep(moment, told, command, &bytes)
     }
 
+    // Answers a query at a moment.
+    fn query(&self, moment: Moment, told: u64, query: &Query) -> Result<Acked, DeskFault>
+        requires later { IsTrue (is_not_before self.now.office.last moment) }
+        requires ready { IsReady D.honest D.state self.now }
+
+        ensures keeps { (before : List Entry) (hold : Holds D.honest D.state before self.now)
+            → Keeps D.honest D.state D.moment D.had_since D.fault_count moment told (ask_of.Query query.now) hold.office.plain before self.now self.now result }
+        ensures stale { is_store_fault result ≡ false }
+    {
+        match self.office.answer(moment, query) {
+            Ok(reply) => Ok(self.answer(moment.ms(), told, Ok(reply))),
+            Err(refusal) => match refusal {
+                Refusal::NoMemory => Err(DeskFault::NoMemory),
+                refused => Ok(self.answer(moment.ms(), told, Err(refused))),
+            },
+        }
+    }
+
+    // Answers an ask at a moment, which may be past the end of time.
+    fn submit_at(&mut self, moment: u64, told: u64, ask: &Ask) -> Result<Acked, DeskFault>
+        requires later { IsTrue (is_not_before self.old.office.last moment) }
+        requires ready { IsReady D.honest D.state self.old }
+
+        ensures answers { (before : List Entry) (hold : Holds D.honest D.state before self.old)
+            → Answers D.honest D.state D.moment D.had_since D.fault_count moment told ask.now hold.office.plain before self.old self.new result }
+        ensures full { PassesLimit moment self.old.gate self.old.limit ask.now → (result ≡ Err DeskFault.JournalFull) ⊎ (result ≡ Err DeskFault.NoMemory) }
+        ensures clock { self.new.clock ≡ self.old.clock }
+        ensures limit { self.new.limit ≡ self.old.limit }
+        ensures stale { self.new.stale ≡ is_store_fault result }
+        ensures later { D.fault_count self.old.disk ≤ D.fault_count self.new.disk }
+    {
+        let Ok(at) = Moment::of(moment) else {
+            return Ok(self.answer(moment, told, Err(Refusal::ClockEnd { moment })));
+        };
+        match ask {
+            Ask::Command(command) => self.command(at, told, command),
+            Ask::Query(query) => self.query(at, told, query),
+        }
+    }
+
     /// Answers an ask, once its effect is on the disk.
     ///
-    /// Its moment is the later of the clock's number and the moment of the last accepted command; a number past the
-    /// end of time counts as the last moment that there is (own rule: time does not go back, whatever a clock tells).
-    /// A command that the office accepts is added to the journal before it is answered. The desk must not be stale.
-    /// Cost: one search of the office, and for an accepted command the journal's append: four writes and two syncs.
+    /// Its moment is the later of the clock's number and the moment of the last accepted command (own rule: time does
+    /// not go back, whatever a clock tells). Where that is not below the end of time, the answer is `ClockEnd`, and
+    /// nothing is done. A command that the office accepts is added to the journal before it is answered; a query
+    /// changes nothing and makes no call of the disk. The desk must not be stale.
+    /// Cost: what the office needs, and for an accepted command the journal's append: four writes and two syncs.
     ///
     /// # Errors
     ///
@@ -228,10 +255,15 @@ impl<D: Disk + Drop, C: Clock + Drop> Desk<D, C> {
         ensures number { C.count self.new.clock < 2 ^ 64 - 1 → IsNumber (C.told self.old.clock) (C.told self.new.clock) result }
         ensures last { IsLast (C.last self.new.clock) result }
         ensures stamped { IsStamped result self.new.gate (D.moment self.new.disk) }
-        ensures quiet { LeavesDisk result self.old.disk self.new.disk }
+        ensures quiet { LeavesDisk result ask.now self.old.disk self.new.disk }
         ensures reason { HasStoreReason result ask.now self.old.office (D.fault_count self.old.disk) (D.fault_count self.new.disk) }
+        // From the end of time on this is the answer to every ask.
+        ensures ended { end_of_time ≤ moment_after (C.last self.new.clock) self.old.office.last → IsClockEnd (moment_after (C.last self.new.clock) self.old.office.last) result }
         // Where the command's frame would pass the limit nothing else is told, but want of memory.
-        ensures full { PassesLimit self.old.gate self.old.limit ask.now → (result ≡ Err DeskFault.JournalFull) ⊎ (result ≡ Err DeskFault.NoMemory) }
+        ensures full { PassesLimit (moment_after (C.last self.new.clock) self.old.office.last) self.old.gate self.old.limit ask.now
+            → (result ≡ Err DeskFault.JournalFull) ⊎ (result ≡ Err DeskFault.NoMemory) }
+        // And nowhere else is the journal called full.
+        ensures full_alone { result ≡ Err DeskFault.JournalFull → PassesLimit (moment_after (C.last self.new.clock) self.old.office.last) self.old.gate self.old.limit ask.now }
         ensures stale { self.new.stale ≡ is_store_fault result }
         // It takes a further call, but after a fault of the store.
         ensures ready { is_store_fault result ≡ false → IsReady D.honest D.state self.new }
@@ -240,8 +272,8 @@ impl<D: Disk + Drop, C: Clock + Drop> Desk<D, C> {
         ensures clock_later { C.count self.old.clock ≤ C.count self.new.clock }
         ensures disk_later { D.fault_count self.old.disk ≤ D.fault_count self.new.disk }
     {
-        match ask {
-            Ask::Command(command) => self.command(ask, command),
-        }
+        let told = self.clock.now();
+        let moment = moment_for(told, self.office.last());
+        self.submit_at(moment, told, ask)
     }
 }

@@ -1,15 +1,17 @@
 // Opening a desk.
-ghost use Rattle.std.specs.Prelude.{◌≡◌, ◌⊎◌, ◌+◌, ◌≤◌, ◌^◌, ℕ, List, length, IsTrue, Some, None, IfErr, IfOk, OnOk, IsErrOf};
+ghost use Rattle.std.specs.Prelude.{◌≡◌, ◌⊎◌, ◌+◌, ◌<◌, ◌≤◌, ◌^◌, ◌++◌, ◌∷◌, [], ℕ, List, length, IsTrue, Some, None, IfErr, IfOk, OnOk, IsErrOf};
 ghost use Rattle.office_base.specs.Faults.{Rose};
 ghost use Rattle.disk_core.specs.Files.{synced_file};
 ghost use Rattle.disk_core.specs.Kept.{Narrower};
 ghost use Rattle.disk_core.specs.Moments.{KeepsTo, Untouched};
 ghost use Rattle.plain_office.specs.declared.command.Entry.{Entry};
-ghost use Rattle.plain_office.specs.Office.{empty_office};
+ghost use Rattle.plain_office.specs.Orderly.{SizeFits};
 ghost use Rattle.plain_office.specs.Run.{accept, is_not_before};
+ghost use Rattle.office_machine.specs.Standing.{most_commands};
 ghost use Rattle.meter_journal.specs.Reading.{IsMade, HasStoreCause};
 ghost use Rattle.desk_core.specs.Desk.{IsReady};
-ghost use Rattle.desk_core.specs.Histories.{HasHistory};
+ghost use Rattle.desk_core.specs.Histories.{HasAcceptedHistory};
+ghost use Rattle.desk_core.specs.Offices.{StandsAfter};
 ghost use Rattle.desk_core.specs.Opening.{HasReplayed, ReplayFails, OpenFails, Opens};
 
 use crate::clock::Clock;
@@ -37,15 +39,18 @@ fn refused(refusal: Refusal, gate: u64) -> OpenFault
 {
     match refusal {
         Refusal::NoMemory => OpenFault::NoMemory,
-        Refusal::BucketExists => OpenFault::Damaged { offset: gate },
+        _ => OpenFault::Damaged { offset: gate },
     }
 }
 
 // Makes the change of an entry again. Where the office does not accept it, the journal is damaged at its gate.
-#[tactic(auto, using(crate::proofs::Breaking::taken, crate::proofs::Breaking::not_taken, crate::proofs::Breaking::not_in_order))]
 fn take(office: &mut Office, entry: &Entry, gate: u64) -> Result<(), OpenFault>
-    ensures ok { OnOk result (accept office.old entry.now ≡ Some office.new) }
-    ensures damaged { IfErr result (λ e. (e ≡ OpenFault.NoMemory) ⊎ ((e ≡ OpenFault.Damaged gate) × (accept office.old entry.now ≡ None))) }
+    requires few { office.old.accepted < most_commands }
+    requires stands { (history : List Entry) × StandsAfter history office.old }
+    requires fits { SizeFits entry.now.command }
+    ensures ok { OnOk result ((history : List Entry) → StandsAfter history office.old → StandsAfter (history ++ entry.now ∷ []) office.new) }
+    ensures damaged { IfErr result (λ e. (e ≡ OpenFault.NoMemory) ⊎ ((e ≡ OpenFault.Damaged gate)
+        × ((history : List Entry) (is : StandsAfter history office.old) → accept is.plain entry.now ≡ None))) }
 {
     if !is_in_order(office.last(), entry.moment) {
         return Err(OpenFault::Damaged { offset: gate });
@@ -63,7 +68,7 @@ fn replay<D: Disk>(
     office: &mut Office,
 ) -> Result<(), OpenFault>
     requires known { IsTrue D.honest → opening.old.length ≡ length (D.state opening.old.disk).journal.seen }
-    requires empty { office.old ≡ empty_office }
+    requires empty { StandsAfter [] office.old }
     requires first { opening.old.gate ≡ 10 }
 
     ensures read { OnOk result (HasReplayed D.honest D.state opening.old.disk opening.new.disk opening.new.gate office.new) }
@@ -119,7 +124,7 @@ impl<D: Disk + Drop, C: Clock + Drop> Desk<D, C> {
         ensures fails { IsTrue D.honest → IfErr result (λ e. OpenFails e.0 (D.state disk).journal.seen) }
 
         // So it is opened where they have a history.
-        ensures sound { IsTrue D.honest → (history : List Entry) → HasHistory history (D.state disk).journal.seen
+        ensures sound { IsTrue D.honest → (history : List Entry) → HasAcceptedHistory history (D.state disk).journal.seen
             → IfErr result (λ e. (e.0 ≡ OpenFault.StoreFault) ⊎ (e.0 ≡ OpenFault.NoMemory)) }
 
         // Then each image of the disk is one that it had, at every moment of the call.

@@ -2,17 +2,25 @@ ghost use Rattle.std.specs.Prelude.{◌≡◌, ◌≤◌, ◌^◌, IfOk};
 ghost use Rattle.desk_core.specs.Desk.{IsReady};
 
 use super::*;
+use class_rules::Class;
 use disk_core::{Disk, FileNo, MemoryDisk};
 use meter_journal::{OpenFault, read_all};
-use office_base::BucketName;
-use plain_office::{Ask, Command};
+use moments::Month;
+use office_base::{BucketName, Key, Size, VersionId};
+use plain_office::{Ask, Command, Query, Refusal, Reply};
 use std::alloc::Global;
 use std::io;
+use std::process::Abort;
 use std::test::Fail;
 use std::time::{Clock as SystemTimes, Duration};
 
 // 2024-01-01 00:00 UTC.
 const J0: u64 = 1_704_067_200_000;
+
+// 2100-01-01 00:00 UTC.
+const END: u64 = 4_102_444_800_000;
+
+const DAY: u64 = 86_400_000;
 
 const EMPTY: [u8; 11] = [
     0xA5, 0x4D, 0x45, 0x54, 0x45, 0x52, 0x4A, 0x52, 0x4E, 0x31, 0,
@@ -76,7 +84,79 @@ fn bucket(alloc: Global, name: &str) -> Result<Ask, Fail> {
     }))
 }
 
-// Whether the bucket was made, and the position.
+fn shown(alloc: Global, name: &str) -> Result<Ask, Fail> {
+    Ok(Ask::Query(Query::Bucket(BucketName::read(alloc, name)?)))
+}
+
+// A put of this many bytes under the key a.
+fn put(alloc: Global, name: &str, size: u64) -> Result<Ask, Fail> {
+    Ok(Ask::Command(Command::Put {
+        bucket: BucketName::read(alloc, name)?,
+        key: Key::read(alloc, b"a")?,
+        size: Size::of(size)?,
+        class: Class::Standard,
+    }))
+}
+
+// The meters of January 2024.
+fn january(alloc: Global, name: &str) -> Result<Ask, Fail> {
+    let Some(month) = Month::of(2024, 1) else {
+        return Err(Fail::new("no month"));
+    };
+    Ok(Ask::Query(Query::Meters(
+        BucketName::read(alloc, name)?,
+        month,
+    )))
+}
+
+// What was answered, without the names.
+#[derive(Clone, Copy, Debug, PartialEq, Eq)]
+enum Heard {
+    Made,
+    // The moment of a put of the null version.
+    Stored(u64),
+    // How many versions.
+    Shown(u32),
+    // The byte-milliseconds in STANDARD.
+    Standard(u128),
+    Refused(Refusal),
+    Failed(DeskFault),
+    Other,
+}
+
+fn answer_of(said: &Result<Acked, DeskFault>) -> Heard {
+    let acked = match said {
+        Ok(acked) => acked,
+        Err(fault) => return Heard::Failed(*fault),
+    };
+    match acked.reply() {
+        Ok(Reply::BucketMade { .. }) => Heard::Made,
+        Ok(Reply::Stored {
+            moment,
+            version: VersionId::Null,
+        }) => Heard::Stored(moment.ms()),
+        Ok(Reply::Stored { .. }) => Heard::Other,
+        Ok(Reply::BucketShown { versions, .. }) => Heard::Shown(*versions),
+        Ok(Reply::MetersShown { classes, .. }) => Heard::Standard(classes[0].byte_ms),
+        Err(refusal) => Heard::Refused(*refusal),
+    }
+}
+
+// What a desk answers that is not stale then.
+fn hear<D: Disk + Drop, C: Clock + Drop>(
+    rt: &impl Abort,
+    desk: &mut Desk<D, C>,
+    ask: &Ask,
+) -> Heard
+    requires { IsReady D.honest D.state desk.old }
+    ensures { IsReady D.honest D.state desk.new }
+{
+    let said = desk.submit(ask);
+    assert!(rt; !desk.stale());
+    answer_of(&said)
+}
+
+// Whether the ask was done, and the position.
 type Said = Result<(bool, u64), DeskFault>;
 
 fn told(said: &Result<Acked, DeskFault>) -> Said {
@@ -113,14 +193,10 @@ fn a_bucket_is_made_once_and_within_the_limit(rt: HostRuntime) -> Result<(), Fai
         (J0, 31, Ok((true, 30)), full, &LOGS[..]),
         (J0, 50, Ok((true, 30)), full, &LOGS[..]),
         (J0, 51, Ok((true, 30)), Ok((false, 30)), &LOGS[..]),
-        (
-            4_102_444_800_000,
-            51,
-            Ok((true, 30)),
-            Ok((false, 30)),
-            &LATE[..],
-        ),
-        (u64::MAX, 31, Ok((true, 30)), full, &LATE[..]),
+        (END - 1, 51, Ok((true, 30)), Ok((false, 30)), &LATE[..]),
+        // At the end of time nothing is done, and the limit is not looked at.
+        (END, 30, Ok((false, 10)), Ok((false, 10)), &EMPTY[..]),
+        (u64::MAX, 51, Ok((false, 10)), Ok((false, 10)), &EMPTY[..]),
     ] {
         let disk = disk_with(alloc, &EMPTY, &[])?;
         let clock = ListClock::new(vec![in alloc; number]?);
@@ -207,6 +283,85 @@ fn a_fault_of_the_store_is_told(rt: HostRuntime) -> Result<(), Fail> {
         let (said, _) = ask_once(alloc, disk, clock, &ask);
         assert_eq!(rt; said, Ok((Ok((!is_open, 30)), false)), "call {call}");
     }
+    Ok(())
+}
+
+#[test]
+fn the_clock_ends_and_does_not_go_back(rt: HostRuntime) -> Result<(), Fail> {
+    let alloc = rt.alloc();
+    let ended = Heard::Refused(Refusal::ClockEnd { moment: END });
+    // What the clock tells, and what four asks are answered: a bucket is made, it is shown, an object is put, and the
+    // bucket is shown.
+    for (numbers, answers) in [
+        (
+            [J0, J0, END, J0],
+            [Heard::Made, Heard::Shown(0), ended, Heard::Shown(0)],
+        ),
+        ([END, END, END, END], [ended, ended, ended, ended]),
+        (
+            [J0 + 5, J0, J0, J0],
+            [
+                Heard::Made,
+                Heard::Shown(0),
+                Heard::Stored(J0 + 5),
+                Heard::Shown(1),
+            ],
+        ),
+    ] {
+        let disk = disk_with(alloc, &EMPTY, &[])?;
+        let clock = ListClock::new(numbers.to_vec(alloc)?);
+        let mut desk = desk_over(alloc, disk, clock, 1 << 20)?;
+        let made = hear(&rt, &mut desk, &bucket(alloc, "logs")?);
+        let empty = hear(&rt, &mut desk, &shown(alloc, "logs")?);
+        let stored = hear(&rt, &mut desk, &put(alloc, "logs", 1_000)?);
+        let last = hear(&rt, &mut desk, &shown(alloc, "logs")?);
+        assert_eq!(rt; [made, empty, stored, last], answers);
+    }
+    Ok(())
+}
+
+#[test]
+fn a_query_makes_no_call_of_the_disk(rt: HostRuntime) -> Result<(), Fail> {
+    let alloc = rt.alloc();
+    // Call 12 would be the first one behind the entry of the bucket; it fails.
+    let disk = disk_with(alloc, &EMPTY, &[12])?;
+    let clock = ListClock::new(vec![in alloc; J0]?);
+    let mut desk = desk_over(alloc, disk, clock, 1 << 20)?;
+    let made = hear(&rt, &mut desk, &bucket(alloc, "logs")?);
+    assert_eq!(rt; made, Heard::Made);
+    let empty = hear(&rt, &mut desk, &shown(alloc, "logs")?);
+    assert_eq!(rt; empty, Heard::Shown(0));
+    let none = hear(&rt, &mut desk, &shown(alloc, "data")?);
+    assert_eq!(rt; none, Heard::Refused(Refusal::NoSuchBucket));
+    let said = desk.submit(&put(alloc, "logs", 1_000)?);
+    let failed = DeskFault::StoreFault {
+        told: Some(J0),
+        faults: 1,
+    };
+    assert_eq!(rt; answer_of(&said), Heard::Failed(failed));
+    Ok(())
+}
+
+#[test]
+fn meters_are_the_same_after_an_opening(rt: HostRuntime) -> Result<(), Fail> {
+    let alloc = rt.alloc();
+    let disk = disk_with(alloc, &EMPTY, &[])?;
+    let clock = ListClock::new([J0, J0, J0 + DAY, J0 + 2 * DAY].to_vec(alloc)?);
+    let mut desk = desk_over(alloc, disk, clock, 1 << 20)?;
+    // 1,000 bytes for a day, and 2,000 bytes for another.
+    let used = Heard::Standard(259_200_000_000);
+    let made = hear(&rt, &mut desk, &bucket(alloc, "logs")?);
+    assert_eq!(rt; made, Heard::Made);
+    let first = hear(&rt, &mut desk, &put(alloc, "logs", 1_000)?);
+    assert_eq!(rt; first, Heard::Stored(J0));
+    let second = hear(&rt, &mut desk, &put(alloc, "logs", 2_000)?);
+    assert_eq!(rt; second, Heard::Stored(J0 + DAY));
+    let before = hear(&rt, &mut desk, &january(alloc, "logs")?);
+    assert_eq!(rt; before, used);
+    let (disk, clock) = desk.close();
+    let mut desk = desk_over(alloc, disk, clock, 1 << 20)?;
+    let after = hear(&rt, &mut desk, &january(alloc, "logs")?);
+    assert_eq!(rt; after, used);
     Ok(())
 }
 

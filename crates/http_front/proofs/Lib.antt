@@ -1,5 +1,4 @@
 pub mod HeardLemmas
 pub mod PrintLemmas
-pub mod RoomLemmas
 pub mod SaidLemmas
 pub mod TalkLemmas

@@ -1,8 +1,13 @@
 -- The texts, written out, and how long they are.
-use Rattle.std.proofs.Common.{◌≡◌, ℕ, ◌+◌, ◌*◌, ◌/◌, ◌%◌, ◌^◌, ◌<◌, ◌≤◌, List, [], ◌∷◌, ◌++◌, length, take, codes, decimal, refl, sym, ap, ◌∙◌, arith, length-append, IfOk, OnOk, OnErr, Result, Ok, Err, IsOk}
-use Rattle.std.proofs.lemmas.Fmt.{decimal_digit, decimal_step, length-decimal-le}
-use Rattle.http_front.specs.Room.{Holds, Puts}
-use Rattle.http_front.specs.Texts.{reply_with, error_body, bucket_body, error_text, made_text, exists_text, full_text, no_memory_text, not_built_text}
+use Rattle.std.proofs.Common.{◌≡◌, ℕ, ◌+◌, ◌*◌, ◌/◌, ◌%◌, ◌^◌, ◌<◌, ◌≤◌, List, [], ◌∷◌, ◌++◌, length, take, codes, decimal, refl, sym, ap, ◌∙◌, arith, append_assoc, unwrap_or, IfOk, OnOk, OnErr, Result, Ok, Err, IsOk}
+use Rattle.std.proofs.lemmas.Fmt.{decimal_digit, decimal_step}
+use Rattle.http.specs.StatusCode.{reason_phrase}
+use Rattle.json.specs.Print.{escape_byte, quoted}
+use Rattle.http_text.specs.Room.{Holds, Puts}
+use Rattle.http_text.specs.Replies.{error_text, head_text, reply_with}
+use Rattle.http_text.proofs.Texts.{error_is}
+use Rattle.http_text.proofs.Whole.{head_parts}
+use Rattle.http_front.specs.Texts.{error_reply, full_text, no_memory_text, not_built_text}
 
 -- ---- numbers
 
@@ -12,88 +17,92 @@ two_digits a b some fa fb n is =
     ∙ ap (λ (t : List ℕ). t ++ (48 + n % 10) ∷ []) (ap decimal (omega arith) ∙ decimal_digit a fa)
     ∙ ap (λ (d : ℕ). (48 + a) ∷ (48 + d) ∷ []) (omega arith)
 
+three_digits : (a b c : ℕ) → 0 < a → a < 10 → b < 10 → c < 10 → (n : ℕ) → n ≡ a * 100 + b * 10 + c → decimal n ≡ (48 + a) ∷ (48 + b) ∷ (48 + c) ∷ []
+three_digits a b c some fa fb fc n is =
+    decimal_step n (omega arith) (omega arith)
+    ∙ ap (λ (t : List ℕ). t ++ (48 + n % 10) ∷ []) (two_digits a b some fa fb (n / 10) (omega arith))
+    ∙ ap (λ (d : ℕ). (48 + a) ∷ (48 + b) ∷ (48 + d) ∷ []) (omega arith)
+
 is_33 : decimal 33 ≡ codes "33"
 is_33 = two_digits 3 3 (omega arith) (omega arith) (omega arith) 33 (omega arith)
 
 is_36 : decimal 36 ≡ codes "36"
 is_36 = two_digits 3 6 (omega arith) (omega arith) (omega arith) 36 (omega arith)
 
-is_80 : decimal 80 ≡ codes "80"
-is_80 = two_digits 8 0 (omega arith) (omega arith) (omega arith) 80 (omega arith)
-
-hundred_and : (b : ℕ) → b < 10 → (n : ℕ) → n ≡ 110 + b → decimal n ≡ 49 ∷ 49 ∷ (48 + b) ∷ []
-hundred_and b fb n is =
-    decimal_step n (omega arith) (omega arith)
-    ∙ ap (λ (t : List ℕ). t ++ (48 + n % 10) ∷ []) (two_digits 1 1 (omega arith) (omega arith) (omega arith) (n / 10) (omega arith))
-    ∙ ap (λ (d : ℕ). 49 ∷ 49 ∷ (48 + d) ∷ []) (omega arith)
-
 is_113 : decimal 113 ≡ codes "113"
-is_113 = hundred_and 3 (omega arith) 113 (omega arith)
+is_113 = three_digits 1 1 3 (omega arith) (omega arith) (omega arith) (omega arith) 113 (omega arith)
 
 is_115 : decimal 115 ≡ codes "115"
-is_115 = hundred_and 5 (omega arith) 115 (omega arith)
+is_115 = three_digits 1 1 5 (omega arith) (omega arith) (omega arith) (omega arith) 115 (omega arith)
 
 is_119 : decimal 119 ≡ codes "119"
-is_119 = hundred_and 9 (omega arith) 119 (omega arith)
+is_119 = three_digits 1 1 9 (omega arith) (omega arith) (omega arith) (omega arith) 119 (omega arith)
+
+is_500 : decimal 500 ≡ codes "500"
+is_500 = three_digits 5 0 0 (omega arith) (omega arith) (omega arith) (omega arith) 500 (omega arith)
+
+is_501 : decimal 501 ≡ codes "501"
+is_501 = three_digits 5 0 1 (omega arith) (omega arith) (omega arith) (omega arith) 501 (omega arith)
+
+is_507 : decimal 507 ≡ codes "507"
+is_507 = three_digits 5 0 7 (omega arith) (omega arith) (omega arith) (omega arith) 507 (omega arith)
 
 -- ---- refusals
 
 abbrev body_with : List ℕ → List ℕ → List ℕ
 body_with name digits = codes "{\"error\":\"" ++ (name ++ (codes "\",\"number\":" ++ (digits ++ codes "}")))
 
-error_is : (status name size digits : List ℕ) (number : ℕ) → decimal number ≡ digits → decimal (length (body_with name digits)) ≡ size
-    → codes "HTTP/1.1 " ++ (status ++ (codes "\r\ncontent-type: application/json\r\ncontent-length: " ++ (size ++ (codes "\r\n\r\n" ++ body_with name digits))))
-    ≡ error_text status name number
-unfolding reply_with error_body
-error_is status name size digits number is_number is_size =
-    ap (λ (s : List ℕ). codes "HTTP/1.1 " ++ (status ++ (codes "\r\ncontent-type: application/json\r\ncontent-length: " ++ (s ++ (codes "\r\n\r\n" ++ body_with name digits))))) (sym is_size)
-    ∙ ap (λ (d : List ℕ). reply_with status (body_with name d)) (sym is_number)
+abbrev head_with : List ℕ → List ℕ → List ℕ → List ℕ
+head_with status phrase size = codes "HTTP/1.1 " ++ (status ++ (codes " " ++ (phrase ++ (codes "\r\ncontent-type: application/json\r\ncontent-length: " ++ (size ++ codes "\r\n\r\n")))))
+
+-- a name that has nothing to escape
+abbrev IsPlain : List ℕ → Type 0
+IsPlain name = quoted name ≡ codes "\"" ++ (name ++ codes "\"")
+
+body_is : (name digits : List ℕ) (number : ℕ) → IsPlain name → decimal number ≡ digits → body_with name digits ≡ error_text name number
+body_is name digits number plain is =
+    ap (λ (l : List ℕ). codes "{\"error\":\"" ++ l) (sym (append_assoc name (codes "\"") (codes ",\"number\":" ++ (digits ++ codes "}"))))
+    ∙ ap (λ (l : List ℕ). codes "{\"error\":" ++ (l ++ (codes ",\"number\":" ++ (digits ++ codes "}")))) (sym plain)
+    ∙ ap (λ (d : List ℕ). codes "{\"error\":" ++ (quoted name ++ (codes ",\"number\":" ++ (d ++ codes "}")))) (sym is)
+    ∙ error_is name number
+
+reply_is : (status number : ℕ) (digits phrase size name text : List ℕ) → decimal status ≡ digits → unwrap_or (reason_phrase status) [] ≡ phrase
+    → body_with name text ≡ error_text name number → decimal (length (body_with name text)) ≡ size
+    → head_with digits phrase size ++ body_with name text ≡ error_reply status name number
+unfolding reply_with
+reply_is status number digits phrase size name text is_status is_phrase is_body is_size =
+    ap (λ (d : List ℕ). head_with d phrase size ++ body_with name text) (sym is_status)
+    ∙ ap (λ (p : List ℕ). head_with (decimal status) p size ++ body_with name text) (sym is_phrase)
+    ∙ ap (λ (s : List ℕ). head_with (decimal status) (unwrap_or (reason_phrase status) []) s ++ body_with name text) (sym is_size)
+    ∙ ap (λ (h : List ℕ). h ++ body_with name text) (head_parts status (length (body_with name text)))
+    ∙ ap (λ (b : List ℕ). head_text status (length b) ++ b) is_body
+
+not_built_plain : IsPlain (codes "NotBuilt")
+unfolding escape_byte
+not_built_plain = refl
+
+full_plain : IsPlain (codes "JournalFull")
+unfolding escape_byte
+full_plain = refl
+
+no_memory_plain : IsPlain (codes "NoMemory")
+unfolding escape_byte
+no_memory_plain = refl
 
 pub not_built_is : codes "HTTP/1.1 501 Not Implemented\r\ncontent-type: application/json\r\ncontent-length: 33\r\n\r\n{\"error\":\"NotBuilt\",\"number\":119}" ≡ not_built_text
-not_built_is = error_is (codes "501 Not Implemented") (codes "NotBuilt") (codes "33") (codes "119") 119 is_119 is_33
-
-pub exists_is : codes "HTTP/1.1 409 Conflict\r\ncontent-type: application/json\r\ncontent-length: 36\r\n\r\n{\"error\":\"BucketExists\",\"number\":80}" ≡ exists_text
-exists_is = error_is (codes "409 Conflict") (codes "BucketExists") (codes "36") (codes "80") 80 is_80 is_36
+not_built_is = reply_is 501 119 (codes "501") (codes "Not Implemented") (codes "33") (codes "NotBuilt") (codes "119") is_501 refl (body_is (codes "NotBuilt") (codes "119") 119 not_built_plain is_119) is_33
 
 pub full_is : codes "HTTP/1.1 507 Insufficient Storage\r\ncontent-type: application/json\r\ncontent-length: 36\r\n\r\n{\"error\":\"JournalFull\",\"number\":113}" ≡ full_text
-full_is = error_is (codes "507 Insufficient Storage") (codes "JournalFull") (codes "36") (codes "113") 113 is_113 is_36
+full_is = reply_is 507 113 (codes "507") (codes "Insufficient Storage") (codes "36") (codes "JournalFull") (codes "113") is_507 refl (body_is (codes "JournalFull") (codes "113") 113 full_plain is_113) is_36
 
 pub no_memory_is : codes "HTTP/1.1 500 Internal Server Error\r\ncontent-type: application/json\r\ncontent-length: 33\r\n\r\n{\"error\":\"NoMemory\",\"number\":115}" ≡ no_memory_text
-no_memory_is = error_is (codes "500 Internal Server Error") (codes "NoMemory") (codes "33") (codes "115") 115 is_115 is_33
-
-pub exists_small : length exists_text ≤ 16384
-exists_small = omega (arith, ap length exists_is)
+no_memory_is = reply_is 500 115 (codes "500") (codes "Internal Server Error") (codes "33") (codes "NoMemory") (codes "115") is_500 refl (body_is (codes "NoMemory") (codes "115") 115 no_memory_plain is_115) is_33
 
 pub full_small : length full_text ≤ 16384
 full_small = omega (arith, ap length full_is)
 
 pub no_memory_small : length no_memory_text ≤ 16384
 no_memory_small = omega (arith, ap length no_memory_is)
-
--- ---- a bucket that was made
-
-bucket_length : (name : List ℕ) → length (bucket_body name) ≡ length name + 13
-unfolding bucket_body
-bucket_length name = omega (arith, length-append name (codes "\"}"))
-
-pub made_is : (name : List ℕ) (size : ℕ) → size ≡ length name + 13
-    → codes "HTTP/1.1 201 Created\r\ncontent-type: application/json\r\ncontent-length: " ++ (decimal size ++ (codes "\r\n\r\n{\"bucket\":\"" ++ (name ++ codes "\"}")))
-    ≡ made_text name
-unfolding reply_with bucket_body
-made_is name size is =
-    ap (λ (n : ℕ). codes "HTTP/1.1 201 Created\r\ncontent-type: application/json\r\ncontent-length: " ++ (decimal n ++ (codes "\r\n\r\n{\"bucket\":\"" ++ (name ++ codes "\"}"))))
-    (is ∙ sym (bucket_length name))
-
-pub made_small : (name : List ℕ) → length name ≤ 63 → length (made_text name) ≤ 16384
-made_small name short =
-    let tail = codes "\r\n\r\n{\"bucket\":\"" ++ (name ++ codes "\"}") in
-    omega (
-      arith,
-      ap length (made_is name (length name + 13) refl),
-      length-append (decimal (length name + 13)) tail,
-      length-append name (codes "\"}"),
-      length-decimal-le 2 (length name + 13) (omega arith) (omega (arith, short)) (omega (arith, short)),
-    )
 
 -- ---- the room
 

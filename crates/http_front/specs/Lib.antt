@@ -1,6 +1,5 @@
 pub mod Counts
 pub mod Meaning
-pub mod Room
 pub mod Session
 pub mod Talk
 pub mod Tells

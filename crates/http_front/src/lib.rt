@@ -9,7 +9,6 @@ mod memory_replies;
 mod parts;
 mod printing;
 mod replies;
-mod room;
 mod talking;
 mod teller;
 #[cfg(test)]

@@ -1,5 +1,5 @@
 use super::*;
-use crate::printing::put_reply;
+use http_text::put_answer;
 use desk_core::{Acked, DeskFault};
 use http_wire::MemorySource;
 use office_base::BucketName;
@@ -93,10 +93,10 @@ fn replies_are_printed_exactly(rt: HostRuntime) -> Result<(), Fail> {
         assert!(rt; false);
         return Ok(());
     };
-    let size = put_reply(&mut room, &Ok(Reply::BucketMade { bucket }));
+    let size = put_answer(&mut room, &Ok(Reply::BucketMade { bucket }));
     assert!(rt; size == MADE.len());
     assert!(rt; room.starts_with(MADE));
-    let size = put_reply(&mut room, &Err(Refusal::BucketExists));
+    let size = put_answer(&mut room, &Err(Refusal::BucketExists));
     assert!(rt; size == EXISTS.len());
     assert!(rt; room.starts_with(EXISTS));
     assert!(rt; print_fault(&mut room, &DeskFault::JournalFull).is_ok());

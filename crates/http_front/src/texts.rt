@@ -1,19 +1,12 @@
 // The texts that are said, and their parts.
 ghost use Rattle.std.specs.Prelude.{◌≡◌, codes};
-ghost use Rattle.http_front.specs.Texts.{not_built_text, exists_text, full_text, no_memory_text};
+ghost use Rattle.http_front.specs.Texts.{not_built_text, full_text, no_memory_text};
 
 #[tactic(auto, using(crate::proofs::PrintLemmas::not_built_is))]
 pub(crate) fn not_built() -> &'static [u8]
     ensures { result.now ≡ not_built_text }
 {
     b"HTTP/1.1 501 Not Implemented\r\ncontent-type: application/json\r\ncontent-length: 33\r\n\r\n{\"error\":\"NotBuilt\",\"number\":119}"
-}
-
-#[tactic(auto, using(crate::proofs::PrintLemmas::exists_is))]
-pub(crate) fn exists() -> &'static [u8]
-    ensures { result.now ≡ exists_text }
-{
-    b"HTTP/1.1 409 Conflict\r\ncontent-type: application/json\r\ncontent-length: 36\r\n\r\n{\"error\":\"BucketExists\",\"number\":80}"
 }
 
 #[tactic(auto, using(crate::proofs::PrintLemmas::full_is))]

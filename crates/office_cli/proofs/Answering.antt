@@ -42,7 +42,7 @@ module _ {D C W : Type 0} (honest : Bool) (state : D → State) (moment : D → 
     all = λ none image is.
         let fresh = still_fresh honest state moment had_since fault_count count told old new calls path none opens.fresh in
         let holds = followed.stands.holds fresh in
-        rest_image (state new.disk) new.gate followed.stands.history new.office (holds.at_rest tells) holds.office image is;
+        rest_image (state new.disk) new.gate followed.stands.history holds.office.plain (holds.at_rest tells) holds.office.is_run image is;
   }
 
   pub answered : (disk : D) (clock : C) (old new : Seat D C) (out_old out_mid out_new : W) (stream : Option (List ℕ)) (end : SessionEnd) (status : ℕ)

@@ -9,9 +9,8 @@ use Rattle.disk_core.specs.Files.{State}
 use Rattle.disk_core.specs.Kept.{Narrower}
 use Rattle.disk_core.specs.Moments.{KeepsTo}
 use Rattle.disk_core.proofs.Time.{joined, weakened}
-use Rattle.plain_office.specs.Office.{Office}
 use Rattle.plain_office.specs.declared.command.Ask.{Ask}
-use Rattle.plain_office.specs.declared.command.Ask.TheVariants as ask
+use Rattle.office_machine.specs.Standing.{Records}
 use Rattle.desk_core.specs.Answers.{Answer, Call}
 use Rattle.desk_core.specs.Calls.{Legal}
 use Rattle.desk_core.specs.Desk.{Seat, StandsFor, Submits, IsNumber, HasStoreReason, is_store_fault}
@@ -26,12 +25,12 @@ use Rattle.office_cli.specs.Running.{IsOldOrFront}
 pub rose_later : (a b c : ℕ) → a ≤ b → Rose b c → Rose a c
 rose_later a b c le rose = omega (arith, le, rose)
 
-reason_rose : (said : Result Answer DeskFault) (question : Ask) (office : Office) (before after : ℕ) → HasStoreReason said question office before after → IsStoreFault said → Rose before after
-reason_rose (Ok answer) question office before after reason is = absurd is
-reason_rose (Err (faults.StoreFault (Some number) count)) (ask.Command command) office before after reason is = reason.0
-reason_rose (Err (faults.StoreFault None count)) question office before after reason is = absurd reason
-reason_rose (Err faults.JournalFull) question office before after reason is = absurd is
-reason_rose (Err faults.NoMemory) question office before after reason is = absurd is
+reason_rose : (said : Result Answer DeskFault) (question : Ask) (records : Records) (before after : ℕ) → HasStoreReason said question records before after → IsStoreFault said → Rose before after
+reason_rose (Ok answer) question records before after reason is = absurd is
+reason_rose (Err (faults.StoreFault (Some number) count)) question records before after reason is = reason.0
+reason_rose (Err (faults.StoreFault None count)) question records before after reason is = absurd reason
+reason_rose (Err faults.JournalFull) question records before after reason is = absurd is
+reason_rose (Err faults.NoMemory) question records before after reason is = absurd is
 
 no_fault : (said : Result Answer DeskFault) → (IsStoreFault said → ⊥) → is_store_fault said ≡ false
 no_fault (Ok answer) none = refl

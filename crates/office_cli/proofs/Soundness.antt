@@ -8,14 +8,14 @@ use Rattle.disk_core.proofs.Time.{weakened}
 use Rattle.plain_office.specs.declared.command.Entry.{Entry}
 use Rattle.meter_journal.specs.Reading.{IsNotMade, IsForeign}
 use Rattle.meter_journal.proofs.Heads.{history_made, made_not_none, made_not_foreign}
-use Rattle.desk_core.specs.Histories.{HasHistory, IsSound}
+use Rattle.desk_core.specs.Histories.{HasAcceptedHistory, IsSound}
 use Rattle.office_cli.specs.Running.{Runs}
 use Rattle.office_cli.specs.Making.{Inits}
 
 -- ---- what is read has a history
 
 module _ (s : State) (sound : IsSound s) (reads : IsImage s.journal s.journal.seen) where
-  pub reads_history : (history : List Entry) × HasHistory history s.journal.seen
+  pub reads_history : (history : List Entry) × HasAcceptedHistory history s.journal.seen
   reads_history = sound s.journal.seen reads
 
   pub not_none : IsNotMade s.journal.seen → ⊥

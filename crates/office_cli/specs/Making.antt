@@ -9,14 +9,14 @@ use Rattle.meter_journal.specs.Reading.{IsMade, IsNotMade, CreateFails}
 use Rattle.meter_journal.specs.declared.fault.OpenFault.{OpenFault}
 use Rattle.meter_journal.specs.declared.making.Made.{Made}
 use Rattle.meter_journal.specs.declared.making.Made.TheVariants as mades
-use Rattle.desk_core.specs.Histories.{HasHistory}
+use Rattle.desk_core.specs.Histories.{HasAcceptedHistory}
 use Rattle.http_front.specs.declared.answering.SessionEnd.TheVariants.{WriteFault}
 use Rattle.office_cli.specs.Lines.{made_line, fault_status, fault_note, end_note}
 use Rattle.office_cli.specs.Running.{IsNoted}
 
 -- a journal that was not made is made and empty, in each image; one that was made stays as it was read
 abbrev pub IsMadeSo : Made → State → State → Type 0
-IsMadeSo mades.Now old new = IsNotMade old.journal.seen × ((image : List ℕ) → IsImage new.journal image → HasHistory [] image)
+IsMadeSo mades.Now old new = IsNotMade old.journal.seen × ((image : List ℕ) → IsImage new.journal image → HasAcceptedHistory [] image)
 IsMadeSo mades.Before old new = IsMade old.journal.seen × (new.journal ≡ synced_file old.journal.seen)
 
 module _ {D W : Type 0} (honest : Bool) (state : D → State) (moment : D → ℕ) (had_since : D → ℕ → State → Type 0) (said noted : W → Option (List ℕ)) (out_faults : W → ℕ) where

@@ -9,7 +9,7 @@ use Rattle.plain_office.specs.declared.command.Entry.{Entry}
 use Rattle.meter_journal.specs.declared.fault.OpenFault.{OpenFault}
 use Rattle.desk_core.specs.Answers.{Call}
 use Rattle.desk_core.specs.Calls.{Legal}
-use Rattle.desk_core.specs.Histories.{HasHistory}
+use Rattle.desk_core.specs.Histories.{HasAcceptedHistory}
 use Rattle.desk_core.specs.Opening.{OpenFails}
 use Rattle.desk_core.specs.Serving.{Opened, HasFront, AreToldBy, Serves}
 use Rattle.http_front.specs.Meaning.{Hears}
@@ -34,15 +34,15 @@ module _ {D : Type 0} (state : D → State) (moment : D → ℕ) (had_since : D 
   -- What an honest disk keeps of the calls of a run, at every moment of it.
   pub record KeepsCalls (old new : D) (opened : Opened) (calls : List Call) (history : List Entry) : Type 0 where
     -- the run began from the history of what the disk read at the entry
-    pub read : HasHistory opened.history (state old).journal.seen
+    pub read : HasAcceptedHistory opened.history (state old).journal.seen
     -- which is the history of every image, where they have one in common
-    pub only : (first : List Entry) → ((image : List ℕ) → IsImage (state old).journal image → HasHistory first image) → opened.history ≡ first
+    pub only : (first : List Entry) → ((image : List ℕ) → IsImage (state old).journal image → HasAcceptedHistory first image) → opened.history ≡ first
     pub any_moment : KeepsTo state moment had_since old new (IsOldOrFront old opened calls)
     pub since : moment old ≤ opened.moment
     -- from the opening on, with each call that was acknowledged
     pub serves : Serves state moment had_since fault_count opened new calls
     -- at the return, where the store did not fail
-    pub all : NoneFaults calls → (image : List ℕ) → IsImage (state new).journal image → HasHistory history image
+    pub all : NoneFaults calls → (image : List ℕ) → IsImage (state new).journal image → HasAcceptedHistory history image
 
 module _ {D C W : Type 0} (honest : Bool) (state : D → State) (moment : D → ℕ) (had_since : D → ℕ → State → Type 0) (fault_count : D → ℕ) (count : C → ℕ) (told : C → Option (List ℕ))
     (said noted : W → Option (List ℕ)) (out_faults : W → ℕ) where

@@ -5,7 +5,7 @@ ghost use Rattle.http_front.specs.declared.answering.SessionEnd.TheVariants.{Wri
 ghost use Rattle.office_base.specs.Faults.{Rose};
 ghost use Rattle.disk_core.specs.Moments.{KeepsTo};
 ghost use Rattle.plain_office.specs.declared.command.Entry.{Entry};
-ghost use Rattle.desk_core.specs.Histories.{HasHistory, IsSound};
+ghost use Rattle.desk_core.specs.Histories.{HasAcceptedHistory, IsSound};
 ghost use Rattle.desk_core.specs.Desk.{IsReady};
 ghost use Rattle.desk_core.specs.Opening.{Opens, OpenFails};
 ghost use Rattle.office_cli.specs.Lines.{IsLine, init_line, run_line, fault_status, fault_note, end_note, made_line, usage_note, IsServeStatus, IsRunStatus, IsDone};
@@ -93,7 +93,7 @@ fn run<R: Source, W: Replies, D: Disk + Drop, C: Clock + Drop>(
     clock: C,
 ) -> End<D, C>
     ensures runs { Runs D.honest D.state D.moment D.had_since D.fault_count C.count C.told W.said W.noted W.faults result.status disk result.disk clock result.clock out.old out.new (R.left input.old) }
-    ensures sound { IsTrue D.honest → (history : List Entry) → HasHistory history (D.state disk).journal.seen → result.status ≡ 5 → ⊥ }
+    ensures sound { IsTrue D.honest → (history : List Entry) → HasAcceptedHistory history (D.state disk).journal.seen → result.status ≡ 5 → ⊥ }
     ensures later { (R.faults input.old ≤ R.faults input.new) × (W.faults out.old ≤ W.faults out.new) × (D.fault_count disk ≤ D.fault_count result.disk) }
     ensures statuses { IsRunStatus result.status }
     ensures unopened { result.status ≡ 5 → input.new ≡ input.old }

@@ -1,0 +1,147 @@
+-- What the answer to an ask tells of its call.
+use Rattle.std.proofs.Common.{◌≡◌, ◌⊎◌, inl, inr, ⊎_elim, ℕ, ◌+◌, ◌^◌, ◌<◌, ◌≤◌, Bool, true, false, List, [], ◌∷◌, ◌++◌, Some, None, Option, Result, Ok, Err, refl, sym, ap, ◌∙◌, subst, arith}
+use Rattle.std.specs.Prelude.{IsTrue}
+use Rattle.std.specs.Io.KnownBytes.{Appends}
+use Rattle.office_base.specs.Faults.{Rose}
+use Rattle.moments.specs.Time.{end_of_time}
+use Rattle.disk_core.specs.Files.{State}
+use Rattle.plain_office.specs.Office.{Office}
+use Rattle.plain_office.specs.Step.{is_accepted}
+use Rattle.plain_office.specs.Run.{entry_at}
+use Rattle.plain_office.specs.declared.command.Ask.{Ask}
+use Rattle.plain_office.specs.declared.command.Ask.TheVariants as ask
+use Rattle.plain_office.specs.declared.command.Entry.{Entry}
+use Rattle.plain_office.specs.declared.reply.Reply.{Reply}
+use Rattle.plain_office.specs.declared.reply.Refusal.{Refusal}
+use Rattle.desk_core.specs.declared.fault.DeskFault.{DeskFault}
+use Rattle.desk_core.specs.declared.fault.DeskFault.TheVariants as faults
+use Rattle.desk_core.specs.Answers.{Answer}
+use Rattle.desk_core.specs.Calls.{moment_after}
+use Rattle.desk_core.specs.Desk.{Seat, Holds, IsReady, IsNumber, IsLast, LeavesDisk, HasStoreReason, IsAcceptedAt, PassesLimit, IsStamped, IsClockEnd, is_store_fault}
+use Rattle.desk_core.specs.Keeping.{Grows, Stays, IsDone, HasFailed, Keeps, IsEnded, Answers}
+use Rattle.desk_core.proofs.Standing.{still_true}
+
+accepted_not : (reply : Result Reply Refusal) → IsTrue (is_accepted reply) → is_accepted reply ≡ false → ⊥
+accepted_not reply is not = still_true (is_accepted reply) is not
+
+module _ {D : Type 0} {C : Type 0} (honest : Bool) (state : D → State) (moment : D → ℕ) (had_since : D → ℕ → State → Type 0) (fault_count : D → ℕ)
+    (t number : ℕ) (question : Ask) (office : Office) (before : List Entry) (old new : Seat D C) where
+  abbrev Kept : Result Answer DeskFault → Type 0
+  Kept said = Keeps honest state moment had_since fault_count t number question office before old new said
+
+  abbrev Ended : Result Answer DeskFault → Type 0
+  Ended said = IsEnded honest state moment had_since fault_count t number before old new said
+
+  abbrev Asked : Result Answer DeskFault → Type 0
+  Asked said = Answers honest state moment had_since fault_count t number question office before old new said
+
+  -- ---- the answer's numbers
+
+  pub stamped : (said : Result Answer DeskFault) → Asked said → IsStamped said new.gate (moment new.disk)
+  stamped (Ok said) (inl in_time) = (in_time.1.0.position, in_time.1.0.disk_moment)
+  stamped (Ok said) (inr past) = (past.1.0.position, past.1.0.disk_moment)
+  stamped (Err fault) asked = tt
+
+  told_is : (said : Answer) → Asked (Ok said) → said.told ≡ number
+  told_is said (inl in_time) = in_time.1.0.told
+  told_is said (inr past) = past.1.0.told
+
+  -- which fault came, and in time
+  in_time_of : (fault : DeskFault) → Asked (Err fault) → (t < end_of_time) × Kept (Err fault)
+  in_time_of fault (inl in_time) = in_time
+  in_time_of fault (inr past) = absurd past.1
+
+  pub numbered : (a b : Option (List ℕ)) (said : Result Answer DeskFault) → Appends a b (number ∷ []) → Asked said → IsNumber a b said
+  numbered a b (Ok said) more asked = subst (λ (n : ℕ). Appends a b (n ∷ [])) (sym (told_is said asked)) more
+  numbered a b (Err (faults.StoreFault (Some told) count)) more asked =
+      subst (λ (n : ℕ). Appends a b (n ∷ [])) (sym (in_time_of (faults.StoreFault (Some told) count) asked).1.0) more
+  numbered a b (Err (faults.StoreFault None count)) more asked = absurd (in_time_of (faults.StoreFault None count) asked).1
+  numbered a b (Err faults.JournalFull) more asked = inr (number, more)
+  numbered a b (Err faults.NoMemory) more asked = inr (number, more)
+
+  pub last_told : (last : ℕ) (said : Result Answer DeskFault) → last ≡ number → Asked said → IsLast last said
+  last_told last (Ok said) is asked = told_is said asked ∙ sym is
+  last_told last (Err (faults.StoreFault (Some told) count)) is asked = (in_time_of (faults.StoreFault (Some told) count) asked).1.0 ∙ sym is
+  last_told last (Err (faults.StoreFault None count)) is asked = tt
+  last_told last (Err faults.JournalFull) is asked = tt
+  last_told last (Err faults.NoMemory) is asked = tt
+
+  -- ---- the disk
+
+
+  -- ---- causes
+
+  pub ended_so : (said : Result Answer DeskFault) → end_of_time ≤ t → Asked said → IsClockEnd t said
+  ended_so said past (inl in_time) = absurd (omega (arith, past, in_time.0))
+  ended_so (Ok said) past (inr so) = so.1.1
+  ended_so (Err fault) past (inr so) = so.1
+
+  full_at : (said : Result Answer DeskFault) → said ≡ Err faults.JournalFull → Asked said → PassesLimit t old.gate old.limit question
+  full_at said is asked = (in_time_of faults.JournalFull (subst Asked is asked)).1.0
+
+  pub full_alone : (said : Result Answer DeskFault) → Asked said → said ≡ Err faults.JournalFull → PassesLimit t old.gate old.limit question
+  full_alone said asked is = full_at said is asked
+
+-- ---- the disk, and causes in it
+
+module _ {D : Type 0} {C : Type 0} (honest : Bool) (state : D → State) (moment : D → ℕ) (had_since : D → ℕ → State → Type 0) (fault_count : D → ℕ)
+    (t number : ℕ) (office : Office) (before : List Entry) (old new : Seat D C) where
+  done_leaves : (question : Ask) (said : Answer) → IsDone honest state moment had_since fault_count t question office before old new said.reply → LeavesDisk (Ok said) question old.disk new.disk
+  done_leaves (ask.Command command) said is = λ not. ⊎_elim (λ grew. absurd (accepted_not said.reply grew.0 not)) (λ stayed. stayed.1.disk) is.2
+  done_leaves (ask.Query query) said is = is.1.disk
+
+  ended_leaves : (question : Ask) (said : Answer) → new.disk ≡ old.disk → LeavesDisk (Ok said) question old.disk new.disk
+  ended_leaves (ask.Command command) said same = λ not. same
+  ended_leaves (ask.Query query) said same = same
+
+  kept_leaves : (question : Ask) (said : Result Answer DeskFault) → Keeps honest state moment had_since fault_count t number question office before old new said → LeavesDisk said question old.disk new.disk
+  kept_leaves question (Ok said) keeps = done_leaves question said keeps.1
+  kept_leaves question (Err (faults.StoreFault told count)) keeps = tt
+  kept_leaves question (Err faults.JournalFull) keeps = keeps.1.disk
+  kept_leaves question (Err faults.NoMemory) keeps = keeps.disk
+
+  pub leaves : (question : Ask) (said : Result Answer DeskFault) → Answers honest state moment had_since fault_count t number question office before old new said → LeavesDisk said question old.disk new.disk
+  leaves question said (inl in_time) = kept_leaves question said in_time.1
+  leaves question (Ok said) (inr past) = ended_leaves question said past.1.2.disk
+  leaves question (Err fault) (inr past) = absurd past.1
+
+  failed_reason : (question : Ask) → t < end_of_time → HasFailed honest state moment had_since fault_count t question office before old new → Rose (fault_count old.disk) (fault_count new.disk) × IsAcceptedAt t question old.office
+  failed_reason (ask.Command command) lt fails = (fails.rose, (lt, fails.accepted))
+  failed_reason (ask.Query query) lt fails = absurd fails
+
+  pub reason : (question : Ask) (said : Result Answer DeskFault) → t ≡ moment_after number old.office.last → Answers honest state moment had_since fault_count t number question office before old new said
+      → HasStoreReason said question old.office (fault_count old.disk) (fault_count new.disk)
+  reason question (Ok said) at answers = tt
+  reason question (Err (faults.StoreFault (Some told) count)) at answers =
+      let kept = in_time_of honest state moment had_since fault_count t number question office before old new (faults.StoreFault (Some told) count) answers in
+      let why = failed_reason question kept.0 kept.1.2 in
+      (why.0, kept.1.1, subst (λ (m : ℕ). IsAcceptedAt m question old.office) (at ∙ ap (λ (n : ℕ). moment_after n old.office.last) (sym kept.1.0)) why.1)
+  reason question (Err (faults.StoreFault None count)) at answers =
+      absurd (in_time_of honest state moment had_since fault_count t number question office before old new (faults.StoreFault None count) answers).1
+  reason question (Err faults.JournalFull) at answers = tt
+  reason question (Err faults.NoMemory) at answers = tt
+
+  -- ---- a further call
+
+  done_holds : (question : Ask) (said : Answer) → IsDone honest state moment had_since fault_count t question office before old new said.reply → (history : List Entry) × Holds honest state history new
+  done_holds (ask.Command command) said is = ⊎_elim (λ grew. (before ++ entry_at t command ∷ [], grew.1.holds)) (λ stayed. (before, stayed.1.holds)) is.2
+  done_holds (ask.Query query) said is = (before, is.1.holds)
+
+  kept_holds : (question : Ask) (said : Result Answer DeskFault) → is_store_fault said ≡ false → Keeps honest state moment had_since fault_count t number question office before old new said
+      → (history : List Entry) × Holds honest state history new
+  kept_holds question (Ok said) fine keeps = done_holds question said keeps.1
+  kept_holds question (Err (faults.StoreFault told count)) fine keeps = absurd (still_true true refl fine)
+  kept_holds question (Err faults.JournalFull) fine keeps = (before, keeps.1.holds)
+  kept_holds question (Err faults.NoMemory) fine keeps = (before, keeps.holds)
+
+  holds_on : (question : Ask) (said : Result Answer DeskFault) → is_store_fault said ≡ false → Answers honest state moment had_since fault_count t number question office before old new said
+      → (history : List Entry) × Holds honest state history new
+  holds_on question said fine (inl in_time) = kept_holds question said fine in_time.1
+  holds_on question (Ok said) fine (inr past) = (before, past.1.2.holds)
+  holds_on question (Err fault) fine (inr past) = absurd past.1
+
+  pub ready_on : (question : Ask) (said : Result Answer DeskFault) → new.stale ≡ is_store_fault said → is_store_fault said ≡ false → Answers honest state moment had_since fault_count t number question office before old new said
+      → IsReady honest state new
+  ready_on question said stale fine answers =
+      let on = holds_on question said fine answers in
+      record { fresh = stale ∙ fine; history = on.0; holds = on.1 }
