@@ -14,7 +14,7 @@ use Rattle.accrual.specs.Meters.{bytes_in, is_in_month, same_class, early_quanti
 use Rattle.accrual.specs.Totals.{Totals, StandsFor, HasOpenStay, with_early_of, ms_within, ended_ms, running_bytes, ended_sum, running_sum, since_sum}
 use Rattle.accrual.specs.declared.rows.Kept.{Kept}
 use Rattle.accrual.specs.Kept.{nothing, kept_in, HasBegun, IsBegun, IsEnded, IsAdded, in_month, at_place}
-use Rattle.accrual.proofs.Cases.{by_same}
+use Rattle.accrual.proofs.Cases.{none_added, by_same}
 use Rattle.accrual.proofs.Windows.{in_month_is}
 
 -- ---- the sums of a book with one stay more
@@ -173,10 +173,6 @@ turned true true n = refl
 turned true false n = refl
 turned false true n = refl
 turned false false n = refl
-
-none_added : (t : Bool) → ◌≡◌ {A = ℕ} (if t then 0 else 0) 0
-none_added true = refl
-none_added false = refl
 
 here_and_now : (m k r c at n : ℕ) → IsInMonth k at → at_place k r m c n ≡ (if (r == c) && is_in_month m at then n else 0)
 here_and_now m k r c at n is = turned (m == k) (r == c) n ∙ ap (λ t. if (r == c) && t then n else 0) (sym (in_month_is m k at is))

@@ -1,5 +1,5 @@
 -- The bounds after each booking.
-use Rattle.std.proofs.Common.{◌≡◌, ◌≤◌, ◌<◌, ◌+◌, ◌-◌, ◌*◌, ◌==◌, ℕ, suc, zero, length, Bool, true, false, refl, ap, sym, arith, subst}
+use Rattle.std.proofs.Common.{◌≡◌, ◌≤◌, ◌<◌, ◌+◌, ◌-◌, ◌*◌, ◌==◌, ℕ, suc, zero, length, false, refl, ap, sym, arith, subst}
 use Rattle.std.specs.Prelude.{◌^◌, nat_lt, ◌&&◌, if◌then◌else◌}
 use Rattle.std.proofs.lemmas.Bool.Decides.{nat_tests}
 use Rattle.std.proofs.lemmas.Nat.{mul-le}
@@ -16,7 +16,7 @@ use Rattle.accrual.specs.Bounds.{IsBounded}
 use Rattle.accrual.specs.declared.rows.Kept.{Kept}
 use Rattle.accrual.specs.declared.rows.Rows.{Rows}
 use Rattle.accrual.specs.Kept.{nothing, kept_in, HasRoom, IsModest, IsBegun, IsEnded, IsAdded, in_month, running_to}
-use Rattle.accrual.proofs.Cases.{by_less, by_same}
+use Rattle.accrual.proofs.Cases.{if_less, by_less, by_same}
 use Rattle.accrual.proofs.Changes.{lines_bytes}
 use Rattle.accrual.proofs.Settling.{running_more}
 
@@ -50,10 +50,6 @@ running_same old new rank (suc n) each =
     omega (arith, a, e)
 
 -- ---- what one booking adds
-
-if_less : (t : Bool) (n : ℕ) → (if t then n else 0) ≤ n
-if_less true n = omega arith
-if_less false n = omega arith
 
 bytes_small : (lines : Lines) (class : Class) → IsBilled lines → bytes_in class (lines_of lines) < 2 ^ 44
 bytes_small lines class billed =

@@ -11,6 +11,7 @@ use Rattle.class_rules.specs.declared.billing.Lines.{Lines}
 use Rattle.accrual.specs.Meters.{bytes_in}
 use Rattle.accrual.specs.Totals.{IsBilled}
 use Rattle.accrual.specs.declared.rows.Rows.{Rows}
+use Rattle.accrual.proofs.Cases.{none_added, if_less}
 use Rattle.accrual.specs.Kept.{kept_in, IsAdded, IsBegun, IsSettled, IsModest, HasRoom, IsWithin, HasBegun, begun_numbers, ended_numbers, at_place, in_month}
 
 -- the bytes of a class in the lines
@@ -47,10 +48,6 @@ added_times lines class month m ms =
 in_month_times : (t : Bool) (n ms : ℕ) → (if t then n * ms else 0) ≡ n * (if t then ms else 0)
 in_month_times true n ms = refl
 in_month_times false n ms = omega arith
-
-none_added : (t : Bool) → ◌≡◌ {A = ℕ} (if t then 0 else 0) 0
-none_added true = refl
-none_added false = refl
 
 pub begun_is : (old mid new : Rows) (lines : Lines) (month ms : ℕ) → IsAdded old mid month (rank_of lines.class) (begun_numbers lines.bytes ms) → IsAdded mid new month 0 (begun_numbers lines.standard ms)
     → IsBegun old new lines month ms
@@ -90,9 +87,6 @@ ended_is old mid new lines month ms a b = record {
 }
 
 -- the second line has room where the first was added
-if_less : (t : Bool) (n : ℕ) → (if t then n else 0) ≤ n
-if_less true n = omega arith
-if_less false n = omega arith
 
 pub product_small : (bytes ms : ℕ) → bytes ≤ largest_size + 32_768 → ms < 2 ^ 32 → bytes * ms < 2 ^ 75
 product_small bytes ms small short = let p = mul-le bytes ms (largest_size + 32_768) (2 ^ 32) small (omega (arith, short)) in omega (arith, p)

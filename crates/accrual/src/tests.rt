@@ -87,135 +87,79 @@ fn after(rt: &impl Abort, alloc: Global, first: Stay, second: Stay) -> Meters
     meters
 }
 
-#[test]
-fn byte_milliseconds(rt: HostRuntime) {
-    let standard = Class::Standard;
-    let none = (standard, 0, NEW_YEAR, None);
-    let byte = (standard, 1, NEW_YEAR + 30 * DAY, Some(NEW_YEAR + 61 * DAY));
-    let kilobyte = (standard, 1_000, NEW_YEAR + 30 * DAY, None);
-    let archived = (Class::Glacier, 6_144, NEW_YEAR, Some(NEW_YEAR + DAY));
-    let warm = (
-        standard,
-        1_000_000,
-        1_702_198_800_000,
-        Some(1_704_844_800_000),
-    );
-    let cold = (Class::StandardIa, 1_000_000, 1_704_844_800_000, None);
-    let day = (standard, 1_000, NEW_YEAR, Some(NEW_YEAR + DAY));
-    let next = (standard, 2_000, NEW_YEAR + DAY, None);
-    let short = (standard, 7, NEW_YEAR, Some(NEW_YEAR));
-    // The stays, the moment of the reading, its month and class, and what it is.
-    let cases = [
-        (
-            day,
-            next,
-            NEW_YEAR + 2 * DAY,
-            (2024, 1),
-            standard,
-            259_200_000_000,
-        ),
-        (
-            day,
-            next,
-            NEW_YEAR + 2 * DAY,
-            (2024, 1),
-            Class::StandardIa,
-            0,
-        ),
-        (day, next, NEW_YEAR + 2 * DAY, (2023, 12), standard, 0),
-        (day, next, NEW_YEAR + 2 * DAY, (2024, 2), standard, 0),
-        (
-            warm,
-            cold,
-            1_705_233_600_000,
-            (2024, 1),
-            standard,
-            777_600_000_000_000,
-        ),
-        (
-            warm,
-            cold,
-            1_705_233_600_000,
-            (2024, 1),
-            Class::StandardIa,
-            388_800_000_000_000,
-        ),
-        // A day of January, the leap February, and a day of March.
-        (
-            byte,
-            none,
-            NEW_YEAR + 61 * DAY,
-            (2024, 1),
-            standard,
-            86_400_000,
-        ),
-        (
-            byte,
-            none,
-            NEW_YEAR + 61 * DAY,
-            (2024, 2),
-            standard,
-            2_505_600_000,
-        ),
-        (
-            byte,
-            none,
-            NEW_YEAR + 61 * DAY,
-            (2024, 3),
-            standard,
-            86_400_000,
-        ),
-        (
-            kilobyte,
-            none,
-            NEW_YEAR + 61 * DAY,
-            (2024, 1),
-            standard,
-            86_400_000_000,
-        ),
-        (
-            kilobyte,
-            none,
-            NEW_YEAR + 61 * DAY,
-            (2024, 2),
-            standard,
-            2_505_600_000_000,
-        ),
-        (
-            kilobyte,
-            none,
-            NEW_YEAR + 61 * DAY,
-            (2024, 3),
-            standard,
-            86_400_000_000,
-        ),
-        (kilobyte, none, NEW_YEAR + 61 * DAY, (2024, 4), standard, 0),
-        (
-            archived,
-            none,
-            NEW_YEAR + DAY,
-            (2024, 1),
-            Class::Glacier,
-            38_912 * 86_400_000,
-        ),
-        (
-            archived,
-            none,
-            NEW_YEAR + DAY,
-            (2024, 1),
-            standard,
-            8_192 * 86_400_000,
-        ),
-        (short, none, NEW_YEAR, (2024, 1), standard, 0),
-    ];
-    for (index, (first, second, t, (year, number), class, wanted)) in cases
-        .into_iter()
-        .enumerate()
-    {
-        let meters = after(&rt, rt.alloc(), first, second);
-        let read = meters.reading(month(&rt, year, number), class, moment(&rt, t));
+// What is booked, the day of January 2024 at whose start it is read, from 0, the month and class, and what is read.
+type Reading = ((Stay, Stay), u64, (u16, u8), Class, u128);
+
+fn read_all(rt: &impl Abort, alloc: Global, readings: &[Reading]) {
+    for (index, reading) in readings.iter().enumerate() {
+        let ((first, second), days, (year, number), class, wanted) = *reading;
+        assert!(rt; days < 1_000);
+        let meters = after(rt, alloc, first, second);
+        let t = moment(rt, NEW_YEAR + days * DAY);
+        let read = meters.reading(month(rt, year, number), class, t);
         assert_eq!(rt; read, wanted, "{index}");
     }
+}
+
+#[test]
+fn stays_of_a_month(rt: HostRuntime) {
+    let (standard, warm) = (Class::Standard, Class::StandardIa);
+    let nothing = (standard, 0, NEW_YEAR, None);
+    let days = (
+        (standard, 1_000, NEW_YEAR, Some(NEW_YEAR + DAY)),
+        (standard, 2_000, NEW_YEAR + DAY, None),
+    );
+    let glacier = (
+        (Class::Glacier, 6_144, NEW_YEAR, Some(NEW_YEAR + DAY)),
+        nothing,
+    );
+    let short = ((standard, 7, NEW_YEAR, Some(NEW_YEAR)), nothing);
+    let readings = [
+        (days, 2, (2024, 1), standard, 259_200_000_000),
+        (days, 2, (2024, 1), warm, 0),
+        (days, 2, (2023, 12), standard, 0),
+        (days, 2, (2024, 2), standard, 0),
+        (glacier, 1, (2024, 1), Class::Glacier, 38_912 * 86_400_000),
+        (glacier, 1, (2024, 1), standard, 8_192 * 86_400_000),
+        (short, 0, (2024, 1), standard, 0),
+    ];
+    read_all(&rt, rt.alloc(), &readings);
+}
+
+#[test]
+fn stays_over_months(rt: HostRuntime) {
+    let standard = Class::Standard;
+    let nothing = (standard, 0, NEW_YEAR, None);
+    // From 2024-01-31 to 2024-03-02, over the leap February.
+    let (from, to) = (NEW_YEAR + 30 * DAY, NEW_YEAR + 61 * DAY);
+    let ended = ((standard, 1, from, Some(to)), nothing);
+    let open = ((standard, 1_000, from, None), nothing);
+    let readings = [
+        (ended, 61, (2024, 1), standard, 86_400_000),
+        (ended, 61, (2024, 2), standard, 2_505_600_000),
+        (ended, 61, (2024, 3), standard, 86_400_000),
+        (open, 61, (2024, 1), standard, 86_400_000_000),
+        (open, 61, (2024, 2), standard, 2_505_600_000_000),
+        (open, 61, (2024, 3), standard, 86_400_000_000),
+        (open, 61, (2024, 4), standard, 0),
+    ];
+    read_all(&rt, rt.alloc(), &readings);
+}
+
+#[test]
+fn a_transition(rt: HostRuntime) {
+    let (begun, moved) = (1_702_198_800_000, 1_704_844_800_000);
+    let first = (Class::Standard, 1_000_000, begun, Some(moved));
+    let second = (Class::StandardIa, 1_000_000, moved, None);
+    let meters = after(&rt, rt.alloc(), first, second);
+    let january = month(&rt, 2024, 1);
+    let t = moment(&rt, 1_705_233_600_000);
+    let standard = meters.reading(january, Class::Standard, t);
+    let warm = meters.reading(january, Class::StandardIa, t);
+    assert_eq!(rt;
+        (standard, warm),
+        (777_600_000_000_000, 388_800_000_000_000)
+    );
 }
 
 #[test]
