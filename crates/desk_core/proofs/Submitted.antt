@@ -68,7 +68,6 @@ module _ {D : Type 0} {C : Type 0} (honest : Bool) (state : D → State) (moment
 
   -- ---- the disk
 
-
   -- ---- causes
 
   pub ended_so : (said : Result Answer DeskFault) → end_of_time ≤ t → Asked said → IsClockEnd t said
