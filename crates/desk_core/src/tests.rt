@@ -103,10 +103,7 @@ fn january(alloc: Global, name: &str) -> Result<Ask, Fail> {
     let Some(month) = Month::of(2024, 1) else {
         return Err(Fail::new("no month"));
     };
-    Ok(Ask::Query(Query::Meters(
-        BucketName::read(alloc, name)?,
-        month,
-    )))
+    Ok(Ask::Query(Query::Meters(BucketName::read(alloc, name)?, month)))
 }
 
 // What was answered, without the names.
@@ -131,10 +128,12 @@ fn answer_of(said: &Result<Acked, DeskFault>) -> Heard {
     };
     match acked.reply() {
         Ok(Reply::BucketMade { .. }) => Heard::Made,
-        Ok(Reply::Stored {
-            moment,
-            version: VersionId::Null,
-        }) => Heard::Stored(moment.ms()),
+        Ok(
+            Reply::Stored {
+                moment,
+                version: VersionId::Null,
+            },
+        ) => Heard::Stored(moment.ms()),
         Ok(Reply::Stored { .. }) => Heard::Other,
         Ok(Reply::BucketShown { versions, .. }) => Heard::Shown(*versions),
         Ok(Reply::MetersShown { classes, .. }) => Heard::Standard(classes[0].byte_ms),
@@ -143,11 +142,7 @@ fn answer_of(said: &Result<Acked, DeskFault>) -> Heard {
 }
 
 // What a desk answers that is not stale then.
-fn hear<D: Disk + Drop, C: Clock + Drop>(
-    rt: &impl Abort,
-    desk: &mut Desk<D, C>,
-    ask: &Ask,
-) -> Heard
+fn hear<D: Disk + Drop, C: Clock + Drop>(rt: &impl Abort, desk: &mut Desk<D, C>, ask: &Ask) -> Heard
     requires { IsReady D.honest D.state desk.old }
     ensures { IsReady D.honest D.state desk.new }
 {

@@ -3,9 +3,7 @@ use Rattle.disk_core.specs.declared.disk.FileNo.TheVariants.{Journal}
 use Rattle.disk_core.proofs.Time.{started, untouched_then}
 use Rattle.meter_journal.specs.declared.fault.OpenFault.TheVariants.{NoMemory, Damaged}
 use Rattle.plain_office.specs.Run.{accept}
-use Rattle.desk_core.specs.Offices.{StandsAfter}
 use Rattle.desk_core.proofs.Breaking.{none_read, one_read, all_read, next_fails, take_fails, few_read}
-use Rattle.desk_core.proofs.Offices.{sized}
 use Rattle.desk_core.proofs.opening.replay.Goals as goal
 
 pub reading-init : goal.reading-init
