@@ -63,6 +63,10 @@ made_line mades.Before = line (codes "already made")
 unfoldable pub usage_note : List ℕ
 usage_note = line (codes "usage: office init; run; serve --listen A [--workers N] [--connections K]; report MONTH [--text]; explain [--workers N]; gen NUMBER COUNT")
 
+-- of a clock that is at its end
+unfoldable pub clock_note : List ℕ
+clock_note = line (codes "clock: at its end")
+
 -- of the end of a session; nothing where it came to its end
 unfoldable pub end_note : SessionEnd → List ℕ
 end_note ends.Ended = []

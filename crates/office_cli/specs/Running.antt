@@ -1,6 +1,7 @@
 -- What a run of the program does.
-use Rattle.std.specs.Prelude.{◌≡◌, ◌⊎◌, ℕ, ◌-◌, ◌^◌, ◌<◌, ◌≤◌, Bool, List, length, Option, option_map, IsTrue}
+use Rattle.std.specs.Prelude.{◌≡◌, ◌⊎◌, ℕ, ◌-◌, ◌^◌, ◌<◌, ◌≤◌, Bool, List, [], ◌∷◌, length, Option, option_map, IsTrue}
 use Rattle.std.specs.Io.KnownBytes.{Appends}
+use Rattle.moments.specs.Time.{end_of_time}
 use Rattle.office_base.specs.Faults.{Rose}
 use Rattle.disk_core.specs.Files.{State, IsImage}
 use Rattle.disk_core.specs.Kept.{Narrower}
@@ -15,7 +16,7 @@ use Rattle.desk_core.specs.Serving.{Opened, HasFront, AreToldBy, Serves}
 use Rattle.http_front.specs.Meaning.{Hears}
 use Rattle.http_front.specs.Session.{asks, IsWritten, NoneFaults, FaultsBy, LacksBy}
 use Rattle.http_front.specs.declared.answering.SessionEnd.{SessionEnd}
-use Rattle.office_cli.specs.Lines.{status_of, fault_status, end_note, fault_note}
+use Rattle.office_cli.specs.Lines.{status_of, fault_status, clock_note, end_note, fault_note}
 use Rattle.office_cli.specs.Numbers.{AreNumbers}
 
 -- the journal of the program has at most 2^30 bytes
@@ -78,6 +79,24 @@ module _ {D C W : Type 0} (honest : Bool) (state : D → State) (moment : D → 
     pub status_is : status ≡ fault_status fault
     pub note : IsNoted (noted out_old) (noted out_new) (out_faults out_old) (out_faults out_new) (fault_note fault)
 
-  abbrev pub Runs : ℕ → D → D → C → C → W → W → Option (List ℕ) → Type 0
-  Runs status old new clock_old clock_new out_old out_new stream =
+  -- The office was opened and its calls answered, or it was not opened.
+  abbrev pub Works : ℕ → D → D → C → C → W → W → Option (List ℕ) → Type 0
+  Works status old new clock_old clock_new out_old out_new stream =
       Answers status old new clock_old clock_new out_old out_new stream ⊎ Refuses status old new clock_old clock_new out_old out_new
+
+  -- The clock is at its end: nothing was said or told, and the disk was not touched.
+  pub record Ends (status : ℕ) (old new : D) (clock_old clock_new : C) (out_old out_new : W) : Type 0 where
+    pub status_is : status ≡ 8
+    pub untouched : new ≡ old
+    pub clock : clock_new ≡ clock_old
+    pub silent : said out_new ≡ said out_old
+    pub note : IsNoted (noted out_old) (noted out_new) (out_faults out_old) (out_faults out_new) clock_note
+
+  -- The clock tells a number before the disk is touched: the office works where that is below the end of time.
+  pub record Runs (status : ℕ) (old new : D) (clock_old clock_new : C) (out_old out_new : W) (stream : Option (List ℕ)) : Type 0 where
+    pub first : ℕ
+    pub clock : C
+    pub told_first : count clock < 2 ^ 64 - 1 → Appends (told clock_old) (told clock) (first ∷ [])
+    pub later : count clock_old ≤ count clock
+    pub runs : ((first < end_of_time) × Works status old new clock clock_new out_old out_new stream)
+        ⊎ ((end_of_time ≤ first) × Ends status old new clock clock_new out_old out_new)

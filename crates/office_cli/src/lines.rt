@@ -2,7 +2,7 @@
 ghost use Rattle.std.specs.Prelude.{◌≡◌, ◌+◌, ◌≤◌, ◌++◌, length, take};
 ghost use Rattle.http_front.specs.declared.answering.SessionEnd.TheVariants.{NoMemory};
 ghost use Rattle.meter_journal.specs.declared.fault.OpenFault.TheVariants.{Damaged};
-ghost use Rattle.office_cli.specs.Lines.{status_of, fault_status, made_line, usage_note, end_note, fault_note};
+ghost use Rattle.office_cli.specs.Lines.{status_of, fault_status, made_line, usage_note, clock_note, end_note, fault_note};
 ghost use Rattle.office_cli.specs.Running.{IsNoted};
 
 use http_front::{Replies, SessionEnd};
@@ -14,6 +14,9 @@ pub(crate) const USAGE: u8 = 1;
 
 /// The status where a text could not be said.
 pub(crate) const OUTPUT: u8 = 4;
+
+/// The status where the clock is at its end.
+pub(crate) const CLOCK_END: u8 = 8;
 
 pub(crate) fn end_status(end: SessionEnd) -> u8
     ensures { result ≡ status_of end }
@@ -54,6 +57,13 @@ pub(crate) fn usage() -> &'static [u8]
     ensures { result.now ≡ usage_note }
 {
     b"usage: office init; run; serve --listen A [--workers N] [--connections K]; report MONTH [--text]; explain [--workers N]; gen NUMBER COUNT\n"
+}
+
+#[tactic(auto, unfolding(crate::specs::Lines::clock_note))]
+pub(crate) fn clock_line() -> &'static [u8]
+    ensures { result.now ≡ clock_note }
+{
+    b"clock: at its end\n"
 }
 
 #[tactic(auto, unfolding(crate::specs::Lines::end_note))]

@@ -11,16 +11,18 @@ ghost use Rattle.desk_core.specs.Opening.{Opens, OpenFails};
 ghost use Rattle.office_cli.specs.Lines.{IsLine, init_line, run_line, fault_status, fault_note, end_note, made_line, usage_note, IsServeStatus, IsRunStatus, IsDone};
 ghost use Rattle.meter_journal.specs.Reading.{IsForeign};
 ghost use Rattle.office_cli.specs.Making.{Inits};
-ghost use Rattle.office_cli.specs.Running.{journal_limit, IsNoted, Answers, Refuses, Runs};
+ghost use Rattle.office_cli.specs.Running.{journal_limit, IsNoted, Answers, Refuses, Works, Runs};
 
 use crate::lines::{
-    OUTPUT, USAGE, end_line, end_status, made_text, note_fault, note_line, open_status, usage,
+    CLOCK_END, OUTPUT, USAGE, clock_line, end_line, end_status, made_text, note_fault, note_line,
+    open_status, usage,
 };
 use desk_core::{Clock, Desk};
 use disk_core::Disk;
 use http_front::{Replies, SessionEnd, session};
 use http_wire::Source;
 use meter_journal::{Made, OpenFault, create};
+use moments::Moment;
 use std::alloc::Global;
 
 /// How a command of the program ended, with what was handed in.
@@ -85,14 +87,14 @@ fn refuse<W: Replies, D: Disk + Drop, C: Clock + Drop>(
 }
 
 // Opens the office, and runs one session on it.
-fn run<R: Source, W: Replies, D: Disk + Drop, C: Clock + Drop>(
+fn work<R: Source, W: Replies, D: Disk + Drop, C: Clock + Drop>(
     alloc: Global,
     input: &mut R,
     out: &mut W,
     disk: D,
     clock: C,
 ) -> End<D, C>
-    ensures runs { Runs D.honest D.state D.moment D.had_since D.fault_count C.count C.told W.said W.noted W.faults result.status disk result.disk clock result.clock out.old out.new (R.left input.old) }
+    ensures works { Works D.honest D.state D.moment D.had_since D.fault_count C.count C.told W.said W.noted W.faults result.status disk result.disk clock result.clock out.old out.new (R.left input.old) }
     ensures sound { IsTrue D.honest → (history : List Entry) → HasAcceptedHistory history (D.state disk).journal.seen → result.status ≡ 5 → ⊥ }
     ensures later { (R.faults input.old ≤ R.faults input.new) × (W.faults out.old ≤ W.faults out.new) × (D.fault_count disk ≤ D.fault_count result.disk) }
     ensures statuses { IsRunStatus result.status }
@@ -105,6 +107,34 @@ fn run<R: Source, W: Replies, D: Disk + Drop, C: Clock + Drop>(
         Ok(desk) => serve(alloc, input, out, desk),
         Err((fault, disk, clock)) => refuse(out, fault, disk, clock),
     }
+}
+
+// Asks the clock once, and works where it is below the end of time.
+fn run<R: Source, W: Replies, D: Disk + Drop, C: Clock + Drop>(
+    alloc: Global,
+    input: &mut R,
+    out: &mut W,
+    disk: D,
+    mut clock: C,
+) -> End<D, C>
+    ensures runs { Runs D.honest D.state D.moment D.had_since D.fault_count C.count C.told W.said W.noted W.faults result.status disk result.disk clock result.clock out.old out.new (R.left input.old) }
+    ensures sound { IsTrue D.honest → (history : List Entry) → HasAcceptedHistory history (D.state disk).journal.seen → result.status ≡ 5 → ⊥ }
+    ensures later { (R.faults input.old ≤ R.faults input.new) × (W.faults out.old ≤ W.faults out.new) × (D.fault_count disk ≤ D.fault_count result.disk) }
+    ensures statuses { (result.status ≡ 8) ⊎ IsRunStatus result.status }
+    ensures unopened { (result.status ≡ 5) ⊎ (result.status ≡ 8) → input.new ≡ input.old }
+    ensures disk_fault { result.status ≡ 2 → Rose (D.fault_count disk) (D.fault_count result.disk) }
+    ensures read_fault { result.status ≡ 3 → Rose (R.faults input.old) (R.faults input.new) }
+    ensures write_fault { result.status ≡ 4 → Rose (W.faults out.old) (W.faults out.new) }
+{
+    if Moment::of(clock.now()).is_err() {
+        note_line(out, clock_line());
+        return End {
+            status: CLOCK_END,
+            disk,
+            clock,
+        };
+    }
+    work(alloc, input, out, disk, clock)
 }
 
 // Says that the journal is there, and answers the status.
@@ -160,12 +190,14 @@ pub(crate) fn is_command(words: &[String]) -> bool
 
 /// Does one command of the program: `init` or `run`. The words are those behind the program's name.
 ///
-/// `init` makes the journal where it is not made, and says whether it was. `run` opens the office over the journal, answers the
-/// messages of the input in order, each once its effect is durable, and closes the office. A line on a fault goes to the notes.
+/// `init` makes the journal where it is not made, and says whether it was. `run` asks the clock once, opens the office over the
+/// journal, answers the messages of the input in order, each once its effect is durable, and closes the office. A line on a fault
+/// goes to the notes.
 ///
 /// The status is 0 where all was done; 1 where the words are no command line; 2 where the disk did not do a call; 3 where the
 /// input could not be read; 4 where a text could not be said; 5 where the journal is not made, foreign or damaged; 6 where
-/// memory ran out; 9 where the input is longer than 2^40 bytes.
+/// memory ran out; 8 where the first number that the clock told a `run` is not below the end of time, 4,102,444,800,000
+/// milliseconds, and then nothing else was done; 9 where the input is longer than 2^40 bytes.
 pub fn office<R: Source, W: Replies, D: Disk + Drop, C: Clock + Drop>(
     alloc: Global,
     words: &[String],
@@ -190,10 +222,11 @@ pub fn office<R: Source, W: Replies, D: Disk + Drop, C: Clock + Drop>(
 
     // The input is read only by a run whose journal was opened.
     ensures unread { (map string_bytes words.now ≡ run_line → ⊥) → input.new ≡ input.old }
-    ensures unopened { result.status ≡ 5 → input.new ≡ input.old }
+    ensures unopened { (result.status ≡ 5) ⊎ (result.status ≡ 8) → input.new ≡ input.old }
 
     // The causes of the statuses.
-    ensures statuses { (result.status ≡ 1) ⊎ IsRunStatus result.status }
+    ensures statuses { (result.status ≡ 1) ⊎ ((result.status ≡ 8) ⊎ IsRunStatus result.status) }
+    ensures clock_end { result.status ≡ 8 → map string_bytes words.now ≡ run_line }
     ensures disk_fault { result.status ≡ 2 → Rose (D.fault_count disk) (D.fault_count result.disk) }
     ensures read_fault { result.status ≡ 3 → Rose (R.faults input.old) (R.faults input.new) }
     ensures write_fault { result.status ≡ 4 → Rose (W.faults out.old) (W.faults out.new) }
@@ -203,9 +236,10 @@ pub fn office<R: Source, W: Replies, D: Disk + Drop, C: Clock + Drop>(
     ensures opened { IsTrue D.honest → IsSound (D.state disk) → result.status ≡ 5 → ⊥ }
     ensures sound { IsTrue D.honest → IsSound (D.state disk) → KeepsTo D.state D.moment D.had_since disk result.disk IsSound }
 
-    // A command line is done, on such a disk or for init on one that is not foreign, where nothing outside fails.
+    // A command line is done, on such a disk or for init on one that is not foreign, where nothing outside fails and the
+    // clock is not at its end.
     ensures complete { IsTrue D.honest → IsLine (map string_bytes words.now) → IsSound (D.state disk) ⊎ ((map string_bytes words.now ≡ init_line) × (IsForeign (D.state disk).journal.seen → ⊥))
-        → (Rose (D.fault_count disk) (D.fault_count result.disk) → ⊥) → (Rose (R.faults input.old) (R.faults input.new) → ⊥) → (Rose (W.faults out.old) (W.faults out.new) → ⊥) → IsDone result.status }
+        → (Rose (D.fault_count disk) (D.fault_count result.disk) → ⊥) → (Rose (R.faults input.old) (R.faults input.new) → ⊥) → (Rose (W.faults out.old) (W.faults out.new) → ⊥) → (result.status ≡ 8 → ⊥) → IsDone result.status }
 {
     if is_only(words, "init") {
         let status = init(out, &mut disk);

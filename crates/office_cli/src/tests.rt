@@ -13,6 +13,12 @@ const MADE: &[u8] =
 const EXISTS: &[u8] =
     b"HTTP/1.1 409 Conflict\r\ncontent-type: application/json\r\ncontent-length: 36\r\n\r\n{\"error\":\"BucketExists\",\"number\":80}";
 
+const CLOCK_END: &[u8] =
+    b"HTTP/1.1 409 Conflict\r\ncontent-type: application/json\r\ncontent-length: 55\r\n\r\n{\"error\":\"ClockEnd\",\"moment\":4102444800000,\"number\":91}";
+
+const FULL: &[u8] =
+    b"HTTP/1.1 507 Insufficient Storage\r\ncontent-type: application/json\r\ncontent-length: 58\r\n\r\n{\"error\":\"Full\",\"limit\":1000,\"number\":90,\"what\":\"Buckets\"}";
+
 const NOT_BUILT: &[u8] =
     b"HTTP/1.1 501 Not Implemented\r\ncontent-type: application/json\r\ncontent-length: 33\r\n\r\n{\"error\":\"NotBuilt\",\"number\":119}";
 
@@ -41,6 +47,12 @@ const CLOSED: &[u8] = b"7METERJRN1\x00";
 
 const FOREIGN: &[u8] = b"7METERJRN1\x00\x00";
 
+// 2024-01-01 00:00 UTC.
+const NEW_YEAR: u64 = 1_704_067_200_000;
+
+// 2100-01-01 00:00 UTC, the end of time.
+const END: u64 = 4_102_444_800_000;
+
 const INIT: &[&str] = &["init"];
 
 const RUN: &[&str] = &["run"];
@@ -65,6 +77,18 @@ fn disk_of(alloc: Global, file: &[u8], failing: &[u64]) -> Result<MemoryDisk, Fa
 fn command(
     alloc: Global,
     words: &[&str],
+    source: MemorySource,
+    out: MemoryReplies,
+    disk: MemoryDisk,
+) -> Result<Ran, Fail> {
+    command_at(alloc, words, &[NEW_YEAR], source, out, disk)
+}
+
+// One command over a clock that tells these numbers.
+fn command_at(
+    alloc: Global,
+    words: &[&str],
+    moments: &[u64],
     mut source: MemorySource,
     mut out: MemoryReplies,
     disk: MemoryDisk,
@@ -73,7 +97,7 @@ fn command(
     for word in words {
         list.push(String::from_str(alloc, *word)?)?;
     }
-    let clock = ListClock::new(vec![in alloc; 1_704_067_200_000]?);
+    let clock = ListClock::new(moments.to_vec(alloc)?);
     let End { status, disk, .. } = office(alloc, &list, &mut source, &mut out, disk, clock);
     Ok(Ran {
         status,
@@ -210,7 +234,7 @@ fn a_failure_has_its_status_and_line(rt: HostRuntime) -> Result<(), Fail> {
 }
 
 #[test]
-fn a_thousand_buckets_are_made(rt: HostRuntime) -> Result<(), Fail> {
+fn a_thousand_buckets_are_made_and_no_more(rt: HostRuntime) -> Result<(), Fail> {
     let alloc = rt.alloc();
     let mut input = Vec::new(alloc);
     let mut wanted = Vec::new(alloc);
@@ -222,9 +246,38 @@ fn a_thousand_buckets_are_made(rt: HostRuntime) -> Result<(), Fail> {
         input.extend_from_slice(put.as_bytes())?;
         wanted.extend_from_slice(made.as_bytes())?;
     }
+    // There is room for no other.
+    input.extend_from_slice(PUT)?;
+    wanted.extend_from_slice(FULL)?;
     let ran = run_on(alloc, RUN, &input, 8192, disk_of(alloc, EMPTY, &[])?)?;
     assert_eq!(rt; ran.status, 0);
     assert!(rt; ran.said == wanted);
     assert!(rt; ran.noted.is_empty());
+    Ok(())
+}
+
+#[test]
+fn nothing_is_done_at_the_end_of_the_clock(rt: HostRuntime) -> Result<(), Fail> {
+    let alloc = rt.alloc();
+    let made_then_end = joined(alloc, MADE, CLOCK_END)?;
+    let end_then_made = joined(alloc, CLOCK_END, MADE)?;
+    // The words, the numbers that the clock tells; the status, what was said, what was noted. The first number of a run is that of
+    // the run itself.
+    for (words, moments, status, said, noted) in [
+        (RUN, &[END][..], 8, &b""[..], &b"clock: at its end\n"[..]),
+        (RUN, &[u64::MAX], 8, b"", b"clock: at its end\n"),
+        (RUN, &[NEW_YEAR, NEW_YEAR, END], 0, &made_then_end, b""),
+        (RUN, &[END - 1, END, NEW_YEAR], 0, &end_then_made, b""),
+        (INIT, &[END], 0, b"already made\n", b""),
+    ] {
+        let name = (words, moments);
+        let source = MemorySource::new(TWICE.to_vec(alloc)?, 39, Vec::new(alloc));
+        let out = MemoryReplies::new(alloc, Vec::new(alloc));
+        let disk = disk_of(alloc, EMPTY, &[])?;
+        let ran = command_at(alloc, words, moments, source, out, disk)?;
+        assert_eq!(rt; ran.status, status, "status of {name:?}");
+        assert!(rt; ran.said.as_slice() == said, "said by {name:?}");
+        assert!(rt; ran.noted.as_slice() == noted, "noted by {name:?}");
+    }
     Ok(())
 }
