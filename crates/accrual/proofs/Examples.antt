@@ -1,13 +1,13 @@
 -- Worked examples, computed.
-use Rattle.std.proofs.Common.{◌≡◌, ℕ, ◌+◌, ◌*◌, List, [], ◌∷◌, refl}
-use Rattle.std.specs.Prelude.{Some, None}
+use Rattle.std.proofs.Common.{◌≡◌, ℕ, ◌+◌, ◌*◌, [], ◌∷◌, refl}
 use Rattle.jiff_core.specs.Calendar.{days_of_months}
 use Rattle.moments.specs.Time.{day}
 use Rattle.moments.specs.Months.{first_day}
 use Rattle.class_rules.specs.Lines.{object_lines}
 use Rattle.class_rules.specs.declared.class.Class.TheVariants.{Standard, StandardIa, Glacier}
-use Rattle.accrual.specs.Books.{Book, empty_book, open_stay, ended_stay}
+use Rattle.accrual.specs.Books.{Book, empty_book, open_stay, ended_stay, with_early}
 use Rattle.accrual.specs.Meters.{meter, early_quantity, move_count}
+use Rattle.accrual.specs.Totals.{ended_sum, running_sum, since_sum, with_early_of}
 
 -- 2024-01-01 00:00 UTC; January 2024 is month 648, counted from January 1970
 abbrev new_year : ℕ
@@ -62,3 +62,24 @@ archived = refl
 early : early_quantity january StandardIa (record empty_book { early = record { class = StandardIa; amount = 131_072 * 20 * day; moment = new_year + 10 * day } ∷ [] }) ≡ 226_492_416_000_000
 unfolding early_quantity first_day days_of_months
 early = refl
+
+-- what is kept of the two days: the first stay has ended, the second began a day after the month's start
+ended_in_january : ended_sum january Standard two_puts ≡ 1_000 * day
+unfolding ended_sum first_day days_of_months
+ended_in_january = refl
+
+running_in_january : running_sum january Standard two_puts ≡ 2_000
+unfolding running_sum first_day days_of_months
+running_in_january = refl
+
+since_in_january : since_sum january Standard two_puts ≡ 2_000 * day
+unfolding since_sum first_day days_of_months
+since_in_january = refl
+
+-- what leaves after 10 days owes 20 more, what leaves after exactly 30 days owes nothing
+owed : with_early_of StandardIa 131_072 new_year (new_year + 10 * day) empty_book
+    ≡ with_early (record { class = StandardIa; amount = 226_492_416_000_000; moment = new_year + 10 * day }) empty_book
+owed = refl
+
+not_owed : with_early_of StandardIa 131_072 new_year (new_year + 30 * day) empty_book ≡ empty_book
+not_owed = refl

@@ -1,1 +1,9 @@
+pub mod Bookings
+pub mod Bounds
+pub mod Cases
+pub mod Changes
 pub mod Examples
+pub mod Places
+pub mod Settling
+pub mod Sums
+pub mod Windows

@@ -1,2 +1,5 @@
 pub mod Books
+pub mod Bounds
+pub mod Kept
 pub mod Meters
+pub mod Totals

@@ -1,2 +1,10 @@
 //! What a bucket used: byte-milliseconds by month and storage class, early quantities and moves.
 #![tactic(auto)]
+
+mod calendar;
+mod meters;
+mod rows;
+#[cfg(test)]
+mod tests;
+
+pub use meters::Meters;

@@ -1,0 +1,194 @@
+-- The bounds after each booking.
+use Rattle.std.proofs.Common.{◌≡◌, ◌≤◌, ◌<◌, ◌+◌, ◌-◌, ◌*◌, ◌==◌, ℕ, suc, zero, length, false, refl, ap, sym, arith, subst}
+use Rattle.std.specs.Prelude.{◌^◌, nat_lt, ◌&&◌, if◌then◌else◌}
+use Rattle.std.proofs.lemmas.Bool.Decides.{nat_tests}
+use Rattle.std.proofs.lemmas.Nat.{mul-le}
+use Rattle.office_base.specs.Sizes.{largest_size}
+use Rattle.moments.specs.Months.{months}
+use Rattle.class_rules.specs.Classes.{rank_of, least_stay}
+use Rattle.class_rules.specs.Lines.{lines_of}
+use Rattle.class_rules.specs.declared.class.Class.{Class}
+use Rattle.class_rules.specs.declared.class.Class.TheVariants.{Standard, StandardIa, OnezoneIa, GlacierIr, Glacier, DeepArchive}
+use Rattle.class_rules.specs.declared.billing.Lines.{Lines}
+use Rattle.accrual.specs.Meters.{bytes_in}
+use Rattle.accrual.specs.Totals.{IsBilled}
+use Rattle.accrual.specs.Bounds.{IsBounded}
+use Rattle.accrual.specs.declared.rows.Kept.{Kept}
+use Rattle.accrual.specs.declared.rows.Rows.{Rows}
+use Rattle.accrual.specs.Kept.{nothing, kept_in, HasRoom, IsModest, IsBegun, IsEnded, IsAdded, in_month, running_to}
+use Rattle.accrual.proofs.Cases.{if_less, by_less, by_same}
+use Rattle.accrual.proofs.Changes.{lines_bytes}
+use Rattle.accrual.proofs.Settling.{running_more}
+
+-- ---- the bytes of all months
+
+same_place : (month n b : ℕ) → (if nat_lt month n then b else 0) + (if n == month then b else 0) ≡ (if nat_lt month (n + 1) then b else 0)
+same_place month n b =
+    by_less month n
+    (λ less. grind (arith, nat_tests))
+    (λ from. by_same n month (λ e. grind (arith, nat_tests)) (λ differs. grind (arith, nat_tests)))
+
+running_begun : (old new : Rows) (rank month b n : ℕ) → ((m : ℕ) → (kept_in new m rank).running ≡ (kept_in old m rank).running + in_month month m b)
+    → running_to new rank n ≡ running_to old rank n + (if nat_lt month n then b else 0)
+unfolding running_to
+running_begun old new rank month b zero each = let f : nat_lt month 0 ≡ false = grind (arith, nat_tests) in rw f refl
+running_begun old new rank month b (suc n) each =
+    let a = running_begun old new rank month b n each in
+    let e = each n in
+    let x = running_more old rank n in
+    let y = running_more new rank n in
+    let p = same_place month n b in
+    let s : suc n ≡ n + 1 = omega arith in
+    rw s (omega (arith, a, e, x, y, p))
+
+running_same : (old new : Rows) (rank n : ℕ) → ((m : ℕ) → (kept_in new m rank).running ≡ (kept_in old m rank).running) → running_to new rank n ≡ running_to old rank n
+unfolding running_to
+running_same old new rank zero each = refl
+running_same old new rank (suc n) each =
+    let a = running_same old new rank n each in
+    let e = each n in
+    omega (arith, a, e)
+
+-- ---- what one booking adds
+
+bytes_small : (lines : Lines) (class : Class) → IsBilled lines → bytes_in class (lines_of lines) < 2 ^ 44
+bytes_small lines class billed =
+    let b = lines_bytes lines class in
+    let x = if_less (rank_of lines.class == rank_of class) lines.bytes in
+    let y = if_less (0 == rank_of class) lines.standard in
+    omega (arith, b, x, y, billed.0, billed.1)
+
+product_less : (bytes ms : ℕ) → bytes < 2 ^ 44 → ms < 2 ^ 32 → bytes * ms ≤ 2 ^ 76
+product_less bytes ms small short = let p = mul-le bytes ms (2 ^ 44) (2 ^ 32) (omega (arith, small)) (omega (arith, short)) in omega (arith, p)
+
+pub bounded_begun : (old new : Rows) (booked : ℕ) (lines : Lines) (month ms : ℕ) → IsBounded old booked → booked < 2 ^ 44 → IsBilled lines → ms < 2 ^ 32 → IsBegun old new lines month ms
+    → IsBounded new (booked + 1)
+bounded_begun old new booked lines month ms bounded few billed short begun = record {
+  run = let f = begun.first in let a = begun.as_many in let r = bounded.run in omega (arith, f, a, r);
+  few = omega (arith, few);
+  ended = λ m class. let b = begun.ended m (rank_of class) in let o = bounded.ended m class in omega (arith, b, o);
+  running = λ n class.
+      let b = running_begun old new (rank_of class) month (bytes_in class (lines_of lines)) n (λ m. begun.running m class) in
+      let o = bounded.running n class in
+      let i = if_less (nat_lt month n) (bytes_in class (lines_of lines)) in
+      let s = bytes_small lines class billed in
+      omega (arith, b, o, i, s);
+  since = λ m class.
+      let b = begun.since m class in
+      let o = bounded.since m class in
+      let i = if_less (m == month) (bytes_in class (lines_of lines) * ms) in
+      let s = product_less (bytes_in class (lines_of lines)) ms (bytes_small lines class billed) short in
+      omega (arith, b, o, i, s);
+  early = λ m class. let b = begun.early m (rank_of class) in let o = bounded.early m class in omega (arith, b, o);
+  moves = λ m class. let b = begun.moves m (rank_of class) in let o = bounded.moves m class in omega (arith, b, o);
+}
+
+-- what is left when a stay is taken out
+pub bounded_finished : (old mid : Rows) (booked : ℕ) (lines : Lines) (month ms : ℕ) → IsBounded old booked → IsBegun mid old lines month ms → IsBounded mid booked
+bounded_finished old mid booked lines month ms bounded begun = record {
+  run = let f = begun.first in let a = begun.as_many in let r = bounded.run in omega (arith, f, a, r);
+  few = bounded.few;
+  ended = λ m class. let b = begun.ended m (rank_of class) in let o = bounded.ended m class in omega (arith, b, o);
+  running = λ n class. let b = running_begun mid old (rank_of class) month (bytes_in class (lines_of lines)) n (λ m. begun.running m class) in let o = bounded.running n class in omega (arith, b, o);
+  since = λ m class. let b = begun.since m class in let o = bounded.since m class in omega (arith, b, o);
+  early = λ m class. let b = begun.early m (rank_of class) in let o = bounded.early m class in omega (arith, b, o);
+  moves = λ m class. let b = begun.moves m (rank_of class) in let o = bounded.moves m class in omega (arith, b, o);
+}
+
+pub bounded_ended : (old new : Rows) (booked : ℕ) (lines : Lines) (ms : ℕ → ℕ) → IsBounded old booked → booked < 2 ^ 44 → IsBilled lines → ((m : ℕ) → ms m < 2 ^ 32) → IsEnded old new lines ms
+    → IsBounded new (booked + 1)
+bounded_ended old new booked lines ms bounded few billed short ended = record {
+  run = let f = ended.first in let a = ended.as_many in let r = bounded.run in omega (arith, f, a, r);
+  few = omega (arith, few);
+  ended = λ m class.
+      let b = ended.ended m class in
+      let o = bounded.ended m class in
+      let s = product_less (bytes_in class (lines_of lines)) (ms m) (bytes_small lines class billed) (short m) in
+      omega (arith, b, o, s);
+  running = λ n class. let b = running_same old new (rank_of class) n (λ m. ended.running m (rank_of class)) in let o = bounded.running n class in omega (arith, b, o);
+  since = λ m class. let b = ended.since m (rank_of class) in let o = bounded.since m class in omega (arith, b, o);
+  early = λ m class. let b = ended.early m (rank_of class) in let o = bounded.early m class in omega (arith, b, o);
+  moves = λ m class. let b = ended.moves m (rank_of class) in let o = bounded.moves m class in omega (arith, b, o);
+}
+
+-- an early quantity or a move
+pub bounded_added : (old new : Rows) (booked month rank early moves : ℕ) → IsBounded old booked → booked < 2 ^ 44 → early ≤ 2 ^ 78 → moves ≤ 1
+    → IsAdded old new month rank (record { ended = 0; running = 0; since = 0; early = early; moves = moves })
+    → IsBounded new (booked + 1)
+bounded_added old new booked month rank early moves bounded few small one added = record {
+  run = let f = added.first in let a = added.as_many in let r = bounded.run in omega (arith, f, a, r);
+  few = omega (arith, few);
+  ended = λ m class. let b = added.ended m (rank_of class) in let i = if_less (m == month && rank == rank_of class) 0 in let o = bounded.ended m class in omega (arith, b, i, o);
+  running = λ n class. let b = running_same old new (rank_of class) n (λ m. let b = added.running m (rank_of class) in let i = if_less (m == month && rank == rank_of class) 0 in omega (arith, b, i)) in let o = bounded.running n class in omega (arith, b, o);
+  since = λ m class. let b = added.since m (rank_of class) in let i = if_less (m == month && rank == rank_of class) 0 in let o = bounded.since m class in omega (arith, b, i, o);
+  early = λ m class. let b = added.early m (rank_of class) in let i = if_less (m == month && rank == rank_of class) early in let o = bounded.early m class in omega (arith, b, i, o, small);
+  moves = λ m class. let b = added.moves m (rank_of class) in let i = if_less (m == month && rank == rank_of class) moves in let o = bounded.moves m class in omega (arith, b, i, o, one);
+}
+
+-- ---- what the bounds give
+
+pub bounded_modest : (rows : Rows) (booked month : ℕ) (class : Class) → IsBounded rows booked → IsModest (kept_in rows month (rank_of class))
+bounded_modest rows booked month class bounded =
+    let f = bounded.few in
+    record {
+      ended = let o = bounded.ended month class in omega (arith, o, f);
+      running = let o = bounded.running (month + 1) class in let m = running_more rows (rank_of class) month in omega (arith, o, f, m);
+      since = let o = bounded.since month class in omega (arith, o, f);
+      early = let o = bounded.early month class in omega (arith, o, f);
+      moves = let o = bounded.moves month class in omega (arith, o, f);
+    }
+
+-- no class is billed for more than 180 days
+pub least_small : (class : Class) → least_stay class ≤ 15_552_000_000
+least_small Standard = omega arith
+least_small StandardIa = omega arith
+least_small OnezoneIa = omega arith
+least_small GlacierIr = omega arith
+least_small Glacier = omega arith
+least_small DeepArchive = omega arith
+
+pub owed_small : (class : Class) (bytes entered at : ℕ) → bytes ≤ largest_size + 32_768 → entered ≤ at → bytes * (entered + least_stay class - at) ≤ 2 ^ 78
+owed_small class bytes entered at small later =
+    let l = least_small class in
+    let p = mul-le bytes (entered + least_stay class - at) (2 ^ 44) (2 ^ 34) (omega (arith, small)) (omega (arith, l, later)) in
+    omega (arith, p)
+
+pub added_room : (rows : Rows) (booked month : ℕ) (class : Class) (early moves : ℕ) → IsBounded rows booked → early ≤ 2 ^ 78 → moves ≤ 1
+    → HasRoom (kept_in rows month (rank_of class)) (record { ended = 0; running = 0; since = 0; early = early; moves = moves })
+added_room rows booked month class early moves bounded small one =
+    let m = bounded_modest rows booked month class bounded in
+    record {
+      ended = let o = m.ended in omega (arith, o);
+      running = let o = m.running in omega (arith, o);
+      since = let o = m.since in omega (arith, o);
+      early = let o = m.early in omega (arith, o, small);
+      moves = let o = m.moves in omega (arith, o, one);
+    }
+
+-- other rows with the same kept numbers
+pub bounded_same : (old new : Rows) (booked : ℕ) → IsBounded old booked → ((month rank : ℕ) → kept_in new month rank ≡ kept_in old month rank) → new.first + length new.rows.items ≤ months → IsBounded new booked
+bounded_same old new booked bounded same run = record {
+  run = run;
+  few = bounded.few;
+  ended = λ m class. subst (λ (k : Kept). k.ended ≤ booked * 2 ^ 76) (sym (same m (rank_of class))) (bounded.ended m class);
+  running = λ n class. let b = running_same old new (rank_of class) n (λ m. ap (λ (k : Kept). k.running) (same m (rank_of class))) in let o = bounded.running n class in omega (arith, b, o);
+  since = λ m class. subst (λ (k : Kept). k.since ≤ booked * 2 ^ 76) (sym (same m (rank_of class))) (bounded.since m class);
+  early = λ m class. subst (λ (k : Kept). k.early ≤ booked * 2 ^ 78) (sym (same m (rank_of class))) (bounded.early m class);
+  moves = λ m class. subst (λ (k : Kept). k.moves ≤ booked) (sym (same m (rank_of class))) (bounded.moves m class);
+}
+
+running_empty : (rows : Rows) (n rank : ℕ) → ((month rank : ℕ) → kept_in rows month rank ≡ nothing) → running_to rows rank n ≡ 0
+unfolding running_to
+running_empty rows zero rank empty = refl
+running_empty rows (suc n) rank empty = let a = running_empty rows n rank empty in let e = ap (λ (k : Kept). k.running) (empty n rank) in omega (arith, a, e)
+
+pub bounded_none : (rows : Rows) → rows.first ≡ 0 → length rows.rows.items ≡ 0 → ((month rank : ℕ) → kept_in rows month rank ≡ nothing) → IsBounded rows 0
+bounded_none rows first none empty = record {
+  run = omega (arith, first, none);
+  few = omega arith;
+  ended = λ m class. let e = ap (λ (k : Kept). k.ended) (empty m (rank_of class)) in omega (arith, e);
+  running = λ n class. let e = running_empty rows n (rank_of class) empty in omega (arith, e);
+  since = λ m class. let e = ap (λ (k : Kept). k.since) (empty m (rank_of class)) in omega (arith, e);
+  early = λ m class. let e = ap (λ (k : Kept). k.early) (empty m (rank_of class)) in omega (arith, e);
+  moves = λ m class. let e = ap (λ (k : Kept). k.moves) (empty m (rank_of class)) in omega (arith, e);
+}

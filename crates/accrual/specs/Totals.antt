@@ -1,0 +1,88 @@
+-- Running totals by month and class in place of a book, and when they stand for one.
+use Rattle.std.specs.Prelude.{◌≡◌, ℕ, ◌+◌, ◌-◌, ◌*◌, ◌^◌, ◌≤◌, min, max, Bool, true, false, ◌&&◌, List, ◌∷◌, ◌++◌, Option, Some, None, sum_by, nat_lt, if◌then◌else◌}
+use Rattle.office_base.specs.Sizes.{largest_size}
+use Rattle.moments.specs.Months.{month_start, month_end}
+use Rattle.class_rules.specs.Classes.{rank_of, least_stay}
+use Rattle.class_rules.specs.declared.class.Class.{Class}
+use Rattle.class_rules.specs.declared.billing.Lines.{Lines}
+use Rattle.accrual.specs.declared.rows.Kept.{Kept}
+use Rattle.accrual.specs.declared.rows.Rows.{Rows}
+use Rattle.accrual.specs.Books.{Stay, Book, open_stay, with_early}
+use Rattle.accrual.specs.Meters.{bytes_in, is_in_month, early_quantity, move_count}
+use Rattle.accrual.specs.Kept.{kept_in, HasRowIn}
+
+-- what the meters are to their callers: rows by month, and the number of calls that booked something
+pub record Totals : Type 0 where
+  pub rows : Rows
+  pub booked : ℕ
+
+abbrev pub kept : Totals → ℕ → Class → Kept
+kept totals month class = kept_in totals.rows month (rank_of class)
+
+-- the month has a row
+abbrev pub HasRow : Totals → ℕ → Type 0
+HasRow totals month = HasRowIn totals.rows month
+
+-- how often the meters book (own: so no sum leaves its range)
+abbrev pub most_bookings : ℕ
+most_bookings = 2 ^ 44
+
+-- ---- what is kept of one stay
+
+abbrev pub has_no_end : Option ℕ → Bool
+has_no_end None = true
+has_no_end (Some to) = false
+
+-- the milliseconds in a window from a moment to an end
+abbrev pub ms_within : ℕ → ℕ → ℕ → ℕ → ℕ
+ms_within start end from to = min to end - max from start
+
+-- the milliseconds in a window from a moment to the end, where there is one
+abbrev pub ended_ms : ℕ → ℕ → ℕ → Option ℕ → ℕ
+ended_ms start end from None = 0
+ended_ms start end from (Some to) = ms_within start end from to
+
+-- the bytes of a stay without an end that began in the month
+abbrev pub running_bytes : ℕ → Class → Stay → ℕ
+running_bytes month class stay = if has_no_end stay.to && is_in_month month stay.from then bytes_in class stay.lines else 0
+
+-- ---- what is kept of all stays, by month and class
+
+-- the byte-milliseconds inside the month of the stays that have ended
+unfoldable pub ended_sum : ℕ → Class → Book → ℕ
+ended_sum month class book =
+    sum_by (λ (stay : Stay). bytes_in class stay.lines * ended_ms (month_start month) (month_end month) stay.from stay.to) book.stays
+
+-- the bytes of the stays without an end that began in the month
+unfoldable pub running_sum : ℕ → Class → Book → ℕ
+running_sum month class book = sum_by (λ (stay : Stay). running_bytes month class stay) book.stays
+
+-- their byte-milliseconds from the month's start to their beginnings
+unfoldable pub since_sum : ℕ → Class → Book → ℕ
+since_sum month class book = sum_by (λ (stay : Stay). running_bytes month class stay * (stay.from - month_start month)) book.stays
+
+-- the totals are those of the book: each kept number equals its sum over the book, in a month without a row 0
+pub record StandsFor (totals : Totals) (book : Book) : Type 0 where
+  pub ended : (month : ℕ) (class : Class) → (kept totals month class).ended ≡ ended_sum month class book
+  pub running : (month : ℕ) (class : Class) → (kept totals month class).running ≡ running_sum month class book
+  pub since : (month : ℕ) (class : Class) → (kept totals month class).since ≡ since_sum month class book
+  pub early : (month : ℕ) (class : Class) → (kept totals month class).early ≡ early_quantity month class book
+  pub moves : (month : ℕ) (class : Class) → (kept totals month class).moves ≡ move_count month class book
+
+-- ---- what is booked
+
+-- the book has a stay without an end with these lines from this moment
+abbrev pub HasOpenStay : List (Class × ℕ) → ℕ → Book → Type 0
+HasOpenStay lines from book = (before after : List Stay) × (book.stays ≡ before ++ open_stay lines from ∷ after)
+
+-- the lines of an object of a size that is taken
+abbrev pub IsBilled : Lines → Type 0
+IsBilled lines = (lines.bytes ≤ largest_size + 32_768) × (lines.standard ≤ largest_size + 32_768)
+
+-- what an object owes that has this many bytes on its own line and leaves before the least duration is over (S3 User Guide,
+-- "Understanding and managing Amazon S3 storage classes": minimum storage durations)
+abbrev pub with_early_of : Class → ℕ → ℕ → ℕ → Book → Book
+with_early_of class bytes entered at book =
+    if nat_lt at (entered + least_stay class)
+    then with_early (record { class = class; amount = bytes * (entered + least_stay class - at); moment = at }) book
+    else book

@@ -1,0 +1,175 @@
+// The meters of one bucket.
+ghost use Rattle.std.specs.Prelude.{◌≡◌, ◌+◌, ◌<◌, ◌≤◌, ℕ, List, ◌++◌, ◌∷◌, OnOk};
+ghost use Rattle.office_base.specs.Sizes.{largest_size};
+ghost use Rattle.moments.specs.Months.{month_at};
+ghost use Rattle.class_rules.specs.Lines.{lines_of};
+ghost use Rattle.accrual.specs.Books.{Stay, Book, empty_book, open_stay, ended_stay, with_stay, with_move, IsBookedBy};
+ghost use Rattle.accrual.specs.Meters.{meter, early_quantity, move_count};
+ghost use Rattle.accrual.specs.Totals.{HasRow, StandsFor, HasOpenStay, IsBilled, most_bookings, with_early_of};
+
+use crate::calendar::number_of;
+use crate::rows::{Kept, NOTHING, Rows};
+use class_rules::{Class, Lines, least_duration};
+use moments::{Moment, Month, month_of, month_window};
+use office_base::NoMemory;
+use std::alloc::Global;
+use std::marker::Model;
+
+/// What a bucket used, by month and storage class: byte-milliseconds, early quantities and moves. It keeps running totals by
+/// month and no stays, so that its size goes by the months.
+///
+/// Rule: S3 User Guide, "Understanding your AWS billing and usage reports for Amazon S3": usage is bytes times time.
+#[derive(Drop)]
+pub struct Meters {
+    rows: Rows,
+    // The calls that booked something.
+    booked: u64,
+}
+
+impl Model for Meters {
+    ghost use Rattle.accrual.specs.Totals.{Totals};
+    ghost use Rattle.accrual.specs.Bounds.{IsBounded};
+
+    ghost Value = { Totals };
+
+    ghost view = { λ m. record { rows = m.rows; booked = m.booked } };
+
+    ghost invariant = { λ m. IsBounded m.rows m.booked };
+}
+
+impl Meters {
+    /// Gives meters with nothing booked and no rows. Takes no memory.
+    pub fn new(alloc: Global) -> Meters
+        ensures stands { StandsFor result empty_book }
+        ensures booked { result.booked ≡ 0 }
+    {
+        Meters {
+            rows: Rows::new(alloc),
+            booked: 0,
+        }
+    }
+
+    /// Reads how many calls have booked something.
+    pub fn booked(&self) -> u64
+        ensures { result ≡ self.now.booked }
+    {
+        self.booked
+    }
+
+    /// Makes rows for these months, and all between them and the rows that are there.
+    ///
+    /// # Errors
+    ///
+    /// `NoMemory`: memory ran out. What the meters stand for is then unchanged.
+    pub fn reserve(&mut self, from: Month, to: Month) -> Result<(), NoMemory>
+        requires { from ≤ to }
+        ensures rows { OnOk result ((month : ℕ) → from ≤ month → month ≤ to → HasRow self.new month) }
+        ensures kept { (month : ℕ) → HasRow self.old month → HasRow self.new month }
+        ensures stands { (book : Book) → StandsFor self.old book → StandsFor self.new book }
+        ensures booked { self.new.booked ≡ self.old.booked }
+    {
+        match self.rows.reserve(number_of(from), number_of(to)) {
+            Ok(()) => Ok(()),
+            Err(_) => Err(NoMemory),
+        }
+    }
+
+    /// Books that a stay with these lines began. Takes no memory.
+    pub fn open(&mut self, lines: &Lines, from: Moment)
+        requires row { HasRow self.old (month_at from) }
+        requires few { self.old.booked < most_bookings }
+        requires billed { IsBilled lines.now }
+        ensures stands { (book : Book) → StandsFor self.old book → StandsFor self.new (with_stay (open_stay (lines_of lines.now) from) book) }
+        ensures rows { (month : ℕ) → HasRow self.old month → HasRow self.new month }
+        ensures booked { self.new.booked ≡ self.old.booked + 1 }
+    {
+        let month = month_of(from);
+        let (start, _) = month_window(month);
+        self.rows.begin(lines, number_of(month), from.ms() - start);
+        self.booked += 1;
+    }
+
+    /// Books that a stay with these lines, which began at `from` and had no end, ended. Takes no memory.
+    pub fn end(&mut self, lines: &Lines, from: Moment, at: Moment)
+        requires later { from ≤ at }
+        requires rows { (month : ℕ) → month_at from ≤ month → month ≤ month_at at → HasRow self.old month }
+        requires few { self.old.booked < most_bookings }
+        requires billed { IsBilled lines.now }
+        requires opened { (book : Book) × StandsFor self.old book × HasOpenStay (lines_of lines.now) from book }
+        ensures stands { (book : Book) (before after : List Stay) → StandsFor self.old book → book.stays ≡ before ++ open_stay (lines_of lines.now) from ∷ after
+            → StandsFor self.new (record book { stays = before ++ ended_stay (lines_of lines.now) from at ∷ after }) }
+        ensures rows { (month : ℕ) → HasRow self.old month → HasRow self.new month }
+        ensures booked { self.new.booked ≡ self.old.booked + 1 }
+    {
+        let month = month_of(from);
+        let (start, _) = month_window(month);
+        self.rows.finish(lines, number_of(month), from.ms() - start);
+        self.rows.settle(lines, from, at);
+        self.booked += 1;
+    }
+
+    /// Books what an object owes that entered this class at `entered`, has this many bytes on its own line, and leaves at `at`:
+    /// the bytes times what is left of the least duration, in byte-milliseconds. Takes no memory.
+    ///
+    /// Rule: S3 User Guide, "Understanding and managing Amazon S3 storage classes": minimum storage durations.
+    pub fn early(&mut self, class: Class, bytes: u64, entered: Moment, at: Moment)
+        requires later { entered ≤ at }
+        requires row { HasRow self.old (month_at at) }
+        requires few { self.old.booked < most_bookings }
+        requires billed { bytes ≤ largest_size + 32_768 }
+        ensures stands { (book : Book) → StandsFor self.old book → StandsFor self.new (with_early_of class bytes entered at book) }
+        ensures rows { (month : ℕ) → HasRow self.old month → HasRow self.new month }
+        ensures booked { self.new.booked ≡ self.old.booked + 1 }
+    {
+        let until = entered.ms() + least_duration(class);
+        let owed = bytes as u128 * until.saturating_sub(at.ms()) as u128;
+        let more = Kept {
+            early: owed,
+            ..NOTHING
+        };
+        self.rows.add(number_of(month_of(at)), class, more);
+        self.booked += 1;
+    }
+
+    /// Books one lifecycle transition to this class. Takes no memory.
+    pub fn moved(&mut self, to: Class, at: Moment)
+        requires row { HasRow self.old (month_at at) }
+        requires few { self.old.booked < most_bookings }
+        ensures stands { (book : Book) → StandsFor self.old book → StandsFor self.new (with_move (record { class = to; moment = at }) book) }
+        ensures rows { (month : ℕ) → HasRow self.old month → HasRow self.new month }
+        ensures booked { self.new.booked ≡ self.old.booked + 1 }
+    {
+        let more = Kept {
+            moves: 1,
+            ..NOTHING
+        };
+        self.rows.add(number_of(month_of(at)), to, more);
+        self.booked += 1;
+    }
+
+    /// Reads the byte-milliseconds of a month and a class, as seen at the moment, which is not before what was booked. Takes no
+    /// memory.
+    pub fn reading(&self, month: Month, class: Class, t: Moment) -> u128
+        ensures exact { (book : Book) → StandsFor self.now book → IsBookedBy t book → result ≡ meter month class t book }
+    {
+        let (start, end) = month_window(month);
+        let ms = t.ms().min(end).saturating_sub(start);
+        let kept = self.rows.kept(number_of(month), class);
+        let bytes = self.rows.running_before(number_of(month), class) + kept.running;
+        kept.ended + (bytes * ms as u128).saturating_sub(kept.since)
+    }
+
+    /// Reads the early quantities of a month and a class, in byte-milliseconds. Takes no memory.
+    pub fn early_of(&self, month: Month, class: Class) -> u128
+        ensures exact { (book : Book) → StandsFor self.now book → result ≡ early_quantity month class book }
+    {
+        self.rows.kept(number_of(month), class).early
+    }
+
+    /// Reads how many lifecycle transitions to the class the month had. Takes no memory.
+    pub fn moves_of(&self, month: Month, class: Class) -> u64
+        ensures exact { (book : Book) → StandsFor self.now book → result ≡ move_count month class book }
+    {
+        self.rows.kept(number_of(month), class).moves
+    }
+}
