@@ -5,4 +5,4 @@ use Rattle.office_machine.proofs.account.reserve.Goals as goal
 pub reserve-requires : goal.reserve-requires
 reserve-requires c =
     let later = month_later c.args.from c.args.to c.requires.later in
-    record { in_order = omega (arith, later, c.month_of.ensures.month, c.month_of-2.ensures.month) }
+    omega (arith, later, c.month_of.ensures.month, c.month_of-2.ensures.month)
