@@ -4,4 +4,5 @@ pub mod Later
 pub mod Offices
 pub mod Rebooked
 pub mod Replaced
+pub mod Runs
 pub mod Steps

@@ -151,9 +151,10 @@ module _ (records : Records) (p : Office) (stands : StandsForOffice records p) (
           let counts = count_by (at_name key holder.objects) refl in
           let versions = stands.versions in
           let names = stands.names in
-          let objects = holds.objects in
-          (subst (λ (objects : List (List ℕ × Object)). count_of Versions (after p.last) ≡ records.versions + added key 1 objects) (sym objects) (omega (arith, counts.0, versions)),
-          subst (λ (objects : List (List ℕ × Object)). count_of Names (after p.last) ≡ records.names + added key (length key) objects) (sym objects) (omega (arith, counts.1, names)))
+          let objects = holds.objects in (
+            subst (λ (objects : List (List ℕ × Object)). count_of Versions (after p.last) ≡ records.versions + added key 1 objects) (sym objects) (omega (arith, counts.0, versions)),
+            subst (λ (objects : List (List ℕ × Object)). count_of Names (after p.last) ≡ records.names + added key (length key) objects) (sym objects) (omega (arith, counts.1, names)),
+          )
 
       stepped : step object.created (command.Put name key object.size object.class) p ≡ put_result name key object p holder (counted new_versions new_names)
       stepped = put_by name key object p holder new_versions new_names held counts_after.0 counts_after.1
@@ -183,7 +184,7 @@ module _ (records : Records) (p : Office) (stands : StandsForOffice records p) (
             (record {
               last = refl;
               buckets = subst (λ (l : List (List ℕ × BucketRecords)). StandForAccounts l (with_name name (put_object key object holder) p.accounts)) (sym set)
-              (stand_set name written (put_object key object holder) (stored holder holds (orderly_by p object.created name holder orderly not_before_plain held)) records.buckets p.accounts holder stands.buckets orderly.names held);
+                  (stand_set name written (put_object key object holder) (stored holder holds (orderly_by p object.created name holder orderly not_before_plain held)) records.buckets p.accounts holder stands.buckets orderly.names held);
               versions = versions;
               names = names;
             })

@@ -64,7 +64,12 @@ impl Account {
     }
 
     // Puts an object, and gives the counts after it.
-    pub(crate) fn put(&mut self, key: &Key, object: &Object, counts: Counts) -> Result<Counts, Refusal>
+    pub(crate) fn put(
+        &mut self,
+        key: &Key,
+        object: &Object,
+        counts: Counts,
+    ) -> Result<Counts, Refusal>
         requires stands { (account : plain.Account) × StandsForBucket self.old account × IsOrderlyAccount object.now.created account }
         requires few { self.old.meters.booked + 3 ≤ most_bookings }
         requires versions { counts.versions ≤ limit_of Versions }

@@ -121,11 +121,7 @@ impl Office {
         }
         let shown = copy_of(name)?;
         let kept = copy_of(name)?;
-        if self
-            .buckets
-            .insert(kept, Account::new(self.alloc))
-            .is_err()
-        {
+        if self.buckets.insert(kept, Account::new(self.alloc)).is_err() {
             return Err(Refusal::NoMemory);
         }
         self.last = Some(t);

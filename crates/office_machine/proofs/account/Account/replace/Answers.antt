@@ -39,9 +39,11 @@ pub rebook-requires-clause-open : goal.rebook-requires-clause-open
 rebook-requires-clause-open c =
     let found = there c.args.key.now c.in-Some.place.now c.self.inside.objects.entries c.args.self.now c.in-Some.ensures.value (ap (λ (r : BucketRecords). r.objects) c.self.view_is) in
     let meters : c.self.inside.meters ≡ c.args.self.now.meters = ap (λ (r : BucketRecords). r.meters) c.self.view_is in
-    let book = book_of c.requires.stands.0.books in
-    (book, c.reserve.ensures.stands book (subst (λ (m : Totals). StandsFor m book) (sym meters) c.requires.stands.1.meters),
-    has_open c.args.key.now c.args.object.now c.in-Some.place.now c.args.self.now c.requires.stands.0 c.requires.stands.1 c.requires.stands.2 found)
+    let book = book_of c.requires.stands.0.books in (
+      book,
+      c.reserve.ensures.stands book (subst (λ (m : Totals). StandsFor m book) (sym meters) c.requires.stands.1.meters),
+      has_open c.args.key.now c.args.object.now c.in-Some.place.now c.args.self.now c.requires.stands.0 c.requires.stands.1 c.requires.stands.2 found,
+    )
 
 pub returns-clause-done : goal.returns-clause-done
 returns-clause-done c = λ _ account stands orderly.

@@ -18,17 +18,23 @@ seen : (name : List ℕ) (buckets others : List (List ℕ × BucketRecords)) (o 
 seen name buckets others o same found = ap (λ (l : List (List ℕ × BucketRecords)). at_name name l) (sym same) ∙ sym found
 
 pub returns-in_default : goal.returns-in_default
-returns-in_default c = record { reply = λ t p stands orderly.
-    inl (sym (shows_none c.args.self.now p stands c.args.name.now t (seen c.args.name.now c.self.inside.buckets.entries c.args.self.now.buckets None (ap (λ (r : Records). r.buckets) c.self.view_is) c.in_default.ensures.value))) }
+returns-in_default c = record {
+  reply = λ t p stands orderly.
+      inl (sym (shows_none c.args.self.now p stands c.args.name.now t (seen c.args.name.now c.self.inside.buckets.entries c.args.self.now.buckets None (ap (λ (r : Records). r.buckets) c.self.view_is) c.in_default.ensures.value)));
+}
 
 pub versions-requires : goal.versions-requires
-versions-requires c = record { few =
-    few_versions c.args.self.now c.requires.stands.0 c.requires.stands.1 c.args.name.now c.in-Some.account.now
-    (seen c.args.name.now c.self.inside.buckets.entries c.args.self.now.buckets (Some c.in-Some.account.now) (ap (λ (r : Records). r.buckets) c.self.view_is) c.in-Some.ensures.value) c.requires.stands.2 }
+versions-requires c = record {
+  few =
+      few_versions c.args.self.now c.requires.stands.0 c.requires.stands.1 c.args.name.now c.in-Some.account.now
+      (seen c.args.name.now c.self.inside.buckets.entries c.args.self.now.buckets (Some c.in-Some.account.now) (ap (λ (r : Records). r.buckets) c.self.view_is) c.in-Some.ensures.value) c.requires.stands.2;
+}
 
 pub returns : goal.returns
-returns c = record { reply = λ t p stands orderly.
-    let is : answer t (query.Bucket c.args.name.now) p ≡ Ok (BucketShown c.args.name.now (length c.in-Some.account.now.objects)) =
-    shows c.args.self.now p stands c.args.name.now c.in-Some.account.now
-    (seen c.args.name.now c.self.inside.buckets.entries c.args.self.now.buckets (Some c.in-Some.account.now) (ap (λ (r : Records). r.buckets) c.self.view_is) c.in-Some.ensures.value) t in
-    inl (rw (c.in_ok-copy_of.ensures.ok, c.versions.ensures) (sym is)) }
+returns c = record {
+  reply = λ t p stands orderly.
+      let is : answer t (query.Bucket c.args.name.now) p ≡ Ok (BucketShown c.args.name.now (length c.in-Some.account.now.objects)) =
+      shows c.args.self.now p stands c.args.name.now c.in-Some.account.now
+      (seen c.args.name.now c.self.inside.buckets.entries c.args.self.now.buckets (Some c.in-Some.account.now) (ap (λ (r : Records). r.buckets) c.self.view_is) c.in-Some.ensures.value) t in
+      inl (rw (c.in_ok-copy_of.ensures.ok, c.versions.ensures) (sym is));
+}
