@@ -24,6 +24,10 @@ key_length entry = length entry.0
 abbrev pub with_accounts : Option ℕ → List (List ℕ × Account) → Office
 with_accounts last accounts = record { last = last; accounts = accounts }
 
+-- the office after a put to this bucket
+abbrev pub after_put : Option ℕ → Office → List ℕ → List ℕ → Object → Account → Office
+after_put last p name key object account = with_accounts last (with_name name (put_object key object account) p.accounts)
+
 -- no count tells the last moment
 pub count_any_time : (what : What) (last : Option ℕ) (p : Office) → count_of what (with_accounts last p.accounts) ≡ count_of what p
 unfolding count_of
@@ -32,7 +36,8 @@ count_any_time Versions last p = refl
 count_any_time Names last p = refl
 
 -- the count of one bucket is at most that of all
-pub versions_within : (p : Office) (name : List ℕ) (account : Account) → at_name name p.accounts ≡ Some account → version_count account ≤ count_of Versions p
+pub versions_within : (p : Office) (name : List ℕ) (account : Account) → at_name name p.accounts ≡ Some account
+    → version_count account ≤ count_of Versions p
 unfolding count_of
 versions_within p name account h = held_part (name, account) p.accounts (found name account p.accounts h) versions_of
 
@@ -55,7 +60,9 @@ created_counts last p name none =
 
 -- the objects of a bucket after a put
 module _ (key : List ℕ) (object : Object) (account : Account) where
-  new_key : at_name key account.objects ≡ None → (version_count (put_object key object account) ≡ version_count account + 1) × (name_bytes (put_object key object account) ≡ name_bytes account + length key)
+  new_key : at_name key account.objects ≡ None
+      → (version_count (put_object key object account) ≡ version_count account + 1)
+      × (name_bytes (put_object key object account) ≡ name_bytes account + length key)
   new_key none =
       let after = with_name key object account.objects in
       let a = added key object account.objects none in
@@ -76,27 +83,31 @@ module _ (last : Option ℕ) (p : Office) (name : List ℕ) (account : Account) 
   changed_buckets changed =
       replaced_length (name, account) (name, changed) p.accounts (with_name name changed p.accounts) (replaced name changed account p.accounts names held)
 
-  pub changed_versions : (changed : Account) → count_of Versions (with_accounts last (with_name name changed p.accounts)) + version_count account ≡ count_of Versions p + version_count changed
+  pub changed_versions : (changed : Account)
+      → count_of Versions (with_accounts last (with_name name changed p.accounts)) + version_count account ≡ count_of Versions p + version_count changed
   unfolding count_of
   changed_versions changed =
       replaced_sum (name, account) (name, changed) p.accounts (with_name name changed p.accounts) (replaced name changed account p.accounts names held) versions_of
 
-  pub changed_names : (changed : Account) → count_of Names (with_accounts last (with_name name changed p.accounts)) + name_bytes account ≡ count_of Names p + name_bytes changed
+  pub changed_names : (changed : Account)
+      → count_of Names (with_accounts last (with_name name changed p.accounts)) + name_bytes account ≡ count_of Names p + name_bytes changed
   unfolding count_of
   changed_names changed =
       replaced_sum (name, account) (name, changed) p.accounts (with_name name changed p.accounts) (replaced name changed account p.accounts names held) names_of
 
   module _ (key : List ℕ) (object : Object) (keys : Rises account.objects) where
     -- a put under a new key, and under one that is there
-    pub put_versions : (at_name key account.objects ≡ None → count_of Versions (with_accounts last (with_name name (put_object key object account) p.accounts)) ≡ count_of Versions p + 1)
-        × ((old : Object) → at_name key account.objects ≡ Some old → count_of Versions (with_accounts last (with_name name (put_object key object account) p.accounts)) ≡ count_of Versions p)
+    pub put_versions :
+        (at_name key account.objects ≡ None → count_of Versions (after_put last p name key object account) ≡ count_of Versions p + 1)
+        × ((old : Object) → at_name key account.objects ≡ Some old → count_of Versions (after_put last p name key object account) ≡ count_of Versions p)
     put_versions = (
       λ none. let whole = changed_versions (put_object key object account) in let part = (new_key key object account none).0 in omega (arith, whole, part),
       λ old is. let whole = changed_versions (put_object key object account) in let part = (same_key key object account old keys is).0 in omega (arith, whole, part),
     )
 
-    pub put_names : (at_name key account.objects ≡ None → count_of Names (with_accounts last (with_name name (put_object key object account) p.accounts)) ≡ count_of Names p + length key)
-        × ((old : Object) → at_name key account.objects ≡ Some old → count_of Names (with_accounts last (with_name name (put_object key object account) p.accounts)) ≡ count_of Names p)
+    pub put_names :
+        (at_name key account.objects ≡ None → count_of Names (after_put last p name key object account) ≡ count_of Names p + length key)
+        × ((old : Object) → at_name key account.objects ≡ Some old → count_of Names (after_put last p name key object account) ≡ count_of Names p)
     put_names = (
       λ none. let whole = changed_names (put_object key object account) in let part = (new_key key object account none).1 in omega (arith, whole, part),
       λ old is. let whole = changed_names (put_object key object account) in let part = (same_key key object account old keys is).1 in omega (arith, whole, part),

@@ -1,5 +1,5 @@
 -- Lists in which one element was added or changed: their lengths and sums, and what holds of each element.
-use Rattle.std.proofs.Common.{◌≡◌, ℕ, ◌+◌, ◌≤◌, List, [], ◌∷◌, ◌++◌, map, length, length-append, refl, ap, sym, ◌∙◌, Bool, true, false, cond, subst, arith, filter}
+use Rattle.std.proofs.Common.{◌≡◌, ℕ, ◌+◌, ◌≤◌, List, [], ◌∷◌, ◌++◌, length, length-append, refl, ap, sym, ◌∙◌, Bool, true, false, cond, subst, arith, filter}
 use Rattle.std.specs.Prelude.{sum_by}
 use Rattle.std.specs.List.{AllByRecursion}
 use Rattle.std.proofs.lemmas.List.Sums.{sum_by-append, sum_by-cons}
@@ -18,14 +18,6 @@ module _ {X : Type 0} (P : X → Type 0) where
 pub every_weaker : {X : Type 0} (Q P : X → Type 0) → ((x : X) → Q x → P x) → (xs : List X) → AllByRecursion Q xs → AllByRecursion P xs
 every_weaker Q P f [] h = tt
 every_weaker Q P f (x ∷ xs) h = (f x h.0, every_weaker Q P f xs h.1)
-
-pub every_map : {X Y : Type 0} (Q : X → Type 0) (P : Y → Type 0) (f : X → Y) → ((x : X) → Q x → P (f x)) → (xs : List X) → AllByRecursion Q xs → AllByRecursion P (map f xs)
-every_map Q P f g [] h = tt
-every_map Q P f g (x ∷ xs) h = (g x h.0, every_map Q P f g xs h.1)
-
-pub every_of_map : {X Y : Type 0} (P : Y → Type 0) (f : X → Y) (xs : List X) → AllByRecursion P (map f xs) → AllByRecursion (λ (x : X). P (f x)) xs
-every_of_map P f [] h = tt
-every_of_map P f (x ∷ xs) h = (h.0, every_of_map P f xs h.1)
 
 -- ---- one element of a list
 
@@ -115,13 +107,28 @@ module _ {X : Type 0} (test : X → Bool) (x : X) where
   nil_or_more : (y : X) (ys : List X) → y ∷ ys ≡ [] → ⊥
   nil_or_more y ys h = absurd cc
 
-  alone_at : (y : X) (ys : List X) (b : Bool) → test y ≡ b → cond b (y ∷ filter test ys) (filter test ys) ≡ x ∷ [] → (filter test ys ≡ x ∷ [] → Alone test x ys) → Alone test x (y ∷ ys)
+  alone_at : (y : X) (ys : List X) (b : Bool) → test y ≡ b → cond b (y ∷ filter test ys) (filter test ys) ≡ x ∷ []
+      → (filter test ys ≡ x ∷ [] → Alone test x ys) → Alone test x (y ∷ ys)
   alone_at y ys true is h more =
       let same : y ≡ x = cc in
-      record { front = []; back = ys; is = ap (λ (z : X). z ∷ ys) same; none_before = refl; none_after = cc; passes = ap (λ (z : X). test z) (sym same) ∙ is }
+      record {
+        front = [];
+        back = ys;
+        is = ap (λ (z : X). z ∷ ys) same;
+        none_before = refl;
+        none_after = cc;
+        passes = ap (λ (z : X). test z) (sym same) ∙ is;
+      }
   alone_at y ys false is h more =
       let m = more h in
-      record { front = y ∷ m.front; back = m.back; is = ap (λ (l : List X). y ∷ l) m.is; none_before = rw is m.none_before; none_after = m.none_after; passes = m.passes }
+      record {
+        front = y ∷ m.front;
+        back = m.back;
+        is = ap (λ (l : List X). y ∷ l) m.is;
+        none_before = rw is m.none_before;
+        none_after = m.none_after;
+        passes = m.passes;
+      }
 
   pub alone : (xs : List X) → filter test xs ≡ x ∷ [] → Alone test x xs
   alone [] h = absurd (nil_or_more x [] (sym h))

@@ -43,7 +43,8 @@ below limit count h = grind (arith, nat_tests)
 
 -- where no count of these is above its limit
 module _ (t : ℕ) (done : Office × Reply) where
-  within_one : (what : What) (b : Bool) → nat_lt (limit_of what) (count_of what done.0) ≡ b → (count_of what done.0 ≤ limit_of what → IsOrderly (with_accounts (Some t) done.0.accounts))
+  within_one : (what : What) (b : Bool) → nat_lt (limit_of what) (count_of what done.0) ≡ b
+      → (count_of what done.0 ≤ limit_of what → IsOrderly (with_accounts (Some t) done.0.accounts))
       → Makes t (unless_full (cond b (Some what) None) done)
   within_one what true is makes = tt
   within_one what false is makes = makes (below (limit_of what) (count_of what done.0) is)
@@ -65,7 +66,10 @@ module _ (t : ℕ) (p : Office) (h : IsOrderly p) (later : is_not_before p.last 
   accounts_before = orderly_later p.last t p.accounts h.accounts later
 
   module _ (name : List ℕ) where
-    created : at_name name p.accounts ≡ None → count_of Buckets (record p { accounts = with_name name new_account p.accounts }) ≤ limit_of Buckets
+    abbrev with_bucket : Account → Office
+    with_bucket account = record p { accounts = with_name name account p.accounts }
+
+    created : at_name name p.accounts ≡ None → count_of Buckets (with_bucket new_account) ≤ limit_of Buckets
         → IsOrderly (with_accounts (Some t) (with_name name new_account p.accounts))
     created none buckets =
         let counts = created_counts (Some t) p name none in
@@ -76,21 +80,22 @@ module _ (t : ℕ) (p : Office) (h : IsOrderly p) (later : is_not_before p.last 
         record {
           names = rises_kept name new_account p.accounts h.names;
           accounts = every_kept name new_account (λ (entry : List ℕ × Account). IsOrderlyAccount t entry.1) p.accounts h.names (new_orderly t) accounts_before;
-          buckets = timeless Buckets t (record p { accounts = with_name name new_account p.accounts }) buckets;
+          buckets = timeless Buckets t (with_bucket new_account) buckets;
           versions = omega (arith, same_versions, versions);
           key_bytes = omega (arith, same_names, key_bytes);
         }
 
-    create_makes : (o : Option Account) → at_name name p.accounts ≡ o → Makes t (within (Buckets ∷ []) (refuse_if (is_some o) BucketExists (record p { accounts = with_name name new_account p.accounts }, BucketMade name)))
+    create_makes : (o : Option Account) → at_name name p.accounts ≡ o
+        → Makes t (within (Buckets ∷ []) (refuse_if (is_some o) BucketExists (with_bucket new_account, BucketMade name)))
     create_makes (Some account) is = tt
     create_makes None is =
-        let done : Office × Reply = (record p { accounts = with_name name new_account p.accounts }, BucketMade name) in
+        let done : Office × Reply = (with_bucket new_account, BucketMade name) in
         within_one t done Buckets (nat_lt (limit_of Buckets) (count_of Buckets done.0)) refl (created is)
 
     module _ (key : List ℕ) (size : ℕ) (class : Class) (fits : size ≤ largest_size) where
       stored : (account : Account) → at_name name p.accounts ≡ Some account → (changed : Account) → IsOrderlyAccount t changed
-          → count_of Versions (record p { accounts = with_name name changed p.accounts }) ≤ limit_of Versions
-          → count_of Names (record p { accounts = with_name name changed p.accounts }) ≤ limit_of Names
+          → count_of Versions (with_bucket changed) ≤ limit_of Versions
+          → count_of Names (with_bucket changed) ≤ limit_of Names
           → IsOrderly (with_accounts (Some t) (with_name name changed p.accounts))
       stored account is changed orderly versions names =
           let same_buckets = changed_buckets (Some t) p name account h.names is changed in
@@ -99,17 +104,17 @@ module _ (t : ℕ) (p : Office) (h : IsOrderly p) (later : is_not_before p.last 
             names = rises_kept name changed p.accounts h.names;
             accounts = every_kept name changed (λ (entry : List ℕ × Account). IsOrderlyAccount t entry.1) p.accounts h.names orderly accounts_before;
             buckets = omega (arith, same_buckets, buckets);
-            versions = timeless Versions t (record p { accounts = with_name name changed p.accounts }) versions;
-            key_bytes = timeless Names t (record p { accounts = with_name name changed p.accounts }) names;
+            versions = timeless Versions t (with_bucket changed) versions;
+            key_bytes = timeless Names t (with_bucket changed) names;
           }
 
       put_makes : (o : Option Account) → at_name name p.accounts ≡ o
-          → Makes t (within (Versions ∷ Names ∷ []) (ok_or o NoSuchBucket >>= λ account. Ok (record p { accounts = with_name name (put t key size class account).0 p.accounts }, (put t key size class account).1)))
+          → Makes t (within (Versions ∷ Names ∷ []) (ok_or o NoSuchBucket >>= λ account. Ok (with_bucket (put t key size class account).0, (put t key size class account).1)))
       put_makes None is = tt
       put_makes (Some account) is =
           let object : Object = record { size = size; class = class; created = t } in
           let changed = put_object key object account in
-          let done : Office × Reply = (record p { accounts = with_name name changed p.accounts }, (put t key size class account).1) in
+          let done : Office × Reply = (with_bucket changed, (put t key size class account).1) in
           within_two t done Versions Names (nat_lt (limit_of Versions) (count_of Versions done.0)) refl
           (stored account is changed (put_orderly object key account fits (orderly_by p t name account h later is)))
 
@@ -147,16 +152,20 @@ none_from [] p h = absurd cc
 none_from (e ∷ entries) p h = none_from entries p h
 
 module _ (e : Entry) (fits : SizeFits e.command) (q : Office) (h : IsOrderly q) (entries : List Entry) (p : Office) where
-  go_on : (o : Option Office) → accept q e ≡ o → ((next : Office) → IsOrderly next → run_from (Some next) entries ≡ Some p → IsOrderly p) → run_from o entries ≡ Some p → IsOrderly p
+  go_on : (o : Option Office) → accept q e ≡ o → ((next : Office) → IsOrderly next → run_from (Some next) entries ≡ Some p → IsOrderly p)
+      → run_from o entries ≡ Some p → IsOrderly p
   go_on None is more runs = absurd (none_from entries p runs)
   go_on (Some next) is more runs = more next (accept_orderly q next e fits h is) runs
 
 -- entries from an orderly office on
-pub run_from_orderly : (entries : List Entry) (q p : Office) → IsOrderly q → AllByRecursion (λ (e : Entry). SizeFits e.command) entries → run_from (Some q) entries ≡ Some p → IsOrderly p
+pub run_from_orderly : (entries : List Entry) (q p : Office) → IsOrderly q → AllByRecursion (λ (e : Entry). SizeFits e.command) entries
+    → run_from (Some q) entries ≡ Some p → IsOrderly p
 run_from_orderly [] q p h fits is = let same : q ≡ p = cc in subst IsOrderly same h
-run_from_orderly (e ∷ entries) q p h fits is = go_on e fits.0 q h entries p (accept q e) refl (λ next orderly runs. run_from_orderly entries next p orderly fits.1 runs) is
+run_from_orderly (e ∷ entries) q p h fits is =
+    go_on e fits.0 q h entries p (accept q e) refl (λ next orderly runs. run_from_orderly entries next p orderly fits.1 runs) is
 
 -- entries from the empty office on
-pub run_orderly : (entries : List Entry) (p : Office) → AllByRecursion (λ (e : Entry). SizeFits e.command) entries → run entries ≡ Some p → IsOrderly p
+pub run_orderly : (entries : List Entry) (p : Office) → AllByRecursion (λ (e : Entry). SizeFits e.command) entries → run entries ≡ Some p
+    → IsOrderly p
 unfolding run
 run_orderly entries p fits is = run_from_orderly entries empty_office p empty_orderly fits is
