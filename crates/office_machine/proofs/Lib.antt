@@ -1,6 +1,5 @@
 pub mod Accounts
 pub mod Bookings
-pub mod Later
 pub mod Offices
 pub mod Rebooked
 pub mod Replaced

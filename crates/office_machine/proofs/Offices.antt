@@ -1,24 +1,22 @@
 -- What the office in memory stands for after each command, and the replies to queries.
-use Rattle.std.proofs.Common.{◌≡◌, ◌⊎◌, inl, inr, ℕ, ◌+◌, ◌≤◌, ◌<◌, List, [], ◌∷◌, length, map, refl, ap, sym, ◌∙◌, Bool, true, false, cond, subst, arith}
+use Rattle.std.proofs.Common.{◌≡◌, ◌⊎◌, inl, inr, ℕ, ◌+◌, ◌≤◌, ◌<◌, List, length, map, refl, ap, sym, ◌∙◌, Bool, true, false, cond, subst, arith}
 use Rattle.std.specs.Prelude.{Option, Some, None, Result, Ok, Err, is_some, nat_lt}
 use Rattle.std.specs.Map.{set_value}
 use Rattle.std.specs.BTreeMap.{is_at}
 use Rattle.class_rules.specs.Classes.{all_classes}
 use Rattle.office_base.specs.declared.version_id.VersionId.TheVariants.{Null}
 use Rattle.accrual.specs.Books.{IsBookedBy}
-use Rattle.plain_office.specs.Maps.{bytes_cmp, at_name, with_name, Rises}
+use Rattle.plain_office.specs.Maps.{bytes_cmp, at_name, with_name}
 use Rattle.plain_office.specs.Office.{Office, Account, new_account, book_of}
 use Rattle.plain_office.specs.Changes.{put_object}
-use Rattle.plain_office.specs.Counts.{limit_of, count_of, version_count}
+use Rattle.plain_office.specs.Counts.{count_of}
 use Rattle.plain_office.specs.Orderly.{IsOrderly, IsOrderlyAccount}
 use Rattle.plain_office.specs.Run.{is_not_before}
 use Rattle.plain_office.specs.Step.{step}
 use Rattle.plain_office.specs.Answers.{answer, class_meters}
-use Rattle.plain_office.specs.declared.command.Command.{Command}
 use Rattle.plain_office.specs.declared.command.Command.TheVariants as command
 use Rattle.plain_office.specs.declared.command.Query.TheVariants as query
 use Rattle.plain_office.specs.declared.object.Object.{Object}
-use Rattle.plain_office.specs.declared.reply.Reply.{Reply}
 use Rattle.plain_office.specs.declared.reply.Reply.TheVariants.{BucketMade, Stored, BucketShown, MetersShown}
 use Rattle.plain_office.specs.declared.reply.Refusal.{Refusal}
 use Rattle.plain_office.specs.declared.reply.Refusal.TheVariants.{BucketExists, NoSuchBucket, Full, NoMemory}

@@ -1,12 +1,11 @@
 -- The book of a bucket after an object came in the place of another one.
-use Rattle.std.proofs.Common.{◌≡◌, ℕ, ◌+◌, ◌-◌, ◌*◌, List, [], ◌∷◌, ◌++◌, refl, ap, sym, ◌∙◌, Bool, true, false, cond, subst, append-nil}
+use Rattle.std.proofs.Common.{◌≡◌, ℕ, ◌+◌, ◌-◌, ◌*◌, List, [], ◌∷◌, ◌++◌, refl, ap, sym, Bool, true, false, cond, append-nil}
 use Rattle.std.specs.Prelude.{nat_lt}
 use Rattle.class_rules.specs.Classes.{least_stay}
-use Rattle.class_rules.specs.Lines.{own_bytes, object_lines}
-use Rattle.class_rules.specs.declared.class.Class.{Class}
-use Rattle.accrual.specs.Books.{Book, Early, Stay, ended_stay, with_early, with_stay}
-use Rattle.accrual.specs.Totals.{Totals, StandsFor, with_early_of}
-use Rattle.plain_office.specs.Changes.{owed_at, stay_of}
+use Rattle.class_rules.specs.Lines.{own_bytes}
+use Rattle.accrual.specs.Books.{Book, Early, with_early}
+use Rattle.accrual.specs.Totals.{with_early_of}
+use Rattle.plain_office.specs.Changes.{owed_at}
 use Rattle.plain_office.specs.declared.object.Object.{Object}
 
 module _ (at : ℕ) (object : Object) (book : Book) where

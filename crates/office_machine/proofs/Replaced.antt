@@ -1,13 +1,13 @@
 -- A bucket after a put under a key that is there.
-use Rattle.std.proofs.Common.{◌≡◌, ℕ, ◌≤◌, List, [], ◌∷◌, ◌++◌, refl, ap, sym, ◌∙◌, subst}
-use Rattle.std.specs.Prelude.{Option, Some, None, Result, Ok, Err, OnErr}
+use Rattle.std.proofs.Common.{◌≡◌, ℕ, ◌≤◌, List, [], ◌∷◌, ◌++◌, ap, sym, ◌∙◌, subst}
+use Rattle.std.specs.Prelude.{Some, Result, Ok, Err, OnErr}
 use Rattle.std.specs.Map.{set_value}
 use Rattle.std.specs.BTreeMap.{is_at}
 use Rattle.std.proofs.lemmas.Map.Steps.{set_value_same}
 use Rattle.class_rules.specs.Lines.{object_lines}
 use Rattle.accrual.specs.Books.{Book, Stay, ended_stay}
-use Rattle.accrual.specs.Totals.{Totals, StandsFor, HasOpenStay}
-use Rattle.plain_office.specs.Maps.{bytes_cmp, at_name, with_name, Rises}
+use Rattle.accrual.specs.Totals.{StandsFor, HasOpenStay}
+use Rattle.plain_office.specs.Maps.{bytes_cmp, at_name}
 use Rattle.plain_office.specs.Office.{Account, book_of}
 use Rattle.plain_office.specs.Changes.{stay_of, owed_at, put_object, without_object}
 use Rattle.plain_office.specs.Orderly.{IsOrderlyAccount}

@@ -1,26 +1,22 @@
 -- What each command and query gives, told by what stands in the office.
-use Rattle.std.proofs.Common.{◌≡◌, ◌⊎◌, ℕ, ◌+◌, ◌≤◌, ◌<◌, List, [], ◌∷◌, length, refl, ap, sym, ◌∙◌, Bool, true, false, cond, subst, arith}
+use Rattle.std.proofs.Common.{◌≡◌, ℕ, ◌+◌, ◌≤◌, ◌<◌, List, length, refl, ap, Bool, true, false, cond, arith}
 use Rattle.std.specs.Prelude.{Option, Some, None, Result, Ok, Err, is_some, nat_lt}
 use Rattle.std.proofs.lemmas.Bool.Decides.{nat_tests}
-use Rattle.class_rules.specs.declared.class.Class.{Class}
 use Rattle.office_base.specs.declared.version_id.VersionId.TheVariants.{Null}
 use Rattle.plain_office.specs.Maps.{at_name, with_name}
 use Rattle.plain_office.specs.Office.{Office, Account, new_account}
 use Rattle.plain_office.specs.Changes.{put_object}
-use Rattle.plain_office.specs.Counts.{limit_of, count_of}
-use Rattle.plain_office.specs.Orderly.{IsOrderly, IsOrderlyAccount}
-use Rattle.plain_office.specs.Run.{is_not_before}
+use Rattle.plain_office.specs.Counts.{count_of}
 use Rattle.plain_office.specs.Step.{settled, unless_full, outcome, step}
 use Rattle.plain_office.specs.declared.command.Command.TheVariants as command
 use Rattle.plain_office.specs.declared.object.Object.{Object}
 use Rattle.plain_office.specs.declared.reply.Reply.{Reply}
 use Rattle.plain_office.specs.declared.reply.Reply.TheVariants.{BucketMade, Stored}
 use Rattle.plain_office.specs.declared.reply.Refusal.{Refusal}
-use Rattle.plain_office.specs.declared.reply.Refusal.TheVariants.{BucketExists, NoSuchBucket, Full, NoMemory}
+use Rattle.plain_office.specs.declared.reply.Refusal.TheVariants.{BucketExists, NoSuchBucket, Full}
 use Rattle.plain_office.specs.declared.reply.What.TheVariants.{Buckets, Versions, Names}
-use Rattle.plain_office.proofs.Counting.{with_accounts, created_counts, put_versions, put_names}
-use Rattle.plain_office.proofs.OrderlyAccounts.{orderly_by}
-use Rattle.office_machine.specs.Counting.{added, counted}
+use Rattle.plain_office.proofs.Counting.{with_accounts, created_counts}
+use Rattle.office_machine.specs.Counting.{counted}
 
 abbrev pub Answer : Type 0
 Answer = Result Reply Refusal

@@ -1,11 +1,11 @@
 -- The running counts of versions and of the bytes of keys, as one put changes them.
-use Rattle.std.specs.Prelude.{◌≡◌, ◌⊎◌, ℕ, ◌+◌, ◌*◌, ◌≤◌, List, length, Option, is_some, nat_lt, Result, Ok, Err, if◌then◌else◌}
+use Rattle.std.specs.Prelude.{ℕ, ◌*◌, ◌≤◌, List, is_some, nat_lt, Result, Ok, Err, if◌then◌else◌}
 use Rattle.std.specs.List.{AllByRecursion}
 use Rattle.plain_office.specs.Counts.{limit_of}
 use Rattle.plain_office.specs.Maps.{at_name}
 use Rattle.plain_office.specs.declared.object.Object.{Object}
 use Rattle.plain_office.specs.declared.reply.Refusal.{Refusal}
-use Rattle.plain_office.specs.declared.reply.Refusal.TheVariants.{Full, NoMemory}
+use Rattle.plain_office.specs.declared.reply.Refusal.TheVariants.{Full}
 use Rattle.plain_office.specs.declared.reply.What.TheVariants.{Versions, Names}
 use Rattle.office_machine.specs.Standing.{BucketRecords}
 

@@ -1,22 +1,22 @@
-use Rattle.std.proofs.Common.{◌≡◌, ◌≤◌, ℕ, List, ◌∷◌, ◌++◌, [], refl, sym, ap, subst, arith}
+use Rattle.std.proofs.Common.{◌≡◌, ℕ, List, ◌∷◌, ◌++◌, sym, subst, arith}
 use Rattle.moments.specs.Months.{month_at}
-use Rattle.class_rules.specs.Lines.{lines_of, object_lines, own_bytes}
+use Rattle.class_rules.specs.Lines.{lines_of, object_lines}
 use Rattle.class_rules.specs.declared.class.Class.{Class}
-use Rattle.accrual.specs.Books.{Book, Stay, open_stay, ended_stay, with_stay}
-use Rattle.accrual.specs.Totals.{StandsFor, HasRow, with_early_of}
-use Rattle.plain_office.specs.Changes.{stay_of, owed_at}
-use Rattle.office_machine.proofs.Later.{month_later}
+use Rattle.accrual.specs.Books.{Book, open_stay, ended_stay, with_stay}
+use Rattle.accrual.specs.Totals.{StandsFor, with_early_of}
+use Rattle.plain_office.specs.Changes.{owed_at}
+use Rattle.accrual.proofs.Windows.{month_at_order}
 use Rattle.office_machine.proofs.Rebooked.{early_is_owed}
 use Rattle.office_machine.proofs.account.rebook.Goals as goal
 
 pub early-requires-clause-row : goal.early-requires-clause-row
 early-requires-clause-row c =
-    c.end.ensures.rows (month_at c.args.object.now.created) (c.requires.rows (month_at c.args.object.now.created) (month_later c.args.before.now.created c.args.object.now.created c.requires.later) (omega arith))
+    c.end.ensures.rows (month_at c.args.object.now.created) (c.requires.rows (month_at c.args.object.now.created) (month_at_order c.args.before.now.created c.args.object.now.created c.requires.later) (omega arith))
 
 pub open-requires-clause-row : goal.open-requires-clause-row
 open-requires-clause-row c =
     c.early.ensures.rows (month_at c.args.object.now.created)
-    (c.end.ensures.rows (month_at c.args.object.now.created) (c.requires.rows (month_at c.args.object.now.created) (month_later c.args.before.now.created c.args.object.now.created c.requires.later) (omega arith)))
+    (c.end.ensures.rows (month_at c.args.object.now.created) (c.requires.rows (month_at c.args.object.now.created) (month_at_order c.args.before.now.created c.args.object.now.created c.requires.later) (omega arith)))
 
 pub returns-clause-stands : goal.returns-clause-stands
 returns-clause-stands c = λ book earlier later stands is.

@@ -1,13 +1,12 @@
-use Rattle.std.proofs.Common.{◌≡◌, ℕ, List, ◌∷◌, ◌++◌, [], refl, sym, ap, subst, ◌∙◌}
+use Rattle.std.proofs.Common.{◌≡◌, ℕ, List, sym, ap, subst, ◌∙◌}
 use Rattle.std.specs.Prelude.{Some}
-use Rattle.accrual.specs.Books.{Book, Stay}
 use Rattle.accrual.specs.Totals.{Totals, StandsFor}
 use Rattle.plain_office.specs.Maps.{bytes_cmp, at_name}
 use Rattle.std.specs.Map.{set_value}
 use Rattle.std.specs.BTreeMap.{is_at}
-use Rattle.plain_office.specs.Office.{Account, book_of}
+use Rattle.plain_office.specs.Office.{book_of}
 use Rattle.plain_office.specs.declared.object.Object.{Object}
-use Rattle.office_machine.specs.Standing.{BucketRecords, StandsForBucket}
+use Rattle.office_machine.specs.Standing.{BucketRecords}
 use Rattle.office_machine.proofs.Replaced.{was_earlier, has_open, replaced_bucket, same_bucket, set_again, on_err}
 use Rattle.office_machine.proofs.account.Account.replace.Goals as goal
 

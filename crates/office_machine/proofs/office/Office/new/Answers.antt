@@ -1,5 +1,4 @@
-use Rattle.std.proofs.Common.{◌≡◌, ℕ, List, [], refl, sym, subst}
-use Rattle.plain_office.specs.Office.{empty_office}
+use Rattle.std.proofs.Common.{ℕ, List, [], refl, sym, subst}
 use Rattle.plain_office.specs.Counts.{count_of}
 use Rattle.office_machine.specs.Standing.{BucketRecords, StandForAccounts}
 use Rattle.office_machine.proofs.office.Office.new.Goals as goal

@@ -1,9 +1,7 @@
-use Rattle.std.proofs.Common.{◌≡◌, ◌⊎◌, ℕ, ◌≤◌, ◌<◌, ◌+◌, ◌*◌, List, length, refl, sym, ap, subst, ◌∙◌, true, arith}
-use Rattle.std.specs.Prelude.{Option, Result, Ok, Err, Some}
+use Rattle.std.proofs.Common.{◌≡◌, ℕ, ◌+◌, List, sym, ap, subst, true, arith}
+use Rattle.std.specs.Prelude.{Result, Ok, Err}
 use Rattle.std.specs.Result.{IsErrAnd}
 use Rattle.std.specs.BTreeMap.{BTreeMap}
-use Rattle.plain_office.specs.Maps.{at_name}
-use Rattle.plain_office.specs.Office as plain
 use Rattle.plain_office.specs.Run.{is_not_before}
 use Rattle.plain_office.specs.Step.{step}
 use Rattle.plain_office.specs.declared.command.Command.TheVariants as command

@@ -1,16 +1,10 @@
-use Rattle.std.proofs.Common.{◌≡◌, ◌⊎◌, inl, inr, ℕ, ◌≤◌, List, [], ◌∷◌, length, refl, sym, ap, subst, ◌∙◌, true, arith}
-use Rattle.std.specs.Prelude.{Option, None, Result, Ok, Err, Some}
+use Rattle.std.proofs.Common.{◌≡◌, inl, ℕ, List, sym, ap, ◌∙◌}
+use Rattle.std.specs.Prelude.{Option, None, Some}
 use Rattle.accrual.specs.Books.{Book}
 use Rattle.plain_office.specs.Maps.{at_name}
 use Rattle.plain_office.specs.Office.{book_of}
-use Rattle.plain_office.specs.Answers.{answer, class_meters}
-use Rattle.plain_office.specs.declared.command.Query.TheVariants as query
-use Rattle.plain_office.specs.declared.reply.ClassMeters.{ClassMeters}
-use Rattle.plain_office.specs.declared.reply.Reply.{Reply}
-use Rattle.plain_office.specs.declared.reply.Reply.TheVariants.{BucketShown, MetersShown}
-use Rattle.plain_office.specs.declared.reply.Refusal.{Refusal}
-use Rattle.office_machine.specs.Standing.{Records, BucketRecords, StandsForOffice}
-use Rattle.office_machine.proofs.Offices.{shows_none, meters_none, few_versions, shows, shows_meters, shown_account, shown_stands, shown_booked}
+use Rattle.office_machine.specs.Standing.{Records, BucketRecords}
+use Rattle.office_machine.proofs.Offices.{meters_none, shows_meters, shown_account, shown_stands, shown_booked}
 use Rattle.office_machine.proofs.office.Office.show_meters.Goals as goal
 
 -- what stands under the name stands there in the buckets as they are seen
