@@ -1,7 +1,11 @@
+pub mod Copied
 pub mod Dropped
+pub mod FieldLemmas
 pub mod Filled
 pub mod FrontLemmas
 pub mod Given
+pub mod MessageLemmas
+pub mod ReadLemmas
 pub mod Taking
 pub mod TargetLemmas
 pub mod Unique

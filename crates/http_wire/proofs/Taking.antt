@@ -3,11 +3,11 @@ use Rattle.std.proofs.Common.{◌≡◌, ℕ, List, [], ◌++◌, refl, sym, ap,
 use Rattle.std.specs.Io.KnownBytes.{Consumes}
 use Rattle.http_wire.specs.Held.{Held, Took}
 
-consumes_none : (left : Option (List ℕ)) → Consumes left left []
+pub consumes_none : (left : Option (List ℕ)) → Consumes left left []
 consumes_none None = tt
 consumes_none (Some xs) = refl
 
-consumes_then : (a b c : Option (List ℕ)) (x y : List ℕ) → Consumes a b x → Consumes b c y → Consumes a c (x ++ y)
+pub consumes_then : (a b c : Option (List ℕ)) (x y : List ℕ) → Consumes a b x → Consumes b c y → Consumes a c (x ++ y)
 consumes_then None b c x y first second = tt
 consumes_then (Some xs) None c x y first second = absurd first
 consumes_then (Some xs) (Some ys) None x y first second = absurd second

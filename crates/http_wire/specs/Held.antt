@@ -23,3 +23,12 @@ pub record Took (old new : Held) (left_old left_new : Option (List ℕ)) : Type 
   pub held : new.bytes ≡ old.bytes ++ given
   pub counted : new.taken ≡ old.taken + length given
   pub left : Consumes left_old left_new given
+
+-- The source gave bytes that are counted and not held, and P holds of them.
+pub record TookPast (old new : Held) (left_old left_new : Option (List ℕ)) (P : List ℕ → Type 0) : Type 0 where
+  pub given : List ℕ
+  pub held : new.bytes ≡ old.bytes
+  pub spans : new.spans ≡ old.spans
+  pub counted : new.taken ≡ old.taken + length given
+  pub left : Consumes left_old left_new given
+  pub so : P given

@@ -4,7 +4,7 @@ ghost use Rattle.std.specs.Io.KnownBytes.{Consumes, IsAtEnd, Keeps};
 ghost use Rattle.office_base.specs.Faults.{HasCause};
 ghost use Rattle.httparse.specs.Spans.{IsRequestOf, IsRequestWithin};
 ghost use Rattle.http_wire.specs.Heads.{IsHopeless, IsOpen, OnWhole};
-ghost use Rattle.http_wire.specs.Held.{Took, take_limit};
+ghost use Rattle.http_wire.specs.Held.{Took, TookPast, take_limit};
 
 use crate::head::{Front, front_of};
 use crate::source::Source;
@@ -125,8 +125,11 @@ impl Buffer {
         ensures end { result ≡ Ok 0 → IsAtEnd (R.left source.new) }
         ensures err { IfErr result (λ _. (self.new ≡ self.old) × Keeps (R.left source.old) (R.left source.new)) }
         ensures cause { HasCause (R.faults source.old) (R.faults source.new) result }
+        ensures spans { self.new.spans ≡ self.old.spans }
+        ensures short { length self.new.bytes ≤ 8192 }
+        ensures limit { self.new.taken ≤ take_limit }
     {
-        let most = askable(self.len, self.taken);
+        let most = askable(ROOM - self.len, self.taken);
         match read_on(source, &mut self.room, self.len, most) {
             Ok(count) => {
                 self.len += count;
@@ -136,20 +139,45 @@ impl Buffer {
             Err(e) => Err(e),
         }
     }
+
+    /// Takes further bytes into another room from an index on, and answers how many. 0 is the end.
+    pub(crate) fn fill_past<R: Source>(
+        &mut self,
+        source: &mut R,
+        room: &mut [u8],
+        at: usize,
+    ) -> Result<usize, Failed>
+        requires room { at < length room.old }
+        requires unspent { self.old.taken < take_limit }
+        ensures took { IfOk result (λ count. TookPast self.old self.new (R.left source.old) (R.left source.new) (λ given. (length given ≡ count) × (take (at + count) room.new ≡ take at room.old ++ given))) }
+        ensures fits { IfOk result (λ count. at + count ≤ length room.old) }
+        ensures end { result ≡ Ok 0 → IsAtEnd (R.left source.new) }
+        ensures err { IfErr result (λ _. (self.new ≡ self.old) × (take at room.new ≡ take at room.old) × Keeps (R.left source.old) (R.left source.new)) }
+        ensures cause { HasCause (R.faults source.old) (R.faults source.new) result }
+        ensures limit { self.new.taken ≤ take_limit }
+    {
+        let most = askable(room.len() - at, self.taken);
+        match read_on(source, room, at, most) {
+            Ok(given) => {
+                self.taken += given as u64;
+                Ok(given)
+            }
+            Err(e) => Err(e),
+        }
+    }
 }
 
-/// How many bytes may be asked for, where so many are held and were taken.
-fn askable(len: usize, taken: u64) -> usize
-    requires room { len < 8192 }
+/// How many bytes may be asked for, where there is so much room and so many were taken.
+fn askable(room: usize, taken: u64) -> usize
+    requires some { 0 < room }
     requires unspent { taken < take_limit }
     ensures some { 0 < result }
-    ensures room { len + result ≤ 8192 }
+    ensures room { result ≤ room }
     ensures limit { taken + result ≤ take_limit }
 {
-    let room = ROOM - len;
     let left = TAKE_LIMIT - taken;
-    if left < 8192 {
-        return room.min(left as usize);
+    if left < room as u64 {
+        return left as usize;
     }
     room
 }

@@ -1,11 +1,14 @@
 //! Sources of bytes, and the message that stands at the front of a stream.
 #![tactic(auto)]
 
+mod body;
 mod buffer;
+mod fields;
 mod framing;
 mod head;
 mod laws;
 mod memory_source;
+mod message;
 mod reading;
 mod source;
 #[cfg(test)]
@@ -14,7 +17,8 @@ mod tests;
 pub use buffer::Buffer;
 pub use framing::FramingRefusal;
 pub use head::{Front, front_of};
-pub use laws::{messages_unique, stands_more, stands_rest, stands_unique};
+pub use laws::{messages_unique, reads_messages, stands_more, stands_rest, stands_unique};
 pub use memory_source::MemorySource;
+pub use message::{Message, MessageStop, Next, read_message};
 pub use reading::{Heading, Stop, read_head};
 pub use source::{ReaderSource, Source};

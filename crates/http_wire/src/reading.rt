@@ -57,6 +57,7 @@ pub fn read_head<R: Source>(source: &mut R, buffer: &mut Buffer) -> Result<Headi
     ensures spent { IsErrOf result Stop.Spent → (buffer.new.taken ≡ take_limit) × IsOpen buffer.new.bytes × (length buffer.new.bytes < head_room) }
     // The source is read only where the bytes that are held settle nothing.
     ensures settled { (IsOpen buffer.old.bytes → ⊥) → source.new ≡ source.old }
+    ensures full { head_room ≤ length buffer.old.bytes → source.new ≡ source.old }
     ensures later { R.faults source.old ≤ R.faults source.new }
     ensures fault { IsErrOf result Stop.ReadFault → Rose (R.faults source.old) (R.faults source.new) }
 {

@@ -1,0 +1,39 @@
+-- The fields of a head as spans, and what they say of its body.
+use Rattle.std.specs.Prelude.{◌≡◌, ℕ, Bool, ◌≤◌, List, [], ◌∷◌, map, codes, Some, Result, Ok, Err}
+use Rattle.std.specs.List.{filter}
+use Rattle.httparse.specs.Grammar.{RequestHead}
+use Rattle.httparse.specs.Spans.{span_bytes, IsRequestAt, IsRequestWithin}
+use Rattle.httparse.specs.declared.spans.HeaderSpan.{HeaderSpan}
+use Rattle.httparse.specs.declared.spans.RequestSpans.{RequestSpans}
+use Rattle.httparse.specs.declared.spans.Span.{Span}
+use Rattle.http_wire.specs.Held.{head_room}
+use Rattle.http_wire.specs.Messages.{same_word, fields_named, body_length, body_room, refused, after_coding, is_last}
+use Rattle.http_wire.specs.declared.fields.Found.{Found}
+use Rattle.http_wire.specs.declared.fields.Found.TheVariants.{Absent, Once, Repeated}
+use Rattle.http_wire.specs.declared.framing.FramingRefusal.{FramingRefusal}
+
+-- where the values of the fields of this name are
+abbrev pub values_named : List ℕ → List ℕ → List HeaderSpan → List Span
+values_named bytes name headers = map (λ (h : HeaderSpan). h.value) (filter (λ (h : HeaderSpan). same_word (span_bytes bytes h.name) name) headers)
+
+-- none, one or several
+abbrev pub found_of : List Span → Found
+found_of [] = Absent
+found_of (s ∷ []) = Once s
+found_of (s ∷ t ∷ spans) = Repeated
+
+-- the body behind a head has so many bytes, or the head is refused whatever follows
+abbrev pub Frames : RequestHead → Result ℕ FramingRefusal → Type 0
+Frames h (Ok size) =
+    (fields_named (codes "Transfer-Encoding") h.fields ≡ [])
+    × (body_length (fields_named (codes "Content-Length") h.fields) ≡ Some size) × (size ≤ body_room)
+Frames h (Err bad) = (after rest : List ℕ) → after_coding h after (fields_named (codes "Transfer-Encoding") h.fields) (refused bad) rest
+
+-- A head stands at the front of the bytes, and its body has so many.
+pub record HasFrame (bytes : List ℕ) (headers : List HeaderSpan) (spans : RequestSpans) (size : ℕ) (last : Bool) : Type 0 where
+  pub head : RequestHead
+  pub at : IsRequestAt bytes headers spans head
+  pub within : IsRequestWithin bytes headers spans
+  pub short : spans.len ≤ head_room
+  pub frames : Frames head (Ok size)
+  pub ends : last ≡ is_last head

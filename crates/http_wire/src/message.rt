@@ -1,0 +1,268 @@
+// The message at the front of a stream.
+ghost use Rattle.std.specs.Prelude.{◌≡◌, ◌<◌, ◌≤◌, ◌+◌, ◌⊎◌, ℕ, List, Option, [], length, drop, IsErrOf, Ok, Err, ⊤};
+ghost use Rattle.std.specs.Io.KnownBytes.{IsAtEnd};
+ghost use Rattle.office_base.specs.Faults.{Rose};
+ghost use Rattle.httparse.specs.Spans.{IsRequestOf, IsRequestWithin};
+ghost use Rattle.http_wire.specs.Framing.{HasFrame};
+ghost use Rattle.http_wire.specs.Headings.{HasHeading};
+ghost use Rattle.http_wire.specs.Held.{take_limit};
+ghost use Rattle.http_wire.specs.Messages.{IsUnsettled};
+ghost use Rattle.http_wire.specs.Parts.{body_of};
+ghost use Rattle.http_wire.specs.Answers.{Gave, Answers, Refuses, AwaitsLongBody, OnRequest, OnRefused, Tells};
+
+use crate::body::{Gap, fill_body, fill_to};
+use crate::buffer::{Buffer, ROOM};
+use crate::fields::{body_size, is_closing};
+use crate::framing::FramingRefusal;
+use crate::reading::{Heading, Stop, read_head};
+use crate::source::Source;
+use httparse::spans::RequestSpans;
+use std::alloc::Global;
+use std::marker::Model;
+
+/// A request whose head lies at the front of the buffer.
+#[derive(Drop)]
+pub struct Message {
+    head: RequestSpans,
+    used: usize,
+    last: bool,
+    apart: Option<Vec<u8>>,
+}
+
+impl Model for Message {
+    ghost use Rattle.std.specs.Prelude.{◌≤◌, option_map};
+    ghost use Rattle.http_wire.specs.Parts.{Parts};
+
+    ghost Value = { Parts };
+
+    ghost view = { λ m. record { head = m.head; used = m.used; last = m.last; apart = option_map (λ v. v.items) m.apart } };
+
+    ghost invariant = { λ m. m.head.len ≤ m.used };
+}
+
+impl Message {
+    /// Reads where the parts of the head are in the buffer.
+    pub fn head(&self) -> RequestSpans
+        ensures { result ≡ self.now.head }
+    {
+        self.head
+    }
+
+    /// Whether the message is the last of its session.
+    pub fn last(&self) -> bool
+        ensures { result ≡ self.now.last }
+    {
+        self.last
+    }
+
+    /// How many bytes at the front of the buffer are the message's.
+    pub fn used(&self) -> usize
+        ensures { result ≡ self.now.used }
+    {
+        self.used
+    }
+
+    /// Reads the body.
+    pub fn body<'a>(&'a self, buffer: &'a Buffer) -> &'a [u8]
+        requires held { self.now.used ≤ length buffer.now.bytes }
+        ensures { result.now ≡ body_of self.now buffer.now.bytes }
+    {
+        match &self.apart {
+            Some(body) => body.as_slice(),
+            None => &buffer.held()[self.head.len..self.used],
+        }
+    }
+}
+
+/// What stands at the front of a stream.
+#[derive(Drop)]
+pub enum Next {
+    /// A request.
+    Request(Message),
+    /// What is none. The message is the last of its session.
+    Refused(FramingRefusal),
+    /// The end of the stream.
+    End,
+}
+
+/// Why no message was read.
+#[derive(Clone, Copy, Debug, PartialEq, Eq)]
+pub enum MessageStop {
+    /// The source failed.
+    ReadFault,
+    /// 2^40 bytes were taken, and a further read is needed.
+    Spent,
+    /// Memory ran out for a body that does not fit in the buffer.
+    NoMemory,
+}
+
+fn stop_of(stop: Stop) -> MessageStop
+    ensures fault { result ≡ MessageStop.ReadFault → stop ≡ Stop.ReadFault }
+    ensures spent { result ≡ MessageStop.Spent → stop ≡ Stop.Spent }
+    ensures enough { result ≡ MessageStop.NoMemory → ⊥ }
+{
+    match stop {
+        Stop::ReadFault => MessageStop::ReadFault,
+        Stop::Spent => MessageStop::Spent,
+    }
+}
+
+/// What stands where a body is not whole.
+fn short_of(gap: Gap) -> Result<Next, MessageStop>
+    ensures ended { gap ≡ Gap.Ended → result ≡ Ok (Next.Refused FramingRefusal.CutShort) }
+    ensures spent { gap ≡ Gap.Spent → result ≡ Err MessageStop.Spent }
+    ensures failed { gap ≡ Gap.ReadFault → result ≡ Err MessageStop.ReadFault }
+    ensures fault { IsErrOf result MessageStop.ReadFault → gap ≡ Gap.ReadFault }
+{
+    match gap {
+        Gap::Ended => Ok(Next::Refused(FramingRefusal::CutShort)),
+        Gap::ReadFault => Err(MessageStop::ReadFault),
+        Gap::Spent => Err(MessageStop::Spent),
+    }
+}
+
+/// Reads a body that fits in the buffer.
+fn read_held<R: Source>(
+    source: &mut R,
+    buffer: &mut Buffer,
+    head: RequestSpans,
+    size: usize,
+    last: bool,
+) -> Result<Next, MessageStop>
+    requires frame { HasFrame buffer.old.bytes buffer.old.spans head size last }
+    requires room { head.len + size ≤ 8192 }
+    ensures tells { Gave buffer.old buffer.new (R.left source.old) (R.left source.new) (Tells buffer.new (R.left source.new) result) }
+    ensures limit { buffer.new.taken ≤ take_limit }
+    ensures settled { (IsUnsettled buffer.old.bytes → ⊥) → source.new ≡ source.old }
+    ensures later { R.faults source.old ≤ R.faults source.new }
+    ensures fault { IsErrOf result MessageStop.ReadFault → Rose (R.faults source.old) (R.faults source.new) }
+{
+    let used = head.len + size;
+    match fill_to(source, buffer, used) {
+        Ok(()) => Ok(Next::Request(Message {
+            head,
+            used,
+            last,
+            apart: None,
+        })),
+        Err(gap) => short_of(gap),
+    }
+}
+
+/// Reads a body that does not fit in the buffer.
+fn read_apart<R: Source>(
+    alloc: Global,
+    source: &mut R,
+    buffer: &mut Buffer,
+    head: RequestSpans,
+    size: usize,
+    last: bool,
+) -> Result<Next, MessageStop>
+    requires frame { HasFrame buffer.old.bytes buffer.old.spans head size last }
+    requires long { 8192 < head.len + size }
+    ensures tells { Gave buffer.old buffer.new (R.left source.old) (R.left source.new) (Tells buffer.new (R.left source.new) result) }
+    ensures limit { buffer.new.taken ≤ take_limit }
+    ensures settled { (IsUnsettled buffer.old.bytes → ⊥) → source.new ≡ source.old }
+    ensures later { R.faults source.old ≤ R.faults source.new }
+    ensures fault { IsErrOf result MessageStop.ReadFault → Rose (R.faults source.old) (R.faults source.new) }
+{
+    let used = buffer.held().len();
+    let Ok(mut body) = vec![in alloc; 0u8; size] else {
+        return Err(MessageStop::NoMemory);
+    };
+    match fill_body(source, buffer, &mut body, head.len) {
+        Ok(()) => Ok(Next::Request(Message {
+            head,
+            used,
+            last,
+            apart: Some(body),
+        })),
+        Err(gap) => short_of(gap),
+    }
+}
+
+/// Reads the body of the head at the front of the buffer.
+fn read_body<R: Source>(
+    alloc: Global,
+    source: &mut R,
+    buffer: &mut Buffer,
+    head: RequestSpans,
+) -> Result<Next, MessageStop>
+    requires whole { IsRequestOf buffer.old.bytes buffer.old.spans head }
+    requires within { IsRequestWithin buffer.old.bytes buffer.old.spans head }
+    ensures tells { Gave buffer.old buffer.new (R.left source.old) (R.left source.new) (Tells buffer.new (R.left source.new) result) }
+    ensures limit { buffer.new.taken ≤ take_limit }
+    ensures settled { (IsUnsettled buffer.old.bytes → ⊥) → source.new ≡ source.old }
+    ensures later { R.faults source.old ≤ R.faults source.new }
+    ensures fault { IsErrOf result MessageStop.ReadFault → Rose (R.faults source.old) (R.faults source.new) }
+{
+    let fields = &buffer.spans()[..head.headers];
+    let size = match body_size(buffer.held(), fields) {
+        Ok(size) => size,
+        Err(bad) => return Ok(Next::Refused(bad)),
+    };
+    let last = is_closing(buffer.held(), head.version, fields);
+    if head.len + size <= ROOM {
+        return read_held(source, buffer, head, size, last);
+    }
+    read_apart(alloc, source, buffer, head, size, last)
+}
+
+/// Reads what is behind the heading.
+fn next_of<R: Source>(
+    alloc: Global,
+    source: &mut R,
+    buffer: &mut Buffer,
+    heading: Heading,
+) -> Result<Next, MessageStop>
+    requires heading { HasHeading buffer.old (R.left source.old) heading }
+    requires limit { buffer.old.taken ≤ take_limit }
+    ensures tells { Gave buffer.old buffer.new (R.left source.old) (R.left source.new) (Tells buffer.new (R.left source.new) result) }
+    ensures limit { buffer.new.taken ≤ take_limit }
+    ensures settled { (IsUnsettled buffer.old.bytes → ⊥) → source.new ≡ source.old }
+    ensures later { R.faults source.old ≤ R.faults source.new }
+    ensures fault { IsErrOf result MessageStop.ReadFault → Rose (R.faults source.old) (R.faults source.new) }
+{
+    match heading {
+        Heading::Whole(head) => read_body(alloc, source, buffer, head),
+        Heading::Hopeless => Ok(Next::Refused(FramingRefusal::BadHead)),
+        Heading::TooLarge => Ok(Next::Refused(FramingRefusal::HeadTooLarge)),
+        Heading::CutShort => Ok(Next::Refused(FramingRefusal::CutShort)),
+        Heading::End => Ok(Next::End),
+    }
+}
+
+/// Reads the next message. Its bytes stay in the buffer, but for those of a body that does not fit there.
+///
+/// # Errors
+///
+/// `Spent`: 2^40 = 1,099,511,627,776 bytes were taken and a further read is needed, also where it would find the end.
+/// `ReadFault`: the source failed. `NoMemory`: memory ran out for a body that does not fit in the buffer. Bytes of a long
+/// body that were taken before are lost.
+pub fn read_message<R: Source>(
+    alloc: Global,
+    source: &mut R,
+    buffer: &mut Buffer,
+) -> Result<Next, MessageStop>
+    ensures request { OnRequest result (λ m. Gave buffer.old buffer.new (R.left source.old) (R.left source.new) (λ bytes. Answers bytes buffer.new m)) }
+    ensures refused { OnRefused result (λ bad. Gave buffer.old buffer.new (R.left source.old) (R.left source.new) (Refuses (R.left source.new) bad)) }
+    ensures end { result ≡ Ok Next.End → Gave buffer.old buffer.new (R.left source.old) (R.left source.new) (λ bytes. bytes ≡ []) × IsAtEnd (R.left source.new) }
+    // The end is found by a read, so fewer bytes than the limit were taken.
+    ensures at_end { (result ≡ Ok (Next.Refused FramingRefusal.CutShort)) ⊎ (result ≡ Ok Next.End) → buffer.new.taken < take_limit }
+    ensures spent { IsErrOf result MessageStop.Spent → (buffer.new.taken ≡ take_limit) × Gave buffer.old buffer.new (R.left source.old) (R.left source.new) IsUnsettled }
+    ensures no_memory { IsErrOf result MessageStop.NoMemory → Gave buffer.old buffer.new (R.left source.old) (R.left source.new) AwaitsLongBody }
+    ensures given { Gave buffer.old buffer.new (R.left source.old) (R.left source.new) (λ bytes. ⊤) }
+    ensures limit { buffer.new.taken ≤ take_limit }
+    ensures fits { OnRequest result (λ m. m.used ≤ length buffer.new.bytes) }
+    // A message has at least one byte.
+    ensures uses { OnRequest result (λ m. buffer.old.taken + length (drop m.used buffer.new.bytes) < buffer.new.taken + length buffer.old.bytes) }
+    // A message whose bytes are held is answered without a read.
+    ensures settled { (IsUnsettled buffer.old.bytes → ⊥) → source.new ≡ source.old }
+    ensures later { R.faults source.old ≤ R.faults source.new }
+    ensures fault { IsErrOf result MessageStop.ReadFault → Rose (R.faults source.old) (R.faults source.new) }
+{
+    match read_head(source, buffer) {
+        Ok(heading) => next_of(alloc, source, buffer, heading),
+        Err(stop) => Err(stop_of(stop)),
+    }
+}
