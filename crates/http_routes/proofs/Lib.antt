@@ -1,0 +1,11 @@
+mod Closed
+mod Complete
+mod Examples
+mod Found
+mod Leads
+mod Patterns
+mod Rows
+mod Sound
+mod Taken
+mod Texts
+mod Unique

@@ -1,0 +1,14 @@
+//! Routes: where the target of a request leads, and the key that a part of a path spells.
+#![tactic(auto)]
+
+mod keys;
+mod laws;
+mod route;
+mod routes;
+#[cfg(test)]
+mod tests;
+
+pub use keys::read_key;
+pub use laws::one_route;
+pub use route::Route;
+pub use routes::Routes;
