@@ -1,0 +1,4 @@
+pub mod BodyLemmas
+pub mod ClassLemmas
+mod Examples
+pub mod Fields

@@ -1,0 +1,41 @@
+-- What is wrong with a body.
+use Rattle.std.specs.Prelude.{◌≡◌, ℕ, List, Option, Some, None, Result, Ok, Err, IfSome, string_bytes}
+use Rattle.serde_json.specs.Data.{Data}
+use Rattle.http_bodies.specs.Bodies.{first_unknown}
+use Rattle.http_bodies.specs.declared.fault.BodyFault.{BodyFault}
+use Rattle.http_bodies.specs.declared.fault.BodyFault.TheVariants.{BadBody, BadSize, UnsupportedClass, BadTags, NoMemory}
+
+-- the faults of a body, with their texts as bytes
+pub data BodyFlaw : Type 0 where
+  bad_body : List ℕ → BodyFlaw
+  bad_size : BodyFlaw
+  unsupported_class : List ℕ → BodyFlaw
+  bad_tags : BodyFlaw
+
+-- one rule after another, up to the first that is broken
+infixl 10 ◌>>=◌
+abbrev pub ◌>>=◌ : {A B : Type 0} → Result A BodyFlaw → (A → Result B BodyFlaw) → Result B BodyFlaw
+(Ok x) >>= f = f x
+(Err flaw) >>= f = Err flaw
+
+-- the flaw that a fault tells of; none where memory ran out
+abbrev pub flaw_of : BodyFault → Option BodyFlaw
+flaw_of (BadBody field) = Some (bad_body (string_bytes field))
+flaw_of BadSize = Some bad_size
+flaw_of (UnsupportedClass name) = Some (unsupported_class (string_bytes name))
+flaw_of BadTags = Some bad_tags
+flaw_of NoMemory = None
+
+-- an answer, seen by view, is what reading gives, unless memory ran out
+abbrev pub Gives : {X Y : Type 0} → (X → Y) → Result X BodyFault → Result Y BodyFlaw → Type 0
+Gives view (Ok x) read = read ≡ Ok (view x)
+Gives view (Err fault) read = IfSome (flaw_of fault) (λ flaw. read ≡ Err flaw)
+
+-- a body without a field that is unknown
+abbrev pub if_known : Data → Option (List ℕ) → Result Data BodyFlaw
+if_known body None = Ok body
+if_known body (Some name) = Err (bad_body name)
+
+-- the body has these fields alone
+abbrev pub with_fields : List (List ℕ) → Data → Result Data BodyFlaw
+with_fields known body = if_known body (first_unknown known body)

@@ -1,0 +1,4 @@
+pub mod Bodies
+pub mod Flaws
+pub mod Puts
+pub mod Ranges

@@ -1,0 +1,29 @@
+-- What the body of a PUT of an object says: its fields in their order, first their kinds and then their ranges.
+use Rattle.std.specs.Prelude.{ℕ, List, [], ◌∷◌, Option, Result, Ok, ok_or, codes}
+use Rattle.serde_json.specs.Find.{as_str}
+use Rattle.office_base.specs.Tags.{Tag}
+use Rattle.http_bodies.specs.declared.put.PutBody.{PutBody}
+use Rattle.http_bodies.specs.Bodies.{body_of, whole_number, text_pairs, held, if_held}
+use Rattle.http_bodies.specs.Flaws.{BodyFlaw, bad_body, with_fields, ◌>>=◌}
+use Rattle.http_bodies.specs.Ranges.{size_in_range, class_in_range, tags_in_range}
+
+abbrev pub put_fields : List (List ℕ)
+put_fields = codes "size" ∷ codes "class" ∷ codes "tags" ∷ []
+
+-- a size, and a name of a class and pairs of texts where they are there, that are in range
+unfoldable pub put_in_range : ℕ → Option (List ℕ) → Option (List Tag) → Result PutBody BodyFlaw
+put_in_range bytes name pairs = do
+  size ← size_in_range bytes
+  class ← class_in_range name
+  tags ← tags_in_range pairs
+  Ok (record { size = size; class = class; tags = tags })
+
+-- what the bytes of a body say, or the first rule that they break
+unfoldable pub put_of : List ℕ → Result PutBody BodyFlaw
+put_of bytes = do
+  object ← ok_or (body_of bytes) (bad_body [])
+  body ← with_fields put_fields object
+  size ← ok_or (held whole_number (codes "size") body) (bad_body (codes "size"))
+  class ← ok_or (if_held as_str (codes "class") body) (bad_body (codes "class"))
+  tags ← ok_or (if_held text_pairs (codes "tags") body) (bad_body (codes "tags"))
+  put_in_range size class tags

@@ -1,0 +1,166 @@
+// The object that a body is, and its fields.
+ghost use Rattle.std.specs.Prelude.{◌≡◌, [], ◌∷◌, Some, None, option_map, not, ok_or, map, string_bytes, IfOk};
+ghost use Rattle.std.specs.List.{find, list_any};
+ghost use Rattle.std.specs.Str.{bytes_eq};
+ghost use Rattle.std.specs.Map.{keys_of};
+ghost use Rattle.serde_json.specs.Find.{as_str};
+ghost use Rattle.serde_json.specs.View.{view, members_view};
+ghost use Rattle.office_base.specs.Tags.{tags_of};
+ghost use Rattle.http_bodies.specs.Bodies.{body_of, names_of, is_among, first_unknown, whole_number, text_members, text_pairs, held, if_held};
+ghost use Rattle.http_bodies.specs.Flaws.{Gives, bad_body, with_fields};
+
+use crate::fault::{BodyFault, bad_field};
+use serde_json::{Map, Value};
+use std::alloc::{AllocError, Global};
+
+// Reads the object that a body is.
+#[tactic(auto, unfolding(crate::specs::Bodies::body_of, crate::specs::Bodies::json_of))]
+pub(crate) fn read_body(alloc: Global, bytes: &[u8]) -> Result<Value, BodyFault>
+    ensures { Gives view result (ok_or (body_of bytes.now) (bad_body [])) }
+{
+    if bytes.is_empty() {
+        return Ok(Value::Object(Map::new(alloc)));
+    }
+    match Value::from_slice(alloc, bytes) {
+        Ok(value) => {
+            if value.is_object() {
+                Ok(value)
+            } else {
+                Err(bad_field(alloc, ""))
+            }
+        }
+        Err(e) => {
+            if e.is_memory() {
+                Err(BodyFault::NoMemory)
+            } else {
+                Err(bad_field(alloc, ""))
+            }
+        }
+    }
+}
+
+fn any_is(known: &[&str], name: &str) -> bool
+    ensures { result ≡ list_any (λ k. bytes_eq name.now k.now) known.now }
+{
+    known.iter().any(|k| name == *k)
+}
+
+fn is_known(known: &[&str], name: &str) -> bool
+    ensures { result ≡ is_among (map (λ k. k.now) known.now) name.now }
+{
+    any_is(known, name)
+}
+
+fn other_key<'m>(members: &'m Map<String, Value>, known: &[&str]) -> Option<&'m String>
+    ensures { option_map (λ name. name.now) result
+        ≡ find (λ name. not (is_among (map (λ k. k.now) known.now) (string_bytes name))) (keys_of members.now.entries) }
+{
+    members.keys().find(|name| !is_known(known, name.as_str()))
+}
+
+#[tactic(auto, using(crate::proofs::Fields::find_names))]
+fn first_other<'m>(members: &'m Map<String, Value>, known: &[&str]) -> Option<&'m str>
+    ensures { option_map (λ name. name.now) result
+        ≡ find (λ name. not (is_among (map (λ k. k.now) known.now) name)) (names_of (members_view members.now.entries)) }
+{
+    match other_key(members, known) {
+        Some(name) => Some(name.as_str()),
+        None => None,
+    }
+}
+
+// The first field, in the order of the names' bytes, that is none of these.
+fn first_unknown<'b>(body: &'b Value, known: &[&str]) -> Option<&'b str>
+    ensures { option_map (λ name. name.now) result
+        ≡ first_unknown (map (λ k. k.now) known.now) (view body.now) }
+{
+    match body.as_object() {
+        Some(members) => first_other(members, known),
+        None => None,
+    }
+}
+
+// Refuses a field that is none of these.
+pub(crate) fn check_fields(alloc: Global, body: &Value, known: &[&str]) -> Result<(), BodyFault>
+    ensures { Gives (λ _. view body.now) result (with_fields (map (λ k. k.now) known.now) (view body.now)) }
+{
+    match first_unknown(body, known) {
+        Some(name) => Err(bad_field(alloc, name)),
+        None => Ok(()),
+    }
+}
+
+// The whole number of a field that has to be there.
+pub(crate) fn whole_number(alloc: Global, body: &Value, name: &str) -> Result<u64, BodyFault>
+    ensures { Gives (λ n. n) result (ok_or (held whole_number name.now (view body.now)) (bad_body name.now)) }
+{
+    match body.get(name) {
+        Some(value) => match value.as_u64() {
+            Some(number) => Ok(number),
+            None => Err(bad_field(alloc, name)),
+        },
+        None => Err(bad_field(alloc, name)),
+    }
+}
+
+// The text of a field that may be missing.
+pub(crate) fn text<'b>(
+    alloc: Global,
+    body: &'b Value,
+    name: &str,
+) -> Result<Option<&'b str>, BodyFault>
+    ensures { Gives (λ found. option_map (λ t. t.now) found) result
+        (ok_or (if_held as_str name.now (view body.now)) (bad_body name.now)) }
+{
+    match body.get(name) {
+        Some(value) => match value.as_str() {
+            Some(text) => Ok(Some(text)),
+            None => Err(bad_field(alloc, name)),
+        },
+        None => Ok(None),
+    }
+}
+
+fn text_members(
+    alloc: Global,
+    members: Map<String, Value>,
+) -> Result<Option<Vec<(String, String)>>, AllocError>
+    ensures { IfOk result (λ found. option_map (λ pairs. tags_of pairs.items) found ≡ text_members (members_view members.entries)) }
+{
+    let mut pairs = Vec::with_capacity(alloc, members.len())?;
+    for (name, value) in members {
+        match value {
+            Value::String(text) => pairs.push((name, text))?,
+            _ => return Ok(None),
+        }
+    }
+    Ok(Some(pairs))
+}
+
+fn text_pairs(alloc: Global, value: Value) -> Result<Option<Vec<(String, String)>>, AllocError>
+    ensures { IfOk result (λ found. option_map (λ pairs. tags_of pairs.items) found ≡ text_pairs (view value)) }
+{
+    match value {
+        Value::Object(members) => text_members(alloc, members),
+        _ => Ok(None),
+    }
+}
+
+// Takes the pairs of texts out of a field that may be missing.
+pub(crate) fn take_pairs(
+    alloc: Global,
+    body: &mut Value,
+    name: &str,
+) -> Result<Option<Vec<(String, String)>>, BodyFault>
+    ensures { Gives (λ found. option_map (λ pairs. tags_of pairs.items) found) result
+        (ok_or (if_held text_pairs name.now (view body.old)) (bad_body name.now)) }
+{
+    match body.get_mut(name) {
+        Some(value) => match text_pairs(alloc, value.take()) {
+            Ok(Some(pairs)) => Ok(Some(pairs)),
+            Ok(None) => Err(bad_field(alloc, name)),
+            Err(_) => Err(BodyFault::NoMemory),
+        },
+        None => Ok(None),
+    }
+}

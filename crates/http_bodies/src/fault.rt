@@ -1,0 +1,31 @@
+// What is wrong with a body.
+ghost use Rattle.std.specs.Prelude.{◌≡◌, IfSome};
+ghost use Rattle.http_bodies.specs.Flaws.{bad_body, flaw_of};
+
+use std::alloc::Global;
+
+/// Why a body says nothing.
+#[derive(PartialEq, Debug, Drop)]
+pub enum BodyFault {
+    /// The field is missing, has another kind of value or is not one of the body's; an empty name: the body is no JSON
+    /// object.
+    BadBody { field: String },
+    /// The size is above 5 TiB.
+    BadSize,
+    /// The name is that of no storage class.
+    UnsupportedClass { name: String },
+    /// There are more than 10 tags, a key has not 1 to 128 characters, or a value has more than 256.
+    BadTags,
+    /// Memory ran out.
+    NoMemory,
+}
+
+// The fault of a field.
+pub(crate) fn bad_field(alloc: Global, field: &str) -> BodyFault
+    ensures { IfSome (flaw_of result) (λ flaw. flaw ≡ bad_body field.now) }
+{
+    match String::from_str(alloc, field) {
+        Ok(field) => BodyFault::BadBody { field },
+        Err(_) => BodyFault::NoMemory,
+    }
+}
