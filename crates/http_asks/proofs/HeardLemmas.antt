@@ -46,8 +46,7 @@ same_request a b same = ap (request_or b) same
 pub one_item : (stream : List ℕ) (first second : Meant) (last other : Bool) (rest after : List ℕ)
     → IsItem stream first last rest → IsItem stream second other after → (first ≡ second) × (last ≡ other) × (rest ≡ after)
 one_item stream first second last other rest after x y =
-    let same = same_request x.found y.found (stands_unique stream (request x.found) (request y.found) rest after x.stands y.stands) in
-    (
+    let same = same_request x.found y.found (stands_unique stream (request x.found) (request y.found) rest after x.stands y.stands) in (
       means_one y.found first second (subst (λ (r : Request). IsMeant r first) same x.means) y.means,
       x.ends ∙ ap (λ (r : Request). r.last) same ∙ sym y.ends,
       stands_rest stream x.found y.found rest after x.stands y.stands,

@@ -1,2 +1,3 @@
 pub mod AskLemmas
+mod Examples
 pub mod HeardLemmas

@@ -72,7 +72,7 @@ object_meant method name part body =
 unfoldable pub meters_meant : List ℕ → List ℕ → List ℕ → Meant
 meters_meant method name month =
     if is_get method then if_name name (
-      if is_month month then asks (Query (Meters name (month_number (year_in month) (month_in month)))) else refuses not_a_month
+    if is_month month then asks (Query (Meters name (month_number (year_in month) (month_in month)))) else refuses not_a_month
     )
     else refuses not_built
 

@@ -74,12 +74,7 @@ fn meters_ask(alloc: Global, method: &[u8], name: &str, month: &str) -> Result<A
 }
 
 // What a method asks of the resource that a route names.
-fn route_ask(
-    alloc: Global,
-    route: Route<'_>,
-    method: &[u8],
-    body: &[u8],
-) -> Result<Ask, Fault>
+fn route_ask(alloc: Global, route: Route<'_>, method: &[u8], body: &[u8]) -> Result<Ask, Fault>
     ensures { OnMeant result (λ meant. meant ≡ meant_of (resource_of route.entry) method.now body.now) }
 {
     match route {
