@@ -93,6 +93,17 @@ fn heard(alloc: Global, bytes: &[u8], cut: usize) -> Result<String, Fail> {
     Ok(text)
 }
 
+// What is heard where the next message stands behind one with this meaning.
+fn with_next(alloc: Global, meaning: &str) -> Result<String, Fail> {
+    let mut text = String::from_str(alloc, meaning)?;
+    if meaning == "NotBuilt" {
+        text.push_str(" last")?;
+    } else {
+        text.push_str("; Bucket next; End")?;
+    }
+    Ok(text)
+}
+
 // RFC 9112 for the messages, RFC 8259 for the bodies, the S3 User Guide for names, keys, sizes, classes and tags.
 #[test]
 fn requests_and_what_they_mean(rt: HostRuntime) -> Result<(), Fail> {
@@ -214,11 +225,7 @@ fn requests_and_what_they_mean(rt: HostRuntime) -> Result<(), Fail> {
             "{start} HTTP/1.1\r\nContent-Length: {}\r\n\r\n{body}{NEXT}",
             body.len()
         )?;
-        let wanted = if meaning == "NotBuilt" {
-            format!(in alloc; "{meaning} last")?
-        } else {
-            format!(in alloc; "{meaning}; Bucket next; End")?
-        };
+        let wanted = with_next(alloc, meaning)?;
         for cut in [1, 65_536] {
             let text = heard(alloc, stream.as_bytes(), cut)?;
             assert_eq!(rt; text, wanted, "{start} {body}");
