@@ -1,5 +1,5 @@
 -- What a request asks.
-use Rattle.std.proofs.Common.{◌≡◌, sym, subst, Option, Some, None, Result, Ok, Err}
+use Rattle.std.proofs.Common.{◌≡◌, sym, subst, Option, Some, None, Result, Err}
 use Rattle.std.specs.Prelude.{IfSome, option_map}
 use Rattle.http_bodies.specs.Flaws.{BodyFlaw, flaw_of}
 use Rattle.http_bodies.specs.declared.put.PutBody.{PutBody}

@@ -1,9 +1,8 @@
 -- What is heard at the front of a stream.
-use Rattle.std.proofs.Common.{◌≡◌, ◌≢◌, ℕ, ◌+◌, ◌<◌, Bool, true, List, [], ◌∷◌, ◌++◌, length, drop, refl, sym, ap, ◌∙◌, subst, arith, length-append, append_assoc, append-nil, inl, inr, Option, Some, None, Ok}
-use Rattle.std.specs.Io.KnownBytes.{prepend_known, Consumes, IsAtEnd}
-use Rattle.httparse.specs.Grammar.{RequestHead}
-use Rattle.httparse.specs.Spans.{IsRequestAt, span_bytes}
-use Rattle.http_routes.specs.Targets.{Resource, HasRoute}
+use Rattle.std.proofs.Common.{◌≡◌, ◌≢◌, ℕ, Bool, List, [], ◌∷◌, ◌++◌, length, drop, refl, sym, ap, ◌∙◌, subst, arith, length-append, append_assoc, append-nil, inl, inr, Option, Some, None, Ok}
+use Rattle.std.specs.Io.KnownBytes.{prepend_known, IsAtEnd}
+use Rattle.httparse.specs.Spans.{span_bytes}
+use Rattle.http_routes.specs.Targets.{Resource}
 use Rattle.http_routes.proofs.Leads.{one_route}
 use Rattle.http_wire.specs.Answers.{Gave, Answers, Refuses, OnRequest, OnRefused}
 use Rattle.http_wire.specs.Held.{Held}

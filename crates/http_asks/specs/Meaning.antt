@@ -3,7 +3,6 @@ use Rattle.std.specs.Prelude.{◌≡◌, ◌⊎◌, ℕ, Bool, List, [], ◌∷�
 use Rattle.office_base.specs.Keys.{is_key}
 use Rattle.office_base.specs.Names.{is_bucket_name}
 use Rattle.office_base.specs.Tags.{Tag}
-use Rattle.class_rules.specs.declared.class.Class.{Class}
 use Rattle.moments.specs.Dates.{is_month, year_in, month_in}
 use Rattle.moments.specs.Months.{month_number}
 use Rattle.plain_office.specs.declared.command.Ask.{Ask}

@@ -4,7 +4,6 @@ use Rattle.http_wire.specs.Answers.{Gave, Answers, Refuses}
 use Rattle.http_wire.specs.Held.{Held}
 use Rattle.http_wire.specs.Parts.{Parts}
 use Rattle.http_wire.specs.declared.framing.FramingRefusal.{FramingRefusal}
-use Rattle.http_wire.specs.Messages.{IsUnsettled}
 use Rattle.http_asks.specs.Streams.{StandsUnbuilt}
 use Rattle.http_asks.specs.Tells.{Tells}
 use Rattle.http_asks.proofs.HeardLemmas.{heard_told, unbuilt_told, unsettled_same, on_request, on_refused}
