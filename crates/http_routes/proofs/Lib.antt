@@ -2,7 +2,7 @@ mod Closed
 mod Complete
 mod Examples
 mod Found
-mod Leads
+pub mod Leads
 mod Patterns
 mod Rows
 mod Sound

@@ -1,0 +1,3 @@
+pub mod AskLemmas
+mod Examples
+pub mod HeardLemmas

@@ -1,0 +1,49 @@
+use Rattle.std.proofs.Common.{◌≡◌, ◌∙◌, ℕ, List, drop, sym, ap, subst, refl}
+use Rattle.std.specs.Io.KnownBytes.{prepend_known}
+use Rattle.http_wire.specs.Answers.{Gave, Answers, Refuses}
+use Rattle.http_wire.specs.Held.{Held}
+use Rattle.http_wire.specs.Parts.{Parts}
+use Rattle.http_wire.specs.declared.framing.FramingRefusal.{FramingRefusal}
+use Rattle.http_asks.specs.Streams.{StandsUnbuilt}
+use Rattle.http_asks.specs.Tells.{Tells}
+use Rattle.http_asks.proofs.HeardLemmas.{heard_told, unbuilt_told, unsettled_same, on_request, on_refused}
+use Rattle.http_asks.proofs.reader.Reader.next.Goals as goal
+use Rattle.http_asks.proofs.reader.Reader.next.Goals.{in-Some-2, in-None-2}
+
+pub returns-in_default-clause-settled : goal.returns-in_default-clause-settled
+returns-in_default-clause-settled g c settled = c.read_message.ensures.settled (unsettled_same c.args.self.now c.self.inside.buffer (sym c.self.view_is) settled)
+
+pub returns-in-Ok-clause-tells : goal.returns-in-Ok-clause-tells
+returns-in-Ok-clause-tells g c =
+    let left = g.R.Source.left in
+    let before = c.read_message.new.buffer in
+    let m = c.in-Ok-Request.message in
+    let told = λ (after : Held) (same : after ≡ c.drop_front.new.self).
+    heard_told c.self.inside.buffer before after (left c.args.source.now) (left c.read_message.new.source) m c.in-Ok.heard
+    (on_request c.in-Ok-Request.field-0 m (λ (x : Parts). Gave c.self.inside.buffer before (left c.args.source.now) (left c.read_message.new.source) (λ (bytes : List ℕ). Answers bytes before x)) c.in-Ok-Request.field-0-is c.in-Ok-Request.ensures.request)
+    (ap (λ (h : Held). h.bytes) same ∙ c.drop_front.ensures.bytes ∙ ap (λ (n : ℕ). drop n before.bytes) c.used.ensures) c.in-Ok.ensures in
+    let after = c.match-message-2.self in
+    subst (λ (h : Held). Tells (prepend_known h.bytes (left c.args.source.now)) c.in-Ok.heard (prepend_known after.bytes (left c.read_message.new.source))) c.self.view_is
+    (elim c.match-message-2.branch [ in-Some-2 w ↦ told after w.self-is | in-None-2 w ↦ told after w.self-is ])
+
+pub returns-in-Ok-clause-settled : goal.returns-in-Ok-clause-settled
+returns-in-Ok-clause-settled g c settled = c.read_message.ensures.settled (unsettled_same c.args.self.now c.self.inside.buffer (sym c.self.view_is) settled)
+
+pub returns-in-Ok-Refused-clause-tells : goal.returns-in-Ok-Refused-clause-tells
+returns-in-Ok-Refused-clause-tells g c =
+    let left = g.R.Source.left in (
+      subst (λ (h : Held). StandsUnbuilt (prepend_known h.bytes (left c.args.source.now))) c.self.view_is
+          (unbuilt_told c.self.inside.buffer c.read_message.new.buffer (left c.args.source.now) (left c.read_message.new.source) c.in-Ok-Refused.field-0-0
+          (on_refused c.in-Ok-Refused.field-0 c.in-Ok-Refused.field-0-0 (λ (bad : FramingRefusal). Gave c.self.inside.buffer c.read_message.new.buffer (left c.args.source.now) (left c.read_message.new.source) (Refuses (left c.read_message.new.source) bad))
+          c.in-Ok-Refused.field-0-is c.in-Ok-Refused.ensures.refused)),
+      refl,
+    )
+
+pub returns-in-Ok-Refused-clause-settled : goal.returns-in-Ok-Refused-clause-settled
+returns-in-Ok-Refused-clause-settled g c settled = c.read_message.ensures.settled (unsettled_same c.args.self.now c.self.inside.buffer (sym c.self.view_is) settled)
+
+pub returns-in-Ok-End-clause-settled : goal.returns-in-Ok-End-clause-settled
+returns-in-Ok-End-clause-settled g c settled = c.read_message.ensures.settled (unsettled_same c.args.self.now c.self.inside.buffer (sym c.self.view_is) settled)
+
+pub returns-in-Err-clause-settled : goal.returns-in-Err-clause-settled
+returns-in-Err-clause-settled g c settled = c.read_message.ensures.settled (unsettled_same c.args.self.now c.self.inside.buffer (sym c.self.view_is) settled)

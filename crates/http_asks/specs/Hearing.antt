@@ -1,0 +1,20 @@
+-- What is heard of a request.
+use Rattle.std.specs.Prelude.{◌≡◌, Bool, true}
+use Rattle.http_asks.specs.Faults.{refused_of}
+use Rattle.http_asks.specs.Meaning.{Refused, not_a_month, bad_bucket_name, bad_key, flawed, not_built, Meant, asks, refuses}
+use Rattle.http_asks.specs.declared.reader.Heard.{Heard}
+use Rattle.http_asks.specs.declared.reader.Heard.TheVariants.{Asked, Bad, End}
+
+-- whether a message is the last of its session: each is that is not served
+abbrev pub last_of : Refused → Bool → Bool
+last_of not_built last = true
+last_of not_a_month last = last
+last_of bad_bucket_name last = last
+last_of bad_key last = last
+last_of (flawed flaw) last = last
+
+-- what was heard is what is meant, and the last of its session where this is
+abbrev pub IsHeard : (Meant → Type 0) → Bool → Heard → Type 0
+IsHeard Means last (Asked ask ends) = Means (asks ask) × (ends ≡ last)
+IsHeard Means last (Bad bad ends) = Means (refuses (refused_of bad)) × (ends ≡ last_of (refused_of bad) last)
+IsHeard Means last End = ⊥

@@ -1,0 +1,6 @@
+pub mod Counts
+pub mod Faults
+pub mod Hearing
+pub mod Meaning
+pub mod Streams
+pub mod Tells

@@ -1,0 +1,50 @@
+// Why a request asks nothing.
+ghost use Rattle.std.specs.Prelude.{◌≡◌, Some, option_map};
+ghost use Rattle.http_bodies.specs.Flaws.{flaw_of};
+ghost use Rattle.http_asks.specs.Faults.{OnBroken};
+ghost use Rattle.http_asks.specs.Meaning.{flawed};
+
+use http_bodies::BodyFault;
+
+/// Refusals that a message's own text decides.
+#[derive(PartialEq, Debug, Drop)]
+pub enum Bad {
+    /// The text is not `YYYY-MM`, or no month from 1970-01 to 2099-12.
+    NotAMonth,
+    /// The part of the path is out of the range of bucket names.
+    BadBucketName,
+    /// The part of the path, percent-decoded, is out of the range of keys.
+    BadKey,
+    /// The size is above 5 TiB.
+    BadSize,
+    /// The name is that of no storage class.
+    UnsupportedClass { name: String },
+    /// There are more than 10 tags, a key has not 1 to 128 characters, or a value has more than 256.
+    BadTags,
+    /// The field of the body is missing, has another kind of value or is not one of the body's; an empty name: the body is
+    /// no JSON object.
+    BadBody { field: String },
+    /// The message is none that is served. It is the last of its session.
+    NotBuilt,
+}
+
+/// Why a request was not read as an ask.
+#[derive(Drop)]
+pub(crate) enum Fault {
+    /// It breaks a rule.
+    Bad(Bad),
+    /// Memory ran out.
+    NoMemory,
+}
+
+pub(crate) fn fault_of(fault: BodyFault) -> Fault
+    ensures { OnBroken result (λ broken. option_map flawed (flaw_of fault) ≡ Some broken) }
+{
+    match fault {
+        BodyFault::BadBody { field } => Fault::Bad(Bad::BadBody { field }),
+        BodyFault::BadSize => Fault::Bad(Bad::BadSize),
+        BodyFault::UnsupportedClass { name } => Fault::Bad(Bad::UnsupportedClass { name }),
+        BodyFault::BadTags => Fault::Bad(Bad::BadTags),
+        BodyFault::NoMemory => Fault::NoMemory,
+    }
+}

@@ -1,0 +1,14 @@
+//! The next message of a stream, as an ask of the office or as a refusal.
+#![tactic(auto)]
+
+mod asks;
+mod bad;
+mod laws;
+mod parts;
+mod reader;
+#[cfg(test)]
+mod tests;
+
+pub use bad::Bad;
+pub use laws::{means_one_thing, one_item};
+pub use reader::{Heard, Reader, Stop};

@@ -1,0 +1,172 @@
+// The reader of the messages of a stream.
+ghost use Rattle.std.specs.Prelude.{◌≡◌, ◌≤◌, ◌<◌, ◌+◌, length, [], IfOk, IsErrOf, Ok};
+ghost use Rattle.std.specs.Io.KnownBytes.{IsAtEnd, prepend_known};
+ghost use Rattle.office_base.specs.Faults.{Rose};
+ghost use Rattle.httparse.specs.Spans.{IsRequestWithin, span_bytes};
+ghost use Rattle.http_wire.specs.Answers.{Gave};
+ghost use Rattle.http_wire.specs.Held.{take_limit};
+ghost use Rattle.http_wire.specs.Messages.{IsUnsettled};
+ghost use Rattle.http_asks.specs.Counts.{Given};
+ghost use Rattle.http_wire.specs.Parts.{body_of};
+ghost use Rattle.http_asks.specs.Faults.{refused_of};
+ghost use Rattle.http_asks.specs.Hearing.{IsHeard, last_of};
+ghost use Rattle.http_asks.specs.Meaning.{Means};
+ghost use Rattle.http_asks.specs.Tells.{Tells, OnItem};
+
+use crate::asks::ask_of;
+use crate::bad::{Bad, Fault};
+use http_routes::Routes;
+use http_wire::{Buffer, Message, MessageStop, Next, Source, read_message};
+use office_base::NoMemory;
+use plain_office::Ask;
+use std::alloc::Global;
+use std::marker::Model;
+
+/// What stands at the front of a stream.
+#[derive(Drop)]
+pub enum Heard {
+    /// A request that asks something.
+    Asked {
+        /// What it asks.
+        ask: Ask,
+        /// Whether it is the last of its session.
+        last: bool,
+    },
+    /// A message that is refused.
+    Bad {
+        /// The rule that it breaks.
+        bad: Bad,
+        /// Whether it is the last of its session, as each is that is not served.
+        last: bool,
+    },
+    /// The end of the stream.
+    End,
+}
+
+/// Why nothing was heard.
+#[derive(Clone, Copy, Debug, PartialEq, Eq)]
+pub enum Stop {
+    /// The source failed.
+    ReadFault,
+    /// 2^40 bytes were taken, and a further read is needed.
+    Spent,
+    /// Memory ran out. Nothing was heard.
+    NoMemory,
+}
+
+/// What reads the messages of a stream, one after another: the bytes that were taken and not used, and the routes.
+#[derive(Drop)]
+pub struct Reader {
+    buffer: Buffer,
+    routes: Routes,
+}
+
+impl Model for Reader {
+    ghost use Rattle.http_wire.specs.Held.{Held};
+
+    ghost Value = { Held };
+
+    ghost view = { λ r. r.buffer };
+}
+
+fn stop_of(stop: MessageStop) -> Stop
+    ensures fault { result ≡ Stop.ReadFault → stop ≡ MessageStop.ReadFault }
+    ensures spent { result ≡ Stop.Spent → stop ≡ MessageStop.Spent }
+{
+    match stop {
+        MessageStop::ReadFault => Stop::ReadFault,
+        MessageStop::Spent => Stop::Spent,
+        MessageStop::NoMemory => Stop::NoMemory,
+    }
+}
+
+// What is not served is the last of its session.
+fn refusal_of(bad: Bad, last: bool) -> Heard
+    ensures { result ≡ Heard.Bad bad (last_of (refused_of bad) last) }
+{
+    let last = match bad {
+        Bad::NotBuilt => true,
+        _ => last,
+    };
+    Heard::Bad { bad, last }
+}
+
+impl Reader {
+    /// Makes a reader that holds nothing, with the routes that are served.
+    ///
+    /// # Errors
+    ///
+    /// `NoMemory`: memory ran out.
+    pub fn new(alloc: Global) -> Result<Reader, NoMemory>
+        ensures bytes { IfOk result (λ reader. reader.bytes ≡ []) }
+        ensures taken { IfOk result (λ reader. reader.taken ≡ 0) }
+    {
+        let buffer = Buffer::new(alloc)?;
+        let routes = Routes::new(alloc)?;
+        Ok(Reader { buffer, routes })
+    }
+
+    // What the message at the front of the buffer says.
+    fn read(&self, alloc: Global, message: &Message) -> Result<Heard, NoMemory>
+        requires held { message.now.used ≤ length self.now.bytes }
+        requires within { IsRequestWithin self.now.bytes self.now.spans message.now.head }
+        ensures { IfOk result (IsHeard (Means (span_bytes self.now.bytes message.now.head.path) (span_bytes self.now.bytes message.now.head.method)
+            (body_of message.now self.now.bytes)) message.now.last) }
+    {
+        let head = message.head();
+        let bytes = self.buffer.held();
+        let read = ask_of(
+            alloc,
+            &self.routes,
+            head.path.of(bytes),
+            head.method.of(bytes),
+            message.body(&self.buffer),
+        );
+        match read {
+            Ok(ask) => Ok(Heard::Asked {
+                ask,
+                last: message.last(),
+            }),
+            Err(Fault::Bad(bad)) => Ok(refusal_of(bad, message.last())),
+            Err(Fault::NoMemory) => Err(NoMemory),
+        }
+    }
+
+    /// Reads the next message, and takes its bytes from the buffer. What the framing refuses is not served.
+    ///
+    /// # Errors
+    ///
+    /// `Spent`: 2^40 = 1,099,511,627,776 bytes were taken and a further read is needed, also where it would find the end.
+    /// `ReadFault`: the source failed. `NoMemory`: memory ran out. Nothing was heard then; a message that is whole in the
+    /// buffer stays there, and of a body that does not fit there the bytes that were taken before are lost.
+    pub fn next<R: Source>(&mut self, alloc: Global, source: &mut R) -> Result<Heard, Stop>
+        ensures tells { IfOk result (λ heard. Tells (prepend_known self.old.bytes (R.left source.old)) heard (prepend_known self.new.bytes (R.left source.new))) }
+        ensures given { Given self.old.taken self.new.taken (R.left source.old) (R.left source.new) }
+        ensures limit { self.new.taken ≤ take_limit }
+        // An item has at least one byte.
+        ensures uses { OnItem result (self.old.taken + length self.new.bytes < self.new.taken + length self.old.bytes) }
+        // The end is found by a read, so fewer bytes than the limit were taken.
+        ensures at_end { result ≡ Ok Heard.End → (self.new.taken < take_limit) × IsAtEnd (R.left source.new) }
+        ensures spent { IsErrOf result Stop.Spent → (self.new.taken ≡ take_limit) × Gave self.old self.new (R.left source.old) (R.left source.new) IsUnsettled }
+        // A message whose bytes are held is heard without a read.
+        ensures settled { (IsUnsettled self.old.bytes → ⊥) → source.new ≡ source.old }
+        ensures later { R.faults source.old ≤ R.faults source.new }
+        ensures fault { IsErrOf result Stop.ReadFault → Rose (R.faults source.old) (R.faults source.new) }
+    {
+        match read_message(alloc, source, &mut self.buffer) {
+            Ok(Next::Request(message)) => {
+                let Ok(heard) = self.read(alloc, &message) else {
+                    return Err(Stop::NoMemory);
+                };
+                self.buffer.drop_front(message.used());
+                Ok(heard)
+            }
+            Ok(Next::Refused(_)) => Ok(Heard::Bad {
+                bad: Bad::NotBuilt,
+                last: true,
+            }),
+            Ok(Next::End) => Ok(Heard::End),
+            Err(stop) => Err(stop_of(stop)),
+        }
+    }
+}
