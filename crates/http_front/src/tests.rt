@@ -1,6 +1,6 @@
 use super::*;
-use http_text::put_answer;
 use desk_core::{Acked, DeskFault};
+use http_text::put_answer;
 use http_wire::MemorySource;
 use office_base::BucketName;
 use plain_office::{Ask, Refusal, Reply};
