@@ -1,13 +1,14 @@
 #!/usr/bin/env python3
-"""Durable commands a second of `office run`, as a ratio to what the disk allows.
+"""Durable puts a second of `office run`, as a ratio to what the disk allows.
 
-    python3 bench/commits.py PROGRAM [FOLDER] [ROUNDS] [COMMANDS]
+    python3 bench/commits.py PROGRAM [FOLDER] [ROUNDS] [COMMANDS] [BUCKETS]
 
 Builds disk_limit.c into a new folder inside FOLDER (the folder that it is started in, where none is given), whose disk
 is measured, and takes turns: the limit, the program, the limit, the program, and so on. A turn of the program reads
-COMMANDS requests (2,000) from standard input, each for a bucket of its own, and has to answer each with 201. A turn of
-the limit does the same writes and syncs from a bare loop in C. A ratio is the rate of the program over the mean of the
-limit's rates before it and after it; the last line has the medians. Needs cc.
+COMMANDS requests (5,000) from standard input, each to put an object under a key of its own, in BUCKETS buckets (1) in
+turn, and has to answer each with 201; the buckets are made by a run before. A turn of the limit does the same writes and
+syncs from a bare loop in C. A ratio is the rate of the program over the mean of the limit's rates before it and after it;
+the last line has the medians. Needs cc.
 """
 import datetime
 import pathlib
@@ -19,12 +20,19 @@ import tempfile
 import time
 
 SOURCE = pathlib.Path(__file__).resolve().parent / "disk_limit.c"
-NAME = "bucket-{:05}"
-# Of an entry: its moment, its kind, the length of the name, and the name.
-ENTRY_BYTES = 8 + 1 + 2 + len(NAME.format(0))
-# Of a journal: its head; of each frame: the length of the entry, the entry and a gate.
-HEAD_BYTES = 11
+BUCKET = "bucket-{:05}"
+KEY = "key-{:07}"
+# Of the entry of a put: its moment, its kind, the bucket's name and the key with two bytes of length each, the size, the
+# class and the number of tags.
+ENTRY_BYTES = 8 + 1 + 2 + len(BUCKET.format(0)) + 2 + len(KEY.format(0)) + 8 + 1 + 1
+# Of each frame: the length of the entry, the entry and a gate.
 FRAME_BYTES = 4 + ENTRY_BYTES + 1
+BODY = '{"size":1000}'
+
+
+def put(bucket, key):
+    return (f"PUT /buckets/{BUCKET.format(bucket)}/objects/{KEY.format(key)} HTTP/1.1\r\nHost: office\r\n"
+            f"Content-Length: {len(BODY)}\r\n\r\n{BODY}").encode()
 
 
 def limit_turn(work, commands):
@@ -42,6 +50,9 @@ def office_turn(work, program, commands):
     """One turn of the program in an office of its own: commands a second, with its start and end."""
     folder = pathlib.Path(tempfile.mkdtemp(prefix="office-", dir=work))
     subprocess.run([program, "init"], cwd=folder, check=True, stdout=subprocess.DEVNULL)
+    with open(work / "buckets", "rb") as requests:
+        subprocess.run([program, "run"], cwd=folder, check=True, stdin=requests, stdout=subprocess.DEVNULL)
+    before = (folder / "office-data" / "journal").stat().st_size
     with open(work / "requests", "rb") as requests, open(folder / "replies", "wb") as replies:
         begin = time.monotonic()
         subprocess.run([program, "run"], cwd=folder, check=True, stdin=requests, stdout=replies)
@@ -49,26 +60,30 @@ def office_turn(work, program, commands):
     made = (folder / "replies").read_bytes().count(b"HTTP/1.1 201 Created\r\n")
     if made != commands:
         sys.exit(f"{made} of {commands} commands were answered with 201")
-    length = (folder / "office-data" / "journal").stat().st_size
-    if length != HEAD_BYTES + commands * FRAME_BYTES:
-        sys.exit(f"the journal has {length} bytes after {commands} commands")
+    grown = (folder / "office-data" / "journal").stat().st_size - before
+    if grown != commands * FRAME_BYTES:
+        sys.exit(f"the journal grew by {grown} bytes in {commands} commands")
     shutil.rmtree(folder)
     return commands / seconds
 
 
 def main():
-    if not 2 <= len(sys.argv) <= 5:
+    if not 2 <= len(sys.argv) <= 6:
         sys.exit(__doc__)
     program = str(pathlib.Path(sys.argv[1]).resolve())
     where = sys.argv[2] if len(sys.argv) > 2 else "."
     rounds = int(sys.argv[3]) if len(sys.argv) > 3 else 15
-    commands = int(sys.argv[4]) if len(sys.argv) > 4 else 2000
+    commands = int(sys.argv[4]) if len(sys.argv) > 4 else 5000
+    buckets = int(sys.argv[5]) if len(sys.argv) > 5 else 1
     work = pathlib.Path(tempfile.mkdtemp(prefix="commits-", dir=where)).resolve()
     try:
         subprocess.run(["cc", "-O2", "-o", str(work / "disk_limit"), str(SOURCE)], check=True)
+        with open(work / "buckets", "wb") as requests:
+            for number in range(buckets):
+                requests.write(f"PUT /buckets/{BUCKET.format(number)} HTTP/1.1\r\nHost: office\r\n\r\n".encode())
         with open(work / "requests", "wb") as requests:
             for number in range(commands):
-                requests.write(f"PUT /buckets/{NAME.format(number)} HTTP/1.1\r\nHost: office\r\n\r\n".encode())
+                requests.write(put(number % buckets, number))
         limits = [limit_turn(work, commands)]
         rates = []
         ratios = []
@@ -79,7 +94,7 @@ def main():
             print(f"turn {turn + 1} office_per_second {rates[-1]:.0f} limit_per_second {(limits[-2] + limits[-1]) / 2:.0f} ratio {ratios[-1]:.3f}", flush=True)
         day = datetime.datetime.now(datetime.timezone.utc).date().isoformat()
         print(f"median office_per_second {statistics.median(rates):.0f} limit_per_second {statistics.median(limits):.0f} ratio {statistics.median(ratios):.3f}"
-              f" commands {commands} entry_bytes {ENTRY_BYTES} turns {rounds} date {day}")
+              f" commands {commands} buckets {buckets} entry_bytes {ENTRY_BYTES} turns {rounds} date {day}")
     finally:
         shutil.rmtree(work)
 

@@ -1,7 +1,8 @@
 #!/usr/bin/env python3
 """How fast a journal is opened: python3 bench/opening.py PROGRAM [FOLDER] [ROUNDS] [ENTRIES]
 
-PROGRAM is crates/office_cli/out/office_cli. A journal with ENTRIES buckets (100,000) is made in FOLDER; then runs over an empty
+PROGRAM is crates/office_cli/out/office_cli. A journal with a bucket and ENTRIES puts of objects (100,000), each under a
+key of its own, is made in FOLDER; then runs over an empty
 input, which open it and end, alternate with plain reads of the same file by this script. The time of a run includes the start of
 the process, about a millisecond.
 """
@@ -28,10 +29,12 @@ def read_all(path):
 def main(program, folder=None, rounds=9, entries=100_000):
     with tempfile.TemporaryDirectory(dir=folder) as work:
         subprocess.run([program, "init"], cwd=work, check=True, stdout=subprocess.DEVNULL)
-        requests = b"".join(b"PUT /buckets/bucket-%06d HTTP/1.1\r\nHost: office\r\n\r\n" % n for n in range(entries))
+        bucket = b"PUT /buckets/load HTTP/1.1\r\nHost: office\r\n\r\n"
+        put = b'PUT /buckets/load/objects/key-%06d HTTP/1.1\r\nHost: office\r\nContent-Length: 13\r\n\r\n{"size":1000}'
+        requests = bucket + b"".join(put % n for n in range(entries))
         made = subprocess.run([program, "run"], cwd=work, check=True, input=requests, capture_output=True).stdout
-        if made.count(b"HTTP/1.1 201 ") != entries:
-            sys.exit("not all buckets were made")
+        if made.count(b"HTTP/1.1 201 ") != entries + 1:
+            sys.exit("not all objects were put")
         journal = os.path.join(work, "office-data", "journal")
         opens, reads = [], []
         for _ in range(rounds):

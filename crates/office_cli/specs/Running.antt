@@ -13,8 +13,8 @@ use Rattle.desk_core.specs.Calls.{Legal}
 use Rattle.desk_core.specs.Histories.{HasAcceptedHistory}
 use Rattle.desk_core.specs.Opening.{OpenFails}
 use Rattle.desk_core.specs.Serving.{Opened, HasFront, AreToldBy, Serves}
-use Rattle.http_front.specs.Meaning.{Hears}
-use Rattle.http_front.specs.Session.{asks, IsWritten, NoneFaults, FaultsBy, LacksBy}
+use Rattle.http_front.specs.Exchanges.{Exchange, calls_of, Hears}
+use Rattle.http_front.specs.Session.{IsWritten, NoneFaults, FaultsBy, LacksBy}
 use Rattle.http_front.specs.declared.answering.SessionEnd.{SessionEnd}
 use Rattle.office_cli.specs.Lines.{status_of, fault_status, clock_note, end_note, fault_note}
 use Rattle.office_cli.specs.Numbers.{AreNumbers}
@@ -47,27 +47,29 @@ module _ {D : Type 0} (state : D → State) (moment : D → ℕ) (had_since : D 
 
 module _ {D C W : Type 0} (honest : Bool) (state : D → State) (moment : D → ℕ) (had_since : D → ℕ → State → Type 0) (fault_count : D → ℕ) (count : C → ℕ) (told : C → Option (List ℕ))
     (said noted : W → Option (List ℕ)) (out_faults : W → ℕ) where
-  -- The office was opened: the messages of the stream, in order, made a legal list of calls; what was said are their replies.
+  -- The office was opened: the messages of the stream, in order, were asked or refused; the calls that asked them are a legal list, and what
+  -- was said are the texts.
   pub record Answers (status : ℕ) (old new : D) (clock_old clock_new : C) (out_old out_new : W) (stream : Option (List ℕ)) : Type 0 where
     pub opened : Opened
     pub limit : opened.limit ≡ journal_limit
-    pub calls : List Call
+    pub exchanges : List Exchange
     pub history : List Entry
-    pub legal : Legal opened.limit opened.faults calls opened.history history
+    pub legal : Legal opened.limit opened.faults (calls_of exchanges) opened.history history
     -- each count of faults that was told rose since the entry, and is not above that at the return
-    pub faults : (fault_count old ≤ opened.faults) × AreToldBy (fault_count new) calls
-    pub numbers : count clock_new < 2 ^ 64 - 1 → (list : List ℕ) × AreNumbers calls list × Appends (told clock_old) (told clock_new) list
+    pub faults : (fault_count old ≤ opened.faults) × AreToldBy (fault_count new) (calls_of exchanges)
+    pub numbers : count clock_new < 2 ^ 64 - 1 → (list : List ℕ) × AreNumbers (calls_of exchanges) list × Appends (told clock_old) (told clock_new) list
     pub rest : Option (List ℕ)
-    pub heard : Hears stream (asks calls) rest
+    pub closed : Bool
+    pub heard : Hears stream exchanges rest closed
     pub end : SessionEnd
     pub written : List ℕ
     pub said_all : Appends (said out_old) (said out_new) written
-    pub is_written : IsWritten (option_map length stream) end calls rest written
-    pub faulted : FaultsBy end calls
-    pub lacked : LacksBy end calls
+    pub is_written : IsWritten (option_map length stream) end exchanges rest closed written
+    pub faulted : FaultsBy end exchanges
+    pub lacked : LacksBy end exchanges
     pub status_is : status ≡ status_of end
     pub note : IsNoted (noted out_old) (noted out_new) (out_faults out_old) (out_faults out_new) (end_note end)
-    pub disk : IsTrue honest → KeepsCalls state moment had_since fault_count old new opened calls history
+    pub disk : IsTrue honest → KeepsCalls state moment had_since fault_count old new opened (calls_of exchanges) history
 
   -- The office was not opened: nothing was said or told, and each image is one that there was.
   pub record Refuses (status : ℕ) (old new : D) (clock_old clock_new : C) (out_old out_new : W) : Type 0 where
