@@ -1,4 +1,3 @@
-pub mod HeardLemmas
 pub mod PrintLemmas
 pub mod SaidLemmas
 pub mod TalkLemmas

@@ -1,13 +1,15 @@
 -- The texts, written out, and how long they are.
-use Rattle.std.proofs.Common.{◌≡◌, ℕ, ◌+◌, ◌*◌, ◌/◌, ◌%◌, ◌^◌, ◌<◌, ◌≤◌, List, [], ◌∷◌, ◌++◌, length, take, codes, decimal, refl, sym, ap, ◌∙◌, arith, append_assoc, unwrap_or, IfOk, OnOk, OnErr, Result, Ok, Err, IsOk}
+use Rattle.std.proofs.Common.{◌≡◌, ℕ, ◌+◌, ◌*◌, ◌/◌, ◌%◌, ◌^◌, ◌<◌, ◌≤◌, List, [], ◌∷◌, ◌++◌, length, take, codes, decimal, refl, sym, ap, ◌∙◌, arith, append_assoc, length-append, unwrap_or, IfOk, OnOk, OnErr, Result, Ok, Err, IsOk}
 use Rattle.std.proofs.lemmas.Fmt.{decimal_digit, decimal_step}
+use Rattle.std.proofs.lemmas.List.{take_all}
 use Rattle.http.specs.StatusCode.{reason_phrase}
 use Rattle.json.specs.Print.{escape_byte, quoted}
+use Rattle.serde_json.proofs.OnLiterals.{serde_json_on_literals}
 use Rattle.http_text.specs.Room.{Holds, Puts}
 use Rattle.http_text.specs.Replies.{error_text, head_text, reply_with}
 use Rattle.http_text.proofs.Texts.{error_is}
 use Rattle.http_text.proofs.Whole.{head_parts}
-use Rattle.http_front.specs.Texts.{error_reply, full_text, no_memory_text, not_built_text}
+use Rattle.http_front.specs.Texts.{error_reply, full_text, no_memory_text, not_built_text, class_text, field_text}
 
 -- ---- numbers
 
@@ -103,6 +105,30 @@ full_small = omega (arith, ap length full_is)
 
 pub no_memory_small : length no_memory_text ≤ 16384
 no_memory_small = omega (arith, ap length no_memory_is)
+
+-- ---- refusals that tell more
+
+pub class_is : (name : List ℕ) → codes "{\"error\":\"UnsupportedClass\",\"name\":" ++ (quoted name ++ (codes ",\"number\":" ++ (decimal 43 ++ codes "}"))) ≡ class_text name
+unfolding serde_json_on_literals class_text
+class_is name = refl
+
+pub field_is : (field : List ℕ) → codes "{\"error\":\"BadBody\",\"field\":" ++ (quoted field ++ (codes ",\"number\":" ++ (decimal 123 ++ codes "}"))) ≡ field_text field
+unfolding serde_json_on_literals field_text
+field_is field = refl
+
+-- a reply that is printed into a room of its own length, where its body was counted in another one
+pub whole_reply : (first second counts more old new : List ℕ) (status size whole end : ℕ) (body : List ℕ) → Puts first 0 counts size body
+    → Puts second 0 more whole (head_text status size ++ body) → Puts old 0 new end (head_text status size ++ body) → length new ≡ whole → whole < 2 ^ 63 → new ≡ reply_with status body
+unfolding reply_with
+whole_reply first second counts more old new status size whole end body counted long puts fits short =
+    let text = head_text status size ++ body in
+    let some = (counted [] (record { counts = refl; written = λ _. refl })).counts in
+    let all = (long [] (record { counts = refl; written = λ _. refl })).counts in
+    let is_whole : length text ≡ length new = omega (arith, all, fits, short) in
+    let is_size : size ≡ length body = omega (arith, some, is_whole, fits, short, length-append (head_text status size) body) in
+    sym (take_all (length new) new (omega arith)) ∙ ap (λ (n : ℕ). take n new) (sym is_whole)
+    ∙ (puts [] (record { counts = refl; written = λ _. refl })).written (omega (arith, is_whole))
+    ∙ ap (λ (n : ℕ). head_text status n ++ body) is_size
 
 -- ---- the room
 

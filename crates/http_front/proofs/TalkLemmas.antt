@@ -1,49 +1,68 @@
 -- A session goes on.
-use Rattle.std.proofs.Common.{◌≡◌, ℕ, ◌+◌, ◌<◌, List, [], ◌∷◌, ◌++◌, take, length, refl, sym, ap, ◌∙◌, subst, arith, append_assoc, append-nil, length-append, Option, Some, None, Result, Ok, Err, inl, inr, OnOk, IfErr}
-use Rattle.std.specs.Prelude.{◌⊎◌, option_map}
+use Rattle.std.proofs.Common.{◌≡◌, ℕ, ◌+◌, ◌<◌, Bool, true, false, List, [], ◌∷◌, ◌++◌, take, length, refl, sym, ap, ◌∙◌, subst, arith, append_assoc, append-nil, length-append, Option, Some, None, Result, Ok, Err, inl, inr, OnOk, IfErr}
+use Rattle.std.specs.Prelude.{◌⊎◌, option_map, IsOk}
 use Rattle.std.specs.Io.KnownBytes.{Appends, Consumes, IsAtEnd, prepend_known}
-use Rattle.std.proofs.lemmas.List.{map-append}
 use Rattle.std.proofs.lemmas.Grind.{flat_map-append}
 use Rattle.std.proofs.lemmas.List.Elements.{All-nil, All-cons, All-append}
 use Rattle.plain_office.specs.declared.command.Ask.{Ask}
 use Rattle.desk_core.specs.Answers.{Answer, Call}
 use Rattle.desk_core.specs.declared.fault.DeskFault.{DeskFault}
 use Rattle.desk_core.specs.declared.fault.DeskFault.TheVariants as faults
+use Rattle.http_bodies.specs.Flaws.{BodyFlaw}
 use Rattle.http_wire.specs.Held.{take_limit}
+use Rattle.http_asks.specs.Counts.{Given}
+use Rattle.http_asks.specs.Faults.{refused_of}
+use Rattle.http_asks.specs.Meaning.{Refused, not_a_month, bad_bucket_name, bad_key, flawed, not_built, Meant, asks, refuses}
+use Rattle.http_asks.specs.Streams.{IsItem, StandsItem, StandsUnbuilt}
+use Rattle.http_asks.specs.Tells.{TellsRefused, IfServed}
+use Rattle.http_asks.specs.declared.bad.Bad.{Bad}
+use Rattle.http_asks.specs.declared.bad.Bad.TheVariants as bads
+use Rattle.http_asks.specs.declared.reader.Heard.{Heard}
+use Rattle.http_asks.specs.declared.reader.Heard.TheVariants as heards
+use Rattle.http_asks.specs.declared.reader.Stop.{Stop}
+use Rattle.http_asks.specs.declared.reader.Stop.TheVariants as stops
 use Rattle.http_front.specs.declared.answering.SessionEnd.{SessionEnd}
 use Rattle.http_front.specs.declared.answering.SessionEnd.TheVariants as ends
-use Rattle.http_front.specs.declared.hearing.Bad.{Bad}
-use Rattle.http_front.specs.declared.hearing.Bad.TheVariants as bads
-use Rattle.http_front.specs.declared.hearing.Heard.TheVariants as heards
-use Rattle.http_front.specs.declared.hearing.Stop.{Stop}
-use Rattle.http_front.specs.declared.hearing.Stop.TheVariants as stops
-use Rattle.http_front.specs.Counts.{Given, Gave, total_of, IsUnder, Reaches}
-use Rattle.http_front.specs.Meaning.{Goes, Hears, StandsUnbuilt}
-use Rattle.http_front.specs.Session.{asks, IsCut, IsWritten, NoneFaults, LastFaults, FaultsBy, NoneLacks, LastLacks, LacksBy, Moves, Session}
-use Rattle.http_front.specs.Talk.{Answers, Talked, Closed}
+use Rattle.http_front.specs.Counts.{Gave, total_of, IsUnder, Reaches}
+use Rattle.http_front.specs.Exchanges.{Exchange, answered, refused, meant_of, calls_of, Goes, Hears}
+use Rattle.http_front.specs.Session.{IsCut, IsWritten, NoneFaults, LastFaults, FaultsBy, NoneLacks, LastLacks, LacksBy, Moves, Session}
+use Rattle.http_front.specs.Talk.{IsSaid, IsPart, IsRefusedBy, Answers, Talked, Closed, Went}
 use Rattle.http_front.specs.Telling.{IsStoreFault}
-use Rattle.http_front.specs.Tells.{Tells}
-use Rattle.http_front.specs.Texts.{text_of, texts, not_built_text, no_memory_text}
+use Rattle.http_front.specs.Texts.{exchange_text, text_of, bad_text, texts, not_built_text, no_memory_text}
 use Rattle.http_front.proofs.SaidLemmas.{appends_none, appends_then}
 
 -- ---- what was heard
 
-goes_then : (first second : List Ask) (a b c : List ℕ) → Goes a first b → Goes b second c → Goes a (first ++ second) c
-goes_then [] second a b c same later = subst (λ (t : List ℕ). Goes t second c) same later
-goes_then (ask ∷ first) second a b c (mid, here, rest) later = (mid, here, goes_then first second mid b c rest later)
+-- an item behind another one
+goes_on : (exchange : Exchange) (second : List Exchange) (a b c : List ℕ) (closed : Bool) → IsItem a (meant_of exchange) false b → Goes b second c closed → Goes a (exchange ∷ second) c closed
+goes_on exchange [] a b c closed here (same, going) =
+    subst (λ (t : List ℕ). IsItem a (meant_of exchange) closed t) (sym same) (subst (λ (x : Bool). IsItem a (meant_of exchange) x b) (sym going) here)
+goes_on exchange (next ∷ more) a b c closed here later = (b, here, later)
 
-hears_then : (first second : List Ask) (a b c : Option (List ℕ)) → Hears a first b → Hears b second c → Hears a (first ++ second) c
-hears_then first second None b c x y = tt
-hears_then first second (Some a) None c x y = absurd x
-hears_then first second (Some a) (Some b) None x y = absurd y
-hears_then first second (Some a) (Some b) (Some c) x y = goes_then first second a b c x y
+goes_then : (first second : List Exchange) (a b c : List ℕ) (closed : Bool) → Goes a first b false → Goes b second c closed → Goes a (first ++ second) c closed
+goes_then [] second a b c closed (same, going) later = subst (λ (t : List ℕ). Goes t second c closed) same later
+goes_then (exchange ∷ []) second a b c closed here later = goes_on exchange second a b c closed here later
+goes_then (exchange ∷ next ∷ more) second a b c closed (mid, here, rest) later = (mid, here, goes_then (next ∷ more) second mid b c closed rest later)
 
-hears_none : (a : Option (List ℕ)) → Hears a [] a
+hears_then : (first second : List Exchange) (a b c : Option (List ℕ)) (closed : Bool) → Hears a first b false → Hears b second c closed → Hears a (first ++ second) c closed
+hears_then first second None b c closed x y = tt
+hears_then first second (Some a) None c closed x y = absurd x
+hears_then first second (Some a) (Some b) None closed x y = absurd y
+hears_then first second (Some a) (Some b) (Some c) closed x y = goes_then first second a b c closed x y
+
+hears_none : (a : Option (List ℕ)) → Hears a [] a false
 hears_none None = tt
-hears_none (Some a) = refl
+hears_none (Some a) = (refl, refl)
 
-asks-append : (first second : List Call) → asks (first ++ second) ≡ asks first ++ asks second
-asks-append first second = map-append (λ (c : Call). c.ask) first second
+hears_one : (a b : Option (List ℕ)) (exchange : Exchange) (last : Bool) → StandsItem a (meant_of exchange) last b → Hears a (exchange ∷ []) b last
+hears_one None b exchange last item = tt
+hears_one (Some a) None exchange last item = absurd item
+hears_one (Some a) (Some b) exchange last item = item
+
+pub calls_of-append : (first second : List Exchange) → calls_of (first ++ second) ≡ calls_of first ++ calls_of second
+calls_of-append [] second = refl
+calls_of-append (answered call ∷ more) second = ap (λ (t : List Call). call ∷ t) (calls_of-append more second)
+calls_of-append (refused broken ∷ more) second = calls_of-append more second
 
 -- a buffer that holds nothing
 pub from_start : (held : List ℕ) (left : Option (List ℕ)) → held ≡ [] → prepend_known held left ≡ left
@@ -52,43 +71,47 @@ from_start held (Some xs) empty = ap (λ (t : List ℕ). Some (t ++ xs)) empty
 
 -- ---- what was said
 
-texts-append : (first second : List Call) → texts (first ++ second) ≡ texts first ++ texts second
-texts-append first second = flat_map-append (λ (c : Call). text_of c.said) first second
+texts-append : (first second : List Exchange) → texts (first ++ second) ≡ texts first ++ texts second
+texts-append first second = flat_map-append exchange_text first second
 
 -- what comes behind the texts of the second part comes behind all
-behind : (first second : List Call) (more w : List ℕ) → w ≡ texts second ++ more → texts first ++ w ≡ texts (first ++ second) ++ more
+behind : (first second : List Exchange) (more w : List ℕ) → w ≡ texts second ++ more → texts first ++ w ≡ texts (first ++ second) ++ more
 behind first second more w is = ap (λ (t : List ℕ). texts first ++ t) is ∙ sym (append_assoc (texts first) (texts second) more) ∙ ap (λ (t : List ℕ). t ++ more) (sym (texts-append first second))
 
-all_behind : (first second : List Call) (w : List ℕ) → w ≡ texts second → texts first ++ w ≡ texts (first ++ second)
+all_behind : (first second : List Exchange) (w : List ℕ) → w ≡ texts second → texts first ++ w ≡ texts (first ++ second)
 all_behind first second w is = ap (λ (t : List ℕ). texts first ++ t) is ∙ sym (texts-append first second)
 
-cut_then : (first second : List Call) (w : List ℕ) → IsCut second w → IsCut (first ++ second) (texts first ++ w)
+cut_then : (first second : List Exchange) (w : List ℕ) → IsCut second w → IsCut (first ++ second) (texts first ++ w)
 cut_then first second w cut = record {
   most = first ++ cut.most;
   last = cut.last;
   n = cut.n;
-  are = ap (λ (t : List Call). first ++ t) cut.are ∙ sym (append_assoc first cut.most (cut.last ∷ []));
-  is = behind first cut.most (take cut.n (text_of cut.last.said)) w cut.is;
+  are = ap (λ (t : List Exchange). first ++ t) cut.are ∙ sym (append_assoc first cut.most (cut.last ∷ []));
+  is = behind first cut.most (take cut.n (exchange_text cut.last)) w cut.is;
 }
 
 -- ---- what the calls were told
 
+-- a test that holds of the calls of both parts
+calls_all : (first second : List Exchange) (P : List Call → Type 0) → P (calls_of first ++ calls_of second) → P (calls_of (first ++ second))
+calls_all first second P all = subst P (sym (calls_of-append first second)) all
+
 abbrev pub IsNoFault : Call → Type 0
 IsNoFault c = IsStoreFault c.said → ⊥
 
-none_then : (first second : List Call) → NoneFaults first → NoneFaults second → NoneFaults (first ++ second)
-none_then first second x y = All-append IsNoFault first second x y
+none_then : (first second : List Exchange) → NoneFaults (calls_of first) → NoneFaults (calls_of second) → NoneFaults (calls_of (first ++ second))
+none_then first second x y = calls_all first second NoneFaults (All-append IsNoFault (calls_of first) (calls_of second) x y)
 
-last_then : (first second : List Call) → NoneFaults first → LastFaults second → LastFaults (first ++ second)
+last_then : (first second : List Exchange) → NoneFaults (calls_of first) → LastFaults second → LastFaults (first ++ second)
 last_then first second x y = record {
   most = first ++ y.most;
   last = y.last;
-  are = ap (λ (t : List Call). first ++ t) y.are ∙ sym (append_assoc first y.most (y.last ∷ []));
+  are = ap (λ (t : List Exchange). first ++ t) y.are ∙ sym (append_assoc first y.most (answered y.last ∷ []));
   before = none_then first y.most x y.before;
   is = y.is;
 }
 
-faults_then : (end : SessionEnd) (first second : List Call) → NoneFaults first → FaultsBy end second → FaultsBy end (first ++ second)
+faults_then : (end : SessionEnd) (first second : List Exchange) → NoneFaults (calls_of first) → FaultsBy end second → FaultsBy end (first ++ second)
 faults_then ends.StoreFault first second x y = last_then first second x y
 faults_then ends.Ended first second x y = none_then first second x y
 faults_then ends.ReadFault first second x y = none_then first second x y
@@ -100,23 +123,26 @@ faults_then ends.NoMemory first second x y = none_then first second x y
 abbrev pub IsNoLack : Call → Type 0
 IsNoLack c = c.said ≡ Err faults.NoMemory → ⊥
 
-enough_then : (first second : List Call) → NoneLacks first → NoneLacks second → NoneLacks (first ++ second)
-enough_then first second x y = All-append IsNoLack first second x y
+enough_then : (first second : List Exchange) → NoneLacks (calls_of first) → NoneLacks (calls_of second) → NoneLacks (calls_of (first ++ second))
+enough_then first second x y = calls_all first second NoneLacks (All-append IsNoLack (calls_of first) (calls_of second) x y)
 
-lacks_then : (first second : List Call) → NoneLacks first → LastLacks second → LastLacks (first ++ second)
+lacks_then : (first second : List Exchange) → NoneLacks (calls_of first) → LastLacks second → LastLacks (first ++ second)
 lacks_then first second x y = record {
   most = first ++ y.most;
   last = y.last;
-  are = ap (λ (t : List Call). first ++ t) y.are ∙ sym (append_assoc first y.most (y.last ∷ []));
+  are = ap (λ (t : List Exchange). first ++ t) y.are ∙ sym (append_assoc first y.most (answered y.last ∷ []));
   before = enough_then first y.most x y.before;
   is = y.is;
 }
 
-some_then : (first second : List Call) → NoneLacks first → NoneLacks second ⊎ LastLacks second → NoneLacks (first ++ second) ⊎ LastLacks (first ++ second)
+abbrev SomeLacks : List Exchange → Type 0
+SomeLacks exchanges = NoneLacks (calls_of exchanges) ⊎ LastLacks exchanges
+
+some_then : (first second : List Exchange) → NoneLacks (calls_of first) → SomeLacks second → SomeLacks (first ++ second)
 some_then first second x (inl y) = inl (enough_then first second x y)
 some_then first second x (inr y) = inr (lacks_then first second x y)
 
-lacked_then : (end : SessionEnd) (first second : List Call) → NoneLacks first → LacksBy end second → LacksBy end (first ++ second)
+lacked_then : (end : SessionEnd) (first second : List Exchange) → NoneLacks (calls_of first) → LacksBy end second → LacksBy end (first ++ second)
 lacked_then ends.NoMemory first second x y = some_then first second x y
 lacked_then ends.WriteFault first second x y = some_then first second x y
 lacked_then ends.Ended first second x y = enough_then first second x y
@@ -131,18 +157,19 @@ record Totals (whole later : Option ℕ) : Type 0 where
   under : IsUnder later → IsUnder whole
   reaches : Reaches later → Reaches whole
 
-written_then : (whole later : Option ℕ) → Totals whole later → (end : SessionEnd) (first second : List Call) (rest : Option (List ℕ)) (w : List ℕ)
-    → NoneLacks first → IsWritten later end second rest w → IsWritten whole end (first ++ second) rest (texts first ++ w)
-written_then whole later totals ends.Ended first second rest w enough (inl x) = inl (x.0, totals.under x.1, all_behind first second w x.2)
-written_then whole later totals ends.Ended first second rest w enough (inr x) = inr (x.0, behind first second not_built_text w x.1)
-written_then whole later totals ends.ReadFault first second rest w enough x = all_behind first second w x
-written_then whole later totals ends.StoreFault first second rest w enough x = all_behind first second w x
-written_then whole later totals ends.Spent first second rest w enough x = (totals.reaches x.0, all_behind first second w x.1)
-written_then whole later totals ends.WriteFault first second rest w enough (inl x) = inl (cut_then first second w x)
-written_then whole later totals ends.WriteFault first second rest w enough (inr (inl x)) = inr (inl (x.0, x.1, behind first second (take x.0 not_built_text) w x.2))
-written_then whole later totals ends.WriteFault first second rest w enough (inr (inr x)) = inr (inr (x.0, behind first second (take x.0 no_memory_text) w x.1))
-written_then whole later totals ends.NoMemory first second rest w enough (inl x) = inl (lacks_then first second enough x.0, all_behind first second w x.1)
-written_then whole later totals ends.NoMemory first second rest w enough (inr x) = inr (enough_then first second enough x.0, behind first second no_memory_text w x.1)
+written_then : (whole later : Option ℕ) → Totals whole later → (end : SessionEnd) (first second : List Exchange) (rest : Option (List ℕ)) (closed : Bool) (w : List ℕ)
+    → NoneLacks (calls_of first) → IsWritten later end second rest closed w → IsWritten whole end (first ++ second) rest closed (texts first ++ w)
+written_then whole later totals ends.Ended first second rest closed w enough (inl x) = inl (x.0, all_behind first second w x.1)
+written_then whole later totals ends.Ended first second rest closed w enough (inr (going, inl x)) = inr (going, inl (x.0, totals.under x.1, all_behind first second w x.2))
+written_then whole later totals ends.Ended first second rest closed w enough (inr (going, inr x)) = inr (going, inr (x.0, behind first second not_built_text w x.1))
+written_then whole later totals ends.ReadFault first second rest closed w enough x = (x.0, all_behind first second w x.1)
+written_then whole later totals ends.StoreFault first second rest closed w enough x = all_behind first second w x
+written_then whole later totals ends.Spent first second rest closed w enough x = (x.0, totals.reaches x.1, all_behind first second w x.2)
+written_then whole later totals ends.WriteFault first second rest closed w enough (inl x) = inl (cut_then first second w x)
+written_then whole later totals ends.WriteFault first second rest closed w enough (inr (going, inl x)) = inr (going, inl (x.0, x.1, behind first second (take x.0 not_built_text) w x.2))
+written_then whole later totals ends.WriteFault first second rest closed w enough (inr (going, inr x)) = inr (going, inr (x.0, behind first second (take x.0 no_memory_text) w x.1))
+written_then whole later totals ends.NoMemory first second rest closed w enough (inl x) = inl (lacks_then first second enough x.0, all_behind first second w x.1)
+written_then whole later totals ends.NoMemory first second rest closed w enough (inr x) = inr (x.0, enough_then first second enough x.1, behind first second no_memory_text w x.2)
 
 -- ---- counts
 
@@ -201,9 +228,12 @@ module _ {T : Type 0} (moves : T → Ask → Result Answer DeskFault → T → T
   moves_then [] second a b c same later = subst (λ (t : T). Moves moves t second c) same later
   moves_then (call ∷ first) second a b c (mid, here, rest) later = (mid, here, moves_then first second mid b c rest later)
 
+  moved_then : (first second : List Exchange) (a b c : T) → Moves moves a (calls_of first) b → Moves moves b (calls_of second) c → Moves moves a (calls_of (first ++ second)) c
+  moved_then first second a b c x y = calls_all first second (λ (calls : List Call). Moves moves a calls c) (moves_then (calls_of first) (calls_of second) a b c x y)
+
   pub talked_none : (old : T) (said stream : Option (List ℕ)) → Talked moves old old said said stream stream
   talked_none old said stream = record {
-    calls = [];
+    exchanges = [];
     moved = refl;
     heard = hears_none stream;
     said = appends_none said;
@@ -213,26 +243,27 @@ module _ {T : Type 0} (moves : T → Ask → Result Answer DeskFault → T → T
 
   pub talked_then : (old mid new : T) (sa sb sc a b c : Option (List ℕ)) → Talked moves old mid sa sb a b → Talked moves mid new sb sc b c → Talked moves old new sa sc a c
   talked_then old mid new sa sb sc a b c first second = record {
-    calls = first.calls ++ second.calls;
-    moved = moves_then first.calls second.calls old mid new first.moved second.moved;
-    heard = subst (λ (t : List Ask). Hears a t c) (sym (asks-append first.calls second.calls)) (hears_then (asks first.calls) (asks second.calls) a b c first.heard second.heard);
-    said = subst (Appends sa sc) (sym (texts-append first.calls second.calls)) (appends_then sa sb sc (texts first.calls) (texts second.calls) first.said second.said);
-    none = none_then first.calls second.calls first.none second.none;
-    enough = enough_then first.calls second.calls first.enough second.enough;
+    exchanges = first.exchanges ++ second.exchanges;
+    moved = moved_then first.exchanges second.exchanges old mid new first.moved second.moved;
+    heard = hears_then first.exchanges second.exchanges a b c false first.heard second.heard;
+    said = subst (Appends sa sc) (sym (texts-append first.exchanges second.exchanges)) (appends_then sa sb sc (texts first.exchanges) (texts second.exchanges) first.said second.said);
+    none = none_then first.exchanges second.exchanges first.none second.none;
+    enough = enough_then first.exchanges second.exchanges first.enough second.enough;
   }
 
   closed_on : (whole later : Option ℕ) → Totals whole later → (old mid new : T) (sa sb sc a b : Option (List ℕ)) (end : SessionEnd)
       → Talked moves old mid sa sb a b → Closed moves mid new sb sc b later end → Closed moves old new sa sc a whole end
   closed_on whole later totals old mid new sa sb sc a b end first second = record {
-    calls = first.calls ++ second.calls;
-    moved = moves_then first.calls second.calls old mid new first.moved second.moved;
+    exchanges = first.exchanges ++ second.exchanges;
+    moved = moved_then first.exchanges second.exchanges old mid new first.moved second.moved;
     rest = second.rest;
-    heard = subst (λ (t : List Ask). Hears a t second.rest) (sym (asks-append first.calls second.calls)) (hears_then (asks first.calls) (asks second.calls) a b second.rest first.heard second.heard);
-    written = texts first.calls ++ second.written;
-    said = appends_then sa sb sc (texts first.calls) second.written first.said second.said;
-    is_written = written_then whole later totals end first.calls second.calls second.rest second.written first.enough second.is_written;
-    faulted = faults_then end first.calls second.calls first.none second.faulted;
-    lacked = lacked_then end first.calls second.calls first.enough second.lacked;
+    closed = second.closed;
+    heard = hears_then first.exchanges second.exchanges a b second.rest second.closed first.heard second.heard;
+    written = texts first.exchanges ++ second.written;
+    said = appends_then sa sb sc (texts first.exchanges) second.written first.said second.said;
+    is_written = written_then whole later totals end first.exchanges second.exchanges second.rest second.closed second.written first.enough second.is_written;
+    faulted = faults_then end first.exchanges second.exchanges first.none second.faulted;
+    lacked = lacked_then end first.exchanges second.exchanges first.enough second.lacked;
   }
 
   pub closed_then : (ta tb : ℕ) (la lb : Option (List ℕ)) → Given ta tb la lb → (old mid new : T) (sa sb sc a b : Option (List ℕ)) (end : SessionEnd)
@@ -240,66 +271,61 @@ module _ {T : Type 0} (moves : T → Ask → Result Answer DeskFault → T → T
   closed_then ta tb la lb given old mid new sa sb sc a b end first second =
       closed_on (total_of ta la) (total_of tb lb) (totals ta tb la lb given) old mid new sa sb sc a b end first second
 
+  -- the end of a session from its beginning
+  whole_session : (old new : T) (sa sb left : Option (List ℕ)) (end : SessionEnd) → Closed moves old new sa sb left (option_map length left) end → Session moves old new sa sb left end
+  whole_session old new sa sb left end all = record {
+    exchanges = all.exchanges;
+    moved = all.moved;
+    rest = all.rest;
+    closed = all.closed;
+    heard = all.heard;
+    written = all.written;
+    said = all.said;
+    is_written = all.is_written;
+    faulted = all.faulted;
+    lacked = all.lacked;
+  }
+
   -- a session that began with nothing taken
   pub session_of : (taken : ℕ) (held : List ℕ) (old new : T) (sa sb left : Option (List ℕ)) (end : SessionEnd) → taken ≡ 0 → held ≡ []
       → Closed moves old new sa sb (prepend_known held left) (total_of taken left) end → Session moves old new sa sb left end
   session_of taken held old new sa sb left end none empty closed =
-      let all = closed_on (option_map length left) (total_of taken left) (total_from taken left none) old old new sa sa sb left left end (talked_none old sa left)
-      (subst (λ (s : Option (List ℕ)). Closed moves old new sa sb s (total_of taken left) end) (from_start held left empty) closed) in
-      record {
-        calls = all.calls;
-        moved = all.moved;
-        rest = all.rest;
-        heard = all.heard;
-        written = all.written;
-        said = all.said;
-        is_written = all.is_written;
-        faulted = all.faulted;
-        lacked = all.lacked;
-      }
+      whole_session old new sa sb left end (
+      closed_on (option_map length left) (total_of taken left) (total_from taken left none) old old new sa sa sb left left end (talked_none old sa left)
+      (subst (λ (s : Option (List ℕ)). Closed moves old new sa sb s (total_of taken left) end) (from_start held left empty) closed)
+      )
 
-  -- ---- one message
+  -- ---- one message that was asked
 
-  abbrev one_call : Ask → Result Answer DeskFault → List Call
-  one_call ask said = record { ask = ask; said = said } ∷ []
+  abbrev one_call : Ask → Result Answer DeskFault → List Exchange
+  one_call ask said = answered (record { ask = ask; said = said }) ∷ []
 
-  one_none : (ask : Ask) (said : Result Answer DeskFault) → (IsStoreFault said → ⊥) → NoneFaults (one_call ask said)
+  one_none : (ask : Ask) (said : Result Answer DeskFault) → (IsStoreFault said → ⊥) → NoneFaults (calls_of (one_call ask said))
   one_none ask said no_fault = All-cons IsNoFault (record { ask = ask; said = said }) [] no_fault (All-nil IsNoFault)
 
-  one_enough : (ask : Ask) (said : Result Answer DeskFault) → (said ≡ Err faults.NoMemory → ⊥) → NoneLacks (one_call ask said)
+  one_enough : (ask : Ask) (said : Result Answer DeskFault) → (said ≡ Err faults.NoMemory → ⊥) → NoneLacks (calls_of (one_call ask said))
   one_enough ask said no_lack = All-cons IsNoLack (record { ask = ask; said = said }) [] no_lack (All-nil IsNoLack)
 
   one_lacks : (ask : Ask) (said : Result Answer DeskFault) → said ≡ Err faults.NoMemory → LastLacks (one_call ask said)
   one_lacks ask said is = record { most = []; last = record { ask = ask; said = said }; are = refl; before = All-nil IsNoLack; is = is }
 
-  one_either : (ask : Ask) (said : Result Answer DeskFault) → NoneLacks (one_call ask said) ⊎ LastLacks (one_call ask said)
+  one_either : (ask : Ask) (said : Result Answer DeskFault) → SomeLacks (one_call ask said)
   one_either ask (Ok answer) = inl (one_enough ask (Ok answer) (λ is. absurd cc))
   one_either ask (Err (faults.StoreFault told count)) = inl (one_enough ask (Err (faults.StoreFault told count)) (λ is. absurd cc))
   one_either ask (Err faults.JournalFull) = inl (one_enough ask (Err faults.JournalFull) (λ is. absurd cc))
   one_either ask (Err faults.NoMemory) = inr (one_lacks ask (Err faults.NoMemory) refl)
 
-  one_text : (sa sb : Option (List ℕ)) (ask : Ask) (said : Result Answer DeskFault) → Appends sa sb (text_of said) → Appends sa sb (texts (one_call ask said))
-  one_text sa sb ask said wrote = subst (Appends sa sb) (sym (append-nil (text_of said))) wrote
+  one_text : (sa sb : Option (List ℕ)) (exchange : Exchange) → Appends sa sb (exchange_text exchange) → Appends sa sb (texts (exchange ∷ []))
+  one_text sa sb exchange wrote = subst (Appends sa sb) (sym (append-nil (exchange_text exchange))) wrote
 
-  pub answered_on : (old new : T) (sa sb a b : Option (List ℕ)) (ask : Ask) (result : Result Unit SessionEnd) → Answers moves old new sa sb ask result
-      → Hears a (ask ∷ []) b → OnOk result (Talked moves old new sa sb a b)
-  answered_on old new sa sb a b ask (Ok x) done heard = record {
-    calls = one_call ask done.told;
-    moved = (new, done.moved, refl);
-    heard = heard;
-    said = one_text sa sb ask done.told done.said.0;
-    none = one_none ask done.told done.said.1;
-    enough = one_enough ask done.told done.said.2;
-  }
-  answered_on old new sa sb a b ask (Err e) done heard = tt
-
-  closed_one : (old new : T) (sa sb a b : Option (List ℕ)) (total : Option ℕ) (ask : Ask) (said : Result Answer DeskFault) (end : SessionEnd) (written : List ℕ) → moves old ask said new
-      → Hears a (ask ∷ []) b → Appends sa sb written → IsWritten total end (one_call ask said) b written → FaultsBy end (one_call ask said) → LacksBy end (one_call ask said) → Closed moves old new sa sb a total end
-  closed_one old new sa sb a b total ask said end written moved heard wrote is faulted lacked = record {
-    calls = one_call ask said;
+  closed_one : (old new : T) (sa sb a b : Option (List ℕ)) (total : Option ℕ) (ask : Ask) (last : Bool) (said : Result Answer DeskFault) (end : SessionEnd) (written : List ℕ) → moves old ask said new
+      → StandsItem a (asks ask) last b → Appends sa sb written → IsWritten total end (one_call ask said) b last written → FaultsBy end (one_call ask said) → LacksBy end (one_call ask said) → Closed moves old new sa sb a total end
+  closed_one old new sa sb a b total ask last said end written moved heard wrote is faulted lacked = record {
+    exchanges = one_call ask said;
     moved = (new, moved, refl);
     rest = b;
-    heard = heard;
+    closed = last;
+    heard = hears_one a b (answered (record { ask = ask; said = said })) last heard;
     written = written;
     said = wrote;
     is_written = is;
@@ -307,33 +333,90 @@ module _ {T : Type 0} (moves : T → Ask → Result Answer DeskFault → T → T
     lacked = lacked;
   }
 
-  pub answered_end : (old new : T) (sa sb a b : Option (List ℕ)) (total : Option ℕ) (ask : Ask) (result : Result Unit SessionEnd) → Answers moves old new sa sb ask result
-      → Hears a (ask ∷ []) b → IfErr result (λ end. Closed moves old new sa sb a total end)
-  answered_end old new sa sb a b total ask (Ok x) done heard = tt
-  answered_end old new sa sb a b total ask (Err ends.WriteFault) done heard =
-      closed_one old new sa sb a b total ask done.told ends.WriteFault (take done.said.0.0 (text_of done.told)) done.moved heard done.said.0.1
-      (inl (record { most = []; last = record { ask = ask; said = done.told }; n = done.said.0.0; are = refl; is = refl }))
+  -- it was answered, and the session goes on unless it was the last
+  pub asked_on : (old new : T) (sa sb a b : Option (List ℕ)) (total : Option ℕ) (ask : Ask) (last : Bool) (done result : Result Unit SessionEnd) → IsOk done → Answers moves old new sa sb ask done
+      → StandsItem a (asks ask) last b → (last ≡ false → IsOk result) → (last ≡ true → result ≡ Err ends.Ended) → Went moves old new sa sb a b total result
+  asked_on old new sa sb a b total ask last (Err e) result ok told heard goes stops = absurd cc
+  asked_on old new sa sb a b total ask true (Ok x) result ok told heard goes stops =
+      subst (Went moves old new sa sb a b total) (sym (stops refl))
+      (closed_one old new sa sb a b total ask true told.told ends.Ended (texts (one_call ask told.told)) told.moved heard (one_text sa sb (answered (record { ask = ask; said = told.told })) told.said.0)
+      (inl (refl, refl)) (one_none ask told.told told.said.1) (one_enough ask told.told told.said.2))
+  asked_on old new sa sb a b total ask false (Ok x) (Err e) ok told heard goes stops = absurd (let e = goes refl in cc)
+  asked_on old new sa sb a b total ask false (Ok x) (Ok y) ok told heard goes stops = record {
+    exchanges = one_call ask told.told;
+    moved = (new, told.moved, refl);
+    heard = hears_one a b (answered (record { ask = ask; said = told.told })) false heard;
+    said = one_text sa sb (answered (record { ask = ask; said = told.told })) told.said.0;
+    none = one_none ask told.told told.said.1;
+    enough = one_enough ask told.told told.said.2;
+  }
+
+  -- it was answered, or not in full, and this ended the session
+  pub asked_end : (old new : T) (sa sb a b : Option (List ℕ)) (total : Option ℕ) (ask : Ask) (last : Bool) (end : SessionEnd) → Answers moves old new sa sb ask (Err end)
+      → StandsItem a (asks ask) last b → Closed moves old new sa sb a total end
+  asked_end old new sa sb a b total ask last ends.WriteFault done heard =
+      closed_one old new sa sb a b total ask last done.told ends.WriteFault (take done.said.0.0 (text_of done.told)) done.moved heard done.said.0.1
+      (inl (record { most = []; last = answered (record { ask = ask; said = done.told }); n = done.said.0.0; are = refl; is = refl }))
       (one_none ask done.told done.said.1) (one_either ask done.told)
-  answered_end old new sa sb a b total ask (Err ends.NoMemory) done heard =
-      closed_one old new sa sb a b total ask done.told ends.NoMemory (texts (one_call ask done.told)) done.moved heard (one_text sa sb ask done.told done.said.0)
+  asked_end old new sa sb a b total ask last ends.NoMemory done heard =
+      closed_one old new sa sb a b total ask last done.told ends.NoMemory (texts (one_call ask done.told)) done.moved heard (one_text sa sb (answered (record { ask = ask; said = done.told })) done.said.0)
       (inl (one_lacks ask done.told done.said.1, refl))
       (one_none ask done.told (λ fault. subst IsStoreFault done.said.1 fault)) (inr (one_lacks ask done.told done.said.1))
-  answered_end old new sa sb a b total ask (Err ends.StoreFault) done heard =
-      closed_one old new sa sb a b total ask done.told ends.StoreFault (texts (one_call ask done.told)) done.moved heard (one_text sa sb ask done.told done.said.0)
+  asked_end old new sa sb a b total ask last ends.StoreFault done heard =
+      closed_one old new sa sb a b total ask last done.told ends.StoreFault (texts (one_call ask done.told)) done.moved heard (one_text sa sb (answered (record { ask = ask; said = done.told })) done.said.0)
       refl
       (record { most = []; last = record { ask = ask; said = done.told }; are = refl; before = All-nil IsNoFault; is = done.said.1 })
       (one_enough ask done.told (λ is. subst IsStoreFault is done.said.1))
-  answered_end old new sa sb a b total ask (Err ends.Ended) done heard = absurd done.said
-  answered_end old new sa sb a b total ask (Err ends.ReadFault) done heard = absurd done.said
-  answered_end old new sa sb a b total ask (Err ends.Spent) done heard = absurd done.said
+  asked_end old new sa sb a b total ask last ends.Ended done heard = absurd done.said
+  asked_end old new sa sb a b total ask last ends.ReadFault done heard = absurd done.said
+  asked_end old new sa sb a b total ask last ends.Spent done heard = absurd done.said
+
+  -- ---- one message that was refused
+
+  abbrev one_refusal : Refused → List Exchange
+  one_refusal broken = refused broken ∷ []
+
+  closed_refusal : (old : T) (sa sb a b : Option (List ℕ)) (total : Option ℕ) (broken : Refused) (last : Bool) (end : SessionEnd) (written : List ℕ)
+      → StandsItem a (refuses broken) last b → Appends sa sb written → IsWritten total end (one_refusal broken) b last written → FaultsBy end (one_refusal broken) → LacksBy end (one_refusal broken)
+      → Closed moves old old sa sb a total end
+  closed_refusal old sa sb a b total broken last end written heard wrote is faulted lacked = record {
+    exchanges = one_refusal broken;
+    moved = refl;
+    rest = b;
+    closed = last;
+    heard = hears_one a b (refused broken) last heard;
+    written = written;
+    said = wrote;
+    is_written = is;
+    faulted = faulted;
+    lacked = lacked;
+  }
+
+  -- it was answered, and the session goes on unless it was the last
+  refused_on : (old : T) (sa sb a b : Option (List ℕ)) (total : Option ℕ) (broken : Refused) (last : Bool) (done result : Result Unit SessionEnd) → IsOk done → IsRefusedBy sa sb broken done
+      → StandsItem a (refuses broken) last b → (last ≡ false → IsOk result) → (last ≡ true → result ≡ Err ends.Ended) → Went moves old old sa sb a b total result
+  refused_on old sa sb a b total broken last (Err e) result ok told heard goes stops = absurd cc
+  refused_on old sa sb a b total broken true (Ok x) result ok told heard goes stops =
+      subst (Went moves old old sa sb a b total) (sym (stops refl))
+      (closed_refusal old sa sb a b total broken true ends.Ended (texts (one_refusal broken)) heard (one_text sa sb (refused broken) told) (inl (refl, refl)) (All-nil IsNoFault) (All-nil IsNoLack))
+  refused_on old sa sb a b total broken false (Ok x) (Err e) ok told heard goes stops = absurd (let e = goes refl in cc)
+  refused_on old sa sb a b total broken false (Ok x) (Ok y) ok told heard goes stops = record {
+    exchanges = one_refusal broken;
+    moved = refl;
+    heard = hears_one a b (refused broken) false heard;
+    said = one_text sa sb (refused broken) told;
+    none = All-nil IsNoFault;
+    enough = All-nil IsNoLack;
+  }
 
   -- nothing was answered
-  pub closed_here : (old : T) (sa sb a : Option (List ℕ)) (total : Option ℕ) (end : SessionEnd) (written : List ℕ) → Appends sa sb written → IsWritten total end [] a written
+  pub closed_here : (old : T) (sa sb a : Option (List ℕ)) (total : Option ℕ) (end : SessionEnd) (written : List ℕ) → Appends sa sb written → IsWritten total end [] a false written
       → FaultsBy end [] → LacksBy end [] → Closed moves old old sa sb a total end
   closed_here old sa sb a total end written wrote is faulted lacked = record {
-    calls = [];
+    exchanges = [];
     moved = refl;
     rest = a;
+    closed = false;
     heard = hears_none a;
     written = written;
     said = wrote;
@@ -342,30 +425,70 @@ module _ {T : Type 0} (moves : T → Ask → Result Answer DeskFault → T → T
     lacked = lacked;
   }
 
-  -- the last text was said, or in part
-  pub last_not_built : (old : T) (sa sb a : Option (List ℕ)) (total : Option ℕ) (end : SessionEnd) → StandsUnbuilt a
-      → ((end ≡ ends.Ended) × Appends sa sb not_built_text) ⊎ ((end ≡ ends.WriteFault) × ((n : ℕ) × Appends sa sb (take n not_built_text))) → Closed moves old old sa sb a total end
-  last_not_built old sa sb a total end unbuilt (inl x) =
-      subst (λ (e : SessionEnd). Closed moves old old sa sb a total e) (sym x.0)
-      (closed_here old sa sb a total ends.Ended not_built_text x.1 (inr (unbuilt, refl)) (All-nil IsNoFault) (All-nil IsNoLack))
-  last_not_built old sa sb a total end unbuilt (inr x) =
-      subst (λ (e : SessionEnd). Closed moves old old sa sb a total e) (sym x.0)
-      (closed_here old sa sb a total ends.WriteFault (take x.1.0 not_built_text) x.1.1 (inr (inl (x.1.0, unbuilt, refl))) (All-nil IsNoFault) (inl (All-nil IsNoLack)))
+  -- its text was cut, or there was no memory for it
+  refused_end : (old : T) (sa sb a b : Option (List ℕ)) (total : Option ℕ) (broken : Refused) (last : Bool) (end : SessionEnd) → IsRefusedBy sa sb broken (Err end)
+      → StandsItem a (refuses broken) last b → Closed moves old old sa sb a total end
+  refused_end old sa sb a b total broken last ends.WriteFault (inl x) heard =
+      closed_refusal old sa sb a b total broken last ends.WriteFault (take x.0 (bad_text broken)) heard x.1
+      (inl (record { most = []; last = refused broken; n = x.0; are = refl; is = refl })) (All-nil IsNoFault) (inl (All-nil IsNoLack))
+  refused_end old sa sb a b total broken last ends.WriteFault (inr x) heard =
+      closed_here old sa sb a total ends.WriteFault (take x.0 no_memory_text) x.1 (inr (refl, inr (x.0, refl))) (All-nil IsNoFault) (inl (All-nil IsNoLack))
+  refused_end old sa sb a b total broken last ends.NoMemory said heard =
+      closed_here old sa sb a total ends.NoMemory no_memory_text said (inr (refl, All-nil IsNoLack, refl)) (All-nil IsNoFault) (inl (All-nil IsNoLack))
+  refused_end old sa sb a b total broken last ends.StoreFault said heard = absurd said
+  refused_end old sa sb a b total broken last ends.Ended said heard = absurd said
+  refused_end old sa sb a b total broken last ends.ReadFault said heard = absurd said
+  refused_end old sa sb a b total broken last ends.Spent said heard = absurd said
 
-  pub bad_closed : (old : T) (sa sb a b : Option (List ℕ)) (total : Option ℕ) (bad : Bad) (end : SessionEnd) → Tells a (heards.Bad bad) b
-      → ((end ≡ ends.Ended) × Appends sa sb not_built_text) ⊎ ((end ≡ ends.WriteFault) × ((n : ℕ) × Appends sa sb (take n not_built_text))) → Closed moves old old sa sb a total end
-  bad_closed old sa sb a b total bads.NotBuilt end unbuilt said = last_not_built old sa sb a total end unbuilt said
+  -- ---- the end of a session
+
+  -- what stands there is not served, and it was answered
+  unbuilt_on : (old : T) (sa sb a b : Option (List ℕ)) (total : Option ℕ) (last : Bool) (done result : Result Unit SessionEnd) → IsOk done → IsRefusedBy sa sb not_built done
+      → StandsUnbuilt a × (last ≡ true) → (last ≡ true → result ≡ Err ends.Ended) → Went moves old old sa sb a b total result
+  unbuilt_on old sa sb a b total last (Err e) result ok said stands stops = absurd cc
+  unbuilt_on old sa sb a b total last (Ok x) result ok said stands stops =
+      subst (Went moves old old sa sb a b total) (sym (stops stands.1))
+      (closed_here old sa sb a total ends.Ended not_built_text said (inr (refl, inr (stands.0, refl))) (All-nil IsNoFault) (All-nil IsNoLack))
+
+  unbuilt_end : (old : T) (sa sb a : Option (List ℕ)) (total : Option ℕ) (end : SessionEnd) → IsRefusedBy sa sb not_built (Err end) → StandsUnbuilt a → Closed moves old old sa sb a total end
+  unbuilt_end old sa sb a total ends.WriteFault (inl x) stands =
+      closed_here old sa sb a total ends.WriteFault (take x.0 not_built_text) x.1 (inr (refl, inl (x.0, stands, refl))) (All-nil IsNoFault) (inl (All-nil IsNoLack))
+  unbuilt_end old sa sb a total ends.WriteFault (inr x) stands =
+      closed_here old sa sb a total ends.WriteFault (take x.0 no_memory_text) x.1 (inr (refl, inr (x.0, refl))) (All-nil IsNoFault) (inl (All-nil IsNoLack))
+  unbuilt_end old sa sb a total ends.NoMemory said stands =
+      closed_here old sa sb a total ends.NoMemory no_memory_text said (inr (refl, All-nil IsNoLack, refl)) (All-nil IsNoFault) (inl (All-nil IsNoLack))
+  unbuilt_end old sa sb a total ends.StoreFault said stands = absurd said
+  unbuilt_end old sa sb a total ends.Ended said stands = absurd said
+  unbuilt_end old sa sb a total ends.ReadFault said stands = absurd said
+  unbuilt_end old sa sb a total ends.Spent said stands = absurd said
+
+  -- a message that asks nothing was answered
+  pub bad_on : (old : T) (sa sb a b : Option (List ℕ)) (total : Option ℕ) (broken : Refused) (last : Bool) (done result : Result Unit SessionEnd) → IsOk done → IsRefusedBy sa sb broken done
+      → TellsRefused a broken last b → (last ≡ false → IsOk result) → (last ≡ true → result ≡ Err ends.Ended) → Went moves old old sa sb a b total result
+  bad_on old sa sb a b total not_built last done result ok said tells goes stops = unbuilt_on old sa sb a b total last done result ok said tells stops
+  bad_on old sa sb a b total not_a_month last done result ok said tells goes stops = refused_on old sa sb a b total not_a_month last done result ok said tells goes stops
+  bad_on old sa sb a b total bad_bucket_name last done result ok said tells goes stops = refused_on old sa sb a b total bad_bucket_name last done result ok said tells goes stops
+  bad_on old sa sb a b total bad_key last done result ok said tells goes stops = refused_on old sa sb a b total bad_key last done result ok said tells goes stops
+  bad_on old sa sb a b total (flawed flaw) last done result ok said tells goes stops = refused_on old sa sb a b total (flawed flaw) last done result ok said tells goes stops
+
+  pub bad_end : (old : T) (sa sb a b : Option (List ℕ)) (total : Option ℕ) (broken : Refused) (last : Bool) (end : SessionEnd) → IsRefusedBy sa sb broken (Err end)
+      → TellsRefused a broken last b → Closed moves old old sa sb a total end
+  bad_end old sa sb a b total not_built last end said tells = unbuilt_end old sa sb a total end said tells.0
+  bad_end old sa sb a b total not_a_month last end said tells = refused_end old sa sb a b total not_a_month last end said tells
+  bad_end old sa sb a b total bad_bucket_name last end said tells = refused_end old sa sb a b total bad_bucket_name last end said tells
+  bad_end old sa sb a b total bad_key last end said tells = refused_end old sa sb a b total bad_key last end said tells
+  bad_end old sa sb a b total (flawed flaw) last end said tells = refused_end old sa sb a b total (flawed flaw) last end said tells
 
   pub last_no_memory : (old : T) (sa sb a : Option (List ℕ)) (total : Option ℕ) (end : SessionEnd)
       → ((end ≡ ends.NoMemory) × Appends sa sb no_memory_text) ⊎ ((end ≡ ends.WriteFault) × ((n : ℕ) × Appends sa sb (take n no_memory_text))) → Closed moves old old sa sb a total end
   last_no_memory old sa sb a total end (inl x) =
       subst (λ (e : SessionEnd). Closed moves old old sa sb a total e) (sym x.0)
-      (closed_here old sa sb a total ends.NoMemory no_memory_text x.1 (inr (All-nil IsNoLack, refl)) (All-nil IsNoFault) (inl (All-nil IsNoLack)))
+      (closed_here old sa sb a total ends.NoMemory no_memory_text x.1 (inr (refl, All-nil IsNoLack, refl)) (All-nil IsNoFault) (inl (All-nil IsNoLack)))
   last_no_memory old sa sb a total end (inr x) =
       subst (λ (e : SessionEnd). Closed moves old old sa sb a total e) (sym x.0)
-      (closed_here old sa sb a total ends.WriteFault (take x.1.0 no_memory_text) x.1.1 (inr (inr (x.1.0, refl))) (All-nil IsNoFault) (inl (All-nil IsNoLack)))
+      (closed_here old sa sb a total ends.WriteFault (take x.1.0 no_memory_text) x.1.1 (inr (refl, inr (x.1.0, refl))) (All-nil IsNoFault) (inl (All-nil IsNoLack)))
 
-  silent : (old : T) (sa sb a : Option (List ℕ)) (total : Option ℕ) (end kind : SessionEnd) → (end ≡ kind) × (sb ≡ sa) → IsWritten total kind [] a [] → FaultsBy kind [] → LacksBy kind []
+  silent : (old : T) (sa sb a : Option (List ℕ)) (total : Option ℕ) (end kind : SessionEnd) → (end ≡ kind) × (sb ≡ sa) → IsWritten total kind [] a false [] → FaultsBy kind [] → LacksBy kind []
       → Closed moves old old sa sb a total end
   silent old sa sb a total end kind x is faulted lacked =
       subst (λ (e : SessionEnd). Closed moves old old sa sb a total e) (sym x.0)
@@ -376,22 +499,31 @@ module _ {T : Type 0} (moves : T → Ask → Result Answer DeskFault → T → T
       → (stop ≡ stops.ReadFault → (end ≡ ends.ReadFault) × (sb ≡ sa)) → (stop ≡ stops.Spent → (end ≡ ends.Spent) × (sb ≡ sa)) → (stop ≡ stops.Spent → Reaches total)
       → Closed moves old old sa sb a total end
   last_stop old sa sb a total stops.NoMemory end said read spent reaches = last_no_memory old sa sb a total end (said refl)
-  last_stop old sa sb a total stops.ReadFault end said read spent reaches = silent old sa sb a total end ends.ReadFault (read refl) refl (All-nil IsNoFault) (All-nil IsNoLack)
-  last_stop old sa sb a total stops.Spent end said read spent reaches = silent old sa sb a total end ends.Spent (spent refl) (reaches refl, refl) (All-nil IsNoFault) (All-nil IsNoLack)
+  last_stop old sa sb a total stops.ReadFault end said read spent reaches = silent old sa sb a total end ends.ReadFault (read refl) (refl, refl) (All-nil IsNoFault) (All-nil IsNoLack)
+  last_stop old sa sb a total stops.Spent end said read spent reaches = silent old sa sb a total end ends.Spent (spent refl) (refl, reaches refl, refl) (All-nil IsNoFault) (All-nil IsNoLack)
 
   -- a session that had no memory to begin with
   pub session_lacks : (old : T) (sa sb left : Option (List ℕ)) (end : SessionEnd)
       → ((end ≡ ends.NoMemory) × Appends sa sb no_memory_text) ⊎ ((end ≡ ends.WriteFault) × ((n : ℕ) × Appends sa sb (take n no_memory_text))) → Session moves old old sa sb left end
-  session_lacks old sa sb left end said =
-      let all = last_no_memory old sa sb left (option_map length left) end said in
-      record {
-        calls = all.calls;
-        moved = all.moved;
-        rest = all.rest;
-        heard = all.heard;
-        written = all.written;
-        said = all.said;
-        is_written = all.is_written;
-        faulted = all.faulted;
-        lacked = all.lacked;
-      }
+  session_lacks old sa sb left end said = whole_session old old sa sb left end (last_no_memory old sa sb left (option_map length left) end said)
+
+  -- ---- how a message went
+
+  pub went_on : (old new : T) (sa sb a b : Option (List ℕ)) (total : Option ℕ) (result : Result Unit SessionEnd) → Went moves old new sa sb a b total result → OnOk result (Talked moves old new sa sb a b)
+  went_on old new sa sb a b total (Ok x) went = went
+  went_on old new sa sb a b total (Err end) went = tt
+
+  pub went_end : (old new : T) (sa sb a b : Option (List ℕ)) (total : Option ℕ) (result : Result Unit SessionEnd) → Went moves old new sa sb a b total result
+      → IfErr result (λ end. Closed moves old new sa sb a total end)
+  went_end old new sa sb a b total (Ok x) went = tt
+  went_end old new sa sb a b total (Err end) went = went
+
+-- a refusal after which the session goes on was an item
+pub item_refused : (a b : Option (List ℕ)) (broken : Refused) (last : Bool) (result : Result Unit SessionEnd) (P : Type 0) → TellsRefused a broken last b → IfServed broken P
+    → (last ≡ true → result ≡ Err ends.Ended) → OnOk result P
+item_refused a b broken last (Err e) P tells item stops = tt
+item_refused a b not_built last (Ok x) P tells item stops = absurd (let e = stops tells.1 in cc)
+item_refused a b not_a_month last (Ok x) P tells item stops = item
+item_refused a b bad_bucket_name last (Ok x) P tells item stops = item
+item_refused a b bad_key last (Ok x) P tells item stops = item
+item_refused a b (flawed flaw) last (Ok x) P tells item stops = item

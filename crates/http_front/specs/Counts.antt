@@ -1,13 +1,7 @@
--- How many bytes a source gave, and how many it gives in all.
+-- How many bytes a source gives in all.
 use Rattle.std.specs.Prelude.{◌≡◌, ℕ, ◌+◌, ◌<◌, ◌≤◌, List, length, Option, Some, None, option_map, ⊤}
 use Rattle.std.specs.Io.KnownBytes.{Consumes}
 use Rattle.http_wire.specs.Held.{take_limit}
-
--- the source gave as many bytes as the count grew by
-pub record Given (taken_old taken_new : ℕ) (left_old left_new : Option (List ℕ)) : Type 0 where
-  pub given : List ℕ
-  pub counted : taken_new ≡ taken_old + length given
-  pub left : Consumes left_old left_new given
 
 -- the source gave so many bytes
 abbrev pub Gave : Option (List ℕ) → Option (List ℕ) → ℕ → Type 0

@@ -1,7 +1,6 @@
 pub mod Counts
-pub mod Meaning
+pub mod Exchanges
 pub mod Session
 pub mod Talk
-pub mod Tells
 pub mod Telling
 pub mod Texts

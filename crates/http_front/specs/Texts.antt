@@ -1,10 +1,15 @@
 -- What is said.
-use Rattle.std.specs.Prelude.{ℕ, List, [], codes, Result, Ok, Err}
+use Rattle.std.specs.Prelude.{ℕ, List, [], ◌∷◌, codes, Result, Ok, Err}
 use Rattle.std.specs.List.{flat_map}
-use Rattle.http_text.specs.Replies.{error_text, reply_with, answer_text}
+use Rattle.serde_json.specs.Data.{string}
+use Rattle.serde_json.specs.Written.{compact_text}
+use Rattle.http_bodies.specs.Flaws.{BodyFlaw, bad_body, bad_size, unsupported_class, bad_tags}
+use Rattle.http_text.specs.Replies.{error_data, error_text, reply_with, answer_text}
+use Rattle.http_asks.specs.Meaning.{Refused, not_a_month, bad_bucket_name, bad_key, flawed, not_built}
 use Rattle.desk_core.specs.Answers.{Answer, Call}
 use Rattle.desk_core.specs.declared.fault.DeskFault.{DeskFault}
 use Rattle.desk_core.specs.declared.fault.DeskFault.TheVariants as faults
+use Rattle.http_front.specs.Exchanges.{Exchange, answered, refused}
 
 -- a refusal that tells its name and its number alone
 abbrev pub error_reply : ℕ → List ℕ → ℕ → List ℕ
@@ -19,6 +24,41 @@ no_memory_text = error_reply 500 (codes "NoMemory") 115
 abbrev pub not_built_text : List ℕ
 not_built_text = error_reply 501 (codes "NotBuilt") 119
 
+-- ---- a message that is refused
+
+-- the body tells the name that is of no class, or the field of the body that is wrong
+unfoldable pub class_text : List ℕ → List ℕ
+class_text name = compact_text (error_data (codes "UnsupportedClass") 43 ((codes "name", string name) ∷ []))
+
+unfoldable pub field_text : List ℕ → List ℕ
+field_text field = compact_text (error_data (codes "BadBody") 123 ((codes "field", string field) ∷ []))
+
+abbrev pub flaw_body : BodyFlaw → List ℕ
+flaw_body bad_tags = error_text (codes "BadTags") 12
+flaw_body bad_size = error_text (codes "BadSize") 13
+flaw_body (unsupported_class name) = class_text name
+flaw_body (bad_body field) = field_text field
+
+abbrev pub refused_body : Refused → List ℕ
+refused_body not_a_month = error_text (codes "NotAMonth") 4
+refused_body bad_bucket_name = error_text (codes "BadBucketName") 10
+refused_body bad_key = error_text (codes "BadKey") 11
+refused_body (flawed flaw) = flaw_body flaw
+refused_body not_built = error_text (codes "NotBuilt") 119
+
+-- Bad Request, or Not Implemented (RFC 9110, "Status Codes")
+abbrev pub refused_status : Refused → ℕ
+refused_status not_a_month = 400
+refused_status bad_bucket_name = 400
+refused_status bad_key = 400
+refused_status (flawed flaw) = 400
+refused_status not_built = 501
+
+abbrev pub bad_text : Refused → List ℕ
+bad_text broken = reply_with (refused_status broken) (refused_body broken)
+
+-- ---- a message that is asked
+
 -- the text of a call without an answer of the office; nothing is said of a command that may have been kept
 abbrev pub fault_text : DeskFault → List ℕ
 fault_text (faults.StoreFault told faults) = []
@@ -30,6 +70,12 @@ abbrev pub text_of : Result Answer DeskFault → List ℕ
 text_of (Ok answer) = answer_text answer.reply
 text_of (Err fault) = fault_text fault
 
--- the texts of what the calls were told, in order
-abbrev pub texts : List Call → List ℕ
-texts calls = flat_map (λ (c : Call). text_of c.said) calls
+-- ---- a session
+
+abbrev pub exchange_text : Exchange → List ℕ
+exchange_text (answered call) = text_of call.said
+exchange_text (refused broken) = bad_text broken
+
+-- the texts of the exchanges, in order
+abbrev pub texts : List Exchange → List ℕ
+texts exchanges = flat_map exchange_text exchanges

@@ -1,28 +1,31 @@
 // One message of a session and its answer.
-ghost use Rattle.std.specs.Prelude.{◌≡◌, ◌≤◌, ◌<◌, ◌+◌, ◌⊎◌, ℕ, List, Option, take, length, OnOk, IfOk, IfErr, IsErrOf, Ok, Err, Some};
+ghost use Rattle.std.specs.Prelude.{◌≡◌, ◌≤◌, ◌<◌, ◌+◌, ◌⊎◌, ℕ, List, Option, take, length, true, false, OnOk, IfOk, IfErr, IsErrOf, IsOk, Ok, Err, Some};
 ghost use Rattle.std.specs.Io.KnownBytes.{Appends, prepend_known};
 ghost use Rattle.office_base.specs.Faults.{Rose, HasCause};
 ghost use Rattle.desk_core.specs.declared.fault.DeskFault.{DeskFault};
 ghost use Rattle.http_wire.specs.Held.{take_limit};
-ghost use Rattle.http_front.specs.Counts.{Given, IsUnder, total_of};
-ghost use Rattle.http_front.specs.Talk.{IsSaid, Answers, Talked, Closed};
-ghost use Rattle.http_front.specs.Tells.{Tells};
-ghost use Rattle.http_front.specs.Texts.{text_of, not_built_text, no_memory_text};
+ghost use Rattle.http_asks.specs.Counts.{Given};
+ghost use Rattle.http_asks.specs.Faults.{refused_of};
+ghost use Rattle.http_asks.specs.Tells.{Tells, OnItem};
+ghost use Rattle.http_front.specs.Counts.{IsUnder, total_of};
+ghost use Rattle.http_front.specs.Talk.{IsSaid, IsRefusedBy, Answers, Talked, Closed, Went};
+ghost use Rattle.http_front.specs.Texts.{text_of, no_memory_text};
 
-use crate::hearing::{Bad, Heard, Stop, read_request};
 use crate::printing::{print_fault, print_reply};
+use crate::refusing::print_bad;
 use crate::replies::Replies;
 use crate::teller::Teller;
 use crate::texts::{no_memory, not_built};
 use desk_core::{Acked, DeskFault};
-use http_wire::{Buffer, Source};
+use http_asks::{Bad, Heard, Reader, Stop};
+use http_wire::Source;
 use plain_office::Ask;
 use std::alloc::Global;
 
 /// How a session ended.
 #[derive(Clone, Copy, Debug, PartialEq, Eq)]
 pub enum SessionEnd {
-    /// The stream ended, or a message that asks nothing was answered.
+    /// The stream ended, or the last message of the session was answered.
     Ended,
     /// The source failed.
     ReadFault,
@@ -114,18 +117,6 @@ fn answer<W: Replies, T: Teller>(
     }
 }
 
-fn say_bad<W: Replies>(out: &mut W, bad: Bad) -> SessionEnd
-    ensures said { ((result ≡ SessionEnd.Ended) × Appends (W.said out.old) (W.said out.new) not_built_text)
-        ⊎ ((result ≡ SessionEnd.WriteFault) × ((n : ℕ) × Appends (W.said out.old) (W.said out.new) (take n not_built_text))) }
-    ensures noted { W.noted out.new ≡ W.noted out.old }
-    ensures later { W.faults out.old ≤ W.faults out.new }
-    ensures fault { result ≡ SessionEnd.WriteFault → Rose (W.faults out.old) (W.faults out.new) }
-{
-    match bad {
-        Bad::NotBuilt => say_last(out, not_built(), SessionEnd::Ended),
-    }
-}
-
 // Says that memory ran out, as the last text of a session.
 pub(crate) fn say_no_memory<W: Replies>(out: &mut W) -> SessionEnd
     ensures said { ((result ≡ SessionEnd.NoMemory) × Appends (W.said out.old) (W.said out.new) no_memory_text)
@@ -135,6 +126,22 @@ pub(crate) fn say_no_memory<W: Replies>(out: &mut W) -> SessionEnd
     ensures fault { result ≡ SessionEnd.WriteFault → Rose (W.faults out.old) (W.faults out.new) }
 {
     say_last(out, no_memory(), SessionEnd::NoMemory)
+}
+
+// Says the text of a refusal.
+fn say_bad<W: Replies>(alloc: Global, out: &mut W, bad: &Bad) -> Result<(), SessionEnd>
+    ensures said { IsRefusedBy (W.said out.old) (W.said out.new) (refused_of bad.now) result }
+    ensures noted { W.noted out.new ≡ W.noted out.old }
+    ensures later { W.faults out.old ≤ W.faults out.new }
+    ensures fault { IsErrOf result SessionEnd.WriteFault → Rose (W.faults out.old) (W.faults out.new) }
+{
+    if let Bad::NotBuilt = bad {
+        return say(out, not_built());
+    }
+    match print_bad(alloc, bad) {
+        Ok(text) => say(out, &text),
+        Err(_) => Err(say_no_memory(out)),
+    }
 }
 
 fn say_stop<W: Replies>(out: &mut W, stop: Stop) -> SessionEnd
@@ -155,7 +162,16 @@ fn say_stop<W: Replies>(out: &mut W, stop: Stop) -> SessionEnd
     }
 }
 
+// The session goes on, or ends behind its last message.
+fn go_on_unless(last: bool) -> Result<(), SessionEnd>
+    ensures goes_on { last ≡ false → IsOk result }
+    ensures ends { last ≡ true → result ≡ Err SessionEnd.Ended }
+{
+    if last { Err(SessionEnd::Ended) } else { Ok(()) }
+}
+
 fn answer_heard<W: Replies, T: Teller>(
+    alloc: Global,
     heard: Heard,
     out: &mut W,
     room: &mut [u8],
@@ -163,11 +179,9 @@ fn answer_heard<W: Replies, T: Teller>(
 ) -> Result<(), SessionEnd>
     requires ready { T.ready teller.old }
     requires room { 16384 ≤ length room.old }
-    ensures goes_on { (stream rest : Option (List ℕ)) → Tells stream heard rest
-        → OnOk result (Talked T.moves teller.old teller.new (W.said out.old) (W.said out.new) stream rest) }
-    ensures closed { (stream rest : Option (List ℕ)) (total : Option ℕ) → Tells stream heard rest → (heard ≡ Heard.End → IsUnder total)
-        → IfErr result (λ end. Closed T.moves teller.old teller.new (W.said out.old) (W.said out.new) stream total end) }
-    ensures asked { OnOk result ((ask : Ask) × (heard ≡ Heard.Asked ask)) }
+    ensures went { (stream rest : Option (List ℕ)) (total : Option ℕ) → Tells stream heard rest → (heard ≡ Heard.End → IsUnder total)
+        → Went T.moves teller.old teller.new (W.said out.old) (W.said out.new) stream rest total result }
+    ensures item { (stream rest : Option (List ℕ)) (few many : ℕ) → Tells stream heard rest → OnItem {E = Stop} (Ok heard) (few < many) → OnOk result (few < many) }
     ensures ready { OnOk result (T.ready teller.new) }
     ensures room { 16384 ≤ length room.new }
     ensures noted { W.noted out.new ≡ W.noted out.old }
@@ -177,8 +191,14 @@ fn answer_heard<W: Replies, T: Teller>(
     ensures not_spent { IsErrOf result SessionEnd.Spent → ⊥ }
 {
     match heard {
-        Heard::Asked(ask) => answer(&ask, out, room, teller),
-        Heard::Bad(bad) => Err(say_bad(out, bad)),
+        Heard::Asked { ask, last } => {
+            answer(&ask, out, room, teller)?;
+            go_on_unless(last)
+        }
+        Heard::Bad { bad, last } => {
+            say_bad(alloc, out, &bad)?;
+            go_on_unless(last)
+        }
         Heard::End => Err(SessionEnd::Ended),
     }
 }
@@ -187,7 +207,7 @@ fn answer_heard<W: Replies, T: Teller>(
 pub(crate) fn answer_one<R: Source, W: Replies, T: Teller>(
     alloc: Global,
     source: &mut R,
-    buffer: &mut Buffer,
+    reader: &mut Reader,
     out: &mut W,
     room: &mut [u8],
     teller: &mut T,
@@ -195,23 +215,23 @@ pub(crate) fn answer_one<R: Source, W: Replies, T: Teller>(
     requires ready { T.ready teller.old }
     requires room { 16384 ≤ length room.old }
     ensures goes_on { OnOk result (Talked T.moves teller.old teller.new (W.said out.old) (W.said out.new)
-        (prepend_known buffer.old.bytes (R.left source.old)) (prepend_known buffer.new.bytes (R.left source.new))) }
+        (prepend_known reader.old.bytes (R.left source.old)) (prepend_known reader.new.bytes (R.left source.new))) }
     ensures closed { IfErr result (λ end. Closed T.moves teller.old teller.new (W.said out.old) (W.said out.new)
-        (prepend_known buffer.old.bytes (R.left source.old)) (total_of buffer.old.taken (R.left source.old)) end) }
+        (prepend_known reader.old.bytes (R.left source.old)) (total_of reader.old.taken (R.left source.old)) end) }
     ensures ready { OnOk result (T.ready teller.new) }
     ensures room { 16384 ≤ length room.new }
-    ensures given { Given buffer.old.taken buffer.new.taken (R.left source.old) (R.left source.new) }
-    ensures limit { buffer.new.taken ≤ take_limit }
-    ensures uses { OnOk result (buffer.old.taken + length buffer.new.bytes < buffer.new.taken + length buffer.old.bytes) }
+    ensures given { Given reader.old.taken reader.new.taken (R.left source.old) (R.left source.new) }
+    ensures limit { reader.new.taken ≤ take_limit }
+    ensures uses { OnOk result (reader.old.taken + length reader.new.bytes < reader.new.taken + length reader.old.bytes) }
     ensures noted { W.noted out.new ≡ W.noted out.old }
     ensures read_later { R.faults source.old ≤ R.faults source.new }
     ensures write_later { W.faults out.old ≤ W.faults out.new }
     ensures read_fault { IsErrOf result SessionEnd.ReadFault → Rose (R.faults source.old) (R.faults source.new) }
     ensures write_fault { IsErrOf result SessionEnd.WriteFault → Rose (W.faults out.old) (W.faults out.new) }
-    ensures spent { IsErrOf result SessionEnd.Spent → buffer.new.taken ≡ take_limit }
+    ensures spent { IsErrOf result SessionEnd.Spent → reader.new.taken ≡ take_limit }
 {
-    match read_request(alloc, source, buffer) {
-        Ok(heard) => answer_heard(heard, out, room, teller),
+    match reader.next(alloc, source) {
+        Ok(heard) => answer_heard(alloc, heard, out, room, teller),
         Err(stop) => Err(say_stop(out, stop)),
     }
 }

@@ -1,13 +1,11 @@
-//! Messages of a stream, their meaning, their replies, and a session that answers each in order.
+//! A session that answers each message of a stream in order, and the texts of its replies.
 #![tactic(auto)]
 
 mod answering;
 mod desk_teller;
-mod hearing;
-mod laws;
 mod memory_replies;
-mod parts;
 mod printing;
+mod refusing;
 mod replies;
 mod talking;
 mod teller;
@@ -16,10 +14,10 @@ mod tests;
 mod texts;
 
 pub use answering::SessionEnd;
-pub use hearing::{Bad, Heard, Stop, read_request};
-pub use laws::one_ask;
+pub use http_asks::{Bad, Heard, Reader, Stop};
 pub use memory_replies::MemoryReplies;
 pub use printing::{NoRoom, print_fault, print_reply};
+pub use refusing::print_bad;
 pub use replies::{Replies, WriterReplies};
 pub use talking::session;
 pub use teller::Teller;

@@ -3,14 +3,16 @@ ghost use Rattle.std.specs.Prelude.{◌≡◌, ◌≤◌, ℕ, List, Option, len
 ghost use Rattle.std.specs.Io.KnownBytes.{prepend_known};
 ghost use Rattle.office_base.specs.Faults.{Rose};
 ghost use Rattle.http_wire.specs.Held.{take_limit};
-ghost use Rattle.http_front.specs.Counts.{Given, Gave, total_of};
+ghost use Rattle.http_asks.specs.Counts.{Given};
+ghost use Rattle.http_front.specs.Counts.{Gave, total_of};
 ghost use Rattle.http_front.specs.Session.{Session};
 ghost use Rattle.http_front.specs.Talk.{Closed};
 
 use crate::answering::{SessionEnd, answer_one, say_no_memory};
 use crate::replies::Replies;
 use crate::teller::Teller;
-use http_wire::{Buffer, Source};
+use http_asks::Reader;
+use http_wire::Source;
 use std::alloc::Global;
 
 /// How many bytes a reply to a command may have.
@@ -19,34 +21,35 @@ const REPLY_ROOM: usize = 16384;
 fn go_on<R: Source, W: Replies, T: Teller>(
     alloc: Global,
     source: &mut R,
-    buffer: &mut Buffer,
+    reader: &mut Reader,
     out: &mut W,
     room: &mut [u8],
     teller: &mut T,
 ) -> SessionEnd
     requires ready { T.ready teller.old }
     requires room { 16384 ≤ length room.old }
-    requires limit { buffer.old.taken ≤ take_limit }
+    requires limit { reader.old.taken ≤ take_limit }
     ensures closed { Closed T.moves teller.old teller.new (W.said out.old) (W.said out.new)
-        (prepend_known buffer.old.bytes (R.left source.old)) (total_of buffer.old.taken (R.left source.old)) result }
-    ensures given { Given buffer.old.taken buffer.new.taken (R.left source.old) (R.left source.new) }
+        (prepend_known reader.old.bytes (R.left source.old)) (total_of reader.old.taken (R.left source.old)) result }
+    ensures given { Given reader.old.taken reader.new.taken (R.left source.old) (R.left source.new) }
     ensures noted { W.noted out.new ≡ W.noted out.old }
     ensures read_later { R.faults source.old ≤ R.faults source.new }
     ensures write_later { W.faults out.old ≤ W.faults out.new }
     ensures read_fault { result ≡ SessionEnd.ReadFault → Rose (R.faults source.old) (R.faults source.new) }
     ensures write_fault { result ≡ SessionEnd.WriteFault → Rose (W.faults out.old) (W.faults out.new) }
-    ensures spent { result ≡ SessionEnd.Spent → buffer.new.taken ≡ take_limit }
+    ensures spent { result ≡ SessionEnd.Spent → reader.new.taken ≡ take_limit }
 {
     'talking: loop {
-        match answer_one(alloc, source, buffer, out, room, teller) {
+        match answer_one(alloc, source, reader, out, room, teller) {
             Ok(()) => {}
             Err(end) => return end,
         }
     }
 }
 
-/// Answers the messages of a stream in order, each before further bytes are awaited, up to the stream's end or to the
-/// first message that asks nothing. Takes its memory at the start, and for a message that of the message's own parts.
+/// Answers the messages of a stream in order, each before further bytes are awaited, up to the stream's end, to the last
+/// message of the session, or to the first one that is not served. A message that is refused is answered as the others are.
+/// Takes its memory at the start, and for a message that of the message's own parts and of the text of its refusal.
 pub fn session<R: Source, W: Replies, T: Teller>(
     alloc: Global,
     source: &mut R,
@@ -62,11 +65,11 @@ pub fn session<R: Source, W: Replies, T: Teller>(
     ensures write_fault { result ≡ SessionEnd.WriteFault → Rose (W.faults out.old) (W.faults out.new) }
     ensures spent { result ≡ SessionEnd.Spent → Gave (R.left source.old) (R.left source.new) take_limit }
 {
-    let Ok(mut buffer) = Buffer::new(alloc) else {
+    let Ok(mut reader) = Reader::new(alloc) else {
         return say_no_memory(out);
     };
     let Ok(mut room) = vec![in alloc; 0u8; REPLY_ROOM] else {
         return say_no_memory(out);
     };
-    go_on(alloc, source, &mut buffer, out, room.as_mut_slice(), teller)
+    go_on(alloc, source, &mut reader, out, room.as_mut_slice(), teller)
 }

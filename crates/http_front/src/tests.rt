@@ -1,5 +1,6 @@
 use super::*;
-use desk_core::{Acked, DeskFault};
+use desk_core::{Acked, Desk, DeskFault, ListClock};
+use disk_core::{Disk, FileNo, MemoryDisk};
 use http_text::put_answer;
 use http_wire::MemorySource;
 use office_base::BucketName;
@@ -144,20 +145,18 @@ fn each_message_is_answered_once(rt: HostRuntime) -> Result<(), Fail> {
 }
 
 #[test]
-fn whatever_else_stands_there_is_the_last(rt: HostRuntime) -> Result<(), Fail> {
+fn what_is_not_served_is_the_last(rt: HostRuntime) -> Result<(), Fail> {
     let alloc = rt.alloc();
     let mut long = b"GET /".to_vec(alloc)?;
     for _ in 0..8188 {
         long.push(b'a')?;
     }
-    let rows: [&[u8]; 10] = [
+    let rows: [&[u8]; 8] = [
         b"GET / HTTP/1.1\r\n\r\n",
-        b"PUT /buckets/logs HTTP/1.0\r\n\r\n",
-        b"PUT /buckets/logs HTTP/1.1\r\nconnection: close\r\n\r\n",
-        b"PUT /buckets/logs HTTP/1.1\r\nCONTENT-LENGTH: 0\r\n\r\n",
-        b"PUT /buckets/logs HTTP/1.1\r\nTransfer-Encoding: chunked\r\n\r\n",
-        b"PUT /buckets/lo HTTP/1.1\r\n\r\n",
+        b"DELETE /buckets/logs HTTP/1.1\r\n\r\n",
         b"PUT /bucket/logs HTTP/1.1\r\n\r\n",
+        b"PUT /buckets/logs HTTP/1.1\r\nTransfer-Encoding: chunked\r\n\r\n",
+        b"PUT /buckets/logs/objects/k HTTP/1.1\r\nContent-Length: 27\r\n\r\n{\"size\":1,\"tags\":{\"a\":\"x\"}}",
         b"PUT /buckets/logs HTTP/1.1\r\nHost:",
         b"\x01\x02",
         &long,
@@ -172,5 +171,155 @@ fn whatever_else_stands_there_is_the_last(rt: HostRuntime) -> Result<(), Fail> {
         assert!(rt; end == SessionEnd::Ended);
         assert!(rt; said.as_slice() == both.as_slice());
     }
+    Ok(())
+}
+
+/// The reply to a refused message, with a body of so many bytes.
+fn bad_reply(alloc: Global, size: &str, body: &str) -> Result<Vec<u8>, Fail> {
+    let mut text =
+        b"HTTP/1.1 400 Bad Request\r\ncontent-type: application/json\r\ncontent-length: ".to_vec(
+            alloc,
+        )?;
+    text.extend_from_slice(size.as_bytes())?;
+    text.extend_from_slice(b"\r\n\r\n")?;
+    text.extend_from_slice(body.as_bytes())?;
+    Ok(text)
+}
+
+#[test]
+fn a_session_goes_on_after_a_refusal(rt: HostRuntime) -> Result<(), Fail> {
+    let alloc = rt.alloc();
+    let mut long_key = b"PUT /buckets/logs/objects/".to_vec(alloc)?;
+    for _ in 0..1025 {
+        long_key.push(b'a')?;
+    }
+    long_key.extend_from_slice(b" HTTP/1.1\r\n\r\n")?;
+    let rows: [(&[u8], &str, &str); 10] = [
+        (
+            b"GET /buckets/logs/meters/2024-13 HTTP/1.1\r\n\r\n",
+            "32",
+            "{\"error\":\"NotAMonth\",\"number\":4}",
+        ),
+        (
+            b"PUT /buckets/lo HTTP/1.1\r\n\r\n",
+            "37",
+            "{\"error\":\"BadBucketName\",\"number\":10}",
+        ),
+        (
+            b"GET /buckets/lo HTTP/1.1\r\n\r\n",
+            "37",
+            "{\"error\":\"BadBucketName\",\"number\":10}",
+        ),
+        (&long_key, "30", "{\"error\":\"BadKey\",\"number\":11}"),
+        (
+            b"PUT /buckets/logs/objects/k HTTP/1.1\r\nContent-Length: 26\r\n\r\n{\"size\":1,\"tags\":{\"\":\"x\"}}",
+            "31",
+            "{\"error\":\"BadTags\",\"number\":12}",
+        ),
+        (
+            b"PUT /buckets/logs/objects/k HTTP/1.1\r\nContent-Length: 22\r\n\r\n{\"size\":5497558138881}",
+            "31",
+            "{\"error\":\"BadSize\",\"number\":13}",
+        ),
+        (
+            b"PUT /buckets/logs/objects/k HTTP/1.1\r\nContent-Length: 24\r\n\r\n{\"size\":1,\"class\":\"FOO\"}",
+            "53",
+            "{\"error\":\"UnsupportedClass\",\"name\":\"FOO\",\"number\":43}",
+        ),
+        (
+            b"PUT /buckets/logs/objects/k HTTP/1.1\r\nContent-Length: 25\r\n\r\n{\"size\":1,\"class\":\"A\\\"B\"}",
+            "54",
+            "{\"error\":\"UnsupportedClass\",\"name\":\"A\\\"B\",\"number\":43}",
+        ),
+        (
+            b"PUT /buckets/logs/objects/k HTTP/1.1\r\nContent-Length: 12\r\n\r\n{\"size\":\"1\"}",
+            "47",
+            "{\"error\":\"BadBody\",\"field\":\"size\",\"number\":123}",
+        ),
+        (
+            b"PUT /buckets/logs/objects/k HTTP/1.1\r\nContent-Length: 2\r\n\r\n[]",
+            "43",
+            "{\"error\":\"BadBody\",\"field\":\"\",\"number\":123}",
+        ),
+    ];
+    for (message, size, body) in rows {
+        let reply = bad_reply(alloc, size, body)?;
+        let all = joined(alloc, message, PUT)?;
+        let both = joined(alloc, &reply, FULL)?;
+        let (end, said) = talk(alloc, &all, 17, &[], &[], full())?;
+        assert!(rt; end == SessionEnd::Ended);
+        assert!(rt; said.as_slice() == both.as_slice());
+    }
+    Ok(())
+}
+
+#[test]
+fn a_last_message_ends_the_session(rt: HostRuntime) -> Result<(), Fail> {
+    let alloc = rt.alloc();
+    let name = bad_reply(alloc, "37", "{\"error\":\"BadBucketName\",\"number\":10}")?;
+    let rows: [(&[u8], &[u8]); 4] = [
+        (
+            b"PUT /buckets/logs HTTP/1.1\r\nConnection: close\r\n\r\n",
+            FULL,
+        ),
+        (b"PUT /buckets/logs HTTP/1.0\r\n\r\n", FULL),
+        (
+            b"PUT /buckets/lo HTTP/1.1\r\nConnection: close\r\n\r\n",
+            &name,
+        ),
+        (b"GET /buckets/lo HTTP/1.0\r\n\r\n", &name),
+    ];
+    for (message, reply) in rows {
+        let all = joined(alloc, message, PUT)?;
+        let (end, said) = talk(alloc, &all, 17, &[], &[], full())?;
+        assert!(rt; end == SessionEnd::Ended);
+        assert!(rt; said.as_slice() == reply);
+    }
+    Ok(())
+}
+
+#[test]
+fn a_refusal_is_printed_exactly(rt: HostRuntime) -> Result<(), Fail> {
+    let alloc = rt.alloc();
+    let name = String::from_str(alloc, "FOO")?;
+    let body = "{\"error\":\"UnsupportedClass\",\"name\":\"FOO\",\"number\":43}";
+    let reply = bad_reply(alloc, "53", body)?;
+    let Ok(text) = print_bad(alloc, &Bad::UnsupportedClass { name }) else {
+        return Err(Fail::from("no memory"));
+    };
+    assert!(rt; text.as_slice() == reply.as_slice());
+    Ok(())
+}
+
+const STORED: &[u8] =
+    b"HTTP/1.1 201 Created\r\ncontent-type: application/json\r\ncontent-length: 54\r\n\r\n{\"moment\":\"2024-01-01T00:00:00.000Z\",\"version\":\"null\"}";
+
+const SHOWN: &[u8] =
+    b"HTTP/1.1 200 OK\r\ncontent-type: application/json\r\ncontent-length: 79\r\n\r\n{\"bucket\":\"logs\",\"rules\":0,\"uploads\":0,\"versioning\":\"Unversioned\",\"versions\":1}";
+
+// S3 User Guide, "How S3 Versioning works": an object of a bucket without versioning has the null version.
+#[test]
+fn a_desk_answers_a_session(rt: HostRuntime) -> Result<(), Fail> {
+    let alloc = rt.alloc();
+    let mut disk = MemoryDisk::new(alloc, Vec::new(alloc));
+    disk.write_at(FileNo::Journal, 0, b"\xA5METERJRN1\x00")?;
+    let clock = ListClock::new([1_704_067_200_000; 3].to_vec(alloc)?);
+    let mut desk = match Desk::open(alloc, disk, clock, 1_000_000) {
+        Ok(desk) => desk,
+        Err((fault, _, _)) => return Err(Fail::from(fault)),
+    };
+    let mut bytes = PUT.to_vec(alloc)?;
+    bytes.extend_from_slice(
+        b"PUT /buckets/logs/objects/a/b HTTP/1.1\r\nContent-Length: 13\r\n\r\n{\"size\":1000}",
+    )?;
+    bytes.extend_from_slice(b"GET /buckets/logs HTTP/1.1\r\n\r\n")?;
+    let mut source = MemorySource::new(bytes, 50, Vec::new(alloc));
+    let mut out = MemoryReplies::new(alloc, Vec::new(alloc));
+    let end = session(alloc, &mut source, &mut out, &mut desk);
+    let mut replies = MADE.to_vec(alloc)?;
+    replies.extend_from_slice(STORED)?;
+    replies.extend_from_slice(SHOWN)?;
+    assert!(rt; end == SessionEnd::Ended);
+    assert!(rt; out.texts() == replies.as_slice());
     Ok(())
 }

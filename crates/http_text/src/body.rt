@@ -140,9 +140,9 @@ fn put_end(room: &mut [u8], at: usize, moment: u64) -> usize
     put(room, at, b"}")
 }
 
-// A refusal that tells its name and its number alone.
+/// Writes the body of a refusal that tells its name and its number alone.
 #[tactic(auto, using(crate::proofs::Small::error_small))]
-fn put_error(room: &mut [u8], at: usize, name: &str, number: u64) -> usize
+pub fn put_error(room: &mut [u8], at: usize, name: &str, number: u64) -> usize
     ensures puts { Puts room.old at room.new result (error_text name.now number) }
     ensures small { length name.now ≤ 100 → length (error_text name.now number) ≤ 10_000 }
 {

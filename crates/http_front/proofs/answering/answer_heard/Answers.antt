@@ -1,28 +1,51 @@
-use Rattle.std.proofs.Common.{inl, refl, subst, []}
+use Rattle.std.proofs.Common.{[], ◌<◌, ◌≡◌, inl, inr, refl, sym, ap, subst, Result, Ok, Err}
+use Rattle.std.specs.Result.{IsErrAnd}
 use Rattle.std.proofs.lemmas.List.Elements.{All-nil}
-use Rattle.http_front.specs.Tells.{Tells}
-use Rattle.http_front.specs.declared.hearing.Heard.{Heard}
+use Rattle.http_asks.specs.Faults.{refused_of}
+use Rattle.http_asks.specs.Tells.{Tells, OnItem}
+use Rattle.http_asks.specs.declared.reader.Heard.{Heard}
+use Rattle.http_asks.specs.declared.reader.Stop.{Stop}
+use Rattle.http_front.specs.Talk.{Went}
+use Rattle.http_front.specs.declared.answering.SessionEnd.{SessionEnd}
 use Rattle.http_front.specs.declared.answering.SessionEnd.TheVariants.{Ended}
 use Rattle.http_front.proofs.SaidLemmas.{appends_none}
-use Rattle.http_front.proofs.TalkLemmas.{answered_on, answered_end, bad_closed, closed_here, IsNoFault, IsNoLack}
+use Rattle.http_front.proofs.TalkLemmas.{asked_on, asked_end, bad_on, bad_end, closed_here, item_refused, IsNoFault, IsNoLack}
 use Rattle.http_front.proofs.answering.answer_heard.Goals as goal
 
-pub returns-in-Asked-clause-goes_on : goal.returns-in-Asked-clause-goes_on
-returns-in-Asked-clause-goes_on g c stream rest tells =
-    answered_on g.T.Teller.moves c.args.teller.now c.answer.new.teller (g.W.Replies.said c.args.out.now) (g.W.Replies.said c.answer.new.out) stream rest c.in-Asked.ask
-    c.answer.result c.answer.ensures.answers (subst (λ (h : Heard). Tells stream h rest) c.in-Asked.is tells)
+err_of : (result : Result Unit SessionEnd) (end : SessionEnd) → IsErrAnd result (λ (other : SessionEnd). other ≡ end) → Err end ≡ result
+err_of (Ok x) end same = absurd same
+err_of (Err other) end same = ap (λ (e : SessionEnd). Err e) (sym same)
 
-pub returns-in-Asked-clause-closed : goal.returns-in-Asked-clause-closed
-returns-in-Asked-clause-closed g c stream rest total tells under =
-    answered_end g.T.Teller.moves c.args.teller.now c.answer.new.teller (g.W.Replies.said c.args.out.now) (g.W.Replies.said c.answer.new.out) stream rest total c.in-Asked.ask
-    c.answer.result c.answer.ensures.answers (subst (λ (h : Heard). Tells stream h rest) c.in-Asked.is tells)
+pub returns-in_ok-answer-in-Asked-clause-went : goal.returns-in_ok-answer-in-Asked-clause-went
+returns-in_ok-answer-in-Asked-clause-went g c stream rest total tells under =
+    asked_on g.T.Teller.moves c.args.teller.now c.answer.new.teller (g.W.Replies.said c.args.out.now) (g.W.Replies.said c.answer.new.out) stream rest total c.in-Asked.ask c.in-Asked.last
+    (Ok c.in_ok-answer-in-Asked.field-0) c.go_on_unless.result refl c.in_ok-answer-in-Asked.ensures.answers (subst (λ (h : Heard). Tells stream h rest) c.in-Asked.is tells) c.go_on_unless.ensures.goes_on c.go_on_unless.ensures.ends
 
-pub returns-in-Bad-clause-closed : goal.returns-in-Bad-clause-closed
-returns-in-Bad-clause-closed g c stream rest total tells under =
-    bad_closed g.T.Teller.moves c.args.teller.now (g.W.Replies.said c.args.out.now) (g.W.Replies.said c.say_bad.new.out) stream rest total c.in-Bad.bad c.say_bad.result
-    (subst (λ (h : Heard). Tells stream h rest) c.in-Bad.is tells) c.say_bad.ensures.said
+pub returns-in_err-answer-in-Asked-clause-went : goal.returns-in_err-answer-in-Asked-clause-went
+returns-in_err-answer-in-Asked-clause-went g c stream rest total tells under =
+    subst (Went g.T.Teller.moves c.args.teller.now c.answer.new.teller (g.W.Replies.said c.args.out.now) (g.W.Replies.said c.answer.new.out) stream rest total) (err_of c.from_residual.result c.in_err-answer-in-Asked.field-0.0 c.from_residual.ensures.1) (
+    asked_end g.T.Teller.moves c.args.teller.now c.answer.new.teller (g.W.Replies.said c.args.out.now) (g.W.Replies.said c.answer.new.out) stream rest total c.in-Asked.ask c.in-Asked.last
+    c.in_err-answer-in-Asked.field-0.0 c.in_err-answer-in-Asked.ensures.answers (subst (λ (h : Heard). Tells stream h rest) c.in-Asked.is tells)
+    )
 
-pub returns-in-End-clause-closed : goal.returns-in-End-clause-closed
-returns-in-End-clause-closed g c stream rest total tells under =
+pub returns-in_ok-say_bad-in-Bad-clause-went : goal.returns-in_ok-say_bad-in-Bad-clause-went
+returns-in_ok-say_bad-in-Bad-clause-went g c stream rest total tells under =
+    bad_on g.T.Teller.moves c.args.teller.now (g.W.Replies.said c.args.out.now) (g.W.Replies.said c.say_bad.new.out) stream rest total (refused_of c.in-Bad.bad) c.in-Bad.last
+    (Ok c.in_ok-say_bad-in-Bad.field-0) c.go_on_unless-in-Bad.result refl c.in_ok-say_bad-in-Bad.ensures.said (subst (λ (h : Heard). Tells stream h rest) c.in-Bad.is tells) c.go_on_unless-in-Bad.ensures.goes_on c.go_on_unless-in-Bad.ensures.ends
+
+pub returns-in_ok-say_bad-in-Bad-clause-item : goal.returns-in_ok-say_bad-in-Bad-clause-item
+returns-in_ok-say_bad-in-Bad-clause-item g c stream rest few many tells item =
+    item_refused stream rest (refused_of c.in-Bad.bad) c.in-Bad.last c.go_on_unless-in-Bad.result (few < many) (subst (λ (h : Heard). Tells stream h rest) c.in-Bad.is tells)
+    (subst (λ (h : Heard). OnItem {E = Stop} (Ok h) (few < many)) c.in-Bad.is item) c.go_on_unless-in-Bad.ensures.ends
+
+pub returns-in_err-say_bad-in-Bad-clause-went : goal.returns-in_err-say_bad-in-Bad-clause-went
+returns-in_err-say_bad-in-Bad-clause-went g c stream rest total tells under =
+    subst (Went g.T.Teller.moves c.args.teller.now c.args.teller.now (g.W.Replies.said c.args.out.now) (g.W.Replies.said c.say_bad.new.out) stream rest total) (err_of c.from_residual-in_err-say_bad-in-Bad.result c.in_err-say_bad-in-Bad.field-0.0 c.from_residual-in_err-say_bad-in-Bad.ensures.1) (
+    bad_end g.T.Teller.moves c.args.teller.now (g.W.Replies.said c.args.out.now) (g.W.Replies.said c.say_bad.new.out) stream rest total (refused_of c.in-Bad.bad) c.in-Bad.last
+    c.in_err-say_bad-in-Bad.field-0.0 c.in_err-say_bad-in-Bad.ensures.said (subst (λ (h : Heard). Tells stream h rest) c.in-Bad.is tells)
+    )
+
+pub returns-in-End-clause-went : goal.returns-in-End-clause-went
+returns-in-End-clause-went g c stream rest total tells under =
     closed_here g.T.Teller.moves c.args.teller.now (g.W.Replies.said c.args.out.now) (g.W.Replies.said c.args.out.now) stream total
-    Ended [] (appends_none (g.W.Replies.said c.args.out.now)) (inl ((subst (λ (h : Heard). Tells stream h rest) c.in-End.is tells), under c.in-End.is, refl)) (All-nil IsNoFault) (All-nil IsNoLack)
+    Ended [] (appends_none (g.W.Replies.said c.args.out.now)) (inr (refl, inl ((subst (λ (h : Heard). Tells stream h rest) c.in-End.is tells), under c.in-End.is, refl))) (All-nil IsNoFault) (All-nil IsNoLack)

@@ -5,10 +5,10 @@ use Rattle.http_front.proofs.talking.go_on.Goals as goal
 
 pub talking-init : goal.talking-init
 talking-init g c = record {
-  talked = talked_none g.T.Teller.moves c.args.teller.now (g.W.Replies.said c.args.out.now) (prepend_known c.args.buffer.now.bytes (g.R.Source.left c.args.source.now));
+  talked = talked_none g.T.Teller.moves c.args.teller.now (g.W.Replies.said c.args.out.now) (prepend_known c.args.reader.now.bytes (g.R.Source.left c.args.source.now));
   ready = c.requires.ready;
   room = c.requires.room;
-  given = given_none c.args.buffer.now.taken (g.R.Source.left c.args.source.now);
+  given = given_none c.args.reader.now.taken (g.R.Source.left c.args.source.now);
   limit = c.requires.limit;
   noted = refl;
   read_later = omega arith;
@@ -21,11 +21,11 @@ talking-preserved g c =
     let left = g.R.Source.left in
     record {
       talked = talked_then g.T.Teller.moves c.args.teller.now c.talking.teller c.answer_one.new.teller (said c.args.out.now) (said c.talking.out) (said c.answer_one.new.out)
-          (prepend_known c.args.buffer.now.bytes (left c.args.source.now)) (prepend_known c.talking.buffer.bytes (left c.talking.source)) (prepend_known c.answer_one.new.buffer.bytes (left c.answer_one.new.source))
+          (prepend_known c.args.reader.now.bytes (left c.args.source.now)) (prepend_known c.talking.reader.bytes (left c.talking.source)) (prepend_known c.answer_one.new.reader.bytes (left c.answer_one.new.source))
           c.talking.invariant.talked c.in-Ok.ensures.goes_on;
       ready = c.in-Ok.ensures.ready;
       room = c.answer_one.ensures.room;
-      given = given_then c.args.buffer.now.taken c.talking.buffer.taken c.answer_one.new.buffer.taken (left c.args.source.now) (left c.talking.source) (left c.answer_one.new.source)
+      given = given_then c.args.reader.now.taken c.talking.reader.taken c.answer_one.new.reader.taken (left c.args.source.now) (left c.talking.source) (left c.answer_one.new.source)
           c.talking.invariant.given c.answer_one.ensures.given;
       limit = c.answer_one.ensures.limit;
       noted = c.answer_one.ensures.noted ∙ c.talking.invariant.noted;
@@ -37,12 +37,12 @@ pub returns-in-Err-clause-closed : goal.returns-in-Err-clause-closed
 returns-in-Err-clause-closed g c =
     let said = g.W.Replies.said in
     let left = g.R.Source.left in
-    closed_then g.T.Teller.moves c.args.buffer.now.taken c.talking.buffer.taken (left c.args.source.now) (left c.talking.source) c.talking.invariant.given
+    closed_then g.T.Teller.moves c.args.reader.now.taken c.talking.reader.taken (left c.args.source.now) (left c.talking.source) c.talking.invariant.given
     c.args.teller.now c.talking.teller c.answer_one.new.teller (said c.args.out.now) (said c.talking.out) (said c.answer_one.new.out)
-    (prepend_known c.args.buffer.now.bytes (left c.args.source.now)) (prepend_known c.talking.buffer.bytes (left c.talking.source)) c.in-Err.end
+    (prepend_known c.args.reader.now.bytes (left c.args.source.now)) (prepend_known c.talking.reader.bytes (left c.talking.source)) c.in-Err.end
     c.talking.invariant.talked c.in-Err.ensures.closed
 
 pub returns-in-Err-clause-given : goal.returns-in-Err-clause-given
 returns-in-Err-clause-given g c =
-    given_then c.args.buffer.now.taken c.talking.buffer.taken c.answer_one.new.buffer.taken (g.R.Source.left c.args.source.now) (g.R.Source.left c.talking.source) (g.R.Source.left c.answer_one.new.source)
+    given_then c.args.reader.now.taken c.talking.reader.taken c.answer_one.new.reader.taken (g.R.Source.left c.args.source.now) (g.R.Source.left c.talking.source) (g.R.Source.left c.answer_one.new.source)
     c.talking.invariant.given c.answer_one.ensures.given

@@ -3,12 +3,12 @@ use Rattle.http_front.proofs.talking.session.Goals as goal
 
 pub returns-clause-session : goal.returns-clause-session
 returns-clause-session g c =
-    session_of g.T.Teller.moves c.in-Ok.buffer.taken c.in-Ok.buffer.bytes c.args.teller.now c.go_on.new.teller (g.W.Replies.said c.args.out.now) (g.W.Replies.said c.go_on.new.out)
+    session_of g.T.Teller.moves c.in-Ok.reader.taken c.in-Ok.reader.bytes c.args.teller.now c.go_on.new.teller (g.W.Replies.said c.args.out.now) (g.W.Replies.said c.go_on.new.out)
     (g.R.Source.left c.args.source.now) c.go_on.result c.in-Ok.ensures.taken c.in-Ok.ensures.bytes c.go_on.ensures.closed
 
 pub returns-clause-spent : goal.returns-clause-spent
 returns-clause-spent g c spent =
-    gave_all c.in-Ok.buffer.taken c.go_on.new.buffer.taken (g.R.Source.left c.args.source.now) (g.R.Source.left c.go_on.new.source) c.go_on.ensures.given c.in-Ok.ensures.taken (c.go_on.ensures.spent spent)
+    gave_all c.in-Ok.reader.taken c.go_on.new.reader.taken (g.R.Source.left c.args.source.now) (g.R.Source.left c.go_on.new.source) c.go_on.ensures.given c.in-Ok.ensures.taken (c.go_on.ensures.spent spent)
 
 pub returns-in_default-clause-session : goal.returns-in_default-clause-session
 returns-in_default-clause-session g c =

@@ -1,0 +1,34 @@
+-- The messages of a session, each with what came of it, and where they stand in the stream.
+use Rattle.std.specs.Prelude.{◌≡◌, ℕ, Bool, true, false, List, [], ◌∷◌, Option, Some, None, ⊤}
+use Rattle.desk_core.specs.Answers.{Call}
+use Rattle.http_asks.specs.Meaning.{Refused, Meant, asks, refuses}
+use Rattle.http_asks.specs.Streams.{IsItem}
+
+-- a message that was asked, with what was said to it, or a message that was refused
+pub data Exchange : Type 0 where
+  answered : Call → Exchange
+  refused : Refused → Exchange
+
+-- what the message means
+abbrev pub meant_of : Exchange → Meant
+meant_of (answered call) = asks call.ask
+meant_of (refused broken) = refuses broken
+
+-- the calls among them, in order
+abbrev pub calls_of : List Exchange → List Call
+calls_of [] = []
+calls_of (answered call ∷ more) = call ∷ calls_of more
+calls_of (refused broken ∷ more) = calls_of more
+
+-- From the stream on these messages stand one after another, and rest is left. Only the last one may be the last of its
+-- session, which is then closed.
+abbrev pub Goes : List ℕ → List Exchange → List ℕ → Bool → Type 0
+Goes stream [] rest closed = (rest ≡ stream) × (closed ≡ false)
+Goes stream (exchange ∷ []) rest closed = IsItem stream (meant_of exchange) closed rest
+Goes stream (exchange ∷ next ∷ more) rest closed = (mid : List ℕ) × IsItem stream (meant_of exchange) false mid × Goes mid (next ∷ more) rest closed
+
+-- the same of a stream that may not be told
+abbrev pub Hears : Option (List ℕ) → List Exchange → Option (List ℕ) → Bool → Type 0
+Hears None exchanges rest closed = ⊤
+Hears (Some stream) exchanges None closed = ⊥
+Hears (Some stream) exchanges (Some rest) closed = Goes stream exchanges rest closed
