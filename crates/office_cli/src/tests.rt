@@ -281,3 +281,237 @@ fn nothing_is_done_at_the_end_of_the_clock(rt: HostRuntime) -> Result<(), Fail> 
     }
     Ok(())
 }
+
+// A reply with this status and body.
+fn reply(alloc: Global, status: &str, body: &str) -> Result<Vec<u8>, Fail> {
+    let text = format!(in alloc;
+        "HTTP/1.1 {status}\r\ncontent-type: application/json\r\ncontent-length: {}\r\n\r\n{body}",
+        body.len()
+    )?;
+    Ok(text.as_bytes().to_vec(alloc)?)
+}
+
+// A request with this body.
+fn request(alloc: Global, line: &str, body: &str) -> Result<Vec<u8>, Fail> {
+    let text = format!(in alloc;
+        "{line} HTTP/1.1\r\nHost: x\r\nContent-Length: {}\r\n\r\n{body}",
+        body.len()
+    )?;
+    Ok(text.as_bytes().to_vec(alloc)?)
+}
+
+const SHOW: &[u8] = b"GET /buckets/logs HTTP/1.1\r\nHost: x\r\n\r\n";
+
+const METERS: &[u8] = b"GET /buckets/logs/meters/2024-01 HTTP/1.1\r\nHost: x\r\n\r\n";
+
+const SHOWN_ONE: &str =
+    "{\"bucket\":\"logs\",\"rules\":0,\"uploads\":0,\"versioning\":\"Unversioned\",\"versions\":1}";
+
+const SHOWN_NONE: &str =
+    "{\"bucket\":\"logs\",\"rules\":0,\"uploads\":0,\"versioning\":\"Unversioned\",\"versions\":0}";
+
+// 1,000 bytes for a day and 2,000 bytes for a day in STANDARD.
+const USED: &str = "{\"bucket\":\"logs\",\"classes\":[\
+    {\"byte_ms\":\"259200000000\",\"class\":\"STANDARD\",\"early_byte_ms\":\"0\",\"moves\":0},\
+    {\"byte_ms\":\"0\",\"class\":\"STANDARD_IA\",\"early_byte_ms\":\"0\",\"moves\":0},\
+    {\"byte_ms\":\"0\",\"class\":\"ONEZONE_IA\",\"early_byte_ms\":\"0\",\"moves\":0},\
+    {\"byte_ms\":\"0\",\"class\":\"GLACIER_IR\",\"early_byte_ms\":\"0\",\"moves\":0},\
+    {\"byte_ms\":\"0\",\"class\":\"GLACIER\",\"early_byte_ms\":\"0\",\"moves\":0},\
+    {\"byte_ms\":\"0\",\"class\":\"DEEP_ARCHIVE\",\"early_byte_ms\":\"0\",\"moves\":0}],\"month\":\"2024-01\"}";
+
+const DAY: u64 = 86_400_000;
+
+#[test]
+fn an_object_is_put_twice_and_metered(rt: HostRuntime) -> Result<(), Fail> {
+    let alloc = rt.alloc();
+    let mut input = PUT.to_vec(alloc)?;
+    input.extend_from_slice(&request(alloc, "PUT /buckets/logs/objects/a", "{\"size\":1000}")?)?;
+    input.extend_from_slice(&request(alloc, "PUT /buckets/logs/objects/a", "{\"size\":2000}")?)?;
+    input.extend_from_slice(METERS)?;
+    input.extend_from_slice(SHOW)?;
+    let mut wanted = MADE.to_vec(alloc)?;
+    for (status, body) in [
+        (
+            "201 Created",
+            "{\"moment\":\"2024-01-01T00:00:00.000Z\",\"version\":\"null\"}",
+        ),
+        (
+            "201 Created",
+            "{\"moment\":\"2024-01-02T00:00:00.000Z\",\"version\":\"null\"}",
+        ),
+        ("200 OK", USED),
+        ("200 OK", SHOWN_ONE),
+    ] {
+        wanted.extend_from_slice(&reply(alloc, status, body)?)?;
+    }
+    // The first number is that of the run itself.
+    let moments = [
+        NEW_YEAR,
+        NEW_YEAR,
+        NEW_YEAR,
+        NEW_YEAR + DAY,
+        NEW_YEAR + 2 * DAY,
+    ];
+    for cut in [1, 50, 8192] {
+        let source = MemorySource::new(input.to_vec(alloc)?, cut, Vec::new(alloc));
+        let out = MemoryReplies::new(alloc, Vec::new(alloc));
+        let disk = disk_of(alloc, EMPTY, &[])?;
+        let ran = command_at(alloc, RUN, &moments, source, out, disk)?;
+        assert_eq!(rt; ran.status, 0);
+        assert!(rt; ran.said == wanted, "said in pieces of {cut}");
+        // The meters are the same after another opening.
+        let again = command_at(
+            alloc,
+            RUN,
+            &[NEW_YEAR + 2 * DAY],
+            MemorySource::new(METERS.to_vec(alloc)?, 8192, Vec::new(alloc)),
+            MemoryReplies::new(alloc, Vec::new(alloc)),
+            ran.disk,
+        )?;
+        assert!(rt;
+            again.said == reply(alloc, "200 OK", USED)?,
+            "said after an opening"
+        );
+    }
+    Ok(())
+}
+
+#[test]
+fn each_refusal_stands_at_its_place(rt: HostRuntime) -> Result<(), Fail> {
+    let alloc = rt.alloc();
+    let bucket_name = "{\"error\":\"BadBucketName\",\"number\":10}";
+    let key = "{\"error\":\"BadKey\",\"number\":11}";
+    let size = "{\"error\":\"BadSize\",\"number\":13}";
+    let month = "{\"error\":\"NotAMonth\",\"number\":4}";
+    let no_bucket = "{\"error\":\"NoSuchBucket\",\"number\":81}";
+    let no_object = "{\"error\":\"BadBody\",\"field\":\"\",\"number\":123}";
+    let no_size = "{\"error\":\"BadBody\",\"field\":\"size\",\"number\":123}";
+    let no_class = "{\"error\":\"BadBody\",\"field\":\"class\",\"number\":123}";
+    let no_tags = "{\"error\":\"BadBody\",\"field\":\"tags\",\"number\":123}";
+    let bad = "400 Bad Request";
+    let missing = "404 Not Found";
+    // The request's line and body, and the reply to it: the bucket's name, the key or month, the kinds of the fields, the ranges of
+    // the fields, the office.
+    for (line, body, status, told) in [
+        ("PUT /buckets/lo", "", bad, bucket_name),
+        ("PUT /buckets/Logs", "", bad, bucket_name),
+        ("GET /buckets/-ab", "", bad, bucket_name),
+        ("GET /buckets/l%6fgs", "", bad, bucket_name),
+        ("PUT /buckets/Logs/objects/%ff", "[]", bad, bucket_name),
+        ("PUT /buckets/logs/objects/%ff", "[]", bad, key),
+        ("PUT /buckets/logs/objects/%80a", "{\"size\":1}", bad, key),
+        ("PUT /buckets/logs/objects/a", "[]", bad, no_object),
+        ("PUT /buckets/logs/objects/a", "null", bad, no_object),
+        ("PUT /buckets/logs/objects/a", " ", bad, no_object),
+        ("PUT /buckets/logs/objects/a", "{\"size\":1", bad, no_object),
+        ("PUT /buckets/logs/objects/a", "", bad, no_size),
+        ("PUT /buckets/logs/objects/a", "{}", bad, no_size),
+        (
+            "PUT /buckets/logs/objects/a",
+            "{\"size\":1.0}",
+            bad,
+            no_size,
+        ),
+        ("PUT /buckets/logs/objects/a", "{\"size\":-1}", bad, no_size),
+        (
+            "PUT /buckets/logs/objects/a",
+            "{\"size\":null}",
+            bad,
+            no_size,
+        ),
+        (
+            "PUT /buckets/logs/objects/a",
+            "{\"size\":18446744073709551616}",
+            bad,
+            no_size,
+        ),
+        (
+            "PUT /buckets/logs/objects/a",
+            "{\"size\":\"1\",\"tags\":1,\"class\":1}",
+            bad,
+            no_size,
+        ),
+        (
+            "PUT /buckets/logs/objects/a",
+            "{\"class\":null,\"size\":5497558138881}",
+            bad,
+            no_class,
+        ),
+        (
+            "PUT /buckets/logs/objects/a",
+            "{\"class\":\"FOO\",\"size\":5497558138881,\"tags\":[]}",
+            bad,
+            no_tags,
+        ),
+        (
+            "PUT /buckets/logs/objects/a",
+            "{\"tags\":{},\"z\":1,\"k\":1,\"size\":\"\"}",
+            bad,
+            "{\"error\":\"BadBody\",\"field\":\"k\",\"number\":123}",
+        ),
+        (
+            "PUT /buckets/logs/objects/a",
+            "{\"class\":\"FOO\",\"size\":5497558138881}",
+            bad,
+            size,
+        ),
+        (
+            "PUT /buckets/nope/objects/a",
+            "{\"class\":\"FO\\\"O\",\"size\":5497558138880}",
+            bad,
+            "{\"error\":\"UnsupportedClass\",\"name\":\"FO\\\"O\",\"number\":43}",
+        ),
+        (
+            "PUT /buckets/nope/objects/a",
+            "{\"size\":1}",
+            missing,
+            no_bucket,
+        ),
+        ("GET /buckets/nope", "", missing, no_bucket),
+        ("GET /buckets/Nope/meters/2024-13", "", bad, bucket_name),
+        ("GET /buckets/nope/meters/2024-13", "", bad, month),
+        ("GET /buckets/logs/meters/2024-00", "", bad, month),
+        ("GET /buckets/logs/meters/2024-1", "", bad, month),
+        ("GET /buckets/logs/meters/1969-12", "", bad, month),
+        ("GET /buckets/logs/meters/2100-01", "", bad, month),
+        ("GET /buckets/nope/meters/2024-01", "", missing, no_bucket),
+    ] {
+        let mut input = request(alloc, line, body)?;
+        input.extend_from_slice(SHOW)?;
+        let mut wanted = reply(alloc, status, told)?;
+        wanted.extend_from_slice(&reply(alloc, "200 OK", SHOWN_NONE)?)?;
+        let mut ran = run_on(alloc, RUN, &input, 8192, disk_of(alloc, ONE, &[])?)?;
+        assert_eq!(rt; ran.status, 0, "status of {line} {body}");
+        assert!(rt; ran.said == wanted, "said to {line} {body}");
+        let file = read_all(alloc, &mut ran.disk)?;
+        assert!(rt; file.as_slice() == ONE, "file after {line} {body}");
+    }
+    Ok(())
+}
+
+#[test]
+fn what_is_not_served_ends_the_session(rt: HostRuntime) -> Result<(), Fail> {
+    let alloc = rt.alloc();
+    for (line, body) in [
+        ("GET /", ""),
+        ("DELETE /buckets/logs", ""),
+        ("put /buckets/logs", ""),
+        ("PUT /buckets/logs/", ""),
+        ("PUT /buckets/logs?a", ""),
+        ("PUT buckets/logs", ""),
+        ("GET /buckets/logs/objects/a", ""),
+        ("PUT /buckets/logs/objects/", "{\"size\":1}"),
+        (
+            "PUT /buckets/logs/objects/a",
+            "{\"size\":1,\"tags\":{\"a\":\"b\"}}",
+        ),
+        ("PUT /buckets/logs/meters/2024-01", ""),
+    ] {
+        let mut input = request(alloc, line, body)?;
+        input.extend_from_slice(SHOW)?;
+        let ran = run_on(alloc, RUN, &input, 8192, disk_of(alloc, ONE, &[])?)?;
+        assert_eq!(rt; ran.status, 0, "status of {line} {body}");
+        assert!(rt; ran.said.as_slice() == NOT_BUILT, "said to {line} {body}");
+    }
+    Ok(())
+}
