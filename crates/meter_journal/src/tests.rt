@@ -103,7 +103,9 @@ fn a_file_is_what_its_bytes_say(rt: HostRuntime) -> Result<(), Fail> {
         panic!(rt; "no entry");
     };
     assert_eq!(rt; entry.moment.ms(), 1_704_067_200_000);
-    let Command::CreateBucket { bucket } = &entry.command;
+    let Command::CreateBucket { bucket } = &entry.command else {
+        panic!(rt; "no bucket");
+    };
     assert_eq!(rt; bucket.text(), "logs");
     assert_eq!(rt; next, 30);
     assert!(rt; frame(alloc, &ONE, 30)?.is_none());
