@@ -77,15 +77,14 @@ check_not_built 'a word' 'hello'
 check_not_built 'a head of one word' 'hello' ''
 check_not_built 'a method that is not known' 'GET / HTTP/1.1' 'Host: x' ''
 check_not_built 'another method' 'POST /buckets/logs HTTP/1.1' 'Host: x' ''
-check_not_built 'another version' 'PUT /buckets/logs HTTP/1.0' 'Host: x' ''
 check_not_built 'another target' 'PUT /bucket/logs HTTP/1.1' 'Host: x' ''
 check_not_built 'a longer target' 'PUT /buckets/logs/ HTTP/1.1' 'Host: x' ''
 check_not_built 'a query' 'PUT /buckets/logs?versions HTTP/1.1' 'Host: x' ''
-check_not_built 'a name of two characters' 'PUT /buckets/lo HTTP/1.1' 'Host: x' ''
-check_not_built 'a name with an upper-case letter' 'PUT /buckets/Logs HTTP/1.1' 'Host: x' ''
-check_not_built 'a body of no bytes' 'PUT /buckets/logs HTTP/1.1' 'Host: x' 'Content-Length: 0' ''
+check_not_built 'two lengths' 'PUT /buckets/logs HTTP/1.1' 'Host: x' 'Content-Length: 0' 'Content-Length: 0' ''
+check_not_built 'a length with a sign' 'PUT /buckets/logs HTTP/1.1' 'Host: x' 'Content-Length: +0' ''
+check_not_built 'a body above the limit' 'PUT /buckets/logs HTTP/1.1' 'Host: x' 'Content-Length: 1048577' ''
+check_not_built 'a body cut short' 'PUT /buckets/logs HTTP/1.1' 'Host: x' 'Content-Length: 10' '' 'hello'
 check_not_built 'a body in chunks' 'PUT /buckets/logs HTTP/1.1' 'Host: x' 'transfer-encoding: chunked' '' '0' ''
-check_not_built 'a connection field' 'PUT /buckets/logs HTTP/1.1' 'Host: x' 'CONNECTION: close' ''
 check_not_built 'a field without a colon' 'PUT /buckets/logs HTTP/1.1' 'Host x' ''
 check_not_built 'a head without its end' 'PUT /buckets/logs HTTP/1.1' 'Host: x'
 check_not_built 'nothing behind what is not known' 'GET / HTTP/1.1' 'Host: x' '' 'PUT /buckets/logs HTTP/1.1' 'Host: x' ''
@@ -118,6 +117,28 @@ check 'a head of 8,193 bytes' not_built same
 
 head_of logs 8192 >in
 check 'a head of 8,192 bytes' made longer
+
+# A refusal of the message's own text, behind which the session goes on.
+bad() {
+    body="{\"error\":\"$1\",$2\"number\":$3}"
+    printf 'HTTP/1.1 400 Bad Request\r\ncontent-type: application/json\r\ncontent-length: %d\r\n\r\n%s' "${#body}" "$body"
+}
+
+printf 'PUT /buckets/lo HTTP/1.1\r\nHost: x\r\n\r\nPUT /buckets/Logs HTTP/1.1\r\nHost: x\r\n\r\n' >in
+{ bad BadBucketName '' 10; bad BadBucketName '' 10; } >replies
+check 'names that are none' replies same
+
+printf 'PUT /buckets/logs/objects/%%ff HTTP/1.1\r\nHost: x\r\nContent-Length: 13\r\n\r\n{"size":1000}PUT /buckets/logs/objects/a HTTP/1.1\r\nHost: x\r\n\r\n' >in
+{ bad BadKey '' 11; bad BadBody '"field":"size",' 123; } >replies
+check 'a key that is none, and a put without a size' replies same
+
+printf 'PUT /buckets/zoo HTTP/1.0\r\nHost: x\r\n\r\nPUT /buckets/data HTTP/1.1\r\nHost: x\r\n\r\n' >in
+sed 's/logs/zoo/; s/length: 17/length: 16/' made >replies
+check 'nothing behind a message of version 1.0' replies longer
+
+printf 'PUT /buckets/yak HTTP/1.1\r\nHost: x\r\nCONNECTION: Close\r\n\r\nPUT /buckets/data HTTP/1.1\r\nHost: x\r\n\r\n' >in
+sed 's/logs/yak/; s/length: 17/length: 16/' made >replies
+check 'nothing behind a message that closes its session' replies longer
 
 printf 'PUT /buckets/data HTTP/1.1\r\nHost: x\r\n\r\nPUT\r\n\r\n' >in
 sed 's/logs/data/' made >replies

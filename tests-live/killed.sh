@@ -1,21 +1,26 @@
 #!/bin/sh
-# Kills a run by signal 9 while it makes buckets, and shows that each bucket that was acknowledged is there afterwards.
+# Kills a run by signal 9 while it puts objects, and shows that each object that was acknowledged is there afterwards.
 #
 #   killed.sh PROGRAM [TIMES]
 #
-# Each time another run gets the same requests from a folder of its own and is killed a little later than the one before.
-# Then a run over the same journal is asked for the acknowledged buckets again: each has to be refused as existing. Of the
-# bucket behind them nothing is asked, since its command may be in the journal or not. Prints 'N passed, M failed' last;
+# Each time another run gets the same requests from a folder of its own, each for a key of its own, and is killed a little
+# later than the one before. Then a run over the same journal is asked how many versions the bucket has: as many as were
+# acknowledged, or one more, since the command behind them may be in the journal or not. Prints 'N passed, M failed' last;
 # ends with 1 where a case failed.
 set -u
 
-tools='head grep sleep awk'
+tools='grep sed sleep awk'
 . "$(dirname -- "$0")/common"
 times=${2:-20}
 acked_in_all=0
 
 cd "$work" || exit 1
-awk 'BEGIN { for (n = 100000; n < 120000; n++) printf "PUT /buckets/bucket-%d HTTP/1.1\r\nHost: office\r\n\r\n", n }' >requests
+printf 'PUT /buckets/load HTTP/1.1\r\nHost: office\r\n\r\n' >bucket
+printf 'GET /buckets/load HTTP/1.1\r\nHost: office\r\n\r\n' >show
+awk 'BEGIN {
+    for (n = 100000; n < 120000; n++)
+        printf "PUT /buckets/load/objects/key-%d HTTP/1.1\r\nHost: office\r\nContent-Length: 13\r\n\r\n{\"size\":1000}", n
+}' >requests
 
 # How many replies with this status a file holds.
 replies() {
@@ -27,6 +32,7 @@ replies() {
 case_of() {
     rm -rf office-data
     "$program" init >/dev/null || return 1
+    "$program" run <bucket >/dev/null || return 1
     "$program" run <requests >said 2>notes &
     run=$!
     sleep "$(awk -v ms="$1" 'BEGIN { printf "%.3f", ms / 1000 }')"
@@ -34,10 +40,9 @@ case_of() {
     wait "$run" 2>/dev/null
     acked=$(replies 201 said)
     acked_in_all=$((acked_in_all + acked))
-    # A request is three lines.
-    head -n $((3 * acked)) requests >again
-    "$program" run <again >said_again 2>notes_again || return 1
-    [ "$(replies 409 said_again)" = "$acked" ] && [ "$(replies 201 said_again)" = 0 ]
+    "$program" run <show >shown 2>notes_again || return 1
+    versions=$(sed -n 's/.*"versions":\([0-9]*\)}.*/\1/p' shown)
+    [ "$versions" = "$acked" ] || [ "$versions" = $((acked + 1)) ]
 }
 
 n=0
@@ -54,7 +59,7 @@ done
 # Kills that come before any reply would show nothing.
 if [ "$acked_in_all" = 0 ]; then
     failed=$((failed + 1))
-    echo "failed: no bucket was acknowledged before a kill"
+    echo "failed: no object was acknowledged before a kill"
 fi
 echo "acknowledged: $acked_in_all"
 echo "$passed passed, $failed failed"
