@@ -8,17 +8,11 @@ use Rattle.plain_office.specs.declared.command.Ask.{Ask}
 use Rattle.desk_core.specs.Answers.{Answer, Call}
 use Rattle.desk_core.specs.declared.fault.DeskFault.{DeskFault}
 use Rattle.desk_core.specs.declared.fault.DeskFault.TheVariants as faults
-use Rattle.http_bodies.specs.Flaws.{BodyFlaw}
 use Rattle.http_wire.specs.Held.{take_limit}
 use Rattle.http_asks.specs.Counts.{Given}
-use Rattle.http_asks.specs.Faults.{refused_of}
-use Rattle.http_asks.specs.Meaning.{Refused, not_a_month, bad_bucket_name, bad_key, flawed, not_built, Meant, asks, refuses}
+use Rattle.http_asks.specs.Meaning.{Refused, not_a_month, bad_bucket_name, bad_key, flawed, not_built, asks, refuses}
 use Rattle.http_asks.specs.Streams.{IsItem, StandsItem, StandsUnbuilt}
 use Rattle.http_asks.specs.Tells.{TellsRefused, IfServed}
-use Rattle.http_asks.specs.declared.bad.Bad.{Bad}
-use Rattle.http_asks.specs.declared.bad.Bad.TheVariants as bads
-use Rattle.http_asks.specs.declared.reader.Heard.{Heard}
-use Rattle.http_asks.specs.declared.reader.Heard.TheVariants as heards
 use Rattle.http_asks.specs.declared.reader.Stop.{Stop}
 use Rattle.http_asks.specs.declared.reader.Stop.TheVariants as stops
 use Rattle.http_front.specs.declared.answering.SessionEnd.{SessionEnd}
@@ -26,7 +20,7 @@ use Rattle.http_front.specs.declared.answering.SessionEnd.TheVariants as ends
 use Rattle.http_front.specs.Counts.{Gave, total_of, IsUnder, Reaches}
 use Rattle.http_front.specs.Exchanges.{Exchange, answered, refused, meant_of, calls_of, Goes, Hears}
 use Rattle.http_front.specs.Session.{IsCut, IsWritten, NoneFaults, LastFaults, FaultsBy, NoneLacks, LastLacks, LacksBy, Moves, Session}
-use Rattle.http_front.specs.Talk.{IsSaid, IsPart, IsRefusedBy, Answers, Talked, Closed, Went}
+use Rattle.http_front.specs.Talk.{IsRefusedBy, Answers, Talked, Closed, Went}
 use Rattle.http_front.specs.Telling.{IsStoreFault}
 use Rattle.http_front.specs.Texts.{exchange_text, text_of, bad_text, texts, not_built_text, no_memory_text}
 use Rattle.http_front.proofs.SaidLemmas.{appends_none, appends_then}

@@ -1,5 +1,5 @@
 -- The messages of a session, each with what came of it, and where they stand in the stream.
-use Rattle.std.specs.Prelude.{◌≡◌, ℕ, Bool, true, false, List, [], ◌∷◌, Option, Some, None, ⊤}
+use Rattle.std.specs.Prelude.{◌≡◌, ℕ, Bool, false, List, [], ◌∷◌, Option, Some, None, ⊤}
 use Rattle.desk_core.specs.Answers.{Call}
 use Rattle.http_asks.specs.Meaning.{Refused, Meant, asks, refuses}
 use Rattle.http_asks.specs.Streams.{IsItem}

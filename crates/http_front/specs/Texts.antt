@@ -6,7 +6,7 @@ use Rattle.serde_json.specs.Written.{compact_text}
 use Rattle.http_bodies.specs.Flaws.{BodyFlaw, bad_body, bad_size, unsupported_class, bad_tags}
 use Rattle.http_text.specs.Replies.{error_data, error_text, reply_with, answer_text}
 use Rattle.http_asks.specs.Meaning.{Refused, not_a_month, bad_bucket_name, bad_key, flawed, not_built}
-use Rattle.desk_core.specs.Answers.{Answer, Call}
+use Rattle.desk_core.specs.Answers.{Answer}
 use Rattle.desk_core.specs.declared.fault.DeskFault.{DeskFault}
 use Rattle.desk_core.specs.declared.fault.DeskFault.TheVariants as faults
 use Rattle.http_front.specs.Exchanges.{Exchange, answered, refused}

@@ -1,4 +1,4 @@
-use Rattle.std.proofs.Common.{[], drop, length, ◌∙◌, arith}
+use Rattle.std.proofs.Common.{drop, length, ◌∙◌, arith}
 use Rattle.std.proofs.lemmas.List.{take_all, take-append-le}
 use Rattle.http_asks.specs.Faults.{refused_of}
 use Rattle.http_front.specs.Texts.{refused_body, refused_status}
