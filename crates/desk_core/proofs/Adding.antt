@@ -105,18 +105,22 @@ module _ {D C : Type 0} (honest : Bool) (state : D → State) (moment : D → �
             let replied : said.reply ≡ Ok reply = ap (λ (a : Answer). a.reply) adds.0 in
             let after = more_after before entry old.office mid.office reply hold.office small later does counted in (
               is_made t t number (Ok reply) new said refl adds.0,
-              (replied ∙ (reply_is expected hold.office.plain mid.office reply does).0, fits, inl (
-                done_reply said.reply reply replied,
-                record {
-                  holds = record {
-                    office = subst (λ (o : Records). StandsAfter (before ++ entry ∷ []) o) (sym office) after;
-                    end = adds.1;
-                    limit = subst (λ (n : ℕ). n ≤ 2 ^ 45) (sym limit) hold.limit;
-                    at_rest = λ tells. (adds.2 tells).0;
-                  };
-                  run = λ tells. subst (λ (d : D). Run d new.disk) same (adds.2 tells).1;
-                },
-              )),
+              (
+                replied ∙ (reply_is expected hold.office.plain mid.office reply does).0,
+                fits,
+                inl (
+                  done_reply said.reply reply replied,
+                  record {
+                    holds = record {
+                      office = subst (λ (o : Records). StandsAfter (before ++ entry ∷ []) o) (sym office) after;
+                      end = adds.1;
+                      limit = subst (λ (n : ℕ). n ≤ 2 ^ 45) (sym limit) hold.limit;
+                      at_rest = λ tells. (adds.2 tells).0;
+                    };
+                    run = λ tells. subst (λ (d : D). Run d new.disk) same (adds.2 tells).1;
+                  },
+                ),
+              ),
             )
         added mid new reply (Err (faults.StoreFault (Some told) count)) small later all counted same office limit adds = (
           adds.0,

@@ -1,5 +1,5 @@
 -- What the answer to an ask tells of its call.
-use Rattle.std.proofs.Common.{◌≡◌, ◌⊎◌, inl, inr, ⊎_elim, ℕ, ◌+◌, ◌^◌, ◌<◌, ◌≤◌, Bool, true, false, List, [], ◌∷◌, ◌++◌, Some, None, Option, Result, Ok, Err, refl, sym, ap, ◌∙◌, subst, arith}
+use Rattle.std.proofs.Common.{◌≡◌, inl, inr, ⊎_elim, ℕ, ◌<◌, ◌≤◌, Bool, true, false, List, [], ◌∷◌, ◌++◌, Some, None, Option, Result, Ok, Err, refl, sym, ap, ◌∙◌, subst, arith}
 use Rattle.std.specs.Prelude.{IsTrue}
 use Rattle.std.specs.Io.KnownBytes.{Appends}
 use Rattle.office_base.specs.Faults.{Rose}
@@ -18,7 +18,7 @@ use Rattle.desk_core.specs.declared.fault.DeskFault.TheVariants as faults
 use Rattle.desk_core.specs.Answers.{Answer}
 use Rattle.desk_core.specs.Calls.{moment_after}
 use Rattle.desk_core.specs.Desk.{Seat, Holds, IsReady, IsNumber, IsLast, LeavesDisk, HasStoreReason, IsAcceptedAt, PassesLimit, IsStamped, IsClockEnd, is_store_fault}
-use Rattle.desk_core.specs.Keeping.{Grows, Stays, IsDone, HasFailed, Keeps, IsEnded, Answers}
+use Rattle.desk_core.specs.Keeping.{IsDone, HasFailed, Keeps, IsEnded, Answers}
 use Rattle.desk_core.proofs.Standing.{still_true}
 
 accepted_not : (reply : Result Reply Refusal) → IsTrue (is_accepted reply) → is_accepted reply ≡ false → ⊥
@@ -67,7 +67,6 @@ module _ {D : Type 0} {C : Type 0} (honest : Bool) (state : D → State) (moment
   last_told last (Err faults.NoMemory) is asked = tt
 
   -- ---- the disk
-
 
   -- ---- causes
 

@@ -164,12 +164,7 @@ impl<D: Disk + Drop, C: Clock + Drop> Desk<D, C> {
     }
 
     // Does a command at a moment, where its frame fits.
-    fn command(
-        &mut self,
-        moment: Moment,
-        told: u64,
-        command: &Command,
-    ) -> Result<Acked, DeskFault>
+    fn command(&mut self, moment: Moment, told: u64, command: &Command) -> Result<Acked, DeskFault>
         requires later { IsTrue (is_not_before self.old.office.last moment) }
         requires ready { IsReady D.honest D.state self.old }
 

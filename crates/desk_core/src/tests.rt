@@ -10,6 +10,7 @@ use office_base::{BucketName, Key, Size, VersionId};
 use plain_office::{Ask, Command, Query, Refusal, Reply};
 use std::alloc::Global;
 use std::io;
+use std::process::Abort;
 use std::test::Fail;
 use std::time::{Clock as SystemTimes, Duration};
 
@@ -98,12 +99,11 @@ fn put(alloc: Global, name: &str, size: u64) -> Result<Ask, Fail> {
 }
 
 // The meters of January 2024.
-fn january(rt: &HostRuntime, alloc: Global, name: &str) -> Result<Ask, Fail> {
-    let month = expect(rt, Month::of(2024, 1), "a month");
-    Ok(Ask::Query(Query::Meters(
-        BucketName::read(alloc, name)?,
-        month,
-    )))
+fn january(alloc: Global, name: &str) -> Result<Ask, Fail> {
+    let Some(month) = Month::of(2024, 1) else {
+        return Err(Fail::new("no month"));
+    };
+    Ok(Ask::Query(Query::Meters(BucketName::read(alloc, name)?, month)))
 }
 
 // What was answered, without the names.
@@ -121,22 +121,34 @@ enum Heard {
     Other,
 }
 
-fn heard(said: &Result<Acked, DeskFault>) -> Heard {
+fn answer_of(said: &Result<Acked, DeskFault>) -> Heard {
     let acked = match said {
         Ok(acked) => acked,
         Err(fault) => return Heard::Failed(*fault),
     };
     match acked.reply() {
         Ok(Reply::BucketMade { .. }) => Heard::Made,
-        Ok(Reply::Stored {
-            moment,
-            version: VersionId::Null,
-        }) => Heard::Stored(moment.ms()),
+        Ok(
+            Reply::Stored {
+                moment,
+                version: VersionId::Null,
+            },
+        ) => Heard::Stored(moment.ms()),
         Ok(Reply::Stored { .. }) => Heard::Other,
         Ok(Reply::BucketShown { versions, .. }) => Heard::Shown(*versions),
         Ok(Reply::MetersShown { classes, .. }) => Heard::Standard(classes[0].byte_ms),
         Err(refusal) => Heard::Refused(*refusal),
     }
+}
+
+// What a desk answers that is not stale then.
+fn hear<D: Disk + Drop, C: Clock + Drop>(rt: &impl Abort, desk: &mut Desk<D, C>, ask: &Ask) -> Heard
+    requires { IsReady D.honest D.state desk.old }
+    ensures { IsReady D.honest D.state desk.new }
+{
+    let said = desk.submit(ask);
+    assert!(rt; !desk.stale());
+    answer_of(&said)
 }
 
 // Whether the ask was done, and the position.
@@ -294,17 +306,11 @@ fn the_clock_ends_and_does_not_go_back(rt: HostRuntime) -> Result<(), Fail> {
         let disk = disk_with(alloc, &EMPTY, &[])?;
         let clock = ListClock::new(numbers.to_vec(alloc)?);
         let mut desk = desk_over(alloc, disk, clock, 1 << 20)?;
-        let asks = [
-            bucket(alloc, "logs")?,
-            shown(alloc, "logs")?,
-            put(alloc, "logs", 1_000)?,
-            shown(alloc, "logs")?,
-        ];
-        for i in 0..4 {
-            let said = desk.submit(&asks[i]);
-            assert!(rt; !desk.stale());
-            assert_eq!(rt; heard(&said), answers[i], "ask {i}");
-        }
+        let made = hear(&rt, &mut desk, &bucket(alloc, "logs")?);
+        let empty = hear(&rt, &mut desk, &shown(alloc, "logs")?);
+        let stored = hear(&rt, &mut desk, &put(alloc, "logs", 1_000)?);
+        let last = hear(&rt, &mut desk, &shown(alloc, "logs")?);
+        assert_eq!(rt; [made, empty, stored, last], answers);
     }
     Ok(())
 }
@@ -316,21 +322,18 @@ fn a_query_makes_no_call_of_the_disk(rt: HostRuntime) -> Result<(), Fail> {
     let disk = disk_with(alloc, &EMPTY, &[12])?;
     let clock = ListClock::new(vec![in alloc; J0]?);
     let mut desk = desk_over(alloc, disk, clock, 1 << 20)?;
-    let said = desk.submit(&bucket(alloc, "logs")?);
-    assert!(rt; !desk.stale());
-    assert_eq!(rt; heard(&said), Heard::Made);
-    let said = desk.submit(&shown(alloc, "logs")?);
-    assert!(rt; !desk.stale());
-    assert_eq!(rt; heard(&said), Heard::Shown(0));
-    let said = desk.submit(&shown(alloc, "data")?);
-    assert!(rt; !desk.stale());
-    assert_eq!(rt; heard(&said), Heard::Refused(Refusal::NoSuchBucket));
+    let made = hear(&rt, &mut desk, &bucket(alloc, "logs")?);
+    assert_eq!(rt; made, Heard::Made);
+    let empty = hear(&rt, &mut desk, &shown(alloc, "logs")?);
+    assert_eq!(rt; empty, Heard::Shown(0));
+    let none = hear(&rt, &mut desk, &shown(alloc, "data")?);
+    assert_eq!(rt; none, Heard::Refused(Refusal::NoSuchBucket));
     let said = desk.submit(&put(alloc, "logs", 1_000)?);
     let failed = DeskFault::StoreFault {
         told: Some(J0),
         faults: 1,
     };
-    assert_eq!(rt; heard(&said), Heard::Failed(failed));
+    assert_eq!(rt; answer_of(&said), Heard::Failed(failed));
     Ok(())
 }
 
@@ -342,20 +345,18 @@ fn meters_are_the_same_after_an_opening(rt: HostRuntime) -> Result<(), Fail> {
     let mut desk = desk_over(alloc, disk, clock, 1 << 20)?;
     // 1,000 bytes for a day, and 2,000 bytes for another.
     let used = Heard::Standard(259_200_000_000);
-    for (ask, answer) in [
-        (bucket(alloc, "logs")?, Heard::Made),
-        (put(alloc, "logs", 1_000)?, Heard::Stored(J0)),
-        (put(alloc, "logs", 2_000)?, Heard::Stored(J0 + DAY)),
-        (january(&rt, alloc, "logs")?, used),
-    ] {
-        let said = desk.submit(&ask);
-        assert!(rt; !desk.stale());
-        assert_eq!(rt; heard(&said), answer);
-    }
+    let made = hear(&rt, &mut desk, &bucket(alloc, "logs")?);
+    assert_eq!(rt; made, Heard::Made);
+    let first = hear(&rt, &mut desk, &put(alloc, "logs", 1_000)?);
+    assert_eq!(rt; first, Heard::Stored(J0));
+    let second = hear(&rt, &mut desk, &put(alloc, "logs", 2_000)?);
+    assert_eq!(rt; second, Heard::Stored(J0 + DAY));
+    let before = hear(&rt, &mut desk, &january(alloc, "logs")?);
+    assert_eq!(rt; before, used);
     let (disk, clock) = desk.close();
     let mut desk = desk_over(alloc, disk, clock, 1 << 20)?;
-    let said = desk.submit(&january(&rt, alloc, "logs")?);
-    assert_eq!(rt; heard(&said), used);
+    let after = hear(&rt, &mut desk, &january(alloc, "logs")?);
+    assert_eq!(rt; after, used);
     Ok(())
 }
 

@@ -3,9 +3,7 @@ use Rattle.disk_core.specs.declared.disk.FileNo.TheVariants.{Journal}
 use Rattle.disk_core.proofs.Time.{started, untouched_then}
 use Rattle.meter_journal.specs.declared.fault.OpenFault.TheVariants.{NoMemory, Damaged}
 use Rattle.plain_office.specs.Run.{accept}
-use Rattle.desk_core.specs.Offices.{StandsAfter}
 use Rattle.desk_core.proofs.Breaking.{none_read, one_read, all_read, next_fails, take_fails, few_read}
-use Rattle.desk_core.proofs.Offices.{sized}
 use Rattle.desk_core.proofs.opening.replay.Goals as goal
 
 pub reading-init : goal.reading-init
@@ -19,6 +17,18 @@ reading-init g c = record {
 
 pub reading-preserved-in-Ok-take : goal.reading-preserved-in-Ok-take
 reading-preserved-in-Ok-take g c =
+    let d = g.D.Disk in
+    record {
+      known = search rules;
+      untouched = λ told. untouched_then d.state d.moment d.had_since c.args.opening.now.disk c.reading.opening.disk c.next.new.self.disk (c.reading.invariant.untouched told) (c.next.ensures.untouched told);
+      read = one_read d.honest d.state c.args.opening.now.disk c.reading.opening.disk c.reading.opening.gate c.next.new.self.gate c.reading.office c.take.new.office c.in-Ok.read c.in-Some.entry c.reading.invariant.read
+          (λ told. (c.reading.invariant.untouched told).now) (λ told. g.met.D.Disk.holds_bytes told c.args.opening.now.disk Journal) c.in-Some.is c.in-Ok.ensures.exact c.in-Ok.ensures.advances (search rules) c.in-Ok-take.ensures.ok;
+      limit = search rules;
+      later = omega (arith, c.reading.invariant.later, c.next.ensures.cause.later);
+    }
+
+pub reading-preserved : goal.reading-preserved
+reading-preserved g c =
     let d = g.D.Disk in
     record {
       known = search rules;

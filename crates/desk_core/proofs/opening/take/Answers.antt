@@ -1,4 +1,4 @@
-use Rattle.std.proofs.Common.{◌≡◌, inr, refl, true, false, rules}
+use Rattle.std.proofs.Common.{◌≡◌, inr, refl, false, rules}
 use Rattle.std.specs.Prelude.{IsTrue}
 use Rattle.plain_office.specs.Run.{is_not_before}
 use Rattle.desk_core.proofs.Breaking.{not_taken, not_in_order}

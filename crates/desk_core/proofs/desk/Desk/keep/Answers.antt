@@ -3,9 +3,7 @@ use Rattle.plain_office.specs.Office.{Office}
 use Rattle.plain_office.specs.Orderly.{IsOrderly}
 use Rattle.plain_office.specs.Run.{entry_at}
 use Rattle.plain_office.specs.Step.{step}
-use Rattle.plain_office.specs.declared.reply.Refusal.{Refusal}
 use Rattle.office_machine.specs.Standing.{StandsForOffice, Does, accepted_after, most_commands}
-use Rattle.entry_codec.specs.Spelling.{spelling}
 use Rattle.meter_journal.specs.History.{header, end_gate, IsAtRest}
 use Rattle.desk_core.specs.Desk.{Seat}
 use Rattle.desk_core.specs.Keeping.{Adds}

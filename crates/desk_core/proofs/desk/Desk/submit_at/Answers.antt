@@ -1,5 +1,4 @@
-use Rattle.std.proofs.Common.{◌≡◌, ℕ, ◌<◌, inl, sym, subst}
-use Rattle.moments.specs.Time.{end_of_time}
+use Rattle.std.proofs.Common.{ℕ, inl, sym, subst}
 use Rattle.plain_office.specs.declared.command.Ask.{Ask}
 use Rattle.plain_office.specs.declared.command.Ask.TheVariants.{Command, Query}
 use Rattle.desk_core.specs.Keeping.{Keeps}
