@@ -1,3 +1,4 @@
+mod Examples
 pub mod PrintLemmas
 pub mod SaidLemmas
 pub mod TalkLemmas

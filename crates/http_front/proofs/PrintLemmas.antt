@@ -13,13 +13,13 @@ use Rattle.http_front.specs.Texts.{error_reply, full_text, no_memory_text, not_b
 
 -- ---- numbers
 
-two_digits : (a b : ℕ) → 0 < a → a < 10 → b < 10 → (n : ℕ) → n ≡ a * 10 + b → decimal n ≡ (48 + a) ∷ (48 + b) ∷ []
+pub two_digits : (a b : ℕ) → 0 < a → a < 10 → b < 10 → (n : ℕ) → n ≡ a * 10 + b → decimal n ≡ (48 + a) ∷ (48 + b) ∷ []
 two_digits a b some fa fb n is =
     decimal_step n (omega arith) (omega arith)
     ∙ ap (λ (t : List ℕ). t ++ (48 + n % 10) ∷ []) (ap decimal (omega arith) ∙ decimal_digit a fa)
     ∙ ap (λ (d : ℕ). (48 + a) ∷ (48 + d) ∷ []) (omega arith)
 
-three_digits : (a b c : ℕ) → 0 < a → a < 10 → b < 10 → c < 10 → (n : ℕ) → n ≡ a * 100 + b * 10 + c → decimal n ≡ (48 + a) ∷ (48 + b) ∷ (48 + c) ∷ []
+pub three_digits : (a b c : ℕ) → 0 < a → a < 10 → b < 10 → c < 10 → (n : ℕ) → n ≡ a * 100 + b * 10 + c → decimal n ≡ (48 + a) ∷ (48 + b) ∷ (48 + c) ∷ []
 three_digits a b c some fa fb fc n is =
     decimal_step n (omega arith) (omega arith)
     ∙ ap (λ (t : List ℕ). t ++ (48 + n % 10) ∷ []) (two_digits a b some fa fb (n / 10) (omega arith))

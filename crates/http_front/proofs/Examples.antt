@@ -1,0 +1,32 @@
+-- Texts of refusals, and the calls among exchanges, computed.
+use Rattle.std.proofs.Common.{◌≡◌, ℕ, List, [], ◌∷◌, ◌++◌, codes, refl, ap, arith}
+use Rattle.json.specs.Print.{escape_byte}
+use Rattle.serde_json.proofs.OnLiterals.{serde_json_on_literals}
+use Rattle.desk_core.specs.Answers.{Call}
+use Rattle.http_bodies.specs.Flaws.{bad_size}
+use Rattle.http_asks.specs.Meaning.{not_a_month, bad_key, flawed, not_built}
+use Rattle.http_front.specs.Exchanges.{answered, refused, calls_of}
+use Rattle.http_front.specs.Texts.{class_text, field_text, refused_status, bad_text, not_built_text}
+use Rattle.http_front.proofs.PrintLemmas.{two_digits, three_digits}
+
+field_told : field_text (codes "size") ≡ codes "{\"error\":\"BadBody\",\"field\":\"size\",\"number\":123}"
+unfolding serde_json_on_literals field_text escape_byte
+field_told =
+    ap (λ (digits : List ℕ). codes "{\"error\":\"BadBody\",\"field\":\"size\",\"number\":" ++ (digits ++ codes "}"))
+    (three_digits 1 2 3 (omega arith) (omega arith) (omega arith) (omega arith) 123 (omega arith))
+
+quote_escaped : class_text (codes "A\"B") ≡ codes "{\"error\":\"UnsupportedClass\",\"name\":\"A\\\"B\",\"number\":43}"
+unfolding serde_json_on_literals class_text escape_byte
+quote_escaped =
+    ap (λ (digits : List ℕ). codes "{\"error\":\"UnsupportedClass\",\"name\":\"A\\\"B\",\"number\":" ++ (digits ++ codes "}"))
+    (two_digits 4 3 (omega arith) (omega arith) (omega arith) 43 (omega arith))
+
+size_is_bad_request : refused_status (flawed bad_size) ≡ 400
+size_is_bad_request = refl
+
+unserved_text : bad_text not_built ≡ not_built_text
+unserved_text = refl
+
+-- refusals are no calls
+calls_alone : (first second : Call) → calls_of (answered first ∷ refused bad_key ∷ answered second ∷ refused not_a_month ∷ []) ≡ first ∷ second ∷ []
+calls_alone first second = refl
