@@ -37,10 +37,10 @@ module _ {D C W : Type 0} (honest : Bool) (state : D → State) (moment : D → 
       weakened state moment had_since old new (Narrower (state old)) IsSound (λ s narrow. narrow_sound (state old) s sound narrow) (r.any_moment tells)
 
   -- and a run that touches nothing
-  pub run_sound : (status : ℕ) (old new : D) (clock_old clock_new : C) (out_old out_new : W) (stream : Option (List ℕ)) → IsTrue honest → IsSound (state old)
+  pub run_sound : (last : C → ℕ) (status : ℕ) (old new : D) (clock_old clock_new : C) (out_old out_new : W) (stream : Option (List ℕ)) → IsTrue honest → IsSound (state old)
       → KeepsTo state moment had_since old old IsSound
-      → Runs honest state moment had_since fault_count count told said noted out_faults status old new clock_old clock_new out_old out_new stream → KeepsTo state moment had_since old new IsSound
-  run_sound status old new clock_old clock_new out_old out_new stream tells sound still runs =
+      → Runs honest state moment had_since fault_count count told said noted out_faults last status old new clock_old clock_new out_old out_new stream → KeepsTo state moment had_since old new IsSound
+  run_sound last status old new clock_old clock_new out_old out_new stream tells sound still runs =
       ⊎_elim (λ works. works_sound status old new runs.clock clock_new out_old out_new stream tells sound works.1)
       (λ ends. subst (λ (d : D). KeepsTo state moment had_since old d IsSound) (sym ends.1.untouched) still) runs.runs
 

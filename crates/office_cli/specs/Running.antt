@@ -1,5 +1,5 @@
 -- What a run of the program does.
-use Rattle.std.specs.Prelude.{◌≡◌, ◌⊎◌, ℕ, ◌-◌, ◌^◌, ◌<◌, ◌≤◌, Bool, List, [], ◌∷◌, length, Option, option_map, IsTrue}
+use Rattle.std.specs.Prelude.{◌≡◌, ◌⊎◌, ℕ, ◌-◌, ◌^◌, ◌<◌, ◌≤◌, ◌+◌, min, Bool, List, [], ◌∷◌, length, Option, option_map, IsTrue}
 use Rattle.std.specs.Io.KnownBytes.{Appends}
 use Rattle.moments.specs.Time.{end_of_time}
 use Rattle.office_base.specs.Faults.{Rose}
@@ -94,11 +94,13 @@ module _ {D C W : Type 0} (honest : Bool) (state : D → State) (moment : D → 
     pub silent : said out_new ≡ said out_old
     pub note : IsNoted (noted out_old) (noted out_new) (out_faults out_old) (out_faults out_new) clock_note
 
-  -- The clock tells a number before the disk is touched: the office works where that is below the end of time.
-  pub record Runs (status : ℕ) (old new : D) (clock_old clock_new : C) (out_old out_new : W) (stream : Option (List ℕ)) : Type 0 where
-    pub first : ℕ
-    pub clock : C
-    pub told_first : count clock < 2 ^ 64 - 1 → Appends (told clock_old) (told clock) (first ∷ [])
-    pub later : count clock_old ≤ count clock
-    pub runs : ((first < end_of_time) × Works status old new clock clock_new out_old out_new stream)
-        ⊎ ((end_of_time ≤ first) × Ends status old new clock clock_new out_old out_new)
+  module _ (last : C → ℕ) where
+    -- The clock tells a number before the disk is touched: the office works where that is below the end of time.
+    pub record Runs (status : ℕ) (old new : D) (clock_old clock_new : C) (out_old out_new : W) (stream : Option (List ℕ)) : Type 0 where
+      pub first : ℕ
+      pub clock : C
+      pub once : count clock ≡ min (count clock_old + 1) (2 ^ 64 - 1)
+      pub is_last : last clock ≡ first
+      pub told_first : count clock < 2 ^ 64 - 1 → Appends (told clock_old) (told clock) (first ∷ [])
+      pub runs : ((first < end_of_time) × Works status old new clock clock_new out_old out_new stream)
+          ⊎ ((end_of_time ≤ first) × Ends status old new clock clock_new out_old out_new)

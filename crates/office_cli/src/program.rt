@@ -117,7 +117,7 @@ fn run<R: Source, W: Replies, D: Disk + Drop, C: Clock + Drop>(
     disk: D,
     mut clock: C,
 ) -> End<D, C>
-    ensures runs { Runs D.honest D.state D.moment D.had_since D.fault_count C.count C.told W.said W.noted W.faults result.status disk result.disk clock result.clock out.old out.new (R.left input.old) }
+    ensures runs { Runs D.honest D.state D.moment D.had_since D.fault_count C.count C.told W.said W.noted W.faults C.last result.status disk result.disk clock result.clock out.old out.new (R.left input.old) }
     ensures sound { IsTrue D.honest → (history : List Entry) → HasAcceptedHistory history (D.state disk).journal.seen → result.status ≡ 5 → ⊥ }
     ensures later { (R.faults input.old ≤ R.faults input.new) × (W.faults out.old ≤ W.faults out.new) × (D.fault_count disk ≤ D.fault_count result.disk) }
     ensures statuses { (result.status ≡ 8) ⊎ IsRunStatus result.status }
@@ -197,7 +197,7 @@ pub(crate) fn is_command(words: &[String]) -> bool
 /// The status is 0 where all was done; 1 where the words are no command line; 2 where the disk did not do a call; 3 where the
 /// input could not be read; 4 where a text could not be said; 5 where the journal is not made, foreign or damaged; 6 where
 /// memory ran out; 8 where the first number that the clock told a `run` is not below the end of time, 4,102,444,800,000
-/// milliseconds, and then nothing else was done; 9 where the input is longer than 2^40 bytes.
+/// milliseconds, and then nothing else was done; 9 where 2^40 bytes of input were taken and more is needed.
 pub fn office<R: Source, W: Replies, D: Disk + Drop, C: Clock + Drop>(
     alloc: Global,
     words: &[String],
@@ -208,7 +208,7 @@ pub fn office<R: Source, W: Replies, D: Disk + Drop, C: Clock + Drop>(
 ) -> End<D, C>
     // What run does.
     ensures run { map string_bytes words.now ≡ run_line
-        → Runs D.honest D.state D.moment D.had_since D.fault_count C.count C.told W.said W.noted W.faults result.status disk result.disk clock result.clock out.old out.new (R.left input.old) }
+        → Runs D.honest D.state D.moment D.had_since D.fault_count C.count C.told W.said W.noted W.faults C.last result.status disk result.disk clock result.clock out.old out.new (R.left input.old) }
 
     // What init does.
     ensures init { map string_bytes words.now ≡ init_line
