@@ -1,5 +1,5 @@
 -- One of several ranges, and a run of calls that goes on.
-use Rattle.std.proofs.Common.{◌≡◌, inl, inr, ℕ, suc, zero, ◌+◌, ◌-◌, ◌<◌, ◌≤◌, List, [], ◌∷◌, ◌++◌, length, get_or, take, refl, sym, ◌∙◌, ap, arith}
+use Rattle.std.proofs.Common.{◌≡◌, inl, inr, ℕ, suc, zero, ◌+◌, ◌<◌, ◌≤◌, List, [], ◌∷◌, length, get_or, take, refl, sym, ◌∙◌, ap, arith}
 use Rattle.std.proofs.lemmas.List.{take_more}
 use Rattle.disk_core.specs.declared.memory.Call.{Call}
 use Rattle.disk_core.specs.declared.disk.FileNo.{FileNo}

@@ -6,9 +6,9 @@ ghost use Rattle.disk_core.specs.Files.{State, Covers, IsImage, file_in, put, wr
 ghost use Rattle.disk_core.specs.Replay.{step, after};
 ghost use Rattle.disk_core.specs.Pending.{file_of};
 
+use crate::FileNo;
 use crate::contents::overwrite;
 use crate::memory::Call;
-use crate::FileNo;
 use std::alloc::{AllocError, Global};
 
 // What a byte holds that may hold anything.
@@ -37,11 +37,7 @@ const CHOICES: [(Filling, Filling); 9] = [
 ];
 
 fn byte_or_zero(bytes: &[u8], at: usize) -> u8 {
-    if at < bytes.len() {
-        bytes[at]
-    } else {
-        0
-    }
+    if at < bytes.len() { bytes[at] } else { 0 }
 }
 
 // What a read of the file gives, what the last sync left, and the lengths and written ranges since, the newest first.
@@ -154,7 +150,13 @@ impl Pending {
     }
 
     // Makes the image of this length, with one filling before a place and one from there on.
-    fn image(&self, length: usize, place: usize, fillings: (Filling, Filling), alloc: Global) -> Result<Vec<u8>, AllocError>
+    fn image(
+        &self,
+        length: usize,
+        place: usize,
+        fillings: (Filling, Filling),
+        alloc: Global,
+    ) -> Result<Vec<u8>, AllocError>
         requires { Contains self.now.lengths.items length }
         ensures { IfOk result (λ image. IsImage (file_of self.now) image.items) }
     {
@@ -166,7 +168,13 @@ impl Pending {
         Ok(image)
     }
 
-    fn add_fillings(&self, length: usize, place: usize, images: &mut Vec<Vec<u8>>, alloc: Global) -> Result<(), AllocError>
+    fn add_fillings(
+        &self,
+        length: usize,
+        place: usize,
+        images: &mut Vec<Vec<u8>>,
+        alloc: Global,
+    ) -> Result<(), AllocError>
         requires length { Contains self.now.lengths.items length }
         requires images { All (λ (image : Vec ℕ). IsImage (file_of self.now) image.items) images.old.items }
         ensures { OnOk result (All (λ (image : Vec ℕ). IsImage (file_of self.now) image.items) images.new.items) }
@@ -178,7 +186,12 @@ impl Pending {
         Ok(())
     }
 
-    fn add_places(&self, length: usize, images: &mut Vec<Vec<u8>>, alloc: Global) -> Result<(), AllocError>
+    fn add_places(
+        &self,
+        length: usize,
+        images: &mut Vec<Vec<u8>>,
+        alloc: Global,
+    ) -> Result<(), AllocError>
         requires length { Contains self.now.lengths.items length }
         requires images { All (λ (image : Vec ℕ). IsImage (file_of self.now) image.items) images.old.items }
         ensures { OnOk result (All (λ (image : Vec ℕ). IsImage (file_of self.now) image.items) images.new.items) }

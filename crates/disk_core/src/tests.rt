@@ -108,7 +108,8 @@ fn a_synced_file_has_one_image(rt: HostRuntime) -> Result<(), Fail> {
 
 // Whether each image whose first byte is 9 holds the bytes behind it that were written.
 fn first_tells(images: &[Vec<u8>]) -> bool {
-    images.iter().all(|image| !image.starts_with(&[9]) || image.as_slice() == [9, 2, 3, 4, 5].as_slice())
+    images.iter().all(|image| !image.starts_with(&[9])
+        || image.as_slice() == [9, 2, 3, 4, 5].as_slice())
 }
 
 #[test]
@@ -124,7 +125,11 @@ fn a_sync_between_keeps_order(rt: HostRuntime) -> Result<(), Fail> {
     assert!(rt; are_all(&disk.images(FileNo::Journal, 4)?, &[9, 2, 3, 4, 5]));
 
     let mut without = MemoryDisk::new(rt.alloc(), Vec::new(rt.alloc()));
-    assert!(rt; without.write_at(FileNo::Journal, 0, &[1, 2, 3, 4, 5]).is_ok());
+    assert!(rt;
+        without
+            .write_at(FileNo::Journal, 0, &[1, 2, 3, 4, 5])
+            .is_ok()
+    );
     assert!(rt; without.write_at(FileNo::Journal, 0, &[9]).is_ok());
     assert!(rt; without.sync(FileNo::Journal).is_ok());
     assert!(rt; !first_tells(&without.images(FileNo::Journal, 2)?));
