@@ -1,8 +1,10 @@
 pub mod Contents
 pub mod Files
+pub mod Images
 pub mod Kept
 pub mod Memory
 pub mod Moments
 pub mod Own
+pub mod Pending
 pub mod Replay
 pub mod Untold

@@ -15,7 +15,7 @@ pub struct Contents {
 }
 
 // Writes over what is there and past the end, or changes nothing.
-fn overwrite(old: &mut Vec<u8>, at: usize, bytes: &[u8]) -> Result<(), AllocError>
+pub fn overwrite(old: &mut Vec<u8>, at: usize, bytes: &[u8]) -> Result<(), AllocError>
     requires { at ≤ length old.old.items }
     ensures ok { OnOk result (old.new.items ≡ put at bytes.now old.old.items) }
     ensures err { OnErr result (old.new.items ≡ old.old.items) }

@@ -5,10 +5,11 @@ mod contents;
 mod disk;
 mod file_disk;
 mod memory;
+mod pending;
 #[cfg(test)]
 mod tests;
 
 pub use disk::{Disk, FileNo};
 pub use file_disk::FileDisk;
 pub use memory::MemoryDisk;
-pub use office_base::Failed;
+pub use office_base::{Failed, NoMemory};

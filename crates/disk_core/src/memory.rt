@@ -1,6 +1,8 @@
 // A disk in memory, which keeps each call.
-ghost use Rattle.std.specs.Prelude.{◌≡◌, ◌≤◌, ◌++◌, [], ◌∷◌, true, length, OnOk, OnErr};
-ghost use Rattle.disk_core.specs.Files.{seen_in};
+ghost use Rattle.std.specs.Prelude.{◌≡◌, ◌≤◌, ◌++◌, [], ◌∷◌, ℕ, true, length, IfOk, OnOk, OnErr};
+ghost use Rattle.std.specs.List.{All};
+ghost use Rattle.std.specs.Global.{Vec};
+ghost use Rattle.disk_core.specs.Files.{IsImage, file_in, seen_in};
 ghost use Rattle.disk_core.specs.Contents.{AreBytes, bytes_of, seens};
 ghost use Rattle.office_base.specs.Faults.{Rose, HasCause};
 ghost use Rattle.disk_core.specs.declared.memory.Call.TheVariants.{Other, Cut, Sync};
@@ -8,13 +10,14 @@ ghost use Rattle.disk_core.specs.Replay.{IsUntold, KeepsWrite, after, HadSince, 
 ghost use Rattle.disk_core.specs.Own.{own, own_image, bytes_told};
 
 use crate::contents::Contents;
+use crate::pending::Pending;
 use crate::{Disk, FileNo};
-use office_base::Failed;
+use office_base::{Failed, NoMemory};
 use std::alloc::{AllocError, AllocFailed, Global};
 use std::snapshot::Snapshot;
 
 #[derive(Drop)]
-enum Call {
+pub enum Call {
     // One that changed nothing.
     Other,
     Write {
@@ -43,8 +46,16 @@ pub struct MemoryDisk {
     ghost small: { AreBytes (bytes_of contents) },
 }
 
+fn find_images(calls: &[Call], file: FileNo, alloc: Global) -> Result<Vec<Vec<u8>>, AllocError>
+    ensures { IfOk result (λ images. All (λ (image : Vec ℕ). IsImage (file_in file (after calls.now)) image.items) images.items) }
+{
+    let pending = Pending::of(calls, file, alloc)?;
+    pending.images(alloc)
+}
+
 impl MemoryDisk {
     ghost use Rattle.disk_core.specs.Files.{empty_disk};
+    ghost use Rattle.disk_core.specs.Images.{state_at};
     ghost use Rattle.disk_core.specs.Memory.{memory_state, memory_faults};
 
     /// Makes a disk of three empty files, of which the calls with these numbers fail.
@@ -65,6 +76,26 @@ impl MemoryDisk {
             calls: Vec::new(alloc),
             failing,
             faults: 0,
+        }
+    }
+
+    /// Gives images of a file that a crash after the first `after` calls may leave, for tests; after all calls where there are fewer.
+    ///
+    /// There is one for each choice of a length that the file had since its last sync (as often as it had it), a
+    /// place from 0 to that length, one filling for all pending bytes before the place, and one for those from there on.
+    /// A pending byte is one in a range written since the last sync, or past the length at that sync. Its fillings are
+    /// what that sync left there, what a read gives (each 0 past its end), and 0x37. All other bytes are as synced.
+    ///
+    /// # Errors
+    ///
+    /// `NoMemory`: memory ran out.
+    pub fn images(&self, file: FileNo, after: u64) -> Result<Vec<Vec<u8>>, NoMemory>
+        ensures images { IfOk result (λ images. All (λ (image : Vec ℕ). IsImage (file_in file (state_at self.now after)) image.items) images.items) }
+    {
+        let count = (after as usize).min(self.calls.len());
+        match find_images(&self.calls[..count], file, self.alloc) {
+            Ok(images) => Ok(images),
+            Err(_) => Err(NoMemory),
         }
     }
 
