@@ -1,5 +1,5 @@
 // An office over its journal.
-ghost use Rattle.std.specs.Prelude.{◌≡◌, ◌⊎◌, ◌+◌, ◌-◌, ◌<◌, ◌≤◌, ◌^◌, ◌++◌, ◌∷◌, [], ℕ, List, length, true, false, IsTrue, Some, None, Ok, Err, IfOk, IfErr, OnOk, IsErrOf};
+ghost use Rattle.std.specs.Prelude.{min, ◌≡◌, ◌⊎◌, ◌+◌, ◌-◌, ◌<◌, ◌≤◌, ◌^◌, ◌++◌, ◌∷◌, [], ℕ, List, length, true, false, IsTrue, Some, None, Ok, Err, IfOk, IfErr, OnOk, IsErrOf};
 ghost use Rattle.office_base.specs.Faults.{Rose};
 ghost use Rattle.moments.specs.Time.{end_of_time};
 ghost use Rattle.disk_core.specs.Kept.{Narrower};
@@ -263,7 +263,7 @@ impl<D: Disk + Drop, C: Clock + Drop> Desk<D, C> {
         // It takes a further call, but after a fault of the store.
         ensures ready { is_store_fault result ≡ false → IsReady D.honest D.state self.new }
         ensures limit { self.new.limit ≡ self.old.limit }
-        ensures clock_once { C.count self.new.clock ≤ C.count self.old.clock + 1 }
+        ensures clock_once { C.count self.new.clock ≡ min (C.count self.old.clock + 1) (2 ^ 64 - 1) }
         ensures clock_later { C.count self.old.clock ≤ C.count self.new.clock }
         ensures disk_later { D.fault_count self.old.disk ≤ D.fault_count self.new.disk }
     {
