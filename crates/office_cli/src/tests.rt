@@ -1,10 +1,13 @@
-use crate::program::{End, office};
-use desk_core::ListClock;
+use crate::program::{End, JOURNAL_LIMIT, office};
+use desk_core::{Desk, ListClock};
 use disk_core::{Disk, FileNo, MemoryDisk};
 use http_front::MemoryReplies;
 use http_wire::MemorySource;
 use meter_journal::read_all;
+use office_base::BucketName;
+use plain_office::{Ask, Query, Reply};
 use std::alloc::Global;
+use std::process::Abort;
 use std::test::Fail;
 
 const MADE: &[u8] =
@@ -513,5 +516,82 @@ fn what_is_not_served_ends_the_session(rt: HostRuntime) -> Result<(), Fail> {
         assert_eq!(rt; ran.status, 0, "status of {line} {body}");
         assert!(rt; ran.said.as_slice() == NOT_BUILT, "said to {line} {body}");
     }
+    Ok(())
+}
+
+// How many versions the bucket has in the office over an image of the journal; none where it is not opened.
+fn versions_in(alloc: Global, image: &[u8]) -> Result<Option<u32>, Fail> {
+    let disk = disk_of(alloc, image, &[])?;
+    let clock = ListClock::new(vec![in alloc; NEW_YEAR]?);
+    let Ok(mut desk) = Desk::open(alloc, disk, clock, JOURNAL_LIMIT) else {
+        return Ok(None);
+    };
+    let ask = Ask::Query(Query::Bucket(BucketName::read(alloc, "logs")?));
+    match desk.submit(&ask)?.reply() {
+        Ok(Reply::BucketShown { versions, .. }) => Ok(Some(*versions)),
+        _ => Ok(None),
+    }
+}
+
+// How many images there are after so many calls, in how many of them the bucket has a version, and how many are not opened.
+fn opened_after(alloc: Global, disk: &MemoryDisk, after: u64) -> Result<(u64, u64, u64), Fail> {
+    let mut all = 0u64;
+    let mut with = 0u64;
+    let mut refused = 0u64;
+    for image in disk.images(FileNo::Journal, after)? {
+        all = all.saturating_add(1);
+        match versions_in(alloc, &image)? {
+            Some(0) => {}
+            Some(_) => with = with.saturating_add(1),
+            None => refused = refused.saturating_add(1),
+        }
+    }
+    Ok((all, with, refused))
+}
+
+// Two calls of the disk: the length of the journal file, and a write that begins within it.
+fn write_in(rt: &impl Abort, disk: &mut MemoryDisk, at: u64, bytes: &[u8]) -> Result<(), Fail> {
+    let length = disk.length(FileNo::Journal)?;
+    assert!(rt; at <= length, "{at} is past the end");
+    disk.write_at(FileNo::Journal, at, bytes)?;
+    Ok(())
+}
+
+#[test]
+fn a_put_is_whole_or_absent_in_each_image(rt: HostRuntime) -> Result<(), Fail> {
+    let alloc = rt.alloc();
+    let put = request(alloc, "PUT /buckets/logs/objects/a", "{\"size\":1000}")?;
+    let mut ran = run_on(alloc, RUN, &put, 8192, disk_of(alloc, ONE, &[])?)?;
+    assert_eq!(rt; ran.status, 0);
+    // The calls of the disk, the images of the journal after each, and those that have the put. Calls 9 to 11 write the frame behind
+    // the 31 bytes, call 12 syncs it, call 13 opens the gate, and call 14 syncs that. An image has one of the lengths since the last
+    // sync, L; one of L + 1 places; and one of 9 pairs of fillings. The gate is open in a third of those after call 13.
+    for (after, images, with) in [
+        (8, 288, 0),
+        (9, 612, 0),
+        (10, 1188, 0),
+        (11, 1773, 0),
+        (12, 585, 0),
+        (13, 1170, 390),
+        (14, 585, 585),
+    ] {
+        assert_eq!(rt;
+            opened_after(alloc, &ran.disk, after)?,
+            (images, with, 0),
+            "after {after} calls"
+        );
+    }
+    // Without the first of the two syncs some image is refused: its gate is open before a frame that is not whole.
+    let file = read_all(alloc, &mut ran.disk)?;
+    let Some((_, frame)) = file.split_at_checked(31) else {
+        panic!(rt; "the journal is shorter than it was");
+    };
+    let mut hasty = disk_of(alloc, ONE, &[])?;
+    hasty.sync(FileNo::Journal)?;
+    write_in(&rt, &mut hasty, 31, frame)?;
+    write_in(&rt, &mut hasty, 30, &[0xA5])?;
+    let (images, _, refused) = opened_after(alloc, &hasty, 6)?;
+    assert_eq!(rt; images, 1458);
+    assert!(rt; refused > 0, "each image was opened");
     Ok(())
 }
