@@ -1,10 +1,11 @@
 -- What is heard at the front of a stream.
-use Rattle.std.proofs.Common.{◌≡◌, ◌≢◌, ℕ, Bool, List, [], ◌∷◌, ◌++◌, length, drop, refl, sym, ap, ◌∙◌, subst, arith, length-append, append_assoc, append-nil, inl, inr, Option, Some, None, Ok}
+use Rattle.std.proofs.Common.{◌≡◌, ◌≢◌, ℕ, Bool, List, [], ◌∷◌, ◌++◌, length, drop, refl, sym, ap, ◌∙◌, subst, arith, length-append, append_assoc, append-nil, inl, inr, Option, Some, None, Result, Ok, Err}
+use Rattle.std.specs.Prelude.{IsErrOf}
 use Rattle.std.specs.Io.KnownBytes.{prepend_known, IsAtEnd}
 use Rattle.httparse.specs.Spans.{span_bytes}
 use Rattle.http_routes.specs.Targets.{Resource}
 use Rattle.http_routes.proofs.Leads.{one_route}
-use Rattle.http_wire.specs.Answers.{Gave, Answers, Refuses, OnRequest, OnRefused}
+use Rattle.http_wire.specs.Answers.{Gave, Answers, Refuses, AwaitsLongBody, OnRequest, OnRefused}
 use Rattle.http_wire.specs.Held.{Held}
 use Rattle.http_wire.specs.Messages.{Framed, Request, request, refused, Stands, IsCutShort, IsUnsettled}
 use Rattle.http_wire.specs.Parts.{Parts, body_of}
@@ -13,15 +14,18 @@ use Rattle.http_wire.specs.declared.framing.FramingRefusal.TheVariants.{BadHead,
 use Rattle.http_wire.specs.declared.message.Next.{Next}
 use Rattle.http_wire.specs.declared.message.Next.TheVariants as next
 use Rattle.http_wire.specs.declared.message.MessageStop.{MessageStop}
+use Rattle.http_wire.specs.declared.message.MessageStop.TheVariants as message_stops
 use Rattle.http_wire.proofs.Unique.{stands_unique, stands_rest, stands_more, nothing_stands}
 use Rattle.http_asks.specs.Counts.{Given}
 use Rattle.http_asks.specs.Faults.{refused_of}
 use Rattle.http_asks.specs.Hearing.{IsHeard, last_of}
 use Rattle.http_asks.specs.Meaning.{Refused, not_a_month, bad_bucket_name, bad_key, flawed, not_built, Meant, asks, refuses, meant_of, Means, IsMeant}
-use Rattle.http_asks.specs.Streams.{IsItem, IsUnbuilt, StandsUnbuilt}
+use Rattle.http_asks.specs.Streams.{IsItem, IsUnbuilt, StandsUnbuilt, WantsMemory}
 use Rattle.http_asks.specs.Tells.{Tells, TellsRefused}
 use Rattle.http_asks.specs.declared.reader.Heard.{Heard}
 use Rattle.http_asks.specs.declared.reader.Heard.TheVariants as heards
+use Rattle.http_asks.specs.declared.reader.Stop.{Stop}
+use Rattle.http_asks.specs.declared.reader.Stop.TheVariants as stops
 
 -- ---- one thing is meant
 
@@ -182,6 +186,30 @@ end_told a b (Some xs) (Some ys) gave end =
 
 pub unsettled_same : (a b : Held) → a ≡ b → (IsUnsettled a.bytes → ⊥) → IsUnsettled b.bytes → ⊥
 unsettled_same a b same settled none = settled (subst (λ (h : Held). IsUnsettled h.bytes) (sym same) none)
+
+-- ---- memory is wanting
+
+pub body_wants : (a b : Held) (la lb : Option (List ℕ)) → Gave a b la lb AwaitsLongBody → Gave a b la lb WantsMemory
+body_wants a b la lb gave = record { given = gave.given; counted = gave.counted; left = gave.left; so = inl gave.so }
+
+pub request_wants : (a b : Held) (la lb : Option (List ℕ)) (m : Parts) → Gave a b la lb (λ (bytes : List ℕ). Answers bytes b m) → Gave a b la lb WantsMemory
+request_wants a b la lb m gave = record {
+  given = gave.given;
+  counted = gave.counted;
+  left = gave.left;
+  so = inr (gave.so.found, drop m.used b.bytes, gave.so.stands);
+}
+
+abbrev error_or : Stop → Result Heard Stop → Stop
+error_or other (Ok heard) = other
+error_or other (Err e) = e
+
+err_same : (x y : Stop) → IsErrOf {T = Heard} (Err x) y → x ≡ y
+err_same x y is = ap (error_or x) is
+
+pub stop_wants : (stop : MessageStop) (told : Stop) → (told ≡ stops.NoMemory → stop ≡ message_stops.NoMemory) → IsErrOf {T = Heard} (Err told) stops.NoMemory
+    → IsErrOf {T = Next} (Err stop) message_stops.NoMemory
+stop_wants stop told means is = ap Err (means (err_same told stops.NoMemory is))
 
 -- ---- what was read
 

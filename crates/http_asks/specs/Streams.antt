@@ -1,5 +1,6 @@
 -- Which items stand in a stream: requests that mean what is served.
-use Rattle.std.specs.Prelude.{◌≡◌, ◌≢◌, ℕ, Bool, List, [], Option, Some, None, ⊤}
+use Rattle.std.specs.Prelude.{◌≡◌, ◌≢◌, ◌⊎◌, ℕ, Bool, List, [], Option, Some, None, ⊤}
+use Rattle.http_wire.specs.Answers.{AwaitsLongBody}
 use Rattle.http_wire.specs.Messages.{Request, request, Stands}
 use Rattle.http_asks.specs.Meaning.{Meant, refuses, not_built, IsMeant}
 
@@ -15,6 +16,10 @@ pub record IsItem (stream : List ℕ) (meant : Meant) (last : Bool) (rest : List
 pub record IsUnbuilt (stream : List ℕ) : Type 0 where
   pub some : stream ≢ []
   pub other : (meant : Meant) (last : Bool) (rest : List ℕ) → ¬ (IsItem stream meant last rest)
+
+-- What takes memory stands at the front of the bytes: a head whose body is longer than the room behind it, or a request.
+abbrev pub WantsMemory : List ℕ → Type 0
+WantsMemory bytes = AwaitsLongBody bytes ⊎ ((found : Request) × (rest : List ℕ) × Stands bytes (request found) rest)
 
 -- the same of streams that may not be told
 abbrev pub StandsItem : Option (List ℕ) → Meant → Bool → Option (List ℕ) → Type 0

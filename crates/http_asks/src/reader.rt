@@ -11,6 +11,7 @@ ghost use Rattle.http_wire.specs.Parts.{body_of};
 ghost use Rattle.http_asks.specs.Faults.{refused_of};
 ghost use Rattle.http_asks.specs.Hearing.{IsHeard, last_of};
 ghost use Rattle.http_asks.specs.Meaning.{Means};
+ghost use Rattle.http_asks.specs.Streams.{WantsMemory};
 ghost use Rattle.http_asks.specs.Tells.{Tells, OnItem};
 
 use crate::asks::ask_of;
@@ -72,6 +73,7 @@ impl Model for Reader {
 fn stop_of(stop: MessageStop) -> Stop
     ensures fault { result ≡ Stop.ReadFault → stop ≡ MessageStop.ReadFault }
     ensures spent { result ≡ Stop.Spent → stop ≡ MessageStop.Spent }
+    ensures no_memory { result ≡ Stop.NoMemory → stop ≡ MessageStop.NoMemory }
 {
     match stop {
         MessageStop::ReadFault => Stop::ReadFault,
@@ -137,8 +139,9 @@ impl Reader {
     /// # Errors
     ///
     /// `Spent`: 2^40 = 1,099,511,627,776 bytes were taken and a further read is needed, also where it would find the end.
-    /// `ReadFault`: the source failed. `NoMemory`: memory ran out. Nothing was heard then; a message that is whole in the
-    /// buffer stays there, and of a body that does not fit there the bytes that were taken before are lost.
+    /// `ReadFault`: the source failed. `NoMemory`: memory ran out for a request whose head was read. Nothing was heard then; a
+    /// message that is whole in the buffer stays there, and of a body that does not fit there the bytes that were taken before
+    /// are lost.
     pub fn next<R: Source>(&mut self, alloc: Global, source: &mut R) -> Result<Heard, Stop>
         ensures tells { IfOk result (λ heard. Tells (prepend_known self.old.bytes (R.left source.old)) heard (prepend_known self.new.bytes (R.left source.new))) }
         ensures given { Given self.old.taken self.new.taken (R.left source.old) (R.left source.new) }
@@ -148,6 +151,8 @@ impl Reader {
         // The end is found by a read, so fewer bytes than the limit were taken.
         ensures at_end { result ≡ Ok Heard.End → (self.new.taken < take_limit) × IsAtEnd (R.left source.new) }
         ensures spent { IsErrOf result Stop.Spent → (self.new.taken ≡ take_limit) × Gave self.old self.new (R.left source.old) (R.left source.new) IsUnsettled }
+        // Memory is wanted for a request whose head was read.
+        ensures no_memory { IsErrOf result Stop.NoMemory → Gave self.old self.new (R.left source.old) (R.left source.new) WantsMemory }
         // A message whose bytes are held is heard without a read.
         ensures settled { (IsUnsettled self.old.bytes → ⊥) → source.new ≡ source.old }
         ensures later { R.faults source.old ≤ R.faults source.new }

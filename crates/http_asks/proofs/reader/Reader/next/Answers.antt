@@ -4,11 +4,20 @@ use Rattle.http_wire.specs.Answers.{Gave, Answers, Refuses}
 use Rattle.http_wire.specs.Held.{Held}
 use Rattle.http_wire.specs.Parts.{Parts}
 use Rattle.http_wire.specs.declared.framing.FramingRefusal.{FramingRefusal}
-use Rattle.http_asks.specs.Streams.{StandsUnbuilt}
+use Rattle.http_asks.specs.Streams.{StandsUnbuilt, WantsMemory}
 use Rattle.http_asks.specs.Tells.{Tells}
-use Rattle.http_asks.proofs.HeardLemmas.{heard_told, unbuilt_told, unsettled_same, on_request, on_refused}
+use Rattle.http_asks.proofs.HeardLemmas.{heard_told, unbuilt_told, unsettled_same, on_request, on_refused, body_wants, request_wants, stop_wants}
 use Rattle.http_asks.proofs.reader.Reader.next.Goals as goal
 use Rattle.http_asks.proofs.reader.Reader.next.Goals.{in-Some-2, in-None-2}
+
+pub returns-in_default-clause-no_memory : goal.returns-in_default-clause-no_memory
+returns-in_default-clause-no_memory g c wants =
+    let left = g.R.Source.left in
+    let before = c.read_message.new.buffer in
+    let m = c.in-Ok-Request.message in
+    subst (λ (h : Held). Gave h before (left c.args.source.now) (left c.read_message.new.source) WantsMemory) c.self.view_is
+    (request_wants c.self.inside.buffer before (left c.args.source.now) (left c.read_message.new.source) m
+    (on_request c.in-Ok-Request.field-0 m (λ (x : Parts). Gave c.self.inside.buffer before (left c.args.source.now) (left c.read_message.new.source) (λ (bytes : List ℕ). Answers bytes before x)) c.in-Ok-Request.field-0-is c.in-Ok-Request.ensures.request))
 
 pub returns-in_default-clause-settled : goal.returns-in_default-clause-settled
 returns-in_default-clause-settled g c settled = c.read_message.ensures.settled (unsettled_same c.args.self.now c.self.inside.buffer (sym c.self.view_is) settled)
@@ -44,6 +53,13 @@ returns-in-Ok-Refused-clause-settled g c settled = c.read_message.ensures.settle
 
 pub returns-in-Ok-End-clause-settled : goal.returns-in-Ok-End-clause-settled
 returns-in-Ok-End-clause-settled g c settled = c.read_message.ensures.settled (unsettled_same c.args.self.now c.self.inside.buffer (sym c.self.view_is) settled)
+
+pub returns-in-Err-clause-no_memory : goal.returns-in-Err-clause-no_memory
+returns-in-Err-clause-no_memory g c wants =
+    let left = g.R.Source.left in
+    subst (λ (h : Held). Gave h c.read_message.new.buffer (left c.args.source.now) (left c.read_message.new.source) WantsMemory) c.self.view_is
+    (body_wants c.self.inside.buffer c.read_message.new.buffer (left c.args.source.now) (left c.read_message.new.source)
+    (c.in-Err.ensures.no_memory (stop_wants c.in-Err.stop c.stop_of.result c.stop_of.ensures.no_memory wants)))
 
 pub returns-in-Err-clause-settled : goal.returns-in-Err-clause-settled
 returns-in-Err-clause-settled g c settled = c.read_message.ensures.settled (unsettled_same c.args.self.now c.self.inside.buffer (sym c.self.view_is) settled)
