@@ -61,7 +61,7 @@ running_sum month class book = sum_by (λ (stay : Stay). running_bytes month cla
 unfoldable pub since_sum : ℕ → Class → Book → ℕ
 since_sum month class book = sum_by (λ (stay : Stay). running_bytes month class stay * (stay.from - month_start month)) book.stays
 
--- the totals are those of the book: each kept number equals its sum over the book, in a month without a row 0
+-- the totals are those of the book: each kept number equals its sum over the book, and is nothing in a month that is not kept
 pub record StandsFor (totals : Totals) (book : Book) : Type 0 where
   pub ended : (month : ℕ) (class : Class) → (kept totals month class).ended ≡ ended_sum month class book
   pub running : (month : ℕ) (class : Class) → (kept totals month class).running ≡ running_sum month class book

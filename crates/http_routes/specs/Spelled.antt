@@ -1,4 +1,5 @@
--- The key that a part of a path spells (RFC 3986, section 2.1: a percent sign and two hexadecimal digits stand for a byte; own: any other percent sign stays).
+-- The key that a part of a path spells (RFC 3986, "Percent-Encoding": a percent sign and two hexadecimal
+-- digits stand for a byte; own: any other percent sign stays).
 use Rattle.std.specs.Prelude.{ℕ, List}
 use Rattle.percent_encoding.specs.Percent.{percent_decode}
 

@@ -1,4 +1,5 @@
--- Where the target of a request leads. A target is the origin-form of RFC 9112, section 3.2.1: a path, as RFC 3986, section 3.3 has it.
+-- Where the target of a request leads. A target is the origin-form of RFC 9112, "Request Target": a path, as RFC 3986,
+-- "Path", has it.
 --     /buckets/{bucket}                    a bucket
 --     /buckets/{bucket}/objects/{*key}     an object of a bucket
 --     /buckets/{bucket}/meters/{month}     the meters of a bucket in a month
@@ -19,7 +20,7 @@ pub data Resource : Type 0 where
 abbrev pub has_byte : ℕ → List ℕ → Bool
 has_byte byte text = list_any (λ b. b == byte) text
 
--- a segment that is not empty (RFC 3986, section 3.3: segment-nz): one byte or more, and no slash
+-- a segment that is not empty (RFC 3986, "Path": segment-nz): one byte or more, and no slash
 pub record IsPart (part : List ℕ) : Type 0 where
   pub some : 0 < length part
   pub plain : has_byte 47 part ≡ false
