@@ -4,7 +4,7 @@ use Rattle.std.specs.Prelude.{IsTrue}
 use Rattle.std.specs.List.{flat_map}
 use Rattle.plain_office.specs.Office.{Office, empty_office}
 use Rattle.plain_office.specs.Orderly.{SizeFits}
-use Rattle.plain_office.specs.Step.{step, IsStep}
+use Rattle.plain_office.specs.Step.{step}
 use Rattle.plain_office.specs.Run.{accept, is_not_before}
 use Rattle.plain_office.specs.declared.command.Command.{Command}
 use Rattle.plain_office.specs.declared.command.Command.TheVariants as command
@@ -13,7 +13,7 @@ use Rattle.plain_office.specs.declared.reply.Reply.{Reply}
 use Rattle.plain_office.specs.declared.reply.Refusal.{Refusal}
 use Rattle.plain_office.specs.declared.reply.Refusal.TheVariants.{NoMemory}
 use Rattle.plain_office.proofs.OrderlySteps.{empty_orderly, accept_orderly}
-use Rattle.plain_office.proofs.Runs.{accepted_by, refused_by, step_refused, run_more, run_none}
+use Rattle.plain_office.proofs.Runs.{IsStep, accepted_by, refused_by, step_refused, run_more, run_none}
 use Rattle.office_machine.specs.Standing.{Records, StandsForOffice, Does, accepted_after, most_commands}
 use Rattle.entry_codec.specs.Spelling.{Fits, CommandFits, spelling}
 use Rattle.entry_codec.proofs.Sizes.{spelling_long}

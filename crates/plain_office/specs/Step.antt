@@ -1,5 +1,5 @@
 -- What a command does at a moment: the office after it, and the answer.
-use Rattle.std.specs.Prelude.{◌≡◌, ◌⊎◌, ℕ, Bool, true, false, List, [], ◌∷◌, Option, Some, None, is_some, Result, Ok, Err, if◌then◌else◌}
+use Rattle.std.specs.Prelude.{ℕ, Bool, true, false, List, [], ◌∷◌, Option, Some, None, is_some, Result, Ok, Err, if◌then◌else◌}
 use Rattle.std.specs.Option.{ok_or}
 use Rattle.class_rules.specs.declared.class.Class.{Class}
 use Rattle.office_base.specs.declared.version_id.VersionId.TheVariants.{Null}
@@ -12,7 +12,7 @@ use Rattle.plain_office.specs.declared.command.Command.TheVariants as command
 use Rattle.plain_office.specs.declared.reply.Reply.{Reply}
 use Rattle.plain_office.specs.declared.reply.Reply.TheVariants.{BucketMade, Stored}
 use Rattle.plain_office.specs.declared.reply.Refusal.{Refusal}
-use Rattle.plain_office.specs.declared.reply.Refusal.TheVariants.{BucketExists, NoSuchBucket, Full, NoMemory}
+use Rattle.plain_office.specs.declared.reply.Refusal.TheVariants.{BucketExists, NoSuchBucket, Full}
 use Rattle.plain_office.specs.declared.reply.What.{What}
 use Rattle.plain_office.specs.declared.reply.What.TheVariants.{Buckets, Versions, Names}
 
@@ -72,7 +72,3 @@ step t command office = settled t office (outcome t command office)
 abbrev pub is_accepted : Result Reply Refusal → Bool
 is_accepted (Ok reply) = true
 is_accepted (Err refusal) = false
-
--- the office after and the answer are those expected, or memory is wanting and the office is as before
-abbrev pub IsStep : Office × Result Reply Refusal → Office → Office → Result Reply Refusal → Type 0
-IsStep expected before after result = ((after, result) ≡ expected) ⊎ ((result ≡ Err NoMemory) × (after ≡ before))
