@@ -1,6 +1,6 @@
 -- Reading bytes from left to right. Each reader takes one field from the front of the bytes that are left of an entry, and
 -- gives its value and what is left then. A fault is the place at which the first field that breaks the format begins, in
--- bytes from the first byte of the entry.
+-- bytes from the first byte of the entry. Kinds, widths and orders of fields are own.
 use Rattle.std.specs.Prelude.{◌≡◌, ℕ, ◌-◌, List, [], ◌∷◌, length, take, drop, Option, ok_or, Result, Ok, Err, nat_lt, nat_le, ◌==◌, if◌then◌else◌}
 use Rattle.std.specs.Int.{Width, w16, w64, byte_len, from_be_bytes}
 use Rattle.std.specs.List.{find}

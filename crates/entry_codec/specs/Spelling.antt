@@ -1,4 +1,4 @@
--- The one spelling of each entry. Numbers stand with the most significant byte first.
+-- The one spelling of each entry (own). Numbers stand with the most significant byte first.
 use Rattle.std.specs.Prelude.{◌≡◌, ℕ, ◌<◌, ◌≤◌, List, [], ◌∷◌, ◌++◌, length}
 use Rattle.std.specs.Int.{w16, w64, to_be_bytes}
 use Rattle.moments.specs.Time.{end_of_time}
@@ -10,7 +10,7 @@ use Rattle.plain_office.specs.declared.command.Command.{Command}
 use Rattle.plain_office.specs.declared.command.Command.TheVariants.{CreateBucket, Put}
 use Rattle.plain_office.specs.declared.command.Entry.{Entry}
 
--- a name or a key: its length in two bytes, and its bytes
+-- a name or a key: its length in two bytes, and its bytes (own)
 abbrev pub counted : List ℕ → List ℕ
 counted text = to_be_bytes w16 (length text) ++ text
 
@@ -18,13 +18,13 @@ counted text = to_be_bytes w16 (length text) ++ text
 abbrev pub no_tags : List ℕ
 no_tags = 0 ∷ []
 
--- a command: its kind in one byte, and its fields; 1 makes a bucket of this name, and 5 puts an object of this size in
--- bytes into a class, which its rank spells
+-- a command: its kind in one byte, and its fields (own); 1 makes a bucket of this name, and 5 puts an object of this size
+-- in bytes into a class, which its rank spells
 abbrev pub command_spelling : Command → List ℕ
 command_spelling (CreateBucket bucket) = 1 ∷ counted bucket
 command_spelling (Put bucket key size class) = 5 ∷ counted bucket ++ counted key ++ to_be_bytes w64 size ++ rank_of class ∷ no_tags
 
--- an entry: its moment in eight bytes, in ms, and its command
+-- an entry: its moment in eight bytes, in ms, and its command (own)
 unfoldable pub spelling : Entry → List ℕ
 spelling e = to_be_bytes w64 e.moment ++ command_spelling e.command
 

@@ -8,7 +8,7 @@ use Rattle.serde_json.specs.Find.{get, as_object, as_number, as_u64, as_str}
 use Rattle.office_base.specs.Tags.{Tag}
 
 -- the value of a text in UTF-8 (RFC 8259, "Character Encoding"); an object has each name once, in the order of the names'
--- bytes, with the value that stands last (RFC 8259, "Objects", leaves the choice open)
+-- bytes, with the value that stands last (own; RFC 8259, "Objects", leaves the choice open)
 unfoldable pub json_of : List ℕ → Option Data
 json_of text = if is_utf8 text then read text else None
 
@@ -54,6 +54,6 @@ if_there kind (Some value) = option_map Some (kind value)
 abbrev pub held : {T : Type 0} → (Data → Option T) → List ℕ → Data → Option T
 held kind name body = option_and_then kind (get name body)
 
--- what a field holds that may be missing; a null is not missing
+-- what a field holds that may be missing; a null is not missing (own)
 abbrev pub if_held : {T : Type 0} → (Data → Option T) → List ℕ → Data → Option (Option T)
 if_held kind name body = if_there kind (get name body)

@@ -1,4 +1,4 @@
--- What the body of a PUT of an object says: its fields in their order, first their kinds and then their ranges.
+-- What the body of a PUT of an object says: its fields in their order, first their kinds and then their ranges (own order).
 use Rattle.std.specs.Prelude.{ℕ, List, [], ◌∷◌, Option, Result, Ok, ok_or, codes}
 use Rattle.serde_json.specs.Find.{as_str}
 use Rattle.office_base.specs.Tags.{Tag}
@@ -7,6 +7,7 @@ use Rattle.http_bodies.specs.Bodies.{body_of, whole_number, text_pairs, held, if
 use Rattle.http_bodies.specs.Flaws.{BodyFlaw, bad_body, with_fields, ◌>>=◌}
 use Rattle.http_bodies.specs.Ranges.{size_in_range, class_in_range, tags_in_range}
 
+-- the names of the fields (own)
 abbrev pub put_fields : List (List ℕ)
 put_fields = codes "size" ∷ codes "class" ∷ codes "tags" ∷ []
 

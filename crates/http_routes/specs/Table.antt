@@ -11,7 +11,7 @@ use Rattle.http_routes.specs.Targets.{Resource, bucket, object, meters}
 use Rattle.http_routes.specs.declared.routes.Kind.{Kind}
 use Rattle.http_routes.specs.declared.routes.Kind.TheVariants.{Bucket, Object, Meters}
 
--- the pattern of a kind of route: a byte stands for itself, and the two tokens for a part and for what is left
+-- the pattern of a kind of route (own): a byte stands for itself, and the two tokens for a part and for what is left
 unfoldable pub pattern_of : Kind → List ℕ
 pattern_of Bucket = codes "/buckets/" ++ param_token ∷ []
 pattern_of Object = codes "/buckets/" ++ (param_token ∷ (codes "/objects/" ++ catch_all_token ∷ []))

@@ -1,5 +1,5 @@
 -- Where the target of a request leads. A target is the origin-form of RFC 9112, "Request Target": a path, as RFC 3986,
--- "Path", has it.
+-- "Path", has it. The routes (own):
 --     /buckets/{bucket}                    a bucket
 --     /buckets/{bucket}/objects/{*key}     an object of a bucket
 --     /buckets/{bucket}/meters/{month}     the meters of a bucket in a month

@@ -38,13 +38,13 @@ whole n = number (unsigned n)
 abbrev pub digits_of : ℕ → Data
 digits_of n = string (decimal n)
 
--- ---- the bodies
+-- ---- the bodies (own: the names of their fields)
 
 -- as 2024-01
 unfoldable pub month_text : ℕ → List ℕ
 month_text month = two_digits (year_of month / 100) ++ (two_digits (year_of month) ++ (codes "-" ++ two_digits (month_of_year month)))
 
--- byte-milliseconds are texts of digits, since they may be larger than what a reader's numbers hold (RFC 8259, "Numbers")
+-- byte-milliseconds are texts of digits (own), since they may be larger than what a reader's numbers hold (RFC 8259, "Numbers")
 abbrev pub meters_data : ClassMeters → Data
 meters_data meters = object_of (
     (codes "class", string (class_name meters.class)) ∷ (codes "byte_ms", digits_of meters.byte_ms)
@@ -76,7 +76,7 @@ what_name Buckets = codes "Buckets"
 what_name Versions = codes "Versions"
 what_name Names = codes "Names"
 
--- a refusal with its name, its number and what else it tells
+-- a refusal with its name, its number (own) and what else it tells
 abbrev pub error_data : List ℕ → ℕ → List (List ℕ × Data) → Data
 error_data name n more = object_of ((codes "error", string name) ∷ (codes "number", whole n) ∷ more)
 
@@ -98,7 +98,7 @@ answer_data (Err refusal) = refusal_data refusal
 unfoldable pub body_text : Result Reply Refusal → List ℕ
 body_text answer = compact_text (answer_data answer)
 
--- ---- the replies (RFC 9110, "Status Codes"; RFC 9112, "Message Format")
+-- ---- the replies (RFC 9110, "Status Codes"; RFC 9112, "Message Format"; own: which status a refusal has)
 
 abbrev pub refusal_status : Refusal → ℕ
 refusal_status BucketExists = 409

@@ -20,5 +20,4 @@ pub use head::{Front, front_of};
 pub use laws::{messages_unique, reads_messages, stands_more, stands_rest, stands_unique};
 pub use memory_source::MemorySource;
 pub use message::{Message, MessageStop, Next, read_message};
-pub use reading::{Heading, Stop, read_head};
 pub use source::{ReaderSource, Source};

@@ -14,7 +14,7 @@ use httparse::spans::RequestSpans;
 
 /// What stands at the front of a stream.
 #[derive(Drop)]
-pub enum Heading {
+pub(crate) enum Heading {
     /// A whole head, whose parts are in the buffer.
     Whole(RequestSpans),
     /// No head, whatever follows.
@@ -29,7 +29,7 @@ pub enum Heading {
 
 /// Why nothing was found at the front of a stream.
 #[derive(Clone, Copy, Debug, PartialEq, Eq)]
-pub enum Stop {
+pub(crate) enum Stop {
     /// The source failed.
     ReadFault,
     /// 2^40 bytes were taken, and a further read is needed.
@@ -42,7 +42,7 @@ pub enum Stop {
 ///
 /// `Spent`: 2^40 = 1,099,511,627,776 bytes were taken and a further read is needed, also where it would find the end.
 /// `ReadFault`: the source failed. The bytes taken before are held.
-pub fn read_head<R: Source>(source: &mut R, buffer: &mut Buffer) -> Result<Heading, Stop>
+pub(crate) fn read_head<R: Source>(source: &mut R, buffer: &mut Buffer) -> Result<Heading, Stop>
     ensures took { Took buffer.old buffer.new (R.left source.old) (R.left source.new) }
     ensures limit { buffer.new.taken ≤ take_limit }
     ensures whole { OnHead result (IsRequestOf buffer.new.bytes buffer.new.spans) }

@@ -1,6 +1,6 @@
--- The sizes of objects and parts, in bytes.
+-- The size of an object, in bytes.
 use Rattle.std.specs.Prelude.{ℕ, ◌*◌, ◌^◌}
 
--- 5 TiB (S3 User Guide, "Uploading objects": the largest object; own: objects and parts alike have up to this size)
+-- the largest object: 5 TiB (S3 User Guide, "Uploading objects"), taken as 5 * 2 ^ 40 bytes (own)
 abbrev pub largest_size : ℕ
 largest_size = 5 * 2 ^ 40
