@@ -1,14 +1,23 @@
-// A journal to which entries are added.
-ghost use Rattle.std.specs.Prelude.{◌≡◌, ◌+◌, ◌<◌, ◌≤◌, ◌^◌, ◌++◌, [], ◌∷◌, List, ℕ, IsTrue, length, OnOk, IfOk, IsErrOf, ◌↔◌};
+// A journal, which is read and to which entries are added.
+ghost use Rattle.std.specs.Prelude.{◌≡◌, ◌+◌, ◌<◌, ◌≤◌, ◌^◌, ◌++◌, [], ◌∷◌, List, ℕ, IsTrue, length, OnOk, IfOk, IfErr, IfSome, Err, IsErrOf, ◌↔◌};
 ghost use Rattle.office_base.specs.Faults.{Rose, HasCause};
-ghost use Rattle.disk_core.specs.Moments.{KeepsTo};
+ghost use Rattle.disk_core.specs.Files.{synced_file};
+ghost use Rattle.disk_core.specs.Kept.{Narrower};
+ghost use Rattle.disk_core.specs.Moments.{KeepsTo, Untouched};
 ghost use Rattle.plain_office.specs.declared.command.Entry.{Entry};
 ghost use Rattle.entry_codec.specs.Spelling.{IsEntry, Fits, spelling};
 ghost use Rattle.meter_journal.specs.History.{IsAtRest, BeforeOrAfter};
+ghost use Rattle.meter_journal.specs.Reading.{frame_at, NextGives, HeadGives, IsMade, HasStoreCause, from_or_first, Advances};
+ghost use Rattle.meter_journal.specs.declared.fault.OpenFault.TheVariants.{StoreFault};
 
+use crate::fault::OpenFault;
 use crate::framing::write_frame;
 use crate::gate::open_gate;
+use crate::head::look;
+use crate::reading::frame_of;
 use disk_core::{Disk, Failed};
+use plain_office::Entry;
+use std::alloc::Global;
 use std::marker::Model;
 
 /// Why an entry is not added.
@@ -20,7 +29,7 @@ pub enum AppendFault {
     StoreFault,
 }
 
-/// A journal whose end gate was read.
+/// A journal on its disk. It is opened, then read up to its end gate; then entries can be added.
 #[derive(Drop)]
 pub struct Journal<D: Disk> {
     disk: D,
@@ -59,12 +68,85 @@ fn commit<D: Disk>(disk: &mut D, gate: u64, entry: &[u8]) -> Result<(), Failed>
 }
 
 impl<D: Disk> Journal<D> {
-    // The journal with its end gate at this place.
-    pub(crate) fn at(disk: D, gate: u64, limit: u64) -> Self
+    /// Takes a disk whose journal was not read yet. `limit` is in bytes.
+    ///
+    /// The journal has to be opened before an entry is read or added.
+    pub fn over(disk: D, limit: u64) -> Journal<D>
         requires { limit ≤ 2 ^ 45 }
-        ensures { (result.disk ≡ disk) × (result.gate ≡ gate) × (result.limit ≡ limit) }
+        ensures { (result.disk ≡ disk) × (result.gate ≡ 10) × (result.limit ≡ limit) }
     {
-        Journal { disk, gate, limit }
+        Journal {
+            disk,
+            gate: 10,
+            limit,
+        }
+    }
+
+    /// Opens the journal, to be read from its first gate or from this place, and answers the length of its file in
+    /// bytes.
+    ///
+    /// The file is synced and its head is read; nothing is written, so its images are among those from before. It
+    /// may be called again at any time, as after a fault of the disk. `from` is in bytes from the start of the file,
+    /// and a gate that was read before.
+    ///
+    /// # Errors
+    ///
+    /// The journal has to be opened again. `StoreFault`: the disk did not do a call. `NotMade`: the file is shorter
+    /// than 11 bytes, or has 11 bytes and a closed gate at its head. `Foreign`: it is longer and has no open gate at
+    /// its head, or has another mark.
+    pub fn open(&mut self, from: Option<u64>) -> Result<u64, OpenFault>
+        requires from { IfSome from (λ place. 10 ≤ place) }
+
+        ensures ok { IsTrue D.honest → IfOk result (λ end. IsMade (D.state self.old.disk).journal.seen
+            × (end ≡ length (D.state self.new.disk).journal.seen)
+            × ((D.state self.new.disk).journal ≡ synced_file (D.state self.old.disk).journal.seen)) }
+        ensures start { OnOk result (self.new.gate ≡ from_or_first from) }
+        ensures err { IsTrue D.honest → IfErr result (λ e. HeadGives {T = ℕ} (Err e) (D.state self.old.disk).journal.seen) }
+
+        // A refused file is as it was, and on the disk.
+        ensures refused { IsTrue D.honest → IfErr result (λ e. (e ≡ StoreFault → ⊥) → (D.state self.new.disk).journal ≡ synced_file (D.state self.old.disk).journal.seen) }
+
+        ensures any_moment { IsTrue D.honest → KeepsTo D.state D.moment D.had_since self.old.disk self.new.disk (Narrower (D.state self.old.disk)) }
+        ensures limit { self.new.limit ≡ self.old.limit }
+        ensures cause { HasStoreCause (D.fault_count self.old.disk) (D.fault_count self.new.disk) result }
+    {
+        match look(&mut self.disk) {
+            Err(e) => Err(e),
+            Ok(end) => {
+                self.gate = from.unwrap_or(10);
+                Ok(end)
+            }
+        }
+    }
+
+    /// Reads the entry at the gate, or answers `None` where the gate is not open.
+    ///
+    /// `end` is the length of the file in bytes, as `open` answered it. After an entry the next call reads at the
+    /// gate behind it; after `None` an entry can be added. Nothing is written.
+    ///
+    /// # Errors
+    ///
+    /// The next call then reads at the same gate again. `Damaged` at the gate: it lies past the end of the file; or
+    /// it is open and the frame's length, its entry or the next gate ends past the end or past 2^45 bytes, or the
+    /// frame holds no entry. `StoreFault`: the disk did not do a call. `NoMemory`: memory for the entry ran out.
+    pub fn next(&mut self, alloc: Global, end: u64) -> Result<Option<Entry>, OpenFault>
+        requires known { IsTrue D.honest → end ≡ length (D.state self.old.disk).journal.seen }
+        ensures exact { IsTrue D.honest → NextGives result self.old.gate self.new.gate (frame_at self.old.gate (D.state self.old.disk).journal.seen) }
+        ensures untouched { IsTrue D.honest → Untouched D.state D.moment D.had_since self.old.disk self.new.disk }
+        ensures cause { HasStoreCause (D.fault_count self.old.disk) (D.fault_count self.new.disk) result }
+        ensures rises { IfOk result (λ read. IfSome read (λ e. (self.old.gate < self.new.gate) × (self.new.gate ≤ 2 ^ 45))) }
+        // On every disk: what is read is an entry in range, and its frame is passed over.
+        ensures advances { Advances result self.old.gate self.new.gate }
+        ensures limit { self.new.limit ≡ self.old.limit }
+    {
+        match frame_of(alloc, &mut self.disk, self.gate, end) {
+            Ok(Some((entry, gate))) => {
+                self.gate = gate;
+                Ok(Some(entry))
+            }
+            Ok(None) => Ok(None),
+            Err(e) => Err(e),
+        }
     }
 
     /// Tells whether an entry of this size is within the limit. `size` is in bytes.

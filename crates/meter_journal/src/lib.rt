@@ -10,6 +10,7 @@ mod journal;
 mod laws;
 mod making;
 mod opening;
+mod reading;
 #[cfg(test)]
 mod tests;
 

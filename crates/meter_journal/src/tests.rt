@@ -1,4 +1,4 @@
-ghost use Rattle.std.specs.Prelude.{◌≤◌, ◌^◌, ℕ, List, IsTrue, IfOk};
+ghost use Rattle.std.specs.Prelude.{◌≤◌, ◌^◌, ℕ, List, IsTrue, IfOk, OnOk};
 ghost use Rattle.plain_office.specs.declared.command.Entry.{Entry};
 ghost use Rattle.meter_journal.specs.History.{IsAtRest};
 
@@ -19,6 +19,13 @@ const EMPTY: [u8; 11] = [
 const ONE: [u8; 31] = [
     0xA5, 0x4D, 0x45, 0x54, 0x45, 0x52, 0x4A, 0x52, 0x4E, 0x31, 0xA5, 0, 0, 0, 15, 0, 0, 0x01,
     0x8C, 0xC2, 0x51, 0xF4, 0x00, 0x01, 0, 4, 0x6C, 0x6F, 0x67, 0x73, 0,
+];
+
+// The same entry twice.
+const TWO: [u8; 51] = [
+    0xA5, 0x4D, 0x45, 0x54, 0x45, 0x52, 0x4A, 0x52, 0x4E, 0x31, 0xA5, 0, 0, 0, 15, 0, 0, 0x01,
+    0x8C, 0xC2, 0x51, 0xF4, 0x00, 0x01, 0, 4, 0x6C, 0x6F, 0x67, 0x73, 0xA5, 0, 0, 0, 15, 0, 0,
+    0x01, 0x8C, 0xC2, 0x51, 0xF4, 0x00, 0x01, 0, 4, 0x6C, 0x6F, 0x67, 0x73, 0,
 ];
 
 // The length says one byte more than there is.
@@ -58,6 +65,31 @@ fn empty_journal<D: Disk + Drop>(
     }
 }
 
+// Opens a journal of at most one entry again, and reads it up to its end gate.
+fn read_again<D: Disk>(alloc: Global, journal: &mut Journal<D>) -> Result<Option<Entry>, OpenFault>
+    ensures { IsTrue D.honest → OnOk result ((head : List ℕ) × (entries : List Entry) × IsAtRest head (D.state journal.new.disk) journal.new.gate entries) }
+{
+    let end = match journal.open(None) {
+        Ok(end) => end,
+        Err(fault) => return Err(fault),
+    };
+    let first = match journal.next(alloc, end) {
+        Ok(first) => first,
+        Err(fault) => return Err(fault),
+    };
+    let Some(entry) = first else {
+        return Ok(None);
+    };
+    let second = match journal.next(alloc, end) {
+        Ok(second) => second,
+        Err(fault) => return Err(fault),
+    };
+    match second {
+        None => Ok(Some(entry)),
+        Some(_) => Err(OpenFault::Damaged { offset: 30 }),
+    }
+}
+
 fn file_of(alloc: Global, bytes: &[u8]) -> Result<MemoryDisk, Fail> {
     let mut disk = MemoryDisk::new(alloc, Vec::new(alloc));
     disk.write_at(FileNo::Journal, 0, bytes)?;
@@ -84,6 +116,31 @@ fn an_entry_is_added_within_the_limit(rt: HostRuntime) -> Result<(), Fail> {
         let mut disk = journal.give_back();
         let kept = read_all(alloc, &mut disk)?;
         assert!(rt; kept.as_slice() == file, "limit {limit}");
+    }
+    Ok(())
+}
+
+#[test]
+fn a_journal_is_opened_again_after_a_fault(rt: HostRuntime) -> Result<(), Fail> {
+    let alloc = rt.alloc();
+    let bucket = BucketName::read(alloc, "logs")?;
+    let entry = Entry {
+        moment: Moment::of(1_704_067_200_000)?,
+        command: Command::CreateBucket { bucket },
+    };
+    let bytes = encode(alloc, &entry)?;
+    // Of the calls of the disk, 18 is the first sync of the entry and 20 the second, with the gate open between them.
+    for (failing, found, place, file) in [(18, false, 30, &ONE[..]), (20, true, 50, &TWO[..])] {
+        let mut disk = MemoryDisk::new(alloc, vec![in alloc; failing]?);
+        assert_eq!(rt; create(&mut disk)?, Made::Now);
+        let mut journal = empty_journal(alloc, disk, 51)?;
+        assert_eq!(rt; journal.append(&bytes), Err(AppendFault::StoreFault));
+        let read = read_again(alloc, &mut journal)?;
+        assert_eq!(rt; read.is_some(), found, "call {failing}");
+        assert_eq!(rt; journal.append(&bytes), Ok(place), "call {failing}");
+        let mut disk = journal.give_back();
+        let kept = read_all(alloc, &mut disk)?;
+        assert!(rt; kept.as_slice() == file, "call {failing}");
     }
     Ok(())
 }

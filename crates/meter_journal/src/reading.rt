@@ -1,0 +1,122 @@
+// Reading a frame of a journal file that is on a disk.
+ghost use Rattle.std.specs.Prelude.{◌≡◌, ◌+◌, ◌<◌, ◌≤◌, ◌^◌, IsTrue, length, get_or, IfOk, IfSome};
+ghost use Rattle.std.specs.Int.{w32};
+ghost use Rattle.office_base.specs.Faults.{HasCause};
+ghost use Rattle.entry_codec.specs.Spelling.{Fits, spelling};
+ghost use Rattle.disk_core.specs.Moments.{Untouched};
+ghost use Rattle.meter_journal.specs.Reading.{body_at, frame_at, size_at, entry_at, BodyGives, FrameGives, HasStoreCause};
+
+use crate::bytes::entry_in;
+use crate::fault::OpenFault;
+use crate::gate::OPEN;
+use disk_core::{Disk, Failed, FileNo};
+use plain_office::Entry;
+use std::alloc::Global;
+
+fn byte_at<D: Disk>(disk: &mut D, at: u64) -> Result<u8, Failed>
+    requires { IsTrue D.honest → at < length (D.state disk.old).journal.seen }
+    ensures byte { IsTrue D.honest → IfOk result (λ b. b ≡ get_or (D.state disk.old).journal.seen at 0) }
+    ensures untouched { IsTrue D.honest → Untouched D.state D.moment D.had_since disk.old disk.new }
+    ensures cause { HasCause (D.fault_count disk.old) (D.fault_count disk.new) result }
+{
+    let mut room = [0];
+    disk.read_at(FileNo::Journal, at, &mut room)?;
+    Ok(room[0])
+}
+
+fn size_of<D: Disk>(disk: &mut D, gate: u64) -> Result<u32, Failed>
+    requires small { gate < 2 ^ 46 }
+    requires inside { IsTrue D.honest → gate + 5 ≤ length (D.state disk.old).journal.seen }
+    ensures size { IsTrue D.honest → IfOk result (λ n. n ≡ size_at gate (D.state disk.old).journal.seen) }
+    ensures untouched { IsTrue D.honest → Untouched D.state D.moment D.had_since disk.old disk.new }
+    ensures cause { HasCause (D.fault_count disk.old) (D.fault_count disk.new) result }
+{
+    let mut room = [0; 4];
+    disk.read_at(FileNo::Journal, gate + 1, &mut room)?;
+    Ok(u32::from_be_bytes(room))
+}
+
+fn entry_of<D: Disk>(
+    alloc: Global,
+    disk: &mut D,
+    gate: u64,
+    size: u64,
+) -> Result<(Entry, u64), OpenFault>
+    requires small { gate + size < 2 ^ 46 }
+    requires inside { IsTrue D.honest → gate + 5 + size ≤ length (D.state disk.old).journal.seen }
+    ensures exact { IsTrue D.honest → BodyGives result gate (entry_at gate size (D.state disk.old).journal.seen) }
+    ensures place { IfOk result (λ x. x.1 ≡ gate + 5 + size) }
+    ensures spelled { IfOk result (λ x. Fits x.0 × (x.1 ≡ gate + 5 + length (spelling x.0))) }
+    ensures untouched { IsTrue D.honest → Untouched D.state D.moment D.had_since disk.old disk.new }
+    ensures cause { HasStoreCause (D.fault_count disk.old) (D.fault_count disk.new) result }
+{
+    let Ok(mut room) = vec![in alloc; 0u8; size as usize] else {
+        return Err(OpenFault::NoMemory);
+    };
+    if disk
+        .read_at(FileNo::Journal, gate + 5, room.as_mut_slice())
+        .is_err()
+    {
+        return Err(OpenFault::StoreFault);
+    }
+    entry_in(alloc, gate, &room)
+}
+
+// No frame ends past this place.
+const MAX: u64 = 1 << 45;
+
+#[tactic(auto, unfolding(crate::specs::Reading::body_at))]
+fn body_of<D: Disk>(
+    alloc: Global,
+    disk: &mut D,
+    gate: u64,
+    end: u64,
+) -> Result<(Entry, u64), OpenFault>
+    requires inside { gate < end }
+    requires known { IsTrue D.honest → end ≡ length (D.state disk.old).journal.seen }
+    ensures exact { IsTrue D.honest → BodyGives result gate (body_at gate (D.state disk.old).journal.seen) }
+    ensures rises { IfOk result (λ x. (gate < x.1) × (x.1 ≤ 2 ^ 45)) }
+    ensures spelled { IfOk result (λ x. Fits x.0 × (x.1 ≡ gate + 5 + length (spelling x.0))) }
+    ensures untouched { IsTrue D.honest → Untouched D.state D.moment D.had_since disk.old disk.new }
+    ensures cause { HasStoreCause (D.fault_count disk.old) (D.fault_count disk.new) result }
+{
+    if end - gate < 5 || gate > MAX {
+        return Err(OpenFault::Damaged { offset: gate });
+    }
+    let Ok(size) = size_of(disk, gate) else {
+        return Err(OpenFault::StoreFault);
+    };
+    let size = size as u64;
+    if end < gate + 6 + size || MAX < gate + 6 + size {
+        return Err(OpenFault::Damaged { offset: gate });
+    }
+    entry_of(alloc, disk, gate, size)
+}
+
+// Reads the frame at a gate of a file of this length.
+#[tactic(auto, unfolding(crate::specs::Reading::frame_at))]
+pub(crate) fn frame_of<D: Disk>(
+    alloc: Global,
+    disk: &mut D,
+    gate: u64,
+    end: u64,
+) -> Result<Option<(Entry, u64)>, OpenFault>
+    requires known { IsTrue D.honest → end ≡ length (D.state disk.old).journal.seen }
+    ensures exact { IsTrue D.honest → FrameGives result gate (frame_at gate (D.state disk.old).journal.seen) }
+    ensures rises { IfOk result (λ read. IfSome read (λ x. (gate < x.1) × (x.1 ≤ 2 ^ 45))) }
+    ensures spelled { IfOk result (λ read. IfSome read (λ x. Fits x.0 × (x.1 ≡ gate + 5 + length (spelling x.0)))) }
+    ensures untouched { IsTrue D.honest → Untouched D.state D.moment D.had_since disk.old disk.new }
+    ensures cause { HasStoreCause (D.fault_count disk.old) (D.fault_count disk.new) result }
+{
+    if end <= gate {
+        return Err(OpenFault::Damaged { offset: gate });
+    }
+    match byte_at(disk, gate) {
+        Err(_) => Err(OpenFault::StoreFault),
+        Ok(OPEN) => match body_of(alloc, disk, gate, end) {
+            Ok(read) => Ok(Some(read)),
+            Err(e) => Err(e),
+        },
+        Ok(_) => Ok(None),
+    }
+}
