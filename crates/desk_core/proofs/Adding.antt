@@ -23,9 +23,9 @@ use Rattle.meter_journal.proofs.History.{whole-push}
 use Rattle.desk_core.specs.declared.fault.DeskFault.{DeskFault}
 use Rattle.desk_core.specs.declared.fault.DeskFault.TheVariants as faults
 use Rattle.desk_core.specs.Answers.{Answer}
-use Rattle.desk_core.specs.Desk.{Seat, Holds}
+use Rattle.desk_core.specs.Desk.{Parts, Holds}
 use Rattle.desk_core.specs.Offices.{StandsAfter}
-use Rattle.desk_core.specs.Keeping.{IsMade, Stays, Adds, Keeps, IsEnded}
+use Rattle.desk_core.specs.Keeping.{IsAnswerOf, Stays, Adds, Keeps, IsEnded}
 use Rattle.desk_core.proofs.Offices.{reply_is, refusal_is, taken, more_after, same_after}
 
 -- the end gate behind one entry more
@@ -42,10 +42,10 @@ refused_reply : (reply : Result Reply Refusal) (r : Refusal) → reply ≡ Err r
 refused_reply reply r is = ap (λ (x : Result Reply Refusal). is_accepted x) is
 
 module _ {D C : Type 0} (honest : Bool) (state : D → State) (moment : D → ℕ) (had_since : D → ℕ → State → Type 0) (fault_count : D → ℕ) where
-  abbrev made : ℕ → ℕ → Result Reply Refusal → Seat D C → Answer
+  abbrev made : ℕ → ℕ → Result Reply Refusal → Parts D C → Answer
   made t number reply desk = record { moment = t; told = number; reply = reply; position = desk.gate; disk_moment = moment desk.disk }
 
-  is_made : (t m number : ℕ) (reply : Result Reply Refusal) (desk : Seat D C) (said : Answer) → m ≡ t → said ≡ made m number reply desk → IsMade moment t number desk said
+  is_made : (t m number : ℕ) (reply : Result Reply Refusal) (desk : Parts D C) (said : Answer) → m ≡ t → said ≡ made m number reply desk → IsAnswerOf moment t number desk said
   is_made t m number reply desk said at same = record {
     moment = ap (λ (a : Answer). a.moment) same ∙ at;
     told = ap (λ (a : Answer). a.told) same;
@@ -53,9 +53,9 @@ module _ {D C : Type 0} (honest : Bool) (state : D → State) (moment : D → �
     disk_moment = ap (λ (a : Answer). a.disk_moment) same;
   }
 
-  module _ (t number : ℕ) (before : List Entry) (old : Seat D C) (hold : Holds honest state before old) where
+  module _ (t number : ℕ) (before : List Entry) (old : Parts D C) (hold : Holds honest state before old) where
     -- a desk that holds the same office, and the same disk and journal
-    stayed_as : (new : Seat D C) → Holds honest state before (record old { office = new.office }) → new.disk ≡ old.disk → new.gate ≡ old.gate → new.limit ≡ old.limit → Stays honest state moment had_since fault_count before old new
+    stayed_as : (new : Parts D C) → Holds honest state before (record old { office = new.office }) → new.disk ≡ old.disk → new.gate ≡ old.gate → new.limit ≡ old.limit → Stays honest state moment had_since fault_count before old new
     stayed_as new same disk gate limit = record {
       holds = record {
         office = same.office;
@@ -82,7 +82,7 @@ module _ {D C : Type 0} (honest : Bool) (state : D → State) (moment : D → �
     -- ---- a command
 
     module _ (command : Command) where
-      abbrev Keeping : Seat D C → Result Answer DeskFault → Type 0
+      abbrev Keeping : Parts D C → Result Answer DeskFault → Type 0
       Keeping new said = Keeps honest state moment had_since fault_count t number (ask.Command command) hold.office.plain before old new said
 
       abbrev entry : Entry
@@ -96,7 +96,7 @@ module _ {D C : Type 0} (honest : Bool) (state : D → State) (moment : D → �
       Run first x = KeepsTo state moment had_since first x (BeforeOrAfter header before entry (state first))
 
       module _ (fits : old.gate + 6 + length (spelling entry) ≤ old.limit) where
-        pub added : (mid new : Seat D C) (reply : Reply) (said : Result Answer DeskFault) → SizeFits command → IsTrue (is_not_before old.office.last t)
+        pub added : (mid new : Parts D C) (reply : Reply) (said : Result Answer DeskFault) → SizeFits command → IsTrue (is_not_before old.office.last t)
             → ((p : Office) → StandsForOffice old.office p → IsOrderly p → Does (step t command p) p mid.office (Ok reply))
             → mid.office.accepted ≡ accepted_after (Ok reply) old.office.accepted → mid.disk ≡ old.disk → new.office ≡ mid.office → new.limit ≡ old.limit
             → Adds honest state moment had_since fault_count t number (Ok reply) before entry mid new said → Keeping new said
@@ -138,15 +138,16 @@ module _ {D C : Type 0} (honest : Bool) (state : D → State) (moment : D → �
         )
         added mid new reply (Err (faults.StoreFault None count)) small later all counted same office limit adds = absurd adds
         added mid new reply (Err faults.JournalFull) small later all counted same office limit adds = absurd adds
+        added mid new reply (Err (faults.Broken fault)) small later all counted same office limit adds = absurd adds
         added mid new reply (Err faults.NoMemory) small later all counted same office limit adds = absurd adds
 
-        refused_stays : (new : Seat D C) (refusal : Refusal) → Does expected hold.office.plain new.office (Err refusal) → new.office.accepted ≡ accepted_after (Err refusal) old.office.accepted
+        refused_stays : (new : Parts D C) (refusal : Refusal) → Does expected hold.office.plain new.office (Err refusal) → new.office.accepted ≡ accepted_after (Err refusal) old.office.accepted
             → new.disk ≡ old.disk → new.gate ≡ old.gate → new.limit ≡ old.limit → Stays honest state moment had_since fault_count before old new
         refused_stays new refusal does counted disk gate limit =
             stayed_as new (record { office = same_after before entry old.office new.office refusal hold.office does counted; end = hold.end; limit = hold.limit; at_rest = hold.at_rest }) disk gate limit
 
         -- a refusal that is not for want of memory
-        pub refused : (m : ℕ) (new : Seat D C) (refusal : Refusal) (said : Answer) → m ≡ t → (refusal ≡ NoMemory → ⊥) → Does expected hold.office.plain new.office (Err refusal) → new.office.accepted ≡ accepted_after (Err refusal) old.office.accepted
+        pub refused : (m : ℕ) (new : Parts D C) (refusal : Refusal) (said : Answer) → m ≡ t → (refusal ≡ NoMemory → ⊥) → Does expected hold.office.plain new.office (Err refusal) → new.office.accepted ≡ accepted_after (Err refusal) old.office.accepted
             → new.disk ≡ old.disk → new.gate ≡ old.gate → new.limit ≡ old.limit → said ≡ made m number (Err refusal) new → Keeping new (Ok said)
         refused m new refusal said at other does counted disk gate limit same =
             let replied : said.reply ≡ Err refusal = ap (λ (a : Answer). a.reply) same in (
@@ -158,6 +159,6 @@ module _ {D C : Type 0} (honest : Bool) (state : D → State) (moment : D → �
               ),
             )
 
-        pub wanting : (new : Seat D C) (refusal : Refusal) → Does expected hold.office.plain new.office (Err refusal) → new.office.accepted ≡ accepted_after (Err refusal) old.office.accepted
+        pub wanting : (new : Parts D C) (refusal : Refusal) → Does expected hold.office.plain new.office (Err refusal) → new.office.accepted ≡ accepted_after (Err refusal) old.office.accepted
             → new.disk ≡ old.disk → new.gate ≡ old.gate → new.limit ≡ old.limit → Keeping new (Err faults.NoMemory)
         wanting new refusal does counted disk gate limit = refused_stays new refusal does counted disk gate limit

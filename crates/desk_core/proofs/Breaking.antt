@@ -20,11 +20,19 @@ use Rattle.meter_journal.proofs.Heads.{made_head, made_not_none, made_not_foreig
 use Rattle.meter_journal.proofs.Prefix.{read_start, read_more, read_end}
 use Rattle.meter_journal.proofs.Unique.{goes_on, never_broken}
 use Rattle.desk_core.specs.Histories.{HasAcceptedHistory}
-use Rattle.desk_core.specs.Opening.{IsDamagedAt, OpenFails, ReplayFails, HasRead, HasReplayed}
+use Rattle.desk_core.specs.Breaking.{IsDamagedAt, OpenFails, ReplayFails, HasReplayed}
 use Rattle.desk_core.specs.Offices.{StandsAfter}
 use Rattle.desk_core.proofs.Adding.{end_more}
 use Rattle.desk_core.proofs.Offices.{few}
 use Rattle.desk_core.proofs.Offices.{not_taken as refused}
+
+-- the entries up to this gate were read, on every disk; on an honest one they are those of its journal file
+pub record HasRead {D : Type 0} (honest : Bool) (state : D → State) (disk : D) (gate : ℕ) (office : Records) : Type 0 where
+  pub history : List Entry
+  pub office_is : StandsAfter history office
+  pub end : gate ≡ end_gate header history
+  pub small : gate ≤ 2 ^ 45
+  pub prefix : IsTrue honest → (file : List ℕ) → (state disk).journal ≡ synced_file file → IsMade file → HasPrefix header history gate file
 
 -- why an entry is not taken
 pub not_taken : (old new : Records) (e : Entry) (refusal : Refusal) (fault : OpenFault) (gate : ℕ) → ((p : Office) → StandsForOffice old p → IsOrderly p → Does (step e.moment e.command p) p new (Err refusal))

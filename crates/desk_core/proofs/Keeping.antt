@@ -1,5 +1,5 @@
 -- A call on a desk: from what the office and the journal did to the list of calls that the desk stands for.
-use Rattle.std.proofs.Common.{◌≡◌, inl, inr, ⊎_elim, ℕ, ◌≤◌, List, [], ◌∷◌, ◌++◌, Option, Some, Result, Ok, Err, refl, sym, subst, arith}
+use Rattle.std.proofs.Common.{◌≡◌, inl, inr, ⊎_elim, ℕ, ◌≤◌, Bool, true, List, [], ◌∷◌, ◌++◌, Option, Some, Result, Ok, Err, refl, sym, subst, arith}
 use Rattle.std.specs.Prelude.{IsSome, IsSomeAnd}
 use Rattle.office_base.specs.Faults.{Rose}
 use Rattle.disk_core.specs.Files.{State, IsImage}
@@ -21,9 +21,9 @@ use Rattle.desk_core.proofs.OneMore.{HasImageOf, last_faults, InCall, IsKept, Ma
 
 -- ---- one call alone
 
-pub one_legal : (limit told : ℕ) (call : Call) (before after : List Entry) (p : Office) → run before ≡ Some p → IsLegal limit told call.ask call.said p before after → Legal limit told (call ∷ []) before after
-one_legal limit told call before after p is legal =
-    (after, subst (λ (o : Option Office). IsSomeAnd o (λ office. IsLegal limit told call.ask call.said office before after)) (sym is) legal, refl)
+pub one_legal : (honest : Bool) (limit told : ℕ) (call : Call) (before after : List Entry) (p : Office) → run before ≡ Some p → IsLegal honest limit told call.ask call.said p before after → Legal honest limit told (call ∷ []) before after
+one_legal honest limit told call before after p is legal =
+    (after, subst (λ (o : Option Office). IsSomeAnd o (λ office. IsLegal honest limit told call.ask call.said office before after)) (sym is) legal, refl)
 
 pub rose_from : (a b c : ℕ) → a ≤ b → Rose b c → Rose a c
 rose_from a b c le rose = omega (arith, le, rose)
@@ -32,6 +32,7 @@ last_next : (first now : ℕ) (said : Result Answer DeskFault) → first ≤ now
 last_next first now (Ok answer) le told = le
 last_next first now (Err (faults.StoreFault number count)) le told = told
 last_next first now (Err faults.JournalFull) le told = le
+last_next first now (Err (faults.Broken fault)) le told = le
 last_next first now (Err faults.NoMemory) le told = le
 
 pub last_below : (first now : ℕ) (calls : List Call) → first ≤ now → AreToldBy now calls → last_faults first calls ≤ now
@@ -40,7 +41,7 @@ last_below first now (call ∷ calls) le told = last_below (faults_after first c
 
 -- ---- histories of images
 
-some_run : (before : List Entry) (p : Office) → run before ≡ Some p → IsSome (run before)
+pub some_run : (before : List Entry) (p : Office) → run before ≡ Some p → IsSome (run before)
 some_run before p is = subst (λ (o : Option Office). IsSome o) (sym is) refl
 
 pub rest_image : (s : State) (gate : ℕ) (before : List Entry) (p : Office) → IsAtRest header s gate before → run before ≡ Some p → (image : List ℕ) → IsImage s.journal image → HasAcceptedHistory before image
@@ -58,7 +59,7 @@ module _ {D : Type 0} (state : D → State) (moment : D → ℕ) (had_since : D 
   module _ (old : D) (gate : ℕ) (before : List Entry) (p : Office) (rest : IsAtRest header (state old) gate before) (is_run : run before ≡ Some p) (reads : IsImage (state old).journal (state old).journal.seen)
       (limit last : ℕ) (call : Call) where
     abbrev Rule : List Entry → Type 0
-    Rule after = Legal limit last (call ∷ []) before after
+    Rule after = Legal true limit last (call ∷ []) before after
 
     abbrev In : State → Type 0
     In s = InCall state moment had_since fault_count old limit last call before s

@@ -1,6 +1,8 @@
 pub mod Adding
+pub mod Again
 pub mod Breaking
 pub mod Keeping
+pub mod Narrowing
 pub mod Offices
 pub mod OneMore
 pub mod Opened

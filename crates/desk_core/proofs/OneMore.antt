@@ -1,5 +1,5 @@
 -- A disk that serves a list of calls serves it with one call more.
-use Rattle.std.proofs.Common.{◌≡◌, ◌⊎◌, inl, inr, ⊎_elim, ℕ, zero, suc, ◌+◌, ◌<◌, ◌≤◌, List, [], ◌∷◌, ◌++◌, take, length, Option, Some, None, Result, Ok, Err, sym, ◌∙◌, ap, subst, arith, append_assoc, length-append}
+use Rattle.std.proofs.Common.{◌≡◌, ◌⊎◌, inl, inr, ⊎_elim, ℕ, zero, suc, ◌+◌, ◌<◌, ◌≤◌, Bool, true, List, [], ◌∷◌, ◌++◌, take, length, Option, Some, None, Result, Ok, Err, refl, sym, ◌∙◌, ap, subst, arith, append_assoc, length-append}
 use Rattle.std.specs.Prelude.{IsSomeAnd}
 use Rattle.std.proofs.lemmas.Bool.{cases_lt}
 use Rattle.std.proofs.lemmas.List.{take-append-le, take_all, append-nil}
@@ -37,7 +37,7 @@ module _ {D : Type 0} (state : D → State) (moment : D → ℕ) (had_since : D 
   -- in a call each image has the history on which it settled, one from before, or what the call made of the settled one
   pub record InCall (old : D) (limit last : ℕ) (call : Call) (settled : List Entry) (s : State) : Type 0 where
     pub sound : IsSound s
-    pub each : (image : List ℕ) (history : List Entry) → IsImage s.journal image → HasAcceptedHistory history image → HasImageOf (state old) history ⊎ Legal limit last (call ∷ []) settled history
+    pub each : (image : List ℕ) (history : List Entry) → IsImage s.journal image → HasAcceptedHistory history image → HasImageOf (state old) history ⊎ Legal true limit last (call ∷ []) settled history
 
   -- the acknowledgement has the moment of the return, where all images have one history, which ends at its position
   abbrev pub IsKept : D → Result Answer DeskFault → Type 0
@@ -51,16 +51,16 @@ module _ {D : Type 0} (state : D → State) (moment : D → ℕ) (had_since : D 
     pub settled : List Entry
     pub is_settled : HasImageOf (state old) settled
     pub run : KeepsTo state moment had_since old new (InCall old limit last call settled)
-    pub done : (image : List ℕ) (history : List Entry) → IsImage (state new).journal image → HasAcceptedHistory history image → Legal limit last (call ∷ []) settled history
+    pub done : (image : List ℕ) (history : List Entry) → IsImage (state new).journal image → HasAcceptedHistory history image → Legal true limit last (call ∷ []) settled history
     pub kept : IsKept new call.said
     pub faults : (fault_count old ≤ fault_count new) × IsToldBy (fault_count new) call.said
 
 -- ---- legal lists
 
-pub legal_append : (limit faults : ℕ) (calls more : List Call) (a b c : List Entry) → Legal limit faults calls a b → Legal limit (last_faults faults calls) more b c → Legal limit faults (calls ++ more) a c
-legal_append limit faults [] more a b c first second = subst (λ (h : List Entry). Legal limit faults more h c) first second
-legal_append limit faults (call ∷ calls) more a b c first second =
-    (first.0, first.1, legal_append limit (faults_after faults call.said) calls more first.0 b c first.2 second)
+pub legal_append : (honest : Bool) (limit faults : ℕ) (calls more : List Call) (a b c : List Entry) → Legal honest limit faults calls a b → Legal honest limit (last_faults faults calls) more b c → Legal honest limit faults (calls ++ more) a c
+legal_append honest limit faults [] more a b c first second = subst (λ (h : List Entry). Legal honest limit faults more h c) first second
+legal_append honest limit faults (call ∷ calls) more a b c first second =
+    (first.0, first.1, legal_append honest limit (faults_after faults call.said) calls more first.0 b c first.2 second)
 
 -- a call adds one entry, or none
 abbrev Grows : List Entry → List Entry → Type 0
@@ -85,23 +85,24 @@ kept_grows : (number : Option ℕ) (question : Ask) (office : Office) (before af
 kept_grows (Some number) question office before after is = kept_grows_at (moment_after number office.last) question office before after is
 kept_grows None question office before after is = absurd is
 
-one_grows : (limit told : ℕ) (question : Ask) (said : Result Answer DeskFault) (office : Office) (before after : List Entry) → IsLegal limit told question said office before after → Grows before after
+one_grows : (limit told : ℕ) (question : Ask) (said : Result Answer DeskFault) (office : Office) (before after : List Entry) → IsLegal true limit told question said office before after → Grows before after
 one_grows limit told question (Ok answer) office before after is = elim (cases_lt answer.moment end_of_time) [
   | inl lt ↦ asked_grows limit answer.moment question office answer.reply before after (is.reply lt)
   | inr past ↦ same_grows before after (is.ended past).1
 ]
 one_grows limit told question (Err (faults.StoreFault number count)) office before after is =
-    ⊎_elim (λ same. same_grows before after same) (λ kept. kept_grows number question office before after kept) is.2
+    ⊎_elim (λ same. same_grows before after same) (λ kept. kept_grows number question office before after kept) (is.2 refl)
 one_grows limit told question (Err faults.JournalFull) office before after is = same_grows before after is.1
+one_grows limit told question (Err (faults.Broken fault)) office before after is = absurd (is refl)
 one_grows limit told question (Err faults.NoMemory) office before after is = same_grows before after is
 
 some_and : {X Q : Type 0} (o : Option X) (P : X → Type 0) → ((x : X) → P x → Q) → IsSomeAnd o P → Q
 some_and None P f is = absurd is
 some_and (Some x) P f is = f x is
 
-pub call_grows : (limit faults : ℕ) (call : Call) (before after : List Entry) → Legal limit faults (call ∷ []) before after → Grows before after
+pub call_grows : (limit faults : ℕ) (call : Call) (before after : List Entry) → Legal true limit faults (call ∷ []) before after → Grows before after
 call_grows limit faults call before after is =
-    some_and (run before) (λ office. IsLegal limit faults call.ask call.said office before is.0)
+    some_and (run before) (λ office. IsLegal true limit faults call.ask call.said office before is.0)
     (λ office legal. subst (λ (h : List Entry). Grows before h) (sym is.2) (one_grows limit faults call.ask call.said office before is.0 legal)) is.1
 
 begins_grown : (before after : List Entry) → Grows before after → Begins before after
@@ -126,16 +127,17 @@ acked_inside [] place answer is = absurd is
 acked_inside (call ∷ calls) zero answer is = omega arith
 acked_inside (call ∷ calls) (suc place) answer is = omega (arith, acked_inside calls place answer is)
 
-acked_split : (calls : List Call) (call : Call) (place : ℕ) (answer : Answer) → IsAckedAt (calls ++ call ∷ []) place answer → IsAckedAt calls place answer ⊎ (call.said ≡ Ok answer)
+pub acked_split : (calls : List Call) (call : Call) (place : ℕ) (answer : Answer) → IsAckedAt (calls ++ call ∷ []) place answer → IsAckedAt calls place answer ⊎ (call.said ≡ Ok answer)
 acked_split [] call zero answer is = inr is
 acked_split [] call (suc place) answer is = absurd is
 acked_split (c ∷ calls) call zero answer is = inl is
 acked_split (c ∷ calls) call (suc place) answer is = acked_split calls call place answer is
 
-told_later : (said : Result Answer DeskFault) (before now : ℕ) → before ≤ now → IsToldBy before said → IsToldBy now said
+pub told_later : (said : Result Answer DeskFault) (before now : ℕ) → before ≤ now → IsToldBy before said → IsToldBy now said
 told_later (Ok answer) before now le is = tt
 told_later (Err (faults.StoreFault number count)) before now le is = omega (arith, le, is)
 told_later (Err faults.JournalFull) before now le is = tt
+told_later (Err (faults.Broken fault)) before now le is = tt
 told_later (Err faults.NoMemory) before now le is = tt
 
 pub told_more : (calls : List Call) (call : Call) (before now : ℕ) → before ≤ now → AreToldBy before calls → IsToldBy now call.said → AreToldBy now (calls ++ call ∷ [])
@@ -163,13 +165,13 @@ module _ {D : Type 0} (state : D → State) (moment : D → ℕ) (had_since : D 
     first_calls k le = take-append-le k calls (call ∷ []) le
 
     abbrev Rule : List Call → List Entry → Type 0
-    Rule list history = Legal opened.limit opened.faults list opened.history history
+    Rule list history = Legal true opened.limit opened.faults list opened.history history
 
     whole_of_old : (history : List Entry) → HasImageOf (state old) history → Rule calls history
     whole_of_old history has = serves.whole has.image history has.is_image has.has
 
-    whole_of_new : (before history : List Entry) → HasImageOf (state old) before → Legal opened.limit (last_faults opened.faults calls) (call ∷ []) before history → Rule all history
-    whole_of_new before history has one = legal_append opened.limit opened.faults calls (call ∷ []) opened.history before history (whole_of_old before has) one
+    whole_of_new : (before history : List Entry) → HasImageOf (state old) before → Legal true opened.limit (last_faults opened.faults calls) (call ∷ []) before history → Rule all history
+    whole_of_new before history has one = legal_append true opened.limit opened.faults calls (call ∷ []) opened.history before history (whole_of_old before has) one
 
     abbrev Last : ℕ
     Last = last_faults opened.faults calls
@@ -207,7 +209,7 @@ module _ {D : Type 0} (state : D → State) (moment : D → ℕ) (had_since : D 
       acked = λ place answer is le. omega (arith, size, acked_inside all place answer is);
     }
 
-    recovers_by : (t : ℕ) (image : List ℕ) (history : List Entry) → t < moment new → HasAcceptedHistory history image → HasImageOf (state old) history ⊎ Legal opened.limit Last (call ∷ []) makes.settled history → Recovers opened all t image
+    recovers_by : (t : ℕ) (image : List ℕ) (history : List Entry) → t < moment new → HasAcceptedHistory history image → HasImageOf (state old) history ⊎ Legal true opened.limit Last (call ∷ []) makes.settled history → Recovers opened all t image
     recovers_by t image history lt stands (inl has) = recovers_old t image history lt stands has
     recovers_by t image history lt stands (inr one) = recovers_whole t image history stands (whole_of_new makes.settled history makes.is_settled one)
 
@@ -237,7 +239,7 @@ module _ {D : Type 0} (state : D → State) (moment : D → ℕ) (had_since : D 
       | inr le ↦ ⊎_elim (λ was. from_old t image lt (serves.left t s image since le was is)) (λ now. in_call t s image lt is now) (makes.run.before t s le had)
     ]
 
-    begins_in_call : (entries history : List Entry) → ((h : List Entry) → HasImageOf (state old) h → Begins entries h) → HasImageOf (state old) history ⊎ Legal opened.limit Last (call ∷ []) makes.settled history → Begins entries history
+    begins_in_call : (entries history : List Entry) → ((h : List Entry) → HasImageOf (state old) h → Begins entries h) → HasImageOf (state old) history ⊎ Legal true opened.limit Last (call ∷ []) makes.settled history → Begins entries history
     begins_in_call entries history of_old (inl has) = of_old history has
     begins_in_call entries history of_old (inr one) =
         begins_then entries makes.settled history (of_old makes.settled makes.is_settled) (begins_grown makes.settled history (call_grows opened.limit Last call makes.settled history one))
@@ -261,11 +263,11 @@ module _ {D : Type 0} (state : D → State) (moment : D → ℕ) (had_since : D 
     old_but_one h b has base = serves.steady (moment old) (state old) has.image h serves.later (omega arith) (counts_now old (moment old) (omega arith)) has.is_image has.has base.image b base.is_image base.has
 
     -- from what each history before the call begins with but for one, to the return
-    but_one_at_return : (h now : List Entry) → ((b : List Entry) → HasImageOf (state old) b → BeginsButOne h b) → Legal opened.limit Last (call ∷ []) makes.settled now → BeginsButOne h now
+    but_one_at_return : (h now : List Entry) → ((b : List Entry) → HasImageOf (state old) b → BeginsButOne h b) → Legal true opened.limit Last (call ∷ []) makes.settled now → BeginsButOne h now
     but_one_at_return h now each done =
         but_one_then h makes.settled now (each makes.settled makes.is_settled) (begins_grown makes.settled now (call_grows opened.limit Last call makes.settled now done))
 
-    but_one_in_call : (h now : List Entry) → HasImageOf (state old) h ⊎ Legal opened.limit Last (call ∷ []) makes.settled h → Legal opened.limit Last (call ∷ []) makes.settled now → BeginsButOne h now
+    but_one_in_call : (h now : List Entry) → HasImageOf (state old) h ⊎ Legal true opened.limit Last (call ∷ []) makes.settled h → Legal true opened.limit Last (call ∷ []) makes.settled now → BeginsButOne h now
     but_one_in_call h now (inl has) done = but_one_at_return h now (λ b base. old_but_one h b has base) done
     but_one_in_call h now (inr one) done =
         grown_but_one makes.settled h now (call_grows opened.limit Last call makes.settled h one) (begins_grown makes.settled now (call_grows opened.limit Last call makes.settled now done))

@@ -1,61 +1,71 @@
--- A desk that was opened.
-use Rattle.std.proofs.Common.{◌≡◌, ℕ, ◌≤◌, ◌^◌, Bool, false, List, length, refl, sym, ap, ◌∙◌, subst, arith}
-use Rattle.std.specs.Prelude.{IsTrue}
+-- A journal that was opened, and the desk over it.
+use Rattle.std.proofs.Common.{◌≡◌, ℕ, ◌≤◌, ◌^◌, Bool, false, length, Result, Ok, Err, refl, sym, ap, ◌∙◌, subst, arith}
+use Rattle.std.specs.Prelude.{IsTrue, OnOk}
 use Rattle.disk_core.specs.Files.{State, File, IsImage, synced_file}
 use Rattle.disk_core.specs.Kept.{Narrower}
 use Rattle.disk_core.specs.Moments.{KeepsTo, Untouched}
 use Rattle.disk_core.proofs.Time.{then_untouched}
-use Rattle.plain_office.specs.Run.{run}
-use Rattle.meter_journal.specs.History.{header, HasEntries, IsAtRest}
+use Rattle.meter_journal.specs.History.{header, IsAtRest}
 use Rattle.meter_journal.specs.Reading.{IsMade}
 use Rattle.meter_journal.proofs.History.{each_image}
+use Rattle.meter_journal.specs.declared.fault.OpenFault.{OpenFault}
+use Rattle.desk_core.specs.Asking.{Reopens}
+use Rattle.desk_core.specs.Breaking.{HasReplayed}
 use Rattle.desk_core.specs.Histories.{HasAcceptedHistory}
-use Rattle.desk_core.specs.Desk.{Seat, IsReady}
-use Rattle.desk_core.specs.Opening.{HasReplayed, Opens, opened_with}
+use Rattle.desk_core.specs.Desk.{Parts}
+use Rattle.desk_core.specs.Opening.{Opens, opened_with}
 use Rattle.desk_core.proofs.Keeping.{rest_image, unique}
 use Rattle.desk_core.proofs.OneMore.{starts}
+use Rattle.desk_core.proofs.Standing.{view_of, same_parts, still_true}
 
--- it takes a call
-pub takes_calls : {D C : Type 0} (honest : Bool) (state : D → State) (moment : D → ℕ) (had_since : D → ℕ → State → Type 0) (fault_count : D → ℕ) (disk : D) (clock : C) (limit : ℕ) (desk : Seat D C)
-    → Opens honest state moment had_since fault_count disk clock limit desk → IsReady honest state desk
-takes_calls honest state moment had_since fault_count disk clock limit desk opens = record { fresh = opens.fresh; history = opens.stands.history; holds = opens.stands.holds opens.fresh }
+pub on_done : {P Q : Type 0} (r : Result Unit OpenFault) → (P → Q) → OnOk r P → OnOk r Q
+on_done (Ok x) f p = f p
+on_done (Err e) f p = p
 
 module _ {D : Type 0} {C : Type 0} (honest : Bool) (state : D → State) (moment : D → ℕ) (had_since : D → ℕ → State → Type 0) (fault_count : D → ℕ)
     (only_now : (disk : D) (s : State) → had_since disk (moment disk) s → s ≡ state disk)
     (counts_now : (disk : D) (t : ℕ) → t ≤ moment disk → had_since disk t (state disk))
     (since_earlier : (disk : D) (t u : ℕ) (s : State) → t ≤ u → had_since disk u s → had_since disk t s)
     (own : IsTrue honest → (disk : D) → IsImage (state disk).journal (state disk).journal.seen) where
-  pub opened : (disk begun : D) (clock : C) (limit size : ℕ) (desk : Seat D C) → HasReplayed honest state begun desk.disk desk.gate desk.office → desk.stale ≡ false → desk.limit ≡ limit → limit ≤ 2 ^ 45 → desk.clock ≡ clock
-      → (IsTrue honest → IsMade (state disk).journal.seen × (size ≡ length (state begun).journal.seen) × ((state begun).journal ≡ synced_file (state disk).journal.seen))
-      → (IsTrue honest → KeepsTo state moment had_since disk begun (Narrower (state disk))) → (IsTrue honest → Untouched state moment had_since begun desk.disk) → fault_count disk ≤ fault_count desk.disk
-      → Opens honest state moment had_since fault_count disk clock limit desk
-  opened disk begun clock limit size desk read fresh limit_is small clock_is begin run untouched later = record {
+  -- all entries of the journal were read
+  pub reopened : (old office : Parts D C) (begun : D) (size : ℕ) → HasReplayed honest state begun office.disk office.gate office.office → office.limit ≡ old.limit → old.limit ≤ 2 ^ 45 → office.clock ≡ old.clock
+      → (IsTrue honest → IsMade (state old.disk).journal.seen × (size ≡ length (state begun).journal.seen) × ((state begun).journal ≡ synced_file (state old.disk).journal.seen))
+      → (IsTrue honest → KeepsTo state moment had_since old.disk begun (Narrower (state old.disk))) → (IsTrue honest → Untouched state moment had_since begun office.disk) → fault_count old.disk ≤ fault_count office.disk
+      → Reopens honest state moment had_since fault_count old office
+  reopened old office begun size read limit_is small clock_is begin run untouched later = record {
     history = read.history;
-    stands = record {
-      limit = refl;
-      faults = (omega arith, tt);
-      history = read.history;
-      legal = refl;
-      holds = λ _. record { office = read.office_is; end = read.end; limit = subst (λ (n : ℕ). n ≤ 2 ^ 45) (sym limit_is) small; at_rest = rests };
-      serves = λ tells. starts state moment had_since fault_count counts_now only_now since_earlier (opened_with moment fault_count read.history desk) desk.disk
-          (λ image is. (read.history, has tells image is)) (λ image history is other. unique history read.history image other (entries_in tells image is)) refl refl;
-    };
-    fresh = fresh;
-    limit_is = limit_is;
-    clock_is = clock_is;
-    read = λ tells. subst (HasAcceptedHistory read.history) (seen_is tells) (has tells (state desk.disk).journal.seen (own tells desk.disk));
-    any_moment = λ tells. then_untouched state moment had_since disk begun desk.disk (Narrower (state disk)) (run tells) (untouched tells);
+    holds = record { office = read.office_is; end = read.end; limit = subst (λ (n : ℕ). n ≤ 2 ^ 45) (sym limit_is) small; at_rest = rests };
+    read = λ tells. subst (HasAcceptedHistory read.history) (seen_is tells)
+        (rest_image (state office.disk) office.gate read.history read.office_is.plain (rests tells) read.office_is.is_run (state office.disk).journal.seen (own tells office.disk));
+    any_moment = λ tells. then_untouched state moment had_since old.disk begun office.disk (Narrower (state old.disk)) (run tells) (untouched tells);
+    clock = clock_is;
+    limit = limit_is;
     later = later;
   }
     where
-      rests : IsTrue honest → IsAtRest header (state desk.disk) desk.gate read.history
-      rests tells = let b = begin tells in read.at_rest tells (state disk).journal.seen b.2 b.0
+      rests : IsTrue honest → IsAtRest header (state office.disk) office.gate read.history
+      rests tells = let b = begin tells in read.at_rest tells (state old.disk).journal.seen b.2 b.0
 
-      has : IsTrue honest → (image : List ℕ) → IsImage (state desk.disk).journal image → HasAcceptedHistory read.history image
-      has tells image is = rest_image (state desk.disk) desk.gate read.history read.office_is.plain (rests tells) read.office_is.is_run image is
-
-      entries_in : IsTrue honest → (image : List ℕ) → IsImage (state desk.disk).journal image → HasEntries header read.history image
-      entries_in tells image is = each_image header (state desk.disk) desk.gate read.history (rests tells) image is
-
-      seen_is : IsTrue honest → (state desk.disk).journal.seen ≡ (state disk).journal.seen
+      seen_is : IsTrue honest → (state office.disk).journal.seen ≡ (state old.disk).journal.seen
       seen_is tells = ap (λ (s : State). s.journal.seen) (untouched tells).now ∙ ap (λ (f : File). f.seen) (begin tells).2
+
+  -- the desk over them stands for no call yet
+  pub opened : (old office : Parts D C) → Reopens honest state moment had_since fault_count old office → Opens honest state moment had_since fault_count old.disk old.clock old.limit (view_of office false)
+  opened old office again = record {
+    history = again.history;
+    stands = record {
+      limit = refl;
+      faults = (omega arith, tt);
+      holds = λ _. (again.history, refl, same_parts honest state again.history office false again.holds);
+      lost = λ not is. absurd (still_true false is refl);
+      serves = λ tells. starts state moment had_since fault_count counts_now only_now since_earlier (opened_with moment fault_count again.history (view_of office false)) office.disk
+          (λ image is. (again.history, rest_image (state office.disk) office.gate again.history again.holds.office.plain (again.holds.at_rest tells) again.holds.office.is_run image is))
+          (λ image history is other. unique history again.history image other (each_image header (state office.disk) office.gate again.history (again.holds.at_rest tells) image is)) refl refl;
+    };
+    fresh = refl;
+    limit_is = again.limit;
+    clock_is = again.clock;
+    read = again.read;
+    any_moment = again.any_moment;
+    later = again.later;
+  }

@@ -1,5 +1,5 @@
 -- Lists of calls that the plain office allows, from one history to another.
-use Rattle.std.specs.Prelude.{◌≡◌, ◌⊎◌, ℕ, ◌+◌, ◌<◌, ◌≤◌, max, false, List, [], ◌∷◌, ◌++◌, length, Option, Some, None, Result, Ok, Err, IsTrue, IsSomeAnd, unwrap_or}
+use Rattle.std.specs.Prelude.{◌≡◌, ◌⊎◌, ℕ, ◌+◌, ◌<◌, ◌≤◌, max, Bool, false, List, [], ◌∷◌, ◌++◌, length, Option, Some, None, Result, Ok, Err, IsTrue, IsSomeAnd, unwrap_or}
 use Rattle.office_base.specs.Faults.{Rose}
 use Rattle.moments.specs.Time.{end_of_time}
 use Rattle.plain_office.specs.declared.command.Ask.{Ask}
@@ -67,26 +67,39 @@ abbrev pub IsFull : ℕ → Ask → List Entry → Type 0
 IsFull limit (ask.Command command) before = ¬ FitsIn limit before (entry_at 0 command)
 IsFull limit (ask.Query query) before = ⊥
 
+-- A number of the clock stands in a fault of the store where a command was to be added. Without one the journal was to be
+-- opened again, whatever was asked.
+abbrev pub IsAsking : Option ℕ → Ask → Type 0
+IsAsking (Some number) question = IsCommand question
+IsAsking None question = Unit {0}
+
+-- what a fault of the store leaves: the history as it was, or with the command; a disk that does not tell what it holds
+-- may leave any
+abbrev pub IsLeft : Bool → Option ℕ → Ask → Office → List Entry → List Entry → Type 0
+IsLeft honest number question office before after = IsTrue honest → (after ≡ before) ⊎ MayBeKept number question office before after
+
 -- one call, on the office of the history before it; counted is the disk's count of faults that the last fault of the
--- store told, and before the first one that of the opening
-abbrev pub IsLegal : ℕ → ℕ → Ask → Result Answer DeskFault → Office → List Entry → List Entry → Type 0
-IsLegal limit counted question (Ok answer) office before after = IsAnswered limit question office answer before after
-IsLegal limit counted question (Err (faults.StoreFault number count)) office before after =
-    IsCommand question × Rose counted count × ((after ≡ before) ⊎ MayBeKept number question office before after)
-IsLegal limit counted question (Err faults.JournalFull) office before after = IsFull limit question before × (after ≡ before)
-IsLegal limit counted question (Err faults.NoMemory) office before after = after ≡ before
+-- store told, and before the first one that of the opening. A journal that breaks is no journal of an honest disk.
+abbrev pub IsLegal : Bool → ℕ → ℕ → Ask → Result Answer DeskFault → Office → List Entry → List Entry → Type 0
+IsLegal honest limit counted question (Ok answer) office before after = IsAnswered limit question office answer before after
+IsLegal honest limit counted question (Err (faults.StoreFault number count)) office before after =
+    IsAsking number question × Rose counted count × IsLeft honest number question office before after
+IsLegal honest limit counted question (Err faults.JournalFull) office before after = IsFull limit question before × (after ≡ before)
+IsLegal honest limit counted question (Err (faults.Broken fault)) office before after = IsTrue honest → ⊥
+IsLegal honest limit counted question (Err faults.NoMemory) office before after = after ≡ before
 
 -- the count of faults that was told last, after one more call
 abbrev pub faults_after : ℕ → Result Answer DeskFault → ℕ
 faults_after counted (Ok answer) = counted
 faults_after counted (Err (faults.StoreFault number count)) = count
 faults_after counted (Err faults.JournalFull) = counted
+faults_after counted (Err (faults.Broken fault)) = counted
 faults_after counted (Err faults.NoMemory) = counted
 
 -- the calls in order, each on the history that the ones before it left
-abbrev pub Legal : ℕ → ℕ → List Call → List Entry → List Entry → Type 0
-Legal limit counted [] before after = after ≡ before
-Legal limit counted (call ∷ calls) before after =
+abbrev pub Legal : Bool → ℕ → ℕ → List Call → List Entry → List Entry → Type 0
+Legal honest limit counted [] before after = after ≡ before
+Legal honest limit counted (call ∷ calls) before after =
     (between : List Entry)
-    × IsSomeAnd (run before) (λ office. IsLegal limit counted call.ask call.said office before between)
-    × Legal limit (faults_after counted call.said) calls between after
+    × IsSomeAnd (run before) (λ office. IsLegal honest limit counted call.ask call.said office before between)
+    × Legal honest limit (faults_after counted call.said) calls between after

@@ -19,12 +19,14 @@ use Rattle.office_machine.specs.Standing.{StandsForOffice}
 use Rattle.entry_codec.specs.Spelling.{spelling}
 use Rattle.meter_journal.specs.History.{header, end_gate, IsAtRest, BeforeOrAfter}
 use Rattle.desk_core.specs.Answers.{Answer}
-use Rattle.desk_core.specs.Desk.{Seat, Holds, PassesLimit}
+use Rattle.desk_core.specs.Calls.{moment_after}
+use Rattle.desk_core.specs.Desk.{Parts, Holds}
+use Rattle.desk_core.specs.Asking.{PassesLimit}
 use Rattle.desk_core.specs.declared.fault.DeskFault.{DeskFault}
 use Rattle.desk_core.specs.declared.fault.DeskFault.TheVariants as faults
 
--- the answer has this moment and number, and was given by this desk, at its disk's moment
-pub record IsMade {D C : Type 0} (disk_time : D → ℕ) (t number : ℕ) (new : Seat D C) (said : Answer) : Type 0 where
+-- the answer has this moment and number, and was given by this office, at its disk's moment
+pub record IsAnswerOf {D C : Type 0} (disk_time : D → ℕ) (t number : ℕ) (new : Parts D C) (said : Answer) : Type 0 where
   pub moment : said.moment ≡ t
   pub told : said.told ≡ number
   pub position : said.position ≡ new.gate
@@ -32,24 +34,24 @@ pub record IsMade {D C : Type 0} (disk_time : D → ℕ) (t number : ℕ) (new :
 
 module _ {D C : Type 0} (honest : Bool) (state : D → State) (moment : D → ℕ) (had_since : D → ℕ → State → Type 0) (fault_count : D → ℕ) where
   -- the history grew by the entry, and in between each image had it or had it not
-  pub record Grows (before : List Entry) (entry : Entry) (old new : Seat D C) : Type 0 where
+  pub record Grows (before : List Entry) (entry : Entry) (old new : Parts D C) : Type 0 where
     pub holds : Holds honest state (before ++ entry ∷ []) new
     pub run : IsTrue honest → KeepsTo state moment had_since old.disk new.disk (BeforeOrAfter header before entry (state old.disk))
 
   -- nothing was written
-  pub record Stays (before : List Entry) (old new : Seat D C) : Type 0 where
+  pub record Stays (before : List Entry) (old new : Parts D C) : Type 0 where
     pub holds : Holds honest state before new
     pub disk : new.disk ≡ old.disk
 
   -- the disk failed while the entry was added
-  pub record Fails (office : Office) (before : List Entry) (entry : Entry) (old new : Seat D C) : Type 0 where
+  pub record Fails (office : Office) (before : List Entry) (entry : Entry) (old new : Parts D C) : Type 0 where
     pub accepted : (plain : Office) → StandsForOffice old.office plain → IsOrderly plain → IsTrue (is_accepted (step entry.moment entry.command plain).1)
     pub next : (after : Office) × (accept office entry ≡ Some after)
     pub run : IsTrue honest → KeepsTo state moment had_since old.disk new.disk (BeforeOrAfter header before entry (state old.disk))
     pub rose : Rose (fault_count old.disk) (fault_count new.disk)
 
   -- what adding the entry of a command does, to which this is the reply: the entry is there, or the disk failed
-  abbrev pub Adds : ℕ → ℕ → Result Reply Refusal → List Entry → Entry → Seat D C → Seat D C → Result Answer DeskFault → Type 0
+  abbrev pub Adds : ℕ → ℕ → Result Reply Refusal → List Entry → Entry → Parts D C → Parts D C → Result Answer DeskFault → Type 0
   Adds t number reply before entry old new (Ok said) =
       (said ≡ record { moment = t; told = number; reply = reply; position = new.gate; disk_moment = moment new.disk })
       × (new.gate ≡ end_gate header (before ++ entry ∷ []))
@@ -59,36 +61,45 @@ module _ {D C : Type 0} (honest : Bool) (state : D → State) (moment : D → �
       × (IsTrue honest → KeepsTo state moment had_since old.disk new.disk (BeforeOrAfter header before entry (state old.disk)))
   Adds t number reply before entry old new (Err (faults.StoreFault None count)) = ⊥
   Adds t number reply before entry old new (Err faults.JournalFull) = ⊥
+  Adds t number reply before entry old new (Err (faults.Broken fault)) = ⊥
   Adds t number reply before entry old new (Err faults.NoMemory) = ⊥
 
   -- what an ask does that is answered before the end of time: by a command that is accepted the history grows, and by
   -- none else is anything written
-  abbrev pub IsDone : ℕ → Ask → Office → List Entry → Seat D C → Seat D C → Result Reply Refusal → Type 0
+  abbrev pub IsDone : ℕ → Ask → Office → List Entry → Parts D C → Parts D C → Result Reply Refusal → Type 0
   IsDone t (ask.Command command) office before old new reply =
       (reply ≡ (step t command office).1) × (old.gate + 6 + length (spelling (entry_at t command)) ≤ old.limit)
       × ((IsTrue (is_accepted reply) × Grows before (entry_at t command) old new) ⊎ ((is_accepted reply ≡ false) × Stays before old new))
   IsDone t (ask.Query query) office before old new reply = (reply ≡ answer t query office) × Stays before old new
 
   -- what an ask does that the disk failed
-  abbrev pub HasFailed : ℕ → Ask → Office → List Entry → Seat D C → Seat D C → Type 0
+  abbrev pub HasFailed : ℕ → Ask → Office → List Entry → Parts D C → Parts D C → Type 0
   HasFailed t (ask.Command command) office before old new = Fails office before (entry_at t command) old new
   HasFailed t (ask.Query query) office before old new = ⊥
 
   -- what an ask does before the end of time, on the plain office after this history
-  abbrev pub Keeps : ℕ → ℕ → Ask → Office → List Entry → Seat D C → Seat D C → Result Answer DeskFault → Type 0
-  Keeps t number question office before old new (Ok said) = IsMade moment t number new said × IsDone t question office before old new said.reply
+  abbrev pub Keeps : ℕ → ℕ → Ask → Office → List Entry → Parts D C → Parts D C → Result Answer DeskFault → Type 0
+  Keeps t number question office before old new (Ok said) = IsAnswerOf moment t number new said × IsDone t question office before old new said.reply
   Keeps t number question office before old new (Err (faults.StoreFault (Some told) count)) =
       (told ≡ number) × (count ≡ fault_count new.disk) × HasFailed t question office before old new
   Keeps t number question office before old new (Err (faults.StoreFault None count)) = ⊥
   Keeps t number question office before old new (Err faults.JournalFull) = PassesLimit t old.gate old.limit question × Stays before old new
+  Keeps t number question office before old new (Err (faults.Broken fault)) = ⊥
   Keeps t number question office before old new (Err faults.NoMemory) = Stays before old new
 
   -- from the end of time on the ask is answered so, and nothing is written
-  abbrev pub IsEnded : ℕ → ℕ → List Entry → Seat D C → Seat D C → Result Answer DeskFault → Type 0
-  IsEnded t number before old new (Ok said) = IsMade moment t number new said × (said.reply ≡ Err (ClockEnd t)) × Stays before old new
+  abbrev pub IsEnded : ℕ → ℕ → List Entry → Parts D C → Parts D C → Result Answer DeskFault → Type 0
+  IsEnded t number before old new (Ok said) = IsAnswerOf moment t number new said × (said.reply ≡ Err (ClockEnd t)) × Stays before old new
   IsEnded t number before old new (Err fault) = ⊥
 
   -- what an ask does
-  abbrev pub Answers : ℕ → ℕ → Ask → Office → List Entry → Seat D C → Seat D C → Result Answer DeskFault → Type 0
+  abbrev pub Answers : ℕ → ℕ → Ask → Office → List Entry → Parts D C → Parts D C → Result Answer DeskFault → Type 0
   Answers t number question office before old new said =
       ((t < end_of_time) × Keeps t number question office before old new said) ⊎ ((end_of_time ≤ t) × IsEnded t number before old new said)
+
+  -- an ask does so at the moment that this number of the clock gives it
+  pub record Asks (number : ℕ) (question : Ask) (old new : Parts D C) (said : Result Answer DeskFault) : Type 0 where
+    pub t : ℕ
+    pub at : t ≡ moment_after number old.office.last
+    pub clock : C
+    pub answers : (before : List Entry) (hold : Holds honest state before (record old { clock = clock })) → Answers t number question hold.office.plain before (record old { clock = clock }) new said

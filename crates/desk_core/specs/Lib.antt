@@ -1,4 +1,6 @@
 pub mod Answers
+pub mod Asking
+pub mod Breaking
 pub mod Calls
 pub mod Clocks
 pub mod Desk

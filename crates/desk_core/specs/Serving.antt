@@ -1,5 +1,5 @@
 -- What a disk owes to the calls of a desk: what a crash at any moment since its opening leaves of them.
-use Rattle.std.specs.Prelude.{◌≡◌, ℕ, zero, suc, ◌<◌, ◌≤◌, List, [], ◌∷◌, take, length, Ok, Err, Result}
+use Rattle.std.specs.Prelude.{◌≡◌, ℕ, zero, suc, ◌<◌, ◌≤◌, true, List, [], ◌∷◌, take, length, Ok, Err, Result}
 use Rattle.disk_core.specs.Files.{State, IsImage}
 use Rattle.plain_office.specs.declared.command.Entry.{Entry}
 use Rattle.meter_journal.specs.History.{header, end_gate}
@@ -22,6 +22,7 @@ abbrev pub IsToldBy : ℕ → Result Answer DeskFault → Type 0
 IsToldBy now (Ok answer) = Unit {0}
 IsToldBy now (Err (faults.StoreFault number count)) = count ≤ now
 IsToldBy now (Err faults.JournalFull) = Unit {0}
+IsToldBy now (Err (faults.Broken fault)) = Unit {0}
 IsToldBy now (Err faults.NoMemory) = Unit {0}
 
 -- of each call
@@ -48,17 +49,21 @@ pub record Recovers (opened : Opened) (calls : List Call) (moment : ℕ) (image 
   pub has : HasAcceptedHistory history image
   pub count : ℕ
   pub most : count ≤ length calls
-  pub legal : Legal opened.limit opened.faults (take count calls) opened.history history
+  pub legal : Legal true opened.limit opened.faults (take count calls) opened.history history
   pub acked : (place : ℕ) (answer : Answer) → IsAckedAt calls place answer → answer.disk_moment ≤ moment → place < count
 
 -- the image has the history after some number of the first calls
 abbrev pub HasFront : Opened → List Call → List ℕ → Type 0
 HasFront opened calls image =
-    (history : List Entry) × (count : ℕ) × HasAcceptedHistory history image × (count ≤ length calls) × Legal opened.limit opened.faults (take count calls) opened.history history
+    (history : List Entry) × (count : ℕ) × HasAcceptedHistory history image × (count ≤ length calls) × Legal true opened.limit opened.faults (take count calls) opened.history history
 
 -- each image of the journal file does
 abbrev pub Recoverable : Opened → List Call → State → Type 0
 Recoverable opened calls s = (image : List ℕ) → IsImage s.journal image → HasFront opened calls image
+
+-- the files of checkpoints are as they were
+abbrev pub KeepsSlots : State → State → Type 0
+KeepsSlots first s = (s.slot0 ≡ first.slot0) × (s.slot1 ≡ first.slot1)
 
 module _ {D : Type 0} (state : D → State) (moment : D → ℕ) (had_since : D → ℕ → State → Type 0) (fault_count : D → ℕ) where
   -- From an answer's moment on the history of every image begins with the same entries, which end at its position.
@@ -75,7 +80,7 @@ module _ {D : Type 0} (state : D → State) (moment : D → ℕ) (had_since : D 
     pub left : (t : ℕ) (s : State) (image : List ℕ) → opened.moment ≤ t → t ≤ moment disk → had_since disk t s → IsImage s.journal image → Recovers opened calls t image
     pub agrees : (place : ℕ) (answer : Answer) → IsAckedAt calls place answer → Agrees disk answer
     -- of every image now the calls are all there
-    pub whole : (image : List ℕ) (history : List Entry) → IsImage (state disk).journal image → HasAcceptedHistory history image → Legal opened.limit opened.faults calls opened.history history
+    pub whole : (image : List ℕ) (history : List Entry) → IsImage (state disk).journal image → HasAcceptedHistory history image → Legal true opened.limit opened.faults calls opened.history history
     -- what a crash would have left is there still, but for one entry at its end
     pub steady : (t : ℕ) (s : State) (image : List ℕ) (history : List Entry) → opened.moment ≤ t → t ≤ moment disk → had_since disk t s → IsImage s.journal image → HasAcceptedHistory history image
         → (image_now : List ℕ) (history_now : List Entry) → IsImage (state disk).journal image_now → HasAcceptedHistory history_now image_now → BeginsButOne history history_now

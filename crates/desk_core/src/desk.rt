@@ -1,274 +1,178 @@
-// An office over its journal.
-ghost use Rattle.std.specs.Prelude.{min, ◌≡◌, ◌⊎◌, ◌+◌, ◌-◌, ◌<◌, ◌≤◌, ◌^◌, ◌++◌, ◌∷◌, [], ℕ, List, length, true, false, IsTrue, Some, None, Ok, Err, IfOk, IfErr, OnOk, IsErrOf};
+// A desk: an office over its journal that opens it again after a fault.
+ghost use Rattle.std.specs.Prelude.{◌≡◌, ◌⊎◌, ◌<◌, ◌≤◌, ◌-◌, ◌^◌, ◌++◌, ◌∷◌, [], List, true, false, IsTrue, IsOk, IfOk, IfErr, Err};
 ghost use Rattle.office_base.specs.Faults.{Rose};
-ghost use Rattle.moments.specs.Time.{end_of_time};
 ghost use Rattle.disk_core.specs.Kept.{Narrower};
 ghost use Rattle.disk_core.specs.Moments.{KeepsTo};
 ghost use Rattle.plain_office.specs.declared.command.Entry.{Entry};
-ghost use Rattle.plain_office.specs.declared.command.Ask.TheVariants as ask_of;
-ghost use Rattle.plain_office.specs.declared.reply.Refusal.TheVariants.{NoMemory};
-ghost use Rattle.plain_office.specs.Run.{is_not_before, entry_at};
-ghost use Rattle.entry_codec.specs.Spelling.{Fits, IsEntry, spelling};
-ghost use Rattle.meter_journal.specs.History.{header, end_gate, IsAtRest};
 ghost use Rattle.desk_core.specs.Answers.{Call};
-ghost use Rattle.desk_core.specs.Calls.{moment_after};
-ghost use Rattle.desk_core.specs.Desk.{Seat, Holds, IsReady, StandsFor, GoesOn, IsNumber, IsLast, LeavesDisk, HasStoreReason, PassesLimit, IsStamped, IsClockEnd, is_store_fault};
-ghost use Rattle.desk_core.specs.Keeping.{Adds, Keeps, Answers};
+ghost use Rattle.desk_core.specs.Asking.{IsOffice, HasCauses, Unopened};
+ghost use Rattle.desk_core.specs.Breaking.{OpenFails};
+ghost use Rattle.desk_core.specs.Desk.{Parts, DeskView, parts_of, StandsFor, GoesOn, TellsFault, IsNumber, IsLast, IsStamped, stale_after};
+ghost use Rattle.desk_core.specs.Histories.{HasAcceptedHistory};
+ghost use Rattle.desk_core.specs.Opening.{Opens};
 ghost use Rattle.desk_core.specs.Serving.{Opened};
 
 use crate::acked::Acked;
 use crate::clock::Clock;
-use crate::fault::DeskFault;
+use crate::engine::Engine;
+use crate::fault::{DeskFault, SaveFault};
 use disk_core::Disk;
-use entry_codec::encode_command;
-use meter_journal::{AppendFault, Journal};
-use moments::Moment;
-use office_machine::Office;
-use plain_office::{Ask, Command, Query, Refusal, Reply};
+use meter_journal::OpenFault;
+use plain_office::Ask;
 use std::alloc::Global;
 use std::marker::Model;
 
 /// One office with its journal and a clock. Calls on it are made one after another.
+///
+/// After a fault of the store it is stale: its next call opens the journal again, and goes on from what is read.
 #[derive(Drop)]
 pub struct Desk<D: Disk + Drop, C: Clock + Drop> {
-    alloc: Global,
-    office: Office,
-    journal: Journal<D>,
-    clock: C,
+    engine: Engine<D, C>,
     stale: bool,
 }
 
 impl<D: Disk + Drop, C: Clock + Drop> Model for Desk<D, C> {
-    ghost use Rattle.desk_core.specs.Desk.{Seat};
+    ghost use Rattle.std.specs.Prelude.{◌≡◌, false, IsTrue};
+    ghost use Rattle.desk_core.specs.Desk.{DeskView, IsReady};
+    ghost use Rattle.desk_core.specs.Histories.{IsSound};
 
-    ghost Value = { Seat D C };
+    ghost Value = { DeskView D C };
 
-    ghost view = { λ d. record { disk = d.journal.disk; clock = d.clock; office = d.office; gate = d.journal.gate; limit = d.journal.limit; stale = d.stale } };
+    ghost view = { λ d. record { disk = d.engine.disk; clock = d.engine.clock; office = d.engine.office; gate = d.engine.gate; limit = d.engine.limit; stale = d.stale } };
+
+    // A desk that is not stale holds its journal as it was read, and each image of an honest disk has a history.
+    ghost invariant = { λ d. (d.stale ≡ false → IsReady D.honest D.state d.engine) × (IsTrue D.honest → IsSound (D.state d.engine.disk)) };
 }
 
-// The later of the clock's number and the last moment.
-fn moment_for(told: u64, last: Option<Moment>) -> u64
-    ensures same { result ≡ moment_after told last }
-    ensures later { IsTrue (is_not_before last result) }
+// Whether the journal has to be opened again after a call.
+fn is_stale(stale: bool, said: &Result<Acked, DeskFault>) -> bool
+    ensures { result ≡ stale_after stale said.now }
 {
-    match last {
-        Some(moment) => told.max(moment.ms()),
-        None => told,
+    match said {
+        Ok(_) => false,
+        Err(DeskFault::StoreFault { .. }) => true,
+        Err(DeskFault::JournalFull) => false,
+        Err(DeskFault::Broken(_)) => true,
+        Err(DeskFault::NoMemory) => stale,
     }
 }
 
 impl<D: Disk + Drop, C: Clock + Drop> Desk<D, C> {
-    pub(crate) fn at(alloc: Global, office: Office, journal: Journal<D>, clock: C) -> Self
-        ensures { result ≡ record { disk = journal.disk; clock = clock; office = office; gate = journal.gate; limit = journal.limit; stale = false } }
+    /// Opens the office over its journal, and makes the changes of its entries again.
+    ///
+    /// The journal file is synced and read; nothing is written, and the clock tells no number. `limit` is that of the
+    /// journal file, in bytes.
+    /// Cost: the time and memory of every entry since the journal was made.
+    ///
+    /// # Errors
+    ///
+    /// The disk and the clock come back beside the fault. `StoreFault`: the disk did not do a call. `NotMade`,
+    /// `Foreign`: as the head of the journal file says. `Damaged` at an offset, the first of these gates: the file
+    /// ends before the gate, or the gate is open and no whole frame with a next gate stands there, or its bytes are
+    /// no entry, or its moment is before that of the entry before, or the office does not accept its command there.
+    /// `NoMemory`: memory ran out.
+    pub fn open(
+        alloc: Global,
+        disk: D,
+        clock: C,
+        limit: u64,
+    ) -> Result<Desk<D, C>, (OpenFault, D, C)>
+        requires { limit ≤ 2 ^ 45 }
+
+        // The desk stands for no call yet, from a history on; of an honest disk, that of the bytes that it reads.
+        ensures opens { IfOk result (λ desk. Opens D.honest D.state D.moment D.had_since D.fault_count disk clock limit desk) }
+
+        // Where it is not opened, the bytes that are read tell why, but for a failing disk and want of memory.
+        ensures fails { IsTrue D.honest → IfErr result (λ e. OpenFails e.0 (D.state disk).journal.seen) }
+
+        // So it is opened where they have a history.
+        ensures sound { IsTrue D.honest → (history : List Entry) → HasAcceptedHistory history (D.state disk).journal.seen
+            → IfErr result (λ e. (e.0 ≡ OpenFault.StoreFault) ⊎ (e.0 ≡ OpenFault.NoMemory)) }
+
+        // Then each image of the disk is one that it had, at every moment of the call.
+        ensures any_moment { IsTrue D.honest → IfErr result (λ e. KeepsTo D.state D.moment D.had_since disk e.1 (Narrower (D.state disk))) }
+        ensures clock { IfErr result (λ e. e.2 ≡ clock) }
+        ensures later { IfErr result (λ e. D.fault_count disk ≤ D.fault_count e.1) }
+        ensures fault { IfErr result (λ e. e.0 ≡ OpenFault.StoreFault → Rose (D.fault_count disk) (D.fault_count e.1)) }
     {
-        Desk {
-            alloc,
-            office,
-            journal,
-            clock,
-            stale: false,
+        let mut engine = Engine::over(alloc, disk, clock, limit);
+        match engine.open() {
+            Ok(()) => Ok(Desk {
+                engine,
+                stale: false,
+            }),
+            Err(fault) => {
+                let (disk, clock) = engine.give_back();
+                Err((fault, disk, clock))
+            }
         }
     }
 
-    /// Tells whether a call was told a fault of the store. The desk then takes no further one. Takes no memory.
+    /// Answers an ask, once its effect is on the disk.
+    ///
+    /// A stale desk opens its journal again first, as `open` does. The moment of the call is the later of the clock's
+    /// number and the moment of the last accepted command (own rule: time does not go back, whatever a clock tells).
+    /// Where that is not below the end of time, the answer is `ClockEnd`, and nothing is done. A command that the office
+    /// accepts is added to the journal before it is answered; a query changes nothing and makes no call of the disk.
+    /// Cost: what the office needs, and for an accepted command the journal's append: four writes and two syncs. On a
+    /// stale desk also that of opening.
+    ///
+    /// # Errors
+    ///
+    /// `NoMemory`: memory ran out; a stale desk stays stale. `JournalFull`: the command's frame would pass the journal's
+    /// limit, whether or not the office would accept the command. In both no record is changed. `StoreFault`:
+    /// the disk did not do a call; the command, which the office accepts, is in the journal as a whole or not at all, or
+    /// the journal could not be opened again, and the clock was not asked; the desk is stale. `Broken`: the journal was
+    /// opened again, and is not made, foreign or damaged; the desk stays stale. An honest disk has no such journal.
+    pub fn submit(&mut self, ask: &Ask) -> Result<Acked, DeskFault>
+        // Whatever list of calls the desk stood for, it stands for that list with this call at its end, and each
+        // image of the disk at every moment of the call has the history after some number of its first calls.
+        ensures stands { (opened : Opened) (calls : List Call) → StandsFor D.honest D.state D.moment D.had_since D.fault_count opened calls self.old
+            → GoesOn D.honest D.state D.moment D.had_since D.fault_count opened (calls ++ record { ask = ask.now; said = result } ∷ []) self.old.disk self.new }
+
+        // The office that answers is the desk's own, or of a stale desk one that was opened again, where it could be.
+        ensures causes { Unopened D.honest D.state D.moment D.had_since D.fault_count self.old.stale (parts_of self.old) (parts_of self.new) result
+            ⊎ ((office : Parts D C) × IsOffice D.honest D.state D.moment D.had_since D.fault_count self.old.stale (parts_of self.old) office
+            × HasCauses D.fault_count C.count C.last office ask.now result (parts_of self.new)) }
+
+        // So an honest disk has no broken journal.
+        ensures not_broken { IsTrue D.honest → (fault : OpenFault) → (result ≡ Err (DeskFault.Broken fault) → ⊥) }
+
+        ensures number { C.count self.new.clock < 2 ^ 64 - 1 → IsNumber (C.told self.old.clock) (C.told self.new.clock) result }
+        ensures last_told { IsLast (C.last self.new.clock) result }
+        ensures stamped { IsStamped result self.new.gate (D.moment self.new.disk) }
+        ensures cause { TellsFault result (D.fault_count self.old.disk) (D.fault_count self.new.disk) }
+        ensures stale { self.new.stale ≡ stale_after self.old.stale result }
+        // A desk grows stale only where the disk failed.
+        ensures grows_stale { self.new.stale ≡ true → (self.old.stale ≡ true) ⊎ Rose (D.fault_count self.old.disk) (D.fault_count self.new.disk) }
+        ensures limit { self.new.limit ≡ self.old.limit }
+        ensures clock_later { C.count self.old.clock ≤ C.count self.new.clock }
+        ensures disk_later { D.fault_count self.old.disk ≤ D.fault_count self.new.disk }
+    {
+        if let Err(fault) = self.engine.refresh(self.stale) {
+            return Err(fault);
+        }
+        let said = self.engine.ask(ask);
+        self.stale = is_stale(self.stale, &said);
+        said
+    }
+
+    /// Tells whether the journal has to be opened again: a call answered `StoreFault` or `Broken`, and none since then an
+    /// `Acked` or `JournalFull`. Takes no memory.
     pub fn stale(&self) -> bool
         ensures { result ≡ self.now.stale }
     {
         self.stale
     }
 
-    /// Gives the disk and the clock back. It makes no call of the disk.
-    pub fn close(self) -> (D, C)
+    /// Ends the work of the desk, and gives the disk and the clock back. No checkpoint is kept yet, so it makes no call of
+    /// the disk and answers `Ok`.
+    pub fn finish(self) -> (D, C, Result<(), SaveFault>)
         ensures disk { result.0 ≡ self.disk }
         ensures clock { result.1 ≡ self.clock }
+        ensures saved { IsOk result.2 }
     {
-        (self.journal.give_back(), self.clock)
-    }
-
-    fn answer(&self, moment: u64, told: u64, reply: Result<Reply, Refusal>) -> Acked
-        requires { reply ≡ Err NoMemory → ⊥ }
-        ensures { result ≡ record { moment = moment; told = told; reply = reply; position = self.now.gate; disk_moment = D.moment self.now.disk } }
-    {
-        Acked::new(
-            moment,
-            told,
-            reply,
-            self.journal.end(),
-            self.journal.disk().stamp(),
-        )
-    }
-
-    // Adds the entry of a command that the office did.
-    fn add(
-        &mut self,
-        moment: Moment,
-        told: u64,
-        reply: Reply,
-        bytes: &[u8],
-    ) -> Result<Acked, DeskFault>
-        requires entry { IsEntry bytes.now }
-        requires fits { self.old.gate + 6 + length bytes.now ≤ self.old.limit }
-        requires fresh { self.old.stale ≡ false }
-        requires at_rest { IsTrue D.honest → (before : List Entry) × IsAtRest header (D.state self.old.disk) self.old.gate before }
-
-        ensures adds { (before : List Entry) (e : Entry) → Fits e → bytes.now ≡ spelling e → self.old.gate ≡ end_gate header before
-            → (IsTrue D.honest → IsAtRest header (D.state self.old.disk) self.old.gate before)
-            → Adds D.honest D.state D.moment D.had_since D.fault_count moment told (Ok reply) before e self.old self.new result }
-        ensures office { self.new.office ≡ self.old.office }
-        ensures clock { self.new.clock ≡ self.old.clock }
-        ensures limit { self.new.limit ≡ self.old.limit }
-        ensures stale { self.new.stale ≡ is_store_fault result }
-        ensures later { D.fault_count self.old.disk ≤ D.fault_count self.new.disk }
-    {
-        match self.journal.append(bytes) {
-            Ok(_) => Ok(self.answer(moment.ms(), told, Ok(reply))),
-            Err(AppendFault::JournalFull) => Err(DeskFault::JournalFull),
-            Err(AppendFault::StoreFault) => {
-                self.stale = true;
-                Err(DeskFault::StoreFault {
-                    told: Some(told),
-                    faults: self.journal.disk().faults(),
-                })
-            }
-        }
-    }
-
-    // Does a command at a moment, and adds its entry where the office accepts it.
-    fn keep(
-        &mut self,
-        moment: Moment,
-        told: u64,
-        command: &Command,
-        bytes: &[u8],
-    ) -> Result<Acked, DeskFault>
-        requires spelled { bytes.now ≡ spelling (entry_at moment command.now) }
-        requires entry { Fits (entry_at moment command.now) }
-        requires later { IsTrue (is_not_before self.old.office.last moment) }
-        requires fits { self.old.gate + 6 + length bytes.now ≤ self.old.limit }
-        requires ready { IsReady D.honest D.state self.old }
-
-        ensures keeps { (before : List Entry) (hold : Holds D.honest D.state before self.old)
-            → Keeps D.honest D.state D.moment D.had_since D.fault_count moment told (ask_of.Command command.now) hold.office.plain before self.old self.new result }
-        ensures clock { self.new.clock ≡ self.old.clock }
-        ensures limit { self.new.limit ≡ self.old.limit }
-        ensures stale { self.new.stale ≡ is_store_fault result }
-        ensures later { D.fault_count self.old.disk ≤ D.fault_count self.new.disk }
-    {
-        match self.office.apply(moment, command) {
-            Ok(reply) => self.add(moment, told, reply, bytes),
-            Err(refusal) => match refusal {
-                Refusal::NoMemory => Err(DeskFault::NoMemory),
-                other => Ok(self.answer(moment.ms(), told, Err(other))),
-            },
-        }
-    }
-
-    // Does a command at a moment, where its frame fits.
-    fn command(&mut self, moment: Moment, told: u64, command: &Command) -> Result<Acked, DeskFault>
-        requires later { IsTrue (is_not_before self.old.office.last moment) }
-        requires ready { IsReady D.honest D.state self.old }
-
-        ensures keeps { (before : List Entry) (hold : Holds D.honest D.state before self.old)
-            → Keeps D.honest D.state D.moment D.had_since D.fault_count moment told (ask_of.Command command.now) hold.office.plain before self.old self.new result }
-        ensures full { PassesLimit moment self.old.gate self.old.limit (ask_of.Command command.now) → (result ≡ Err DeskFault.JournalFull) ⊎ (result ≡ Err DeskFault.NoMemory) }
-        ensures clock { self.new.clock ≡ self.old.clock }
-        ensures limit { self.new.limit ≡ self.old.limit }
-        ensures stale { self.new.stale ≡ is_store_fault result }
-        ensures later { D.fault_count self.old.disk ≤ D.fault_count self.new.disk }
-    {
-        let Ok(bytes) = encode_command(self.alloc, moment, command) else {
-            return Err(DeskFault::NoMemory);
-        };
-        if !self.journal.fits(bytes.len() as u64) {
-            return Err(DeskFault::JournalFull);
-        }
-        self.keep(moment, told, command, &bytes)
-    }
-
-    // Answers a query at a moment.
-    fn query(&self, moment: Moment, told: u64, query: &Query) -> Result<Acked, DeskFault>
-        requires later { IsTrue (is_not_before self.now.office.last moment) }
-        requires ready { IsReady D.honest D.state self.now }
-
-        ensures keeps { (before : List Entry) (hold : Holds D.honest D.state before self.now)
-            → Keeps D.honest D.state D.moment D.had_since D.fault_count moment told (ask_of.Query query.now) hold.office.plain before self.now self.now result }
-        ensures stale { is_store_fault result ≡ false }
-    {
-        match self.office.answer(moment, query) {
-            Ok(reply) => Ok(self.answer(moment.ms(), told, Ok(reply))),
-            Err(refusal) => match refusal {
-                Refusal::NoMemory => Err(DeskFault::NoMemory),
-                refused => Ok(self.answer(moment.ms(), told, Err(refused))),
-            },
-        }
-    }
-
-    // Answers an ask at a moment, which may be past the end of time.
-    fn submit_at(&mut self, moment: u64, told: u64, ask: &Ask) -> Result<Acked, DeskFault>
-        requires later { IsTrue (is_not_before self.old.office.last moment) }
-        requires ready { IsReady D.honest D.state self.old }
-
-        ensures answers { (before : List Entry) (hold : Holds D.honest D.state before self.old)
-            → Answers D.honest D.state D.moment D.had_since D.fault_count moment told ask.now hold.office.plain before self.old self.new result }
-        ensures full { PassesLimit moment self.old.gate self.old.limit ask.now → (result ≡ Err DeskFault.JournalFull) ⊎ (result ≡ Err DeskFault.NoMemory) }
-        ensures clock { self.new.clock ≡ self.old.clock }
-        ensures limit { self.new.limit ≡ self.old.limit }
-        ensures stale { self.new.stale ≡ is_store_fault result }
-        ensures later { D.fault_count self.old.disk ≤ D.fault_count self.new.disk }
-    {
-        let Ok(at) = Moment::of(moment) else {
-            return Ok(self.answer(moment, told, Err(Refusal::ClockEnd { moment })));
-        };
-        match ask {
-            Ask::Command(command) => self.command(at, told, command),
-            Ask::Query(query) => self.query(at, told, query),
-        }
-    }
-
-    /// Answers an ask, once its effect is on the disk.
-    ///
-    /// Its moment is the later of the clock's number and the moment of the last accepted command (own rule: time does
-    /// not go back, whatever a clock tells). Where that is not below the end of time, the answer is `ClockEnd`, and
-    /// nothing is done. A command that the office accepts is added to the journal before it is answered; a query
-    /// changes nothing and makes no call of the disk. The desk must not be stale.
-    /// Cost: what the office needs, and for an accepted command the journal's append: four writes and two syncs.
-    ///
-    /// # Errors
-    ///
-    /// `NoMemory`: memory ran out. `JournalFull`: the command's frame would pass the journal's limit, whether or not
-    /// the office would accept the command. In both nothing but the clock is changed. `StoreFault`: the disk did not do
-    /// a call; the command, which the office accepts, is in the journal as a whole or not at all, and the desk is
-    /// stale.
-    pub fn submit(&mut self, ask: &Ask) -> Result<Acked, DeskFault>
-        requires ready { IsReady D.honest D.state self.old }
-
-        // Whatever list of calls the desk stood for, it stands for that list with this call at its end, and each
-        // image of the disk at every moment of the call has the history after some number of its first calls.
-        ensures stands { (opened : Opened) (calls : List Call) → StandsFor D.honest D.state D.moment D.had_since D.fault_count opened calls self.old
-            → GoesOn D.honest D.state D.moment D.had_since D.fault_count opened (calls ++ record { ask = ask.now; said = result } ∷ []) self.old.disk self.new }
-
-        ensures number { C.count self.new.clock < 2 ^ 64 - 1 → IsNumber (C.told self.old.clock) (C.told self.new.clock) result }
-        ensures last { IsLast (C.last self.new.clock) result }
-        ensures stamped { IsStamped result self.new.gate (D.moment self.new.disk) }
-        ensures quiet { LeavesDisk result ask.now self.old.disk self.new.disk }
-        ensures reason { HasStoreReason result ask.now self.old.office (D.fault_count self.old.disk) (D.fault_count self.new.disk) }
-        // From the end of time on this is the answer to every ask.
-        ensures ended { end_of_time ≤ moment_after (C.last self.new.clock) self.old.office.last → IsClockEnd (moment_after (C.last self.new.clock) self.old.office.last) result }
-        // Where the command's frame would pass the limit nothing else is told, but want of memory.
-        ensures full { PassesLimit (moment_after (C.last self.new.clock) self.old.office.last) self.old.gate self.old.limit ask.now
-            → (result ≡ Err DeskFault.JournalFull) ⊎ (result ≡ Err DeskFault.NoMemory) }
-        // And nowhere else is the journal called full.
-        ensures full_alone { result ≡ Err DeskFault.JournalFull → PassesLimit (moment_after (C.last self.new.clock) self.old.office.last) self.old.gate self.old.limit ask.now }
-        ensures stale { self.new.stale ≡ is_store_fault result }
-        // It takes a further call, but after a fault of the store.
-        ensures ready { is_store_fault result ≡ false → IsReady D.honest D.state self.new }
-        ensures limit { self.new.limit ≡ self.old.limit }
-        ensures clock_once { C.count self.new.clock ≡ min (C.count self.old.clock + 1) (2 ^ 64 - 1) }
-        ensures clock_later { C.count self.old.clock ≤ C.count self.new.clock }
-        ensures disk_later { D.fault_count self.old.disk ≤ D.fault_count self.new.disk }
-    {
-        let told = self.clock.now();
-        let moment = moment_for(told, self.office.last());
-        self.submit_at(moment, told, ask)
+        let (disk, clock) = self.engine.give_back();
+        (disk, clock, Ok(()))
     }
 }

@@ -1,4 +1,5 @@
 // Calls without an answer of the office.
+use meter_journal::OpenFault;
 
 /// Why a call has no answer of the office.
 #[derive(Clone, Copy, Debug, PartialEq, Eq)]
@@ -10,9 +11,21 @@ pub enum DeskFault {
         /// The disk's count of faults at the end of the call.
         faults: u64,
     },
-    /// 113: the command's frame would pass the journal's limit, whether or not the office would accept it. Nothing
-    /// changed.
+    /// 113: the command's frame would pass the journal's limit, whether or not the office would accept it. No
+    /// record changed.
     JournalFull,
-    /// 115: memory ran out. Nothing changed.
+    /// The journal was opened again in this call, and is not made, foreign or damaged. The desk stays stale. An honest disk
+    /// has no such journal.
+    Broken(OpenFault),
+    /// 115: memory ran out. No record changed, and a stale desk stays stale.
+    NoMemory,
+}
+
+/// Why a desk could not keep a checkpoint at its end.
+#[derive(Clone, Copy, Debug, PartialEq, Eq)]
+pub enum SaveFault {
+    /// The disk did not do a call.
+    StoreFault,
+    /// Memory ran out.
     NoMemory,
 }

@@ -4,12 +4,13 @@
 mod acked;
 mod clock;
 mod desk;
+mod engine;
 mod fault;
-mod opening;
+mod reopening;
 #[cfg(test)]
 mod tests;
 
 pub use acked::Acked;
 pub use clock::{Clock, ListClock, SystemClock};
 pub use desk::Desk;
-pub use fault::DeskFault;
+pub use fault::{DeskFault, SaveFault};

@@ -1,5 +1,4 @@
-ghost use Rattle.std.specs.Prelude.{◌≡◌, ◌≤◌, ◌^◌, IfOk};
-ghost use Rattle.desk_core.specs.Desk.{IsReady};
+ghost use Rattle.std.specs.Prelude.{◌≤◌, ◌^◌};
 
 use super::*;
 use class_rules::Class;
@@ -70,7 +69,6 @@ fn desk_over<D: Disk + Drop, C: Clock + Drop>(
     limit: u64,
 ) -> Result<Desk<D, C>, Fail>
     requires { limit ≤ 2 ^ 45 }
-    ensures { IfOk result (λ desk. IsReady D.honest D.state desk) }
 {
     match Desk::open(alloc, disk, clock, limit) {
         Ok(desk) => Ok(desk),
@@ -142,10 +140,11 @@ fn answer_of(said: &Result<Acked, DeskFault>) -> Heard {
 }
 
 // What a desk answers that is not stale then.
-fn hear<D: Disk + Drop, C: Clock + Drop>(rt: &impl Abort, desk: &mut Desk<D, C>, ask: &Ask) -> Heard
-    requires { IsReady D.honest D.state desk.old }
-    ensures { IsReady D.honest D.state desk.new }
-{
+fn hear<D: Disk + Drop, C: Clock + Drop>(
+    rt: &impl Abort,
+    desk: &mut Desk<D, C>,
+    ask: &Ask,
+) -> Heard {
     let said = desk.submit(ask);
     assert!(rt; !desk.stale());
     answer_of(&said)
@@ -173,7 +172,7 @@ fn ask_once<D: Disk + Drop, C: Clock + Drop>(
         Ok(mut desk) => {
             let said = told(&desk.submit(ask));
             let stale = desk.stale();
-            (Ok((said, stale)), desk.close().0)
+            (Ok((said, stale)), desk.finish().0)
         }
     }
 }
@@ -203,7 +202,7 @@ fn a_bucket_is_made_once_and_within_the_limit(rt: HostRuntime) -> Result<(), Fai
         let said = desk.submit(&ask);
         assert!(rt; !desk.stale());
         assert_eq!(rt; told(&said), second, "limit {limit}");
-        let (mut disk, _) = desk.close();
+        let (mut disk, _, _) = desk.finish();
         let kept = read_all(alloc, &mut disk)?;
         assert!(rt; kept.as_slice() == file, "limit {limit}");
     }
@@ -245,7 +244,7 @@ fn a_journal_is_opened_where_the_office_accepts_it(rt: HostRuntime) -> Result<()
         let said = desk.submit(&bucket(alloc, "data")?);
         let there = end == 50;
         assert_eq!(rt; told(&said), Ok((!there, 50)));
-        let (mut disk, _) = desk.close();
+        let (mut disk, _, _) = desk.finish();
         assert!(rt; read_all(alloc, &mut disk)?.as_slice() == both.as_slice());
     }
     Ok(())
@@ -277,6 +276,42 @@ fn a_fault_of_the_store_is_told(rt: HostRuntime) -> Result<(), Fail> {
         let clock = ListClock::new(vec![in alloc; J0]?);
         let (said, _) = ask_once(alloc, disk, clock, &ask);
         assert_eq!(rt; said, Ok((Ok((!is_open, 30)), false)), "call {call}");
+    }
+    Ok(())
+}
+
+#[test]
+fn a_stale_desk_opens_its_journal_again(rt: HostRuntime) -> Result<(), Fail> {
+    let alloc = rt.alloc();
+    let there = Heard::Refused(Refusal::BucketExists);
+    let adding = Heard::Failed(DeskFault::StoreFault {
+        told: Some(J0),
+        faults: 1,
+    });
+    let opening = Heard::Failed(DeskFault::StoreFault {
+        told: None,
+        faults: 2,
+    });
+    // The calls of the disk that fail, and what three asks for the same bucket are answered. Call 9 syncs the frame of the first,
+    // call 11 its gate, and call 12 the journal that is opened again.
+    for (failing, answers, stale) in [
+        (&[9][..], [adding, Heard::Made, there], [true, false, false]),
+        (&[11], [adding, there, there], [true, false, false]),
+        (
+            &[9, 12],
+            [adding, opening, Heard::Made],
+            [true, true, false],
+        ),
+        (&[11, 12], [adding, opening, there], [true, true, false]),
+    ] {
+        let disk = disk_with(alloc, &EMPTY, failing)?;
+        let clock = ListClock::new(vec![in alloc; J0]?);
+        let mut desk = desk_over(alloc, disk, clock, 1 << 20)?;
+        let ask = bucket(alloc, "logs")?;
+        for (answer, is_stale) in answers.into_iter().zip(stale) {
+            assert_eq!(rt; answer_of(&desk.submit(&ask)), answer, "calls {failing:?}");
+            assert_eq!(rt; desk.stale(), is_stale, "calls {failing:?}");
+        }
     }
     Ok(())
 }
@@ -353,7 +388,7 @@ fn meters_are_the_same_after_an_opening(rt: HostRuntime) -> Result<(), Fail> {
     assert_eq!(rt; second, Heard::Stored(J0 + DAY));
     let before = hear(&rt, &mut desk, &january(alloc, "logs")?);
     assert_eq!(rt; before, used);
-    let (disk, clock) = desk.close();
+    let (disk, clock, _) = desk.finish();
     let mut desk = desk_over(alloc, disk, clock, 1 << 20)?;
     let after = hear(&rt, &mut desk, &january(alloc, "logs")?);
     assert_eq!(rt; after, used);

@@ -1,12 +1,14 @@
--- Texts of refusals, and the calls among exchanges, computed.
-use Rattle.std.proofs.Common.{◌≡◌, ℕ, List, [], ◌∷◌, ◌++◌, codes, refl, ap, arith}
+-- Texts of refusals and faults, and the calls and moments among exchanges, computed.
+use Rattle.std.proofs.Common.{◌≡◌, ℕ, List, [], ◌∷◌, ◌++◌, codes, decimal, refl, ap, ◌∙◌, arith, Option, Ok, Err}
 use Rattle.json.specs.Print.{escape_byte}
 use Rattle.serde_json.proofs.OnLiterals.{serde_json_on_literals}
-use Rattle.desk_core.specs.Answers.{Call}
+use Rattle.plain_office.specs.declared.command.Ask.{Ask}
+use Rattle.desk_core.specs.Answers.{Answer, Call}
+use Rattle.desk_core.specs.declared.fault.DeskFault.TheVariants.{StoreFault, JournalFull}
 use Rattle.http_bodies.specs.Flaws.{bad_size}
 use Rattle.http_asks.specs.Meaning.{not_a_month, bad_key, flawed, not_built}
-use Rattle.http_front.specs.Exchanges.{answered, refused, calls_of}
-use Rattle.http_front.specs.Texts.{class_text, field_text, refused_status, bad_text, not_built_text}
+use Rattle.http_front.specs.Exchanges.{answered, refused, calls_of, moments_of}
+use Rattle.http_front.specs.Texts.{class_text, field_text, damaged_text, refused_status, fault_status, bad_text, not_built_text}
 use Rattle.http_front.proofs.PrintLemmas.{two_digits, three_digits}
 
 field_told : field_text (codes "size") ≡ codes "{\"error\":\"BadBody\",\"field\":\"size\",\"number\":123}"
@@ -21,6 +23,17 @@ quote_escaped =
     ap (λ (digits : List ℕ). codes "{\"error\":\"UnsupportedClass\",\"name\":\"A\\\"B\",\"number\":" ++ (digits ++ codes "}"))
     (two_digits 4 3 (omega arith) (omega arith) (omega arith) 43 (omega arith))
 
+damaged_told : damaged_text 30 ≡ codes "{\"error\":\"Damaged\",\"number\":112,\"offset\":30}"
+unfolding serde_json_on_literals damaged_text
+damaged_told =
+    ap (λ (digits : List ℕ). codes "{\"error\":\"Damaged\",\"number\":" ++ (digits ++ (codes ",\"offset\":" ++ (decimal 30 ++ codes "}"))))
+    (three_digits 1 1 2 (omega arith) (omega arith) (omega arith) (omega arith) 112 (omega arith))
+    ∙ ap (λ (digits : List ℕ). codes "{\"error\":\"Damaged\",\"number\":112,\"offset\":" ++ (digits ++ codes "}"))
+    (two_digits 3 0 (omega arith) (omega arith) (omega arith) 30 (omega arith))
+
+store_is_unavailable : (number : Option ℕ) (count : ℕ) → fault_status (StoreFault number count) ≡ 503
+store_is_unavailable number count = refl
+
 size_is_bad_request : refused_status (flawed bad_size) ≡ 400
 size_is_bad_request = refl
 
@@ -30,3 +43,9 @@ unserved_text = refl
 -- refusals are no calls
 calls_alone : (first second : Call) → calls_of (answered first ∷ refused bad_key ∷ answered second ∷ refused not_a_month ∷ []) ≡ first ∷ second ∷ []
 calls_alone first second = refl
+
+-- neither a refusal nor a fault has a moment
+moments_alone : (first second last : Ask) (answer : Answer)
+    → moments_of (answered (record { ask = first; said = Ok answer }) ∷ refused bad_key ∷ answered (record { ask = second; said = Err JournalFull })
+    ∷ answered (record { ask = last; said = Ok answer }) ∷ []) ≡ answer.disk_moment ∷ answer.disk_moment ∷ []
+moments_alone first second last answer = refl

@@ -1,6 +1,6 @@
 -- The texts, written out, and how long they are.
 use Rattle.std.proofs.Common.{◌≡◌, ℕ, ◌+◌, ◌*◌, ◌/◌, ◌%◌, ◌^◌, ◌<◌, ◌≤◌, List, [], ◌∷◌, ◌++◌, length, take, codes, decimal, refl, sym, ap, ◌∙◌, arith, append_assoc, length-append, unwrap_or, IfOk, OnOk, OnErr, Result, Ok, Err, IsOk}
-use Rattle.std.proofs.lemmas.Fmt.{decimal_digit, decimal_step}
+use Rattle.std.proofs.lemmas.Fmt.{decimal_digit, decimal_step, length-decimal-le}
 use Rattle.std.proofs.lemmas.List.{take_all}
 use Rattle.http.specs.StatusCode.{reason_phrase}
 use Rattle.json.specs.Print.{escape_byte, quoted}
@@ -9,7 +9,11 @@ use Rattle.http_text.specs.Room.{Holds, Puts}
 use Rattle.http_text.specs.Replies.{error_text, head_text, reply_with}
 use Rattle.http_text.proofs.Texts.{error_is}
 use Rattle.http_text.proofs.Whole.{head_parts}
-use Rattle.http_front.specs.Texts.{error_reply, full_text, no_memory_text, not_built_text, class_text, field_text}
+use Rattle.meter_journal.specs.declared.fault.OpenFault.{OpenFault}
+use Rattle.meter_journal.specs.declared.fault.OpenFault.TheVariants as opening
+use Rattle.desk_core.specs.declared.fault.DeskFault.{DeskFault}
+use Rattle.desk_core.specs.declared.fault.DeskFault.TheVariants as faults
+use Rattle.http_front.specs.Texts.{error_reply, no_memory_text, class_text, field_text, damaged_text, open_status, fault_status}
 
 -- ---- numbers
 
@@ -28,26 +32,11 @@ three_digits a b c some fa fb fc n is =
 is_33 : decimal 33 ≡ codes "33"
 is_33 = two_digits 3 3 (omega arith) (omega arith) (omega arith) 33 (omega arith)
 
-is_36 : decimal 36 ≡ codes "36"
-is_36 = two_digits 3 6 (omega arith) (omega arith) (omega arith) 36 (omega arith)
-
-is_113 : decimal 113 ≡ codes "113"
-is_113 = three_digits 1 1 3 (omega arith) (omega arith) (omega arith) (omega arith) 113 (omega arith)
-
 is_115 : decimal 115 ≡ codes "115"
 is_115 = three_digits 1 1 5 (omega arith) (omega arith) (omega arith) (omega arith) 115 (omega arith)
 
-is_119 : decimal 119 ≡ codes "119"
-is_119 = three_digits 1 1 9 (omega arith) (omega arith) (omega arith) (omega arith) 119 (omega arith)
-
 is_500 : decimal 500 ≡ codes "500"
 is_500 = three_digits 5 0 0 (omega arith) (omega arith) (omega arith) (omega arith) 500 (omega arith)
-
-is_501 : decimal 501 ≡ codes "501"
-is_501 = three_digits 5 0 1 (omega arith) (omega arith) (omega arith) (omega arith) 501 (omega arith)
-
-is_507 : decimal 507 ≡ codes "507"
-is_507 = three_digits 5 0 7 (omega arith) (omega arith) (omega arith) (omega arith) 507 (omega arith)
 
 -- ---- refusals
 
@@ -79,34 +68,14 @@ reply_is status number digits phrase size name text is_status is_phrase is_body 
     ∙ ap (λ (h : List ℕ). h ++ body_with name text) (head_parts status (length (body_with name text)))
     ∙ ap (λ (b : List ℕ). head_text status (length b) ++ b) is_body
 
-not_built_plain : IsPlain (codes "NotBuilt")
-unfolding escape_byte
-not_built_plain = refl
-
-full_plain : IsPlain (codes "JournalFull")
-unfolding escape_byte
-full_plain = refl
-
 no_memory_plain : IsPlain (codes "NoMemory")
 unfolding escape_byte
 no_memory_plain = refl
 
-pub not_built_is : codes "HTTP/1.1 501 Not Implemented\r\ncontent-type: application/json\r\ncontent-length: 33\r\n\r\n{\"error\":\"NotBuilt\",\"number\":119}" ≡ not_built_text
-not_built_is = reply_is 501 119 (codes "501") (codes "Not Implemented") (codes "33") (codes "NotBuilt") (codes "119") is_501 refl (body_is (codes "NotBuilt") (codes "119") 119 not_built_plain is_119) is_33
-
-pub full_is : codes "HTTP/1.1 507 Insufficient Storage\r\ncontent-type: application/json\r\ncontent-length: 36\r\n\r\n{\"error\":\"JournalFull\",\"number\":113}" ≡ full_text
-full_is = reply_is 507 113 (codes "507") (codes "Insufficient Storage") (codes "36") (codes "JournalFull") (codes "113") is_507 refl (body_is (codes "JournalFull") (codes "113") 113 full_plain is_113) is_36
-
 pub no_memory_is : codes "HTTP/1.1 500 Internal Server Error\r\ncontent-type: application/json\r\ncontent-length: 33\r\n\r\n{\"error\":\"NoMemory\",\"number\":115}" ≡ no_memory_text
 no_memory_is = reply_is 500 115 (codes "500") (codes "Internal Server Error") (codes "33") (codes "NoMemory") (codes "115") is_500 refl (body_is (codes "NoMemory") (codes "115") 115 no_memory_plain is_115) is_33
 
-pub full_small : length full_text ≤ 16384
-full_small = omega (arith, ap length full_is)
-
-pub no_memory_small : length no_memory_text ≤ 16384
-no_memory_small = omega (arith, ap length no_memory_is)
-
--- ---- refusals that tell more
+-- ---- bodies that tell more
 
 pub class_is : (name : List ℕ) → codes "{\"error\":\"UnsupportedClass\",\"name\":" ++ (quoted name ++ (codes ",\"number\":" ++ (decimal 43 ++ codes "}"))) ≡ class_text name
 unfolding serde_json_on_literals class_text
@@ -115,6 +84,42 @@ class_is name = refl
 pub field_is : (field : List ℕ) → codes "{\"error\":\"BadBody\",\"field\":" ++ (quoted field ++ (codes ",\"number\":" ++ (decimal 123 ++ codes "}"))) ≡ field_text field
 unfolding serde_json_on_literals field_text
 field_is field = refl
+
+pub damaged_is : (offset : ℕ) → codes "{\"error\":\"Damaged\",\"number\":" ++ (decimal 112 ++ (codes ",\"offset\":" ++ (decimal offset ++ codes "}"))) ≡ damaged_text offset
+unfolding serde_json_on_literals damaged_text
+damaged_is offset = refl
+
+decimal_small : (n : ℕ) → n < 2 ^ 64 → length (decimal n) ≤ 20
+decimal_small n fits = length-decimal-le 20 n (omega arith) (omega (arith, fits)) fits
+
+pub damaged_small : (offset : ℕ) → offset < 2 ^ 64 → length (damaged_text offset) ≤ 10_000
+damaged_small offset fits =
+    let last = decimal offset ++ codes "}" in
+    omega (
+      arith,
+      ap length (damaged_is offset),
+      length-append (decimal 112) (codes ",\"offset\":" ++ last),
+      length-append (decimal offset) (codes "}"),
+      decimal_small 112 (omega arith),
+      decimal_small offset fits,
+    )
+
+-- the statuses of faults are low, and their phrases short
+abbrev IsLow : ℕ → Type 0
+IsLow status = (status < 1_000) × (length (unwrap_or (reason_phrase status) []) ≤ 100)
+
+open_low : (fault : OpenFault) → IsLow (open_status fault)
+open_low opening.NotMade = (omega arith, omega arith)
+open_low opening.Foreign = (omega arith, omega arith)
+open_low (opening.Damaged offset) = (omega arith, omega arith)
+open_low opening.StoreFault = (omega arith, omega arith)
+open_low opening.NoMemory = (omega arith, omega arith)
+
+pub fault_low : (fault : DeskFault) → IsLow (fault_status fault)
+fault_low (faults.StoreFault told count) = (omega arith, omega arith)
+fault_low faults.JournalFull = (omega arith, omega arith)
+fault_low (faults.Broken fault) = open_low fault
+fault_low faults.NoMemory = (omega arith, omega arith)
 
 -- a reply that is printed into a room of its own length, where its body was counted in another one
 pub whole_reply : (first second counts more old new : List ℕ) (status size whole end : ℕ) (body : List ℕ) → Puts first 0 counts size body

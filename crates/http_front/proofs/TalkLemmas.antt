@@ -1,5 +1,5 @@
 -- A session goes on.
-use Rattle.std.proofs.Common.{◌≡◌, ℕ, ◌+◌, ◌<◌, Bool, true, false, List, [], ◌∷◌, ◌++◌, take, length, refl, sym, ap, ◌∙◌, subst, arith, append_assoc, append-nil, length-append, Option, Some, None, Result, Ok, Err, inl, inr, OnOk, IfErr}
+use Rattle.std.proofs.Common.{◌≡◌, ℕ, ◌+◌, ◌<◌, ◌≤◌, Bool, true, false, List, [], ◌∷◌, ◌++◌, take, length, refl, sym, ap, ◌∙◌, subst, arith, append_assoc, append-nil, length-append, Option, Some, None, Result, Ok, Err, inl, inr, OnOk, IfErr}
 use Rattle.std.specs.Prelude.{◌⊎◌, option_map, IsOk}
 use Rattle.std.specs.Io.KnownBytes.{Appends, Consumes, IsAtEnd, prepend_known}
 use Rattle.std.proofs.lemmas.Grind.{flat_map-append}
@@ -8,7 +8,9 @@ use Rattle.plain_office.specs.declared.command.Ask.{Ask}
 use Rattle.desk_core.specs.Answers.{Answer, Call}
 use Rattle.desk_core.specs.declared.fault.DeskFault.{DeskFault}
 use Rattle.desk_core.specs.declared.fault.DeskFault.TheVariants as faults
-use Rattle.http_wire.specs.Held.{take_limit}
+use Rattle.http_wire.specs.Answers.{Gave as GaveTo}
+use Rattle.http_wire.specs.Held.{Held, take_limit}
+use Rattle.http_wire.specs.Messages.{IsUnsettled}
 use Rattle.http_asks.specs.Counts.{Given}
 use Rattle.http_asks.specs.Meaning.{Refused, not_a_month, bad_bucket_name, bad_key, flawed, not_built, asks, refuses}
 use Rattle.http_asks.specs.Streams.{IsItem, StandsItem, StandsUnbuilt}
@@ -17,11 +19,10 @@ use Rattle.http_asks.specs.declared.reader.Stop.{Stop}
 use Rattle.http_asks.specs.declared.reader.Stop.TheVariants as stops
 use Rattle.http_front.specs.declared.answering.SessionEnd.{SessionEnd}
 use Rattle.http_front.specs.declared.answering.SessionEnd.TheVariants as ends
-use Rattle.http_front.specs.Counts.{Gave, total_of, IsUnder, Reaches}
-use Rattle.http_front.specs.Exchanges.{Exchange, answered, refused, meant_of, calls_of, Goes, Hears}
-use Rattle.http_front.specs.Session.{IsCut, IsWritten, NoneFaults, LastFaults, FaultsBy, NoneLacks, LastLacks, LacksBy, Moves, Session}
+use Rattle.http_front.specs.Counts.{Gave, total_of, IsUnder, IsSpent}
+use Rattle.http_front.specs.Exchanges.{Exchange, answered, refused, meant_of, calls_of, exchange_moment, moments_of, Goes, Hears}
+use Rattle.http_front.specs.Session.{IsCut, IsWritten, NoneLacks, LastLacks, LacksBy, Moves, Session}
 use Rattle.http_front.specs.Talk.{IsRefusedBy, Answers, Talked, Closed, Went}
-use Rattle.http_front.specs.Telling.{IsStoreFault}
 use Rattle.http_front.specs.Texts.{exchange_text, text_of, bad_text, texts, not_built_text, no_memory_text}
 use Rattle.http_front.proofs.SaidLemmas.{appends_none, appends_then}
 
@@ -75,43 +76,26 @@ behind first second more w is = ap (λ (t : List ℕ). texts first ++ t) is ∙ 
 all_behind : (first second : List Exchange) (w : List ℕ) → w ≡ texts second → texts first ++ w ≡ texts (first ++ second)
 all_behind first second w is = ap (λ (t : List ℕ). texts first ++ t) is ∙ sym (texts-append first second)
 
-cut_then : (first second : List Exchange) (w : List ℕ) → IsCut second w → IsCut (first ++ second) (texts first ++ w)
-cut_then first second w cut = record {
-  most = first ++ cut.most;
+cut_then : (first second whole : List Exchange) (w : List ℕ) → IsCut second whole w → IsCut (first ++ second) (first ++ whole) (texts first ++ w)
+cut_then first second whole w cut = record {
   last = cut.last;
   n = cut.n;
-  are = ap (λ (t : List Exchange). first ++ t) cut.are ∙ sym (append_assoc first cut.most (cut.last ∷ []));
-  is = behind first cut.most (take cut.n (exchange_text cut.last)) w cut.is;
+  are = ap (λ (t : List Exchange). first ++ t) cut.are ∙ sym (append_assoc first whole (cut.last ∷ []));
+  is = behind first whole (take cut.n (exchange_text cut.last)) w cut.is;
 }
+
+moments-append : (first second : List Exchange) → moments_of (first ++ second) ≡ moments_of first ++ moments_of second
+moments-append first second = flat_map-append exchange_moment first second
+
+stamped_then : (ma mb mc : Option (List ℕ)) (first second : List Exchange) → Appends ma mb (moments_of first) → Appends mb mc (moments_of second) → Appends ma mc (moments_of (first ++ second))
+stamped_then ma mb mc first second x y =
+    subst (Appends ma mc) (sym (moments-append first second)) (appends_then ma mb mc (moments_of first) (moments_of second) x y)
 
 -- ---- what the calls were told
 
 -- a test that holds of the calls of both parts
 calls_all : (first second : List Exchange) (P : List Call → Type 0) → P (calls_of first ++ calls_of second) → P (calls_of (first ++ second))
 calls_all first second P all = subst P (sym (calls_of-append first second)) all
-
-abbrev pub IsNoFault : Call → Type 0
-IsNoFault c = IsStoreFault c.said → ⊥
-
-none_then : (first second : List Exchange) → NoneFaults (calls_of first) → NoneFaults (calls_of second) → NoneFaults (calls_of (first ++ second))
-none_then first second x y = calls_all first second NoneFaults (All-append IsNoFault (calls_of first) (calls_of second) x y)
-
-last_then : (first second : List Exchange) → NoneFaults (calls_of first) → LastFaults second → LastFaults (first ++ second)
-last_then first second x y = record {
-  most = first ++ y.most;
-  last = y.last;
-  are = ap (λ (t : List Exchange). first ++ t) y.are ∙ sym (append_assoc first y.most (answered y.last ∷ []));
-  before = none_then first y.most x y.before;
-  is = y.is;
-}
-
-faults_then : (end : SessionEnd) (first second : List Exchange) → NoneFaults (calls_of first) → FaultsBy end second → FaultsBy end (first ++ second)
-faults_then ends.StoreFault first second x y = last_then first second x y
-faults_then ends.Ended first second x y = none_then first second x y
-faults_then ends.ReadFault first second x y = none_then first second x y
-faults_then ends.WriteFault first second x y = none_then first second x y
-faults_then ends.Spent first second x y = none_then first second x y
-faults_then ends.NoMemory first second x y = none_then first second x y
 
 -- the call was not told that memory ran out
 abbrev pub IsNoLack : Call → Type 0
@@ -141,7 +125,6 @@ lacked_then ends.NoMemory first second x y = some_then first second x y
 lacked_then ends.WriteFault first second x y = some_then first second x y
 lacked_then ends.Ended first second x y = enough_then first second x y
 lacked_then ends.ReadFault first second x y = enough_then first second x y
-lacked_then ends.StoreFault first second x y = enough_then first second x y
 lacked_then ends.Spent first second x y = enough_then first second x y
 
 -- ---- the whole of what was said
@@ -149,21 +132,30 @@ lacked_then ends.Spent first second x y = enough_then first second x y
 -- how the total of a later part bounds that of the whole
 record Totals (whole later : Option ℕ) : Type 0 where
   under : IsUnder later → IsUnder whole
-  reaches : Reaches later → Reaches whole
+  spent : (rest : Option (List ℕ)) → IsSpent later rest → IsSpent whole rest
 
-written_then : (whole later : Option ℕ) → Totals whole later → (end : SessionEnd) (first second : List Exchange) (rest : Option (List ℕ)) (closed : Bool) (w : List ℕ)
-    → NoneLacks (calls_of first) → IsWritten later end second rest closed w → IsWritten whole end (first ++ second) rest closed (texts first ++ w)
-written_then whole later totals ends.Ended first second rest closed w enough (inl x) = inl (x.0, all_behind first second w x.1)
-written_then whole later totals ends.Ended first second rest closed w enough (inr (going, inl x)) = inr (going, inl (x.0, totals.under x.1, all_behind first second w x.2))
-written_then whole later totals ends.Ended first second rest closed w enough (inr (going, inr x)) = inr (going, inr (x.0, behind first second not_built_text w x.1))
-written_then whole later totals ends.ReadFault first second rest closed w enough x = (x.0, all_behind first second w x.1)
-written_then whole later totals ends.StoreFault first second rest closed w enough x = all_behind first second w x
-written_then whole later totals ends.Spent first second rest closed w enough x = (x.0, totals.reaches x.1, all_behind first second w x.2)
-written_then whole later totals ends.WriteFault first second rest closed w enough (inl x) = inl (cut_then first second w x)
-written_then whole later totals ends.WriteFault first second rest closed w enough (inr (going, inl x)) = inr (going, inl (x.0, x.1, behind first second (take x.0 not_built_text) w x.2))
-written_then whole later totals ends.WriteFault first second rest closed w enough (inr (going, inr x)) = inr (going, inr (x.0, behind first second (take x.0 no_memory_text) w x.1))
-written_then whole later totals ends.NoMemory first second rest closed w enough (inl x) = inl (lacks_then first second enough x.0, all_behind first second w x.1)
-written_then whole later totals ends.NoMemory first second rest closed w enough (inr x) = inr (x.0, enough_then first second enough x.1, behind first second no_memory_text w x.2)
+-- all were said whole
+all_then : (first second whole : List Exchange) → whole ≡ second → first ++ whole ≡ first ++ second
+all_then first second whole all = ap (λ (t : List Exchange). first ++ t) all
+
+written_then : (total later : Option ℕ) → Totals total later → (end : SessionEnd) (first second whole : List Exchange) (rest : Option (List ℕ)) (closed : Bool) (w : List ℕ)
+    → NoneLacks (calls_of first) → IsWritten later end second whole rest closed w → IsWritten total end (first ++ second) (first ++ whole) rest closed (texts first ++ w)
+written_then total later totals ends.Ended first second whole rest closed w enough (all, inl x) = (all_then first second whole all, inl (x.0, all_behind first second w x.1))
+written_then total later totals ends.Ended first second whole rest closed w enough (all, inr (going, inl x)) =
+    (all_then first second whole all, inr (going, inl (x.0, totals.under x.1, all_behind first second w x.2)))
+written_then total later totals ends.Ended first second whole rest closed w enough (all, inr (going, inr x)) =
+    (all_then first second whole all, inr (going, inr (x.0, behind first second not_built_text w x.1)))
+written_then total later totals ends.ReadFault first second whole rest closed w enough x = (all_then first second whole x.0, x.1, all_behind first second w x.2)
+written_then total later totals ends.Spent first second whole rest closed w enough x = (all_then first second whole x.0, x.1, totals.spent rest x.2, all_behind first second w x.3)
+written_then total later totals ends.WriteFault first second whole rest closed w enough (inl x) = inl (cut_then first second whole w x)
+written_then total later totals ends.WriteFault first second whole rest closed w enough (inr (all, going, inl x)) =
+    inr (all_then first second whole all, going, inl (x.0, x.1, behind first second (take x.0 not_built_text) w x.2))
+written_then total later totals ends.WriteFault first second whole rest closed w enough (inr (all, going, inr x)) =
+    inr (all_then first second whole all, going, inr (x.0, behind first second (take x.0 no_memory_text) w x.1))
+written_then total later totals ends.NoMemory first second whole rest closed w enough (all, inl x) =
+    (all_then first second whole all, inl (lacks_then first second enough x.0, all_behind first second w x.1))
+written_then total later totals ends.NoMemory first second whole rest closed w enough (all, inr x) =
+    (all_then first second whole all, inr (x.0, enough_then first second enough x.1, behind first second no_memory_text w x.2))
 
 -- ---- counts
 
@@ -188,26 +180,46 @@ given_then a b c la lb lc first second = record {
   left = consumes_then la lb lc first.given second.given first.left second.left;
 }
 
+pub gave_none : (left : Option (List ℕ)) → (n : ℕ) × (n ≤ take_limit) × Gave left left n
+gave_none left = (0, omega arith, ([], refl, consumes_none left))
+
+pub gave_some : (a b : ℕ) (la lb : Option (List ℕ)) → Given a b la lb → a ≡ 0 → b ≤ take_limit → (n : ℕ) × (n ≤ take_limit) × Gave la lb n
+gave_some a b la lb given none few = (b, few, (given.given, omega (arith, given.counted, none), given.left))
+
 pub gave_all : (a b : ℕ) (la lb : Option (List ℕ)) → Given a b la lb → a ≡ 0 → b ≡ take_limit → Gave la lb take_limit
 gave_all a b la lb given none all = (given.given, omega (arith, given.counted, none, all), given.left)
 
+no_totals : (later : Option ℕ) → Totals None later
+no_totals later = record { under = λ x. tt; spent = λ rest x. tt }
+
+same_totals : (whole later : ℕ) → whole ≡ later → Totals (Some whole) (Some later)
+same_totals whole later same = record {
+  under = λ x. omega (arith, x, same);
+  spent = λ rest x. subst (λ (n : ℕ). IsSpent (Some n) rest) (sym same) x;
+}
+
 -- the total of what was taken and what is left stays the same
 totals : (a b : ℕ) (la lb : Option (List ℕ)) → Given a b la lb → Totals (total_of a la) (total_of b lb)
-totals a b None lb given = record { under = λ x. tt; reaches = λ x. tt }
+totals a b None lb given = no_totals (total_of b lb)
 totals a b (Some xs) None given = absurd given.left
 totals a b (Some xs) (Some ys) given =
-    let same : a + length xs ≡ b + length ys = omega (arith, given.counted, ap length given.left, length-append given.given ys) in
-    record { under = λ x. omega (arith, x, same); reaches = λ x. omega (arith, x, same) }
+    same_totals (a + length xs) (b + length ys) (omega (arith, given.counted, ap length given.left, length-append given.given ys))
 
 total_from : (taken : ℕ) (left : Option (List ℕ)) → taken ≡ 0 → Totals (option_map length left) (total_of taken left)
-total_from taken None none = record { under = λ x. tt; reaches = λ x. tt }
-total_from taken (Some xs) none = record { under = λ x. omega (arith, x, none); reaches = λ x. omega (arith, x, none) }
+total_from taken None none = no_totals None
+total_from taken (Some xs) none = same_totals (length xs) (taken + length xs) (omega (arith, none))
 
--- as many bytes were taken as may be
-pub reaches_limit : (a b : ℕ) (la lb : Option (List ℕ)) → Given a b la lb → b ≡ take_limit → Reaches (total_of a la)
-reaches_limit a b None lb given all = tt
-reaches_limit a b (Some xs) None given all = absurd given.left
-reaches_limit a b (Some xs) (Some ys) given all = omega (arith, all, given.counted, ap length given.left, length-append given.given ys)
+-- as many bytes were taken as may be, and those that are held settle nothing
+pub spent_here : (old new : Held) (la lb : Option (List ℕ)) → GaveTo old new la lb IsUnsettled → new.taken ≡ take_limit → IsSpent (total_of old.taken la) (prepend_known old.bytes la)
+spent_here old new None lb gave all = tt
+spent_here old new (Some xs) None gave all = absurd gave.left
+spent_here old new (Some xs) (Some ys) gave all = record {
+  front = old.bytes ++ gave.given;
+  more = ys;
+  are = ap (λ (t : List ℕ). old.bytes ++ t) gave.left ∙ sym (append_assoc old.bytes gave.given ys);
+  limit = omega (arith, all, gave.counted, ap length gave.left, length-append gave.given ys);
+  unsettled = gave.so;
+}
 
 -- the source ended before
 pub under_limit : (a b : ℕ) (la lb : Option (List ℕ)) → Given a b la lb → b < take_limit → IsAtEnd lb → IsUnder (total_of a la)
@@ -225,77 +237,76 @@ module _ {T : Type 0} (moves : T → Ask → Result Answer DeskFault → T → T
   moved_then : (first second : List Exchange) (a b c : T) → Moves moves a (calls_of first) b → Moves moves b (calls_of second) c → Moves moves a (calls_of (first ++ second)) c
   moved_then first second a b c x y = calls_all first second (λ (calls : List Call). Moves moves a calls c) (moves_then (calls_of first) (calls_of second) a b c x y)
 
-  pub talked_none : (old : T) (said stream : Option (List ℕ)) → Talked moves old old said said stream stream
-  talked_none old said stream = record {
+  pub talked_none : (old : T) (said moments stream : Option (List ℕ)) → Talked moves old old said said moments moments stream stream
+  talked_none old said moments stream = record {
     exchanges = [];
     moved = refl;
     heard = hears_none stream;
     said = appends_none said;
-    none = All-nil IsNoFault;
+    stamped = appends_none moments;
     enough = All-nil IsNoLack;
   }
 
-  pub talked_then : (old mid new : T) (sa sb sc a b c : Option (List ℕ)) → Talked moves old mid sa sb a b → Talked moves mid new sb sc b c → Talked moves old new sa sc a c
-  talked_then old mid new sa sb sc a b c first second = record {
+  pub talked_then : (old mid new : T) (sa sb sc ma mb mc a b c : Option (List ℕ)) → Talked moves old mid sa sb ma mb a b → Talked moves mid new sb sc mb mc b c → Talked moves old new sa sc ma mc a c
+  talked_then old mid new sa sb sc ma mb mc a b c first second = record {
     exchanges = first.exchanges ++ second.exchanges;
     moved = moved_then first.exchanges second.exchanges old mid new first.moved second.moved;
     heard = hears_then first.exchanges second.exchanges a b c false first.heard second.heard;
     said = subst (Appends sa sc) (sym (texts-append first.exchanges second.exchanges)) (appends_then sa sb sc (texts first.exchanges) (texts second.exchanges) first.said second.said);
-    none = none_then first.exchanges second.exchanges first.none second.none;
+    stamped = stamped_then ma mb mc first.exchanges second.exchanges first.stamped second.stamped;
     enough = enough_then first.exchanges second.exchanges first.enough second.enough;
   }
 
-  closed_on : (whole later : Option ℕ) → Totals whole later → (old mid new : T) (sa sb sc a b : Option (List ℕ)) (end : SessionEnd)
-      → Talked moves old mid sa sb a b → Closed moves mid new sb sc b later end → Closed moves old new sa sc a whole end
-  closed_on whole later totals old mid new sa sb sc a b end first second = record {
+  closed_on : (total later : Option ℕ) → Totals total later → (old mid new : T) (sa sb sc ma mb mc a b : Option (List ℕ)) (end : SessionEnd)
+      → Talked moves old mid sa sb ma mb a b → Closed moves mid new sb sc mb mc b later end → Closed moves old new sa sc ma mc a total end
+  closed_on total later totals old mid new sa sb sc ma mb mc a b end first second = record {
     exchanges = first.exchanges ++ second.exchanges;
     moved = moved_then first.exchanges second.exchanges old mid new first.moved second.moved;
     rest = second.rest;
     closed = second.closed;
     heard = hears_then first.exchanges second.exchanges a b second.rest second.closed first.heard second.heard;
+    whole = first.exchanges ++ second.whole;
     written = texts first.exchanges ++ second.written;
     said = appends_then sa sb sc (texts first.exchanges) second.written first.said second.said;
-    is_written = written_then whole later totals end first.exchanges second.exchanges second.rest second.closed second.written first.enough second.is_written;
-    faulted = faults_then end first.exchanges second.exchanges first.none second.faulted;
+    stamped = stamped_then ma mb mc first.exchanges second.whole first.stamped second.stamped;
+    is_written = written_then total later totals end first.exchanges second.exchanges second.whole second.rest second.closed second.written first.enough second.is_written;
     lacked = lacked_then end first.exchanges second.exchanges first.enough second.lacked;
   }
 
-  pub closed_then : (ta tb : ℕ) (la lb : Option (List ℕ)) → Given ta tb la lb → (old mid new : T) (sa sb sc a b : Option (List ℕ)) (end : SessionEnd)
-      → Talked moves old mid sa sb a b → Closed moves mid new sb sc b (total_of tb lb) end → Closed moves old new sa sc a (total_of ta la) end
-  closed_then ta tb la lb given old mid new sa sb sc a b end first second =
-      closed_on (total_of ta la) (total_of tb lb) (totals ta tb la lb given) old mid new sa sb sc a b end first second
+  pub closed_then : (ta tb : ℕ) (la lb : Option (List ℕ)) → Given ta tb la lb → (old mid new : T) (sa sb sc ma mb mc a b : Option (List ℕ)) (end : SessionEnd)
+      → Talked moves old mid sa sb ma mb a b → Closed moves mid new sb sc mb mc b (total_of tb lb) end → Closed moves old new sa sc ma mc a (total_of ta la) end
+  closed_then ta tb la lb given old mid new sa sb sc ma mb mc a b end first second =
+      closed_on (total_of ta la) (total_of tb lb) (totals ta tb la lb given) old mid new sa sb sc ma mb mc a b end first second
 
   -- the end of a session from its beginning
-  whole_session : (old new : T) (sa sb left : Option (List ℕ)) (end : SessionEnd) → Closed moves old new sa sb left (option_map length left) end → Session moves old new sa sb left end
-  whole_session old new sa sb left end all = record {
+  whole_session : (old new : T) (sa sb ma mb left : Option (List ℕ)) (end : SessionEnd) → Closed moves old new sa sb ma mb left (option_map length left) end → Session moves old new sa sb ma mb left end
+  whole_session old new sa sb ma mb left end all = record {
     exchanges = all.exchanges;
     moved = all.moved;
     rest = all.rest;
     closed = all.closed;
     heard = all.heard;
+    whole = all.whole;
     written = all.written;
     said = all.said;
+    stamped = all.stamped;
     is_written = all.is_written;
-    faulted = all.faulted;
     lacked = all.lacked;
   }
 
   -- a session that began with nothing taken
-  pub session_of : (taken : ℕ) (held : List ℕ) (old new : T) (sa sb left : Option (List ℕ)) (end : SessionEnd) → taken ≡ 0 → held ≡ []
-      → Closed moves old new sa sb (prepend_known held left) (total_of taken left) end → Session moves old new sa sb left end
-  session_of taken held old new sa sb left end none empty closed =
-      whole_session old new sa sb left end (
-      closed_on (option_map length left) (total_of taken left) (total_from taken left none) old old new sa sa sb left left end (talked_none old sa left)
-      (subst (λ (s : Option (List ℕ)). Closed moves old new sa sb s (total_of taken left) end) (from_start held left empty) closed)
+  pub session_of : (taken : ℕ) (held : List ℕ) (old new : T) (sa sb ma mb left : Option (List ℕ)) (end : SessionEnd) → taken ≡ 0 → held ≡ []
+      → Closed moves old new sa sb ma mb (prepend_known held left) (total_of taken left) end → Session moves old new sa sb ma mb left end
+  session_of taken held old new sa sb ma mb left end none empty closed =
+      whole_session old new sa sb ma mb left end (
+      closed_on (option_map length left) (total_of taken left) (total_from taken left none) old old new sa sa sb ma ma mb left left end (talked_none old sa ma left)
+      (subst (λ (s : Option (List ℕ)). Closed moves old new sa sb ma mb s (total_of taken left) end) (from_start held left empty) closed)
       )
 
   -- ---- one message that was asked
 
   abbrev one_call : Ask → Result Answer DeskFault → List Exchange
   one_call ask said = answered (record { ask = ask; said = said }) ∷ []
-
-  one_none : (ask : Ask) (said : Result Answer DeskFault) → (IsStoreFault said → ⊥) → NoneFaults (calls_of (one_call ask said))
-  one_none ask said no_fault = All-cons IsNoFault (record { ask = ask; said = said }) [] no_fault (All-nil IsNoFault)
 
   one_enough : (ask : Ask) (said : Result Answer DeskFault) → (said ≡ Err faults.NoMemory → ⊥) → NoneLacks (calls_of (one_call ask said))
   one_enough ask said no_lack = All-cons IsNoLack (record { ask = ask; said = said }) [] no_lack (All-nil IsNoLack)
@@ -307,210 +318,238 @@ module _ {T : Type 0} (moves : T → Ask → Result Answer DeskFault → T → T
   one_either ask (Ok answer) = inl (one_enough ask (Ok answer) (λ is. absurd cc))
   one_either ask (Err (faults.StoreFault told count)) = inl (one_enough ask (Err (faults.StoreFault told count)) (λ is. absurd cc))
   one_either ask (Err faults.JournalFull) = inl (one_enough ask (Err faults.JournalFull) (λ is. absurd cc))
+  one_either ask (Err (faults.Broken fault)) = inl (one_enough ask (Err (faults.Broken fault)) (λ is. absurd cc))
   one_either ask (Err faults.NoMemory) = inr (one_lacks ask (Err faults.NoMemory) refl)
 
   one_text : (sa sb : Option (List ℕ)) (exchange : Exchange) → Appends sa sb (exchange_text exchange) → Appends sa sb (texts (exchange ∷ []))
   one_text sa sb exchange wrote = subst (Appends sa sb) (sym (append-nil (exchange_text exchange))) wrote
 
-  closed_one : (old new : T) (sa sb a b : Option (List ℕ)) (total : Option ℕ) (ask : Ask) (last : Bool) (said : Result Answer DeskFault) (end : SessionEnd) (written : List ℕ) → moves old ask said new
-      → StandsItem a (asks ask) last b → Appends sa sb written → IsWritten total end (one_call ask said) b last written → FaultsBy end (one_call ask said) → LacksBy end (one_call ask said) → Closed moves old new sa sb a total end
-  closed_one old new sa sb a b total ask last said end written moved heard wrote is faulted lacked = record {
+  one_moment : (ma mb : Option (List ℕ)) (exchange : Exchange) → Appends ma mb (exchange_moment exchange) → Appends ma mb (moments_of (exchange ∷ []))
+  one_moment ma mb exchange wrote = subst (Appends ma mb) (sym (append-nil (exchange_moment exchange))) wrote
+
+  -- want of memory has no moment
+  lack_moment : (ma mb : Option (List ℕ)) (ask : Ask) (told : Result Answer DeskFault) → mb ≡ ma → told ≡ Err faults.NoMemory → Appends ma mb (moments_of (one_call ask told))
+  lack_moment ma mb ask told same is =
+      subst (λ (t : Result Answer DeskFault). Appends ma mb (moments_of (one_call ask t))) (sym is) (subst (λ (m : Option (List ℕ)). Appends ma m []) (sym same) (appends_none ma))
+
+  closed_one : (old new : T) (sa sb ma mb a b : Option (List ℕ)) (total : Option ℕ) (ask : Ask) (last : Bool) (said : Result Answer DeskFault) (end : SessionEnd) (whole : List Exchange) (written : List ℕ)
+      → moves old ask said new → StandsItem a (asks ask) last b → Appends sa sb written → Appends ma mb (moments_of whole) → IsWritten total end (one_call ask said) whole b last written
+      → LacksBy end (one_call ask said) → Closed moves old new sa sb ma mb a total end
+  closed_one old new sa sb ma mb a b total ask last said end whole written moved heard wrote stamped is lacked = record {
     exchanges = one_call ask said;
     moved = (new, moved, refl);
     rest = b;
     closed = last;
     heard = hears_one a b (answered (record { ask = ask; said = said })) last heard;
+    whole = whole;
     written = written;
     said = wrote;
+    stamped = stamped;
     is_written = is;
-    faulted = faulted;
     lacked = lacked;
   }
 
   -- it was answered, and the session goes on unless it was the last
-  pub asked_on : (old new : T) (sa sb a b : Option (List ℕ)) (total : Option ℕ) (ask : Ask) (last : Bool) (done result : Result Unit SessionEnd) → IsOk done → Answers moves old new sa sb ask done
-      → StandsItem a (asks ask) last b → (last ≡ false → IsOk result) → (last ≡ true → result ≡ Err ends.Ended) → Went moves old new sa sb a b total result
-  asked_on old new sa sb a b total ask last (Err e) result ok told heard goes stops = absurd cc
-  asked_on old new sa sb a b total ask true (Ok x) result ok told heard goes stops =
-      subst (Went moves old new sa sb a b total) (sym (stops refl))
-      (closed_one old new sa sb a b total ask true told.told ends.Ended (texts (one_call ask told.told)) told.moved heard (one_text sa sb (answered (record { ask = ask; said = told.told })) told.said.0)
-      (inl (refl, refl)) (one_none ask told.told told.said.1) (one_enough ask told.told told.said.2))
-  asked_on old new sa sb a b total ask false (Ok x) (Err e) ok told heard goes stops = absurd (let e = goes refl in cc)
-  asked_on old new sa sb a b total ask false (Ok x) (Ok y) ok told heard goes stops = record {
+  pub asked_on : (old new : T) (sa sb ma mb a b : Option (List ℕ)) (total : Option ℕ) (ask : Ask) (last : Bool) (done result : Result Unit SessionEnd) → IsOk done
+      → Answers moves old new sa sb ma mb ask done → StandsItem a (asks ask) last b → (last ≡ false → IsOk result) → (last ≡ true → result ≡ Err ends.Ended)
+      → Went moves old new sa sb ma mb a b total result
+  asked_on old new sa sb ma mb a b total ask last (Err e) result ok told heard goes stops = absurd cc
+  asked_on old new sa sb ma mb a b total ask true (Ok x) result ok told heard goes stops =
+      let exchange = answered (record { ask = ask; said = told.told }) in
+      subst (Went moves old new sa sb ma mb a b total) (sym (stops refl))
+      (closed_one old new sa sb ma mb a b total ask true told.told ends.Ended (one_call ask told.told) (texts (one_call ask told.told)) told.moved heard (one_text sa sb exchange told.said.0)
+      (one_moment ma mb exchange told.said.1) (refl, inl (refl, refl)) (one_enough ask told.told told.said.2))
+  asked_on old new sa sb ma mb a b total ask false (Ok x) (Err e) ok told heard goes stops = absurd (let e = goes refl in cc)
+  asked_on old new sa sb ma mb a b total ask false (Ok x) (Ok y) ok told heard goes stops = record {
     exchanges = one_call ask told.told;
     moved = (new, told.moved, refl);
     heard = hears_one a b (answered (record { ask = ask; said = told.told })) false heard;
     said = one_text sa sb (answered (record { ask = ask; said = told.told })) told.said.0;
-    none = one_none ask told.told told.said.1;
+    stamped = one_moment ma mb (answered (record { ask = ask; said = told.told })) told.said.1;
     enough = one_enough ask told.told told.said.2;
   }
 
   -- it was answered, or not in full, and this ended the session
-  pub asked_end : (old new : T) (sa sb a b : Option (List ℕ)) (total : Option ℕ) (ask : Ask) (last : Bool) (end : SessionEnd) → Answers moves old new sa sb ask (Err end)
-      → StandsItem a (asks ask) last b → Closed moves old new sa sb a total end
-  asked_end old new sa sb a b total ask last ends.WriteFault done heard =
-      closed_one old new sa sb a b total ask last done.told ends.WriteFault (take done.said.0.0 (text_of done.told)) done.moved heard done.said.0.1
-      (inl (record { most = []; last = answered (record { ask = ask; said = done.told }); n = done.said.0.0; are = refl; is = refl }))
-      (one_none ask done.told done.said.1) (one_either ask done.told)
-  asked_end old new sa sb a b total ask last ends.NoMemory done heard =
-      closed_one old new sa sb a b total ask last done.told ends.NoMemory (texts (one_call ask done.told)) done.moved heard (one_text sa sb (answered (record { ask = ask; said = done.told })) done.said.0)
-      (inl (one_lacks ask done.told done.said.1, refl))
-      (one_none ask done.told (λ fault. subst IsStoreFault done.said.1 fault)) (inr (one_lacks ask done.told done.said.1))
-  asked_end old new sa sb a b total ask last ends.StoreFault done heard =
-      closed_one old new sa sb a b total ask last done.told ends.StoreFault (texts (one_call ask done.told)) done.moved heard (one_text sa sb (answered (record { ask = ask; said = done.told })) done.said.0)
-      refl
-      (record { most = []; last = record { ask = ask; said = done.told }; are = refl; before = All-nil IsNoFault; is = done.said.1 })
-      (one_enough ask done.told (λ is. subst IsStoreFault is done.said.1))
-  asked_end old new sa sb a b total ask last ends.Ended done heard = absurd done.said
-  asked_end old new sa sb a b total ask last ends.ReadFault done heard = absurd done.said
-  asked_end old new sa sb a b total ask last ends.Spent done heard = absurd done.said
+  pub asked_end : (old new : T) (sa sb ma mb a b : Option (List ℕ)) (total : Option ℕ) (ask : Ask) (last : Bool) (end : SessionEnd) → Answers moves old new sa sb ma mb ask (Err end)
+      → StandsItem a (asks ask) last b → Closed moves old new sa sb ma mb a total end
+  asked_end old new sa sb ma mb a b total ask last ends.WriteFault done heard =
+      closed_one old new sa sb ma mb a b total ask last done.told ends.WriteFault [] (take done.said.0.0 (text_of done.told)) done.moved heard done.said.0.1
+      (subst (λ (m : Option (List ℕ)). Appends ma m []) (sym done.said.1) (appends_none ma))
+      (inl (record { last = answered (record { ask = ask; said = done.told }); n = done.said.0.0; are = refl; is = refl })) (one_either ask done.told)
+  asked_end old new sa sb ma mb a b total ask last ends.NoMemory done heard =
+      closed_one old new sa sb ma mb a b total ask last done.told ends.NoMemory (one_call ask done.told) (texts (one_call ask done.told)) done.moved heard
+      (one_text sa sb (answered (record { ask = ask; said = done.told })) done.said.0) (lack_moment ma mb ask done.told done.said.1 done.said.2)
+      (refl, inl (one_lacks ask done.told done.said.2, refl)) (inr (one_lacks ask done.told done.said.2))
+  asked_end old new sa sb ma mb a b total ask last ends.Ended done heard = absurd done.said
+  asked_end old new sa sb ma mb a b total ask last ends.ReadFault done heard = absurd done.said
+  asked_end old new sa sb ma mb a b total ask last ends.Spent done heard = absurd done.said
 
   -- ---- one message that was refused
 
   abbrev one_refusal : Refused → List Exchange
   one_refusal broken = refused broken ∷ []
 
-  closed_refusal : (old : T) (sa sb a b : Option (List ℕ)) (total : Option ℕ) (broken : Refused) (last : Bool) (end : SessionEnd) (written : List ℕ)
-      → StandsItem a (refuses broken) last b → Appends sa sb written → IsWritten total end (one_refusal broken) b last written → FaultsBy end (one_refusal broken) → LacksBy end (one_refusal broken)
-      → Closed moves old old sa sb a total end
-  closed_refusal old sa sb a b total broken last end written heard wrote is faulted lacked = record {
+  closed_refusal : (old : T) (sa sb m a b : Option (List ℕ)) (total : Option ℕ) (broken : Refused) (last : Bool) (end : SessionEnd) (whole : List Exchange) (written : List ℕ)
+      → StandsItem a (refuses broken) last b → Appends sa sb written → Appends m m (moments_of whole) → IsWritten total end (one_refusal broken) whole b last written → LacksBy end (one_refusal broken)
+      → Closed moves old old sa sb m m a total end
+  closed_refusal old sa sb m a b total broken last end whole written heard wrote stamped is lacked = record {
     exchanges = one_refusal broken;
     moved = refl;
     rest = b;
     closed = last;
     heard = hears_one a b (refused broken) last heard;
+    whole = whole;
     written = written;
     said = wrote;
+    stamped = stamped;
     is_written = is;
-    faulted = faulted;
     lacked = lacked;
   }
 
   -- it was answered, and the session goes on unless it was the last
-  refused_on : (old : T) (sa sb a b : Option (List ℕ)) (total : Option ℕ) (broken : Refused) (last : Bool) (done result : Result Unit SessionEnd) → IsOk done → IsRefusedBy sa sb broken done
-      → StandsItem a (refuses broken) last b → (last ≡ false → IsOk result) → (last ≡ true → result ≡ Err ends.Ended) → Went moves old old sa sb a b total result
-  refused_on old sa sb a b total broken last (Err e) result ok told heard goes stops = absurd cc
-  refused_on old sa sb a b total broken true (Ok x) result ok told heard goes stops =
-      subst (Went moves old old sa sb a b total) (sym (stops refl))
-      (closed_refusal old sa sb a b total broken true ends.Ended (texts (one_refusal broken)) heard (one_text sa sb (refused broken) told) (inl (refl, refl)) (All-nil IsNoFault) (All-nil IsNoLack))
-  refused_on old sa sb a b total broken false (Ok x) (Err e) ok told heard goes stops = absurd (let e = goes refl in cc)
-  refused_on old sa sb a b total broken false (Ok x) (Ok y) ok told heard goes stops = record {
+  refused_on : (old : T) (sa sb m a b : Option (List ℕ)) (total : Option ℕ) (broken : Refused) (last : Bool) (done result : Result Unit SessionEnd) → IsOk done → IsRefusedBy sa sb broken done
+      → StandsItem a (refuses broken) last b → (last ≡ false → IsOk result) → (last ≡ true → result ≡ Err ends.Ended) → Went moves old old sa sb m m a b total result
+  refused_on old sa sb m a b total broken last (Err e) result ok told heard goes stops = absurd cc
+  refused_on old sa sb m a b total broken true (Ok x) result ok told heard goes stops =
+      subst (Went moves old old sa sb m m a b total) (sym (stops refl))
+      (closed_refusal old sa sb m a b total broken true ends.Ended (one_refusal broken) (texts (one_refusal broken)) heard (one_text sa sb (refused broken) told) (appends_none m)
+      (refl, inl (refl, refl)) (All-nil IsNoLack))
+  refused_on old sa sb m a b total broken false (Ok x) (Err e) ok told heard goes stops = absurd (let e = goes refl in cc)
+  refused_on old sa sb m a b total broken false (Ok x) (Ok y) ok told heard goes stops = record {
     exchanges = one_refusal broken;
     moved = refl;
     heard = hears_one a b (refused broken) false heard;
     said = one_text sa sb (refused broken) told;
-    none = All-nil IsNoFault;
+    stamped = appends_none m;
     enough = All-nil IsNoLack;
   }
 
   -- nothing was answered
-  pub closed_here : (old : T) (sa sb a : Option (List ℕ)) (total : Option ℕ) (end : SessionEnd) (written : List ℕ) → Appends sa sb written → IsWritten total end [] a false written
-      → FaultsBy end [] → LacksBy end [] → Closed moves old old sa sb a total end
-  closed_here old sa sb a total end written wrote is faulted lacked = record {
+  pub closed_here : (old : T) (sa sb m a : Option (List ℕ)) (total : Option ℕ) (end : SessionEnd) (written : List ℕ) → Appends sa sb written → IsWritten total end [] [] a false written
+      → LacksBy end [] → Closed moves old old sa sb m m a total end
+  closed_here old sa sb m a total end written wrote is lacked = record {
     exchanges = [];
     moved = refl;
     rest = a;
     closed = false;
     heard = hears_none a;
+    whole = [];
     written = written;
     said = wrote;
+    stamped = appends_none m;
     is_written = is;
-    faulted = faulted;
     lacked = lacked;
   }
 
   -- its text was cut, or there was no memory for it
-  refused_end : (old : T) (sa sb a b : Option (List ℕ)) (total : Option ℕ) (broken : Refused) (last : Bool) (end : SessionEnd) → IsRefusedBy sa sb broken (Err end)
-      → StandsItem a (refuses broken) last b → Closed moves old old sa sb a total end
-  refused_end old sa sb a b total broken last ends.WriteFault (inl x) heard =
-      closed_refusal old sa sb a b total broken last ends.WriteFault (take x.0 (bad_text broken)) heard x.1
-      (inl (record { most = []; last = refused broken; n = x.0; are = refl; is = refl })) (All-nil IsNoFault) (inl (All-nil IsNoLack))
-  refused_end old sa sb a b total broken last ends.WriteFault (inr x) heard =
-      closed_here old sa sb a total ends.WriteFault (take x.0 no_memory_text) x.1 (inr (refl, inr (x.0, refl))) (All-nil IsNoFault) (inl (All-nil IsNoLack))
-  refused_end old sa sb a b total broken last ends.NoMemory said heard =
-      closed_here old sa sb a total ends.NoMemory no_memory_text said (inr (refl, All-nil IsNoLack, refl)) (All-nil IsNoFault) (inl (All-nil IsNoLack))
-  refused_end old sa sb a b total broken last ends.StoreFault said heard = absurd said
-  refused_end old sa sb a b total broken last ends.Ended said heard = absurd said
-  refused_end old sa sb a b total broken last ends.ReadFault said heard = absurd said
-  refused_end old sa sb a b total broken last ends.Spent said heard = absurd said
+  refused_end : (old : T) (sa sb m a b : Option (List ℕ)) (total : Option ℕ) (broken : Refused) (last : Bool) (end : SessionEnd) → IsRefusedBy sa sb broken (Err end)
+      → StandsItem a (refuses broken) last b → Closed moves old old sa sb m m a total end
+  refused_end old sa sb m a b total broken last ends.WriteFault (inl x) heard =
+      closed_refusal old sa sb m a b total broken last ends.WriteFault [] (take x.0 (bad_text broken)) heard x.1 (appends_none m)
+      (inl (record { last = refused broken; n = x.0; are = refl; is = refl })) (inl (All-nil IsNoLack))
+  refused_end old sa sb m a b total broken last ends.WriteFault (inr x) heard =
+      closed_here old sa sb m a total ends.WriteFault (take x.0 no_memory_text) x.1 (inr (refl, refl, inr (x.0, refl))) (inl (All-nil IsNoLack))
+  refused_end old sa sb m a b total broken last ends.NoMemory said heard =
+      closed_here old sa sb m a total ends.NoMemory no_memory_text said (refl, inr (refl, All-nil IsNoLack, refl)) (inl (All-nil IsNoLack))
+  refused_end old sa sb m a b total broken last ends.Ended said heard = absurd said
+  refused_end old sa sb m a b total broken last ends.ReadFault said heard = absurd said
+  refused_end old sa sb m a b total broken last ends.Spent said heard = absurd said
 
   -- ---- the end of a session
 
   -- what stands there is not served, and it was answered
-  unbuilt_on : (old : T) (sa sb a b : Option (List ℕ)) (total : Option ℕ) (last : Bool) (done result : Result Unit SessionEnd) → IsOk done → IsRefusedBy sa sb not_built done
-      → StandsUnbuilt a × (last ≡ true) → (last ≡ true → result ≡ Err ends.Ended) → Went moves old old sa sb a b total result
-  unbuilt_on old sa sb a b total last (Err e) result ok said stands stops = absurd cc
-  unbuilt_on old sa sb a b total last (Ok x) result ok said stands stops =
-      subst (Went moves old old sa sb a b total) (sym (stops stands.1))
-      (closed_here old sa sb a total ends.Ended not_built_text said (inr (refl, inr (stands.0, refl))) (All-nil IsNoFault) (All-nil IsNoLack))
+  unbuilt_on : (old : T) (sa sb m a b : Option (List ℕ)) (total : Option ℕ) (last : Bool) (done result : Result Unit SessionEnd) → IsOk done → IsRefusedBy sa sb not_built done
+      → StandsUnbuilt a × (last ≡ true) → (last ≡ true → result ≡ Err ends.Ended) → Went moves old old sa sb m m a b total result
+  unbuilt_on old sa sb m a b total last (Err e) result ok said stands stops = absurd cc
+  unbuilt_on old sa sb m a b total last (Ok x) result ok said stands stops =
+      subst (Went moves old old sa sb m m a b total) (sym (stops stands.1))
+      (closed_here old sa sb m a total ends.Ended not_built_text said (refl, inr (refl, inr (stands.0, refl))) (All-nil IsNoLack))
 
-  unbuilt_end : (old : T) (sa sb a : Option (List ℕ)) (total : Option ℕ) (end : SessionEnd) → IsRefusedBy sa sb not_built (Err end) → StandsUnbuilt a → Closed moves old old sa sb a total end
-  unbuilt_end old sa sb a total ends.WriteFault (inl x) stands =
-      closed_here old sa sb a total ends.WriteFault (take x.0 not_built_text) x.1 (inr (refl, inl (x.0, stands, refl))) (All-nil IsNoFault) (inl (All-nil IsNoLack))
-  unbuilt_end old sa sb a total ends.WriteFault (inr x) stands =
-      closed_here old sa sb a total ends.WriteFault (take x.0 no_memory_text) x.1 (inr (refl, inr (x.0, refl))) (All-nil IsNoFault) (inl (All-nil IsNoLack))
-  unbuilt_end old sa sb a total ends.NoMemory said stands =
-      closed_here old sa sb a total ends.NoMemory no_memory_text said (inr (refl, All-nil IsNoLack, refl)) (All-nil IsNoFault) (inl (All-nil IsNoLack))
-  unbuilt_end old sa sb a total ends.StoreFault said stands = absurd said
-  unbuilt_end old sa sb a total ends.Ended said stands = absurd said
-  unbuilt_end old sa sb a total ends.ReadFault said stands = absurd said
-  unbuilt_end old sa sb a total ends.Spent said stands = absurd said
+  unbuilt_end : (old : T) (sa sb m a : Option (List ℕ)) (total : Option ℕ) (end : SessionEnd) → IsRefusedBy sa sb not_built (Err end) → StandsUnbuilt a → Closed moves old old sa sb m m a total end
+  unbuilt_end old sa sb m a total ends.WriteFault (inl x) stands =
+      closed_here old sa sb m a total ends.WriteFault (take x.0 not_built_text) x.1 (inr (refl, refl, inl (x.0, stands, refl))) (inl (All-nil IsNoLack))
+  unbuilt_end old sa sb m a total ends.WriteFault (inr x) stands =
+      closed_here old sa sb m a total ends.WriteFault (take x.0 no_memory_text) x.1 (inr (refl, refl, inr (x.0, refl))) (inl (All-nil IsNoLack))
+  unbuilt_end old sa sb m a total ends.NoMemory said stands =
+      closed_here old sa sb m a total ends.NoMemory no_memory_text said (refl, inr (refl, All-nil IsNoLack, refl)) (inl (All-nil IsNoLack))
+  unbuilt_end old sa sb m a total ends.Ended said stands = absurd said
+  unbuilt_end old sa sb m a total ends.ReadFault said stands = absurd said
+  unbuilt_end old sa sb m a total ends.Spent said stands = absurd said
 
   -- a message that asks nothing was answered
-  pub bad_on : (old : T) (sa sb a b : Option (List ℕ)) (total : Option ℕ) (broken : Refused) (last : Bool) (done result : Result Unit SessionEnd) → IsOk done → IsRefusedBy sa sb broken done
-      → TellsRefused a broken last b → (last ≡ false → IsOk result) → (last ≡ true → result ≡ Err ends.Ended) → Went moves old old sa sb a b total result
-  bad_on old sa sb a b total not_built last done result ok said tells goes stops = unbuilt_on old sa sb a b total last done result ok said tells stops
-  bad_on old sa sb a b total not_a_month last done result ok said tells goes stops = refused_on old sa sb a b total not_a_month last done result ok said tells goes stops
-  bad_on old sa sb a b total bad_bucket_name last done result ok said tells goes stops = refused_on old sa sb a b total bad_bucket_name last done result ok said tells goes stops
-  bad_on old sa sb a b total bad_key last done result ok said tells goes stops = refused_on old sa sb a b total bad_key last done result ok said tells goes stops
-  bad_on old sa sb a b total (flawed flaw) last done result ok said tells goes stops = refused_on old sa sb a b total (flawed flaw) last done result ok said tells goes stops
+  some_bad_on : (old : T) (sa sb m a b : Option (List ℕ)) (total : Option ℕ) (broken : Refused) (last : Bool) (done result : Result Unit SessionEnd) → IsOk done → IsRefusedBy sa sb broken done
+      → TellsRefused a broken last b → (last ≡ false → IsOk result) → (last ≡ true → result ≡ Err ends.Ended) → Went moves old old sa sb m m a b total result
+  some_bad_on old sa sb m a b total not_built last done result ok said tells goes stops = unbuilt_on old sa sb m a b total last done result ok said tells stops
+  some_bad_on old sa sb m a b total not_a_month last done result ok said tells goes stops = refused_on old sa sb m a b total not_a_month last done result ok said tells goes stops
+  some_bad_on old sa sb m a b total bad_bucket_name last done result ok said tells goes stops = refused_on old sa sb m a b total bad_bucket_name last done result ok said tells goes stops
+  some_bad_on old sa sb m a b total bad_key last done result ok said tells goes stops = refused_on old sa sb m a b total bad_key last done result ok said tells goes stops
+  some_bad_on old sa sb m a b total (flawed flaw) last done result ok said tells goes stops = refused_on old sa sb m a b total (flawed flaw) last done result ok said tells goes stops
 
-  pub bad_end : (old : T) (sa sb a b : Option (List ℕ)) (total : Option ℕ) (broken : Refused) (last : Bool) (end : SessionEnd) → IsRefusedBy sa sb broken (Err end)
-      → TellsRefused a broken last b → Closed moves old old sa sb a total end
-  bad_end old sa sb a b total not_built last end said tells = unbuilt_end old sa sb a total end said tells.0
-  bad_end old sa sb a b total not_a_month last end said tells = refused_end old sa sb a b total not_a_month last end said tells
-  bad_end old sa sb a b total bad_bucket_name last end said tells = refused_end old sa sb a b total bad_bucket_name last end said tells
-  bad_end old sa sb a b total bad_key last end said tells = refused_end old sa sb a b total bad_key last end said tells
-  bad_end old sa sb a b total (flawed flaw) last end said tells = refused_end old sa sb a b total (flawed flaw) last end said tells
+  some_bad_end : (old : T) (sa sb m a b : Option (List ℕ)) (total : Option ℕ) (broken : Refused) (last : Bool) (end : SessionEnd) → IsRefusedBy sa sb broken (Err end)
+      → TellsRefused a broken last b → Closed moves old old sa sb m m a total end
+  some_bad_end old sa sb m a b total not_built last end said tells = unbuilt_end old sa sb m a total end said tells.0
+  some_bad_end old sa sb m a b total not_a_month last end said tells = refused_end old sa sb m a b total not_a_month last end said tells
+  some_bad_end old sa sb m a b total bad_bucket_name last end said tells = refused_end old sa sb m a b total bad_bucket_name last end said tells
+  some_bad_end old sa sb m a b total bad_key last end said tells = refused_end old sa sb m a b total bad_key last end said tells
+  some_bad_end old sa sb m a b total (flawed flaw) last end said tells = refused_end old sa sb m a b total (flawed flaw) last end said tells
 
-  pub last_no_memory : (old : T) (sa sb a : Option (List ℕ)) (total : Option ℕ) (end : SessionEnd)
-      → ((end ≡ ends.NoMemory) × Appends sa sb no_memory_text) ⊎ ((end ≡ ends.WriteFault) × ((n : ℕ) × Appends sa sb (take n no_memory_text))) → Closed moves old old sa sb a total end
-  last_no_memory old sa sb a total end (inl x) =
-      subst (λ (e : SessionEnd). Closed moves old old sa sb a total e) (sym x.0)
-      (closed_here old sa sb a total ends.NoMemory no_memory_text x.1 (inr (refl, All-nil IsNoLack, refl)) (All-nil IsNoFault) (inl (All-nil IsNoLack)))
-  last_no_memory old sa sb a total end (inr x) =
-      subst (λ (e : SessionEnd). Closed moves old old sa sb a total e) (sym x.0)
-      (closed_here old sa sb a total ends.WriteFault (take x.1.0 no_memory_text) x.1.1 (inr (refl, inr (x.1.0, refl))) (All-nil IsNoFault) (inl (All-nil IsNoLack)))
+  pub bad_on : (old : T) (sa sb ma mb a b : Option (List ℕ)) (total : Option ℕ) (broken : Refused) (last : Bool) (done result : Result Unit SessionEnd) → mb ≡ ma → IsOk done → IsRefusedBy sa sb broken done
+      → TellsRefused a broken last b → (last ≡ false → IsOk result) → (last ≡ true → result ≡ Err ends.Ended) → Went moves old old sa sb ma mb a b total result
+  bad_on old sa sb ma mb a b total broken last done result same ok said tells goes stops =
+      subst (λ (m : Option (List ℕ)). Went moves old old sa sb ma m a b total result) (sym same) (some_bad_on old sa sb ma a b total broken last done result ok said tells goes stops)
 
-  silent : (old : T) (sa sb a : Option (List ℕ)) (total : Option ℕ) (end kind : SessionEnd) → (end ≡ kind) × (sb ≡ sa) → IsWritten total kind [] a false [] → FaultsBy kind [] → LacksBy kind []
-      → Closed moves old old sa sb a total end
-  silent old sa sb a total end kind x is faulted lacked =
-      subst (λ (e : SessionEnd). Closed moves old old sa sb a total e) (sym x.0)
-      (closed_here old sa sb a total kind [] (subst (λ (s : Option (List ℕ)). Appends sa s []) (sym x.1) (appends_none sa)) is faulted lacked)
+  pub bad_end : (old : T) (sa sb ma mb a b : Option (List ℕ)) (total : Option ℕ) (broken : Refused) (last : Bool) (end : SessionEnd) → mb ≡ ma → IsRefusedBy sa sb broken (Err end)
+      → TellsRefused a broken last b → Closed moves old old sa sb ma mb a total end
+  bad_end old sa sb ma mb a b total broken last end same said tells =
+      subst (λ (m : Option (List ℕ)). Closed moves old old sa sb ma m a total end) (sym same) (some_bad_end old sa sb ma a b total broken last end said tells)
 
-  pub last_stop : (old : T) (sa sb a : Option (List ℕ)) (total : Option ℕ) (stop : Stop) (end : SessionEnd)
+  last_words : (old : T) (sa sb m a : Option (List ℕ)) (total : Option ℕ) (end : SessionEnd)
+      → ((end ≡ ends.NoMemory) × Appends sa sb no_memory_text) ⊎ ((end ≡ ends.WriteFault) × ((n : ℕ) × Appends sa sb (take n no_memory_text))) → Closed moves old old sa sb m m a total end
+  last_words old sa sb m a total end (inl x) =
+      subst (λ (e : SessionEnd). Closed moves old old sa sb m m a total e) (sym x.0)
+      (closed_here old sa sb m a total ends.NoMemory no_memory_text x.1 (refl, inr (refl, All-nil IsNoLack, refl)) (inl (All-nil IsNoLack)))
+  last_words old sa sb m a total end (inr x) =
+      subst (λ (e : SessionEnd). Closed moves old old sa sb m m a total e) (sym x.0)
+      (closed_here old sa sb m a total ends.WriteFault (take x.1.0 no_memory_text) x.1.1 (inr (refl, refl, inr (x.1.0, refl))) (inl (All-nil IsNoLack)))
+
+  silent : (old : T) (sa sb m a : Option (List ℕ)) (total : Option ℕ) (end kind : SessionEnd) → (end ≡ kind) × (sb ≡ sa) → IsWritten total kind [] [] a false [] → LacksBy kind []
+      → Closed moves old old sa sb m m a total end
+  silent old sa sb m a total end kind x is lacked =
+      subst (λ (e : SessionEnd). Closed moves old old sa sb m m a total e) (sym x.0)
+      (closed_here old sa sb m a total kind [] (subst (λ (s : Option (List ℕ)). Appends sa s []) (sym x.1) (appends_none sa)) is lacked)
+
+  some_stop : (old : T) (sa sb m a : Option (List ℕ)) (total : Option ℕ) (stop : Stop) (end : SessionEnd)
       → (stop ≡ stops.NoMemory → ((end ≡ ends.NoMemory) × Appends sa sb no_memory_text) ⊎ ((end ≡ ends.WriteFault) × ((n : ℕ) × Appends sa sb (take n no_memory_text))))
-      → (stop ≡ stops.ReadFault → (end ≡ ends.ReadFault) × (sb ≡ sa)) → (stop ≡ stops.Spent → (end ≡ ends.Spent) × (sb ≡ sa)) → (stop ≡ stops.Spent → Reaches total)
-      → Closed moves old old sa sb a total end
-  last_stop old sa sb a total stops.NoMemory end said read spent reaches = last_no_memory old sa sb a total end (said refl)
-  last_stop old sa sb a total stops.ReadFault end said read spent reaches = silent old sa sb a total end ends.ReadFault (read refl) (refl, refl) (All-nil IsNoFault) (All-nil IsNoLack)
-  last_stop old sa sb a total stops.Spent end said read spent reaches = silent old sa sb a total end ends.Spent (spent refl) (refl, reaches refl, refl) (All-nil IsNoFault) (All-nil IsNoLack)
+      → (stop ≡ stops.ReadFault → (end ≡ ends.ReadFault) × (sb ≡ sa)) → (stop ≡ stops.Spent → (end ≡ ends.Spent) × (sb ≡ sa)) → (stop ≡ stops.Spent → IsSpent total a)
+      → Closed moves old old sa sb m m a total end
+  some_stop old sa sb m a total stops.NoMemory end said read spent unsettled = last_words old sa sb m a total end (said refl)
+  some_stop old sa sb m a total stops.ReadFault end said read spent unsettled = silent old sa sb m a total end ends.ReadFault (read refl) (refl, refl, refl) (All-nil IsNoLack)
+  some_stop old sa sb m a total stops.Spent end said read spent unsettled = silent old sa sb m a total end ends.Spent (spent refl) (refl, refl, unsettled refl, refl) (All-nil IsNoLack)
+
+  pub last_stop : (old : T) (sa sb ma mb a : Option (List ℕ)) (total : Option ℕ) (stop : Stop) (end : SessionEnd) → mb ≡ ma
+      → (stop ≡ stops.NoMemory → ((end ≡ ends.NoMemory) × Appends sa sb no_memory_text) ⊎ ((end ≡ ends.WriteFault) × ((n : ℕ) × Appends sa sb (take n no_memory_text))))
+      → (stop ≡ stops.ReadFault → (end ≡ ends.ReadFault) × (sb ≡ sa)) → (stop ≡ stops.Spent → (end ≡ ends.Spent) × (sb ≡ sa)) → (stop ≡ stops.Spent → IsSpent total a)
+      → Closed moves old old sa sb ma mb a total end
+  last_stop old sa sb ma mb a total stop end same said read spent unsettled =
+      subst (λ (m : Option (List ℕ)). Closed moves old old sa sb ma m a total end) (sym same) (some_stop old sa sb ma a total stop end said read spent unsettled)
 
   -- a session that had no memory to begin with
-  pub session_lacks : (old : T) (sa sb left : Option (List ℕ)) (end : SessionEnd)
-      → ((end ≡ ends.NoMemory) × Appends sa sb no_memory_text) ⊎ ((end ≡ ends.WriteFault) × ((n : ℕ) × Appends sa sb (take n no_memory_text))) → Session moves old old sa sb left end
-  session_lacks old sa sb left end said = whole_session old old sa sb left end (last_no_memory old sa sb left (option_map length left) end said)
+  pub session_lacks : (old : T) (sa sb ma mb left : Option (List ℕ)) (end : SessionEnd) → mb ≡ ma
+      → ((end ≡ ends.NoMemory) × Appends sa sb no_memory_text) ⊎ ((end ≡ ends.WriteFault) × ((n : ℕ) × Appends sa sb (take n no_memory_text))) → Session moves old old sa sb ma mb left end
+  session_lacks old sa sb ma mb left end same said =
+      subst (λ (m : Option (List ℕ)). Session moves old old sa sb ma m left end) (sym same) (whole_session old old sa sb ma ma left end (last_words old sa sb ma left (option_map length left) end said))
 
   -- ---- how a message went
 
-  pub went_on : (old new : T) (sa sb a b : Option (List ℕ)) (total : Option ℕ) (result : Result Unit SessionEnd) → Went moves old new sa sb a b total result → OnOk result (Talked moves old new sa sb a b)
-  went_on old new sa sb a b total (Ok x) went = went
-  went_on old new sa sb a b total (Err end) went = tt
+  pub went_on : (old new : T) (sa sb ma mb a b : Option (List ℕ)) (total : Option ℕ) (result : Result Unit SessionEnd) → Went moves old new sa sb ma mb a b total result
+      → OnOk result (Talked moves old new sa sb ma mb a b)
+  went_on old new sa sb ma mb a b total (Ok x) went = went
+  went_on old new sa sb ma mb a b total (Err end) went = tt
 
-  pub went_end : (old new : T) (sa sb a b : Option (List ℕ)) (total : Option ℕ) (result : Result Unit SessionEnd) → Went moves old new sa sb a b total result
-      → IfErr result (λ end. Closed moves old new sa sb a total end)
-  went_end old new sa sb a b total (Ok x) went = tt
-  went_end old new sa sb a b total (Err end) went = went
+  pub went_end : (old new : T) (sa sb ma mb a b : Option (List ℕ)) (total : Option ℕ) (result : Result Unit SessionEnd) → Went moves old new sa sb ma mb a b total result
+      → IfErr result (λ end. Closed moves old new sa sb ma mb a total end)
+  went_end old new sa sb ma mb a b total (Ok x) went = tt
+  went_end old new sa sb ma mb a b total (Err end) went = went
 
 -- a refusal after which the session goes on was an item
 pub item_refused : (a b : Option (List ℕ)) (broken : Refused) (last : Bool) (result : Result Unit SessionEnd) (P : Type 0) → TellsRefused a broken last b → IfServed broken P

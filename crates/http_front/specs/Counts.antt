@@ -1,7 +1,8 @@
 -- How many bytes a source gives in all.
-use Rattle.std.specs.Prelude.{◌≡◌, ℕ, ◌+◌, ◌<◌, ◌≤◌, List, length, Option, Some, None, option_map, ⊤}
+use Rattle.std.specs.Prelude.{◌≡◌, ℕ, ◌+◌, ◌<◌, List, ◌++◌, length, Option, Some, None, option_map, ⊤}
 use Rattle.std.specs.Io.KnownBytes.{Consumes}
 use Rattle.http_wire.specs.Held.{take_limit}
+use Rattle.http_wire.specs.Messages.{IsUnsettled}
 
 -- the source gave so many bytes
 abbrev pub Gave : Option (List ℕ) → Option (List ℕ) → ℕ → Type 0
@@ -16,7 +17,17 @@ abbrev pub IsUnder : Option ℕ → Type 0
 IsUnder None = ⊤
 IsUnder (Some total) = total < take_limit
 
--- it has as many as the limit
-abbrev pub Reaches : Option ℕ → Type 0
-Reaches None = ⊤
-Reaches (Some total) = take_limit ≤ total
+-- As many bytes as the limit were taken of a source of so many, and rest is left of the stream behind the messages: its front
+-- is what was taken of it, and settles nothing.
+pub record Spends (total : ℕ) (rest : List ℕ) : Type 0 where
+  pub front : List ℕ
+  pub more : List ℕ
+  pub are : rest ≡ front ++ more
+  pub limit : total ≡ take_limit + length more
+  pub unsettled : IsUnsettled front
+
+-- the same where they are told
+abbrev pub IsSpent : Option ℕ → Option (List ℕ) → Type 0
+IsSpent None rest = ⊤
+IsSpent (Some total) None = ⊥
+IsSpent (Some total) (Some rest) = Spends total rest

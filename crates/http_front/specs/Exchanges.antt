@@ -1,6 +1,8 @@
 -- The messages of a session, each with what came of it, and where they stand in the stream.
-use Rattle.std.specs.Prelude.{◌≡◌, ℕ, Bool, false, List, [], ◌∷◌, Option, Some, None, ⊤}
-use Rattle.desk_core.specs.Answers.{Call}
+use Rattle.std.specs.Prelude.{◌≡◌, ℕ, Bool, false, List, [], ◌∷◌, Option, Some, None, Result, Ok, Err, ⊤}
+use Rattle.std.specs.List.{flat_map}
+use Rattle.desk_core.specs.Answers.{Answer, Call}
+use Rattle.desk_core.specs.declared.fault.DeskFault.{DeskFault}
 use Rattle.http_asks.specs.Meaning.{Refused, Meant, asks, refuses}
 use Rattle.http_asks.specs.Streams.{IsItem}
 
@@ -19,6 +21,19 @@ abbrev pub calls_of : List Exchange → List Call
 calls_of [] = []
 calls_of (answered call ∷ more) = call ∷ calls_of more
 calls_of (refused broken ∷ more) = calls_of more
+
+-- the disk's moment of an answer; a call without an answer of the office, and a refusal, have none
+abbrev pub moment_of : Result Answer DeskFault → List ℕ
+moment_of (Ok answer) = answer.disk_moment ∷ []
+moment_of (Err fault) = []
+
+abbrev pub exchange_moment : Exchange → List ℕ
+exchange_moment (answered call) = moment_of call.said
+exchange_moment (refused broken) = []
+
+-- the disk's moments of the answers among them, in order
+abbrev pub moments_of : List Exchange → List ℕ
+moments_of exchanges = flat_map exchange_moment exchanges
 
 -- From the stream on these messages stand one after another, and rest is left. Only the last one may be the last of its
 -- session, which is then closed.

@@ -8,33 +8,11 @@ use Rattle.desk_core.specs.declared.fault.DeskFault.TheVariants.{NoMemory}
 use Rattle.http_asks.specs.Streams.{StandsUnbuilt}
 use Rattle.http_front.specs.declared.answering.SessionEnd.{SessionEnd}
 use Rattle.http_front.specs.declared.answering.SessionEnd.TheVariants as ends
-use Rattle.http_front.specs.Counts.{IsUnder, Reaches}
-use Rattle.http_front.specs.Exchanges.{Exchange, answered, calls_of, Hears}
-use Rattle.http_front.specs.Telling.{IsStoreFault}
+use Rattle.http_front.specs.Counts.{IsUnder, IsSpent}
+use Rattle.http_front.specs.Exchanges.{Exchange, answered, calls_of, moments_of, Hears}
 use Rattle.http_front.specs.Texts.{exchange_text, texts, not_built_text, no_memory_text}
 
 -- ---- what the calls were told
-
--- no call was told a fault of the store
-abbrev pub NoneFaults : List Call → Type 0
-NoneFaults calls = All (λ (c : Call). IsStoreFault c.said → ⊥) calls
-
--- the last exchange is the one call that was told one
-pub record LastFaults (exchanges : List Exchange) : Type 0 where
-  pub most : List Exchange
-  pub last : Call
-  pub are : exchanges ≡ most ++ answered last ∷ []
-  pub before : NoneFaults (calls_of most)
-  pub is : IsStoreFault last.said
-
--- a fault of the store ends the session
-abbrev pub FaultsBy : SessionEnd → List Exchange → Type 0
-FaultsBy ends.StoreFault exchanges = LastFaults exchanges
-FaultsBy ends.Ended exchanges = NoneFaults (calls_of exchanges)
-FaultsBy ends.ReadFault exchanges = NoneFaults (calls_of exchanges)
-FaultsBy ends.WriteFault exchanges = NoneFaults (calls_of exchanges)
-FaultsBy ends.Spent exchanges = NoneFaults (calls_of exchanges)
-FaultsBy ends.NoMemory exchanges = NoneFaults (calls_of exchanges)
 
 -- no call was told that memory ran out
 abbrev pub NoneLacks : List Call → Type 0
@@ -54,36 +32,37 @@ LacksBy ends.NoMemory exchanges = NoneLacks (calls_of exchanges) ⊎ LastLacks e
 LacksBy ends.WriteFault exchanges = NoneLacks (calls_of exchanges) ⊎ LastLacks exchanges
 LacksBy ends.Ended exchanges = NoneLacks (calls_of exchanges)
 LacksBy ends.ReadFault exchanges = NoneLacks (calls_of exchanges)
-LacksBy ends.StoreFault exchanges = NoneLacks (calls_of exchanges)
 LacksBy ends.Spent exchanges = NoneLacks (calls_of exchanges)
 
 -- ---- what was said
 
--- the text of the last exchange is missing its rest
-pub record IsCut (exchanges : List Exchange) (written : List ℕ) : Type 0 where
-  pub most : List Exchange
+-- these were said whole, and the text of the last exchange is missing its rest
+pub record IsCut (exchanges whole : List Exchange) (written : List ℕ) : Type 0 where
   pub last : Exchange
   pub n : ℕ
-  pub are : exchanges ≡ most ++ last ∷ []
-  pub is : written ≡ texts most ++ take n (exchange_text last)
+  pub are : exchanges ≡ whole ++ last ∷ []
+  pub is : written ≡ texts whole ++ take n (exchange_text last)
 
--- What was said at the end of a session, where rest is left of the stream and the source has so many bytes in all. Where it
--- is closed, nothing is heard or said behind its last exchange.
-abbrev pub IsWritten : Option ℕ → SessionEnd → List Exchange → Option (List ℕ) → Bool → List ℕ → Type 0
-IsWritten total ends.Ended exchanges rest closed written =
+-- What was said at the end of a session, where rest is left of the stream and the source has so many bytes in all: all
+-- exchanges are said whole, but a last one that is cut. Where it is closed, nothing is heard or said behind its last exchange.
+abbrev pub IsWritten : Option ℕ → SessionEnd → List Exchange → List Exchange → Option (List ℕ) → Bool → List ℕ → Type 0
+IsWritten total ends.Ended exchanges whole rest closed written =
+    (whole ≡ exchanges) × (
     ((closed ≡ true) × (written ≡ texts exchanges))
     ⊎ ((closed ≡ false) × ((IsAtEnd rest × IsUnder total × (written ≡ texts exchanges)) ⊎ (StandsUnbuilt rest × (written ≡ texts exchanges ++ not_built_text))))
-IsWritten total ends.ReadFault exchanges rest closed written = (closed ≡ false) × (written ≡ texts exchanges)
-IsWritten total ends.StoreFault exchanges rest closed written = written ≡ texts exchanges
-IsWritten total ends.Spent exchanges rest closed written = (closed ≡ false) × Reaches total × (written ≡ texts exchanges)
-IsWritten total ends.WriteFault exchanges rest closed written =
-    IsCut exchanges written
-    ⊎ ((closed ≡ false) × (
+    )
+IsWritten total ends.ReadFault exchanges whole rest closed written = (whole ≡ exchanges) × (closed ≡ false) × (written ≡ texts exchanges)
+IsWritten total ends.Spent exchanges whole rest closed written = (whole ≡ exchanges) × (closed ≡ false) × IsSpent total rest × (written ≡ texts exchanges)
+IsWritten total ends.WriteFault exchanges whole rest closed written =
+    IsCut exchanges whole written
+    ⊎ ((whole ≡ exchanges) × (closed ≡ false) × (
     ((n : ℕ) × StandsUnbuilt rest × (written ≡ texts exchanges ++ take n not_built_text)) ⊎ ((n : ℕ) × (written ≡ texts exchanges ++ take n no_memory_text))
     ))
-IsWritten total ends.NoMemory exchanges rest closed written =
+IsWritten total ends.NoMemory exchanges whole rest closed written =
+    (whole ≡ exchanges) × (
     (LastLacks exchanges × (written ≡ texts exchanges))
     ⊎ ((closed ≡ false) × NoneLacks (calls_of exchanges) × (written ≡ texts exchanges ++ no_memory_text))
+    )
 
 -- ---- a session
 
@@ -94,15 +73,16 @@ module _ {T : Type 0} (moves : T → Ask → Result Answer DeskFault → T → T
   Moves old (call ∷ calls) new = (mid : T) × moves old call.ask call.said mid × Moves mid calls new
 
   -- A session over this stream: the messages that it heard, each with what the teller answered or as a refusal, whether
-  -- the last one closed it, and what was said.
-  pub record Session (old new : T) (said_old said_new stream : Option (List ℕ)) (end : SessionEnd) : Type 0 where
+  -- the last one closed it, and what was said, with the disk's moments of the answers that were said whole.
+  pub record Session (old new : T) (said_old said_new moments_old moments_new stream : Option (List ℕ)) (end : SessionEnd) : Type 0 where
     pub exchanges : List Exchange
     pub moved : Moves old (calls_of exchanges) new
     pub rest : Option (List ℕ)
     pub closed : Bool
     pub heard : Hears stream exchanges rest closed
+    pub whole : List Exchange
     pub written : List ℕ
     pub said : Appends said_old said_new written
-    pub is_written : IsWritten (option_map length stream) end exchanges rest closed written
-    pub faulted : FaultsBy end exchanges
+    pub stamped : Appends moments_old moments_new (moments_of whole)
+    pub is_written : IsWritten (option_map length stream) end exchanges whole rest closed written
     pub lacked : LacksBy end exchanges

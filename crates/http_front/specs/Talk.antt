@@ -8,65 +8,65 @@ use Rattle.desk_core.specs.declared.fault.DeskFault.TheVariants as faults
 use Rattle.http_asks.specs.Meaning.{Refused}
 use Rattle.http_front.specs.declared.answering.SessionEnd.{SessionEnd}
 use Rattle.http_front.specs.declared.answering.SessionEnd.TheVariants as ends
-use Rattle.http_front.specs.Exchanges.{Exchange, calls_of, Hears}
-use Rattle.http_front.specs.Session.{IsWritten, NoneFaults, FaultsBy, NoneLacks, LacksBy, Moves}
-use Rattle.http_front.specs.Telling.{IsStoreFault}
+use Rattle.http_front.specs.Exchanges.{Exchange, calls_of, moment_of, moments_of, Hears}
+use Rattle.http_front.specs.Session.{IsWritten, NoneLacks, LacksBy, Moves}
 use Rattle.http_front.specs.Texts.{text_of, bad_text, no_memory_text, texts}
-
--- what was said of an answer, and how the session goes on: it ends where memory ran out or the store failed
-abbrev pub IsSaid : Option (List ℕ) → Option (List ℕ) → Result Answer DeskFault → Result Unit SessionEnd → Type 0
-IsSaid said_old said_new said (Ok x) = Appends said_old said_new (text_of said) × (IsStoreFault said → ⊥) × (said ≡ Err faults.NoMemory → ⊥)
-IsSaid said_old said_new said (Err ends.WriteFault) = ((n : ℕ) × Appends said_old said_new (take n (text_of said))) × (IsStoreFault said → ⊥)
-IsSaid said_old said_new said (Err ends.NoMemory) = Appends said_old said_new (text_of said) × (said ≡ Err faults.NoMemory)
-IsSaid said_old said_new said (Err ends.StoreFault) = Appends said_old said_new (text_of said) × IsStoreFault said
-IsSaid said_old said_new said (Err ends.Ended) = ⊥
-IsSaid said_old said_new said (Err ends.ReadFault) = ⊥
-IsSaid said_old said_new said (Err ends.Spent) = ⊥
 
 -- a front of the text was said
 abbrev pub IsPart : Option (List ℕ) → Option (List ℕ) → List ℕ → Type 0
 IsPart said_old said_new text = (n : ℕ) × Appends said_old said_new (take n text)
+
+-- what was said of an answer, with its moment, and how the session goes on: it ends where memory ran out
+abbrev pub IsSaid : Option (List ℕ) → Option (List ℕ) → Option (List ℕ) → Option (List ℕ) → Result Answer DeskFault → Result Unit SessionEnd → Type 0
+IsSaid said_old said_new moments_old moments_new told (Ok x) =
+    Appends said_old said_new (text_of told) × Appends moments_old moments_new (moment_of told) × (told ≡ Err faults.NoMemory → ⊥)
+IsSaid said_old said_new moments_old moments_new told (Err ends.WriteFault) = IsPart said_old said_new (text_of told) × (moments_new ≡ moments_old)
+IsSaid said_old said_new moments_old moments_new told (Err ends.NoMemory) =
+    Appends said_old said_new (text_of told) × (moments_new ≡ moments_old) × (told ≡ Err faults.NoMemory)
+IsSaid said_old said_new moments_old moments_new told (Err ends.Ended) = ⊥
+IsSaid said_old said_new moments_old moments_new told (Err ends.ReadFault) = ⊥
+IsSaid said_old said_new moments_old moments_new told (Err ends.Spent) = ⊥
 
 -- what was said of a refusal, and how the session goes on: it ends where there was no memory for the text, and this is said
 abbrev pub IsRefusedBy : Option (List ℕ) → Option (List ℕ) → Refused → Result Unit SessionEnd → Type 0
 IsRefusedBy said_old said_new broken (Ok x) = Appends said_old said_new (bad_text broken)
 IsRefusedBy said_old said_new broken (Err ends.WriteFault) = IsPart said_old said_new (bad_text broken) ⊎ IsPart said_old said_new no_memory_text
 IsRefusedBy said_old said_new broken (Err ends.NoMemory) = Appends said_old said_new no_memory_text
-IsRefusedBy said_old said_new broken (Err ends.StoreFault) = ⊥
 IsRefusedBy said_old said_new broken (Err ends.Ended) = ⊥
 IsRefusedBy said_old said_new broken (Err ends.ReadFault) = ⊥
 IsRefusedBy said_old said_new broken (Err ends.Spent) = ⊥
 
 module _ {T : Type 0} (moves : T → Ask → Result Answer DeskFault → T → Type 0) where
   -- One ask was answered.
-  pub record Answers (old new : T) (said_old said_new : Option (List ℕ)) (ask : Ask) (result : Result Unit SessionEnd) : Type 0 where
+  pub record Answers (old new : T) (said_old said_new moments_old moments_new : Option (List ℕ)) (ask : Ask) (result : Result Unit SessionEnd) : Type 0 where
     pub told : Result Answer DeskFault
     pub moved : moves old ask told new
-    pub said : IsSaid said_old said_new told result
+    pub said : IsSaid said_old said_new moments_old moments_new told result
 
   -- Messages that were answered, one after another, of which none is the last of the session.
-  pub record Talked (old new : T) (said_old said_new stream rest : Option (List ℕ)) : Type 0 where
+  pub record Talked (old new : T) (said_old said_new moments_old moments_new stream rest : Option (List ℕ)) : Type 0 where
     pub exchanges : List Exchange
     pub moved : Moves moves old (calls_of exchanges) new
     pub heard : Hears stream exchanges rest false
     pub said : Appends said_old said_new (texts exchanges)
-    pub none : NoneFaults (calls_of exchanges)
+    pub stamped : Appends moments_old moments_new (moments_of exchanges)
     pub enough : NoneLacks (calls_of exchanges)
 
   -- The same up to the end of the session, whose source has so many bytes in all.
-  pub record Closed (old new : T) (said_old said_new stream : Option (List ℕ)) (total : Option ℕ) (end : SessionEnd) : Type 0 where
+  pub record Closed (old new : T) (said_old said_new moments_old moments_new stream : Option (List ℕ)) (total : Option ℕ) (end : SessionEnd) : Type 0 where
     pub exchanges : List Exchange
     pub moved : Moves moves old (calls_of exchanges) new
     pub rest : Option (List ℕ)
     pub closed : Bool
     pub heard : Hears stream exchanges rest closed
+    pub whole : List Exchange
     pub written : List ℕ
     pub said : Appends said_old said_new written
-    pub is_written : IsWritten total end exchanges rest closed written
-    pub faulted : FaultsBy end exchanges
+    pub stamped : Appends moments_old moments_new (moments_of whole)
+    pub is_written : IsWritten total end exchanges whole rest closed written
     pub lacked : LacksBy end exchanges
 
   -- how a message went: the session goes on, or it ends
-  abbrev pub Went : T → T → Option (List ℕ) → Option (List ℕ) → Option (List ℕ) → Option (List ℕ) → Option ℕ → Result Unit SessionEnd → Type 0
-  Went old new said_old said_new stream rest total (Ok x) = Talked old new said_old said_new stream rest
-  Went old new said_old said_new stream rest total (Err end) = Closed old new said_old said_new stream total end
+  abbrev pub Went : T → T → Option (List ℕ) → Option (List ℕ) → Option (List ℕ) → Option (List ℕ) → Option (List ℕ) → Option (List ℕ) → Option ℕ → Result Unit SessionEnd → Type 0
+  Went old new said_old said_new moments_old moments_new stream rest total (Ok x) = Talked old new said_old said_new moments_old moments_new stream rest
+  Went old new said_old said_new moments_old moments_new stream rest total (Err end) = Closed old new said_old said_new moments_old moments_new stream total end

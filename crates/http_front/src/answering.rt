@@ -9,15 +9,16 @@ ghost use Rattle.http_asks.specs.Faults.{refused_of};
 ghost use Rattle.http_asks.specs.Tells.{Tells, OnItem};
 ghost use Rattle.http_front.specs.Counts.{IsUnder, total_of};
 ghost use Rattle.http_front.specs.Talk.{IsSaid, IsRefusedBy, Answers, Talked, Closed, Went};
-ghost use Rattle.http_front.specs.Texts.{text_of, no_memory_text};
+ghost use Rattle.http_front.specs.Texts.{bad_text_of, no_memory_text};
 
+use crate::bad::Bad;
 use crate::printing::{print_fault, print_reply};
 use crate::refusing::print_bad;
 use crate::replies::Replies;
 use crate::teller::Teller;
-use crate::texts::{no_memory, not_built};
+use crate::texts::no_memory;
 use desk_core::{Acked, DeskFault};
-use http_asks::{Bad, Heard, Reader, Stop};
+use http_asks::{Heard, Reader, Stop};
 use http_wire::Source;
 use plain_office::Ask;
 use std::alloc::Global;
@@ -31,68 +32,87 @@ pub enum SessionEnd {
     ReadFault,
     /// A text was not said, or said in part.
     WriteFault,
-    /// A disk call of the last ask failed. Nothing was said of it.
-    StoreFault,
     /// 2^40 bytes were taken, and a further read is needed.
     Spent,
     /// Memory ran out, and this was said.
     NoMemory,
 }
 
-fn say<W: Replies>(out: &mut W, bytes: &[u8]) -> Result<(), SessionEnd>
+// Says the reply to a message that has no answer of the office.
+fn say<W: Replies>(out: &mut W, bad: &Bad, bytes: &[u8]) -> Result<(), SessionEnd>
+    requires { bytes.now ≡ bad_text_of bad.now }
     ensures ok { OnOk result (Appends (W.said out.old) (W.said out.new) bytes.now) }
     ensures err { IfErr result (λ e. (e ≡ SessionEnd.WriteFault) × ((n : ℕ) × Appends (W.said out.old) (W.said out.new) (take n bytes.now))) }
+    ensures moments { W.moments out.new ≡ W.moments out.old }
+    ensures texts { W.texts out.new ≡ W.texts out.old }
     ensures noted { W.noted out.new ≡ W.noted out.old }
     ensures cause { HasCause (W.faults out.old) (W.faults out.new) result }
 {
-    match out.text(bytes) {
+    match out.say_bad(bad, bytes) {
         Ok(()) => Ok(()),
         Err(_) => Err(SessionEnd::WriteFault),
     }
 }
 
-// Says the last text of a session.
-pub(crate) fn say_last<W: Replies>(out: &mut W, bytes: &[u8], end: SessionEnd) -> SessionEnd
-    ensures said { ((result ≡ end) × Appends (W.said out.old) (W.said out.new) bytes.now)
-        ⊎ ((result ≡ SessionEnd.WriteFault) × ((n : ℕ) × Appends (W.said out.old) (W.said out.new) (take n bytes.now))) }
+// Says that memory ran out, as the last text of a session.
+pub(crate) fn say_no_memory<W: Replies>(out: &mut W) -> SessionEnd
+    ensures said { ((result ≡ SessionEnd.NoMemory) × Appends (W.said out.old) (W.said out.new) no_memory_text)
+        ⊎ ((result ≡ SessionEnd.WriteFault) × ((n : ℕ) × Appends (W.said out.old) (W.said out.new) (take n no_memory_text))) }
+    ensures moments { W.moments out.new ≡ W.moments out.old }
+    ensures texts { W.texts out.new ≡ W.texts out.old }
     ensures noted { W.noted out.new ≡ W.noted out.old }
     ensures later { W.faults out.old ≤ W.faults out.new }
-    ensures fault { result ≡ SessionEnd.WriteFault → (end ≡ SessionEnd.WriteFault) ⊎ Rose (W.faults out.old) (W.faults out.new) }
+    ensures fault { result ≡ SessionEnd.WriteFault → Rose (W.faults out.old) (W.faults out.new) }
 {
-    match out.text(bytes) {
-        Ok(()) => end,
+    match out.say_bad(&Bad::Desk(DeskFault::NoMemory), no_memory()) {
+        Ok(()) => SessionEnd::NoMemory,
         Err(_) => SessionEnd::WriteFault,
     }
 }
 
 fn say_reply<W: Replies>(out: &mut W, room: &mut [u8], acked: &Acked) -> Result<(), SessionEnd>
     requires room { 16384 ≤ length room.old }
-    ensures said { IsSaid (W.said out.old) (W.said out.new) (Ok acked.now) result }
+    ensures said { IsSaid (W.said out.old) (W.said out.new) (W.moments out.old) (W.moments out.new) (Ok acked.now) result }
     ensures room { 16384 ≤ length room.new }
+    ensures texts { W.texts out.new ≡ W.texts out.old }
     ensures noted { W.noted out.new ≡ W.noted out.old }
     ensures cause { HasCause (W.faults out.old) (W.faults out.new) result }
 {
     match print_reply(room, acked) {
-        Ok(size) => say(out, &room[..size]),
+        Ok(size) => match out.say(acked, &room[..size]) {
+            Ok(()) => Ok(()),
+            Err(_) => Err(SessionEnd::WriteFault),
+        },
         Err(_) => Err(SessionEnd::WriteFault),
     }
 }
 
 fn say_fault<W: Replies>(out: &mut W, room: &mut [u8], fault: DeskFault) -> Result<(), SessionEnd>
     requires room { 16384 ≤ length room.old }
-    ensures said { IsSaid (W.said out.old) (W.said out.new) (Err fault) result }
+    ensures said { IsSaid (W.said out.old) (W.said out.new) (W.moments out.old) (W.moments out.new) (Err fault) result }
     ensures room { 16384 ≤ length room.new }
+    ensures texts { W.texts out.new ≡ W.texts out.old }
     ensures noted { W.noted out.new ≡ W.noted out.old }
     ensures later { W.faults out.old ≤ W.faults out.new }
     ensures fault { IsErrOf result SessionEnd.WriteFault → Rose (W.faults out.old) (W.faults out.new) }
 {
     match print_fault(room, &fault) {
-        Ok(size) => match fault {
-            DeskFault::StoreFault { .. } => Err(SessionEnd::StoreFault),
-            DeskFault::JournalFull => say(out, &room[..size]),
-            DeskFault::NoMemory => Err(say_last(out, &room[..size], SessionEnd::NoMemory)),
+        Ok(size) => match say(out, &Bad::Desk(fault), &room[..size]) {
+            Ok(()) => go_on_after(fault),
+            Err(end) => Err(end),
         },
         Err(_) => Err(SessionEnd::WriteFault),
+    }
+}
+
+// The session goes on, or ends behind want of memory.
+fn go_on_after(fault: DeskFault) -> Result<(), SessionEnd>
+    ensures goes_on { (fault ≡ DeskFault.NoMemory → ⊥) → IsOk result }
+    ensures ends { fault ≡ DeskFault.NoMemory → result ≡ Err SessionEnd.NoMemory }
+{
+    match fault {
+        DeskFault::StoreFault { .. } | DeskFault::JournalFull | DeskFault::Broken(_) => Ok(()),
+        DeskFault::NoMemory => Err(SessionEnd::NoMemory),
     }
 }
 
@@ -102,11 +122,10 @@ fn answer<W: Replies, T: Teller>(
     room: &mut [u8],
     teller: &mut T,
 ) -> Result<(), SessionEnd>
-    requires ready { T.ready teller.old }
     requires room { 16384 ≤ length room.old }
-    ensures answers { Answers T.moves teller.old teller.new (W.said out.old) (W.said out.new) ask.now result }
-    ensures ready { OnOk result (T.ready teller.new) }
+    ensures answers { Answers T.moves teller.old teller.new (W.said out.old) (W.said out.new) (W.moments out.old) (W.moments out.new) ask.now result }
     ensures room { 16384 ≤ length room.new }
+    ensures texts { W.texts out.new ≡ W.texts out.old }
     ensures noted { W.noted out.new ≡ W.noted out.old }
     ensures later { W.faults out.old ≤ W.faults out.new }
     ensures fault { IsErrOf result SessionEnd.WriteFault → Rose (W.faults out.old) (W.faults out.new) }
@@ -117,29 +136,18 @@ fn answer<W: Replies, T: Teller>(
     }
 }
 
-// Says that memory ran out, as the last text of a session.
-pub(crate) fn say_no_memory<W: Replies>(out: &mut W) -> SessionEnd
-    ensures said { ((result ≡ SessionEnd.NoMemory) × Appends (W.said out.old) (W.said out.new) no_memory_text)
-        ⊎ ((result ≡ SessionEnd.WriteFault) × ((n : ℕ) × Appends (W.said out.old) (W.said out.new) (take n no_memory_text))) }
-    ensures noted { W.noted out.new ≡ W.noted out.old }
-    ensures later { W.faults out.old ≤ W.faults out.new }
-    ensures fault { result ≡ SessionEnd.WriteFault → Rose (W.faults out.old) (W.faults out.new) }
-{
-    say_last(out, no_memory(), SessionEnd::NoMemory)
-}
-
 // Says the text of a refusal.
-fn say_bad<W: Replies>(alloc: Global, out: &mut W, bad: &Bad) -> Result<(), SessionEnd>
-    ensures said { IsRefusedBy (W.said out.old) (W.said out.new) (refused_of bad.now) result }
+fn say_bad<W: Replies>(alloc: Global, out: &mut W, bad: http_asks::Bad) -> Result<(), SessionEnd>
+    ensures said { IsRefusedBy (W.said out.old) (W.said out.new) (refused_of bad) result }
+    ensures moments { W.moments out.new ≡ W.moments out.old }
+    ensures texts { W.texts out.new ≡ W.texts out.old }
     ensures noted { W.noted out.new ≡ W.noted out.old }
     ensures later { W.faults out.old ≤ W.faults out.new }
     ensures fault { IsErrOf result SessionEnd.WriteFault → Rose (W.faults out.old) (W.faults out.new) }
 {
-    if let Bad::NotBuilt = bad {
-        return say(out, not_built());
-    }
-    match print_bad(alloc, bad) {
-        Ok(text) => say(out, &text),
+    let bad = Bad::Message(bad);
+    match print_bad(alloc, &bad) {
+        Ok(text) => say(out, &bad, &text),
         Err(_) => Err(say_no_memory(out)),
     }
 }
@@ -149,6 +157,8 @@ fn say_stop<W: Replies>(out: &mut W, stop: Stop) -> SessionEnd
         ⊎ ((result ≡ SessionEnd.WriteFault) × ((n : ℕ) × Appends (W.said out.old) (W.said out.new) (take n no_memory_text))) }
     ensures read_fault { (stop ≡ Stop.ReadFault) → (result ≡ SessionEnd.ReadFault) × (W.said out.new ≡ W.said out.old) }
     ensures spent { (stop ≡ Stop.Spent) → (result ≡ SessionEnd.Spent) × (W.said out.new ≡ W.said out.old) }
+    ensures moments { W.moments out.new ≡ W.moments out.old }
+    ensures texts { W.texts out.new ≡ W.texts out.old }
     ensures noted { W.noted out.new ≡ W.noted out.old }
     ensures later { W.faults out.old ≤ W.faults out.new }
     ensures fault { result ≡ SessionEnd.WriteFault → Rose (W.faults out.old) (W.faults out.new) }
@@ -177,13 +187,12 @@ fn answer_heard<W: Replies, T: Teller>(
     room: &mut [u8],
     teller: &mut T,
 ) -> Result<(), SessionEnd>
-    requires ready { T.ready teller.old }
     requires room { 16384 ≤ length room.old }
     ensures went { (stream rest : Option (List ℕ)) (total : Option ℕ) → Tells stream heard rest → (heard ≡ Heard.End → IsUnder total)
-        → Went T.moves teller.old teller.new (W.said out.old) (W.said out.new) stream rest total result }
+        → Went T.moves teller.old teller.new (W.said out.old) (W.said out.new) (W.moments out.old) (W.moments out.new) stream rest total result }
     ensures item { (stream rest : Option (List ℕ)) (few many : ℕ) → Tells stream heard rest → OnItem {E = Stop} (Ok heard) (few < many) → OnOk result (few < many) }
-    ensures ready { OnOk result (T.ready teller.new) }
     ensures room { 16384 ≤ length room.new }
+    ensures texts { W.texts out.new ≡ W.texts out.old }
     ensures noted { W.noted out.new ≡ W.noted out.old }
     ensures later { W.faults out.old ≤ W.faults out.new }
     ensures fault { IsErrOf result SessionEnd.WriteFault → Rose (W.faults out.old) (W.faults out.new) }
@@ -196,7 +205,7 @@ fn answer_heard<W: Replies, T: Teller>(
             go_on_unless(last)
         }
         Heard::Bad { bad, last } => {
-            say_bad(alloc, out, &bad)?;
+            say_bad(alloc, out, bad)?;
             go_on_unless(last)
         }
         Heard::End => Err(SessionEnd::Ended),
@@ -212,17 +221,16 @@ pub(crate) fn answer_one<R: Source, W: Replies, T: Teller>(
     room: &mut [u8],
     teller: &mut T,
 ) -> Result<(), SessionEnd>
-    requires ready { T.ready teller.old }
     requires room { 16384 ≤ length room.old }
-    ensures goes_on { OnOk result (Talked T.moves teller.old teller.new (W.said out.old) (W.said out.new)
+    ensures goes_on { OnOk result (Talked T.moves teller.old teller.new (W.said out.old) (W.said out.new) (W.moments out.old) (W.moments out.new)
         (prepend_known reader.old.bytes (R.left source.old)) (prepend_known reader.new.bytes (R.left source.new))) }
-    ensures closed { IfErr result (λ end. Closed T.moves teller.old teller.new (W.said out.old) (W.said out.new)
+    ensures closed { IfErr result (λ end. Closed T.moves teller.old teller.new (W.said out.old) (W.said out.new) (W.moments out.old) (W.moments out.new)
         (prepend_known reader.old.bytes (R.left source.old)) (total_of reader.old.taken (R.left source.old)) end) }
-    ensures ready { OnOk result (T.ready teller.new) }
     ensures room { 16384 ≤ length room.new }
     ensures given { Given reader.old.taken reader.new.taken (R.left source.old) (R.left source.new) }
     ensures limit { reader.new.taken ≤ take_limit }
     ensures uses { OnOk result (reader.old.taken + length reader.new.bytes < reader.new.taken + length reader.old.bytes) }
+    ensures texts { W.texts out.new ≡ W.texts out.old }
     ensures noted { W.noted out.new ≡ W.noted out.old }
     ensures read_later { R.faults source.old ≤ R.faults source.new }
     ensures write_later { W.faults out.old ≤ W.faults out.new }

@@ -2,6 +2,7 @@
 #![tactic(auto)]
 
 mod answering;
+mod bad;
 mod desk_teller;
 mod memory_replies;
 mod printing;
@@ -14,9 +15,11 @@ mod tests;
 mod texts;
 
 pub use answering::SessionEnd;
-pub use http_asks::{Bad, Heard, Reader, Stop};
+pub use bad::Bad;
+pub use http_asks::{Heard, Reader, Stop};
+pub use http_wire::{MemorySource, ReaderSource, Source};
 pub use memory_replies::MemoryReplies;
-pub use printing::{NoRoom, print_fault, print_reply};
+pub use printing::{NoRoom, print_fault, print_query, print_reply};
 pub use refusing::print_bad;
 pub use replies::{Replies, WriterReplies};
 pub use talking::session;

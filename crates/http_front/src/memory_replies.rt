@@ -1,13 +1,19 @@
 // Replies in memory.
-ghost use Rattle.std.specs.Prelude.{◌≡◌, [], Some};
+ghost use Rattle.std.specs.Prelude.{◌≡◌, ◌≤◌, [], Some, map};
+ghost use Rattle.office_base.specs.Faults.{Rose};
 
+use crate::bad::Bad;
 use crate::replies::Replies;
+use desk_core::Acked;
 use office_base::Failed;
 use std::alloc::Global;
+use std::snapshot::Snapshot;
 
-/// Texts and notes in memory, with failures at chosen texts.
+/// Replies, other texts and notes in memory, with failures at chosen calls.
 #[derive(Drop)]
 pub struct MemoryReplies {
+    replies: Vec<u8>,
+    answers: Vec<Snapshot<Acked>>,
     texts: Vec<u8>,
     notes: Vec<u8>,
     failing: Vec<u64>,
@@ -16,14 +22,18 @@ pub struct MemoryReplies {
 }
 
 impl MemoryReplies {
-    /// Makes replies in which nothing was said. The texts whose numbers are in `failing`, counted from 1, fail, and
-    /// nothing of them is kept; so does a text for which memory runs out.
+    /// Makes replies in which nothing was said. The calls of `say`, `say_bad` and `text` whose numbers are in `failing`,
+    /// counted together from 1, fail, and nothing of them is kept; so does a call for which memory runs out.
     pub fn new(alloc: Global, failing: Vec<u64>) -> Self
         ensures said { ⟦<MemoryReplies as Replies>⟧.said result ≡ Some [] }
+        ensures moments { ⟦<MemoryReplies as Replies>⟧.moments result ≡ Some [] }
+        ensures texts { ⟦<MemoryReplies as Replies>⟧.texts result ≡ Some [] }
         ensures noted { ⟦<MemoryReplies as Replies>⟧.noted result ≡ Some [] }
         ensures faults { ⟦<MemoryReplies as Replies>⟧.faults result ≡ 0 }
     {
         MemoryReplies {
+            replies: Vec::new(alloc),
+            answers: Vec::new(alloc),
             texts: Vec::new(alloc),
             notes: Vec::new(alloc),
             failing,
@@ -32,9 +42,16 @@ impl MemoryReplies {
         }
     }
 
-    /// Reads all bytes that were said.
-    pub fn texts(&self) -> &[u8]
+    /// Reads the bytes of all replies.
+    pub fn said(&self) -> &[u8]
         ensures { Some result.now ≡ ⟦<MemoryReplies as Replies>⟧.said self.now }
+    {
+        &self.replies
+    }
+
+    /// Reads the bytes of all other texts.
+    pub fn texts(&self) -> &[u8]
+        ensures { Some result.now ≡ ⟦<MemoryReplies as Replies>⟧.texts self.now }
     {
         &self.texts
     }
@@ -45,27 +62,67 @@ impl MemoryReplies {
     {
         &self.notes
     }
+
+    // Whether this call is to fail.
+    fn fails(&mut self) -> bool
+        ensures { self.new ≡ record self.old { calls = self.new.calls } }
+    {
+        self.calls = self.calls.saturating_add(1);
+        self.failing.contains(&self.calls)
+    }
+
+    // Counts a call that fails.
+    fn fail(&mut self) -> Failed
+        ensures same { self.new ≡ record self.old { faults = self.new.faults } }
+        ensures later { self.old.faults ≤ self.new.faults }
+        ensures rose { Rose self.old.faults self.new.faults }
+    {
+        self.faults = self.faults.saturating_add(1);
+        Failed
+    }
 }
 
 impl Replies for MemoryReplies {
-    ghost said = { λ r. Some r.texts.items };
+    ghost said = { λ r. Some r.replies.items };
+
+    ghost moments = { λ r. Some (map (λ answer. answer.value.disk_moment) r.answers.items) };
+
+    ghost texts = { λ r. Some r.texts.items };
 
     ghost noted = { λ r. Some r.notes.items };
 
     ghost faults = { λ r. r.faults };
 
+    fn say(&mut self, acked: &Acked, bytes: &[u8]) -> Result<(), Failed> {
+        if self.fails() || self.answers.reserve(1).is_err() {
+            return Err(self.fail());
+        }
+        match self.replies.extend_from_slice(bytes) {
+            Ok(()) => {
+                self.answers.push_reserved(Snapshot::of(acked));
+                Ok(())
+            }
+            Err(_) => Err(self.fail()),
+        }
+    }
+
+    fn say_bad(&mut self, _bad: &Bad, bytes: &[u8]) -> Result<(), Failed> {
+        if self.fails() {
+            return Err(self.fail());
+        }
+        match self.replies.extend_from_slice(bytes) {
+            Ok(()) => Ok(()),
+            Err(_) => Err(self.fail()),
+        }
+    }
+
     fn text(&mut self, bytes: &[u8]) -> Result<(), Failed> {
-        self.calls = self.calls.saturating_add(1);
-        if self.failing.contains(&self.calls) {
-            self.faults = self.faults.saturating_add(1);
-            return Err(Failed);
+        if self.fails() {
+            return Err(self.fail());
         }
         match self.texts.extend_from_slice(bytes) {
             Ok(()) => Ok(()),
-            Err(_) => {
-                self.faults = self.faults.saturating_add(1);
-                Err(Failed)
-            }
+            Err(_) => Err(self.fail()),
         }
     }
 

@@ -1,27 +1,93 @@
-// Replies, printed without memory.
+// Replies to messages that were asked, printed without memory or into a room of their own.
 ghost use Rattle.std.specs.Prelude.{◌≡◌, ◌<◌, ◌≤◌, ◌^◌, length, take, IfOk, OnOk, OnErr, IsOk};
 ghost use Rattle.http_text.specs.Room.{Puts};
 ghost use Rattle.http_text.specs.Replies.{answer_text};
-ghost use Rattle.http_front.specs.Texts.{fault_text};
+ghost use Rattle.http_front.specs.Texts.{damaged_text, fault_body, fault_status, fault_text, open_body, open_status};
 
-use crate::texts::{full, no_memory};
 use desk_core::{Acked, DeskFault};
-use http_text::{put, put_answer, room_len};
+use http::StatusCode;
+use http_text::{put, put_answer, put_error, put_head, put_number, room_len};
+use meter_journal::OpenFault;
+use office_base::NoMemory;
+use std::alloc::Global;
 
 /// The room is shorter than the text.
 #[derive(Clone, Copy, Debug, PartialEq, Eq)]
 pub struct NoRoom;
 
-#[tactic(auto, using(crate::proofs::PrintLemmas::full_small, crate::proofs::PrintLemmas::no_memory_small))]
+fn open_status(fault: OpenFault) -> StatusCode
+    ensures { result ≡ open_status fault }
+{
+    match fault {
+        OpenFault::StoreFault => StatusCode::SERVICE_UNAVAILABLE,
+        _ => StatusCode::INTERNAL_SERVER_ERROR,
+    }
+}
+
+fn fault_status(fault: &DeskFault) -> StatusCode
+    ensures { result ≡ fault_status fault.now }
+{
+    match fault {
+        DeskFault::StoreFault { .. } => StatusCode::SERVICE_UNAVAILABLE,
+        DeskFault::JournalFull => StatusCode::INSUFFICIENT_STORAGE,
+        DeskFault::Broken(fault) => open_status(*fault),
+        DeskFault::NoMemory => StatusCode::INTERNAL_SERVER_ERROR,
+    }
+}
+
+#[tactic(auto, using(crate::proofs::PrintLemmas::damaged_small))]
+fn put_damaged(room: &mut [u8], at: usize, offset: u64) -> usize
+    ensures puts { Puts room.old at room.new result (damaged_text offset) }
+    ensures small { length (damaged_text offset) ≤ 10_000 }
+{
+    let at = put(room, at, b"{\"error\":\"Damaged\",\"number\":");
+    let at = put_number(room, at, 112);
+    let at = put(room, at, b",\"offset\":");
+    let at = put_number(room, at, offset);
+    put(room, at, b"}")
+}
+
+fn put_open(room: &mut [u8], at: usize, fault: OpenFault) -> usize
+    ensures puts { Puts room.old at room.new result (open_body fault) }
+    ensures small { length (open_body fault) ≤ 10_000 }
+{
+    match fault {
+        OpenFault::NotMade => put_error(room, at, "NotMade", 110),
+        OpenFault::Foreign => put_error(room, at, "Foreign", 111),
+        OpenFault::Damaged { offset } => put_damaged(room, at, offset),
+        OpenFault::StoreFault => put_error(room, at, "StoreFault", 114),
+        OpenFault::NoMemory => put_error(room, at, "NoMemory", 115),
+    }
+}
+
+fn put_fault_body(room: &mut [u8], at: usize, fault: &DeskFault) -> usize
+    ensures puts { Puts room.old at room.new result (fault_body fault.now) }
+    ensures small { length (fault_body fault.now) ≤ 10_000 }
+{
+    match fault {
+        DeskFault::StoreFault { .. } => put_error(room, at, "StoreFault", 114),
+        DeskFault::JournalFull => put_error(room, at, "JournalFull", 113),
+        DeskFault::Broken(fault) => put_open(room, at, *fault),
+        DeskFault::NoMemory => put_error(room, at, "NoMemory", 115),
+    }
+}
+
+// The bytes of the body.
+#[tactic(auto, using(http_text::proofs::Whole::counted))]
+fn body_size(fault: &DeskFault) -> usize
+    ensures same { result ≡ length (fault_body fault.now) }
+    ensures small { length (fault_body fault.now) ≤ 10_000 }
+{
+    put_fault_body(&mut [], 0, fault)
+}
+
+// Writes the reply at the front of a room, as far as the room goes, and answers how many bytes it has.
 fn put_fault(room: &mut [u8], fault: &DeskFault) -> usize
     ensures puts { Puts room.old 0 room.new result (fault_text fault.now) }
     ensures small { length (fault_text fault.now) ≤ 16384 }
 {
-    match fault {
-        DeskFault::StoreFault { .. } => put(room, 0, b""),
-        DeskFault::JournalFull => put(room, 0, full()),
-        DeskFault::NoMemory => put(room, 0, no_memory()),
-    }
+    let at = put_head(room, 0, fault_status(fault), body_size(fault));
+    put_fault_body(room, at, fault)
 }
 
 // Whether a text that ends there fits the room.
@@ -53,8 +119,24 @@ pub fn print_reply(room: &mut [u8], acked: &Acked) -> Result<usize, NoRoom>
     ended(room, end)
 }
 
-/// Prints the reply of a call without an answer of the office to the front of a room, and answers how many bytes it has:
-/// none for a fault of the store. Takes no memory; 16,384 bytes of room are always enough.
+/// Prints the reply of an answer into memory of exactly its size.
+///
+/// # Errors
+///
+/// `NoMemory`: memory ran out.
+pub fn print_query(alloc: Global, acked: &Acked) -> Result<Vec<u8>, NoMemory>
+    ensures text { IfOk result (λ v. v.items ≡ answer_text acked.now.reply) }
+{
+    let size = put_answer(&mut [], acked.reply());
+    let Ok(mut text) = vec![in alloc; 0u8; size] else {
+        return Err(NoMemory);
+    };
+    put_answer(text.as_mut_slice(), acked.reply());
+    Ok(text)
+}
+
+/// Prints the reply of a call without an answer of the office to the front of a room, and answers how many bytes it has.
+/// Takes no memory; 16,384 bytes of room are always enough.
 ///
 /// # Errors
 ///
@@ -67,4 +149,16 @@ pub fn print_fault(room: &mut [u8], fault: &DeskFault) -> Result<usize, NoRoom>
 {
     let end = put_fault(room, fault);
     ended(room, end)
+}
+
+// Prints the same into memory of exactly its size.
+pub(crate) fn print_call(alloc: Global, fault: &DeskFault) -> Result<Vec<u8>, NoMemory>
+    ensures text { IfOk result (λ v. v.items ≡ fault_text fault.now) }
+{
+    let size = put_fault(&mut [], fault);
+    let Ok(mut text) = vec![in alloc; 0u8; size] else {
+        return Err(NoMemory);
+    };
+    put_fault(text.as_mut_slice(), fault);
+    Ok(text)
 }

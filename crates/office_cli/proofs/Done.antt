@@ -12,13 +12,14 @@ not_both true is not = absurd cc
 not_both false is not = absurd cc
 
 module _ (status : ℕ) (store : status ≡ 2 → ⊥) (input : status ≡ 3 → ⊥) (output : status ≡ 4 → ⊥) (journal : status ≡ 5 → ⊥) where
-  end_done : (end : SessionEnd) → status ≡ status_of end → IsDone status
-  end_done ends.Ended is = inl is
-  end_done ends.StoreFault is = absurd (store is)
-  end_done ends.ReadFault is = absurd (input is)
-  end_done ends.WriteFault is = absurd (output is)
-  end_done ends.NoMemory is = inr (inl is)
-  end_done ends.Spent is = inr (inr is)
+  end_done : (end : SessionEnd) (stale : Bool) → status ≡ status_of end stale → IsDone status
+  end_done ends.WriteFault stale is = absurd (output is)
+  end_done ends.ReadFault stale is = absurd (input is)
+  end_done ends.Spent stale is = inr (inr is)
+  end_done ends.NoMemory true is = absurd (store is)
+  end_done ends.NoMemory false is = inr (inl is)
+  end_done ends.Ended true is = absurd (store is)
+  end_done ends.Ended false is = inl is
 
   fault_done : (fault : OpenFault) → status ≡ fault_status fault → IsDone status
   fault_done faults.StoreFault is = absurd (store is)
@@ -28,5 +29,5 @@ module _ (status : ℕ) (store : status ≡ 2 → ⊥) (input : status ≡ 3 →
   fault_done faults.NoMemory is = inr (inl is)
 
   pub run_done : IsRunStatus status → IsDone status
-  run_done (inl end) = end_done end.0 end.1
+  run_done (inl end) = end_done end.0 end.1 end.2
   run_done (inr fault) = fault_done fault.0 fault.1

@@ -1,5 +1,5 @@
 -- The words of the program, its statuses, and the lines that it prints.
-use Rattle.std.specs.Prelude.{◌≡◌, ◌⊎◌, ℕ, List, [], ◌∷◌, ◌++◌, codes, decimal}
+use Rattle.std.specs.Prelude.{◌≡◌, ◌⊎◌, ℕ, Bool, true, false, List, [], ◌∷◌, ◌++◌, codes, decimal}
 use Rattle.meter_journal.specs.declared.fault.OpenFault.{OpenFault}
 use Rattle.meter_journal.specs.declared.fault.OpenFault.TheVariants as faults
 use Rattle.meter_journal.specs.declared.making.Made.{Made}
@@ -19,16 +19,17 @@ run_line = codes "run" ∷ []
 abbrev pub IsLine : List (List ℕ) → Type 0
 IsLine words = (words ≡ init_line) ⊎ (words ≡ run_line)
 
--- ---- statuses
+-- ---- statuses (own)
 
--- of a run whose session ended so
-abbrev pub status_of : SessionEnd → ℕ
-status_of ends.Ended = 0
-status_of ends.StoreFault = 2
-status_of ends.ReadFault = 3
-status_of ends.WriteFault = 4
-status_of ends.NoMemory = 6
-status_of ends.Spent = 9
+-- of a run whose session ended so, with a desk that is stale then or not; where two hold, the first of 4, 3, 9, 2 and 6 (own)
+abbrev pub status_of : SessionEnd → Bool → ℕ
+status_of ends.WriteFault stale = 4
+status_of ends.ReadFault stale = 3
+status_of ends.Spent stale = 9
+status_of ends.NoMemory true = 2
+status_of ends.NoMemory false = 6
+status_of ends.Ended true = 2
+status_of ends.Ended false = 0
 
 -- of a journal that was not opened, or not made
 abbrev pub fault_status : OpenFault → ℕ
@@ -40,7 +41,7 @@ fault_status faults.NoMemory = 6
 
 -- those of a run whose office was opened, and of any run
 abbrev pub IsServeStatus : ℕ → Type 0
-IsServeStatus status = (end : SessionEnd) × (status ≡ status_of end)
+IsServeStatus status = (end : SessionEnd) × (stale : Bool) × (status ≡ status_of end stale)
 
 abbrev pub IsRunStatus : ℕ → Type 0
 IsRunStatus status = IsServeStatus status ⊎ ((fault : OpenFault) × (status ≡ fault_status fault))
@@ -67,14 +68,15 @@ usage_note = line (codes "usage: office init; run; serve --listen A [--workers N
 unfoldable pub clock_note : List ℕ
 clock_note = line (codes "clock: at its end")
 
--- of the end of a session; nothing where it came to its end
-unfoldable pub end_note : SessionEnd → List ℕ
-end_note ends.Ended = []
-end_note ends.StoreFault = line (codes "store: failed")
-end_note ends.ReadFault = line (codes "input: failed")
-end_note ends.WriteFault = line (codes "output: failed")
-end_note ends.NoMemory = line (codes "memory: refused")
-end_note ends.Spent = line (codes "input: too long")
+-- of the end of a session, with a desk that is stale then or not; nothing where all was done
+unfoldable pub end_note : SessionEnd → Bool → List ℕ
+end_note ends.WriteFault stale = line (codes "output: failed")
+end_note ends.ReadFault stale = line (codes "input: failed")
+end_note ends.Spent stale = line (codes "input: too long")
+end_note ends.NoMemory true = line (codes "store: failed")
+end_note ends.NoMemory false = line (codes "memory: refused")
+end_note ends.Ended true = line (codes "store: failed")
+end_note ends.Ended false = []
 
 -- of a journal that was not opened, or not made
 unfoldable pub fault_note : OpenFault → List ℕ

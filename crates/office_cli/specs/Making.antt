@@ -1,5 +1,5 @@
 -- What making a journal does.
-use Rattle.std.specs.Prelude.{◌≡◌, ◌⊎◌, ℕ, Bool, List, [], take, Option, IsTrue}
+use Rattle.std.specs.Prelude.{◌≡◌, ◌⊎◌, ℕ, Bool, false, List, [], take, Option, IsTrue}
 use Rattle.std.specs.Io.KnownBytes.{Appends}
 use Rattle.disk_core.specs.Files.{State, IsImage, synced_file}
 use Rattle.disk_core.specs.Kept.{Narrower}
@@ -7,6 +7,7 @@ use Rattle.disk_core.specs.Moments.{KeepsTo}
 use Rattle.meter_journal.specs.Created.{BeforeOrEmpty}
 use Rattle.meter_journal.specs.Reading.{IsMade, IsNotMade, CreateFails}
 use Rattle.meter_journal.specs.declared.fault.OpenFault.{OpenFault}
+use Rattle.meter_journal.specs.declared.fault.OpenFault.TheVariants as faults
 use Rattle.meter_journal.specs.declared.making.Made.{Made}
 use Rattle.meter_journal.specs.declared.making.Made.TheVariants as mades
 use Rattle.desk_core.specs.Histories.{HasAcceptedHistory}
@@ -19,19 +20,21 @@ abbrev pub IsMadeSo : Made → State → State → Type 0
 IsMadeSo mades.Now old new = IsNotMade old.journal.seen × ((image : List ℕ) → IsImage new.journal image → HasAcceptedHistory [] image)
 IsMadeSo mades.Before old new = IsMade old.journal.seen × (new.journal ≡ synced_file old.journal.seen)
 
-module _ {D W : Type 0} (honest : Bool) (state : D → State) (moment : D → ℕ) (had_since : D → ℕ → State → Type 0) (said noted : W → Option (List ℕ)) (out_faults : W → ℕ) where
-  -- it is there, and this was said
+module _ {D W : Type 0} (honest : Bool) (state : D → State) (moment : D → ℕ) (had_since : D → ℕ → State → Type 0) (texts noted : W → Option (List ℕ)) (out_faults : W → ℕ) where
+  -- it is there, and this was put out
   pub record Makes (status : ℕ) (old new : D) (out_old out_new : W) : Type 0 where
     pub made : Made
     pub is_made : IsTrue honest → IsMadeSo made (state old) (state new)
-    pub told : ((status ≡ 0) × Appends (said out_old) (said out_new) (made_line made) × (noted out_new ≡ noted out_old))
-        ⊎ ((status ≡ 4) × ((n : ℕ) × Appends (said out_old) (said out_new) (take n (made_line made))) × IsNoted (noted out_old) (noted out_new) (out_faults out_old) (out_faults out_new) (end_note WriteFault))
+    pub told : ((status ≡ 0) × Appends (texts out_old) (texts out_new) (made_line made) × (noted out_new ≡ noted out_old))
+        ⊎ ((status ≡ 4) × ((n : ℕ) × Appends (texts out_old) (texts out_new) (take n (made_line made))) × IsNoted (noted out_old) (noted out_new) (out_faults out_old) (out_faults out_new) (end_note WriteFault false))
 
-  -- it was not made, and nothing was said
+  -- it was not made, and nothing was put out
   pub record Fails (status : ℕ) (old new : D) (out_old out_new : W) : Type 0 where
     pub fault : OpenFault
     pub why : IsTrue honest → CreateFails fault (state old).journal.seen
-    pub silent : said out_new ≡ said out_old
+    -- a foreign file reads as before
+    pub kept : IsTrue honest → fault ≡ faults.Foreign → (state new).journal ≡ synced_file (state old).journal.seen
+    pub silent : texts out_new ≡ texts out_old
     pub status_is : status ≡ fault_status fault
     pub note : IsNoted (noted out_old) (noted out_new) (out_faults out_old) (out_faults out_new) (fault_note fault)
 

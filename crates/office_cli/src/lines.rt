@@ -1,5 +1,5 @@
 // The statuses of the program and the lines that it prints.
-ghost use Rattle.std.specs.Prelude.{◌≡◌, ◌+◌, ◌≤◌, ◌++◌, length, take};
+ghost use Rattle.std.specs.Prelude.{false, ◌≡◌, ◌+◌, ◌≤◌, ◌++◌, length, take};
 ghost use Rattle.http_front.specs.declared.answering.SessionEnd.TheVariants.{NoMemory};
 ghost use Rattle.meter_journal.specs.declared.fault.OpenFault.TheVariants.{Damaged};
 ghost use Rattle.office_cli.specs.Lines.{status_of, fault_status, made_line, usage_note, clock_note, end_note, fault_note};
@@ -18,16 +18,19 @@ pub(crate) const OUTPUT: u8 = 4;
 /// The status where the clock is at its end.
 pub(crate) const CLOCK_END: u8 = 8;
 
-pub(crate) fn end_status(end: SessionEnd) -> u8
-    ensures { result ≡ status_of end }
+/// The status where the disk did not do a call.
+pub(crate) const STORE: u8 = 2;
+
+// The status of a run whose session ended so, with a desk that is stale then or not.
+pub(crate) fn end_status(end: SessionEnd, stale: bool) -> u8
+    ensures { result ≡ status_of end stale }
 {
     match end {
-        SessionEnd::Ended => 0,
-        SessionEnd::ReadFault => 3,
         SessionEnd::WriteFault => OUTPUT,
-        SessionEnd::StoreFault => 2,
+        SessionEnd::ReadFault => 3,
         SessionEnd::Spent => 9,
-        SessionEnd::NoMemory => 6,
+        SessionEnd::NoMemory => if stale { STORE } else { 6 },
+        SessionEnd::Ended => if stale { STORE } else { 0 },
     }
 }
 
@@ -38,7 +41,7 @@ pub(crate) fn open_status(fault: OpenFault) -> u8
         OpenFault::NotMade => 5,
         OpenFault::Foreign => 5,
         OpenFault::Damaged { .. } => 5,
-        OpenFault::StoreFault => 2,
+        OpenFault::StoreFault => STORE,
         OpenFault::NoMemory => 6,
     }
 }
@@ -67,22 +70,25 @@ pub(crate) fn clock_line() -> &'static [u8]
 }
 
 #[tactic(auto, unfolding(crate::specs::Lines::end_note))]
-pub(crate) fn end_line(end: SessionEnd) -> &'static [u8]
-    ensures { result.now ≡ end_note end }
+pub(crate) fn end_line(end: SessionEnd, stale: bool) -> &'static [u8]
+    ensures { result.now ≡ end_note end stale }
 {
     match end {
-        SessionEnd::Ended => b"",
-        SessionEnd::ReadFault => b"input: failed\n",
         SessionEnd::WriteFault => b"output: failed\n",
-        SessionEnd::StoreFault => b"store: failed\n",
+        SessionEnd::ReadFault => b"input: failed\n",
         SessionEnd::Spent => b"input: too long\n",
-        SessionEnd::NoMemory => b"memory: refused\n",
+        SessionEnd::NoMemory => if stale {
+            b"store: failed\n"
+        } else {
+            b"memory: refused\n"
+        },
+        SessionEnd::Ended => if stale { b"store: failed\n" } else { b"" },
     }
 }
 
 // Notes a line, or nothing where it is empty.
 pub(crate) fn note_line<W: Replies>(out: &mut W, line: &[u8])
-    ensures said { W.said out.new ≡ W.said out.old }
+    ensures silent { (W.said out.new ≡ W.said out.old) × (W.moments out.new ≡ W.moments out.old) × (W.texts out.new ≡ W.texts out.old) }
     ensures noted { IsNoted (W.noted out.old) (W.noted out.new) (W.faults out.old) (W.faults out.new) line.now }
     ensures later { W.faults out.old ≤ W.faults out.new }
 {
@@ -119,7 +125,7 @@ fn put_damage(room: &mut [u8], offset: u64) -> usize
 }
 
 fn note_damage<W: Replies>(out: &mut W, offset: u64)
-    ensures said { W.said out.new ≡ W.said out.old }
+    ensures silent { (W.said out.new ≡ W.said out.old) × (W.moments out.new ≡ W.moments out.old) × (W.texts out.new ≡ W.texts out.old) }
     ensures noted { IsNoted (W.noted out.old) (W.noted out.new) (W.faults out.old) (W.faults out.new) (fault_note (Damaged offset)) }
     ensures later { W.faults out.old ≤ W.faults out.new }
 {
@@ -131,7 +137,7 @@ fn note_damage<W: Replies>(out: &mut W, offset: u64)
 // Notes why a journal was not opened, or not made.
 #[tactic(auto, unfolding(crate::specs::Lines::fault_note))]
 pub(crate) fn note_fault<W: Replies>(out: &mut W, fault: OpenFault)
-    ensures said { W.said out.new ≡ W.said out.old }
+    ensures silent { (W.said out.new ≡ W.said out.old) × (W.moments out.new ≡ W.moments out.old) × (W.texts out.new ≡ W.texts out.old) }
     ensures noted { IsNoted (W.noted out.old) (W.noted out.new) (W.faults out.old) (W.faults out.new) (fault_note fault) }
     ensures later { W.faults out.old ≤ W.faults out.new }
 {
@@ -146,15 +152,15 @@ pub(crate) fn note_fault<W: Replies>(out: &mut W, fault: OpenFault)
 
 // Notes why there are no words, and answers the status: memory ran out, or one of them is not UTF-8.
 pub(crate) fn refuse_words<W: Replies>(out: &mut W, kind: ErrorKind) -> u8
-    ensures memory { kind ≡ ErrorKind.OutOfMemory → (result ≡ status_of NoMemory)
-        × IsNoted (W.noted out.old) (W.noted out.new) (W.faults out.old) (W.faults out.new) (end_note NoMemory) }
+    ensures memory { kind ≡ ErrorKind.OutOfMemory → (result ≡ status_of NoMemory false)
+        × IsNoted (W.noted out.old) (W.noted out.new) (W.faults out.old) (W.faults out.new) (end_note NoMemory false) }
     ensures usage { (kind ≡ ErrorKind.OutOfMemory → ⊥) → (result ≡ 1)
         × IsNoted (W.noted out.old) (W.noted out.new) (W.faults out.old) (W.faults out.new) usage_note }
-    ensures said { W.said out.new ≡ W.said out.old }
+    ensures silent { (W.said out.new ≡ W.said out.old) × (W.moments out.new ≡ W.moments out.old) × (W.texts out.new ≡ W.texts out.old) }
 {
     if kind == ErrorKind::OutOfMemory {
-        note_line(out, end_line(SessionEnd::NoMemory));
-        return end_status(SessionEnd::NoMemory);
+        note_line(out, end_line(SessionEnd::NoMemory, false));
+        return end_status(SessionEnd::NoMemory, false);
     }
     note_line(out, usage());
     USAGE

@@ -25,6 +25,12 @@ const FULL: &[u8] =
 const NOT_BUILT: &[u8] =
     b"HTTP/1.1 501 Not Implemented\r\ncontent-type: application/json\r\ncontent-length: 33\r\n\r\n{\"error\":\"NotBuilt\",\"number\":119}";
 
+const FAILED: &[u8] =
+    b"HTTP/1.1 503 Service Unavailable\r\ncontent-type: application/json\r\ncontent-length: 35\r\n\r\n{\"error\":\"StoreFault\",\"number\":114}";
+
+const FAILED_TWICE: &[u8] =
+    b"HTTP/1.1 503 Service Unavailable\r\ncontent-type: application/json\r\ncontent-length: 35\r\n\r\n{\"error\":\"StoreFault\",\"number\":114}HTTP/1.1 503 Service Unavailable\r\ncontent-type: application/json\r\ncontent-length: 35\r\n\r\n{\"error\":\"StoreFault\",\"number\":114}";
+
 const USAGE: &[u8] =
     b"usage: office init; run; serve --listen A [--workers N] [--connections K]; report MONTH [--text]; explain [--workers N]; gen NUMBER COUNT\n";
 
@@ -104,7 +110,7 @@ fn command_at(
     let End { status, disk, .. } = office(alloc, &list, &mut source, &mut out, disk, clock);
     Ok(Ran {
         status,
-        said: out.texts().to_vec(alloc)?,
+        said: joined(alloc, out.texts(), out.said())?,
         noted: out.notes().to_vec(alloc)?,
         disk,
     })
@@ -193,6 +199,8 @@ fn words_that_are_no_command_touch_nothing(rt: HostRuntime) -> Result<(), Fail> 
 #[test]
 fn a_failure_has_its_status_and_line(rt: HostRuntime) -> Result<(), Fail> {
     let alloc = rt.alloc();
+    let failed_then_made = joined(alloc, FAILED, MADE)?;
+    let failed_then_there = joined(alloc, FAILED, EXISTS)?;
     // The words, the failing reads, texts and calls of the disk; the status, what was said, what was noted. On this disk a run
     // makes call 2, the sync of the opening, then reads the length, the head and the gate; its first entry has call 6, 7 and 8,
     // the writes of the frame, 9, their sync, 10, the write of the gate, and 11, its sync.
@@ -211,8 +219,8 @@ fn a_failure_has_its_status_and_line(rt: HostRuntime) -> Result<(), Fail> {
         (RUN, &[], &[2], &[], 4, MADE, b"output: failed\n"),
         (RUN, &[], &[], &[2], 2, b"", b"store: failed\n"),
         (RUN, &[], &[], &[3], 2, b"", b"store: failed\n"),
-        (RUN, &[], &[], &[9], 2, b"", b"store: failed\n"),
-        (RUN, &[], &[], &[11], 2, b"", b"store: failed\n"),
+        (RUN, &[], &[], &[9], 0, &failed_then_made, b""),
+        (RUN, &[], &[], &[11], 0, &failed_then_there, b""),
         (INIT, &[], &[1], &[], 4, b"", b"output: failed\n"),
         (INIT, &[], &[], &[2], 2, b"", b"store: failed\n"),
     ] {
@@ -375,6 +383,45 @@ fn an_object_is_put_twice_and_metered(rt: HostRuntime) -> Result<(), Fail> {
             again.said == reply(alloc, "200 OK", USED)?,
             "said after an opening"
         );
+    }
+    Ok(())
+}
+
+#[test]
+fn a_journal_is_opened_again_after_a_fault(rt: HostRuntime) -> Result<(), Fail> {
+    let alloc = rt.alloc();
+    let put = request(alloc, "PUT /buckets/logs/objects/a", "{\"size\":1000}")?;
+    let and_show = joined(alloc, &put, SHOW)?;
+    let and_twice = joined(alloc, &and_show, SHOW)?;
+    let without = joined(alloc, FAILED, &reply(alloc, "200 OK", SHOWN_NONE)?)?;
+    let with = joined(alloc, FAILED, &reply(alloc, "200 OK", SHOWN_ONE)?)?;
+    let twice = joined(alloc, FAILED, &with)?;
+    // The input, the failing calls of the disk; the status, what was said and noted, and whether the put's gate stands open then.
+    // Calls 9 to 14 are those of the put, as above, and call 15 is the sync of the opening after them.
+    for (input, calls, status, said, noted, open) in [
+        (&and_show, &[9][..], 0, &without[..], &b""[..], false),
+        (&and_show, &[12], 0, &without, b"", false),
+        (&and_show, &[13], 0, &with, b"", true),
+        (&and_show, &[14], 0, &with, b"", true),
+        (&and_twice, &[14, 15], 0, &twice, b"", true),
+        (
+            &and_show,
+            &[14, 15],
+            2,
+            FAILED_TWICE,
+            b"store: failed\n",
+            true,
+        ),
+        (&put, &[12], 2, FAILED, b"store: failed\n", false),
+        (&put, &[14], 2, FAILED, b"store: failed\n", true),
+    ] {
+        let name = (input.len(), calls);
+        let mut ran = run_on(alloc, RUN, input, 8192, disk_of(alloc, ONE, calls)?)?;
+        assert_eq!(rt; ran.status, status, "status of {name:?}");
+        assert!(rt; ran.said.as_slice() == said, "said by {name:?}");
+        assert!(rt; ran.noted.as_slice() == noted, "noted by {name:?}");
+        let file = read_all(alloc, &mut ran.disk)?;
+        assert_eq!(rt; file.get(30) == Some(&0xA5), open, "gate of {name:?}");
     }
     Ok(())
 }

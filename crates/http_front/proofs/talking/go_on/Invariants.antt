@@ -7,12 +7,12 @@ use Rattle.http_front.proofs.talking.go_on.Given as goal
 
 abbrev pub invariant-talking : goal.invariant-talking
 invariant-talking g l = record {
-  talked : Talked g.T.Teller.moves l.fn.teller l.teller (g.W.Replies.said l.fn.out) (g.W.Replies.said l.out)
+  talked : Talked g.T.Teller.moves l.fn.teller l.teller (g.W.Replies.said l.fn.out) (g.W.Replies.said l.out) (g.W.Replies.moments l.fn.out) (g.W.Replies.moments l.out)
       (prepend_known l.fn.reader.bytes (g.R.Source.left l.fn.source)) (prepend_known l.reader.bytes (g.R.Source.left l.source));
-  ready : g.T.Teller.ready l.teller;
   room : 16384 ≤ length l.room;
   given : Given l.fn.reader.taken l.reader.taken (g.R.Source.left l.fn.source) (g.R.Source.left l.source);
   limit : l.reader.taken ≤ take_limit;
+  texts : g.W.Replies.texts l.out ≡ g.W.Replies.texts l.fn.out;
   noted : g.W.Replies.noted l.out ≡ g.W.Replies.noted l.fn.out;
   read_later : g.R.Source.faults l.fn.source ≤ g.R.Source.faults l.source;
   write_later : g.W.Replies.faults l.fn.out ≤ g.W.Replies.faults l.out;

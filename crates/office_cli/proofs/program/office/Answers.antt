@@ -14,7 +14,7 @@ pub returns-then-is_only-clause-sound : goal.returns-then-is_only-clause-sound
 returns-then-is_only-clause-sound g c tells sound =
     let d = g.D.Disk in
     let w = g.W.Replies in
-    init_sound d.honest d.state d.moment d.had_since d.fault_count g.C.Clock.count g.C.Clock.told w.said w.noted w.faults c.init-status.result c.args.disk c.init-status.new.disk c.args.out.now c.init-status.new.out tells sound
+    init_sound d.honest d.state d.moment d.had_since d.fault_count g.C.Clock.count g.C.Clock.told w.said w.moments w.texts w.noted w.faults c.init-status.result c.args.disk c.init-status.new.disk c.args.out.now c.init-status.new.out tells sound
     (g.met.D.Disk.reads_image tells c.args.disk Journal) c.init-status.ensures.inits
 
 pub returns-then-is_only-2-clause-opened : goal.returns-then-is_only-2-clause-opened
@@ -26,7 +26,7 @@ pub returns-then-is_only-2-clause-sound : goal.returns-then-is_only-2-clause-sou
 returns-then-is_only-2-clause-sound g c tells sound =
     let d = g.D.Disk in
     let w = g.W.Replies in
-    run_sound d.honest d.state d.moment d.had_since d.fault_count g.C.Clock.count g.C.Clock.told w.said w.noted w.faults g.C.Clock.last c.run.result.status c.args.disk c.run.result.disk c.args.clock c.run.result.clock c.args.out.now c.run.new.out
+    run_sound d.honest d.state d.moment d.had_since d.fault_count g.C.Clock.count g.C.Clock.told w.said w.moments w.texts w.noted w.faults g.C.Clock.last c.run.result.status c.args.disk c.run.result.disk c.args.clock c.run.result.clock c.args.out.now c.run.new.out
     (g.R.Source.left c.args.input.now) tells sound (started d.state d.moment d.had_since c.args.disk IsSound (g.met.D.Disk.only_now c.args.disk) sound) c.run.ensures.runs
 
 pub returns-then-is_only-clause-complete : goal.returns-then-is_only-clause-complete

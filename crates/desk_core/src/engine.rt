@@ -1,0 +1,237 @@
+// An office over its journal.
+ghost use Rattle.std.specs.Prelude.{min, ◌≡◌, ◌⊎◌, ◌+◌, ◌-◌, ◌<◌, ◌≤◌, ◌^◌, ◌++◌, ◌∷◌, [], ℕ, List, length, true, false, IsTrue, Some, None, Ok, Err, IfOk, IfErr, OnOk, IsErrOf};
+ghost use Rattle.office_base.specs.Faults.{Rose};
+ghost use Rattle.moments.specs.Time.{end_of_time};
+ghost use Rattle.plain_office.specs.declared.command.Entry.{Entry};
+ghost use Rattle.plain_office.specs.declared.command.Ask.TheVariants as ask_of;
+ghost use Rattle.plain_office.specs.declared.reply.Refusal.TheVariants.{NoMemory};
+ghost use Rattle.plain_office.specs.Run.{is_not_before, entry_at};
+ghost use Rattle.entry_codec.specs.Spelling.{Fits, IsEntry, spelling};
+ghost use Rattle.meter_journal.specs.History.{header, end_gate, IsAtRest};
+ghost use Rattle.desk_core.specs.Calls.{moment_after};
+ghost use Rattle.desk_core.specs.Desk.{Parts, Holds, IsReady, IsNumber, IsLast, IsStamped, stale_after};
+ghost use Rattle.desk_core.specs.Asking.{PassesLimit, HasCauses};
+ghost use Rattle.desk_core.specs.Histories.{IsSound};
+ghost use Rattle.desk_core.specs.Keeping.{Adds, Keeps, Answers, Asks};
+
+use crate::acked::Acked;
+use crate::clock::Clock;
+use crate::fault::DeskFault;
+use disk_core::Disk;
+use entry_codec::encode_command;
+use meter_journal::{AppendFault, Journal};
+use moments::Moment;
+use office_machine::Office;
+use plain_office::{Ask, Command, Query, Refusal, Reply};
+use std::alloc::Global;
+use std::marker::Model;
+
+// The office after the entries of a journal, with the journal's end and a clock.
+#[derive(Drop)]
+pub(crate) struct Engine<D: Disk + Drop, C: Clock + Drop> {
+    pub(crate) alloc: Global,
+    pub(crate) office: Office,
+    pub(crate) journal: Journal<D>,
+    pub(crate) clock: C,
+}
+
+impl<D: Disk + Drop, C: Clock + Drop> Model for Engine<D, C> {
+    ghost use Rattle.std.specs.Prelude.{◌≤◌, ◌^◌};
+    ghost use Rattle.desk_core.specs.Desk.{Parts};
+
+    ghost Value = { Parts D C };
+
+    ghost view = { λ e. record { disk = e.journal.disk; clock = e.clock; office = e.office; gate = e.journal.gate; limit = e.journal.limit } };
+
+    ghost invariant = { λ e. e.journal.limit ≤ 2 ^ 45 };
+}
+
+// The later of the clock's number and the last moment.
+fn moment_for(told: u64, last: Option<Moment>) -> u64
+    ensures same { result ≡ moment_after told last }
+    ensures later { IsTrue (is_not_before last result) }
+{
+    match last {
+        Some(moment) => told.max(moment.ms()),
+        None => told,
+    }
+}
+
+impl<D: Disk + Drop, C: Clock + Drop> Engine<D, C> {
+    // An office whose journal was not read yet.
+    pub(crate) fn over(alloc: Global, disk: D, clock: C, limit: u64) -> Self
+        requires { limit ≤ 2 ^ 45 }
+        ensures disk { result.disk ≡ disk }
+        ensures clock { result.clock ≡ clock }
+        ensures limit { result.limit ≡ limit }
+    {
+        Engine {
+            alloc,
+            office: Office::new(alloc),
+            journal: Journal::over(disk, limit),
+            clock,
+        }
+    }
+
+    pub(crate) fn give_back(self) -> (D, C)
+        ensures disk { result.0 ≡ self.disk }
+        ensures clock { result.1 ≡ self.clock }
+    {
+        (self.journal.give_back(), self.clock)
+    }
+
+    fn answer(&self, moment: u64, told: u64, reply: Result<Reply, Refusal>) -> Acked
+        requires { reply ≡ Err NoMemory → ⊥ }
+        ensures { result ≡ record { moment = moment; told = told; reply = reply; position = self.now.gate; disk_moment = D.moment self.now.disk } }
+    {
+        Acked::new(
+            moment,
+            told,
+            reply,
+            self.journal.end(),
+            self.journal.disk().stamp(),
+        )
+    }
+
+    // Adds the entry of a command that the office did.
+    fn add(
+        &mut self,
+        moment: Moment,
+        told: u64,
+        reply: Reply,
+        bytes: &[u8],
+    ) -> Result<Acked, DeskFault>
+        requires entry { IsEntry bytes.now }
+        requires fits { self.old.gate + 6 + length bytes.now ≤ self.old.limit }
+        requires at_rest { IsTrue D.honest → (before : List Entry) × IsAtRest header (D.state self.old.disk) self.old.gate before }
+
+        ensures adds { (before : List Entry) (e : Entry) → Fits e → bytes.now ≡ spelling e → self.old.gate ≡ end_gate header before
+            → (IsTrue D.honest → IsAtRest header (D.state self.old.disk) self.old.gate before)
+            → Adds D.honest D.state D.moment D.had_since D.fault_count moment told (Ok reply) before e self.old self.new result }
+        ensures office { self.new.office ≡ self.old.office }
+        ensures clock { self.new.clock ≡ self.old.clock }
+        ensures limit { self.new.limit ≡ self.old.limit }
+        ensures later { D.fault_count self.old.disk ≤ D.fault_count self.new.disk }
+    {
+        match self.journal.append(bytes) {
+            Ok(_) => Ok(self.answer(moment.ms(), told, Ok(reply))),
+            Err(AppendFault::JournalFull) => Err(DeskFault::JournalFull),
+            Err(AppendFault::StoreFault) => {
+                Err(DeskFault::StoreFault {
+                    told: Some(told),
+                    faults: self.journal.disk().faults(),
+                })
+            }
+        }
+    }
+
+    // Does a command at a moment, and adds its entry where the office accepts it.
+    fn keep(
+        &mut self,
+        moment: Moment,
+        told: u64,
+        command: &Command,
+        bytes: &[u8],
+    ) -> Result<Acked, DeskFault>
+        requires spelled { bytes.now ≡ spelling (entry_at moment command.now) }
+        requires entry { Fits (entry_at moment command.now) }
+        requires later { IsTrue (is_not_before self.old.office.last moment) }
+        requires fits { self.old.gate + 6 + length bytes.now ≤ self.old.limit }
+        requires ready { IsReady D.honest D.state self.old }
+
+        ensures keeps { (before : List Entry) (hold : Holds D.honest D.state before self.old)
+            → Keeps D.honest D.state D.moment D.had_since D.fault_count moment told (ask_of.Command command.now) hold.office.plain before self.old self.new result }
+        ensures clock { self.new.clock ≡ self.old.clock }
+        ensures limit { self.new.limit ≡ self.old.limit }
+        ensures later { D.fault_count self.old.disk ≤ D.fault_count self.new.disk }
+    {
+        match self.office.apply(moment, command) {
+            Ok(reply) => self.add(moment, told, reply, bytes),
+            Err(refusal) => match refusal {
+                Refusal::NoMemory => Err(DeskFault::NoMemory),
+                other => Ok(self.answer(moment.ms(), told, Err(other))),
+            },
+        }
+    }
+
+    // Does a command at a moment, where its frame fits.
+    fn command(&mut self, moment: Moment, told: u64, command: &Command) -> Result<Acked, DeskFault>
+        requires later { IsTrue (is_not_before self.old.office.last moment) }
+        requires ready { IsReady D.honest D.state self.old }
+
+        ensures keeps { (before : List Entry) (hold : Holds D.honest D.state before self.old)
+            → Keeps D.honest D.state D.moment D.had_since D.fault_count moment told (ask_of.Command command.now) hold.office.plain before self.old self.new result }
+        ensures full { PassesLimit moment self.old.gate self.old.limit (ask_of.Command command.now) → (result ≡ Err DeskFault.JournalFull) ⊎ (result ≡ Err DeskFault.NoMemory) }
+        ensures clock { self.new.clock ≡ self.old.clock }
+        ensures limit { self.new.limit ≡ self.old.limit }
+        ensures later { D.fault_count self.old.disk ≤ D.fault_count self.new.disk }
+    {
+        let Ok(bytes) = encode_command(self.alloc, moment, command) else {
+            return Err(DeskFault::NoMemory);
+        };
+        if !self.journal.fits(bytes.len() as u64) {
+            return Err(DeskFault::JournalFull);
+        }
+        self.keep(moment, told, command, &bytes)
+    }
+
+    // Answers a query at a moment.
+    fn query(&self, moment: Moment, told: u64, query: &Query) -> Result<Acked, DeskFault>
+        requires later { IsTrue (is_not_before self.now.office.last moment) }
+        requires ready { IsReady D.honest D.state self.now }
+
+        ensures keeps { (before : List Entry) (hold : Holds D.honest D.state before self.now)
+            → Keeps D.honest D.state D.moment D.had_since D.fault_count moment told (ask_of.Query query.now) hold.office.plain before self.now self.now result }
+    {
+        match self.office.answer(moment, query) {
+            Ok(reply) => Ok(self.answer(moment.ms(), told, Ok(reply))),
+            Err(refusal) => match refusal {
+                Refusal::NoMemory => Err(DeskFault::NoMemory),
+                refused => Ok(self.answer(moment.ms(), told, Err(refused))),
+            },
+        }
+    }
+
+    // Answers an ask at a moment, which may be past the end of time.
+    fn submit_at(&mut self, moment: u64, told: u64, ask: &Ask) -> Result<Acked, DeskFault>
+        requires later { IsTrue (is_not_before self.old.office.last moment) }
+        requires ready { IsReady D.honest D.state self.old }
+
+        ensures answers { (before : List Entry) (hold : Holds D.honest D.state before self.old)
+            → Answers D.honest D.state D.moment D.had_since D.fault_count moment told ask.now hold.office.plain before self.old self.new result }
+        ensures full { PassesLimit moment self.old.gate self.old.limit ask.now → (result ≡ Err DeskFault.JournalFull) ⊎ (result ≡ Err DeskFault.NoMemory) }
+        ensures clock { self.new.clock ≡ self.old.clock }
+        ensures limit { self.new.limit ≡ self.old.limit }
+        ensures later { D.fault_count self.old.disk ≤ D.fault_count self.new.disk }
+    {
+        let Ok(at) = Moment::of(moment) else {
+            return Ok(self.answer(moment, told, Err(Refusal::ClockEnd { moment })));
+        };
+        match ask {
+            Ask::Command(command) => self.command(at, told, command),
+            Ask::Query(query) => self.query(at, told, query),
+        }
+    }
+
+    // Asks the clock, and answers at its number.
+    pub(crate) fn ask(&mut self, ask: &Ask) -> Result<Acked, DeskFault>
+        requires ready { IsReady D.honest D.state self.old }
+
+        ensures asks { Asks D.honest D.state D.moment D.had_since D.fault_count (C.last self.new.clock) ask.now self.old self.new result }
+        ensures tells { HasCauses D.fault_count C.count C.last self.old ask.now result self.new }
+        ensures number { C.count self.new.clock < 2 ^ 64 - 1 → IsNumber (C.told self.old.clock) (C.told self.new.clock) result }
+        ensures last { IsLast (C.last self.new.clock) result }
+        ensures stamped { IsStamped result self.new.gate (D.moment self.new.disk) }
+        // It takes a further call, but after a fault of the store.
+        ensures ready { stale_after false result ≡ false → IsReady D.honest D.state self.new }
+        // Each image of the disk has a history.
+        ensures sound { IsTrue D.honest → IsSound (D.state self.new.disk) }
+        ensures limit { self.new.limit ≡ self.old.limit }
+        ensures clock_later { C.count self.old.clock ≤ C.count self.new.clock }
+        ensures disk_later { D.fault_count self.old.disk ≤ D.fault_count self.new.disk }
+    {
+        let told = self.clock.now();
+        let moment = moment_for(told, self.office.last());
+        self.submit_at(moment, told, ask)
+    }
+}

@@ -1,0 +1,146 @@
+// Opening a journal again.
+ghost use Rattle.std.specs.Prelude.{◌≡◌, ◌⊎◌, ◌+◌, ◌<◌, ◌≤◌, ◌^◌, ◌++◌, ◌∷◌, [], ℕ, List, length, IsTrue, Some, None, Err, IfErr, IfOk, OnOk, IsErrOf};
+ghost use Rattle.office_base.specs.Faults.{Rose};
+ghost use Rattle.disk_core.specs.Files.{synced_file};
+ghost use Rattle.disk_core.specs.Kept.{Narrower};
+ghost use Rattle.disk_core.specs.Moments.{KeepsTo, Untouched};
+ghost use Rattle.plain_office.specs.declared.command.Entry.{Entry};
+ghost use Rattle.plain_office.specs.Orderly.{SizeFits};
+ghost use Rattle.plain_office.specs.Run.{accept, is_not_before};
+ghost use Rattle.office_machine.specs.Standing.{most_commands};
+ghost use Rattle.meter_journal.specs.Reading.{IsMade, HasStoreCause};
+ghost use Rattle.desk_core.specs.Asking.{Reopens, IsOffice, Unopened};
+ghost use Rattle.desk_core.specs.Breaking.{HasReplayed, ReplayFails, OpenFails, IsBroken};
+ghost use Rattle.desk_core.specs.Offices.{StandsAfter};
+
+use crate::clock::Clock;
+use crate::engine::Engine;
+use crate::fault::DeskFault;
+use disk_core::Disk;
+use meter_journal::{Journal, OpenFault};
+use moments::Moment;
+use office_machine::Office;
+use plain_office::{Entry, Refusal};
+use std::alloc::Global;
+
+fn is_in_order(last: Option<Moment>, at: Moment) -> bool
+    ensures { result ≡ is_not_before last at }
+{
+    match last {
+        Some(last) => last.ms() <= at.ms(),
+        None => true,
+    }
+}
+
+// Why the entry at this gate is not taken: the office does not accept it, or memory ran out.
+fn refused(refusal: Refusal, gate: u64) -> OpenFault
+    ensures memory { refusal ≡ Refusal.NoMemory → result ≡ OpenFault.NoMemory }
+    ensures damaged { (refusal ≡ Refusal.NoMemory → ⊥) → result ≡ OpenFault.Damaged gate }
+{
+    match refusal {
+        Refusal::NoMemory => OpenFault::NoMemory,
+        _ => OpenFault::Damaged { offset: gate },
+    }
+}
+
+// Makes the change of an entry again. Where the office does not accept it, the journal is damaged at its gate.
+fn take(office: &mut Office, entry: &Entry, gate: u64) -> Result<(), OpenFault>
+    requires few { office.old.accepted < most_commands }
+    requires stands { (history : List Entry) × StandsAfter history office.old }
+    requires fits { SizeFits entry.now.command }
+    ensures ok { OnOk result ((history : List Entry) → StandsAfter history office.old → StandsAfter (history ++ entry.now ∷ []) office.new) }
+    ensures damaged { IfErr result (λ e. (e ≡ OpenFault.NoMemory) ⊎ ((e ≡ OpenFault.Damaged gate)
+        × ((history : List Entry) (is : StandsAfter history office.old) → accept is.plain entry.now ≡ None))) }
+{
+    if !is_in_order(office.last(), entry.moment) {
+        return Err(OpenFault::Damaged { offset: gate });
+    }
+    let Err(refusal) = office.apply(entry.moment, &entry.command) else {
+        return Ok(());
+    };
+    Err(refused(refusal, gate))
+}
+
+// Reads all entries behind the first gate of a journal file of this length, and makes their changes again.
+fn replay<D: Disk>(
+    alloc: Global,
+    journal: &mut Journal<D>,
+    end: u64,
+    office: &mut Office,
+) -> Result<(), OpenFault>
+    requires known { IsTrue D.honest → end ≡ length (D.state journal.old.disk).journal.seen }
+    requires empty { StandsAfter [] office.old }
+    requires first { journal.old.gate ≡ 10 }
+
+    ensures read { OnOk result (HasReplayed D.honest D.state journal.old.disk journal.new.disk journal.new.gate office.new) }
+    ensures fails { IsTrue D.honest → (file : List ℕ) → (D.state journal.old.disk).journal ≡ synced_file file → IsMade file → IfErr result (λ e. ReplayFails e file) }
+    ensures untouched { IsTrue D.honest → Untouched D.state D.moment D.had_since journal.old.disk journal.new.disk }
+    ensures limit { journal.new.limit ≡ journal.old.limit }
+    ensures cause { HasStoreCause (D.fault_count journal.old.disk) (D.fault_count journal.new.disk) result }
+{
+    'reading: loop {
+        let gate = journal.end();
+        let read = match journal.next(alloc, end) {
+            Ok(read) => read,
+            Err(fault) => return Err(fault),
+        };
+        match read {
+            None => return Ok(()),
+            Some(entry) => match take(office, &entry, gate) {
+                Ok(()) => {}
+                Err(fault) => return Err(fault),
+            },
+        }
+    }
+}
+
+impl<D: Disk + Drop, C: Clock + Drop> Engine<D, C> {
+    // Syncs and reads the journal file from its first gate on, and makes the changes of its entries again on an empty
+    // office. Nothing is written, and the clock tells no number.
+    pub(crate) fn open(&mut self) -> Result<(), OpenFault>
+        ensures opens { OnOk result (Reopens D.honest D.state D.moment D.had_since D.fault_count self.old self.new) }
+        ensures fails { IsTrue D.honest → IfErr result (λ e. OpenFails e (D.state self.old.disk).journal.seen) }
+        ensures any_moment { IsTrue D.honest → KeepsTo D.state D.moment D.had_since self.old.disk self.new.disk (Narrower (D.state self.old.disk)) }
+        ensures clock { self.new.clock ≡ self.old.clock }
+        ensures limit { self.new.limit ≡ self.old.limit }
+        ensures cause { HasStoreCause (D.fault_count self.old.disk) (D.fault_count self.new.disk) result }
+    {
+        let end = match self.journal.open(None) {
+            Ok(end) => end,
+            Err(fault) => return Err(fault),
+        };
+        self.office = Office::new(self.alloc);
+        replay(self.alloc, &mut self.journal, end, &mut self.office)
+    }
+
+    // Opens the journal of a stale desk again, before a call.
+    pub(crate) fn refresh(&mut self, stale: bool) -> Result<(), DeskFault>
+        ensures office { OnOk result (IsOffice D.honest D.state D.moment D.had_since D.fault_count stale self.old self.new) }
+        ensures any_moment { IsTrue D.honest → KeepsTo D.state D.moment D.had_since self.old.disk self.new.disk (Narrower (D.state self.old.disk)) }
+        ensures unopened { IfErr result (λ fault. Unopened D.honest D.state D.moment D.had_since D.fault_count stale self.old self.new (Err fault)) }
+    {
+        if !stale {
+            return Ok(());
+        }
+        match self.open() {
+            Ok(()) => Ok(()),
+            Err(fault) => Err(self.unopened(fault)),
+        }
+    }
+
+    // What a call says whose journal could not be opened again.
+    pub(crate) fn unopened(&self, fault: OpenFault) -> DeskFault
+        ensures broken { IsBroken fault → result ≡ DeskFault.Broken fault }
+        ensures store { fault ≡ OpenFault.StoreFault → result ≡ DeskFault.StoreFault None (D.fault_count self.now.disk) }
+        ensures memory { fault ≡ OpenFault.NoMemory → result ≡ DeskFault.NoMemory }
+    {
+        match fault {
+            OpenFault::StoreFault => DeskFault::StoreFault {
+                told: None,
+                faults: self.journal.disk().faults(),
+            },
+            OpenFault::NoMemory => DeskFault::NoMemory,
+            broken => DeskFault::Broken(broken),
+        }
+    }
+}

@@ -1,0 +1,6 @@
+-- What contracts see of two writers that take replies and notes.
+use Rattle.http_front.specs.declared.replies.WriterReplies.{WriterReplies}
+
+-- the writer that takes replies and other texts
+abbrev pub out_of : {W N : Type 0} → WriterReplies W N → W
+out_of r = r.out
