@@ -9,3 +9,4 @@ pub mod Opened
 pub mod Standing
 pub mod Submitted
 pub mod Told
+pub mod Turns

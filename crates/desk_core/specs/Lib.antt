@@ -9,3 +9,5 @@ pub mod Keeping
 pub mod Offices
 pub mod Opening
 pub mod Serving
+pub mod TurnLaws
+pub mod Turns

@@ -7,6 +7,7 @@ mod desk;
 mod engine;
 mod fault;
 mod reopening;
+mod taking_turns;
 #[cfg(test)]
 mod tests;
 

@@ -154,6 +154,7 @@ impl Reader {
         ensures no_memory { IsErrOf result Stop.NoMemory → Gave self.old self.new (R.left source.old) (R.left source.new) WantsMemory }
         // A message whose bytes are held is heard without a read.
         ensures settled { (IsUnsettled self.old.bytes → ⊥) → source.new ≡ source.old }
+        ensures stream { R.stream source.new ≡ R.stream source.old }
         ensures later { R.faults source.old ≤ R.faults source.new }
         ensures fault { IsErrOf result Stop.ReadFault → Rose (R.faults source.old) (R.faults source.new) }
     {

@@ -21,7 +21,8 @@ use Rattle.http_front.specs.declared.answering.SessionEnd.{SessionEnd}
 use Rattle.http_front.specs.declared.answering.SessionEnd.TheVariants as ends
 use Rattle.http_front.specs.Counts.{Gave, total_of, IsUnder, IsSpent}
 use Rattle.http_front.specs.Exchanges.{Exchange, answered, refused, meant_of, calls_of, exchange_moment, moments_of, Goes, Hears}
-use Rattle.http_front.specs.Session.{IsCut, IsWritten, NoneLacks, LastLacks, LacksBy, Moves, Session}
+use Rattle.desk_core.specs.Turns.{Moves}
+use Rattle.http_front.specs.Session.{IsCut, IsWritten, NoneLacks, LastLacks, LacksBy, Session}
 use Rattle.http_front.specs.Talk.{IsRefusedBy, Answers, Talked, Closed, Went}
 use Rattle.http_front.specs.Texts.{exchange_text, text_of, bad_text, texts, not_built_text, no_memory_text}
 use Rattle.http_front.proofs.SaidLemmas.{appends_none, appends_then}

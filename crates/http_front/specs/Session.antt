@@ -3,6 +3,7 @@ use Rattle.std.specs.Prelude.{◌≡◌, ◌⊎◌, ℕ, Bool, true, false, List
 use Rattle.std.specs.Io.KnownBytes.{Appends, IsAtEnd}
 use Rattle.plain_office.specs.declared.command.Ask.{Ask}
 use Rattle.desk_core.specs.Answers.{Answer, Call}
+use Rattle.desk_core.specs.Turns.{Moves}
 use Rattle.desk_core.specs.declared.fault.DeskFault.{DeskFault}
 use Rattle.desk_core.specs.declared.fault.DeskFault.TheVariants.{NoMemory}
 use Rattle.http_asks.specs.Streams.{StandsUnbuilt}
@@ -67,16 +68,11 @@ IsWritten total ends.NoMemory exchanges whole rest closed written =
 -- ---- a session
 
 module _ {T : Type 0} (moves : T → Ask → Result Answer DeskFault → T → Type 0) where
-  -- from the first to the last the teller moves by these calls, in order
-  abbrev pub Moves : T → List Call → T → Type 0
-  Moves old [] new = new ≡ old
-  Moves old (call ∷ calls) new = (mid : T) × moves old call.ask call.said mid × Moves mid calls new
-
   -- A session over this stream: the messages that it heard, each with what the teller answered or as a refusal, whether
   -- the last one closed it, and what was said, with the disk's moments of the answers that were said whole.
   pub record Session (old new : T) (said_old said_new moments_old moments_new stream : Option (List ℕ)) (end : SessionEnd) : Type 0 where
     pub exchanges : List Exchange
-    pub moved : Moves old (calls_of exchanges) new
+    pub moved : Moves moves old (calls_of exchanges) new
     pub rest : Option (List ℕ)
     pub closed : Bool
     pub heard : Hears stream exchanges rest closed

@@ -3,13 +3,14 @@ use Rattle.std.specs.Prelude.{◌≡◌, ◌⊎◌, ℕ, Bool, false, List, take
 use Rattle.std.specs.Io.KnownBytes.{Appends}
 use Rattle.plain_office.specs.declared.command.Ask.{Ask}
 use Rattle.desk_core.specs.Answers.{Answer}
+use Rattle.desk_core.specs.Turns.{Moves}
 use Rattle.desk_core.specs.declared.fault.DeskFault.{DeskFault}
 use Rattle.desk_core.specs.declared.fault.DeskFault.TheVariants as faults
 use Rattle.http_asks.specs.Meaning.{Refused}
 use Rattle.http_front.specs.declared.answering.SessionEnd.{SessionEnd}
 use Rattle.http_front.specs.declared.answering.SessionEnd.TheVariants as ends
 use Rattle.http_front.specs.Exchanges.{Exchange, calls_of, moment_of, moments_of, Hears}
-use Rattle.http_front.specs.Session.{IsWritten, NoneLacks, LacksBy, Moves}
+use Rattle.http_front.specs.Session.{IsWritten, NoneLacks, LacksBy}
 use Rattle.http_front.specs.Texts.{text_of, bad_text, no_memory_text, texts}
 
 -- a front of the text was said

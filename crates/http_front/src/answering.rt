@@ -232,6 +232,7 @@ pub(crate) fn answer_one<R: Source, W: Replies, T: Teller>(
     ensures uses { OnOk result (reader.old.taken + length reader.new.bytes < reader.new.taken + length reader.old.bytes) }
     ensures texts { W.texts out.new ≡ W.texts out.old }
     ensures noted { W.noted out.new ≡ W.noted out.old }
+    ensures stream { R.stream source.new ≡ R.stream source.old }
     ensures read_later { R.faults source.old ≤ R.faults source.new }
     ensures write_later { W.faults out.old ≤ W.faults out.new }
     ensures read_fault { IsErrOf result SessionEnd.ReadFault → Rose (R.faults source.old) (R.faults source.new) }

@@ -34,6 +34,7 @@ fn go_on<R: Source, W: Replies, T: Teller>(
     ensures limit { reader.new.taken ≤ take_limit }
     ensures texts { W.texts out.new ≡ W.texts out.old }
     ensures noted { W.noted out.new ≡ W.noted out.old }
+    ensures stream { R.stream source.new ≡ R.stream source.old }
     ensures read_later { R.faults source.old ≤ R.faults source.new }
     ensures write_later { W.faults out.old ≤ W.faults out.new }
     ensures read_fault { result ≡ SessionEnd.ReadFault → Rose (R.faults source.old) (R.faults source.new) }
@@ -64,6 +65,7 @@ pub fn session<R: Source, W: Replies, T: Teller>(
     ensures taken { (n : ℕ) × (n ≤ take_limit) × Gave (R.left source.old) (R.left source.new) n }
     ensures texts { W.texts out.new ≡ W.texts out.old }
     ensures noted { W.noted out.new ≡ W.noted out.old }
+    ensures stream { R.stream source.new ≡ R.stream source.old }
     ensures read_later { R.faults source.old ≤ R.faults source.new }
     ensures write_later { W.faults out.old ≤ W.faults out.new }
     ensures read_fault { result ≡ SessionEnd.ReadFault → Rose (R.faults source.old) (R.faults source.new) }

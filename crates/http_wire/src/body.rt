@@ -33,6 +33,7 @@ pub(crate) fn fill_to<R: Source>(
     ensures end { IsErrOf result Gap.Ended → IsAtEnd (R.left source.new) × (buffer.new.taken < take_limit) }
     ensures spent { IsErrOf result Gap.Spent → buffer.new.taken ≡ take_limit }
     ensures settled { count ≤ length buffer.old.bytes → source.new ≡ source.old }
+    ensures stream { R.stream source.new ≡ R.stream source.old }
     ensures later { R.faults source.old ≤ R.faults source.new }
     ensures fault { IsErrOf result Gap.ReadFault → Rose (R.faults source.old) (R.faults source.new) }
 {
@@ -63,6 +64,7 @@ fn fill_rest<R: Source>(
     ensures limit { buffer.new.taken ≤ take_limit }
     ensures end { IsErrOf result Gap.Ended → IsAtEnd (R.left source.new) × (buffer.new.taken < take_limit) }
     ensures spent { IsErrOf result Gap.Spent → buffer.new.taken ≡ take_limit }
+    ensures stream { R.stream source.new ≡ R.stream source.old }
     ensures later { R.faults source.old ≤ R.faults source.new }
     ensures fault { IsErrOf result Gap.ReadFault → Rose (R.faults source.old) (R.faults source.new) }
 {
@@ -95,6 +97,7 @@ pub(crate) fn fill_body<R: Source>(
     ensures limit { buffer.new.taken ≤ take_limit }
     ensures end { IsErrOf result Gap.Ended → IsAtEnd (R.left source.new) × (buffer.new.taken < take_limit) }
     ensures spent { IsErrOf result Gap.Spent → buffer.new.taken ≡ take_limit }
+    ensures stream { R.stream source.new ≡ R.stream source.old }
     ensures later { R.faults source.old ≤ R.faults source.new }
     ensures fault { IsErrOf result Gap.ReadFault → Rose (R.faults source.old) (R.faults source.new) }
 {

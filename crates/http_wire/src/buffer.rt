@@ -124,6 +124,7 @@ impl Buffer {
         ensures count { IfOk result (λ count. length self.new.bytes ≡ length self.old.bytes + count) }
         ensures end { result ≡ Ok 0 → IsAtEnd (R.left source.new) }
         ensures err { IfErr result (λ _. (self.new ≡ self.old) × Keeps (R.left source.old) (R.left source.new)) }
+        ensures stream { R.stream source.new ≡ R.stream source.old }
         ensures cause { HasCause (R.faults source.old) (R.faults source.new) result }
         ensures spans { self.new.spans ≡ self.old.spans }
         ensures short { length self.new.bytes ≤ 8192 }
@@ -153,6 +154,7 @@ impl Buffer {
         ensures fits { IfOk result (λ count. at + count ≤ length room.old) }
         ensures end { result ≡ Ok 0 → IsAtEnd (R.left source.new) }
         ensures err { IfErr result (λ _. (self.new ≡ self.old) × (take at room.new ≡ take at room.old) × Keeps (R.left source.old) (R.left source.new)) }
+        ensures stream { R.stream source.new ≡ R.stream source.old }
         ensures cause { HasCause (R.faults source.old) (R.faults source.new) result }
         ensures limit { self.new.taken ≤ take_limit }
     {
@@ -219,6 +221,7 @@ fn read_on<R: Source>(
     ensures fits { IfOk result (λ count. count ≤ most) }
     ensures end { result ≡ Ok 0 → IsAtEnd (R.left source.new) }
     ensures err { IfErr result (λ _. (take len room.new ≡ take len room.old) × Keeps (R.left source.old) (R.left source.new)) }
+    ensures stream { R.stream source.new ≡ R.stream source.old }
     ensures cause { HasCause (R.faults source.old) (R.faults source.new) result }
 {
     source.read(&mut room[len..len + most])

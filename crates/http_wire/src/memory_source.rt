@@ -22,6 +22,7 @@ impl MemorySource {
     /// `failing`, counted from 1, fail.
     pub fn new(bytes: Vec<u8>, cut: usize, failing: Vec<u64>) -> Self
         ensures left { ⟦<MemorySource as Source>⟧.left result ≡ Some bytes.items }
+        ensures stream { ⟦<MemorySource as Source>⟧.stream result ≡ Some bytes.items }
         ensures faults { ⟦<MemorySource as Source>⟧.faults result ≡ 0 }
     {
         MemorySource {
@@ -52,6 +53,8 @@ fn copy_on(room: &mut [u8], bytes: &[u8], given: usize, cut: usize) -> usize
 
 impl Source for MemorySource {
     ghost left = { λ s. Some (drop s.given s.bytes.items) };
+
+    ghost stream = { λ s. Some s.bytes.items };
 
     ghost faults = { λ s. s.faults };
 

@@ -134,6 +134,7 @@ fn read_held<R: Source>(
     ensures tells { Gave buffer.old buffer.new (R.left source.old) (R.left source.new) (Tells buffer.new (R.left source.new) result) }
     ensures limit { buffer.new.taken ≤ take_limit }
     ensures settled { (IsUnsettled buffer.old.bytes → ⊥) → source.new ≡ source.old }
+    ensures stream { R.stream source.new ≡ R.stream source.old }
     ensures later { R.faults source.old ≤ R.faults source.new }
     ensures fault { IsErrOf result MessageStop.ReadFault → Rose (R.faults source.old) (R.faults source.new) }
 {
@@ -163,6 +164,7 @@ fn read_apart<R: Source>(
     ensures tells { Gave buffer.old buffer.new (R.left source.old) (R.left source.new) (Tells buffer.new (R.left source.new) result) }
     ensures limit { buffer.new.taken ≤ take_limit }
     ensures settled { (IsUnsettled buffer.old.bytes → ⊥) → source.new ≡ source.old }
+    ensures stream { R.stream source.new ≡ R.stream source.old }
     ensures later { R.faults source.old ≤ R.faults source.new }
     ensures fault { IsErrOf result MessageStop.ReadFault → Rose (R.faults source.old) (R.faults source.new) }
 {
@@ -193,6 +195,7 @@ fn read_body<R: Source>(
     ensures tells { Gave buffer.old buffer.new (R.left source.old) (R.left source.new) (Tells buffer.new (R.left source.new) result) }
     ensures limit { buffer.new.taken ≤ take_limit }
     ensures settled { (IsUnsettled buffer.old.bytes → ⊥) → source.new ≡ source.old }
+    ensures stream { R.stream source.new ≡ R.stream source.old }
     ensures later { R.faults source.old ≤ R.faults source.new }
     ensures fault { IsErrOf result MessageStop.ReadFault → Rose (R.faults source.old) (R.faults source.new) }
 {
@@ -220,6 +223,7 @@ fn next_of<R: Source>(
     ensures tells { Gave buffer.old buffer.new (R.left source.old) (R.left source.new) (Tells buffer.new (R.left source.new) result) }
     ensures limit { buffer.new.taken ≤ take_limit }
     ensures settled { (IsUnsettled buffer.old.bytes → ⊥) → source.new ≡ source.old }
+    ensures stream { R.stream source.new ≡ R.stream source.old }
     ensures later { R.faults source.old ≤ R.faults source.new }
     ensures fault { IsErrOf result MessageStop.ReadFault → Rose (R.faults source.old) (R.faults source.new) }
 {
@@ -258,6 +262,7 @@ pub fn read_message<R: Source>(
     ensures uses { OnRequest result (λ m. buffer.old.taken + length (drop m.used buffer.new.bytes) < buffer.new.taken + length buffer.old.bytes) }
     // A message whose bytes are held is answered without a read.
     ensures settled { (IsUnsettled buffer.old.bytes → ⊥) → source.new ≡ source.old }
+    ensures stream { R.stream source.new ≡ R.stream source.old }
     ensures later { R.faults source.old ≤ R.faults source.new }
     ensures fault { IsErrOf result MessageStop.ReadFault → Rose (R.faults source.old) (R.faults source.new) }
 {

@@ -58,6 +58,7 @@ pub(crate) fn read_head<R: Source>(source: &mut R, buffer: &mut Buffer) -> Resul
     // The source is read only where the bytes that are held settle nothing.
     ensures settled { (IsOpen buffer.old.bytes → ⊥) → source.new ≡ source.old }
     ensures full { head_room ≤ length buffer.old.bytes → source.new ≡ source.old }
+    ensures stream { R.stream source.new ≡ R.stream source.old }
     ensures later { R.faults source.old ≤ R.faults source.new }
     ensures fault { IsErrOf result Stop.ReadFault → Rose (R.faults source.old) (R.faults source.new) }
 {

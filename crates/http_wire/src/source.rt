@@ -1,5 +1,5 @@
 // Where bytes come from.
-ghost use Rattle.std.specs.Prelude.{◌≡◌, ◌≤◌, ℕ, List, Option, length};
+ghost use Rattle.std.specs.Prelude.{◌≡◌, ◌≤◌, ℕ, List, Option, None, length};
 ghost use Rattle.std.specs.Io.{ReadsAtMost};
 ghost use Rattle.std.specs.Io.KnownBytes.{ReadConsumes};
 ghost use Rattle.office_base.specs.Faults.{HasCause};
@@ -12,6 +12,9 @@ pub trait Source {
     /// The bytes that are left, where the source tells them.
     ghost left: { Self → Option (List ℕ) };
 
+    /// All its bytes, those that it gave and those that are left, where the source tells them.
+    ghost stream: { Self → Option (List ℕ) };
+
     /// How often it failed.
     ghost faults: { Self → ℕ };
 
@@ -23,6 +26,7 @@ pub trait Source {
     fn read(&mut self, room: &mut [u8]) -> Result<usize, Failed>
         ensures bound { ReadsAtMost result room.new }
         ensures bytes { ReadConsumes (left self.old) (left self.new) result room.new }
+        ensures stream { stream self.new ≡ stream self.old }
         ensures cause { HasCause (faults self.old) (faults self.new) result };
 }
 
@@ -45,6 +49,8 @@ impl<R: Read + Drop> ReaderSource<R> {
 
 impl<R: Read + Drop> Source for ReaderSource<R> {
     ghost left = { λ s. R.remaining s.reader };
+
+    ghost stream = { λ s. None };
 
     ghost faults = { λ s. s.faults };
 

@@ -16,7 +16,7 @@ use Rattle.desk_core.specs.Serving.{Opened, Recoverable, KeepsSlots}
 use Rattle.desk_core.specs.declared.fault.DeskFault.{DeskFault}
 use Rattle.desk_core.specs.declared.fault.DeskFault.TheVariants as faults
 use Rattle.desk_core.proofs.Narrowing.{recoverable_more}
-use Rattle.http_front.specs.Session.{Moves}
+use Rattle.desk_core.specs.Turns.{Moves}
 use Rattle.office_cli.specs.Numbers.{BeginsWith, AreNumbers}
 use Rattle.office_cli.specs.Running.{stale_by}
 

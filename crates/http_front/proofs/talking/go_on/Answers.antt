@@ -11,6 +11,7 @@ talking-init g c = record {
   limit = c.requires.limit;
   texts = refl;
   noted = refl;
+  stream = refl;
   read_later = omega arith;
   write_later = omega arith;
 }
@@ -30,6 +31,7 @@ talking-preserved g c =
       limit = c.answer_one.ensures.limit;
       texts = c.answer_one.ensures.texts ∙ c.talking.invariant.texts;
       noted = c.answer_one.ensures.noted ∙ c.talking.invariant.noted;
+      stream = c.answer_one.ensures.stream ∙ c.talking.invariant.stream;
       read_later = omega (arith, c.talking.invariant.read_later, c.answer_one.ensures.read_later);
       write_later = omega (arith, c.talking.invariant.write_later, c.answer_one.ensures.write_later);
     }

@@ -14,6 +14,7 @@ invariant-talking g l = record {
   limit : l.reader.taken ≤ take_limit;
   texts : g.W.Replies.texts l.out ≡ g.W.Replies.texts l.fn.out;
   noted : g.W.Replies.noted l.out ≡ g.W.Replies.noted l.fn.out;
+  stream : g.R.Source.stream l.source ≡ g.R.Source.stream l.fn.source;
   read_later : g.R.Source.faults l.fn.source ≤ g.R.Source.faults l.source;
   write_later : g.W.Replies.faults l.fn.out ≤ g.W.Replies.faults l.out;
 }

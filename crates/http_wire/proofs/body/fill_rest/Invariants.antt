@@ -8,6 +8,7 @@ invariant-filling g l = record {
       (λ given. (l.at ≡ l.from + length given) × (take l.at l.body ≡ take l.from l.fn.body ++ given));
   limit : l.buffer.taken ≤ take_limit;
   inside : l.at ≤ length l.body;
+  stream : g.R.Source.stream l.source ≡ g.R.Source.stream l.fn.source;
   faults : g.R.Source.faults l.fn.source ≤ g.R.Source.faults l.source;
 }
 

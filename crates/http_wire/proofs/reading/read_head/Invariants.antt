@@ -8,6 +8,7 @@ invariant-reading g l = record {
   took : Took l.fn.buffer l.buffer (g.R.Source.left l.fn.source) (g.R.Source.left l.source);
   unread : (IsOpen l.fn.buffer.bytes → ⊥) → (l.source ≡ l.fn.source) × (l.buffer.bytes ≡ l.fn.buffer.bytes);
   full : head_room ≤ length l.fn.buffer.bytes → l.source ≡ l.fn.source;
+  stream : g.R.Source.stream l.source ≡ g.R.Source.stream l.fn.source;
   faults : g.R.Source.faults l.fn.source ≤ g.R.Source.faults l.source;
 }
 

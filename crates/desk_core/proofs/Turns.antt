@@ -1,0 +1,35 @@
+-- The calls by which a desk is reached are legal, and one turn adds one call.
+use Rattle.std.proofs.Common.{◌≡◌, ℕ, ◌≤◌, Bool, true, false, Option, List, [], ◌∷◌, ◌++◌, map, Result, refl, sym, subst, arith}
+use Rattle.std.proofs.lemmas.List.{map-append}
+use Rattle.std.specs.Prelude.{IsTrue}
+use Rattle.disk_core.specs.Files.{State, IsImage, file_in, seen_in}
+use Rattle.disk_core.specs.declared.disk.FileNo.{FileNo}
+use Rattle.disk_core.specs.declared.disk.FileNo.TheVariants.{Journal}
+use Rattle.plain_office.specs.declared.command.Ask.{Ask}
+use Rattle.plain_office.specs.declared.command.Entry.{Entry}
+use Rattle.desk_core.specs.Answers.{Answer, Call}
+use Rattle.desk_core.specs.Asking.{Submits}
+use Rattle.desk_core.specs.Calls.{Legal}
+use Rattle.desk_core.specs.Desk.{DeskView, StandsFor}
+use Rattle.desk_core.specs.Serving.{Opened}
+use Rattle.desk_core.specs.Turns.{Moves, calls_from, Reaches, LegalSince}
+use Rattle.desk_core.specs.declared.fault.DeskFault.{DeskFault}
+use Rattle.desk_core.proofs.Again.{by_honesty, honest_legal}
+
+-- one call more
+pub moves_on : {T : Type 0} (moves : T → Ask → Result Answer DeskFault → T → Type 0) (first old new : T) (calls : List Call) (call : Call)
+    → Moves moves first calls old → moves old call.ask call.said new → Moves moves first (calls ++ call ∷ []) new
+moves_on moves first old new [] call same step = (new, subst (λ t. moves t call.ask call.said new) same step, refl)
+moves_on moves first old new (head ∷ calls) call path step = (path.0, path.1, moves_on moves path.0 old new calls call path.2 step)
+
+module _ {D C : Type 0} (honest : Bool) (state : D → State) (moment : D → ℕ) (had_since : D → ℕ → State → Type 0) (fault_count : D → ℕ)
+    (count last : C → ℕ) (told : C → Option (List ℕ)) where
+  abbrev Step : DeskView D C → Ask → Result Answer DeskFault → DeskView D C → Type 0
+  Step = Submits honest state moment had_since fault_count count last told
+
+  pub reaches_on : (first old new : DeskView D C) (pairs : List (Ask × Result Answer DeskFault)) (ask : Ask) (said : Result Answer DeskFault)
+      → Reaches honest state moment had_since fault_count count last told first old pairs → Step old ask said new
+      → Reaches honest state moment had_since fault_count count last told first new (pairs ++ (ask, said) ∷ [])
+  reaches_on first old new pairs ask said path step =
+      subst (λ (calls : List Call). Moves Step first calls new) (sym (map-append (λ pair. record { ask = pair.0; said = pair.1 }) pairs ((ask, said) ∷ [])))
+      (moves_on Step first old new (calls_from pairs) (record { ask = ask; said = said }) path step)
