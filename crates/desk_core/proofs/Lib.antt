@@ -1,11 +1,13 @@
 pub mod Adding
 pub mod Again
 pub mod Breaking
+pub mod Following
 pub mod Keeping
 pub mod Narrowing
 pub mod Offices
 pub mod OneMore
 pub mod Opened
+pub mod Runs
 pub mod Standing
 pub mod Submitted
 pub mod Told

@@ -112,6 +112,12 @@ begins_grown before after (inr more) = (more.0 ∷ [], more.1)
 begins_then : (a b c : List Entry) → Begins a b → Begins b c → Begins a c
 begins_then a b c first second = (first.0 ++ second.0, second.1 ∙ ap (λ (l : List Entry). l ++ second.0) first.1 ∙ append_assoc a first.0 second.0)
 
+-- calls leave the history that they began with, and what they added
+pub calls_grow : (limit faults : ℕ) (calls : List Call) (before after : List Entry) → Legal true limit faults calls before after → Begins before after
+calls_grow limit faults [] before after is = ([], is ∙ sym (append-nil before))
+calls_grow limit faults (call ∷ calls) before after is =
+    begins_then before is.0 after (begins_grown before is.0 (call_grows limit faults call before is.0 (is.0, is.1, refl))) (calls_grow limit (faults_after faults call.said) calls is.0 after is.2)
+
 but_one_then : (a b c : List Entry) → BeginsButOne a b → Begins b c → BeginsButOne a c
 but_one_then a b c (inl whole) more = inl (begins_then a b c whole more)
 but_one_then a b c (inr (front, entry, is, whole)) more = inr (front, entry, is, begins_then front b c whole more)

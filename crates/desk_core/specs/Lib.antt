@@ -6,8 +6,10 @@ pub mod Clocks
 pub mod Desk
 pub mod Histories
 pub mod Keeping
+pub mod Numbers
 pub mod Offices
 pub mod Opening
+pub mod Runs
 pub mod Serving
 pub mod TurnLaws
 pub mod Turns
