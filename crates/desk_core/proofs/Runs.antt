@@ -17,7 +17,7 @@ use Rattle.desk_core.specs.Calls.{Legal}
 use Rattle.desk_core.specs.Desk.{DeskView, parts_of, Holds, StandsFor}
 use Rattle.desk_core.specs.Numbers.{AreNumbers}
 use Rattle.desk_core.specs.Opening.{Opens, opened_with}
-use Rattle.desk_core.specs.Runs.{KeepsHistories, KeepsCalls, AnswersCalls, stale_by}
+use Rattle.desk_core.specs.Runs.{KeepsHistories, KeepsCalls, AnswersCalls, outside, stale_by}
 use Rattle.desk_core.specs.Serving.{Opened, KeepsSlots, Serves}
 use Rattle.desk_core.proofs.Again.{by_honesty, honest_legal}
 use Rattle.desk_core.proofs.Following.{Path, Followed, follow, numbers_told, stale_is}
@@ -80,7 +80,7 @@ module _ {D C : Type 0} (d : disks.Ghosts D) (k : clocks.Ghosts C)
   -- an office that was opened answers the calls by which its desk moved
   pub answers_calls : (disk : D) (clock : C) (limit : ℕ) (old new : DeskView D C) (calls : List Call)
       → Opens d.honest d.state d.moment d.had_since d.fault_count disk clock limit old → Path d k old calls new
-      → AnswersCalls d k limit disk new.disk clock new.clock calls
+      → AnswersCalls d k limit (outside disk clock) (outside new.disk new.clock) calls
   answers_calls disk clock limit old new calls opens path =
       let opened = opened_with d.moment d.fault_count opens.history old in
       let followed = follow d k counts_now only_now opened old new calls opens.stands path in

@@ -49,15 +49,23 @@ module _ {D : Type 0} (d : disks.Ghosts D) where
     -- the files of checkpoints stay
     pub slots : KeepsTo d.state d.moment d.had_since old new (KeepsSlots (d.state old))
 
+-- what stands under an office: its disk and its clock
+pub record Outside (D C : Type 0) : Type 0 where
+  pub disk : D
+  pub clock : C
+
+abbrev pub outside : {D C : Type 0} → D → C → Outside D C
+outside disk clock = record { disk = disk; clock = clock }
+
 module _ {D C : Type 0} (d : disks.Ghosts D) (k : clocks.Ghosts C) where
-  -- The office was opened over the old disk, answered these calls in order, and was closed.
-  pub record AnswersCalls (limit : ℕ) (old new : D) (clock_old clock_new : C) (calls : List Call) : Type 0 where
+  -- The office was opened over what stands under it, answered these calls in order, and was closed.
+  pub record AnswersCalls (limit : ℕ) (old new : Outside D C) (calls : List Call) : Type 0 where
     pub opened : Opened
     pub limit_is : opened.limit ≡ limit
     pub history : List Entry
     pub legal : Legal d.honest opened.limit opened.faults calls opened.history history
     -- each count of faults that was told rose since the entry, and is not above that at the return
-    pub faults : (d.fault_count old ≤ opened.faults) × AreToldBy (d.fault_count new) calls
-    -- the numbers of the clock are those of the calls, where it did not count to its end
-    pub numbers : k.count clock_new < 2 ^ 64 - 1 → (list : List ℕ) × AreNumbers calls list × Appends (k.told clock_old) (k.told clock_new) list
-    pub disk : IsTrue d.honest → KeepsCalls d old new opened calls history
+    pub faults : (d.fault_count old.disk ≤ opened.faults) × AreToldBy (d.fault_count new.disk) calls
+    -- the clock told the numbers of the calls, where it did not count to its end
+    pub numbers : k.count new.clock < 2 ^ 64 - 1 → (list : List ℕ) × AreNumbers calls list × Appends (k.told old.clock) (k.told new.clock) list
+    pub disk : IsTrue d.honest → KeepsCalls d old.disk new.disk opened calls history
