@@ -1,0 +1,69 @@
+-- Some command lines, computed.
+use Rattle.std.proofs.Common.{◌≡◌, refl, [], ◌∷◌, codes, Some, None}
+use Rattle.std.specs.Fmt.{digits}
+use Rattle.clap.proofs.OnLiterals.{clap_on_literals}
+use Rattle.command_line.specs.Lines.{asked, init, run, serve}
+
+pub init_read : asked (codes "init" ∷ []) ≡ Some init
+unfolding clap_on_literals asked digits
+init_read = refl
+
+pub run_read : asked (codes "run" ∷ []) ≡ Some run
+unfolding clap_on_literals asked digits
+run_read = refl
+
+pub serve_by_default : asked (codes "serve" ∷ codes "--listen" ∷ codes "127.0.0.1:8080" ∷ []) ≡ Some (serve (codes "127.0.0.1:8080") 4 4_294_967_295)
+unfolding clap_on_literals asked digits
+serve_by_default = refl
+
+pub serve_with_numbers : asked (codes "serve" ∷ codes "--listen=a" ∷ codes "--workers" ∷ codes "2" ∷ codes "--connections" ∷ codes "2" ∷ []) ≡ Some (serve (codes "a") 2 2)
+unfolding clap_on_literals asked digits
+serve_with_numbers = refl
+
+pub most : asked (codes "serve" ∷ codes "--listen=a" ∷ codes "--workers=64" ∷ codes "--connections=4294967295" ∷ []) ≡ Some (serve (codes "a") 64 4_294_967_295)
+unfolding clap_on_literals asked digits
+most = refl
+
+pub no_words : asked [] ≡ None
+unfolding clap_on_literals asked digits
+no_words = refl
+
+pub no_help : asked (codes "--help" ∷ []) ≡ None
+unfolding clap_on_literals asked digits
+no_help = refl
+
+pub no_help_word : asked (codes "help" ∷ []) ≡ None
+unfolding clap_on_literals asked digits
+no_help_word = refl
+
+pub no_version : asked (codes "--version" ∷ []) ≡ None
+unfolding clap_on_literals asked digits
+no_version = refl
+
+pub init_and_more : asked (codes "init" ∷ codes "x" ∷ []) ≡ None
+unfolding clap_on_literals asked digits
+init_and_more = refl
+
+pub nowhere : asked (codes "serve" ∷ []) ≡ None
+unfolding clap_on_literals asked digits
+nowhere = refl
+
+pub no_worker : asked (codes "serve" ∷ codes "--listen=a" ∷ codes "--workers" ∷ codes "0" ∷ []) ≡ None
+unfolding clap_on_literals asked digits
+no_worker = refl
+
+pub too_many_workers : asked (codes "serve" ∷ codes "--listen=a" ∷ codes "--workers" ∷ codes "65" ∷ []) ≡ None
+unfolding clap_on_literals asked digits
+too_many_workers = refl
+
+pub signed_number : asked (codes "serve" ∷ codes "--listen=a" ∷ codes "--workers" ∷ codes "+4" ∷ []) ≡ None
+unfolding clap_on_literals asked digits
+signed_number = refl
+
+pub leading_zero : asked (codes "serve" ∷ codes "--listen=a" ∷ codes "--workers" ∷ codes "04" ∷ []) ≡ None
+unfolding clap_on_literals asked digits
+leading_zero = refl
+
+pub listen_twice : asked (codes "serve" ∷ codes "--listen=a" ∷ codes "--listen=b" ∷ []) ≡ None
+unfolding clap_on_literals asked digits
+listen_twice = refl

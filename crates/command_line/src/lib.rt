@@ -1,0 +1,6 @@
+//! What the words of a command line ask for.
+#![tactic(auto)]
+
+mod line;
+
+pub use line::{CommandLine, LineFault, read_line};
