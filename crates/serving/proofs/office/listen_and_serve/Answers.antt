@@ -1,3 +1,14 @@
+use Rattle.std.proofs.Common.{refl, sym, subst, List, Option}
 use Rattle.desk_core.specs.Asking.{Submits}
+use Rattle.serving.specs.Connections.{Connection}
+use Rattle.serving.specs.Serving.{Serves}
 use Rattle.serving.proofs.Divided.{none_serve}
 use Rattle.serving.proofs.office.listen_and_serve.Goals as goal
+
+pub returns-in-Err-clause-serves : goal.returns-in-Err-clause-serves
+returns-in-Err-clause-serves g c =
+    let d = g.D.Disk in
+    let k = g.C.Clock in
+    let told = g.P.Port.connections c.args.port.now in
+    subst (λ (after : Option (List Connection)). Serves (Submits d.honest d.state d.moment d.had_since d.fault_count k.count k.last k.told) c.args.workers c.args.desk c.args.desk told after) (sym c.listen.ensures.connections)
+    (none_serve (Submits d.honest d.state d.moment d.had_since d.fault_count k.count k.last k.told) c.args.workers c.args.desk c.args.desk told refl)
