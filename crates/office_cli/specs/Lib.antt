@@ -1,4 +1,3 @@
 pub mod Lines
 pub mod Making
-pub mod Numbers
 pub mod Running

@@ -1,4 +1,4 @@
--- The words of the program, its statuses, and the lines that it prints.
+-- The statuses of the program, and the lines that it prints.
 use Rattle.std.specs.Prelude.{◌≡◌, ◌⊎◌, ℕ, Bool, true, false, List, [], ◌∷◌, ◌++◌, codes, decimal}
 use Rattle.meter_journal.specs.declared.fault.OpenFault.{OpenFault}
 use Rattle.meter_journal.specs.declared.fault.OpenFault.TheVariants as faults
@@ -6,18 +6,8 @@ use Rattle.meter_journal.specs.declared.making.Made.{Made}
 use Rattle.meter_journal.specs.declared.making.Made.TheVariants as mades
 use Rattle.http_front.specs.declared.answering.SessionEnd.{SessionEnd}
 use Rattle.http_front.specs.declared.answering.SessionEnd.TheVariants as ends
-
--- ---- words
-
-abbrev pub init_line : List (List ℕ)
-init_line = codes "init" ∷ []
-
-abbrev pub run_line : List (List ℕ)
-run_line = codes "run" ∷ []
-
--- a command line of the program
-abbrev pub IsLine : List (List ℕ) → Type 0
-IsLine words = (words ≡ init_line) ⊎ (words ≡ run_line)
+use Rattle.serving.specs.declared.worker.WorkerEnd.{WorkerEnd}
+use Rattle.serving.specs.declared.worker.WorkerEnd.TheVariants as workers
 
 -- ---- statuses (own)
 
@@ -39,12 +29,26 @@ fault_status faults.Foreign = 5
 fault_status (faults.Damaged at) = 5
 fault_status faults.NoMemory = 6
 
--- those of a run whose office was opened, and of any run
-abbrev pub IsServeStatus : ℕ → Type 0
-IsServeStatus status = (end : SessionEnd) × (stale : Bool) × (status ≡ status_of end stale)
+-- of workers that ended so, with a desk that is stale then or not; where two hold, the first of 7, 2 and 6 (own)
+abbrev pub workers_status : WorkerEnd → Bool → ℕ
+workers_status workers.PortFault stale = 7
+workers_status workers.NoMemory true = 2
+workers_status workers.NoMemory false = 6
+workers_status workers.Done true = 2
+workers_status workers.Done false = 0
+
+-- those of a session, and of a command that runs one; of workers, and of a command that has some
+abbrev pub IsSessionStatus : ℕ → Type 0
+IsSessionStatus status = (end : SessionEnd) × (stale : Bool) × (status ≡ status_of end stale)
 
 abbrev pub IsRunStatus : ℕ → Type 0
-IsRunStatus status = IsServeStatus status ⊎ ((fault : OpenFault) × (status ≡ fault_status fault))
+IsRunStatus status = IsSessionStatus status ⊎ ((fault : OpenFault) × (status ≡ fault_status fault))
+
+abbrev pub IsWorkersStatus : ℕ → Type 0
+IsWorkersStatus status = (end : WorkerEnd) × (stale : Bool) × (status ≡ workers_status end stale)
+
+abbrev pub IsServeStatus : ℕ → Type 0
+IsServeStatus status = IsWorkersStatus status ⊎ ((fault : OpenFault) × (status ≡ fault_status fault))
 
 -- that of a command that was done, but for want of memory and an input that is too long
 abbrev pub IsDone : ℕ → Type 0
@@ -77,6 +81,14 @@ end_note ends.NoMemory true = line (codes "store: failed")
 end_note ends.NoMemory false = line (codes "memory: refused")
 end_note ends.Ended true = line (codes "store: failed")
 end_note ends.Ended false = []
+
+-- of the end of workers, with a desk that is stale then or not; nothing where all was done
+unfoldable pub workers_note : WorkerEnd → Bool → List ℕ
+workers_note workers.PortFault stale = line (codes "port: failed")
+workers_note workers.NoMemory true = line (codes "store: failed")
+workers_note workers.NoMemory false = line (codes "memory: refused")
+workers_note workers.Done true = line (codes "store: failed")
+workers_note workers.Done false = []
 
 -- of a journal that was not opened, or not made
 unfoldable pub fault_note : OpenFault → List ℕ

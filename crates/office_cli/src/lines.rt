@@ -2,15 +2,19 @@
 ghost use Rattle.std.specs.Prelude.{false, ◌≡◌, ◌+◌, ◌≤◌, ◌++◌, length, take};
 ghost use Rattle.http_front.specs.declared.answering.SessionEnd.TheVariants.{NoMemory};
 ghost use Rattle.meter_journal.specs.declared.fault.OpenFault.TheVariants.{Damaged};
-ghost use Rattle.office_cli.specs.Lines.{status_of, fault_status, made_line, usage_note, clock_note, end_note, fault_note};
-ghost use Rattle.office_cli.specs.Running.{IsNoted};
+ghost use Rattle.office_cli.specs.Lines.{status_of, fault_status, workers_status, made_line, usage_note, clock_note, end_note, fault_note, workers_note};
+ghost use Rattle.office_cli.specs.Running.{IsNoted, IsSilent};
 
 use http_front::{Replies, SessionEnd};
 use meter_journal::{Made, OpenFault};
+use serving::WorkerEnd;
 use std::io::ErrorKind;
 
 /// The status of words that are no command line.
 pub(crate) const USAGE: u8 = 1;
+
+/// The status where memory ran out.
+pub(crate) const MEMORY: u8 = 6;
 
 /// The status where a text could not be said.
 pub(crate) const OUTPUT: u8 = 4;
@@ -29,8 +33,19 @@ pub(crate) fn end_status(end: SessionEnd, stale: bool) -> u8
         SessionEnd::WriteFault => OUTPUT,
         SessionEnd::ReadFault => 3,
         SessionEnd::Spent => 9,
-        SessionEnd::NoMemory => if stale { STORE } else { 6 },
+        SessionEnd::NoMemory => if stale { STORE } else { MEMORY },
         SessionEnd::Ended => if stale { STORE } else { 0 },
+    }
+}
+
+// The status of workers that ended so, with a desk that is stale then or not.
+pub(crate) fn served_status(end: WorkerEnd, stale: bool) -> u8
+    ensures { result ≡ workers_status end stale }
+{
+    match end {
+        WorkerEnd::PortFault => 7,
+        WorkerEnd::NoMemory => if stale { STORE } else { MEMORY },
+        WorkerEnd::Done => if stale { STORE } else { 0 },
     }
 }
 
@@ -42,7 +57,7 @@ pub(crate) fn open_status(fault: OpenFault) -> u8
         OpenFault::Foreign => 5,
         OpenFault::Damaged { .. } => 5,
         OpenFault::StoreFault => STORE,
-        OpenFault::NoMemory => 6,
+        OpenFault::NoMemory => MEMORY,
     }
 }
 
@@ -86,10 +101,25 @@ pub(crate) fn end_line(end: SessionEnd, stale: bool) -> &'static [u8]
     }
 }
 
+#[tactic(auto, unfolding(crate::specs::Lines::workers_note))]
+pub(crate) fn served_line(end: WorkerEnd, stale: bool) -> &'static [u8]
+    ensures { result.now ≡ workers_note end stale }
+{
+    match end {
+        WorkerEnd::PortFault => b"port: failed\n",
+        WorkerEnd::NoMemory => if stale {
+            b"store: failed\n"
+        } else {
+            b"memory: refused\n"
+        },
+        WorkerEnd::Done => if stale { b"store: failed\n" } else { b"" },
+    }
+}
+
 // Notes a line, or nothing where it is empty.
 pub(crate) fn note_line<W: Replies>(out: &mut W, line: &[u8])
-    ensures silent { (W.said out.new ≡ W.said out.old) × (W.moments out.new ≡ W.moments out.old) × (W.texts out.new ≡ W.texts out.old) }
-    ensures noted { IsNoted (W.noted out.old) (W.noted out.new) (W.faults out.old) (W.faults out.new) line.now }
+    ensures silent { IsSilent W.Replies out.old out.new }
+    ensures noted { IsNoted W.Replies out.old out.new line.now }
     ensures later { W.faults out.old ≤ W.faults out.new }
 {
     if !line.is_empty() {
@@ -125,8 +155,8 @@ fn put_damage(room: &mut [u8], offset: u64) -> usize
 }
 
 fn note_damage<W: Replies>(out: &mut W, offset: u64)
-    ensures silent { (W.said out.new ≡ W.said out.old) × (W.moments out.new ≡ W.moments out.old) × (W.texts out.new ≡ W.texts out.old) }
-    ensures noted { IsNoted (W.noted out.old) (W.noted out.new) (W.faults out.old) (W.faults out.new) (fault_note (Damaged offset)) }
+    ensures silent { IsSilent W.Replies out.old out.new }
+    ensures noted { IsNoted W.Replies out.old out.new (fault_note (Damaged offset)) }
     ensures later { W.faults out.old ≤ W.faults out.new }
 {
     let mut room = [0; 48];
@@ -137,8 +167,8 @@ fn note_damage<W: Replies>(out: &mut W, offset: u64)
 // Notes why a journal was not opened, or not made.
 #[tactic(auto, unfolding(crate::specs::Lines::fault_note))]
 pub(crate) fn note_fault<W: Replies>(out: &mut W, fault: OpenFault)
-    ensures silent { (W.said out.new ≡ W.said out.old) × (W.moments out.new ≡ W.moments out.old) × (W.texts out.new ≡ W.texts out.old) }
-    ensures noted { IsNoted (W.noted out.old) (W.noted out.new) (W.faults out.old) (W.faults out.new) (fault_note fault) }
+    ensures silent { IsSilent W.Replies out.old out.new }
+    ensures noted { IsNoted W.Replies out.old out.new (fault_note fault) }
     ensures later { W.faults out.old ≤ W.faults out.new }
 {
     match fault {
@@ -153,10 +183,10 @@ pub(crate) fn note_fault<W: Replies>(out: &mut W, fault: OpenFault)
 // Notes why there are no words, and answers the status: memory ran out, or one of them is not UTF-8.
 pub(crate) fn refuse_words<W: Replies>(out: &mut W, kind: ErrorKind) -> u8
     ensures memory { kind ≡ ErrorKind.OutOfMemory → (result ≡ status_of NoMemory false)
-        × IsNoted (W.noted out.old) (W.noted out.new) (W.faults out.old) (W.faults out.new) (end_note NoMemory false) }
+        × IsNoted W.Replies out.old out.new (end_note NoMemory false) }
     ensures usage { (kind ≡ ErrorKind.OutOfMemory → ⊥) → (result ≡ 1)
-        × IsNoted (W.noted out.old) (W.noted out.new) (W.faults out.old) (W.faults out.new) usage_note }
-    ensures silent { (W.said out.new ≡ W.said out.old) × (W.moments out.new ≡ W.moments out.old) × (W.texts out.new ≡ W.texts out.old) }
+        × IsNoted W.Replies out.old out.new usage_note }
+    ensures silent { IsSilent W.Replies out.old out.new }
 {
     if kind == ErrorKind::OutOfMemory {
         note_line(out, end_line(SessionEnd::NoMemory, false));

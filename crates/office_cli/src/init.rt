@@ -1,0 +1,48 @@
+// Making the journal.
+ghost use Rattle.std.specs.Prelude.{◌≡◌, ◌≤◌, IsTrue};
+ghost use Rattle.office_base.specs.Faults.{Rose};
+ghost use Rattle.meter_journal.specs.Reading.{IsForeign};
+ghost use Rattle.office_cli.specs.Lines.{IsRunStatus};
+ghost use Rattle.office_cli.specs.Making.{IsPutOut, Inits};
+
+use crate::lines::{OUTPUT, end_line, made_text, note_fault, note_line, open_status};
+use disk_core::Disk;
+use http_front::{Replies, SessionEnd};
+use meter_journal::{Made, create};
+
+// Says that the journal is there, and answers the status.
+fn say_made<W: Replies>(out: &mut W, made: Made) -> u8
+    ensures told { IsPutOut W.Replies made out.old out.new result }
+    ensures unsaid { (W.said out.new ≡ W.said out.old) × (W.moments out.new ≡ W.moments out.old) }
+    ensures later { W.faults out.old ≤ W.faults out.new }
+    ensures write_fault { result ≡ 4 → Rose (W.faults out.old) (W.faults out.new) }
+{
+    match out.text(made_text(made)) {
+        Ok(()) => 0,
+        Err(_) => {
+            note_line(out, end_line(SessionEnd::WriteFault, false));
+            OUTPUT
+        }
+    }
+}
+
+// Makes the journal where it is not made, and says so.
+pub(crate) fn init<W: Replies, D: Disk>(out: &mut W, disk: &mut D) -> u8
+    ensures inits { Inits D.Disk W.Replies disk.old disk.new out.old out.new result }
+    ensures unsaid { (W.said out.new ≡ W.said out.old) × (W.moments out.new ≡ W.moments out.old) }
+    ensures foreign { IsTrue D.honest → result ≡ 5 → IsForeign (D.state disk.old).journal.seen }
+    ensures later { (W.faults out.old ≤ W.faults out.new) × (D.fault_count disk.old ≤ D.fault_count disk.new) }
+    ensures statuses { IsRunStatus result }
+    ensures not_read { result ≡ 3 → ⊥ }
+    ensures not_spent { result ≡ 9 → ⊥ }
+    ensures disk_fault { result ≡ 2 → Rose (D.fault_count disk.old) (D.fault_count disk.new) }
+    ensures write_fault { result ≡ 4 → Rose (W.faults out.old) (W.faults out.new) }
+{
+    match create(disk) {
+        Ok(made) => say_made(out, made),
+        Err(fault) => {
+            note_fault(out, fault);
+            open_status(fault)
+        }
+    }
+}
