@@ -1,1 +1,4 @@
 pub mod Examples
+mod Numerals
+mod Options
+mod Reading

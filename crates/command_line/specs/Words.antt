@@ -1,7 +1,10 @@
 -- The words that the office takes, as a simple command of clap.
-use Rattle.std.specs.Prelude.{List, [], ◌∷◌, Some, true, false, codes}
+use Rattle.std.specs.Prelude.{◌≡◌, List, [], ◌∷◌, Some, true, false, codes}
 use Rattle.clap.specs.Walk.{Rule, Text}
-use Rattle.clap.specs.Simple.{App, Shape, new_rule, new_shape}
+use Rattle.clap.specs.Simple.{App, Shape, app_of, new_rule, new_shape}
+use Rattle.clap.specs.Words.{is_broken}
+use Rattle.clap.specs.declared.builder.command.Command.{Command}
+use Rattle.clap.specs.declared.builder.command.Command.TheViews.{out-Command}
 use Rattle.clap.specs.declared.builder.action.ArgAction.TheVariants.{Set}
 
 -- an option `--name VALUE` or `--name=VALUE`, and one that must be given
@@ -24,16 +27,32 @@ run_words = subcommand (codes "run") []
 abbrev pub serve_words : Shape
 serve_words = subcommand (codes "serve") (needed_option (codes "listen") ∷ option (codes "workers") ∷ option (codes "connections") ∷ [])
 
--- one of these subcommands, of which there must be one; no help and no version is asked for by words
-abbrev pub office_words : App
-office_words = record {
+-- the command without its subcommands: one must be given, and words ask for no help and for no version
+abbrev pub office_top : App
+office_top = record {
   top = record (new_shape (codes "office")) {
-    is_leaf = false;
     no_binary_name = true;
     disable_help_flag = true;
     disable_help_subcommand = true;
     disable_version_flag = true;
     subcommand_required = true;
   };
+  subs = [];
+}
+
+-- the command with its subcommands
+abbrev pub office_words : App
+office_words = record {
+  top = record office_top.top { is_leaf = false };
   subs = init_words ∷ run_words ∷ serve_words ∷ [];
 }
+
+-- ---- commands in memory
+
+-- a subcommand alone
+abbrev pub alone : Shape → App
+alone shape = record { top = shape; subs = [] }
+
+-- the command is this one, whole, and none of its arguments is global
+abbrev pub IsCommand : App → Command → Type 0
+IsCommand app command = (app_of command ≡ app) × (is_broken command ≡ false) × ((out-Command command).has_globals ≡ false)

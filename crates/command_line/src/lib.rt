@@ -2,5 +2,9 @@
 #![tactic(auto)]
 
 mod line;
+mod numbers;
+#[cfg(test)]
+mod tests;
+mod words;
 
 pub use line::{CommandLine, LineFault, read_line};

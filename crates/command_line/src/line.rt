@@ -1,11 +1,25 @@
 // What a command line asks for.
-ghost use Rattle.std.specs.Prelude.{◌≡◌, Some, None, IfOk, IsErrOf, map, string_bytes};
-ghost use Rattle.command_line.specs.Lines.{asked, line_of};
+ghost use Rattle.std.specs.Prelude.{◌≡◌, ◌≢◌, Some, None, IfOk, IsErrOf, map, string_bytes, option_and_then};
+ghost use Rattle.clap.specs.Words.{found_of, rows_of, subcommand_rows_of};
+ghost use Rattle.command_line.specs.Lines.{asked, command_of, line_of, serve_of};
 
-use std::alloc::Global;
+use crate::numbers::number_of;
+use crate::words::office;
+use clap::ArgMatches;
+use clap::error::ErrorKind;
+use std::alloc::{AllocError, Global};
+
+/// The most workers that serve.
+const MOST_WORKERS: u32 = 64;
+
+/// How many workers serve where none are told. Own rule: what a small machine has processors for.
+const WORKERS: u32 = 4;
+
+/// The most connections of a worker, and how many where none are told. Own rule: in practice it does not end.
+const CONNECTIONS: u32 = u32::MAX;
 
 /// What a command line asks for.
-#[derive(Debug)]
+#[derive(Debug, Drop)]
 pub enum CommandLine {
     /// The journal, made where it is not made: `init`.
     Init,
@@ -31,6 +45,17 @@ pub enum LineFault {
     NoMemory,
 }
 
+impl From<AllocError> for LineFault {
+    ghost use Rattle.std.specs.Prelude.{◌≡◌};
+    ghost use Rattle.command_line.specs.declared.line.LineFault.TheVariants.{NoMemory};
+
+    ghost from_gives = { λ _ e. e ≡ NoMemory };
+
+    fn from(_e: AllocError) -> LineFault {
+        LineFault::NoMemory
+    }
+}
+
 /// Reads the words behind the program's name.
 ///
 /// # Errors
@@ -40,5 +65,67 @@ pub fn read_line(alloc: Global, words: &[String]) -> Result<CommandLine, LineFau
     ensures read { IfOk result (λ line. asked (map string_bytes words.now) ≡ Some (line_of line)) }
     ensures refused { IsErrOf result LineFault.NotALine → asked (map string_bytes words.now) ≡ None }
 {
-    Err(LineFault::NoMemory)
+    match office(alloc)?.try_get_matches_from(words) {
+        Ok(matches) => command(alloc, &matches),
+        Err(error) => Err(fault(error.kind())),
+    }
+}
+
+// Why words are not read, where clap did not read them.
+fn fault(kind: ErrorKind) -> LineFault
+    ensures { result ≡ LineFault.NotALine → kind ≢ ErrorKind.OutOfMemory }
+{
+    if kind == ErrorKind::OutOfMemory {
+        return LineFault::NoMemory;
+    }
+    LineFault::NotALine
+}
+
+// What words ask for that clap read.
+fn command(alloc: Global, matches: &ArgMatches) -> Result<CommandLine, LineFault>
+    ensures read { IfOk result (λ line. option_and_then command_of (subcommand_rows_of matches.now) ≡ Some (line_of line)) }
+    ensures refused { IsErrOf result LineFault.NotALine → option_and_then command_of (subcommand_rows_of matches.now) ≡ None }
+{
+    match matches.subcommand() {
+        Some((name, given)) => named(alloc, name, given),
+        None => Err(LineFault::NotALine),
+    }
+}
+
+// What a subcommand asks for.
+fn named(alloc: Global, name: &str, given: &ArgMatches) -> Result<CommandLine, LineFault>
+    ensures read { IfOk result (λ line. command_of (name.now, rows_of (found_of given.now)) ≡ Some (line_of line)) }
+    ensures refused { IsErrOf result LineFault.NotALine → command_of (name.now, rows_of (found_of given.now)) ≡ None }
+{
+    if name == "init" {
+        return Ok(CommandLine::Init);
+    }
+    if name == "run" {
+        return Ok(CommandLine::Run);
+    }
+    if name == "serve" {
+        return serve(alloc, given);
+    }
+    Err(LineFault::NotALine)
+}
+
+// What the options of `serve` ask for.
+fn serve(alloc: Global, given: &ArgMatches) -> Result<CommandLine, LineFault>
+    ensures read { IfOk result (λ line. serve_of (rows_of (found_of given.now)) ≡ Some (line_of line)) }
+    ensures refused { IsErrOf result LineFault.NotALine → serve_of (rows_of (found_of given.now)) ≡ None }
+{
+    let Some(listen) = given.get_str("listen") else {
+        return Err(LineFault::NotALine);
+    };
+    let Some(workers) = number_of(given.get_str("workers"), WORKERS, MOST_WORKERS) else {
+        return Err(LineFault::NotALine);
+    };
+    let Some(connections) = number_of(given.get_str("connections"), CONNECTIONS, CONNECTIONS) else {
+        return Err(LineFault::NotALine);
+    };
+    Ok(CommandLine::Serve {
+        listen: String::from_str(alloc, listen)?,
+        workers,
+        connections,
+    })
 }
