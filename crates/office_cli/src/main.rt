@@ -46,9 +46,9 @@ fn open_journal<R: Files<File = File>>(rt: &R, words: &[String]) -> Option<File>
 }
 
 // The files of the folder, which is made where it is not there. A file that cannot be opened is none, and so are all where the
-// journal cannot be opened or the words are no command.
-fn open_disk<R: Files<File = File>>(rt: &R, words: &[String]) -> FileDisk {
-    if !is_command(words) || fs::create_dir_all(rt, FOLDER).is_err() {
+// journal cannot be opened, the words are no command, or a file might get the number of a standard stream.
+fn open_disk<R: Files<File = File>>(rt: &R, words: &[String], held: bool) -> FileDisk {
+    if !held || !is_command(words) || fs::create_dir_all(rt, FOLDER).is_err() {
         return FileDisk::new(None, None, None);
     }
     match open_journal(rt, words) {
@@ -62,8 +62,17 @@ fn open_disk<R: Files<File = File>>(rt: &R, words: &[String]) -> FileDisk {
 }
 
 // Takes the number of a standard stream that is closed, so that no file of the disk gets it and a reply is not written there.
+// What is opened is only read, so that a reply to it fails; the folder is there also where no device is.
 fn hold_number<R: Files>(rt: &R) -> Option<R::File> {
-    File::open(rt, "/dev/null").ok()
+    match File::open(rt, "/dev/null") {
+        Ok(file) => Some(file),
+        Err(_) => File::open(rt, "/").ok(),
+    }
+}
+
+// Takes the numbers of all standard streams that are closed, or none of them.
+fn hold_numbers<R: Files>(rt: &R) -> Option<[R::File; 3]> {
+    Some([hold_number(rt)?, hold_number(rt)?, hold_number(rt)?])
 }
 
 // The words behind the program's name.
@@ -76,9 +85,7 @@ fn words_of<R: Env + Alloc<A = Global>>(rt: &R) -> io::Result<Vec<String>> {
 }
 
 fn main(rt: HostRuntime) -> ExitCode {
-    let _first = hold_number(&rt);
-    let _second = hold_number(&rt);
-    let _third = hold_number(&rt);
+    let held = hold_numbers(&rt);
     let mut out = WriterReplies::new(rt.stdout(), rt.stderr());
     let words = match words_of(&rt) {
         Ok(words) => words,
@@ -90,7 +97,7 @@ fn main(rt: HostRuntime) -> ExitCode {
         &words,
         &mut input,
         &mut out,
-        open_disk(&rt, &words),
+        open_disk(&rt, &words, held.is_some()),
         SystemClock::new(&rt),
     );
     ExitCode::from(end.status)
