@@ -4,10 +4,13 @@
 #   closed_streams.sh PROGRAM
 #
 # A program that opens its files while a standard stream is closed may get that stream's number for one of them, and
-# then writes its replies there. Prints one line a case, and 'N passed, M failed' last; ends with 1 where a case failed.
+# then writes its replies there. The same is shown where there is no /dev/null, as in a bare container, and, where even the
+# folder / cannot be opened, that the journal is not touched: these need leave to mount and to change the root, and are
+# skipped with a line where there is none. Prints one line a case, and 'N passed, M failed' last; ends with 1 where a case
+# failed.
 set -u
 
-tools='od tr'
+tools='cat od sed tr'
 . "$(dirname -- "$0")/common"
 
 # The open gate and the mark A5 'METERJRN1', a closed gate; and, with an entry between them, the entry's length, eight
@@ -82,26 +85,91 @@ begin() {
     : >notes
 }
 
-for streams in '' 0 1 2 01 02 12 012; do
-    closed=${streams:-none}
-    begin
-    run_closed "$streams" init
-    status=$?
-    case $streams in
-    *1*) check "init, closed: $closed" "journal $(journal) status $status" 'journal 11 status [0-9]' ;;
-    *) check "init, closed: $closed" "journal $(journal) status $status said $(text_of out)" 'journal 11 status 0 said made|' ;;
-    esac
+# Closes each stream in turn; the name says where the program runs.
+close_each() {
+    for streams in '' 0 1 2 01 02 12 012; do
+        closed="$1, closed: ${streams:-none}"
+        begin
+        run_closed "$streams" init
+        status=$?
+        case $streams in
+        *1*) check "init, $closed" "journal $(journal) status $status" 'journal 11 status [0-9]' ;;
+        *) check "init, $closed" "journal $(journal) status $status said $(text_of out)" 'journal 11 status 0 said made|' ;;
+        esac
 
-    begin
-    "$program" init </dev/null >out 2>notes || check "init before run, closed: $closed" "status $?" 'status 0'
-    run_closed "$streams" run
-    status=$?
-    case $streams in
-    *0*1* | *1*) check "run, closed: $closed" "journal $(journal) status $status" 'journal 11 status [0-9]' 'journal 31 status [0-9]' ;;
-    *0*) check "run, closed: $closed" "journal $(journal) status $status said $(text_of out)" 'journal 11 status [0-9] said ' ;;
-    *) check "run, closed: $closed" "journal $(journal) status $status said $(text_of out)" "journal 31 status 0 said $made_text" ;;
+        begin
+        "$program" init <in >out 2>notes || check "init before run, $closed" "status $?" 'status 0'
+        run_closed "$streams" run
+        status=$?
+        found="journal $(journal) status $status"
+        case $streams in
+        *1*) check "run, $closed" "$found" 'journal 11 status [0-9]' 'journal 31 status [0-9]' ;;
+        *0*) check "run, $closed" "$found said $(text_of out)" 'journal 11 status [0-9] said ' ;;
+        *) check "run, $closed" "$found said $(text_of out)" "journal 31 status 0 said $made_text" ;;
+        esac
+    done
+}
+
+# The same where the folder / cannot be opened: the journal of another run is left alone.
+refuse_each() {
+    for streams in 0 1 2 01 02 12 012; do
+        begin
+        "$program" init <in >out 2>notes
+        enter_root
+        outside=$program
+        program=$work/shut
+        run_closed "$streams" run
+        check "run, $1, closed: $streams" "journal $(journal) status $?" 'journal 11 status 2'
+        program=$outside
+    done
+}
+
+# Makes the case's folder a root that user 65534 can work in and not open.
+enter_root() {
+    cp "$program" office
+    ldd "$program" | tr -s ' \t' '\n' | grep '^/' | while IFS= read -r library; do
+        mkdir -p ".$(dirname "$library")"
+        cp "$library" ".$library"
+    done
+    chown -R 65534 office-data 2>/dev/null
+    chmod 0711 .
+}
+
+# Whether the program starts in this way: without words it tells its usage.
+starts() {
+    "$work/$1" >out 2>notes
+    case $(cat notes) in
+    *usage:*) true ;;
+    *) false ;;
     esac
-done
+}
+
+close_each 'a usual system'
+
+# The program in a name space of its own, whose /dev is empty.
+printf '#!/bin/sh\nexec unshare -r -m sh -c '\''mount -t tmpfs none /dev && exec "$0" "$@"'\'' "%s" "$@"\n' "$program" >"$work/bare"
+# The program in the case's folder as its root.
+printf '#!/bin/sh\nexec chroot --userspec=65534:65534 . /office "$@"\n' >"$work/shut"
+chmod +x "$work/bare" "$work/shut"
+
+begin
+if starts bare; then
+    outside=$program
+    program=$work/bare
+    close_each 'no /dev/null'
+    program=$outside
+else
+    echo 'skipped: an empty /dev cannot be mounted here'
+fi
+
+begin
+"$program" init <in >out 2>notes
+enter_root
+if starts shut; then
+    refuse_each 'no / to open'
+else
+    echo 'skipped: the root cannot be changed here'
+fi
 
 echo "$passed passed, $failed failed"
 [ "$failed" -eq 0 ]

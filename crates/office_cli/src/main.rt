@@ -27,22 +27,52 @@ fn open_file<R: Files>(rt: &R, path: &str) -> Option<R::File> {
     options.open(rt, path).ok()
 }
 
+// Whether the command only reads the files, so that it may work beside one that writes them.
+fn only_reads(words: &[String]) -> bool {
+    match words.first() {
+        Some(word) => matches!(word.as_str(), "report" | "explain"),
+        None => false,
+    }
+}
+
+// The journal's file, with the lock on it where the command may write. The lock is that of the open file, so it ends where the
+// file is closed or the process ends. There is none where the file cannot be opened, or another process holds the lock.
+fn open_journal<R: Files<File = File>>(rt: &R, words: &[String]) -> Option<File> {
+    let file = open_file(rt, "office-data/journal")?;
+    if !only_reads(words) && file.try_lock().is_err() {
+        return None;
+    }
+    Some(file)
+}
+
 // The files of the folder, which is made where it is not there. A file that cannot be opened is none, and so are all where the
-// words are no command.
-fn open_disk<R: Files<File = File>>(rt: &R, words: &[String]) -> FileDisk {
-    if !is_command(words) || fs::create_dir_all(rt, FOLDER).is_err() {
+// journal cannot be opened, the words are no command, or a file might get the number of a standard stream.
+fn open_disk<R: Files<File = File>>(rt: &R, words: &[String], held: bool) -> FileDisk {
+    if !held || !is_command(words) || fs::create_dir_all(rt, FOLDER).is_err() {
         return FileDisk::new(None, None, None);
     }
-    FileDisk::new(
-        open_file(rt, "office-data/journal"),
-        open_file(rt, "office-data/check.0"),
-        open_file(rt, "office-data/check.1"),
-    )
+    match open_journal(rt, words) {
+        Some(journal) => FileDisk::new(
+            Some(journal),
+            open_file(rt, "office-data/check.0"),
+            open_file(rt, "office-data/check.1"),
+        ),
+        None => FileDisk::new(None, None, None),
+    }
 }
 
 // Takes the number of a standard stream that is closed, so that no file of the disk gets it and a reply is not written there.
+// What is opened is only read, so that a reply to it fails; the folder is there also where no device is.
 fn hold_number<R: Files>(rt: &R) -> Option<R::File> {
-    File::open(rt, "/dev/null").ok()
+    match File::open(rt, "/dev/null") {
+        Ok(file) => Some(file),
+        Err(_) => File::open(rt, "/").ok(),
+    }
+}
+
+// Takes the numbers of all standard streams that are closed, or none of them.
+fn hold_numbers<R: Files>(rt: &R) -> Option<[R::File; 3]> {
+    Some([hold_number(rt)?, hold_number(rt)?, hold_number(rt)?])
 }
 
 // The words behind the program's name.
@@ -55,9 +85,7 @@ fn words_of<R: Env + Alloc<A = Global>>(rt: &R) -> io::Result<Vec<String>> {
 }
 
 fn main(rt: HostRuntime) -> ExitCode {
-    let _first = hold_number(&rt);
-    let _second = hold_number(&rt);
-    let _third = hold_number(&rt);
+    let held = hold_numbers(&rt);
     let mut out = WriterReplies::new(rt.stdout(), rt.stderr());
     let words = match words_of(&rt) {
         Ok(words) => words,
@@ -69,7 +97,7 @@ fn main(rt: HostRuntime) -> ExitCode {
         &words,
         &mut input,
         &mut out,
-        open_disk(&rt, &words),
+        open_disk(&rt, &words, held.is_some()),
         SystemClock::new(&rt),
     );
     ExitCode::from(end.status)
