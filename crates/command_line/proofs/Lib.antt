@@ -1,4 +1,5 @@
-pub mod Examples
 mod Numerals
 mod Options
 mod Reading
+pub mod Examples
+pub mod Ranges

@@ -7,4 +7,4 @@ mod numbers;
 mod tests;
 mod words;
 
-pub use line::{CommandLine, LineFault, read_line};
+pub use line::{CommandLine, LineFault, read_line, workers_in_range};

@@ -1,7 +1,7 @@
 // What a command line asks for.
-ghost use Rattle.std.specs.Prelude.{◌≡◌, ◌≢◌, Some, None, IfOk, IsErrOf, map, string_bytes, option_and_then};
+ghost use Rattle.std.specs.Prelude.{◌≡◌, ◌≢◌, ◌<◌, ◌≤◌, ℕ, List, Some, None, IfOk, IsErrOf, map, string_bytes, option_and_then};
 ghost use Rattle.clap.specs.Words.{found_of, rows_of, subcommand_rows_of};
-ghost use Rattle.command_line.specs.Lines.{asked, command_of, line_of, serve_of};
+ghost use Rattle.command_line.specs.Lines.{asked, command_of, line_of, serve_of, serve as serve_line};
 
 use crate::numbers::number_of;
 use crate::words::office;
@@ -129,3 +129,8 @@ fn serve(alloc: Global, given: &ArgMatches) -> Result<CommandLine, LineFault>
         connections,
     })
 }
+
+/// States that workers are 1 to 64 on each line that asks for service. It does nothing.
+pub fn workers_in_range()
+    ensures { (words : List (List ℕ)) (listen : List ℕ) (workers connections : ℕ) → asked words ≡ Some (serve_line listen workers connections) → (0 < workers) × (workers ≤ 64) }
+{}
