@@ -24,9 +24,3 @@ not_foreign faults.Foreign status file fails is five = fails
 not_foreign faults.StoreFault status file fails is five = absurd (omega (arith, is, five))
 not_foreign (faults.Damaged at) status file fails is five = absurd fails
 not_foreign faults.NoMemory status file fails is five = absurd (omega (arith, is, five))
-
--- a list of one
-pub only_one : {X : Type 0} (f : X → List ℕ) (xs : List X) (x : X) (w : List ℕ) → 1 ≤ length xs → length xs < 2 → x ≡ get_or xs 0 x → (f x ≡ w → map f xs ≡ w ∷ []) × (map f xs ≡ w ∷ [] → f x ≡ w)
-only_one f [] x w some few is = absurd (omega (arith, some))
-only_one f (y ∷ []) x w some few is = (λ same. ap (λ (t : List ℕ). t ∷ []) (ap f (sym is) ∙ same), λ same. ap f is ∙ cc)
-only_one f (y ∷ z ∷ ys) x w some few is = absurd (omega (arith, few))

@@ -1,5 +1,5 @@
 -- What the commands of the program do.
-use Rattle.std.specs.Prelude.{◌≡◌, ◌⊎◌, ℕ, ◌-◌, ◌^◌, ◌<◌, ◌≤◌, ◌+◌, min, Bool, false, List, [], ◌∷◌, length, Option, option_map, IsTrue}
+use Rattle.std.specs.Prelude.{◌≡◌, ◌⊎◌, ℕ, ◌-◌, ◌^◌, ◌<◌, ◌≤◌, ◌+◌, ◌*◌, min, Bool, false, List, [], ◌∷◌, length, Option, option_map, IsTrue}
 use Rattle.std.specs.Io.KnownBytes.{Appends}
 use Rattle.moments.specs.Time.{end_of_time}
 use Rattle.office_base.specs.Faults.{Rose}
@@ -129,7 +129,7 @@ module _ {D C W : Type 0} (d : disks.Ghosts D) (k : clocks.Ghosts C) (w : sinks.
   abbrev pub Serves : (WorkerEnd → Log → Type 0) → Surroundings D C W → Surroundings D C W → ℕ → Type 0
   Serves connected = Starts (AnswersWorkers connected)
 
-module _ {P : Type 0} (p : ports.Ghosts P) where
+module _ {P Source Replies : Type 0} (p : ports.Ghosts P Source Replies) where
   -- The port gave and ended as many connections as the workers served, all where all was done; and where it tells them they are
   -- those for which the calls of the list were made.
   pub record Connects (workers connections : ℕ) (old new : P) (end : WorkerEnd) (log : Log) : Type 0 where

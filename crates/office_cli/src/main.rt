@@ -1,17 +1,22 @@
 //! An office that keeps the records of an object store in a journal.
 #![tactic(auto)]
 
+mod init;
 mod lines;
 mod program;
+mod run;
+mod serve;
 #[cfg(test)]
 mod tests;
 
+use command_line::read_line;
 use desk_core::SystemClock;
 use disk_core::FileDisk;
 use http_front::WriterReplies;
 use http_wire::ReaderSource;
 use lines::refuse_words;
-use program::{is_command, office};
+use program::office;
+use serving::{OpenGate, TcpPort};
 use std::alloc::{Alloc, Global};
 use std::fs::{self, File, OpenOptions};
 use std::process::ExitCode;
@@ -27,31 +32,27 @@ fn open_file<R: Files>(rt: &R, path: &str) -> Option<R::File> {
     options.open(rt, path).ok()
 }
 
-// Whether the command only reads the files, so that it may work beside one that writes them.
-fn only_reads(words: &[String]) -> bool {
-    match words.first() {
-        Some(word) => matches!(word.as_str(), "report" | "explain"),
-        None => false,
-    }
-}
-
-// The journal's file, with the lock on it where the command may write. The lock is that of the open file, so it ends where the
-// file is closed or the process ends. There is none where the file cannot be opened, or another process holds the lock.
-fn open_journal<R: Files<File = File>>(rt: &R, words: &[String]) -> Option<File> {
+// The journal's file, with the lock on it. The lock is that of the open file, so it ends where the file is closed or the process
+// ends. There is none where the file cannot be opened, or another process holds the lock.
+fn open_journal<R: Files<File = File>>(rt: &R) -> Option<File> {
     let file = open_file(rt, "office-data/journal")?;
-    if !only_reads(words) && file.try_lock().is_err() {
-        return None;
+    match file.try_lock() {
+        Ok(()) => Some(file),
+        Err(_) => None,
     }
-    Some(file)
 }
 
 // The files of the folder, which is made where it is not there. A file that cannot be opened is none, and so are all where the
 // journal cannot be opened, the words are no command, or a file might get the number of a standard stream.
-fn open_disk<R: Files<File = File>>(rt: &R, words: &[String], held: bool) -> FileDisk {
-    if !held || !is_command(words) || fs::create_dir_all(rt, FOLDER).is_err() {
+fn open_disk<R: Files<File = File> + Alloc<A = Global>>(
+    rt: &R,
+    words: &[String],
+    held: bool,
+) -> FileDisk {
+    if !held || read_line(rt.alloc(), words).is_err() || fs::create_dir_all(rt, FOLDER).is_err() {
         return FileDisk::new(None, None, None);
     }
-    match open_journal(rt, words) {
+    match open_journal(rt) {
         Some(journal) => FileDisk::new(
             Some(journal),
             open_file(rt, "office-data/check.0"),
@@ -92,13 +93,17 @@ fn main(rt: HostRuntime) -> ExitCode {
         Err(e) => return ExitCode::from(refuse_words(&mut out, e.kind())),
     };
     let mut input = ReaderSource::new(rt.stdin());
+    let mut port = TcpPort::new(&rt);
     let end = office(
+        &rt,
         rt.alloc(),
         &words,
         &mut input,
         &mut out,
         open_disk(&rt, &words, held.is_some()),
         SystemClock::new(&rt),
+        &mut port,
+        &OpenGate,
     );
     ExitCode::from(end.status)
 }

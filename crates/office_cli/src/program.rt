@@ -7,8 +7,7 @@ ghost use Rattle.disk_core.specs.Moments.{KeepsTo};
 ghost use Rattle.plain_office.specs.declared.command.Entry.{Entry};
 ghost use Rattle.desk_core.specs.Histories.{HasAcceptedHistory, IsSound};
 ghost use Rattle.meter_journal.specs.Reading.{IsForeign};
-ghost use Rattle.command_line.specs.Lines.{asked, Line};
-ghost use Rattle.command_line.specs.Lines.Line as lines;
+ghost use Rattle.command_line.specs.Lines.{asked, Line, init as init_line, run as run_line, serve as serve_line};
 ghost use Rattle.http_front.specs.declared.answering.SessionEnd.TheVariants.{NoMemory};
 ghost use Rattle.office_cli.specs.Lines.{usage_note, end_note, IsRunStatus, IsServeStatus, IsDone};
 ghost use Rattle.office_cli.specs.Making.{Inits};
@@ -102,17 +101,17 @@ where
     R: Threads + Wait + Sync,
 
     // What run does.
-    ensures run { asked (map string_bytes words.now) ≡ Some lines.run
+    ensures run { asked (map string_bytes words.now) ≡ Some run_line
         → Runs D.Disk C.Clock W.Replies (S.left input.old) (around disk clock out.old) (around result.disk result.clock out.new) result.status
         ⊎ IsUnread W.Replies (around disk clock out.old) (around result.disk result.clock out.new) result.status }
 
     // What serve does.
-    ensures serve { (listen : List ℕ) (workers connections : ℕ) → asked (map string_bytes words.now) ≡ Some (lines.serve listen workers connections)
+    ensures serve { (listen : List ℕ) (workers connections : ℕ) → asked (map string_bytes words.now) ≡ Some (serve_line listen workers connections)
         → Serves D.Disk C.Clock W.Replies (Connects P.Port workers connections port.old port.new) (around disk clock out.old) (around result.disk result.clock out.new) result.status
         ⊎ IsUnread W.Replies (around disk clock out.old) (around result.disk result.clock out.new) result.status }
 
     // What init does.
-    ensures init { asked (map string_bytes words.now) ≡ Some lines.init
+    ensures init { asked (map string_bytes words.now) ≡ Some init_line
         → (Inits D.Disk W.Replies disk result.disk out.old out.new result.status × (result.clock ≡ clock))
         ⊎ IsUnread W.Replies (around disk clock out.old) (around result.disk result.clock out.new) result.status }
 
@@ -123,23 +122,23 @@ where
         ⊎ IsUnread W.Replies (around disk clock out.old) (around result.disk result.clock out.new) result.status }
 
     // Replies to messages of the input are said by a run alone, and other texts by init alone.
-    ensures unsaid { (asked (map string_bytes words.now) ≡ Some lines.run → ⊥) → (W.said out.new ≡ W.said out.old) × (W.moments out.new ≡ W.moments out.old) }
-    ensures no_text { (asked (map string_bytes words.now) ≡ Some lines.init → ⊥) → W.texts out.new ≡ W.texts out.old }
+    ensures unsaid { (asked (map string_bytes words.now) ≡ Some run_line → ⊥) → (W.said out.new ≡ W.said out.old) × (W.moments out.new ≡ W.moments out.old) }
+    ensures no_text { (asked (map string_bytes words.now) ≡ Some init_line → ⊥) → W.texts out.new ≡ W.texts out.old }
 
     // The input is read only by a run, and the port is used only by serve, and by none that ends with status 5 or 8.
-    ensures unread { (asked (map string_bytes words.now) ≡ Some lines.run → ⊥) → input.new ≡ input.old }
-    ensures unused { ((listen : List ℕ) (workers connections : ℕ) → asked (map string_bytes words.now) ≡ Some (lines.serve listen workers connections) → ⊥) → port.new ≡ port.old }
+    ensures unread { (asked (map string_bytes words.now) ≡ Some run_line → ⊥) → input.new ≡ input.old }
+    ensures unused { ((listen : List ℕ) (workers connections : ℕ) → asked (map string_bytes words.now) ≡ Some (serve_line listen workers connections) → ⊥) → port.new ≡ port.old }
     ensures unopened { (result.status ≡ 5) ⊎ (result.status ≡ 8) → (input.new ≡ input.old) × (port.new ≡ port.old) }
 
     // The causes of the statuses.
     ensures statuses { (result.status ≡ 1) ⊎ ((result.status ≡ 8) ⊎ (IsRunStatus result.status ⊎ IsServeStatus result.status)) }
-    ensures clock_end { result.status ≡ 8 → asked (map string_bytes words.now) ≡ Some lines.init → ⊥ }
+    ensures clock_end { result.status ≡ 8 → asked (map string_bytes words.now) ≡ Some init_line → ⊥ }
     ensures disk_fault { result.status ≡ 2 → Rose (D.fault_count disk) (D.fault_count result.disk) }
     ensures read_fault { result.status ≡ 3 → Rose (S.faults input.old) (S.faults input.new) }
     ensures spent { result.status ≡ 9 → Gave (S.left input.old) (S.left input.new) take_limit }
     ensures write_fault { result.status ≡ 4 → Rose (W.faults out.old) (W.faults out.new) }
     ensures port_fault { result.status ≡ 7 → Rose (P.faults port.old) (P.faults port.new) }
-    ensures foreign { IsTrue D.honest → asked (map string_bytes words.now) ≡ Some lines.init → result.status ≡ 5 → IsForeign (D.state disk).journal.seen }
+    ensures foreign { IsTrue D.honest → asked (map string_bytes words.now) ≡ Some init_line → result.status ≡ 5 → IsForeign (D.state disk).journal.seen }
 
     // A disk each of whose images has a history is opened, and has such images at every moment.
     ensures opened { IsTrue D.honest → IsSound (D.state disk) → result.status ≡ 5 → ⊥ }
@@ -148,7 +147,7 @@ where
     // A command line is done, on such a disk or for init on one that is not foreign, where nothing outside fails and the
     // clock is not at its end.
     ensures complete { IsTrue D.honest → IsSome (asked (map string_bytes words.now))
-        → IsSound (D.state disk) ⊎ ((asked (map string_bytes words.now) ≡ Some lines.init) × (IsForeign (D.state disk).journal.seen → ⊥))
+        → IsSound (D.state disk) ⊎ ((asked (map string_bytes words.now) ≡ Some init_line) × (IsForeign (D.state disk).journal.seen → ⊥))
         → (Rose (D.fault_count disk) (D.fault_count result.disk) → ⊥) → (Rose (S.faults input.old) (S.faults input.new) → ⊥)
         → (Rose (W.faults out.old) (W.faults out.new) → ⊥) → (Rose (P.faults port.old) (P.faults port.new) → ⊥)
         → (result.status ≡ 8 → ⊥) → IsDone result.status }

@@ -1,6 +1,6 @@
 use Rattle.std.proofs.Common.{inl}
 use Rattle.office_cli.proofs.MadeSo.{made_so}
-use Rattle.office_cli.proofs.program.init.Goals as goal
+use Rattle.office_cli.proofs.init.init.Goals as goal
 
 pub returns-in-Ok-clause-inits : goal.returns-in-Ok-clause-inits
 returns-in-Ok-clause-inits g c =
