@@ -9,6 +9,7 @@ use Rattle.std.specs.Str.Parse.{digits_value, ParsesUnsigned}
 use Rattle.office_base.specs.Versions.{begins_with_number}
 use Rattle.office_base.proofs.Versions.{no_number, number_read as id_read}
 use Rattle.command_line.specs.Lines.{number_to}
+use Rattle.command_line.specs.Laws.{HasExactNumbers}
 
 -- the text writes this number, which is in range
 abbrev Writes : ℕ → List ℕ → ℕ → Type 0
@@ -45,6 +46,18 @@ pub some_to : (most : ℕ) (text : List ℕ) (n : ℕ) → n < 2 ^ 64 → Writes
 some_to most text n small w =
     let value : digits_value 10 text ≡ n = ap (digits_value 10) w.0 ∙ (decimal_is_IsNumeral n small).1 in
     rw (value, passes most text n w) refl
+
+from_some : (b : Bool) (v n : ℕ) → cond b (Some v) None ≡ Some n → (b ≡ true) × (v ≡ n)
+from_some true v n e = (refl, cc)
+from_some false v n e = absurd cc
+
+pub exact : HasExactNumbers
+exact most n text small = (
+  λ some.
+      let (passed, value) = from_some (test most text (digits_value 10 text)) (digits_value 10 text) n some in
+      subst (Writes most text) value (tested most text (digits_value 10 text) passed),
+  λ writes. sym (some_to most text n (omega (arith, writes)) writes),
+)
 
 -- a text that does not begin with a digit above 0 writes none
 pub none_begins : (most : ℕ) (text : List ℕ) → most < 2 ^ 64 → begins_with_number text ≡ false → None ≡ number_to most text

@@ -24,9 +24,9 @@ asked_from words entered passes is = rw (passes, is) refl
 pub line_read : (command : Command) (m : ArgMatches) (words : List Text) → IsCommand office_words command → HasMatchesOf (app_of command) words m
     → (is_simple_and_free (app_of command) ≡ true → fault_of (app_of command) words ≡ []) → asked words ≡ option_and_then command_of (subcommand_rows_of m)
 line_read command m words is matches passes =
-    let simple = ap is_simple is.0 ∙ office_is_simple in
-    let free = ap is_simple_and_free is.0 ∙ office_is_free in
-    asked_from words (subcommand_rows_of m) (subst (λ app. fault_of app words ≡ []) is.0 (passes free)) (subst (λ app. subcommand_rows_of m ≡ subcommand_of app words) is.0 (matches simple).1)
+    let simple = ap is_simple is.is ∙ office_is_simple in
+    let free = ap is_simple_and_free is.is ∙ office_is_free in
+    asked_from words (subcommand_rows_of m) (subst (λ app. fault_of app words ≡ []) is.is (passes free)) (subst (λ app. subcommand_rows_of m ≡ subcommand_of app words) is.is (matches simple).1)
 
 some_fault : (kind : ErrorKind) (kinds : Kinds) (found : Option Line) → IsAmong kind kinds → (if is_empty kinds then found else None) ≡ None
 some_fault kind [] found among = absurd among
@@ -39,8 +39,8 @@ asked_for_none words kind among = some_fault kind (fault_of office_words words) 
 pub line_refused : (command : Command) (words : List Text) (kind : ErrorKind) → IsCommand office_words command → kind ≢ OutOfMemory
     → (is_simple_and_free (app_of command) ≡ true → (kind ≡ OutOfMemory) ⊎ IsAmong kind (fault_of (app_of command) words)) → asked words ≡ None
 line_refused command words kind is other faults =
-    let fault = faults (ap is_simple_and_free is.0 ∙ office_is_free) in
+    let fault = faults (ap is_simple_and_free is.is ∙ office_is_free) in
     elim fault [
       | inl memory ↦ absurd (other memory)
-      | inr among ↦ asked_for_none words kind (subst (λ app. IsAmong kind (fault_of app words)) is.0 among)
+      | inr among ↦ asked_for_none words kind (subst (λ app. IsAmong kind (fault_of app words)) is.is among)
     ]

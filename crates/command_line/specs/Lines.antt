@@ -1,16 +1,18 @@
 -- What the words of a command line ask for. A word is text, as its bytes.
-use Rattle.std.specs.Prelude.{ℕ, ◌-◌, ◌^◌, ◌&&◌, nat_le, List, Option, Some, None, option_map, option_and_then, codes, decimal, string_bytes, if◌then◌else◌}
+use Rattle.std.specs.Prelude.{ℕ, ◌-◌, ◌^◌, ◌&&◌, nat_le, List, Option, Some, None, option_map, option_and_then, codes}
+use Rattle.std.specs.Prelude.{decimal, string_bytes, if◌then◌else◌}
 use Rattle.std.specs.Str.{bytes_eq}
 use Rattle.std.specs.Str.Parse.{digits_value}
 use Rattle.clap.specs.Walk.{Row, first_of, is_empty}
-use Rattle.clap.specs.Simple.{subcommand_of}
+use Rattle.clap.specs.Words.{found_of, rows_of, subcommand_of, subcommand_rows_of}
 use Rattle.clap.specs.Faults.{fault_of}
+use Rattle.clap.specs.declared.parser.matches.ArgMatches.{ArgMatches}
 use Rattle.command_line.specs.Words.{office_words}
 use Rattle.command_line.specs.declared.line.CommandLine.{CommandLine}
 use Rattle.command_line.specs.declared.line.CommandLine.TheVariants as command_line
 
--- what a command line asks for: that the journal is made; a run; or service at an address by so many workers, each of which ends after so many
--- connections
+-- what a command line asks for: that the journal is made; a run; or service at an address, by so many workers, each of
+-- which ends after so many connections
 pub data Line : Type 0 where
   init : Line
   run : Line
@@ -71,4 +73,16 @@ command_of (name, rows) =
 
 -- what the words behind the program's name ask for, where they are a command line
 unfoldable pub asked : List (List ℕ) → Option Line
-asked words = if is_empty (fault_of office_words words) then option_and_then command_of (subcommand_of office_words words) else None
+asked words =
+    if is_empty (fault_of office_words words) then option_and_then command_of (subcommand_of office_words words)
+    else None
+
+-- ---- what clap found in words
+
+-- what the words ask for
+abbrev pub asked_by : ArgMatches → Option Line
+asked_by matches = option_and_then command_of (subcommand_rows_of matches)
+
+-- what they gave to each option of a command
+abbrev pub options_of : ArgMatches → List Row
+options_of matches = rows_of (found_of matches)

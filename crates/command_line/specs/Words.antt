@@ -1,8 +1,9 @@
 -- The words that the office takes, as a simple command of clap.
 use Rattle.std.specs.Prelude.{◌≡◌, List, [], ◌∷◌, Some, true, false, codes}
-use Rattle.clap.specs.Walk.{Rule, Text}
-use Rattle.clap.specs.Simple.{App, Shape, app_of, new_rule, new_shape}
+use Rattle.clap.specs.Walk.{Rule, Text, rule_of}
+use Rattle.clap.specs.Simple.{App, Shape, app_of, new_rule, new_shape, with_rule, with_subcommand}
 use Rattle.clap.specs.Words.{is_broken}
+use Rattle.clap.specs.declared.builder.arg.Arg.{Arg}
 use Rattle.clap.specs.declared.builder.command.Command.{Command}
 use Rattle.clap.specs.declared.builder.command.Command.TheViews.{out-Command}
 use Rattle.clap.specs.declared.builder.action.ArgAction.TheVariants.{Set}
@@ -25,7 +26,8 @@ abbrev pub run_words : Shape
 run_words = subcommand (codes "run") []
 
 abbrev pub serve_words : Shape
-serve_words = subcommand (codes "serve") (needed_option (codes "listen") ∷ option (codes "workers") ∷ option (codes "connections") ∷ [])
+serve_words = subcommand (codes "serve")
+    (needed_option (codes "listen") ∷ option (codes "workers") ∷ option (codes "connections") ∷ [])
 
 -- the command without its subcommands: one must be given, and words ask for no help and for no version
 abbrev pub office_top : App
@@ -54,5 +56,17 @@ abbrev pub alone : Shape → App
 alone shape = record { top = shape; subs = [] }
 
 -- the command is this one, whole, and none of its arguments is global
-abbrev pub IsCommand : App → Command → Type 0
-IsCommand app command = (app_of command ≡ app) × (is_broken command ≡ false) × ((out-Command command).has_globals ≡ false)
+pub record IsCommand (app : App) (command : Command) : Type 0 where
+  pub is : app_of command ≡ app
+  pub whole : is_broken command ≡ false
+  pub local : (out-Command command).has_globals ≡ false
+
+-- it has got one more option
+abbrev pub GetsOption : Command → Arg → Command → Type 0
+GetsOption command arg now =
+    (app : App) (rule : Rule) → IsCommand app command → rule_of arg ≡ rule → IsCommand (with_rule app rule) now
+
+-- it has got one more subcommand
+abbrev pub GetsSubcommand : Command → Command → Command → Type 0
+GetsSubcommand command sub now =
+    (app below : App) → IsCommand app command → IsCommand below sub → IsCommand (with_subcommand app below.top) now

@@ -1,10 +1,12 @@
 //! What the words of a command line ask for.
 #![tactic(auto)]
 
+mod laws;
 mod line;
 mod numbers;
 #[cfg(test)]
 mod tests;
 mod words;
 
-pub use line::{CommandLine, LineFault, read_line, workers_in_range};
+pub use laws::{exact_numbers, workers_in_range};
+pub use line::{CommandLine, LineFault, read_line};

@@ -1,7 +1,6 @@
 // What a command line asks for.
-ghost use Rattle.std.specs.Prelude.{◌≡◌, ◌≢◌, ◌<◌, ◌≤◌, ℕ, List, Some, None, IfOk, IsErrOf, map, string_bytes, option_and_then};
-ghost use Rattle.clap.specs.Words.{found_of, rows_of, subcommand_rows_of};
-ghost use Rattle.command_line.specs.Lines.{asked, command_of, line_of, serve_of, serve as serve_line};
+ghost use Rattle.std.specs.Prelude.{◌≡◌, ◌≢◌, Some, None, IfOk, IsErrOf, map, string_bytes};
+ghost use Rattle.command_line.specs.Lines.{asked, asked_by, command_of, line_of, options_of, serve_of};
 
 use crate::numbers::number_of;
 use crate::words::office;
@@ -12,10 +11,10 @@ use std::alloc::{AllocError, Global};
 /// The most workers that serve.
 const MOST_WORKERS: u32 = 64;
 
-/// How many workers serve where none are told. Own rule: what a small machine has processors for.
+/// How many workers serve where none are told. Own rule: a small machine has as many processors.
 const WORKERS: u32 = 4;
 
-/// The most connections of a worker, and how many where none are told. Own rule: in practice it does not end.
+/// The most connections of a worker, and how many where none are told. Own rule: no worker serves as many in practice.
 const CONNECTIONS: u32 = u32::MAX;
 
 /// What a command line asks for.
@@ -83,8 +82,8 @@ fn fault(kind: ErrorKind) -> LineFault
 
 // What words ask for that clap read.
 fn command(alloc: Global, matches: &ArgMatches) -> Result<CommandLine, LineFault>
-    ensures read { IfOk result (λ line. option_and_then command_of (subcommand_rows_of matches.now) ≡ Some (line_of line)) }
-    ensures refused { IsErrOf result LineFault.NotALine → option_and_then command_of (subcommand_rows_of matches.now) ≡ None }
+    ensures read { IfOk result (λ line. asked_by matches.now ≡ Some (line_of line)) }
+    ensures refused { IsErrOf result LineFault.NotALine → asked_by matches.now ≡ None }
 {
     match matches.subcommand() {
         Some((name, given)) => named(alloc, name, given),
@@ -94,8 +93,8 @@ fn command(alloc: Global, matches: &ArgMatches) -> Result<CommandLine, LineFault
 
 // What a subcommand asks for.
 fn named(alloc: Global, name: &str, given: &ArgMatches) -> Result<CommandLine, LineFault>
-    ensures read { IfOk result (λ line. command_of (name.now, rows_of (found_of given.now)) ≡ Some (line_of line)) }
-    ensures refused { IsErrOf result LineFault.NotALine → command_of (name.now, rows_of (found_of given.now)) ≡ None }
+    ensures read { IfOk result (λ line. command_of (name.now, options_of given.now) ≡ Some (line_of line)) }
+    ensures refused { IsErrOf result LineFault.NotALine → command_of (name.now, options_of given.now) ≡ None }
 {
     if name == "init" {
         return Ok(CommandLine::Init);
@@ -111,8 +110,8 @@ fn named(alloc: Global, name: &str, given: &ArgMatches) -> Result<CommandLine, L
 
 // What the options of `serve` ask for.
 fn serve(alloc: Global, given: &ArgMatches) -> Result<CommandLine, LineFault>
-    ensures read { IfOk result (λ line. serve_of (rows_of (found_of given.now)) ≡ Some (line_of line)) }
-    ensures refused { IsErrOf result LineFault.NotALine → serve_of (rows_of (found_of given.now)) ≡ None }
+    ensures read { IfOk result (λ line. serve_of (options_of given.now) ≡ Some (line_of line)) }
+    ensures refused { IsErrOf result LineFault.NotALine → serve_of (options_of given.now) ≡ None }
 {
     let Some(listen) = given.get_str("listen") else {
         return Err(LineFault::NotALine);
@@ -129,8 +128,3 @@ fn serve(alloc: Global, given: &ArgMatches) -> Result<CommandLine, LineFault>
         connections,
     })
 }
-
-/// States that workers are 1 to 64 on each line that asks for service. It does nothing.
-pub fn workers_in_range()
-    ensures { (words : List (List ℕ)) (listen : List ℕ) (workers connections : ℕ) → asked words ≡ Some (serve_line listen workers connections) → (0 < workers) × (workers ≤ 64) }
-{}

@@ -1,8 +1,9 @@
 // The words that the office takes, as a command of clap.
 ghost use Rattle.std.specs.Prelude.{◌≡◌, IfOk, false};
-ghost use Rattle.clap.specs.Walk.{Rule, rule_of};
-ghost use Rattle.clap.specs.Simple.{App, new_shape, with_rule, with_subcommand};
-ghost use Rattle.command_line.specs.Words.{IsCommand, alone, option, needed_option, run_words, init_words, serve_words, office_top, office_words};
+ghost use Rattle.clap.specs.Walk.{rule_of};
+ghost use Rattle.clap.specs.Simple.{new_shape};
+ghost use Rattle.command_line.specs.Words.{option, needed_option, run_words, init_words, serve_words, alone};
+ghost use Rattle.command_line.specs.Words.{office_top, office_words, IsCommand, GetsOption, GetsSubcommand};
 
 use clap::{Arg, ArgAction, Command};
 use std::alloc::{AllocError, Global};
@@ -30,15 +31,17 @@ fn bare<'a>(alloc: Global, name: &'a str) -> Command<'a>
     Command::new(alloc, name)
 }
 
-fn with_option<'a>(command: Command<'a>, option: Arg<'a>) -> Result<Command<'a>, AllocError>
-    requires { option.global ≡ false }
-    ensures { IfOk result (λ c. (app : App) (rule : Rule) → IsCommand app command.entry → rule_of option.entry ≡ rule → IsCommand (with_rule app rule) c) }
+// Adds an option.
+fn with_option<'a>(command: Command<'a>, arg: Arg<'a>) -> Result<Command<'a>, AllocError>
+    requires { arg.global ≡ false }
+    ensures { IfOk result (GetsOption command.entry arg.entry) }
 {
-    command.arg(option)
+    command.arg(arg)
 }
 
+// Adds a subcommand.
 fn with_subcommand<'a>(command: Command<'a>, sub: Command<'a>) -> Result<Command<'a>, AllocError>
-    ensures { IfOk result (λ c. (app below : App) → IsCommand app command.entry → IsCommand below sub.entry → IsCommand (with_subcommand app below.top) c) }
+    ensures { IfOk result (GetsSubcommand command.entry sub.entry) }
 {
     command.subcommand(sub)
 }
