@@ -5,7 +5,7 @@ use Rattle.plain_office.specs.declared.command.Command.TheVariants.{CreateBucket
 use Rattle.plain_office.specs.declared.command.Entry.{Entry}
 use Rattle.plain_office.specs.Run.{entry_at}
 use Rattle.office_base.proofs.Sizes.{name_small, key_small}
-use Rattle.entry_codec.specs.Spelling.{IsEntry, Fits, CommandFits, command_spelling, spelling}
+use Rattle.entry_codec.specs.Spelling.{IsEntry, Fits, CommandFits, command_spelling, entry_limit, spelling}
 
 command_small : (c : Command) → CommandFits c → length (command_spelling c) ≤ 1_102
 command_small (CreateBucket bucket) fits = omega (arith, name_small bucket fits)
@@ -14,6 +14,9 @@ command_small (Put bucket key size class) fits = grind (arith, length-append, na
 spelling_small : (e : Entry) → Fits e → length (spelling e) ≤ 1_110
 unfolding spelling
 spelling_small e fits = omega (arith, command_small e.command fits.command)
+
+pub spelling_short : (e : Entry) → Fits e → length (spelling e) ≤ entry_limit
+spelling_short e fits = omega (arith, spelling_small e fits)
 
 pub entry_small : (bytes : List ℕ) → IsEntry bytes → length bytes < 2 ^ 32
 entry_small bytes is = omega (arith, ap length is.2, spelling_small is.0 is.1)

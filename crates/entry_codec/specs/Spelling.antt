@@ -39,6 +39,10 @@ abbrev pub CommandFits : Command → Type 0
 CommandFits (CreateBucket bucket) = IsBucketName bucket
 CommandFits (Put bucket key size class) = PutFits bucket key size
 
+-- no entry has a longer spelling, in bytes (own: 2 MiB, room for a command that carries a whole request body of 1 MiB)
+abbrev pub entry_limit : ℕ
+entry_limit = 2_097_152
+
 -- all fields of an entry are in range
 pub record Fits (e : Entry) : Type 0 where
   pub moment : e.moment < end_of_time

@@ -10,4 +10,4 @@ mod writing;
 pub use fault::EntryFault;
 pub use plain_office::{Command, Entry};
 pub use reading::{decode, one_spelling};
-pub use writing::{encode, encode_command};
+pub use writing::{ENTRY_LIMIT, encode, encode_command, short_spelling};

@@ -1,13 +1,18 @@
 // Writing an entry.
-ghost use Rattle.std.specs.Prelude.{◌≡◌, ◌++◌, ◌<◌, ◌^◌, length, IfOk, OnOk};
+ghost use Rattle.std.specs.Prelude.{◌≡◌, ◌++◌, ◌<◌, ◌≤◌, ◌^◌, length, IfOk, OnOk};
 ghost use Rattle.plain_office.specs.Run.{entry_at};
-ghost use Rattle.entry_codec.specs.Spelling.{Fits, IsEntry, counted, command_spelling, CommandFits, spelling};
+ghost use Rattle.plain_office.specs.declared.command.Entry.{Entry};
+ghost use Rattle.entry_codec.specs.Spelling.{Fits, IsEntry, counted, command_spelling, CommandFits, entry_limit, spelling};
 
 use class_rules::rank;
 use moments::Moment;
 use office_base::NoMemory;
 use plain_office::{Command, Entry};
 use std::alloc::{AllocError, Global};
+
+/// The most bytes of an entry's spelling: 2 MiB. Own rule: it has room for a command that carries a whole request body of 1 MiB,
+/// and a reader can refuse what is longer before it takes memory for it.
+pub const ENTRY_LIMIT: u64 = 2_097_152;
 
 /// How many tags an object has.
 const NO_TAGS: u8 = 0;
@@ -86,3 +91,9 @@ pub fn encode(alloc: Global, entry: &Entry) -> Result<Vec<u8>, NoMemory>
 {
     encode_command(alloc, entry.moment, &entry.command)
 }
+
+/// States that no entry has a spelling of more than `ENTRY_LIMIT` bytes.
+#[tactic(auto, using(crate::proofs::Sizes::spelling_short))]
+pub fn short_spelling()
+    ensures short { (e : Entry) → Fits e → length (spelling e) ≤ entry_limit }
+{}

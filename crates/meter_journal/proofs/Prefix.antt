@@ -7,9 +7,10 @@ use Rattle.std.proofs.lemmas.Nat.{be_bytes_4}
 use Rattle.std.proofs.lemmas.List.{length-take, length-drop, drop-drop, drop_more}
 use Rattle.plain_office.specs.declared.command.Entry.{Entry}
 use Rattle.entry_codec.specs.Reading.{entry_of}
-use Rattle.entry_codec.specs.Spelling.{Fits, spelling}
+use Rattle.entry_codec.specs.Spelling.{Fits, entry_limit, spelling}
 use Rattle.entry_codec.proofs.Fields.{IsBytes, IsBytes-drop, IsBytes-take}
 use Rattle.entry_codec.proofs.Laws.{entry_takes}
+use Rattle.entry_codec.proofs.Sizes.{spelling_short}
 use Rattle.meter_journal.specs.History.{framed, whole, HasEntries, IsAtRest}
 use Rattle.disk_core.specs.Files.{File, State, synced_file}
 use Rattle.meter_journal.specs.Reading.{Frame, Ended, Whole, Broken, entry_frame, entry_at, size_at, body_at, frame_at, NextGives, HasPrefix}
@@ -103,6 +104,19 @@ unfolding body_at
 body_goes_on gate file is =
     let n = size_at gate file in
     never_ended (ltb (length file) (gate + 5)) (ltb (length file) (gate + 6 + n) || ltb (2 ^ 45) (gate + 6 + n)) (gate + 5 + n) (entry_of (take n (drop (gate + 5) file))) is
+
+-- a frame that claims more bytes than an entry has
+module _ (gate : ℕ) (file : List ℕ) (bytes : IsBytes file) (long : entry_limit < size_at gate file) where
+  broken : (f : Frame) → body_at gate file ≡ f → body_at gate file ≡ Broken
+  broken Ended is = absurd (body_goes_on gate file is)
+  broken Broken is = is
+  broken (Whole e next) is =
+      let body = body_is gate file e next is in
+      let f = framed_is gate file e next bytes body in
+      absurd (omega (arith, spelling_short e f.1, f.2, body.next_is, long))
+
+  pub body_long : body_at gate file ≡ Broken
+  body_long = broken (body_at gate file) refl
 
 closed_gate : (a b : Bool) (f : Frame) → f ≢ Ended → cond a Broken (cond b f Ended) ≡ Ended → (a ≡ false) × (b ≡ false)
 closed_gate true b f not is = absurd cc

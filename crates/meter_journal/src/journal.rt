@@ -5,9 +5,9 @@ ghost use Rattle.disk_core.specs.Files.{synced_file};
 ghost use Rattle.disk_core.specs.Kept.{Narrower};
 ghost use Rattle.disk_core.specs.Moments.{KeepsTo, Untouched};
 ghost use Rattle.plain_office.specs.declared.command.Entry.{Entry};
-ghost use Rattle.entry_codec.specs.Spelling.{IsEntry, Fits, spelling};
+ghost use Rattle.entry_codec.specs.Spelling.{IsEntry, Fits, entry_limit, spelling};
 ghost use Rattle.meter_journal.specs.History.{IsAtRest, BeforeOrAfter};
-ghost use Rattle.meter_journal.specs.Reading.{frame_at, NextGives, HeadGives, IsMade, HasStoreCause, from_or_first, Advances};
+ghost use Rattle.meter_journal.specs.Reading.{frame_at, size_at, NextGives, HeadGives, IsMade, HasStoreCause, from_or_first, Advances};
 ghost use Rattle.meter_journal.specs.declared.fault.OpenFault.TheVariants.{StoreFault};
 
 use crate::fault::OpenFault;
@@ -123,6 +123,7 @@ impl<D: Disk> Journal<D> {
     ///
     /// `end` is the length of the file in bytes, as `open` answered it. After an entry the next call reads at the
     /// gate behind it; after `None` an entry can be added. Nothing is written.
+    /// Cost: memory for the frame, at most `entry_codec::ENTRY_LIMIT` bytes whatever it claims, and for its entry.
     ///
     /// # Errors
     ///
@@ -135,6 +136,8 @@ impl<D: Disk> Journal<D> {
         ensures untouched { IsTrue D.honest → Untouched D.state D.moment D.had_since self.old.disk self.new.disk }
         ensures cause { HasStoreCause (D.fault_count self.old.disk) (D.fault_count self.new.disk) result }
         ensures rises { IfOk result (λ read. IfSome read (λ e. (self.old.gate < self.new.gate) × (self.new.gate ≤ 2 ^ 45))) }
+        // Memory is wanting only for a frame that claims no more than an entry may have.
+        ensures memory { IsTrue D.honest → IsErrOf result OpenFault.NoMemory → size_at self.old.gate (D.state self.old.disk).journal.seen ≤ entry_limit }
         // On every disk: what is read is an entry in range, and its frame is passed over.
         ensures advances { Advances result self.old.gate self.new.gate }
         ensures limit { self.new.limit ≡ self.old.limit }

@@ -1,10 +1,11 @@
 // Reading a journal entry by entry.
-ghost use Rattle.std.specs.Prelude.{◌≡◌, ◌+◌, ◌<◌, ◌≤◌, ◌^◌, ℕ, IsTrue, length, IfOk, IfErr, IfSome, Err};
+ghost use Rattle.std.specs.Prelude.{◌≡◌, ◌+◌, ◌<◌, ◌≤◌, ◌^◌, ℕ, IsTrue, IsErrOf, length, IfOk, IfErr, IfSome, Err};
 ghost use Rattle.office_base.specs.Faults.{Rose};
+ghost use Rattle.entry_codec.specs.Spelling.{entry_limit};
 ghost use Rattle.disk_core.specs.Files.{synced_file};
 ghost use Rattle.disk_core.specs.Kept.{Narrower};
 ghost use Rattle.disk_core.specs.Moments.{KeepsTo, Untouched};
-ghost use Rattle.meter_journal.specs.Reading.{frame_at, NextGives, HeadGives, IsMade, HasStoreCause, from_or_first, Advances};
+ghost use Rattle.meter_journal.specs.Reading.{frame_at, size_at, NextGives, HeadGives, IsMade, HasStoreCause, from_or_first, Advances};
 ghost use Rattle.meter_journal.specs.declared.fault.OpenFault.TheVariants.{StoreFault};
 
 use crate::fault::OpenFault;
@@ -69,6 +70,7 @@ impl<D: Disk> Opening<D> {
     /// Reads the next entry, or answers `None` where the gate is not open.
     ///
     /// After an entry the next call reads at the gate behind it. Nothing is written.
+    /// Cost: that of `Journal::next`.
     ///
     /// # Errors
     ///
@@ -81,6 +83,8 @@ impl<D: Disk> Opening<D> {
         ensures untouched { IsTrue D.honest → Untouched D.state D.moment D.had_since self.old.disk self.new.disk }
         ensures cause { HasStoreCause (D.fault_count self.old.disk) (D.fault_count self.new.disk) result }
         ensures rises { IfOk result (λ read. IfSome read (λ e. (self.old.gate < self.new.gate) × (self.new.gate ≤ 2 ^ 45))) }
+        // Memory is wanting only for a frame that claims no more than an entry may have.
+        ensures memory { IsTrue D.honest → IsErrOf result OpenFault.NoMemory → size_at self.old.gate (D.state self.old.disk).journal.seen ≤ entry_limit }
         // On every disk: what is read is an entry in range, and its frame is passed over.
         ensures advances { Advances result self.old.gate self.new.gate }
         ensures length { self.new.length ≡ self.old.length }

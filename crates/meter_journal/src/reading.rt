@@ -1,8 +1,8 @@
 // Reading a frame of a journal file that is on a disk.
-ghost use Rattle.std.specs.Prelude.{◌≡◌, ◌+◌, ◌<◌, ◌≤◌, ◌^◌, IsTrue, length, get_or, IfOk, IfSome};
+ghost use Rattle.std.specs.Prelude.{◌≡◌, ◌+◌, ◌<◌, ◌≤◌, ◌^◌, IsTrue, IsErrOf, length, get_or, IfOk, IfSome};
 ghost use Rattle.std.specs.Int.{w32};
 ghost use Rattle.office_base.specs.Faults.{HasCause};
-ghost use Rattle.entry_codec.specs.Spelling.{Fits, spelling};
+ghost use Rattle.entry_codec.specs.Spelling.{Fits, entry_limit, spelling};
 ghost use Rattle.disk_core.specs.Moments.{Untouched};
 ghost use Rattle.meter_journal.specs.Reading.{body_at, frame_at, size_at, entry_at, BodyGives, FrameGives, HasStoreCause};
 
@@ -10,6 +10,7 @@ use crate::bytes::entry_in;
 use crate::fault::OpenFault;
 use crate::gate::OPEN;
 use disk_core::{Disk, Failed, FileNo};
+use entry_codec::ENTRY_LIMIT;
 use plain_office::Entry;
 use std::alloc::Global;
 
@@ -77,6 +78,7 @@ fn body_of<D: Disk>(
     ensures exact { IsTrue D.honest → BodyGives result gate (body_at gate (D.state disk.old).journal.seen) }
     ensures rises { IfOk result (λ x. (gate < x.1) × (x.1 ≤ 2 ^ 45)) }
     ensures spelled { IfOk result (λ x. Fits x.0 × (x.1 ≡ gate + 5 + length (spelling x.0))) }
+    ensures memory { IsTrue D.honest → IsErrOf result OpenFault.NoMemory → size_at gate (D.state disk.old).journal.seen ≤ entry_limit }
     ensures untouched { IsTrue D.honest → Untouched D.state D.moment D.had_since disk.old disk.new }
     ensures cause { HasStoreCause (D.fault_count disk.old) (D.fault_count disk.new) result }
 {
@@ -88,6 +90,9 @@ fn body_of<D: Disk>(
     };
     let size = size as u64;
     if end < gate + 6 + size || MAX < gate + 6 + size {
+        return Err(OpenFault::Damaged { offset: gate });
+    }
+    if ENTRY_LIMIT < size {
         return Err(OpenFault::Damaged { offset: gate });
     }
     entry_of(alloc, disk, gate, size)
@@ -105,6 +110,7 @@ pub(crate) fn frame_of<D: Disk>(
     ensures exact { IsTrue D.honest → FrameGives result gate (frame_at gate (D.state disk.old).journal.seen) }
     ensures rises { IfOk result (λ read. IfSome read (λ x. (gate < x.1) × (x.1 ≤ 2 ^ 45))) }
     ensures spelled { IfOk result (λ read. IfSome read (λ x. Fits x.0 × (x.1 ≡ gate + 5 + length (spelling x.0)))) }
+    ensures memory { IsTrue D.honest → IsErrOf result OpenFault.NoMemory → size_at gate (D.state disk.old).journal.seen ≤ entry_limit }
     ensures untouched { IsTrue D.honest → Untouched D.state D.moment D.had_since disk.old disk.new }
     ensures cause { HasStoreCause (D.fault_count disk.old) (D.fault_count disk.new) result }
 {

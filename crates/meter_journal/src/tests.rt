@@ -34,6 +34,12 @@ const LONG: [u8; 31] = [
     0x8C, 0xC2, 0x51, 0xF4, 0x00, 0x01, 0, 4, 0x6C, 0x6F, 0x67, 0x73, 0,
 ];
 
+// The length says 3,000,000,000 bytes.
+const HUGE: [u8; 31] = [
+    0xA5, 0x4D, 0x45, 0x54, 0x45, 0x52, 0x4A, 0x52, 0x4E, 0x31, 0xA5, 0xB2, 0xD0, 0x5E, 0, 0, 0,
+    0x01, 0x8C, 0xC2, 0x51, 0xF4, 0x00, 0x01, 0, 4, 0x6C, 0x6F, 0x67, 0x73, 0,
+];
+
 const CLOSED: [u8; 11] = [
     0x37, 0x4D, 0x45, 0x54, 0x45, 0x52, 0x4A, 0x52, 0x4E, 0x31, 0,
 ];
@@ -166,10 +172,12 @@ fn a_file_is_what_its_bytes_say(rt: HostRuntime) -> Result<(), Fail> {
     assert_eq!(rt; bucket.text(), "logs");
     assert_eq!(rt; next, 30);
     assert!(rt; frame(alloc, &ONE, 30)?.is_none());
-    assert_eq!(rt;
-        frame(alloc, &LONG, 10).err(),
-        Some(OpenFault::Damaged { offset: 10 })
-    );
+    for file in [&LONG[..], &HUGE[..]] {
+        let damaged = Some(OpenFault::Damaged { offset: 10 });
+        assert_eq!(rt; frame(alloc, file, 10).err(), damaged);
+        let disk = file_of(alloc, file)?;
+        assert_eq!(rt; empty_journal(alloc, disk, 51).err(), damaged);
+    }
     for (file, answer, after) in [
         (&CLOSED[..], Ok(Made::Now), &EMPTY[..]),
         (&ONE[..], Ok(Made::Before), &ONE[..]),

@@ -1,0 +1,55 @@
+#!/bin/sh
+# Opens journals whose first frame claims more bytes than any entry has, and shows that each is told as damaged at its gate
+# without memory for what is claimed.
+#
+#   long_frame.sh PROGRAM
+#
+# The files are as long as their frames claim, but sparse; the memory of the program is limited to 512 MiB. Prints 'N passed,
+# M failed' last; ends with 1 where a case failed.
+set -u
+
+tools='cat truncate'
+. "$(dirname -- "$0")/common"
+cd "$work" || exit 1
+
+check() {
+    if [ "$2" = "$3" ]; then
+        passed=$((passed + 1))
+    else
+        failed=$((failed + 1))
+        echo "failed: $1: wanted $2, found $3"
+    fi
+}
+
+# Runs the program with at most 512 MiB of memory.
+limited() {
+    (ulimit -v 524288 && exec "$program" "$@" </dev/null >out 2>notes)
+}
+
+limited
+if [ "$?" != 1 ]; then
+    echo "skipped: the program does not start with a limit on its memory"
+    exit 0
+fi
+
+# A made head, and an open gate with a length in four bytes; the file then ends at this place.
+while read -r name size length; do
+    "$program" init >out 2>notes
+    # shellcheck disable=SC2059
+    printf "\\245METERJRN1\\245$length" >office-data/journal
+    if ! truncate -s "$size" office-data/journal 2>notes; then
+        echo "skipped: no file of $size bytes can be made here"
+        continue
+    fi
+    limited run
+    check "$name, status" 5 "$?"
+    check "$name, note" 'journal: damaged at 10' "$(cat notes)"
+    rm -rf office-data
+done <<'END'
+3,000,000,000-bytes 3000000016 \262\320\136\000
+3,000,000,000-bytes,-cut-short 1000000 \262\320\136\000
+4,294,967,295-bytes 4294967311 \377\377\377\377
+END
+
+echo "$passed passed, $failed failed"
+[ "$failed" = 0 ]
