@@ -1,9 +1,8 @@
-//! Counts by turns or under a lock, in one thread or in four, for a script that measures both.
+//! Counts by turns or under a lock, in a number of threads, for a script that measures both.
 #![tactic(auto)]
 
-ghost use Rattle.std.specs.Prelude.{◌≡◌, ◌+◌, ◌<◌};
+ghost use Rattle.std.specs.Prelude.{◌≡◌, ◌+◌, ◌<◌, ◌≤◌};
 ghost use Rattle.turn_core.specs.Passes.{IsPassOf, view};
-ghost use Rattle.turn_core.specs.Views.{all_shares};
 
 use std::alloc::{Alloc, Global};
 use std::process::ExitCode;
@@ -14,7 +13,7 @@ use std::{env, io};
 use turn_core::{Pass, Turned, Turns};
 
 /// The turns of one run.
-const TURNS: u64 = 400_000;
+const TURNS: u64 = 4_000_000;
 
 #[derive(Drop)]
 struct Counter {
@@ -54,72 +53,51 @@ fn take_turns<R: Wait>(
     pass
 }
 
-fn in_two_threads<R: Threads + Wait + Sync>(
-    rt: &R,
-    turns: &Turns<Counter>,
-    one: Pass<Counter>,
-    two: Pass<Counter>,
-    count: u64,
-) -> Pass<Counter>
-    requires one { IsPassOf turns.now one }
-    requires two { IsPassOf turns.now two }
-    ensures own { IsPassOf turns.now result }
-    ensures share { (view result).share ≡ (view one).share + (view two).share }
-{
-    let (mut one, two) = join(
-        rt,
-        move || -> Pass<Counter>
-            requires { IsPassOf turns.now one }
-            ensures { IsPassOf turns.entry.now result × ((view result).share ≡ (view one).share) }
-        { take_turns(rt, turns, one, count) },
-        move || -> Pass<Counter>
-            requires { IsPassOf turns.now two }
-            ensures { IsPassOf turns.entry.now result × ((view result).share ≡ (view two).share) }
-        { take_turns(rt, turns, two, count) },
-    );
-    turns.meet(&mut one, two);
-    one
-}
-
-fn in_four_threads<R: Threads + Wait + Sync>(
+// Takes turns in a number of threads, each with a pass of its own.
+fn in_threads<R: Threads + Wait + Sync>(
     rt: &R,
     turns: &Turns<Counter>,
     mut pass: Pass<Counter>,
+    threads: u64,
     count: u64,
 ) -> Pass<Counter>
     requires own { IsPassOf turns.now pass }
-    requires all { (view pass).share ≡ all_shares }
+    requires share { threads < (view pass).share }
     ensures own { IsPassOf turns.now result }
-    ensures all { (view result).share ≡ all_shares }
+    ensures share { (view result).share ≡ (view pass).share }
 {
-    let mut three = turns.split(&mut pass);
-    let two = turns.split(&mut pass);
-    let four = turns.split(&mut pass);
+    if threads <= 1 {
+        return take_turns(rt, turns, pass, count);
+    }
+    let other = turns.split(&mut pass);
     let (mut pass, other) = join(
         rt,
         move || -> Pass<Counter>
-            requires { IsPassOf turns.now pass × IsPassOf turns.now two }
-            ensures { IsPassOf turns.entry.now result × ((view result).share ≡ (view pass).share + (view two).share) }
-        { in_two_threads(rt, turns, pass, two, count) },
+            requires { IsPassOf turns.now pass × (threads < 1 + (view pass).share) × (1 < threads) }
+            ensures { IsPassOf turns.entry.now result × ((view result).share ≡ (view pass).share) }
+        { in_threads(rt, turns, pass, threads - 1, count) },
         move || -> Pass<Counter>
-            requires { IsPassOf turns.now three × IsPassOf turns.now four }
-            ensures { IsPassOf turns.entry.now result × ((view result).share ≡ (view three).share + (view four).share) }
-        { in_two_threads(rt, turns, three, four, count) },
+            requires { IsPassOf turns.now other }
+            ensures { IsPassOf turns.entry.now result × ((view result).share ≡ (view other).share) }
+        { take_turns(rt, turns, other, count) },
     );
     turns.meet(&mut pass, other);
     pass
 }
 
 // Takes all turns, and gives what the counter says in the end.
-fn by_turns<R: Threads + Wait + Sync>(rt: &R, alloc: Global, is_one: bool) -> Option<u64> {
+fn by_turns<R: Threads + Wait + Sync>(
+    rt: &R,
+    alloc: Global,
+    threads: u64,
+    count: u64,
+) -> Option<u64>
+    requires { threads ≤ 64 }
+{
     let Ok((turns, pass)) = Turns::new(alloc, Counter { count: 0 }) else {
         return None;
     };
-    let pass = if is_one {
-        take_turns(rt, &turns, pass, TURNS)
-    } else {
-        in_four_threads(rt, &turns, pass, TURNS / 4)
-    };
+    let pass = in_threads(rt, &turns, pass, threads, count);
     Some(turns.close(pass).count)
 }
 
@@ -130,27 +108,28 @@ fn lock_often<R: Wait>(rt: &R, counter: &Mutex<u64>, count: u64) {
     }
 }
 
-fn lock_in_two_threads<R: Threads + Wait + Sync>(rt: &R, counter: &Mutex<u64>, count: u64) {
+fn lock_in_threads<R: Threads + Wait + Sync>(
+    rt: &R,
+    counter: &Mutex<u64>,
+    threads: u64,
+    count: u64,
+) {
+    if threads <= 1 {
+        return lock_often(rt, counter, count);
+    }
     join(
         rt,
-        || lock_often(rt, counter, count),
+        || -> ()
+            requires { 1 < threads }
+        { lock_in_threads(rt, counter, threads - 1, count) },
         || lock_often(rt, counter, count),
     );
 }
 
 // The same under a lock.
-fn by_lock<R: Threads + Wait + Sync>(rt: &R, is_one: bool) -> u64 {
+fn by_lock<R: Threads + Wait + Sync>(rt: &R, threads: u64, count: u64) -> u64 {
     let counter = Mutex::new(0);
-    let shared = &counter;
-    if is_one {
-        lock_often(rt, shared, TURNS);
-    } else {
-        join(
-            rt,
-            || lock_in_two_threads(rt, shared, TURNS / 4),
-            || lock_in_two_threads(rt, shared, TURNS / 4),
-        );
-    }
+    lock_in_threads(rt, &counter, threads, count);
     counter.into_inner()
 }
 
@@ -163,21 +142,22 @@ fn words_of<R: Env + Alloc<A = Global>>(rt: &R) -> io::Result<Vec<String>> {
     Ok(words)
 }
 
-// What was counted; None for other words than `turns` or `lock`, and then `one` or `four`.
-fn counted<R: Threads + Wait + Sync>(rt: &R, alloc: Global, words: &[String]) -> Option<u64> {
+// Whether all was counted; None for other words than `turns` or `lock`, and then a number of threads from 1 to 64.
+fn counted<R: Threads + Wait + Sync>(rt: &R, alloc: Global, words: &[String]) -> Option<bool> {
     let [how, threads] = words else {
         return None;
     };
-    let is_one = match threads.as_str() {
-        "one" => true,
-        "four" => false,
+    let threads = threads.as_str().parse::<u64>().ok()?;
+    if threads == 0 || 64 < threads {
+        return None;
+    }
+    let count = TURNS / threads;
+    let found = match how.as_str() {
+        "turns" => by_turns(rt, alloc, threads, count)?,
+        "lock" => by_lock(rt, threads, count),
         _ => return None,
     };
-    match how.as_str() {
-        "turns" => by_turns(rt, alloc, is_one),
-        "lock" => Some(by_lock(rt, is_one)),
-        _ => None,
-    }
+    Some(found == TURNS - TURNS % threads)
 }
 
 fn main(rt: HostRuntime) -> ExitCode {
@@ -185,7 +165,7 @@ fn main(rt: HostRuntime) -> ExitCode {
         return ExitCode::from(1);
     };
     match counted(&rt, rt.alloc(), &words) {
-        Some(TURNS) => ExitCode::from(0),
+        Some(true) => ExitCode::from(0),
         _ => ExitCode::from(1),
     }
 }

@@ -134,5 +134,5 @@ module _ {T A S : Type 0} (stands : T → T → List (A × S) → Type 0) where
 
   -- what a value stands for is lawful
   pub lawful_of : (lawful : T → List (A × S) → Type 0) → ((first now : T) (calls : List (A × S)) → stands first now calls → lawful first calls)
-      → (o : Option T) (value : T) (log : List (Call A S)) → StandsFor stands o value log → (first : T) → o ≡ Some first → lawful first (plain log)
-  lawful_of lawful law o value log (was, opened, h) first e = law first value (plain log) (subst (λ (x : T). stands x value (plain log)) (some_same was first (sym opened ∙ e)) h)
+      → (o : Option T) (value : T) (log : List (Call A S)) → StandsFor stands o value log → (first : T) × (o ≡ Some first) × lawful first (plain log)
+  lawful_of lawful law o value log (first, opened, h) = (first, opened, law first value (plain log) h)

@@ -75,11 +75,11 @@ module _ {T A S : Type 0} (stands : T → T → List (A × S) → Type 0) where
     pub lawful_at_end : StandsFor stands m₃.0.opening k.value (m₂.0.seen ++ next_call m₂.0 d.ask.value d.say.value ∷ [])
         → (lawful : T → List (A × S) → Type 0) → ((first now : T) (calls : List (A × S)) → stands first now calls → lawful first calls)
         → IsLawful lawful m₄.0
-    lawful_at_end for lawful law first opened =
+    lawful_at_end for lawful law =
         let is : m₄.0 ≡ moved m₃.0 d = ap (λ (m : M). m.0) (moves k d held last).0 in
         let list : m₄.0.seen ≡ m₂.0.seen ++ next_call m₂.0 d.ask.value d.say.value ∷ [] = ap (λ (u : D). u.seen) is ∙ ap (λ (u : D). u.seen ++ next_call u d.ask.value d.say.value ∷ []) same in
-        subst (λ (l : List (Call A S)). lawful first (plain l)) (sym list)
-        (lawful_of stands lawful law m₃.0.opening k.value (m₂.0.seen ++ next_call m₂.0 d.ask.value d.say.value ∷ []) for first (sym (ap (λ (u : D). u.opening) is) ∙ opened))
+        let all = lawful_of stands lawful law m₃.0.opening k.value (m₂.0.seen ++ next_call m₂.0 d.ask.value d.say.value ∷ []) for in
+        (all.0, ap (λ (u : D). u.opening) is ∙ all.1, subst (λ (l : List (Call A S)). lawful all.0 (plain l)) (sym list) all.2)
 
   pub served_from : (m m' n : M) (t found : ℕ) → m' ≡ m → m.0.ticket ≡ Some t → found ≡ t % 2 ^ 64
       → ((t : ℕ) → m'.0.ticket ≡ Some t → found ≡ t % 2 ^ 64 → Served stands m' n) → Served stands m n

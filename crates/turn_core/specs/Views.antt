@@ -89,6 +89,6 @@ module _ {T A S : Type 0} (stands : T → T → List (A × S) → Type 0) where
   StandsFor opening value calls = (first : T) × (opening ≡ Some first) × stands first value (plain calls)
 
 module _ {T A S : Type 0} (lawful : T → List (A × S) → Type 0) where
-  -- the calls that the pass has seen are lawful for the opening
+  -- there was an opening, and the calls that the pass has seen are lawful for it
   abbrev pub IsLawful : View T A S → Type 0
-  IsLawful v = (first : T) → v.opening ≡ Some first → lawful first (plain v.seen)
+  IsLawful v = (first : T) × (v.opening ≡ Some first) × lawful first (plain v.seen)

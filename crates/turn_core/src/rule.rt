@@ -9,6 +9,12 @@ pub type Known<T> = View<T, <T as Turned>::Ask, <T as Turned>::Say>;
 
 pub type Held<T> = Option<Kept<T, <T as Turned>::Ask, <T as Turned>::Say>>;
 
+/// The word with the number of the next ticket, modulo 2^64.
+pub(crate) const TICKET: usize = 0;
+
+/// The word with the number of the ticket that is served, modulo 2^64.
+pub(crate) const SERVING: usize = 1;
+
 /// The rule between any two steps.
 pub struct Law<T> {
     of: PhantomData<T>,

@@ -4,9 +4,10 @@ ghost use Rattle.turn_core.specs.Plays.{Learned, Moved, Served};
 ghost use Rattle.turn_core.specs.Seats.{IsSeatAt, IsSameSeat, IsWaiting, IsWaitingWith, HasValue, HasCalled, HasAnswered};
 ghost use Rattle.turn_core.specs.Views.{AtRest, Called, Counted, IsLawful};
 
-use crate::rule::{Held, Known, Law};
+use crate::rule::{Held, Known, Law, SERVING, TICKET};
 use crate::turned::Turned;
 use crate::view::{Done, Kept, View};
+use crate::waiting::{ParkingLot, hold_back};
 use atomic_table::{Play, Seat, Shared};
 use std::marker::PhantomData;
 use std::snapshot::Snapshot;
@@ -54,12 +55,6 @@ pub(crate) type Top<T> = Shared<Held<T>, Known<T>, Snapshot<T>, Law<T>>;
 
 pub(crate) type Place<T> = Seat<Held<T>, Known<T>>;
 
-/// The word with the number of the next ticket, modulo 2^64.
-const TICKET: usize = 0;
-
-/// The word with the number of the ticket that is served, modulo 2^64.
-const SERVING: usize = 1;
-
 pub(crate) fn draw_ticket<T: Turned>(top: &Top<T>, place: &mut Place<T>) -> u64
     requires table { IsSeatAt top.now place.old }
     requires rest { AtRest place.old.me }
@@ -80,15 +75,15 @@ pub(crate) fn look_once<T: Turned>(top: &Top<T>, place: &mut Place<T>) -> u64
 }
 
 // Ends the turn: the call is then in the list, and the next ticket is served.
-pub(crate) fn move_on<T: Turned>(top: &Top<T>, place: &mut Place<T>)
+pub(crate) fn move_on<T: Turned>(top: &Top<T>, lot: &ParkingLot, place: &mut Place<T>)
     requires table { IsSeatAt top.now place.old }
     requires served { place.old.me.0.served ≡ true }
     requires holds { HasCalled T.stands place.old.me }
     ensures same { IsSameSeat place.old place.new }
     ensures called { (k : _) (d : _) → place.old.me.1 ≡ (0, Some k) ∷ [] → k.last ≡ Some d → Moved place.old.me d place.new.me }
 {
-    top.fetch_add::<Move>(place, SERVING, 1);
-    top.wake_all(SERVING);
+    let ended = top.fetch_add::<Move>(place, SERVING, 1);
+    lot.wake(ended.wrapping_add(1));
 }
 
 // Takes the value out of the slot, makes the call, and puts it back.
@@ -118,7 +113,13 @@ pub(crate) fn call<T: Turned>(top: &Top<T>, place: &mut Place<T>, ask: &T::Ask) 
 }
 
 // Parks until the ticket is served.
-pub(crate) fn wait_for<T: Turned, R: Wait>(rt: &R, top: &Top<T>, place: &mut Place<T>, ticket: u64)
+pub(crate) fn wait_for<T: Turned, R: Wait>(
+    rt: &R,
+    top: &Top<T>,
+    lot: &ParkingLot,
+    place: &mut Place<T>,
+    ticket: u64,
+)
     requires table { IsSeatAt top.now place.old }
     requires waits { IsWaitingWith place.old.me ticket }
     ensures same { IsSameSeat place.old place.new }
@@ -129,7 +130,7 @@ pub(crate) fn wait_for<T: Turned, R: Wait>(rt: &R, top: &Top<T>, place: &mut Pla
         if found == ticket {
             return;
         }
-        top.park(rt, SERVING, (found & 0xffff_ffff) as u32);
+        lot.wait_for(rt, top, ticket);
     }
     unreachable!()
 }
@@ -138,6 +139,7 @@ pub(crate) fn wait_for<T: Turned, R: Wait>(rt: &R, top: &Top<T>, place: &mut Pla
 pub(crate) fn take_turn<T: Turned, R: Wait>(
     rt: &R,
     top: &Top<T>,
+    lot: &ParkingLot,
     place: &mut Place<T>,
     ask: &T::Ask,
 ) -> T::Say
@@ -149,10 +151,11 @@ pub(crate) fn take_turn<T: Turned, R: Wait>(
     ensures counted { Counted place.new.me.0 }
     ensures lawful { IsLawful T.lawful place.new.me.0 }
 {
+    hold_back(rt, top);
     let ticket = draw_ticket(top, place);
-    wait_for(rt, top, place, ticket);
+    wait_for(rt, top, lot, place, ticket);
     let say = call(top, place, ask);
-    move_on(top, place);
+    move_on(top, lot, place);
     say
 }
 

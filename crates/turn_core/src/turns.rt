@@ -7,6 +7,7 @@ use crate::rule::{Held, Known, Law, Meeting, Parting};
 use crate::steps::{look_back, take_turn};
 use crate::turned::Turned;
 use crate::view::Kept;
+use crate::waiting::ParkingLot;
 use atomic_table::{Refused, Table, TableRule};
 use std::alloc::Global;
 use std::snapshot::Snapshot;
@@ -15,6 +16,7 @@ use std::sync::Wait;
 /// A ticket lock: the words `ticket` and `serving`, counted modulo 2^64, and a slot with the value.
 pub struct TicketLock<S, V, K, P: TableRule<S, V, K>> {
     pub(crate) table: Table<S, V, K, P, Global>,
+    pub(crate) lot: ParkingLot,
     ghost sized: { (table.shared.table_id.words ≡ 2) × (table.shared.table_id.slots ≡ 1) },
 }
 
@@ -48,7 +50,10 @@ impl<T: Turned> TicketLock<Held<T>, Known<T>, Snapshot<T>, Law<T>> {
             return Err(given_back(failed.value));
         }
         match Table::new(alloc, &[0, 0], slots, &about) {
-            Ok((table, seat)) => Ok((TicketLock { table }, TicketPass { seat, calls: 0 })),
+            Ok((table, seat)) => {
+                let lot = ParkingLot::new();
+                Ok((TicketLock { table, lot }, TicketPass { seat, calls: 0 }))
+            }
             Err(Refused { mut slots }) => {
                 let Some(kept) = slots.pop() else {
                     unreachable!()
@@ -61,7 +66,8 @@ impl<T: Turned> TicketLock<Held<T>, Known<T>, Snapshot<T>, Law<T>> {
 
     /// Makes one call, when the turn of this pass comes, and answers what the value said.
     ///
-    /// It draws a ticket, parks until that is served, and may wait for other passes without end.
+    /// While other passes have tickets it first waits for a short time. Then it draws one, waits until that is served, and may
+    /// wait for other passes without end.
     pub fn turn<R: Wait>(&self, rt: &R, pass: &mut Pass<T>, ask: &T::Ask) -> T::Say
         requires own { IsPassOf self.now pass.old }
         ensures own { IsPassOf self.now pass.new }
@@ -69,7 +75,7 @@ impl<T: Turned> TicketLock<Held<T>, Known<T>, Snapshot<T>, Law<T>> {
         ensures counted { Counted (view pass.new) }
         ensures lawful { IsLawful T.lawful (view pass.new) }
     {
-        let say = take_turn(rt, &self.table.shared, &mut pass.seat, ask);
+        let say = take_turn(rt, &self.table.shared, &self.lot, &mut pass.seat, ask);
         pass.calls = pass.calls.saturating_add(1);
         say
     }
@@ -117,7 +123,7 @@ impl<T: Turned> TicketLock<Held<T>, Known<T>, Snapshot<T>, Law<T>> {
         ensures counted { Counted (view pass) }
         ensures whole { IsWhole (view pass) }
     {
-        let TicketLock { table } = self;
+        let TicketLock { table, lot: _ } = self;
         let TicketPass { seat, calls: _ } = pass;
         let mut closed = table.close_with(seat);
         let slot = closed.take(0);

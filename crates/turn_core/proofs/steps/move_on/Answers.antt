@@ -2,8 +2,8 @@ use Rattle.std.proofs.Common.{arith}
 use Rattle.turn_core.proofs.MovesOn.{moves}
 use Rattle.turn_core.proofs.steps.move_on.Goals as goal
 
-pub fetch_add-requires : goal.fetch_add-requires
-fetch_add-requires g c =
+pub fetch_add-ended-requires : goal.fetch_add-ended-requires
+fetch_add-ended-requires g c =
     let h = c.requires.holds in (
       c.requires.table.0,
       omega (arith, c.requires.table.1),
