@@ -1,0 +1,149 @@
+//! A blocking HTTP server over Rust's standard library, against which `serve.py` measures `office serve`.
+//!
+//!     rustc --edition 2021 -C opt-level=3 -o plain_server plain_server.rs
+//!     ./plain_server ADDRESS WORKERS
+//!
+//! Each worker accepts a connection and serves it to its end, as a worker of the office does. A message is read by
+//! hand: its method, its target, Content-Length and Connection. Two requests are answered, with the bytes that the
+//! office answers them with: `PUT /buckets/NAME` makes a bucket and `GET /buckets/NAME` tells it; everything else gets
+//! 501. The buckets lie in a map under a lock. Nothing is written to a disk. It serves until it is stopped.
+
+use std::collections::HashMap;
+use std::io::{Read, Write};
+use std::net::{TcpListener, TcpStream};
+use std::sync::Mutex;
+
+/// How many versions each bucket has, by its name.
+type Buckets = Mutex<HashMap<Vec<u8>, u64>>;
+
+/// A message whose head is whole.
+struct Request<'a> {
+    method: &'a [u8],
+    target: &'a [u8],
+    /// How many bytes the head and the body have.
+    size: usize,
+    /// Whether a further message may follow.
+    keep: bool,
+}
+
+enum Parsed<'a> {
+    Whole(Request<'a>),
+    Partial,
+    Bad,
+}
+
+/// The first line's method and target, and whether the version keeps the connection.
+fn first_line(line: &[u8]) -> Option<(&[u8], &[u8], bool)> {
+    let mut words = line.split(|&byte| byte == b' ');
+    let (method, target, version) = (words.next()?, words.next()?, words.next()?);
+    match (words.next(), version) {
+        (None, b"HTTP/1.1") => Some((method, target, true)),
+        (None, b"HTTP/1.0") => Some((method, target, false)),
+        _ => None,
+    }
+}
+
+/// What stands at the front of the bytes.
+fn parse(bytes: &[u8]) -> Parsed<'_> {
+    let mut at = 0;
+    let mut first = None;
+    let (mut body, mut keep) = (0usize, true);
+    loop {
+        let Some(len) = bytes[at..].iter().position(|&byte| byte == b'\n') else {
+            return Parsed::Partial;
+        };
+        let line = bytes[at..at + len].strip_suffix(b"\r").unwrap_or(&bytes[at..at + len]);
+        at += len + 1;
+        let Some((method, target)) = first else {
+            let Some((method, target, keeps)) = first_line(line) else { return Parsed::Bad };
+            keep = keeps;
+            first = Some((method, target));
+            continue;
+        };
+        if line.is_empty() {
+            let size = at + body;
+            if size > bytes.len() {
+                return Parsed::Partial;
+            }
+            return Parsed::Whole(Request { method, target, size, keep });
+        }
+        let Some(colon) = line.iter().position(|&byte| byte == b':') else { return Parsed::Bad };
+        let (name, value) = (&line[..colon], line[colon + 1..].trim_ascii());
+        if name.eq_ignore_ascii_case(b"content-length") {
+            match std::str::from_utf8(value).ok().and_then(|value| value.parse().ok()) {
+                Some(n) => body = n,
+                None => return Parsed::Bad,
+            }
+        } else if name.eq_ignore_ascii_case(b"connection") && value.eq_ignore_ascii_case(b"close") {
+            keep = false;
+        }
+    }
+}
+
+/// The status line's rest and the body of the answer.
+fn answer(method: &[u8], target: &[u8], buckets: &Buckets) -> (&'static str, String) {
+    let name = target.strip_prefix(b"/buckets/").unwrap_or_default();
+    let told = String::from_utf8_lossy(name);
+    let mut buckets = buckets.lock().unwrap();
+    match (method, buckets.get(name)) {
+        (b"GET", Some(versions)) if !name.is_empty() => {
+            let rest = format!(r#""rules":0,"uploads":0,"versioning":"Unversioned","versions":{versions}}}"#);
+            ("200 OK", format!(r#"{{"bucket":"{told}",{rest}"#))
+        }
+        (b"PUT", None) if !name.is_empty() && !name.contains(&b'/') => {
+            buckets.insert(name.to_vec(), 0);
+            ("201 Created", format!(r#"{{"bucket":"{told}"}}"#))
+        }
+        _ => ("501 Not Implemented", r#"{"error":"NotBuilt","number":119}"#.to_string()),
+    }
+}
+
+fn serve(mut stream: TcpStream, buckets: &Buckets) -> std::io::Result<()> {
+    stream.set_nodelay(true)?;
+    let mut room = vec![0u8; 65_536];
+    let mut held = 0;
+    let mut out = Vec::with_capacity(1024);
+    loop {
+        match parse(&room[..held]) {
+            Parsed::Whole(request) => {
+                let (status, body) = answer(request.method, request.target, buckets);
+                let (size, keep) = (request.size, request.keep);
+                out.clear();
+                write!(out, "HTTP/1.1 {status}\r\ncontent-type: application/json\r\n")?;
+                write!(out, "content-length: {}\r\n\r\n{body}", body.len())?;
+                stream.write_all(&out)?;
+                room.copy_within(size..held, 0);
+                held -= size;
+                if !keep {
+                    return Ok(());
+                }
+            }
+            Parsed::Partial if held < room.len() => {
+                let got = stream.read(&mut room[held..])?;
+                if got == 0 {
+                    return Ok(());
+                }
+                held += got;
+            }
+            Parsed::Partial | Parsed::Bad => return Ok(()),
+        }
+    }
+}
+
+fn main() {
+    let words: Vec<String> = std::env::args().skip(1).collect();
+    let [address, workers] = words.as_slice() else { panic!("usage: plain_server ADDRESS WORKERS") };
+    let workers: usize = workers.parse().expect("WORKERS");
+    let listener = TcpListener::bind(address).expect("listen");
+    let buckets = Buckets::default();
+    std::thread::scope(|scope| {
+        for _ in 0..workers {
+            scope.spawn(|| {
+                for stream in listener.incoming().flatten() {
+                    // A connection that fails ends alone.
+                    let _ = serve(stream, &buckets);
+                }
+            });
+        }
+    });
+}
