@@ -1,5 +1,3 @@
-ghost use Rattle.std.specs.Prelude.{◌≤◌, ◌^◌};
-
 use super::*;
 use class_rules::Class;
 use disk_core::{Disk, FileNo, MemoryDisk};
@@ -62,46 +60,37 @@ fn logs_and(alloc: Global, frame: &[u8]) -> Result<Vec<u8>, Fail> {
     Ok(bytes)
 }
 
-fn desk_over<D: Disk + Drop, C: Clock + Drop>(
-    alloc: Global,
-    disk: D,
-    clock: C,
-    limit: u64,
-) -> Result<Desk<D, C>, Fail>
-    requires { limit ≤ 2 ^ 45 }
-{
-    match Desk::open(alloc, disk, clock, limit) {
-        Ok(desk) => Ok(desk),
-        Err((fault, _, _)) => Err(Fail::from(fault)),
-    }
+// What a desk is asked, of a bucket with this name.
+#[derive(Clone, Copy, Debug)]
+enum Wish {
+    Make(&'static str),
+    Show(&'static str),
+    // A put of this many bytes under the key a.
+    Put(&'static str, u64),
+    // The meters of January 2024.
+    January(&'static str),
 }
 
-fn bucket(alloc: Global, name: &str) -> Result<Ask, Fail> {
-    Ok(Ask::Command(Command::CreateBucket {
-        bucket: BucketName::read(alloc, name)?,
-    }))
-}
-
-fn shown(alloc: Global, name: &str) -> Result<Ask, Fail> {
-    Ok(Ask::Query(Query::Bucket(BucketName::read(alloc, name)?)))
-}
-
-// A put of this many bytes under the key a.
-fn put(alloc: Global, name: &str, size: u64) -> Result<Ask, Fail> {
-    Ok(Ask::Command(Command::Put {
-        bucket: BucketName::read(alloc, name)?,
-        key: Key::read(alloc, b"a")?,
-        size: Size::of(size)?,
-        class: Class::Standard,
-    }))
-}
-
-// The meters of January 2024.
-fn january(alloc: Global, name: &str) -> Result<Ask, Fail> {
-    let Some(month) = Month::of(2024, 1) else {
-        return Err(Fail::new("no month"));
+fn asked(alloc: Global, wish: Wish) -> Result<Ask, Fail> {
+    let (Wish::Make(name) | Wish::Show(name) | Wish::Put(name, _) | Wish::January(name)) = wish;
+    let bucket = BucketName::read(alloc, name)?;
+    let ask = match wish {
+        Wish::Make(_) => Ask::Command(Command::CreateBucket { bucket }),
+        Wish::Show(_) => Ask::Query(Query::Bucket(bucket)),
+        Wish::Put(_, size) => Ask::Command(Command::Put {
+            bucket,
+            key: Key::read(alloc, b"a")?,
+            size: Size::of(size)?,
+            class: Class::Standard,
+        }),
+        Wish::January(_) => {
+            let Some(month) = Month::of(2024, 1) else {
+                return Err(Fail::new("no month"));
+            };
+            Ask::Query(Query::Meters(bucket, month))
+        }
     };
-    Ok(Ask::Query(Query::Meters(BucketName::read(alloc, name)?, month)))
+    Ok(ask)
 }
 
 // What was answered, without the names.
@@ -115,16 +104,14 @@ enum Heard {
     // The byte-milliseconds in STANDARD.
     Standard(u128),
     Refused(Refusal),
-    Failed(DeskFault),
     Other,
 }
 
-fn answer_of(said: &Result<Acked, DeskFault>) -> Heard {
-    let acked = match said {
-        Ok(acked) => acked,
-        Err(fault) => return Heard::Failed(*fault),
-    };
-    match acked.reply() {
+// The answer, and the position of the journal's end.
+type Said = Result<(Heard, u64), DeskFault>;
+
+fn reply_of(reply: &Result<Reply, Refusal>) -> Heard {
+    match reply {
         Ok(Reply::BucketMade { .. }) => Heard::Made,
         Ok(
             Reply::Stored {
@@ -139,72 +126,83 @@ fn answer_of(said: &Result<Acked, DeskFault>) -> Heard {
     }
 }
 
-// What a desk answers that is not stale then.
-fn hear<D: Disk + Drop, C: Clock + Drop>(
+// What the desk says, and whether it is stale then.
+fn answer(desk: &mut Desk<MemoryDisk, ListClock>, ask: &Ask) -> (Said, bool) {
+    let said = match desk.submit(ask) {
+        Ok(acked) => Ok((reply_of(acked.reply()), acked.position())),
+        Err(fault) => Err(fault),
+    };
+    (said, desk.stale())
+}
+
+// A wish, with what the desk says and whether it is stale then.
+type Turn = (Wish, Said, bool);
+
+// Opens a desk over this disk and a clock that tells these numbers, takes the turns, and gives the disk back, with the fault where
+// the desk is not opened.
+fn take_turns(
     rt: &impl Abort,
-    desk: &mut Desk<D, C>,
-    ask: &Ask,
-) -> Heard {
-    let said = desk.submit(ask);
-    assert!(rt; !desk.stale());
-    answer_of(&said)
-}
-
-// Whether the ask was done, and the position.
-type Said = Result<(bool, u64), DeskFault>;
-
-fn told(said: &Result<Acked, DeskFault>) -> Said {
-    match said {
-        Ok(acked) => Ok((acked.reply().is_ok(), acked.position())),
-        Err(fault) => Err(*fault),
-    }
-}
-
-// What a desk over this disk says to the ask, and whether it is stale then; and the disk.
-fn ask_once<D: Disk + Drop, C: Clock + Drop>(
     alloc: Global,
-    disk: D,
-    clock: C,
-    ask: &Ask,
-) -> (Result<(Said, bool), OpenFault>, D) {
-    match Desk::open(alloc, disk, clock, 100) {
-        Err((fault, disk, _)) => (Err(fault), disk),
+    disk: MemoryDisk,
+    numbers: &[u64],
+    limit: u64,
+    turns: &[Turn],
+) -> Result<(Option<OpenFault>, MemoryDisk), Fail> {
+    let clock = ListClock::new(numbers.to_vec(alloc)?);
+    match Desk::open(alloc, disk, clock, limit.min(1 << 45)) {
+        Err((fault, disk, _)) => Ok((Some(fault), disk)),
         Ok(mut desk) => {
-            let said = told(&desk.submit(ask));
-            let stale = desk.stale();
-            (Ok((said, stale)), desk.finish().0)
+            for (wish, said, stale) in turns {
+                let found = answer(&mut desk, &asked(alloc, *wish)?);
+                assert_eq!(rt; found, (*said, *stale), "{wish:?}, limit {limit}");
+            }
+            Ok((None, desk.finish().0))
         }
     }
 }
 
+const MAKE: Wish = Wish::Make("logs");
+
+const SHOW: Wish = Wish::Show("logs");
+
+// What is said of the bucket logs, behind whose entry the journal ends at 30.
+const MADE: Said = Ok((Heard::Made, 30));
+
+const THERE: Said = Ok((Heard::Refused(Refusal::BucketExists), 30));
+
+// The clock is at its end; and the store failed in the first command.
+const ENDED: Heard = Heard::Refused(Refusal::ClockEnd { moment: END });
+
+const LOST: Said = Err(DeskFault::StoreFault {
+    told: Some(J0),
+    faults: 1,
+});
+
 #[test]
 fn a_bucket_is_made_once_and_within_the_limit(rt: HostRuntime) -> Result<(), Fail> {
     let alloc = rt.alloc();
-    let full = Err(DeskFault::JournalFull);
+    let full: Said = Err(DeskFault::JournalFull);
+    let ended: Said = Ok((ENDED, 10));
+    let past: Said = Ok((Heard::Refused(Refusal::ClockEnd { moment: u64::MAX }), 10));
     // The clock's number, the limit, what is told twice, and the bytes of the file then.
     for (number, limit, first, second, file) in [
         (J0, 30, full, full, &EMPTY[..]),
-        (J0, 31, Ok((true, 30)), full, &LOGS[..]),
-        (J0, 50, Ok((true, 30)), full, &LOGS[..]),
-        (J0, 51, Ok((true, 30)), Ok((false, 30)), &LOGS[..]),
-        (END - 1, 51, Ok((true, 30)), Ok((false, 30)), &LATE[..]),
+        (J0, 31, MADE, full, &LOGS[..]),
+        (J0, 50, MADE, full, &LOGS[..]),
+        (J0, 51, MADE, THERE, &LOGS[..]),
+        (END - 1, 51, MADE, THERE, &LATE[..]),
         // At the end of time nothing is done, and the limit is not looked at.
-        (END, 30, Ok((false, 10)), Ok((false, 10)), &EMPTY[..]),
-        (u64::MAX, 51, Ok((false, 10)), Ok((false, 10)), &EMPTY[..]),
+        (END, 30, ended, ended, &EMPTY[..]),
+        (u64::MAX, 51, past, past, &EMPTY[..]),
     ] {
         let disk = disk_with(alloc, &EMPTY, &[])?;
-        let clock = ListClock::new(vec![in alloc; number]?);
-        let mut desk = desk_over(alloc, disk, clock, limit)?;
-        let ask = bucket(alloc, "logs")?;
-        let said = desk.submit(&ask);
-        assert!(rt; !desk.stale());
-        assert_eq!(rt; told(&said), first, "limit {limit}");
-        let said = desk.submit(&ask);
-        assert!(rt; !desk.stale());
-        assert_eq!(rt; told(&said), second, "limit {limit}");
-        let (mut disk, _, _) = desk.finish();
-        let kept = read_all(alloc, &mut disk)?;
-        assert!(rt; kept.as_slice() == file, "limit {limit}");
+        let turns = [(MAKE, first, false), (MAKE, second, false)];
+        let (fault, mut disk) = take_turns(&rt, alloc, disk, &[number], limit, &turns)?;
+        assert_eq!(rt; fault, None, "limit {limit}");
+        assert!(rt;
+            read_all(alloc, &mut disk)?.as_slice() == file,
+            "limit {limit}"
+        );
     }
     Ok(())
 }
@@ -217,35 +215,34 @@ fn a_journal_is_opened_where_the_office_accepts_it(rt: HostRuntime) -> Result<()
     let cut = logs_and(alloc, &DATA_FRAME[..19])?;
     let both = logs_and(alloc, &DATA_FRAME)?;
     let damaged = Some(OpenFault::Damaged { offset: 30 });
-    for (file, fault) in [
-        (&[][..], Some(OpenFault::NotMade)),
-        (b"METERJRN1 is its mark", Some(OpenFault::Foreign)),
-        (twice.as_slice(), damaged),
-        (back.as_slice(), damaged),
-        (cut.as_slice(), damaged),
-        (both.as_slice(), None),
-        (&LOGS[..], None),
+    let there = Heard::Refused(Refusal::BucketExists);
+    for (file, fault, data) in [
+        (&[][..], Some(OpenFault::NotMade), there),
+        (b"METERJRN1 is its mark", Some(OpenFault::Foreign), there),
+        (twice.as_slice(), damaged, there),
+        (back.as_slice(), damaged, there),
+        (cut.as_slice(), damaged, there),
+        (both.as_slice(), None, there),
+        (&LOGS[..], None, Heard::Made),
     ] {
         let disk = disk_with(alloc, file, &[])?;
-        let clock = ListClock::new(Vec::new(alloc));
-        let mut desk = match Desk::open(alloc, disk, clock, 1 << 45) {
-            Ok(desk) => desk,
-            Err((found, _, _)) => {
-                assert_eq!(rt; Some(found), fault);
-                continue;
-            }
-        };
-        assert_eq!(rt; None, fault);
         let end = (file.len() as u64).saturating_sub(1);
-        let said = desk.submit(&bucket(alloc, "logs")?);
-        assert_eq!(rt; told(&said), Ok((false, end)));
-        assert!(rt; !desk.stale());
         // The clock tells 0, and the entry has the moment of the one before.
-        let said = desk.submit(&bucket(alloc, "data")?);
-        let there = end == 50;
-        assert_eq!(rt; told(&said), Ok((!there, 50)));
-        let (mut disk, _, _) = desk.finish();
-        assert!(rt; read_all(alloc, &mut disk)?.as_slice() == both.as_slice());
+        let turns = [
+            (MAKE, Ok((there, end)), false),
+            (Wish::Make("data"), Ok((data, 50)), false),
+        ];
+        let (found, mut disk) = take_turns(&rt, alloc, disk, &[], 1 << 45, &turns)?;
+        assert_eq!(rt; found, fault, "a file that ends at {end}");
+        let left = if fault.is_none() {
+            both.as_slice()
+        } else {
+            file
+        };
+        assert!(rt;
+            read_all(alloc, &mut disk)?.as_slice() == left,
+            "a file that ends at {end}"
+        );
     }
     Ok(())
 }
@@ -253,145 +250,152 @@ fn a_journal_is_opened_where_the_office_accepts_it(rt: HostRuntime) -> Result<()
 #[test]
 fn a_fault_of_the_store_is_told(rt: HostRuntime) -> Result<(), Fail> {
     let alloc = rt.alloc();
-    let ask = bucket(alloc, "logs")?;
     // Calls 2 to 5 open the journal: a sync, the length, the head, the first gate. Calls 6 to 11 add the entry: three
     // writes, a sync, the gate, a sync.
     for call in 2..12 {
         let disk = disk_with(alloc, &EMPTY, &[call])?;
-        let clock = ListClock::new(vec![in alloc; J0]?);
-        let (said, mut disk) = ask_once(alloc, disk, clock, &ask);
-        let failed = DeskFault::StoreFault {
-            told: Some(J0),
-            faults: 1,
-        };
+        let turns = [(MAKE, LOST, true)];
+        let (fault, mut disk) = take_turns(&rt, alloc, disk, &[J0], 100, &turns)?;
         let want = if call < 6 {
-            Err(OpenFault::StoreFault)
+            Some(OpenFault::StoreFault)
         } else {
-            Ok((Err(failed), true))
+            None
         };
-        assert_eq!(rt; said, want, "call {call}");
+        assert_eq!(rt; fault, want, "call {call}");
         assert_eq!(rt; disk.faults(), 1, "call {call}");
         // Opened again, the office has the bucket exactly where the gate of its entry is open.
         let is_open = read_all(alloc, &mut disk)?.get(10) == Some(&0xA5);
-        let clock = ListClock::new(vec![in alloc; J0]?);
-        let (said, _) = ask_once(alloc, disk, clock, &ask);
-        assert_eq!(rt; said, Ok((Ok((!is_open, 30)), false)), "call {call}");
+        let turns = [(MAKE, if is_open { THERE } else { MADE }, false)];
+        let (fault, _) = take_turns(&rt, alloc, disk, &[J0], 100, &turns)?;
+        assert_eq!(rt; fault, None, "call {call}");
+    }
+    Ok(())
+}
+
+// The calls of the disk that fail, over an empty journal; what the clock tells; and the turns.
+type Row = (&'static [u64], &'static [u64], &'static [Turn]);
+
+const ADDING: Turn = (MAKE, LOST, true);
+
+const OPENING: Turn = (
+    MAKE,
+    Err(DeskFault::StoreFault {
+        told: None,
+        faults: 2,
+    }),
+    true,
+);
+
+const NEW: Turn = (MAKE, MADE, false);
+
+const OLD: Turn = (MAKE, THERE, false);
+
+const EMPTY_SHOWN: Turn = (SHOW, Ok((Heard::Shown(0), 30)), false);
+
+const PUT: Wish = Wish::Put("logs", 1_000);
+
+// Call 9 syncs the frame of the first command, call 11 its gate, and call 12 the journal that is opened again.
+const STALE: [Row; 4] = [
+    (&[9], &[J0], &[ADDING, NEW, OLD]),
+    (&[11], &[J0], &[ADDING, OLD, OLD]),
+    (&[9, 12], &[J0], &[ADDING, OPENING, NEW]),
+    (&[11, 12], &[J0], &[ADDING, OPENING, OLD]),
+];
+
+// An entry of a put ends 33 bytes behind the one before it.
+const CLOCKS: [Row; 3] = [
+    (
+        &[],
+        &[J0, J0, END, J0],
+        &[NEW, EMPTY_SHOWN, (PUT, Ok((ENDED, 30)), false), EMPTY_SHOWN],
+    ),
+    (
+        &[],
+        &[END, END, END, END],
+        &[
+            (MAKE, Ok((ENDED, 10)), false),
+            (SHOW, Ok((ENDED, 10)), false),
+            (PUT, Ok((ENDED, 10)), false),
+            (SHOW, Ok((ENDED, 10)), false),
+        ],
+    ),
+    (
+        &[],
+        &[J0 + 5, J0, J0, J0],
+        &[
+            NEW,
+            EMPTY_SHOWN,
+            (PUT, Ok((Heard::Stored(J0 + 5), 63)), false),
+            (SHOW, Ok((Heard::Shown(1), 63)), false),
+        ],
+    ),
+];
+
+// Call 12 would be the first one behind the entry of the bucket, and it fails.
+const QUERIES: [Row; 1] = [(
+    &[12],
+    &[J0],
+    &[
+        NEW,
+        EMPTY_SHOWN,
+        (
+            Wish::Show("data"),
+            Ok((Heard::Refused(Refusal::NoSuchBucket), 30)),
+            false,
+        ),
+        (PUT, LOST, true),
+    ],
+)];
+
+fn assert_rows(rt: &impl Abort, alloc: Global, rows: &[Row]) -> Result<(), Fail> {
+    for (failing, numbers, turns) in rows {
+        let disk = disk_with(alloc, &EMPTY, *failing)?;
+        let (fault, _) = take_turns(rt, alloc, disk, *numbers, 1 << 20, *turns)?;
+        assert_eq!(rt; fault, None);
     }
     Ok(())
 }
 
 #[test]
 fn a_stale_desk_opens_its_journal_again(rt: HostRuntime) -> Result<(), Fail> {
-    let alloc = rt.alloc();
-    let there = Heard::Refused(Refusal::BucketExists);
-    let adding = Heard::Failed(DeskFault::StoreFault {
-        told: Some(J0),
-        faults: 1,
-    });
-    let opening = Heard::Failed(DeskFault::StoreFault {
-        told: None,
-        faults: 2,
-    });
-    // The calls of the disk that fail, and what three asks for the same bucket are answered. Call 9 syncs the frame of the first,
-    // call 11 its gate, and call 12 the journal that is opened again.
-    for (failing, answers, stale) in [
-        (&[9][..], [adding, Heard::Made, there], [true, false, false]),
-        (&[11], [adding, there, there], [true, false, false]),
-        (
-            &[9, 12],
-            [adding, opening, Heard::Made],
-            [true, true, false],
-        ),
-        (&[11, 12], [adding, opening, there], [true, true, false]),
-    ] {
-        let disk = disk_with(alloc, &EMPTY, failing)?;
-        let clock = ListClock::new(vec![in alloc; J0]?);
-        let mut desk = desk_over(alloc, disk, clock, 1 << 20)?;
-        let ask = bucket(alloc, "logs")?;
-        for (answer, is_stale) in answers.into_iter().zip(stale) {
-            assert_eq!(rt; answer_of(&desk.submit(&ask)), answer, "calls {failing:?}");
-            assert_eq!(rt; desk.stale(), is_stale, "calls {failing:?}");
-        }
-    }
-    Ok(())
+    assert_rows(&rt, rt.alloc(), &STALE)
 }
 
 #[test]
 fn the_clock_ends_and_does_not_go_back(rt: HostRuntime) -> Result<(), Fail> {
-    let alloc = rt.alloc();
-    let ended = Heard::Refused(Refusal::ClockEnd { moment: END });
-    // What the clock tells, and what four asks are answered: a bucket is made, it is shown, an object is put, and the
-    // bucket is shown.
-    for (numbers, answers) in [
-        (
-            [J0, J0, END, J0],
-            [Heard::Made, Heard::Shown(0), ended, Heard::Shown(0)],
-        ),
-        ([END, END, END, END], [ended, ended, ended, ended]),
-        (
-            [J0 + 5, J0, J0, J0],
-            [
-                Heard::Made,
-                Heard::Shown(0),
-                Heard::Stored(J0 + 5),
-                Heard::Shown(1),
-            ],
-        ),
-    ] {
-        let disk = disk_with(alloc, &EMPTY, &[])?;
-        let clock = ListClock::new(numbers.to_vec(alloc)?);
-        let mut desk = desk_over(alloc, disk, clock, 1 << 20)?;
-        let made = hear(&rt, &mut desk, &bucket(alloc, "logs")?);
-        let empty = hear(&rt, &mut desk, &shown(alloc, "logs")?);
-        let stored = hear(&rt, &mut desk, &put(alloc, "logs", 1_000)?);
-        let last = hear(&rt, &mut desk, &shown(alloc, "logs")?);
-        assert_eq!(rt; [made, empty, stored, last], answers);
-    }
-    Ok(())
+    assert_rows(&rt, rt.alloc(), &CLOCKS)
 }
 
 #[test]
 fn a_query_makes_no_call_of_the_disk(rt: HostRuntime) -> Result<(), Fail> {
-    let alloc = rt.alloc();
-    // Call 12 would be the first one behind the entry of the bucket; it fails.
-    let disk = disk_with(alloc, &EMPTY, &[12])?;
-    let clock = ListClock::new(vec![in alloc; J0]?);
-    let mut desk = desk_over(alloc, disk, clock, 1 << 20)?;
-    let made = hear(&rt, &mut desk, &bucket(alloc, "logs")?);
-    assert_eq!(rt; made, Heard::Made);
-    let empty = hear(&rt, &mut desk, &shown(alloc, "logs")?);
-    assert_eq!(rt; empty, Heard::Shown(0));
-    let none = hear(&rt, &mut desk, &shown(alloc, "data")?);
-    assert_eq!(rt; none, Heard::Refused(Refusal::NoSuchBucket));
-    let said = desk.submit(&put(alloc, "logs", 1_000)?);
-    let failed = DeskFault::StoreFault {
-        told: Some(J0),
-        faults: 1,
-    };
-    assert_eq!(rt; answer_of(&said), Heard::Failed(failed));
-    Ok(())
+    assert_rows(&rt, rt.alloc(), &QUERIES)
 }
 
 #[test]
 fn meters_are_the_same_after_an_opening(rt: HostRuntime) -> Result<(), Fail> {
     let alloc = rt.alloc();
     let disk = disk_with(alloc, &EMPTY, &[])?;
-    let clock = ListClock::new([J0, J0, J0 + DAY, J0 + 2 * DAY].to_vec(alloc)?);
-    let mut desk = desk_over(alloc, disk, clock, 1 << 20)?;
     // 1,000 bytes for a day, and 2,000 bytes for another.
-    let used = Heard::Standard(259_200_000_000);
-    let made = hear(&rt, &mut desk, &bucket(alloc, "logs")?);
-    assert_eq!(rt; made, Heard::Made);
-    let first = hear(&rt, &mut desk, &put(alloc, "logs", 1_000)?);
-    assert_eq!(rt; first, Heard::Stored(J0));
-    let second = hear(&rt, &mut desk, &put(alloc, "logs", 2_000)?);
-    assert_eq!(rt; second, Heard::Stored(J0 + DAY));
-    let before = hear(&rt, &mut desk, &january(alloc, "logs")?);
-    assert_eq!(rt; before, used);
-    let (disk, clock, _) = desk.finish();
-    let mut desk = desk_over(alloc, disk, clock, 1 << 20)?;
-    let after = hear(&rt, &mut desk, &january(alloc, "logs")?);
-    assert_eq!(rt; after, used);
+    let used = (
+        Wish::January("logs"),
+        Ok((Heard::Standard(259_200_000_000), 96)),
+        false,
+    );
+    let turns = [
+        (MAKE, MADE, false),
+        (Wish::Put("logs", 1_000), Ok((Heard::Stored(J0), 63)), false),
+        (
+            Wish::Put("logs", 2_000),
+            Ok((Heard::Stored(J0 + DAY), 96)),
+            false,
+        ),
+        used,
+    ];
+    let numbers = [J0, J0, J0 + DAY, J0 + 2 * DAY];
+    let (fault, disk) = take_turns(&rt, alloc, disk, &numbers, 1 << 20, &turns)?;
+    assert_eq!(rt; fault, None);
+    let (fault, _) = take_turns(&rt, alloc, disk, &[J0 + 2 * DAY], 1 << 20, &[used])?;
+    assert_eq!(rt; fault, None);
     Ok(())
 }
 

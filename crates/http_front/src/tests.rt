@@ -6,6 +6,7 @@ use meter_journal::OpenFault;
 use office_base::BucketName;
 use plain_office::{Ask, Command, Refusal, Reply};
 use std::alloc::Global;
+use std::process::Abort;
 use std::test::Fail;
 
 const MADE: &[u8] =
@@ -27,9 +28,6 @@ const NOT_BUILT: &[u8] =
     b"HTTP/1.1 501 Not Implemented\r\ncontent-type: application/json\r\ncontent-length: 33\r\n\r\n{\"error\":\"NotBuilt\",\"number\":119}";
 
 const PUT: &[u8] = b"PUT /buckets/logs HTTP/1.1\r\nHost: x\r\n\r\n";
-
-const TWICE: &[u8] =
-    b"PUT /buckets/logs HTTP/1.1\r\nHost: x\r\n\r\nPUT /buckets/logs HTTP/1.1\r\nHost: x\r\n\r\n";
 
 /// Tells each ask that the journal is full, but those with these numbers, counted from 1.
 #[derive(Drop)]
@@ -57,316 +55,373 @@ impl Teller for FullTeller {
     }
 }
 
-/// One session: its end, and the bytes that were said.
-fn talk(
-    alloc: Global,
-    bytes: &[u8],
-    cut: usize,
-    reads: &[u64],
-    texts: &[u64],
-    mut teller: FullTeller,
-) -> Result<(SessionEnd, Vec<u8>), Fail> {
-    let mut source = MemorySource::new(bytes.to_vec(alloc)?, cut, reads.to_vec(alloc)?);
-    let mut out = MemoryReplies::new(alloc, texts.to_vec(alloc)?);
-    let end = session(alloc, &mut source, &mut out, &mut teller);
-    let said = out.said().to_vec(alloc)?;
-    Ok((end, said))
+/// The calls that fail, each kind counted from 1: reads, texts said, an ask by the store, and one by want of memory (0: none).
+#[derive(Clone, Copy)]
+struct Failing {
+    reads: &'static [u64],
+    texts: &'static [u64],
+    store: u64,
+    memory: u64,
 }
 
-fn full() -> FullTeller {
-    FullTeller {
-        asks: 0,
-        store_fails: 0,
-        lacks: 0,
+const NOTHING: Failing = Failing {
+    reads: &[],
+    texts: &[],
+    store: 0,
+    memory: 0,
+};
+
+fn joined(alloc: Global, pieces: &[&[u8]]) -> Result<Vec<u8>, Fail> {
+    let mut all = Vec::new(alloc);
+    for piece in pieces {
+        all.extend_from_slice(*piece)?;
     }
-}
-
-fn joined(alloc: Global, first: &[u8], second: &[u8]) -> Result<Vec<u8>, Fail> {
-    let mut all = first.to_vec(alloc)?;
-    all.extend_from_slice(second)?;
     Ok(all)
 }
+
+/// Has one session over a stream, given in pieces, that is read in cuts of so many bytes, and looks at its end and at the replies,
+/// given in pieces.
+fn assert_session(
+    rt: &impl Abort,
+    alloc: Global,
+    stream: &[&[u8]],
+    cut: usize,
+    failing: Failing,
+    wanted: (SessionEnd, &[&[u8]]),
+) -> Result<(), Fail> {
+    let bytes = joined(alloc, stream)?;
+    let replies = joined(alloc, wanted.1)?;
+    let mut source = MemorySource::new(bytes, cut, failing.reads.to_vec(alloc)?);
+    let mut out = MemoryReplies::new(alloc, failing.texts.to_vec(alloc)?);
+    let mut teller = FullTeller {
+        asks: 0,
+        store_fails: failing.store,
+        lacks: failing.memory,
+    };
+    let end = session(alloc, &mut source, &mut out, &mut teller);
+    assert!(rt; end == wanted.0);
+    assert!(rt; out.said() == replies.as_slice());
+    Ok(())
+}
+
+// The front of a refusal of a message, up to the size of its body; and what stands between the two.
+const BAD: &[u8] =
+    b"HTTP/1.1 400 Bad Request\r\ncontent-type: application/json\r\ncontent-length: ";
+
+const GAP: &[u8] = b"\r\n\r\n";
+
+const ENDED: SessionEnd = SessionEnd::Ended;
 
 #[test]
 fn replies_are_printed_exactly(rt: HostRuntime) -> Result<(), Fail> {
     let alloc = rt.alloc();
-    let mut room = [0u8; 200];
-    let Ok(bucket) = BucketName::read(alloc, "logs") else {
-        assert!(rt; false);
-        return Ok(());
-    };
-    let size = put_answer(&mut room, &Ok(Reply::BucketMade { bucket }));
-    assert!(rt; size == MADE.len());
-    assert!(rt; room.starts_with(MADE));
-    let size = put_answer(&mut room, &Err(Refusal::BucketExists));
-    assert!(rt; size == EXISTS.len());
-    assert!(rt; room.starts_with(EXISTS));
+    let bucket = BucketName::read(alloc, "logs")?;
+    for (reply, wanted) in [
+        (Ok(Reply::BucketMade { bucket }), MADE),
+        (Err(Refusal::BucketExists), EXISTS),
+    ] {
+        let mut room = [0u8; 200];
+        assert!(rt; put_answer(&mut room, &reply) == wanted.len());
+        assert!(rt; room.starts_with(wanted));
+    }
     Ok(())
 }
 
-/// A reply with a status and a body of so many bytes.
-fn reply_of(alloc: Global, status: &str, size: &str, body: &str) -> Result<Vec<u8>, Fail> {
-    let mut text = b"HTTP/1.1 ".to_vec(alloc)?;
-    text.extend_from_slice(status.as_bytes())?;
-    text.extend_from_slice(b"\r\ncontent-type: application/json\r\ncontent-length: ")?;
-    text.extend_from_slice(size.as_bytes())?;
-    text.extend_from_slice(b"\r\n\r\n")?;
-    text.extend_from_slice(body.as_bytes())?;
-    Ok(text)
+const ERROR: &[u8] = b"500 Internal Server Error";
+
+const UNAVAILABLE: &[u8] = b"503 Service Unavailable";
+
+const LOST: &[u8] = b"{\"error\":\"StoreFault\",\"number\":114}";
+
+const LACK: &[u8] = b"{\"error\":\"NoMemory\",\"number\":115}";
+
+// The status, and the size and the text of the body. RFC 9110, "Status Codes"; RFC 4918, "507 Insufficient Storage".
+const FAULTS: [(DeskFault, &[u8], &[u8], &[u8]); 8] = [
+    (
+        DeskFault::StoreFault {
+            told: Some(5),
+            faults: 1,
+        },
+        UNAVAILABLE,
+        b"35",
+        LOST,
+    ),
+    (
+        DeskFault::JournalFull,
+        b"507 Insufficient Storage",
+        b"36",
+        b"{\"error\":\"JournalFull\",\"number\":113}",
+    ),
+    (
+        DeskFault::Broken(OpenFault::NotMade),
+        ERROR,
+        b"32",
+        b"{\"error\":\"NotMade\",\"number\":110}",
+    ),
+    (
+        DeskFault::Broken(OpenFault::Foreign),
+        ERROR,
+        b"32",
+        b"{\"error\":\"Foreign\",\"number\":111}",
+    ),
+    (
+        DeskFault::Broken(OpenFault::Damaged { offset: 30 }),
+        ERROR,
+        b"44",
+        b"{\"error\":\"Damaged\",\"number\":112,\"offset\":30}",
+    ),
+    (
+        DeskFault::Broken(OpenFault::StoreFault),
+        UNAVAILABLE,
+        b"35",
+        LOST,
+    ),
+    (DeskFault::Broken(OpenFault::NoMemory), ERROR, b"33", LACK),
+    (DeskFault::NoMemory, ERROR, b"33", LACK),
+];
+
+fn assert_printed(rt: &impl Abort, alloc: Global, bad: &Bad, reply: &[u8]) {
+    match print_bad(alloc, bad) {
+        Ok(text) => assert!(rt; text.as_slice() == reply),
+        Err(_) => panic!(rt; "no memory"),
+    }
 }
 
-const ERROR: &str = "500 Internal Server Error";
-
-const UNAVAILABLE: &str = "503 Service Unavailable";
-
-// RFC 9110, "Status Codes"; RFC 4918, "507 Insufficient Storage".
 #[test]
-fn faults_are_printed_exactly(rt: HostRuntime) -> Result<(), Fail> {
+fn faults_and_refusals_are_printed_exactly(rt: HostRuntime) -> Result<(), Fail> {
     let alloc = rt.alloc();
-    let lost = "{\"error\":\"StoreFault\",\"number\":114}";
-    let lacks = "{\"error\":\"NoMemory\",\"number\":115}";
-    let rows: [(DeskFault, &str, &str, &str); 8] = [
-        (
-            DeskFault::StoreFault {
-                told: Some(5),
-                faults: 1,
-            },
-            UNAVAILABLE,
-            "35",
-            lost,
-        ),
-        (
-            DeskFault::JournalFull,
-            "507 Insufficient Storage",
-            "36",
-            "{\"error\":\"JournalFull\",\"number\":113}",
-        ),
-        (
-            DeskFault::Broken(OpenFault::NotMade),
-            ERROR,
-            "32",
-            "{\"error\":\"NotMade\",\"number\":110}",
-        ),
-        (
-            DeskFault::Broken(OpenFault::Foreign),
-            ERROR,
-            "32",
-            "{\"error\":\"Foreign\",\"number\":111}",
-        ),
-        (
-            DeskFault::Broken(OpenFault::Damaged { offset: 30 }),
-            ERROR,
-            "44",
-            "{\"error\":\"Damaged\",\"number\":112,\"offset\":30}",
-        ),
-        (
-            DeskFault::Broken(OpenFault::StoreFault),
-            UNAVAILABLE,
-            "35",
-            lost,
-        ),
-        (DeskFault::Broken(OpenFault::NoMemory), ERROR, "33", lacks),
-        (DeskFault::NoMemory, ERROR, "33", lacks),
-    ];
-    for (fault, status, size, body) in rows {
-        let reply = reply_of(alloc, status, size, body)?;
+    let kind: &[u8] = b"\r\ncontent-type: application/json\r\ncontent-length: ";
+    for (fault, status, size, body) in FAULTS {
+        let reply = joined(alloc, &[b"HTTP/1.1 ", status, kind, size, GAP, body])?;
         let mut room = [0u8; 200];
         assert!(rt; print_fault(&mut room, &fault) == Ok(reply.len()));
         assert!(rt; room.starts_with(&reply));
-        let Ok(text) = print_bad(alloc, &Bad::Desk(fault)) else {
-            return Err(Fail::from("no memory"));
-        };
-        assert!(rt; text.as_slice() == reply.as_slice());
+        assert_printed(&rt, alloc, &Bad::Desk(fault), &reply);
     }
     let mut short = [0u8; 124];
     assert!(rt; print_fault(&mut short, &DeskFault::JournalFull).is_err());
+    let body: &[u8] = b"{\"error\":\"UnsupportedClass\",\"name\":\"FOO\",\"number\":43}";
+    let reply = joined(alloc, &[BAD, b"53", GAP, body])?;
+    let name = String::from_str(alloc, "FOO")?;
+    let bad = Bad::Message(http_asks::Bad::UnsupportedClass { name });
+    assert_printed(&rt, alloc, &bad, &reply);
     Ok(())
 }
+
+// How often the same bucket is asked for, the cut, what fails, and how the session ends.
+const FAILURES: [(&[&[u8]], usize, Failing, SessionEnd, &[&[u8]]); 5] = [
+    (
+        &[PUT, PUT],
+        7,
+        Failing {
+            reads: &[9],
+            texts: &[],
+            store: 0,
+            memory: 0,
+        },
+        SessionEnd::ReadFault,
+        &[FULL],
+    ),
+    (
+        &[PUT, PUT],
+        99,
+        Failing {
+            reads: &[1],
+            texts: &[],
+            store: 0,
+            memory: 0,
+        },
+        SessionEnd::ReadFault,
+        &[],
+    ),
+    (
+        &[PUT, PUT],
+        99,
+        Failing {
+            reads: &[],
+            texts: &[2],
+            store: 0,
+            memory: 0,
+        },
+        SessionEnd::WriteFault,
+        &[FULL],
+    ),
+    // A session goes on after a fault of the store, and ends where memory ran out.
+    (
+        &[PUT, PUT, PUT],
+        99,
+        Failing {
+            reads: &[],
+            texts: &[],
+            store: 2,
+            memory: 0,
+        },
+        SessionEnd::Ended,
+        &[FULL, FAILED, FULL],
+    ),
+    (
+        &[PUT, PUT],
+        99,
+        Failing {
+            reads: &[],
+            texts: &[],
+            store: 0,
+            memory: 1,
+        },
+        SessionEnd::NoMemory,
+        &[LACKS],
+    ),
+];
 
 #[test]
 fn each_message_is_answered_once(rt: HostRuntime) -> Result<(), Fail> {
     let alloc = rt.alloc();
-    let twice = joined(alloc, FULL, FULL)?;
     for cut in 0..21 {
-        let (end, said) = talk(alloc, TWICE, cut, &[], &[], full())?;
-        assert!(rt; end == SessionEnd::Ended);
-        assert!(rt; said.as_slice() == twice.as_slice());
+        assert_session(
+            &rt,
+            alloc,
+            &[PUT, PUT],
+            cut,
+            NOTHING,
+            (ENDED, &[FULL, FULL]),
+        )?;
     }
-    let (end, said) = talk(alloc, TWICE, 7, &[9], &[], full())?;
-    assert!(rt; end == SessionEnd::ReadFault);
-    assert!(rt; said.as_slice() == FULL);
-    let (end, said) = talk(alloc, TWICE, 99, &[1], &[], full())?;
-    assert!(rt; end == SessionEnd::ReadFault);
-    assert!(rt; said.is_empty());
-    let (end, said) = talk(alloc, TWICE, 99, &[], &[2], full())?;
-    assert!(rt; end == SessionEnd::WriteFault);
-    assert!(rt; said.as_slice() == FULL);
+    for (stream, cut, failing, end, said) in FAILURES {
+        assert_session(&rt, alloc, stream, cut, failing, (end, said))?;
+    }
     Ok(())
 }
 
-#[test]
-fn a_session_goes_on_after_a_store_fault(rt: HostRuntime) -> Result<(), Fail> {
-    let alloc = rt.alloc();
-    let thrice = joined(alloc, TWICE, PUT)?;
-    let teller = FullTeller {
-        asks: 0,
-        store_fails: 2,
-        lacks: 0,
-    };
-    let mut replies = joined(alloc, FULL, FAILED)?;
-    replies.extend_from_slice(FULL)?;
-    let (end, said) = talk(alloc, &thrice, 99, &[], &[], teller)?;
-    assert!(rt; end == SessionEnd::Ended);
-    assert!(rt; said.as_slice() == replies.as_slice());
-    let teller = FullTeller {
-        asks: 0,
-        store_fails: 0,
-        lacks: 1,
-    };
-    let (end, said) = talk(alloc, TWICE, 99, &[], &[], teller)?;
-    assert!(rt; end == SessionEnd::NoMemory);
-    assert!(rt; said.as_slice() == LACKS);
-    Ok(())
+const NOT_SERVED: [&[u8]; 7] = [
+    b"GET / HTTP/1.1\r\n\r\n",
+    b"DELETE /buckets/logs HTTP/1.1\r\n\r\n",
+    b"PUT /bucket/logs HTTP/1.1\r\n\r\n",
+    b"PUT /buckets/logs HTTP/1.1\r\nTransfer-Encoding: chunked\r\n\r\n",
+    b"PUT /buckets/logs/objects/k HTTP/1.1\r\nContent-Length: 27\r\n\r\n{\"size\":1,\"tags\":{\"a\":\"x\"}}",
+    b"PUT /buckets/logs HTTP/1.1\r\nHost:",
+    b"\x01\x02",
+];
+
+fn letters(alloc: Global, count: u64) -> Result<Vec<u8>, Fail> {
+    let mut all = Vec::new(alloc);
+    for _ in 0..count {
+        all.push(b'a')?;
+    }
+    Ok(all)
+}
+
+fn assert_last(rt: &impl Abort, alloc: Global, message: &[u8]) -> Result<(), Fail> {
+    assert_session(rt, alloc, &[message], 1000, NOTHING, (ENDED, &[NOT_BUILT]))?;
+    assert_session(
+        rt,
+        alloc,
+        &[PUT, message],
+        13,
+        NOTHING,
+        (ENDED, &[FULL, NOT_BUILT]),
+    )
 }
 
 #[test]
 fn what_is_not_served_is_the_last(rt: HostRuntime) -> Result<(), Fail> {
     let alloc = rt.alloc();
-    let mut long = b"GET /".to_vec(alloc)?;
-    for _ in 0..8188 {
-        long.push(b'a')?;
+    for message in NOT_SERVED {
+        assert_last(&rt, alloc, message)?;
     }
-    let rows: [&[u8]; 8] = [
-        b"GET / HTTP/1.1\r\n\r\n",
-        b"DELETE /buckets/logs HTTP/1.1\r\n\r\n",
-        b"PUT /bucket/logs HTTP/1.1\r\n\r\n",
-        b"PUT /buckets/logs HTTP/1.1\r\nTransfer-Encoding: chunked\r\n\r\n",
-        b"PUT /buckets/logs/objects/k HTTP/1.1\r\nContent-Length: 27\r\n\r\n{\"size\":1,\"tags\":{\"a\":\"x\"}}",
-        b"PUT /buckets/logs HTTP/1.1\r\nHost:",
-        b"\x01\x02",
-        &long,
-    ];
-    for row in rows {
-        let (end, said) = talk(alloc, row, 1000, &[], &[], full())?;
-        assert!(rt; end == SessionEnd::Ended);
-        assert!(rt; said.as_slice() == NOT_BUILT);
-        let all = joined(alloc, PUT, row)?;
-        let both = joined(alloc, FULL, NOT_BUILT)?;
-        let (end, said) = talk(alloc, &all, 13, &[], &[], full())?;
-        assert!(rt; end == SessionEnd::Ended);
-        assert!(rt; said.as_slice() == both.as_slice());
-    }
-    Ok(())
+    let letters = letters(alloc, 8188)?;
+    let long = joined(alloc, &[b"GET /", &letters])?;
+    assert_last(&rt, alloc, &long)
 }
 
-/// The reply to a refused message, with a body of so many bytes.
-fn bad_reply(alloc: Global, size: &str, body: &str) -> Result<Vec<u8>, Fail> {
-    reply_of(alloc, "400 Bad Request", size, body)
-}
+// A message that is refused, and the size and the text of the reply's body.
+const REFUSED: [(&[u8], &[u8], &[u8]); 9] = [
+    (
+        b"GET /buckets/logs/meters/2024-13 HTTP/1.1\r\n\r\n",
+        b"32",
+        b"{\"error\":\"NotAMonth\",\"number\":4}",
+    ),
+    (b"PUT /buckets/lo HTTP/1.1\r\n\r\n", b"37", BAD_NAME),
+    (b"GET /buckets/lo HTTP/1.1\r\n\r\n", b"37", BAD_NAME),
+    (
+        b"PUT /buckets/logs/objects/k HTTP/1.1\r\nContent-Length: 26\r\n\r\n{\"size\":1,\"tags\":{\"\":\"x\"}}",
+        b"31",
+        b"{\"error\":\"BadTags\",\"number\":12}",
+    ),
+    (
+        b"PUT /buckets/logs/objects/k HTTP/1.1\r\nContent-Length: 22\r\n\r\n{\"size\":5497558138881}",
+        b"31",
+        b"{\"error\":\"BadSize\",\"number\":13}",
+    ),
+    (
+        b"PUT /buckets/logs/objects/k HTTP/1.1\r\nContent-Length: 24\r\n\r\n{\"size\":1,\"class\":\"FOO\"}",
+        b"53",
+        b"{\"error\":\"UnsupportedClass\",\"name\":\"FOO\",\"number\":43}",
+    ),
+    (
+        b"PUT /buckets/logs/objects/k HTTP/1.1\r\nContent-Length: 25\r\n\r\n{\"size\":1,\"class\":\"A\\\"B\"}",
+        b"54",
+        b"{\"error\":\"UnsupportedClass\",\"name\":\"A\\\"B\",\"number\":43}",
+    ),
+    (
+        b"PUT /buckets/logs/objects/k HTTP/1.1\r\nContent-Length: 12\r\n\r\n{\"size\":\"1\"}",
+        b"47",
+        b"{\"error\":\"BadBody\",\"field\":\"size\",\"number\":123}",
+    ),
+    (
+        b"PUT /buckets/logs/objects/k HTTP/1.1\r\nContent-Length: 2\r\n\r\n[]",
+        b"43",
+        b"{\"error\":\"BadBody\",\"field\":\"\",\"number\":123}",
+    ),
+];
+
+const BAD_NAME: &[u8] = b"{\"error\":\"BadBucketName\",\"number\":10}";
 
 #[test]
 fn a_session_goes_on_after_a_refusal(rt: HostRuntime) -> Result<(), Fail> {
     let alloc = rt.alloc();
-    let mut long_key = b"PUT /buckets/logs/objects/".to_vec(alloc)?;
-    for _ in 0..1025 {
-        long_key.push(b'a')?;
+    for (message, size, body) in REFUSED {
+        let wanted = &[BAD, size, GAP, body, FULL];
+        assert_session(&rt, alloc, &[message, PUT], 17, NOTHING, (ENDED, wanted))?;
     }
-    long_key.extend_from_slice(b" HTTP/1.1\r\n\r\n")?;
-    let rows: [(&[u8], &str, &str); 10] = [
-        (
-            b"GET /buckets/logs/meters/2024-13 HTTP/1.1\r\n\r\n",
-            "32",
-            "{\"error\":\"NotAMonth\",\"number\":4}",
-        ),
-        (
-            b"PUT /buckets/lo HTTP/1.1\r\n\r\n",
-            "37",
-            "{\"error\":\"BadBucketName\",\"number\":10}",
-        ),
-        (
-            b"GET /buckets/lo HTTP/1.1\r\n\r\n",
-            "37",
-            "{\"error\":\"BadBucketName\",\"number\":10}",
-        ),
-        (&long_key, "30", "{\"error\":\"BadKey\",\"number\":11}"),
-        (
-            b"PUT /buckets/logs/objects/k HTTP/1.1\r\nContent-Length: 26\r\n\r\n{\"size\":1,\"tags\":{\"\":\"x\"}}",
-            "31",
-            "{\"error\":\"BadTags\",\"number\":12}",
-        ),
-        (
-            b"PUT /buckets/logs/objects/k HTTP/1.1\r\nContent-Length: 22\r\n\r\n{\"size\":5497558138881}",
-            "31",
-            "{\"error\":\"BadSize\",\"number\":13}",
-        ),
-        (
-            b"PUT /buckets/logs/objects/k HTTP/1.1\r\nContent-Length: 24\r\n\r\n{\"size\":1,\"class\":\"FOO\"}",
-            "53",
-            "{\"error\":\"UnsupportedClass\",\"name\":\"FOO\",\"number\":43}",
-        ),
-        (
-            b"PUT /buckets/logs/objects/k HTTP/1.1\r\nContent-Length: 25\r\n\r\n{\"size\":1,\"class\":\"A\\\"B\"}",
-            "54",
-            "{\"error\":\"UnsupportedClass\",\"name\":\"A\\\"B\",\"number\":43}",
-        ),
-        (
-            b"PUT /buckets/logs/objects/k HTTP/1.1\r\nContent-Length: 12\r\n\r\n{\"size\":\"1\"}",
-            "47",
-            "{\"error\":\"BadBody\",\"field\":\"size\",\"number\":123}",
-        ),
-        (
-            b"PUT /buckets/logs/objects/k HTTP/1.1\r\nContent-Length: 2\r\n\r\n[]",
-            "43",
-            "{\"error\":\"BadBody\",\"field\":\"\",\"number\":123}",
-        ),
+    let key = letters(alloc, 1025)?;
+    let stream = &[
+        b"PUT /buckets/logs/objects/",
+        key.as_slice(),
+        b" HTTP/1.1\r\n\r\n",
+        PUT,
     ];
-    for (message, size, body) in rows {
-        let reply = bad_reply(alloc, size, body)?;
-        let all = joined(alloc, message, PUT)?;
-        let both = joined(alloc, &reply, FULL)?;
-        let (end, said) = talk(alloc, &all, 17, &[], &[], full())?;
-        assert!(rt; end == SessionEnd::Ended);
-        assert!(rt; said.as_slice() == both.as_slice());
-    }
-    Ok(())
+    let wanted = &[
+        BAD,
+        b"30",
+        GAP,
+        b"{\"error\":\"BadKey\",\"number\":11}",
+        FULL,
+    ];
+    assert_session(&rt, alloc, stream, 17, NOTHING, (ENDED, wanted))
 }
+
+// The last message of a session, and its reply.
+const LAST: [(&[u8], &[&[u8]]); 4] = [
+    (
+        b"PUT /buckets/logs HTTP/1.1\r\nConnection: close\r\n\r\n",
+        &[FULL],
+    ),
+    (b"PUT /buckets/logs HTTP/1.0\r\n\r\n", &[FULL]),
+    (
+        b"PUT /buckets/lo HTTP/1.1\r\nConnection: close\r\n\r\n",
+        &[BAD, b"37", GAP, BAD_NAME],
+    ),
+    (
+        b"GET /buckets/lo HTTP/1.0\r\n\r\n",
+        &[BAD, b"37", GAP, BAD_NAME],
+    ),
+];
 
 #[test]
 fn a_last_message_ends_the_session(rt: HostRuntime) -> Result<(), Fail> {
-    let alloc = rt.alloc();
-    let name = bad_reply(alloc, "37", "{\"error\":\"BadBucketName\",\"number\":10}")?;
-    let rows: [(&[u8], &[u8]); 4] = [
-        (
-            b"PUT /buckets/logs HTTP/1.1\r\nConnection: close\r\n\r\n",
-            FULL,
-        ),
-        (b"PUT /buckets/logs HTTP/1.0\r\n\r\n", FULL),
-        (
-            b"PUT /buckets/lo HTTP/1.1\r\nConnection: close\r\n\r\n",
-            &name,
-        ),
-        (b"GET /buckets/lo HTTP/1.0\r\n\r\n", &name),
-    ];
-    for (message, reply) in rows {
-        let all = joined(alloc, message, PUT)?;
-        let (end, said) = talk(alloc, &all, 17, &[], &[], full())?;
-        assert!(rt; end == SessionEnd::Ended);
-        assert!(rt; said.as_slice() == reply);
+    for (message, said) in LAST {
+        assert_session(&rt, rt.alloc(), &[message, PUT], 17, NOTHING, (ENDED, said))?;
     }
-    Ok(())
-}
-
-#[test]
-fn a_refusal_is_printed_exactly(rt: HostRuntime) -> Result<(), Fail> {
-    let alloc = rt.alloc();
-    let name = String::from_str(alloc, "FOO")?;
-    let body = "{\"error\":\"UnsupportedClass\",\"name\":\"FOO\",\"number\":43}";
-    let reply = bad_reply(alloc, "53", body)?;
-    let bad = Bad::Message(http_asks::Bad::UnsupportedClass { name });
-    let Ok(text) = print_bad(alloc, &bad) else {
-        return Err(Fail::from("no memory"));
-    };
-    assert!(rt; text.as_slice() == reply.as_slice());
     Ok(())
 }
 
@@ -387,23 +442,30 @@ fn open_desk(alloc: Global) -> Result<Desk<MemoryDisk, ListClock>, Fail> {
     }
 }
 
+/// Has one session over this stream with such a desk.
+fn talk_to_desk(
+    alloc: Global,
+    stream: &[&[u8]],
+    out: &mut MemoryReplies,
+) -> Result<SessionEnd, Fail> {
+    let mut desk = open_desk(alloc)?;
+    let mut source = MemorySource::new(joined(alloc, stream)?, 50, Vec::new(alloc));
+    Ok(session(alloc, &mut source, out, &mut desk))
+}
+
 // S3 User Guide, "How S3 Versioning works": an object of a bucket without versioning has the null version.
 #[test]
 fn a_desk_answers_a_session(rt: HostRuntime) -> Result<(), Fail> {
     let alloc = rt.alloc();
-    let mut desk = open_desk(alloc)?;
-    let mut bytes = PUT.to_vec(alloc)?;
-    bytes.extend_from_slice(
+    let stream: [&[u8]; 3] = [
+        PUT,
         b"PUT /buckets/logs/objects/a/b HTTP/1.1\r\nContent-Length: 13\r\n\r\n{\"size\":1000}",
-    )?;
-    bytes.extend_from_slice(b"GET /buckets/logs HTTP/1.1\r\n\r\n")?;
-    let mut source = MemorySource::new(bytes, 50, Vec::new(alloc));
+        b"GET /buckets/logs HTTP/1.1\r\n\r\n",
+    ];
+    let replies = joined(alloc, &[MADE, STORED, SHOWN])?;
     let mut out = MemoryReplies::new(alloc, Vec::new(alloc));
-    let end = session(alloc, &mut source, &mut out, &mut desk);
-    let mut replies = MADE.to_vec(alloc)?;
-    replies.extend_from_slice(STORED)?;
-    replies.extend_from_slice(SHOWN)?;
-    assert!(rt; end == SessionEnd::Ended);
+    let end = talk_to_desk(alloc, &stream, &mut out)?;
+    assert!(rt; end == ENDED);
     assert!(rt; out.said() == replies.as_slice());
     Ok(())
 }
@@ -411,15 +473,19 @@ fn a_desk_answers_a_session(rt: HostRuntime) -> Result<(), Fail> {
 #[test]
 fn a_session_runs_over_readers_and_writers_of_std(rt: HostRuntime) -> Result<(), Fail> {
     let alloc = rt.alloc();
-    let bytes = joined(alloc, TWICE, b"DELETE /buckets/logs HTTP/1.1\r\n\r\n")?;
+    let bytes = joined(alloc, &[PUT, PUT, b"DELETE /buckets/logs HTTP/1.1\r\n\r\n"])?;
+    let replies = joined(alloc, &[FULL, FULL, NOT_BUILT])?;
     let mut said: Vec<u8> = Vec::new(alloc);
     let mut noted: Vec<u8> = Vec::new(alloc);
     let mut source = ReaderSource::new(bytes.as_slice());
     let mut out = WriterReplies::new(&mut said, &mut noted);
-    let end = session(alloc, &mut source, &mut out, &mut full());
-    let mut replies = joined(alloc, FULL, FULL)?;
-    replies.extend_from_slice(NOT_BUILT)?;
-    assert!(rt; end == SessionEnd::Ended);
+    let mut teller = FullTeller {
+        asks: 0,
+        store_fails: 0,
+        lacks: 0,
+    };
+    let end = session(alloc, &mut source, &mut out, &mut teller);
+    assert!(rt; end == ENDED);
     assert!(rt; said.as_slice() == replies.as_slice());
     assert!(rt; noted.is_empty());
     Ok(())
@@ -428,12 +494,9 @@ fn a_session_runs_over_readers_and_writers_of_std(rt: HostRuntime) -> Result<(),
 #[test]
 fn failing_replies_are_counted_together(rt: HostRuntime) -> Result<(), Fail> {
     let alloc = rt.alloc();
-    let mut desk = open_desk(alloc)?;
     let mut out = MemoryReplies::new(alloc, [1, 3].to_vec(alloc)?);
     assert!(rt; out.text(b"office\n").is_err());
-    let bytes = joined(alloc, PUT, b"PUT /buckets/lo HTTP/1.1\r\n\r\n")?;
-    let mut source = MemorySource::new(bytes, 50, Vec::new(alloc));
-    let end = session(alloc, &mut source, &mut out, &mut desk);
+    let end = talk_to_desk(alloc, &[PUT, b"PUT /buckets/lo HTTP/1.1\r\n\r\n"], &mut out)?;
     assert!(rt; end == SessionEnd::WriteFault);
     assert!(rt; out.said() == MADE);
     assert!(rt; out.text(b"office\n").is_ok());
@@ -441,22 +504,25 @@ fn failing_replies_are_counted_together(rt: HostRuntime) -> Result<(), Fail> {
     Ok(())
 }
 
+fn made(alloc: Global) -> Result<Acked, Fail> {
+    let bucket = BucketName::read(alloc, "logs")?;
+    let mut desk = open_desk(alloc)?;
+    match desk.submit(&Ask::Command(Command::CreateBucket { bucket })) {
+        Ok(acked) => Ok(acked),
+        Err(_) => Err(Fail::new("no answer")),
+    }
+}
+
 #[test]
 fn a_query_is_printed_as_a_reply(rt: HostRuntime) -> Result<(), Fail> {
     let alloc = rt.alloc();
-    let mut desk = open_desk(alloc)?;
-    let Ok(bucket) = BucketName::read(alloc, "logs") else {
-        return Err(Fail::from("no name"));
-    };
-    let Ok(acked) = desk.submit(&Ask::Command(Command::CreateBucket { bucket })) else {
-        return Err(Fail::from("no answer"));
-    };
+    let acked = made(alloc)?;
     let mut room = [0u8; 200];
     assert!(rt; print_reply(&mut room, &acked) == Ok(MADE.len()));
     assert!(rt; room.starts_with(MADE));
-    let Ok(text) = print_query(alloc, &acked) else {
-        return Err(Fail::from("no memory"));
-    };
-    assert!(rt; text.as_slice() == MADE);
+    match print_query(alloc, &acked) {
+        Ok(text) => assert!(rt; text.as_slice() == MADE),
+        Err(_) => panic!(rt; "no memory"),
+    }
     Ok(())
 }
