@@ -23,7 +23,7 @@ ROOT = os.path.dirname(os.path.dirname(os.path.abspath(__file__)))
 TREES = f"{ROOT}/.build"
 PARTS = ("src", "specs", "proofs")
 JOB_BYTES = 1_300_000_000  # the most memory that a job was seen to take
-LINES_A_SECOND = 12  # that a processor proves: the first guess of what is left
+LINES_A_SECOND = 15  # that a processor proves: the first guess of what is left
 
 
 def say(text):
@@ -32,9 +32,9 @@ def say(text):
 
 def read_list():
     """Returns of each crate its line of crates.txt, and the crates of the repository that it names."""
-    with open(f"{ROOT}/crates.txt", encoding="utf-8") as file:
-        rows = (line.partition("#")[0].strip() for line in file)
-        rows = {re.match(r"\w+", row)[0]: row for row in rows if row}
+    text = Path(ROOT, "crates.txt").read_text(encoding="utf-8")
+    rows = (line.partition("#")[0].strip() for line in text.splitlines())
+    rows = {re.match(r"\w+", row)[0]: row for row in rows if row}
     uses = {name: re.findall(r"\w+", row.partition(":")[2]) for name, row in rows.items()}
     return rows, {name: [it for it in uses[name] if it in rows] for name in rows}
 
@@ -86,11 +86,9 @@ class Run:
 
     def functions(self):
         """Returns how many functions are checked: what rt says, or else the files that it kept of them."""
-        with open(self.log, encoding="utf-8", errors="replace") as file:
-            file.seek(self.from_byte)
-            told = re.findall(r"(?m)^so far: (\d+ of \d+)", file.read())
+        told = re.findall(rb"(?m)^so far: (\d+ of \d+)", Path(self.log).read_bytes()[self.from_byte :])
         if told:
-            return told[-1]
+            return told[-1].decode()
         kept = glob.glob(f"{self.folder}/out/incremental/*/*.Tie.oantt")
         return str(sum(os.path.getmtime(it) >= self.started for it in kept if os.path.exists(it)))
 
@@ -99,7 +97,6 @@ def start_apart(name, jobs, rows, lower):
     """Starts a run on the crate in a tree of its own."""
     tree = f"{TREES}/{name}"
     for it in [*lower, name]:
-        os.makedirs(f"{tree}/crates/{it}")
         for part in (*PARTS, "out/rlib") if it != name else PARTS:
             if os.path.isdir(f"{ROOT}/crates/{it}/{part}"):
                 shutil.copytree(f"{ROOT}/crates/{it}/{part}", f"{tree}/crates/{it}/{part}", copy_function=link)
@@ -132,8 +129,7 @@ class Build:
             above = (self.chain[it] for it in self.chain if name in self.uses[it])
             self.chain[name] = self.lines[name] + max(above, default=0)
         self.done, self.running, self.told, self.begun = [], [], 0, time.time()
-        with open("/proc/meminfo", encoding="ascii") as file:
-            free = 1024 * int(re.search(r"MemAvailable:\s+(\d+)", file.read())[1])
+        free = 1024 * int(re.search(r"MemAvailable:\s+(\d+)", Path("/proc/meminfo").read_text(encoding="ascii"))[1])
         self.jobs = max(1, min(len(os.sched_getaffinity(0)), free // JOB_BYTES))
 
     def start(self):
@@ -162,10 +158,11 @@ class Build:
             self.start()
             self.tell()
             for it in [it for it in self.running if it.child.poll() is not None]:
+                if it.child.returncode:
+                    self.running.sort(key=lambda run: run is it)  # its words are the last in the log
+                    return False
                 self.running.remove(it)
                 end_apart(it, self.log)
-                if it.child.returncode:
-                    return False
                 self.done.append(it.name)
                 self.lines[it.name] *= time.time() > it.started + 3  # else it was proved before
         return True
@@ -179,7 +176,8 @@ class Build:
 
 
 def main(program):
-    signal.signal(signal.SIGTERM, lambda *_: sys.exit(1))
+    for it in (signal.SIGINT, signal.SIGTERM, signal.SIGHUP):
+        signal.signal(it, lambda *_: sys.exit(1))
     build = Build(program, log := f"{ROOT}/crates/{program}/build.log")
     held = hold(build.names)
     open(log, "wb").close()
