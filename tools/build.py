@@ -133,13 +133,15 @@ class Build:
         self.jobs = max(1, min(len(os.sched_getaffinity(0)), free // JOB_BYTES))
 
     def start(self):
-        """Starts what can be started, the longest chain first, with a share of the free processors each."""
+        """Starts what can be started, with a share of the free processors; the longest chain has at least half."""
+        longest = max((it for it in self.names if it not in self.done), key=self.chain.get)
         begun = [*self.done, *(it.name for it in self.running)]
         ready = [it for it in self.names[:-1] if it not in begun and {*self.uses[it]} <= {*self.done}]
         ready.sort(key=self.chain.get)
         while ready and (free := self.jobs - sum(it.jobs for it in self.running)) > 0:
             share, name = -(-free // len(ready)), ready.pop()
-            self.running.append(start_apart(name, share, self.rows, below(name, self.uses)))
+            jobs = max(share, -(-self.jobs // 2)) if name == longest else share
+            self.running.append(start_apart(name, jobs, self.rows, below(name, self.uses)))
 
     def tell(self):
         """Says every 15 seconds how far the build is, and sleeps for a moment."""
