@@ -22,7 +22,7 @@ from pathlib import Path
 ROOT = os.path.dirname(os.path.dirname(os.path.abspath(__file__)))
 TREES = f"{ROOT}/.build"
 PARTS = ("src", "specs", "proofs")
-JOB_BYTES = 1_800_000_000  # the most memory that a job was seen to take
+JOB_BYTES = 2_000_000_000  # about what a job takes in the larger crates
 LINES_A_SECOND = 15  # that a processor proves: the first guess of what is left
 
 
