@@ -1,0 +1,199 @@
+#!/usr/bin/env python3
+"""Builds a program with all processors busy: python3 tools/build.py CRATE
+
+Crates below CRATE are proved side by side, those with the longest chain above them first, and then `rt run` builds the
+program. How far it is goes to standard error, and what rt says to crates/CRATE/build.log. Status 0: it is built.
+
+A run of rt holds its crate and all below it, so two crates over a common one would wait for each other. Here each is
+proved in a tree of its own in .build/, with hard links to its sources and the libraries below it; its folder out/ is
+moved there and back. Meanwhile the crates are held as rt would hold them.
+"""
+import fcntl
+import glob
+import os
+import re
+import shutil
+import signal
+import subprocess
+import sys
+import time
+from pathlib import Path
+
+ROOT = os.path.dirname(os.path.dirname(os.path.abspath(__file__)))
+TREES = f"{ROOT}/.build"
+PARTS = ("src", "specs", "proofs")
+JOB_BYTES = 2_000_000_000  # about what a job takes in the larger crates
+LINES_A_SECOND = 15  # that a processor proves: the first guess of what is left
+
+
+def say(text):
+    print(f"office: {text}", file=sys.stderr, flush=True)
+
+
+def read_list():
+    """Returns of each crate its line of crates.txt, and the crates of the repository that it names."""
+    text = Path(ROOT, "crates.txt").read_text(encoding="utf-8")
+    rows = (line.partition("#")[0].strip() for line in text.splitlines())
+    rows = {re.match(r"\w+", row)[0]: row for row in rows if row}
+    uses = {name: re.findall(r"\w+", row.partition(":")[2]) for name, row in rows.items()}
+    return rows, {name: [it for it in uses[name] if it in rows] for name in rows}
+
+
+def below(name, uses):
+    """Returns the crates below this one, each after those that it names."""
+    found = []
+    for it in uses[name]:
+        found += [low for low in [*below(it, uses), it] if low not in found]
+    return found
+
+
+def lines_of(name):
+    files = (it for part in PARTS for it in Path(ROOT, "crates", name, part).rglob("*.*t"))
+    return sum(len(it.read_bytes().splitlines()) for it in files)
+
+
+def hold(names):
+    """Waits until no rt works in these crates, and returns what keeps others out until it is closed."""
+    held = [os.open(f"{ROOT}/crates/{name}", os.O_RDONLY) for name in sorted(names)]
+    for it in held:
+        try:
+            fcntl.flock(it, fcntl.LOCK_EX | fcntl.LOCK_NB)
+        except BlockingIOError:
+            say("waiting for another run of rt")
+            fcntl.flock(it, fcntl.LOCK_EX)
+        except OSError:
+            pass  # a file system without locks
+    return held
+
+
+def link(source, target):
+    try:
+        os.link(source, target)
+    except OSError:
+        shutil.copy2(source, target)
+
+
+class Run:
+    """A run of rt on one crate, whose folder is given."""
+
+    def __init__(self, name, folder, verb, jobs, log):
+        self.name, self.folder, self.jobs, self.log = name, folder, jobs, log
+        self.started = time.time()
+        how = {"cwd": folder, "stdin": subprocess.DEVNULL, "stderr": subprocess.STDOUT}
+        with open(log, "ab") as out:
+            self.from_byte = out.tell()
+            self.child = subprocess.Popen(["rt", verb, "--jobs", str(jobs)], stdout=out, **how)
+
+    def functions(self):
+        """Returns how many functions are checked: what rt says, or else the files that it kept of them."""
+        told = re.findall(rb"(?m)^so far: (\d+ of \d+)", Path(self.log).read_bytes()[self.from_byte :])
+        if told:
+            return told[-1].decode()
+        kept = glob.glob(f"{self.folder}/out/incremental/*/*.Tie.oantt")
+        return str(sum(os.path.getmtime(it) >= self.started for it in kept if os.path.exists(it)))
+
+
+def start_apart(name, jobs, rows, lower):
+    """Starts a run on the crate in a tree of its own."""
+    tree = f"{TREES}/{name}"
+    for it in [*lower, name]:
+        for part in (*PARTS, "out/rlib") if it != name else PARTS:
+            if os.path.isdir(f"{ROOT}/crates/{it}/{part}"):
+                shutil.copytree(f"{ROOT}/crates/{it}/{part}", f"{tree}/crates/{it}/{part}", copy_function=link)
+    with open(f"{tree}/crates.txt", "w", encoding="utf-8") as file:
+        file.writelines(f"{rows[it]}\n" for it in [*lower, name])
+    if os.path.isdir(f"{ROOT}/crates/{name}/out"):
+        os.rename(f"{ROOT}/crates/{name}/out", f"{tree}/crates/{name}/out")
+    return Run(name, f"{tree}/crates/{name}", "lib", jobs, f"{tree}/log")
+
+
+def end_apart(run, log):
+    """Ends the run where it still goes on, moves the crate's folder out/ back, and keeps what was said."""
+    run.child.terminate()
+    run.child.wait()
+    if os.path.isdir(f"{run.folder}/out"):
+        os.rename(f"{run.folder}/out", f"{ROOT}/crates/{run.name}/out")
+    with open(run.log, "rb") as said, open(log, "ab") as file:
+        shutil.copyfileobj(said, file)
+    shutil.rmtree(f"{TREES}/{run.name}")
+
+
+class Build:
+    def __init__(self, program, log):
+        self.rows, self.uses = read_list()
+        self.program, self.log = program, log
+        self.names = [*below(program, self.uses), program]
+        self.lines = {it: lines_of(it) for it in self.names}
+        self.chain = {}
+        for name in reversed(self.names):
+            above = (self.chain[it] for it in self.chain if name in self.uses[it])
+            self.chain[name] = self.lines[name] + max(above, default=0)
+        self.done, self.running, self.told, self.begun = [], [], 0, time.time()
+        free = 1024 * int(re.search(r"MemAvailable:\s+(\d+)", Path("/proc/meminfo").read_text(encoding="ascii"))[1])
+        self.jobs = max(1, min(len(os.sched_getaffinity(0)), free // JOB_BYTES))
+
+    def start(self):
+        """Starts what can be started, with a share of the free processors; the longest chain has at least half."""
+        longest = max((it for it in self.names if it not in self.done), key=self.chain.get)
+        begun = [*self.done, *(it.name for it in self.running)]
+        ready = [it for it in self.names[:-1] if it not in begun and {*self.uses[it]} <= {*self.done}]
+        ready.sort(key=self.chain.get)
+        while ready and (free := self.jobs - sum(it.jobs for it in self.running)) > 0:
+            share, name = -(-free // len(ready)), ready.pop()
+            jobs = max(share, -(-self.jobs // 2)) if name == longest else share
+            self.running.append(start_apart(name, jobs, self.rows, below(name, self.uses)))
+
+    def tell(self):
+        """Says every 15 seconds how far the build is, and sleeps for a moment."""
+        if time.time() > self.told + 15:
+            self.told = time.time()
+            proved = sum(self.lines[it] for it in self.done) + sum(self.lines[it.name] / 2 for it in self.running)
+            left = sum(self.lines.values()) - proved
+            rate = proved / (time.time() - self.begun) if len(self.done) > 2 else LINES_A_SECOND * self.jobs
+            runs = ", ".join(f"{it.name} ({it.functions()} functions)" for it in self.running)
+            say(f"{len(self.done)} of {len(self.names)} crates, {1 + left // (60 * rate):.0f} min left; proving {runs}")
+        time.sleep(0.2)
+
+    def libraries(self):
+        """Proves the crates below the program. Answers whether all are proved."""
+        while len(self.done) < len(self.names) - 1:
+            self.start()
+            self.tell()
+            for it in [it for it in self.running if it.child.poll() is not None]:
+                if it.child.returncode:
+                    self.running.sort(key=lambda run: run is it)  # its words are the last in the log
+                    return False
+                self.running.remove(it)
+                end_apart(it, self.log)
+                self.done.append(it.name)
+                self.lines[it.name] *= time.time() > it.started + 3  # else it was proved before
+        return True
+
+    def finish(self):
+        """Proves, builds and runs the program. Answers whether it is built."""
+        self.running = [Run(self.program, f"{ROOT}/crates/{self.program}", "run", self.jobs, self.log)]
+        while self.running[0].child.poll() is None:
+            self.tell()
+        return os.access(f"{ROOT}/crates/{self.program}/out/{self.program}", os.X_OK)
+
+
+def main(program):
+    for it in (signal.SIGINT, signal.SIGTERM, signal.SIGHUP):
+        signal.signal(it, lambda *_: sys.exit(1))
+    build = Build(program, log := f"{ROOT}/crates/{program}/build.log")
+    held = hold(build.names)
+    open(log, "wb").close()
+    shutil.rmtree(TREES, ignore_errors=True)
+    try:
+        proved = build.libraries()
+    finally:
+        for run in build.running:
+            end_apart(run, log)
+        shutil.rmtree(TREES, ignore_errors=True)
+        for it in held:
+            os.close(it)
+    return 0 if proved and build.finish() else 1
+
+
+if __name__ == "__main__":
+    sys.exit(main(sys.argv[1]) if len(sys.argv) == 2 else __doc__)
