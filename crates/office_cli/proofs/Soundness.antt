@@ -52,8 +52,8 @@ module _ {D C W : Type 0} (d : disks.Ghosts D) (k : clocks.Ghosts C) (w : sinks.
       let first : Surroundings D C W = record { disk = old.disk; clock = starts.clock; out = old.out } in
       ⊎_elim
       (λ does. ⊎_elim
-          (λ answered. let c = calls_of first new status answered in calls_sound journal_limit (under first) (under new) c.0 sound c.1)
-          (λ refused. refused_sound first new status sound refused) does.1)
+      (λ answered. let c = calls_of first new status answered in calls_sound journal_limit (under first) (under new) c.0 sound c.1)
+      (λ refused. refused_sound first new status sound refused) does.1)
       (λ ends. subst (λ (disk : D). StaysSound old.disk disk) (sym ends.1.untouched) still) starts.does
 
 module _ {D W : Type 0} (d : disks.Ghosts D) (w : sinks.Ghosts W) (tells : IsTrue d.honest) where

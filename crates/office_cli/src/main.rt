@@ -7,6 +7,8 @@ mod program;
 mod run;
 mod serve;
 #[cfg(test)]
+mod serve_tests;
+#[cfg(test)]
 mod tests;
 
 use command_line::read_line;

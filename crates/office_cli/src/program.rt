@@ -163,11 +163,13 @@ where
             }
         }
         Ok(CommandLine::Run) => run(alloc, input, out, disk, clock),
-        Ok(CommandLine::Serve {
-            listen,
-            workers,
-            connections,
-        }) => serve(
+        Ok(
+            CommandLine::Serve {
+                listen,
+                workers,
+                connections,
+            },
+        ) => serve(
             rt,
             alloc,
             out,

@@ -11,7 +11,9 @@ ghost use Rattle.http_front.specs.Counts.{Gave};
 ghost use Rattle.office_cli.specs.Lines.{fault_status, fault_note, IsSessionStatus, IsRunStatus};
 ghost use Rattle.office_cli.specs.Running.{journal_limit, around, IsNoted, IsSilent, AnswersStream, Refuses, Ends, Runs};
 
-use crate::lines::{CLOCK_END, clock_line, end_line, end_status, note_fault, note_line, open_status};
+use crate::lines::{
+    CLOCK_END, clock_line, end_line, end_status, note_fault, note_line, open_status,
+};
 use crate::program::{End, JOURNAL_LIMIT};
 use desk_core::{Clock, Desk, SaveFault};
 use disk_core::Disk;

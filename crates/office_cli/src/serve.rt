@@ -19,7 +19,10 @@ use std::sync::Wait;
 use std::thread::Threads;
 
 // Notes how workers ended.
-fn close<W: Replies, D: Disk + Drop, C: Clock + Drop>(out: &mut W, closed: Closed<D, C>) -> End<D, C>
+fn close<W: Replies, D: Disk + Drop, C: Clock + Drop>(
+    out: &mut W,
+    closed: Closed<D, C>,
+) -> End<D, C>
     ensures status { result.status ≡ workers_status closed.end closed.stale }
     ensures disk { result.disk ≡ closed.disk }
     ensures clock { result.clock ≡ closed.clock }
@@ -66,16 +69,7 @@ where
     ensures disk_fault { result.status ≡ 2 → Rose (D.fault_count desk.disk) (D.fault_count result.disk) }
     ensures port_fault { result.status ≡ 7 → Rose (P.faults port.old) (P.faults port.new) }
 {
-    let closed = serve_office(
-        rt,
-        alloc,
-        desk,
-        port,
-        address,
-        gate,
-        workers,
-        connections,
-    );
+    let closed = serve_office(rt, alloc, desk, port, address, gate, workers, connections);
     close(out, closed)
 }
 

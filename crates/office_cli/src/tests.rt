@@ -6,9 +6,12 @@ use http_wire::MemorySource;
 use meter_journal::read_all;
 use office_base::BucketName;
 use plain_office::{Ask, Query, Reply};
+use serving::{MemoryPort, OpenGate};
 use std::alloc::Global;
 use std::process::Abort;
+use std::sync::Wait;
 use std::test::Fail;
+use std::thread::Threads;
 
 const MADE: &[u8] =
     b"HTTP/1.1 201 Created\r\ncontent-type: application/json\r\ncontent-length: 17\r\n\r\n{\"bucket\":\"logs\"}";
@@ -83,18 +86,20 @@ fn disk_of(alloc: Global, file: &[u8], failing: &[u64]) -> Result<MemoryDisk, Fa
 }
 
 // One command at 2024-01-01 00:00 UTC, over a source and replies.
-fn command(
+fn command<R: Threads + Wait + Sync>(
+    rt: &R,
     alloc: Global,
     words: &[&str],
     source: MemorySource,
     out: MemoryReplies,
     disk: MemoryDisk,
 ) -> Result<Ran, Fail> {
-    command_at(alloc, words, &[NEW_YEAR], source, out, disk)
+    command_at(rt, alloc, words, &[NEW_YEAR], source, out, disk)
 }
 
 // One command over a clock that tells these numbers.
-fn command_at(
+fn command_at<R: Threads + Wait + Sync>(
+    rt: &R,
     alloc: Global,
     words: &[&str],
     moments: &[u64],
@@ -107,7 +112,20 @@ fn command_at(
         list.push(String::from_str(alloc, *word)?)?;
     }
     let clock = ListClock::new(moments.to_vec(alloc)?);
-    let End { status, disk, .. } = office(alloc, &list, &mut source, &mut out, disk, clock);
+    let mut port = MemoryPort::new(alloc, Vec::new(alloc), Vec::new(alloc)).map_err(|_| Fail::from(
+        "no memory",
+    ))?;
+    let End { status, disk, .. } = office(
+        rt,
+        alloc,
+        &list,
+        &mut source,
+        &mut out,
+        disk,
+        clock,
+        &mut port,
+        &OpenGate,
+    );
     Ok(Ran {
         status,
         said: joined(alloc, out.texts(), out.said())?,
@@ -117,7 +135,8 @@ fn command_at(
 }
 
 // One command over input that comes in pieces of this size.
-fn run_on(
+fn run_on<R: Threads + Wait + Sync>(
+    rt: &R,
     alloc: Global,
     words: &[&str],
     input: &[u8],
@@ -126,6 +145,7 @@ fn run_on(
 ) -> Result<Ran, Fail> {
     let source = MemorySource::new(input.to_vec(alloc)?, cut, Vec::new(alloc));
     command(
+        rt,
         alloc,
         words,
         source,
@@ -161,7 +181,7 @@ fn each_command_does_what_its_row_says(rt: HostRuntime) -> Result<(), Fail> {
         (INIT, FOREIGN, PUT, 5, b"", b"journal: foreign\n", FOREIGN),
     ] {
         for cut in [1, 2, 3, 7, 50, 8192] {
-            let mut ran = run_on(alloc, words, input, cut, disk_of(alloc, before, &[])?)?;
+            let mut ran = run_on(&rt, alloc, words, input, cut, disk_of(alloc, before, &[])?)?;
             let name = (words, before, input, cut);
             assert_eq!(rt; ran.status, status, "status of {name:?}");
             assert!(rt; ran.said.as_slice() == said, "said by {name:?}");
@@ -187,7 +207,7 @@ fn words_that_are_no_command_touch_nothing(rt: HostRuntime) -> Result<(), Fail> 
     ] {
         // Any call of the disk would fail, and be counted.
         let disk = disk_of(alloc, b"", &[2])?;
-        let ran = run_on(alloc, words, PUT, 8192, disk)?;
+        let ran = run_on(&rt, alloc, words, PUT, 8192, disk)?;
         assert_eq!(rt; ran.status, 1, "status of {words:?}");
         assert!(rt; ran.said.is_empty(), "said by {words:?}");
         assert!(rt; ran.noted.as_slice() == USAGE, "noted by {words:?}");
@@ -227,12 +247,19 @@ fn a_failure_has_its_status_and_line(rt: HostRuntime) -> Result<(), Fail> {
         let name = (words, reads, texts, calls);
         let source = MemorySource::new(TWICE.to_vec(alloc)?, 39, reads.to_vec(alloc)?);
         let out = MemoryReplies::new(alloc, texts.to_vec(alloc)?);
-        let ran = command(alloc, words, source, out, disk_of(alloc, EMPTY, calls)?)?;
+        let ran = command(
+            &rt,
+            alloc,
+            words,
+            source,
+            out,
+            disk_of(alloc, EMPTY, calls)?,
+        )?;
         assert_eq!(rt; ran.status, status, "status of {name:?}");
         assert!(rt; ran.said.as_slice() == said, "said by {name:?}");
         assert!(rt; ran.noted.as_slice() == noted, "noted by {name:?}");
         // The bucket is there, or it is made now.
-        let next = run_on(alloc, RUN, TWICE, 8192, ran.disk)?;
+        let next = run_on(&rt, alloc, RUN, TWICE, 8192, ran.disk)?;
         let made = joined(alloc, MADE, EXISTS)?;
         let kept = joined(alloc, EXISTS, EXISTS)?;
         assert_eq!(rt; next.status, 0, "status after {name:?}");
@@ -260,7 +287,7 @@ fn a_thousand_buckets_are_made_and_no_more(rt: HostRuntime) -> Result<(), Fail> 
     // There is room for no other.
     input.extend_from_slice(PUT)?;
     wanted.extend_from_slice(FULL)?;
-    let ran = run_on(alloc, RUN, &input, 8192, disk_of(alloc, EMPTY, &[])?)?;
+    let ran = run_on(&rt, alloc, RUN, &input, 8192, disk_of(alloc, EMPTY, &[])?)?;
     assert_eq!(rt; ran.status, 0);
     assert!(rt; ran.said == wanted);
     assert!(rt; ran.noted.is_empty());
@@ -285,7 +312,7 @@ fn nothing_is_done_at_the_end_of_the_clock(rt: HostRuntime) -> Result<(), Fail> 
         let source = MemorySource::new(TWICE.to_vec(alloc)?, 39, Vec::new(alloc));
         let out = MemoryReplies::new(alloc, Vec::new(alloc));
         let disk = disk_of(alloc, EMPTY, &[])?;
-        let ran = command_at(alloc, words, moments, source, out, disk)?;
+        let ran = command_at(&rt, alloc, words, moments, source, out, disk)?;
         assert_eq!(rt; ran.status, status, "status of {name:?}");
         assert!(rt; ran.said.as_slice() == said, "said by {name:?}");
         assert!(rt; ran.noted.as_slice() == noted, "noted by {name:?}");
@@ -367,11 +394,12 @@ fn an_object_is_put_twice_and_metered(rt: HostRuntime) -> Result<(), Fail> {
         let source = MemorySource::new(input.to_vec(alloc)?, cut, Vec::new(alloc));
         let out = MemoryReplies::new(alloc, Vec::new(alloc));
         let disk = disk_of(alloc, EMPTY, &[])?;
-        let ran = command_at(alloc, RUN, &moments, source, out, disk)?;
+        let ran = command_at(&rt, alloc, RUN, &moments, source, out, disk)?;
         assert_eq!(rt; ran.status, 0);
         assert!(rt; ran.said == wanted, "said in pieces of {cut}");
         // The meters are the same after another opening.
         let again = command_at(
+            &rt,
             alloc,
             RUN,
             &[NEW_YEAR + 2 * DAY],
@@ -416,7 +444,7 @@ fn a_journal_is_opened_again_after_a_fault(rt: HostRuntime) -> Result<(), Fail> 
         (&put, &[14], 2, FAILED, b"store: failed\n", true),
     ] {
         let name = (input.len(), calls);
-        let mut ran = run_on(alloc, RUN, input, 8192, disk_of(alloc, ONE, calls)?)?;
+        let mut ran = run_on(&rt, alloc, RUN, input, 8192, disk_of(alloc, ONE, calls)?)?;
         assert_eq!(rt; ran.status, status, "status of {name:?}");
         assert!(rt; ran.said.as_slice() == said, "said by {name:?}");
         assert!(rt; ran.noted.as_slice() == noted, "noted by {name:?}");
@@ -530,7 +558,7 @@ fn each_refusal_stands_at_its_place(rt: HostRuntime) -> Result<(), Fail> {
         input.extend_from_slice(SHOW)?;
         let mut wanted = reply(alloc, status, told)?;
         wanted.extend_from_slice(&reply(alloc, "200 OK", SHOWN_NONE)?)?;
-        let mut ran = run_on(alloc, RUN, &input, 8192, disk_of(alloc, ONE, &[])?)?;
+        let mut ran = run_on(&rt, alloc, RUN, &input, 8192, disk_of(alloc, ONE, &[])?)?;
         assert_eq!(rt; ran.status, 0, "status of {line} {body}");
         assert!(rt; ran.said == wanted, "said to {line} {body}");
         let file = read_all(alloc, &mut ran.disk)?;
@@ -559,7 +587,7 @@ fn what_is_not_served_ends_the_session(rt: HostRuntime) -> Result<(), Fail> {
     ] {
         let mut input = request(alloc, line, body)?;
         input.extend_from_slice(SHOW)?;
-        let ran = run_on(alloc, RUN, &input, 8192, disk_of(alloc, ONE, &[])?)?;
+        let ran = run_on(&rt, alloc, RUN, &input, 8192, disk_of(alloc, ONE, &[])?)?;
         assert_eq!(rt; ran.status, 0, "status of {line} {body}");
         assert!(rt; ran.said.as_slice() == NOT_BUILT, "said to {line} {body}");
     }
@@ -608,7 +636,7 @@ fn write_in(rt: &impl Abort, disk: &mut MemoryDisk, at: u64, bytes: &[u8]) -> Re
 fn a_put_is_whole_or_absent_in_each_image(rt: HostRuntime) -> Result<(), Fail> {
     let alloc = rt.alloc();
     let put = request(alloc, "PUT /buckets/logs/objects/a", "{\"size\":1000}")?;
-    let mut ran = run_on(alloc, RUN, &put, 8192, disk_of(alloc, ONE, &[])?)?;
+    let mut ran = run_on(&rt, alloc, RUN, &put, 8192, disk_of(alloc, ONE, &[])?)?;
     assert_eq!(rt; ran.status, 0);
     // The calls of the disk, the images of the journal after each, and those that have the put. Calls 9 to 11 write the frame behind
     // the 31 bytes, call 12 syncs it, call 13 opens the gate, and call 14 syncs that. An image has one of the lengths since the last

@@ -22,7 +22,7 @@ returns-clause-answers g c disk clock opens =
     let desk = c.session-end.new.teller in
     let note = subst (λ (t : List ℕ). IsNoted w mid new t) c.end_line.ensures c.note_line.ensures.noted in
     let answers = stream_answered d k w m.counts_now m.only_now own disk clock c.args.desk desk c.args.out.now mid new (g.S.Source.left c.args.input.now) end c.store_failed-store.result c.end_status.result
-        opens c.session-end.ensures.session c.note_line.ensures.silent c.session-end.ensures.texts c.session-end.ensures.noted c.session-end.ensures.write_later note (c.store_failed-store.ensures c.finish-disk.ensures.saved ∙ c.stale-stale.ensures) c.end_status.ensures in
+    opens c.session-end.ensures.session c.note_line.ensures.silent c.session-end.ensures.texts c.session-end.ensures.noted c.session-end.ensures.write_later note (c.store_failed-store.ensures c.finish-disk.ensures.saved ∙ c.stale-stale.ensures) c.end_status.ensures in
     subst (λ (x : g.row.D.Denot). AnswersStream d k w (g.S.Source.left c.args.input.now) (around disk clock c.args.out.now) (around x c.finish-disk.result.1 new) c.end_status.result) (sym c.finish-disk.ensures.disk)
     (subst (λ (x : g.row.C.Denot). AnswersStream d k w (g.S.Source.left c.args.input.now) (around disk clock c.args.out.now) (around desk.disk x new) c.end_status.result) (sym c.finish-disk.ensures.clock) answers)
 
