@@ -112,7 +112,7 @@ pub(crate) fn call<T: Turned>(top: &Top<T>, place: &mut Place<T>, ask: &T::Ask) 
     say
 }
 
-// Parks until the ticket is served.
+// Waits until the ticket is served.
 pub(crate) fn wait_for<T: Turned, R: Wait>(
     rt: &R,
     top: &Top<T>,
@@ -135,7 +135,7 @@ pub(crate) fn wait_for<T: Turned, R: Wait>(
     unreachable!()
 }
 
-// Draws a ticket, waits for it, makes the call and moves the turn on.
+// Holds back a little, draws a ticket, waits for it, makes the call and moves the turn on.
 pub(crate) fn take_turn<T: Turned, R: Wait>(
     rt: &R,
     top: &Top<T>,

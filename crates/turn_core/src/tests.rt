@@ -7,6 +7,7 @@ ghost use Rattle.turn_core.specs.Views.{newcomer};
 
 use crate::{Pass, Turned, Turns};
 use std::alloc::{AllocError, Global};
+use std::hint::spin_loop;
 use std::sync::Wait;
 use std::test::Fail;
 use std::thread::{Threads, join};
@@ -30,7 +31,18 @@ impl Turned for Counter {
 
     fn take(&mut self, _ask: &()) -> u64 {
         self.count = self.count.wrapping_add(1);
+        linger(self.count);
         self.count
+    }
+}
+
+// Makes each hundredth call so long that a pass which waits for it parks.
+fn linger(count: u64) {
+    if count % 100 != 0 {
+        return;
+    }
+    for _ in 0..200_000u32 {
+        spin_loop();
     }
 }
 
