@@ -16,6 +16,45 @@ const NEW_YEAR: u64 = 1_704_067_200_000;
 
 const DAY: u64 = 86_400_000;
 
+// What an office is asked, of a bucket with this name.
+#[derive(Clone, Copy, Debug)]
+enum Wish<'a> {
+    Make(&'a str),
+    // A put under this key, of this many bytes.
+    Put(&'a str, &'a str, u64, Class),
+    Show(&'a str),
+    // The meters of this month of a year.
+    Meters(&'a str, u16, u8),
+}
+
+// What was used of STANDARD and STANDARD_IA in byte-milliseconds, and the early quantity of the latter; nothing else was.
+#[derive(Clone, Copy, Debug, PartialEq, Eq)]
+struct Used {
+    standard: u128,
+    infrequent: u128,
+    early: u128,
+}
+
+// What was answered.
+#[derive(Clone, Copy, Debug, PartialEq, Eq)]
+enum Heard {
+    Made,
+    Stored,
+    // How many versions.
+    Shown(u32),
+    Metered(Used),
+    Refused(Refusal),
+    // A reply to something else.
+    Other,
+}
+
+fn month_of(year: u16, number: u8) -> Result<Month, Fail> {
+    match Month::of(year, number) {
+        Some(month) => Ok(month),
+        None => Err(Fail::new("no month")),
+    }
+}
+
 // An office to which few commands have led.
 #[derive(Drop)]
 struct Tried {
@@ -44,19 +83,49 @@ impl Tried {
         }
     }
 
-    fn ask(
+    // Does what is wished, and gives what was answered.
+    fn turn(
         &mut self,
         rt: &impl Abort,
+        alloc: Global,
         ms: u64,
-        command: &Command,
-    ) -> Result<Result<Reply, Refusal>, Fail>
+        wish: Wish<'_>,
+    ) -> Result<Heard, Fail> {
+        let (Wish::Make(name) | Wish::Put(name, ..) | Wish::Show(name) | Wish::Meters(name, ..)) =
+            wish;
+        let bucket = BucketName::read(alloc, name)?;
+        let moment = Moment::of(ms)?;
+        let said = match wish {
+            Wish::Make(_) => self.ask(rt, moment, &Command::CreateBucket { bucket }),
+            Wish::Put(_, key, size, class) => {
+                let command = Command::Put {
+                    bucket,
+                    key: Key::read(alloc, key.as_bytes())?,
+                    size: Size::of(size)?,
+                    class,
+                };
+                self.ask(rt, moment, &command)
+            }
+            Wish::Show(_) => self.show(rt, moment, &Query::Bucket(bucket)),
+            Wish::Meters(_, year, number) => {
+                self.show(rt, moment, &Query::Meters(bucket, month_of(year, number)?))
+            }
+        };
+        Ok(answer_of(&said, ms, wish))
+    }
+
+    fn ask(&mut self, rt: &impl Abort, moment: Moment, command: &Command) -> Result<Reply, Refusal>
         requires fits { SizeFits command.now }
     {
-        let moment = Moment::of(ms)?;
-        assert!(rt; self.is_later(moment), "time goes back to {ms}");
+        assert!(rt; self.is_later(moment));
         assert!(rt; self.asked < 1_000_000);
         self.asked += 1;
-        Ok(self.office.apply(moment, command))
+        self.office.apply(moment, command)
+    }
+
+    fn show(&self, rt: &impl Abort, moment: Moment, query: &Query) -> Result<Reply, Refusal> {
+        assert!(rt; self.is_later(moment));
+        self.office.answer(moment, query)
     }
 
     // The moment is not before the last one.
@@ -75,209 +144,63 @@ impl Tried {
             None => None,
         }
     }
-
-    // Asks for a bucket, and tells whether it was made.
-    fn make(&mut self, rt: &impl Abort, alloc: Global, ms: u64, name: &str) -> Result<bool, Fail> {
-        let command = Command::CreateBucket {
-            bucket: BucketName::read(alloc, name)?,
-        };
-        match self.ask(rt, ms, &command)? {
-            Ok(Reply::BucketMade { bucket }) => {
-                assert_eq!(rt; bucket.text(), name);
-                Ok(true)
-            }
-            Ok(_) => panic!(rt; "another reply to {name}"),
-            Err(refusal) => {
-                assert_eq!(rt; refusal, Refusal::BucketExists, "{name}");
-                Ok(false)
-            }
-        }
-    }
-
-    // Puts an object; gives why it was refused, where it was.
-    fn put(
-        &mut self,
-        rt: &impl Abort,
-        alloc: Global,
-        ms: u64,
-        names: (&str, &str),
-        size: u64,
-        class: Class,
-    ) -> Result<Option<Refusal>, Fail> {
-        let (bucket, key) = names;
-        let command = Command::Put {
-            bucket: BucketName::read(alloc, bucket)?,
-            key: Key::read(alloc, key.as_bytes())?,
-            size: Size::of(size)?,
-            class,
-        };
-        let answer = self.ask(rt, ms, &command)?;
-        match &answer {
-            Ok(Reply::Stored { moment, version }) => {
-                assert_eq!(rt; moment.ms(), ms, "{key}");
-                assert_eq!(rt; *version, VersionId::Null, "{key}");
-                Ok(None)
-            }
-            Ok(_) => panic!(rt; "another reply to {key}"),
-            Err(refusal) => Ok(Some(*refusal)),
-        }
-    }
-
-    // Reads how many versions a bucket has.
-    fn versions(&self, rt: &impl Abort, alloc: Global, ms: u64, name: &str) -> Result<u32, Fail> {
-        let query = Query::Bucket(BucketName::read(alloc, name)?);
-        match self.show(rt, ms, &query)? {
-            Ok(Reply::BucketShown { bucket, versions }) => {
-                assert_eq!(rt; bucket.text(), name);
-                Ok(versions)
-            }
-            _ => panic!(rt; "{name} is not shown"),
-        }
-    }
-
-    // Reads what a bucket used in a month, by class.
-    fn meters(
-        &self,
-        rt: &impl Abort,
-        alloc: Global,
-        ms: u64,
-        name: &str,
-        year: u16,
-        number: u8,
-    ) -> Result<[ClassMeters; 6], Fail> {
-        let Some(month) = Month::of(year, number) else {
-            panic!(rt; "no month");
-        };
-        let query = Query::Meters(BucketName::read(alloc, name)?, month);
-        match self.show(rt, ms, &query)? {
-            Ok(
-                Reply::MetersShown {
-                    bucket,
-                    month: shown,
-                    classes,
-                },
-            ) => {
-                assert_eq!(rt; bucket.text(), name);
-                assert_eq!(rt; shown, month);
-                Ok(classes)
-            }
-            _ => panic!(rt; "the meters of {name} are not shown"),
-        }
-    }
-
-    fn show(
-        &self,
-        rt: &impl Abort,
-        ms: u64,
-        query: &Query,
-    ) -> Result<Result<Reply, Refusal>, Fail> {
-        let moment = Moment::of(ms)?;
-        assert!(rt; self.is_later(moment), "time goes back to {ms}");
-        Ok(self.office.answer(moment, query))
-    }
 }
 
-#[test]
-fn a_name_is_taken_once(rt: HostRuntime) -> Result<(), Fail> {
-    let alloc = rt.alloc();
-    let mut tried = Tried::new(alloc);
-    assert_eq!(rt; tried.last_ms(), None);
-    // The moment, the name, whether a bucket is made, and the moment of the last accepted command then.
-    let asks = [
-        (5, "logs", true, 5),
-        (5, "data", true, 5),
-        (6, "logs", false, 5),
-        (7, "zoo", true, 7),
-        (8, "data", false, 7),
-        (9, "log", true, 9),
-        (9, "logs-2", true, 9),
-        (10, "logs", false, 9),
-    ];
-    for (ms, name, made, last) in asks {
-        assert_eq!(rt; tried.make(&rt, alloc, ms, name)?, made, "{name} at {ms}");
-        assert_eq!(rt; tried.last_ms(), Some(last), "after {name} at {ms}");
-    }
-    Ok(())
-}
-
-#[test]
-fn a_thousand_buckets(rt: HostRuntime) -> Result<(), Fail> {
-    let alloc = rt.alloc();
-    let mut tried = Tried::new(alloc);
-    for again in [false, true] {
-        for number in 0u64..1_000 {
-            let name = format!(in alloc; "bucket-{}", 1_000 - number)?;
-            assert_eq!(rt; tried.make(&rt, alloc, 100, &name)?, !again, "{name}");
-        }
-    }
-    let command = Command::CreateBucket {
-        bucket: BucketName::read(alloc, "one-more")?,
+fn answer_of(said: &Result<Reply, Refusal>, ms: u64, wish: Wish<'_>) -> Heard {
+    let reply = match said {
+        Ok(reply) => reply,
+        Err(refusal) => return Heard::Refused(*refusal),
     };
-    match tried.ask(&rt, 101, &command)? {
-        Ok(_) => panic!(rt; "one bucket too many"),
-        Err(refusal) => assert_eq!(rt;
-            refusal,
-            Refusal::Full {
-                what: What::Buckets,
-                limit: 1_000
-            }
-        ),
-    }
-    assert_eq!(rt; tried.last_ms(), Some(100));
-    Ok(())
+    let (what, is_so) = match (reply, wish) {
+        (Reply::BucketMade { bucket }, Wish::Make(name)) => (Heard::Made, bucket.text() == name),
+        (Reply::Stored { moment, version }, Wish::Put(..)) => {
+            (
+                Heard::Stored,
+                moment.ms() == ms && *version == VersionId::Null,
+            )
+        }
+        (Reply::BucketShown { bucket, versions }, Wish::Show(name)) => {
+            (Heard::Shown(*versions), bucket.text() == name)
+        }
+        (
+            Reply::MetersShown {
+                bucket,
+                month,
+                classes,
+            },
+            Wish::Meters(name, year, number),
+        ) => {
+            let is_month = month.year() == year && month.month() == number;
+            (metered(classes), is_month && bucket.text() == name)
+        }
+        _ => (Heard::Other, true),
+    };
+    if is_so { what } else { Heard::Other }
 }
 
-#[test]
-fn versions_and_refusals(rt: HostRuntime) -> Result<(), Fail> {
-    let alloc = rt.alloc();
-    let mut tried = Tried::new(alloc);
-    assert!(rt; tried.make(&rt, alloc, 5, "logs")?);
-    assert!(rt; tried.make(&rt, alloc, 5, "data")?);
-    let missing = Some(Refusal::NoSuchBucket);
-    // The moment, the bucket, the key, why it is refused, the versions of logs and data, and the last moment then.
-    let puts = [
-        (6, "logs", "a", None, 1, 0, 6),
-        (6, "logs", "b", None, 2, 0, 6),
-        (7, "logs", "a", None, 2, 0, 7),
-        (8, "zoo", "a", missing, 2, 0, 7),
-        (9, "data", "a", None, 2, 1, 9),
-        (9, "log", "a", missing, 2, 1, 9),
-        (10, "logs", "a/b", None, 3, 1, 10),
+fn metered(meters: &[ClassMeters; 6]) -> Heard {
+    let used = Used {
+        standard: meters[0].byte_ms,
+        infrequent: meters[1].byte_ms,
+        early: meters[1].early_byte_ms,
+    };
+    let classes = [
+        Class::Standard,
+        Class::StandardIa,
+        Class::OnezoneIa,
+        Class::GlacierIr,
+        Class::Glacier,
+        Class::DeepArchive,
     ];
-    for (ms, bucket, key, refusal, logs, data, last) in puts {
-        assert_eq!(rt;
-            tried.put(&rt, alloc, ms, (bucket, key), 1, Class::Standard)?,
-            refusal,
-            "{bucket} {key} at {ms}"
-        );
-        assert_eq!(rt;
-            tried.versions(&rt, alloc, ms, "logs")?,
-            logs,
-            "after {key} at {ms}"
-        );
-        assert_eq!(rt;
-            tried.versions(&rt, alloc, ms, "data")?,
-            data,
-            "after {key} at {ms}"
-        );
-        assert_eq!(rt; tried.last_ms(), Some(last), "after {key} at {ms}");
+    for (meters, class) in meters.iter().zip(classes) {
+        if *meters != used.of(class) {
+            return Heard::Other;
+        }
     }
-    match tried.show(&rt, 11, &Query::Bucket(BucketName::read(alloc, "zoo")?))? {
-        Ok(_) => panic!(rt; "zoo is shown"),
-        Err(refusal) => assert_eq!(rt; refusal, Refusal::NoSuchBucket),
-    }
-    Ok(())
+    Heard::Metered(used)
 }
 
-// What is wanted of the meters of a month: byte-milliseconds in STANDARD and STANDARD_IA, and the early quantity of the latter.
-#[derive(Clone, Copy)]
-struct Wanted {
-    standard: u128,
-    infrequent: u128,
-    early: u128,
-}
-
-impl Wanted {
+impl Used {
     fn of(self, class: Class) -> ClassMeters {
         let (byte_ms, early_byte_ms) = match class {
             Class::Standard => (self.standard, 0),
@@ -293,77 +216,223 @@ impl Wanted {
     }
 }
 
-const NOTHING: Wanted = Wanted {
-    standard: 0,
-    infrequent: 0,
-    early: 0,
-};
+// The moment, what is wished then, what is answered, and the moment of the last accepted command after it.
+type Row = (u64, Wish<'static>, Heard, u64);
 
-fn assert_shown(rt: &impl Abort, meters: &[ClassMeters; 6], wanted: Wanted) {
-    let classes = [
-        Class::Standard,
-        Class::StandardIa,
-        Class::OnezoneIa,
-        Class::GlacierIr,
-        Class::Glacier,
-        Class::DeepArchive,
-    ];
-    for (meters, class) in meters.iter().zip(classes) {
-        assert_eq!(rt; *meters, wanted.of(class));
-    }
-}
-
-#[test]
-fn two_puts_a_day_apart(rt: HostRuntime) -> Result<(), Fail> {
-    let alloc = rt.alloc();
+fn assert_rows(rt: &impl Abort, alloc: Global, rows: &[Row]) -> Result<(), Fail> {
     let mut tried = Tried::new(alloc);
-    assert!(rt; tried.make(&rt, alloc, NEW_YEAR, "logs")?);
-    for (day, size) in [(0, 1_000), (1, 2_000)] {
-        let ms = NEW_YEAR + day * DAY;
+    assert_eq!(rt; tried.last_ms(), None);
+    for (ms, wish, answer, last) in rows {
         assert_eq!(rt;
-            tried.put(&rt, alloc, ms, ("logs", "a"), size, Class::Standard)?,
-            None
+            tried.turn(rt, alloc, *ms, *wish)?,
+            *answer,
+            "{wish:?} at {ms}"
         );
-    }
-    // The day, the year and the month, and what STANDARD used.
-    let shown = [
-        (1, 2024, 1, 86_400_000_000),
-        (2, 2024, 1, 259_200_000_000),
-        (2, 2023, 12, 0),
-        (2, 2024, 2, 0),
-        (32, 2024, 2, 172_800_000_000),
-    ];
-    for (day, year, month, standard) in shown {
-        let meters = tried.meters(&rt, alloc, NEW_YEAR + day * DAY, "logs", year, month)?;
-        let wanted = Wanted {
-            standard,
-            ..NOTHING
-        };
-        assert_shown(&rt, &meters, wanted);
+        assert_eq!(rt; tried.last_ms(), Some(*last), "after {wish:?} at {ms}");
     }
     Ok(())
 }
 
+const MADE: Heard = Heard::Made;
+
+const EXISTS: Heard = Heard::Refused(Refusal::BucketExists);
+
+const MISSING: Heard = Heard::Refused(Refusal::NoSuchBucket);
+
+const STANDARD: Class = Class::Standard;
+
+const LOGS: Wish<'static> = Wish::Show("logs");
+
+const DATA: Wish<'static> = Wish::Show("data");
+
+const NAMES: [Row; 8] = [
+    (5, Wish::Make("logs"), MADE, 5),
+    (5, Wish::Make("data"), MADE, 5),
+    (6, Wish::Make("logs"), EXISTS, 5),
+    (7, Wish::Make("zoo"), MADE, 7),
+    (8, Wish::Make("data"), EXISTS, 7),
+    (9, Wish::Make("log"), MADE, 9),
+    (9, Wish::Make("logs-2"), MADE, 9),
+    (10, Wish::Make("logs"), EXISTS, 9),
+];
+
+#[test]
+fn a_name_is_taken_once(rt: HostRuntime) -> Result<(), Fail> {
+    assert_rows(&rt, rt.alloc(), &NAMES)
+}
+
+const PUTS: [Row; 24] = [
+    (5, Wish::Make("logs"), MADE, 5),
+    (5, Wish::Make("data"), MADE, 5),
+    (6, Wish::Put("logs", "a", 1, STANDARD), Heard::Stored, 6),
+    (6, LOGS, Heard::Shown(1), 6),
+    (6, DATA, Heard::Shown(0), 6),
+    (6, Wish::Put("logs", "b", 1, STANDARD), Heard::Stored, 6),
+    (6, LOGS, Heard::Shown(2), 6),
+    (6, DATA, Heard::Shown(0), 6),
+    (7, Wish::Put("logs", "a", 1, STANDARD), Heard::Stored, 7),
+    (7, LOGS, Heard::Shown(2), 7),
+    (7, DATA, Heard::Shown(0), 7),
+    (8, Wish::Put("zoo", "a", 1, STANDARD), MISSING, 7),
+    (8, LOGS, Heard::Shown(2), 7),
+    (8, DATA, Heard::Shown(0), 7),
+    (9, Wish::Put("data", "a", 1, STANDARD), Heard::Stored, 9),
+    (9, LOGS, Heard::Shown(2), 9),
+    (9, DATA, Heard::Shown(1), 9),
+    (9, Wish::Put("log", "a", 1, STANDARD), MISSING, 9),
+    (9, LOGS, Heard::Shown(2), 9),
+    (9, DATA, Heard::Shown(1), 9),
+    (10, Wish::Put("logs", "a/b", 1, STANDARD), Heard::Stored, 10),
+    (10, LOGS, Heard::Shown(3), 10),
+    (10, DATA, Heard::Shown(1), 10),
+    (11, Wish::Show("zoo"), MISSING, 10),
+];
+
+#[test]
+fn versions_and_refusals(rt: HostRuntime) -> Result<(), Fail> {
+    assert_rows(&rt, rt.alloc(), &PUTS)
+}
+
+const TWO_PUTS: [Row; 8] = [
+    (NEW_YEAR, Wish::Make("logs"), MADE, NEW_YEAR),
+    (
+        NEW_YEAR,
+        Wish::Put("logs", "a", 1_000, STANDARD),
+        Heard::Stored,
+        NEW_YEAR,
+    ),
+    (
+        NEW_YEAR + DAY,
+        Wish::Put("logs", "a", 2_000, STANDARD),
+        Heard::Stored,
+        NEW_YEAR + DAY,
+    ),
+    (
+        NEW_YEAR + DAY,
+        Wish::Meters("logs", 2024, 1),
+        Heard::Metered(Used {
+            standard: 86_400_000_000,
+            infrequent: 0,
+            early: 0,
+        }),
+        NEW_YEAR + DAY,
+    ),
+    (
+        NEW_YEAR + 2 * DAY,
+        Wish::Meters("logs", 2024, 1),
+        Heard::Metered(Used {
+            standard: 259_200_000_000,
+            infrequent: 0,
+            early: 0,
+        }),
+        NEW_YEAR + DAY,
+    ),
+    (
+        NEW_YEAR + 2 * DAY,
+        Wish::Meters("logs", 2023, 12),
+        Heard::Metered(Used {
+            standard: 0,
+            infrequent: 0,
+            early: 0,
+        }),
+        NEW_YEAR + DAY,
+    ),
+    (
+        NEW_YEAR + 2 * DAY,
+        Wish::Meters("logs", 2024, 2),
+        Heard::Metered(Used {
+            standard: 0,
+            infrequent: 0,
+            early: 0,
+        }),
+        NEW_YEAR + DAY,
+    ),
+    (
+        NEW_YEAR + 32 * DAY,
+        Wish::Meters("logs", 2024, 2),
+        Heard::Metered(Used {
+            standard: 172_800_000_000,
+            infrequent: 0,
+            early: 0,
+        }),
+        NEW_YEAR + DAY,
+    ),
+];
+
+#[test]
+fn two_puts_a_day_apart(rt: HostRuntime) -> Result<(), Fail> {
+    assert_rows(&rt, rt.alloc(), &TWO_PUTS)
+}
+
+const REPLACED: [Row; 6] = [
+    (NEW_YEAR, Wish::Make("logs"), MADE, NEW_YEAR),
+    (
+        NEW_YEAR,
+        Wish::Put("logs", "a", 200_000, Class::StandardIa),
+        Heard::Stored,
+        NEW_YEAR,
+    ),
+    (
+        NEW_YEAR + 10 * DAY,
+        Wish::Put("logs", "a", 0, STANDARD),
+        Heard::Stored,
+        NEW_YEAR + 10 * DAY,
+    ),
+    (
+        NEW_YEAR + 10 * DAY,
+        Wish::Meters("logs", 2024, 1),
+        Heard::Metered(Used {
+            standard: 0,
+            infrequent: 172_800_000_000_000,
+            early: 345_600_000_000_000,
+        }),
+        NEW_YEAR + 10 * DAY,
+    ),
+    (
+        NEW_YEAR + 31 * DAY,
+        Wish::Meters("logs", 2024, 1),
+        Heard::Metered(Used {
+            standard: 0,
+            infrequent: 172_800_000_000_000,
+            early: 345_600_000_000_000,
+        }),
+        NEW_YEAR + 10 * DAY,
+    ),
+    (
+        NEW_YEAR + 31 * DAY,
+        Wish::Meters("logs", 2024, 2),
+        Heard::Metered(Used {
+            standard: 0,
+            infrequent: 0,
+            early: 0,
+        }),
+        NEW_YEAR + 10 * DAY,
+    ),
+];
+
 #[test]
 fn replaced_before_the_least_duration(rt: HostRuntime) -> Result<(), Fail> {
+    assert_rows(&rt, rt.alloc(), &REPLACED)
+}
+
+#[test]
+fn a_thousand_buckets(rt: HostRuntime) -> Result<(), Fail> {
     let alloc = rt.alloc();
     let mut tried = Tried::new(alloc);
-    assert!(rt; tried.make(&rt, alloc, NEW_YEAR, "logs")?);
-    for (day, size, class) in [(0, 200_000, Class::StandardIa), (10, 0, Class::Standard)] {
-        let ms = NEW_YEAR + day * DAY;
+    for number in 0u64..2_000 {
+        let name = format!(in alloc; "bucket-{}", 1_000 - number % 1_000)?;
+        let wanted = if number < 1_000 { MADE } else { EXISTS };
         assert_eq!(rt;
-            tried.put(&rt, alloc, ms, ("logs", "a"), size, class)?,
-            None
+            tried.turn(&rt, alloc, 100, Wish::Make(&name))?,
+            wanted,
+            "{name}"
         );
     }
-    let wanted = Wanted {
-        standard: 0,
-        infrequent: 172_800_000_000_000,
-        early: 345_600_000_000_000,
-    };
-    for (day, month, wanted) in [(10, 1, wanted), (31, 1, wanted), (31, 2, NOTHING)] {
-        let meters = tried.meters(&rt, alloc, NEW_YEAR + day * DAY, "logs", 2024, month)?;
-        assert_shown(&rt, &meters, wanted);
-    }
+    let full = Heard::Refused(Refusal::Full {
+        what: What::Buckets,
+        limit: 1_000,
+    });
+    assert_eq!(rt; tried.turn(&rt, alloc, 101, Wish::Make("one-more"))?, full);
+    assert_eq!(rt; tried.last_ms(), Some(100));
     Ok(())
 }

@@ -16,10 +16,10 @@ invariant_of-self g c =
     let stood = c.self.invariant.0 in
     let most = at_most c.apply.result c.self.inside.office.accepted in
     let asked : c.is_later.result ≡ true = search rules in
-    let later : is_not_before c.self.inside.office.last c.in_ok-moment.moment ≡ true =
-    subst (λ (r : Records). is_not_before r.last c.in_ok-moment.moment ≡ true) (sym c.self.view_is) (sym c.is_later.ensures ∙ asked) in (
-      goes_on c.in_ok-moment.moment c.args.command.now stood.0 c.apply.new.self c.apply.result c.requires.fits stood.2
-          (subst (λ (last : Option ℕ). is_not_before last c.in_ok-moment.moment ≡ true) stood.1.last later)
+    let later : is_not_before c.self.inside.office.last c.args.moment ≡ true =
+    subst (λ (r : Records). is_not_before r.last c.args.moment ≡ true) (sym c.self.view_is) (sym c.is_later.ensures ∙ asked) in (
+      goes_on c.args.moment c.args.command.now stood.0 c.apply.new.self c.apply.result c.requires.fits stood.2
+          (subst (λ (last : Option ℕ). is_not_before last c.args.moment ≡ true) stood.1.last later)
           (c.apply.ensures.step stood.0 stood.1 stood.2),
       omega (arith, most, c.apply.ensures.accepted, c.self.invariant.1),
     )
