@@ -51,9 +51,12 @@ module _ {D C : Type 0} (d : disks.Ghosts D) (k : clocks.Ghosts C)
 
   keeps_histories : (opened : Opened) (calls : List Call) (disk : D) → Serves d.state d.moment d.had_since d.fault_count opened disk calls → KeepsHistories d opened disk
   keeps_histories opened calls disk serves t s image from to had is =
-      let r = serves.left t s image from to had is in
-      (r.history, r.has, calls_grow opened.limit opened.faults (take r.count calls) opened.history r.history r.legal,
-      λ at_end last is_now has. serves.steady t s image r.history from to had is r.has at_end last is_now has)
+      let r = serves.left t s image from to had is in (
+        r.history,
+        r.has,
+        calls_grow opened.limit opened.faults (take r.count calls) opened.history r.history r.legal,
+        λ at_end last is_now has. serves.steady t s image r.history from to had is r.has at_end last is_now has,
+      )
 
   keeps_calls : (disk : D) (clock : C) (limit : ℕ) (old new : DeskView D C) (calls : List Call) (opens : Opens d.honest d.state d.moment d.had_since d.fault_count disk clock limit old)
       (followed : Followed d k old.disk (opened_with d.moment d.fault_count opens.history old) calls new)
