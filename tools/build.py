@@ -2,14 +2,12 @@
 """Builds a program with all processors busy: python3 tools/build.py CRATE
 
 Crates below CRATE are proved side by side, those with the longest chain above them first, and then `rt run` builds the
-program. How far it is goes to standard error, and what rt says to crates/CRATE/build.log. Status 0: it is built.
+program. How far it is goes to standard error, and what rt says to crates/CRATE/build.log. Status 3: not possible here.
 
 A run of rt holds its crate and all below it, so two crates over a common one would wait for each other. Here each is
-proved in a tree of its own in .build/, with hard links to its sources and the libraries below it; its folder out/ is
-moved there and back. Meanwhile the crates are held as rt would hold them.
+proved in a tree of its own in .build/, with hard links to what is below it; its folder out/ is moved there and back.
 """
 import fcntl
-import glob
 import os
 import re
 import shutil
@@ -23,7 +21,6 @@ ROOT = os.path.dirname(os.path.dirname(os.path.abspath(__file__)))
 TREES = f"{ROOT}/.build"
 PARTS = ("src", "specs", "proofs")
 JOB_BYTES = 2_000_000_000  # about what a job takes in the larger crates
-LINES_A_SECOND = 15  # that a processor proves: the first guess of what is left
 
 
 def say(text):
@@ -32,8 +29,7 @@ def say(text):
 
 def read_list():
     """Returns of each crate its line of crates.txt, and the crates of the repository that it names."""
-    text = Path(ROOT, "crates.txt").read_text(encoding="utf-8")
-    rows = (line.partition("#")[0].strip() for line in text.splitlines())
+    rows = (line.partition("#")[0].strip() for line in Path(ROOT, "crates.txt").read_text("utf-8").splitlines())
     rows = {re.match(r"\w+", row)[0]: row for row in rows if row}
     uses = {name: re.findall(r"\w+", row.partition(":")[2]) for name, row in rows.items()}
     return rows, {name: [it for it in uses[name] if it in rows] for name in rows}
@@ -47,9 +43,15 @@ def below(name, uses):
     return found
 
 
-def lines_of(name):
-    files = (it for part in PARTS for it in Path(ROOT, "crates", name, part).rglob("*.*t"))
-    return sum(len(it.read_bytes().splitlines()) for it in files)
+def sources(name):
+    return [it for part in PARTS for it in Path(ROOT, "crates", name, part).rglob("*.*t")]
+
+
+def is_built(name, lower):
+    """Whether the library is newer than its sources and those below. Where rt sees more, `rt run` builds it again."""
+    stamp = Path(ROOT, "crates", name, "out/rlib/stamp")
+    files = (it for crate in [*lower, name] for it in sources(crate))
+    return stamp.is_file() and all(it.stat().st_mtime < stamp.stat().st_mtime for it in files)
 
 
 def hold(names):
@@ -61,24 +63,14 @@ def hold(names):
         except BlockingIOError:
             say("waiting for another run of rt")
             fcntl.flock(it, fcntl.LOCK_EX)
-        except OSError:
-            pass  # a file system without locks
     return held
-
-
-def link(source, target):
-    try:
-        os.link(source, target)
-    except OSError:
-        shutil.copy2(source, target)
 
 
 class Run:
     """A run of rt on one crate, whose folder is given."""
 
     def __init__(self, name, folder, verb, jobs, log):
-        self.name, self.folder, self.jobs, self.log = name, folder, jobs, log
-        self.started = time.time()
+        self.name, self.folder, self.jobs, self.log, self.started = name, folder, jobs, log, time.time()
         how = {"cwd": folder, "stdin": subprocess.DEVNULL, "stderr": subprocess.STDOUT}
         with open(log, "ab") as out:
             self.from_byte = out.tell()
@@ -89,8 +81,8 @@ class Run:
         told = re.findall(rb"(?m)^so far: (\d+ of \d+)", Path(self.log).read_bytes()[self.from_byte :])
         if told:
             return told[-1].decode()
-        kept = glob.glob(f"{self.folder}/out/incremental/*/*.Tie.oantt")
-        return str(sum(os.path.getmtime(it) >= self.started for it in kept if os.path.exists(it)))
+        kept = Path(self.folder).glob("out/incremental/*/*.Tie.oantt")
+        return str(sum(it.stat().st_mtime >= self.started for it in kept if it.exists()))
 
 
 def start_apart(name, jobs, rows, lower):
@@ -99,9 +91,8 @@ def start_apart(name, jobs, rows, lower):
     for it in [*lower, name]:
         for part in (*PARTS, "out/rlib") if it != name else PARTS:
             if os.path.isdir(f"{ROOT}/crates/{it}/{part}"):
-                shutil.copytree(f"{ROOT}/crates/{it}/{part}", f"{tree}/crates/{it}/{part}", copy_function=link)
-    with open(f"{tree}/crates.txt", "w", encoding="utf-8") as file:
-        file.writelines(f"{rows[it]}\n" for it in [*lower, name])
+                shutil.copytree(f"{ROOT}/crates/{it}/{part}", f"{tree}/crates/{it}/{part}", copy_function=os.link)
+    Path(tree, "crates.txt").write_text("".join(f"{rows[it]}\n" for it in [*lower, name]), encoding="utf-8")
     if os.path.isdir(f"{ROOT}/crates/{name}/out"):
         os.rename(f"{ROOT}/crates/{name}/out", f"{tree}/crates/{name}/out")
     return Run(name, f"{tree}/crates/{name}", "lib", jobs, f"{tree}/log")
@@ -123,12 +114,14 @@ class Build:
         self.rows, self.uses = read_list()
         self.program, self.log = program, log
         self.names = [*below(program, self.uses), program]
-        self.lines = {it: lines_of(it) for it in self.names}
+        self.done = [it for it in self.names[:-1] if is_built(it, below(it, self.uses))]
+        lines = {it: sum(len(file.read_bytes().splitlines()) for file in sources(it)) for it in self.names}
+        # A tenth more for each crate below, since these are loaded too.
+        self.cost = {it: (it not in self.done) * lines[it] * (1 + len(below(it, self.uses)) / 10) for it in self.names}
         self.chain = {}
-        for name in reversed(self.names):
-            above = (self.chain[it] for it in self.chain if name in self.uses[it])
-            self.chain[name] = self.lines[name] + max(above, default=0)
-        self.done, self.running, self.told, self.begun = [], [], 0, time.time()
+        for it in reversed(self.names):
+            self.chain[it] = self.cost[it] + max([self.chain[up] for up in self.chain if it in self.uses[up]] or [0])
+        self.running, self.told, self.begun = [], 0, time.time()
         free = 1024 * int(re.search(r"MemAvailable:\s+(\d+)", Path("/proc/meminfo").read_text(encoding="ascii"))[1])
         self.jobs = max(1, min(len(os.sched_getaffinity(0)), free // JOB_BYTES))
 
@@ -147,9 +140,11 @@ class Build:
         """Says every 15 seconds how far the build is, and sleeps for a moment."""
         if time.time() > self.told + 15:
             self.told = time.time()
-            proved = sum(self.lines[it] for it in self.done) + sum(self.lines[it.name] / 2 for it in self.running)
-            left = sum(self.lines.values()) - proved
-            rate = proved / (time.time() - self.begun) if len(self.done) > 2 else LINES_A_SECOND * self.jobs
+            undone = [it for it in self.names if it not in self.done]
+            work = sum(self.cost[it] for it in undone) - sum(self.cost[it.name] / 2 for it in self.running)
+            spent = self.told - self.begun
+            rate = (sum(self.cost.values()) - work) / spent if spent > 60 else 30 * self.jobs  # a first guess
+            left = max(work, self.jobs / 2 * max(self.chain[it] for it in undone))  # little is beside the longest chain
             runs = ", ".join(f"{it.name} ({it.functions()} functions)" for it in self.running)
             say(f"{len(self.done)} of {len(self.names)} crates, {1 + left // (60 * rate):.0f} min left; proving {runs}")
         time.sleep(0.2)
@@ -166,7 +161,6 @@ class Build:
                 self.running.remove(it)
                 end_apart(it, self.log)
                 self.done.append(it.name)
-                self.lines[it.name] *= time.time() > it.started + 3  # else it was proved before
         return True
 
     def finish(self):
@@ -196,4 +190,10 @@ def main(program):
 
 
 if __name__ == "__main__":
-    sys.exit(main(sys.argv[1]) if len(sys.argv) == 2 else __doc__)
+    if len(sys.argv) != 2:
+        sys.exit(__doc__)
+    try:
+        sys.exit(main(sys.argv[1]))
+    except OSError as fault:
+        say(f"proving one crate after another, since here is no place for several at once ({type(fault).__name__})")
+        sys.exit(3)
