@@ -18,7 +18,7 @@ use Rattle.http_front.specs.declared.answering.SessionEnd.TheVariants.{NoMemory}
 use Rattle.serving.specs.declared.port.Port as ports
 use Rattle.serving.specs.declared.worker.WorkerEnd.{WorkerEnd}
 use Rattle.serving.specs.Serving.{Log, log_calls, AreOfWorkers}
-use Rattle.serving.specs.Works.{Counts}
+use Rattle.serving.specs.Works.{Counts, RoseBy}
 use Rattle.office_cli.specs.Lines.{status_of, fault_status, workers_status, clock_note, end_note, fault_note, workers_note}
 
 -- the journal of the program has at most 2^30 bytes
@@ -49,7 +49,7 @@ module _ {W : Type 0} (w : sinks.Ghosts W) where
   IsSilent old new = (w.said new ≡ w.said old) × (w.moments new ≡ w.moments old) × (w.texts new ≡ w.texts old)
 
 module _ {D C W : Type 0} (w : sinks.Ghosts W) where
-  -- Memory ran out before the words were read: nothing was touched.
+  -- Memory ran out before the words were read: disk and clock were not touched, and nothing was said.
   pub record IsUnread (old new : Surroundings D C W) (status : ℕ) : Type 0 where
     pub status_is : status ≡ 6
     pub untouched : (new.disk ≡ old.disk) × (new.clock ≡ old.clock)
@@ -135,3 +135,7 @@ module _ {P Source Replies : Type 0} (p : ports.Ghosts P Source Replies) where
   pub record Connects (workers connections : ℕ) (old new : P) (end : WorkerEnd) (log : Log) : Type 0 where
     pub counts : Counts (workers * connections) end (p.given old) (p.given new) (p.ended old) (p.ended new)
     pub divided : AreOfWorkers workers log (p.connections old) (p.connections new)
+
+  -- it is as it was, or was given back as many connections, ended, as it gave
+  abbrev pub IsBalanced : P → P → Type 0
+  IsBalanced old new = (new ≡ old) ⊎ ((n : ℕ) × RoseBy (p.given old) (p.given new) n × RoseBy (p.ended old) (p.ended new) n)

@@ -34,6 +34,17 @@ fn open_file<R: Files>(rt: &R, path: &str) -> Option<R::File> {
     options.open(rt, path).ok()
 }
 
+// Makes the folder where it is not there.
+fn make_folder<R: Files>(rt: &R) -> Option<()> {
+    fs::create_dir_all(rt, FOLDER).ok()
+}
+
+// Makes the names of the files and of their folder durable, so that a file which was made is found after a loss of power.
+fn sync_names<R: Files<File = File>>(rt: &R) -> Option<()> {
+    File::open(rt, FOLDER).ok()?.sync_all().ok()?;
+    File::open(rt, ".").ok()?.sync_all().ok()
+}
+
 // The journal's file, with the lock on it. The lock is that of the open file, so it ends where the file is closed or the process
 // ends. There is none where the file cannot be opened, or another process holds the lock.
 fn open_journal<R: Files<File = File>>(rt: &R) -> Option<File> {
@@ -44,22 +55,29 @@ fn open_journal<R: Files<File = File>>(rt: &R) -> Option<File> {
     }
 }
 
-// The files of the folder, which is made where it is not there. A file that cannot be opened is none, and so are all where the
-// journal cannot be opened, the words are no command, or a file might get the number of a standard stream.
+// The files of the folder, which is made where it is not there. There are none where the folder cannot be made, the journal cannot
+// be opened, or their names cannot be made durable.
+fn open_files<R: Files<File = File>>(rt: &R) -> Option<FileDisk> {
+    make_folder(rt)?;
+    let journal = open_journal(rt)?;
+    let first = open_file(rt, "office-data/check.0");
+    let second = open_file(rt, "office-data/check.1");
+    sync_names(rt)?;
+    Some(FileDisk::new(Some(journal), first, second))
+}
+
+// The disk of a command. It has no files where the words are no command, a file might get the number of a standard stream, or the
+// files cannot be opened.
 fn open_disk<R: Files<File = File> + Alloc<A = Global>>(
     rt: &R,
     words: &[String],
     held: bool,
 ) -> FileDisk {
-    if !held || read_line(rt.alloc(), words).is_err() || fs::create_dir_all(rt, FOLDER).is_err() {
+    if !held || read_line(rt.alloc(), words).is_err() {
         return FileDisk::new(None, None, None);
     }
-    match open_journal(rt) {
-        Some(journal) => FileDisk::new(
-            Some(journal),
-            open_file(rt, "office-data/check.0"),
-            open_file(rt, "office-data/check.1"),
-        ),
+    match open_files(rt) {
+        Some(disk) => disk,
         None => FileDisk::new(None, None, None),
     }
 }

@@ -11,7 +11,7 @@ ghost use Rattle.command_line.specs.Lines.{asked, Line, init as init_line, run a
 ghost use Rattle.http_front.specs.declared.answering.SessionEnd.TheVariants.{NoMemory};
 ghost use Rattle.office_cli.specs.Lines.{usage_note, end_note, IsRunStatus, IsServeStatus, IsDone};
 ghost use Rattle.office_cli.specs.Making.{Inits};
-ghost use Rattle.office_cli.specs.Running.{around, IsNoted, IsSilent, IsUnread, Connects, Runs, Serves};
+ghost use Rattle.office_cli.specs.Running.{around, IsNoted, IsSilent, IsUnread, Connects, IsBalanced, Runs, Serves};
 
 use crate::init::init;
 use crate::lines::{MEMORY, USAGE, end_line, note_line, usage};
@@ -129,6 +129,9 @@ where
     ensures unread { (asked (map string_bytes words.now) ≡ Some run_line → ⊥) → input.new ≡ input.old }
     ensures unused { ((listen : List ℕ) (workers connections : ℕ) → asked (map string_bytes words.now) ≡ Some (serve_line listen workers connections) → ⊥) → port.new ≡ port.old }
     ensures unopened { (result.status ≡ 5) ⊎ (result.status ≡ 8) → (input.new ≡ input.old) × (port.new ≡ port.old) }
+
+    // Each connection that the port gave was given back, ended, whatever the status.
+    ensures balanced { IsBalanced P.Port port.old port.new }
 
     // The causes of the statuses.
     ensures statuses { (result.status ≡ 1) ⊎ ((result.status ≡ 8) ⊎ (IsRunStatus result.status ⊎ IsServeStatus result.status)) }

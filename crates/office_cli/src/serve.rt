@@ -5,7 +5,7 @@ ghost use Rattle.plain_office.specs.declared.command.Entry.{Entry};
 ghost use Rattle.desk_core.specs.Histories.{HasAcceptedHistory};
 ghost use Rattle.desk_core.specs.Opening.{Opens};
 ghost use Rattle.office_cli.specs.Lines.{workers_status, workers_note, IsWorkersStatus, IsServeStatus};
-ghost use Rattle.office_cli.specs.Running.{journal_limit, around, IsNoted, IsSilent, AnswersWorkers, Connects, Refuses, Serves};
+ghost use Rattle.office_cli.specs.Running.{journal_limit, around, IsNoted, IsSilent, AnswersWorkers, Connects, IsBalanced, Refuses, Serves};
 
 use crate::lines::{note_line, served_line, served_status};
 use crate::program::{End, JOURNAL_LIMIT};
@@ -68,6 +68,7 @@ where
     ensures statuses { IsWorkersStatus result.status }
     ensures disk_fault { result.status ≡ 2 → Rose (D.fault_count desk.disk) (D.fault_count result.disk) }
     ensures port_fault { result.status ≡ 7 → Rose (P.faults port.old) (P.faults port.new) }
+    ensures balanced { IsBalanced P.Port port.old port.new }
 {
     let closed = serve_office(rt, alloc, desk, port, address, gate, workers, connections);
     close(out, closed)
@@ -105,6 +106,7 @@ where
     ensures statuses { IsServeStatus result.status }
     ensures disk_fault { result.status ≡ 2 → Rose (D.fault_count disk) (D.fault_count result.disk) }
     ensures port_fault { result.status ≡ 7 → Rose (P.faults port.old) (P.faults port.new) }
+    ensures balanced { IsBalanced P.Port port.old port.new }
 {
     match Desk::open(alloc, disk, clock, JOURNAL_LIMIT) {
         Ok(desk) => answer(
@@ -153,6 +155,7 @@ where
     ensures statuses { (result.status ≡ 8) ⊎ IsServeStatus result.status }
     ensures disk_fault { result.status ≡ 2 → Rose (D.fault_count disk) (D.fault_count result.disk) }
     ensures port_fault { result.status ≡ 7 → Rose (P.faults port.old) (P.faults port.new) }
+    ensures balanced { IsBalanced P.Port port.old port.new }
 {
     if !has_begun(&mut clock) {
         return end_at_clock(out, disk, clock);

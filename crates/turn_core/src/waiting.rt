@@ -73,8 +73,8 @@ impl ParkingLot {
     /// No wake-up is lost. A pass adds itself to `parked`, reads `wakes` and then looks at `serving` again; a move changes
     /// `serving` and then reads `parked`. So where the look comes before the move, the move finds the pass in `parked` and
     /// adds to `wakes` after it was read, and the kernel starts no sleep where `wakes` has changed and ends one that it
-    /// started. `wakes` has no time to come round to the same 32 bits: it grows once at most for each ticket that is out
-    /// before this one, and fewer than 2^32 are.
+    /// started. `wakes` has no time to come round to the same 32 bits: after it was read each other pass adds one at most,
+    /// for a turn that ended or for one before this ticket's, and there are fewer than 2^32 passes.
     pub(crate) fn wait_for<R: Wait, S, V, K, P: TableRule<S, V, K>>(
         &self,
         rt: &R,

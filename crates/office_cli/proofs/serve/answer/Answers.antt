@@ -1,4 +1,4 @@
-use Rattle.std.proofs.Common.{◌≡◌, Bool, List, ℕ, sym, subst}
+use Rattle.std.proofs.Common.{◌≡◌, Bool, List, ℕ, inr, sym, subst}
 use Rattle.office_base.specs.Faults.{Rose}
 use Rattle.desk_core.specs.Runs.{AnswersCalls, outside}
 use Rattle.serving.specs.Serving.{log_calls}
@@ -26,3 +26,8 @@ returns-clause-answers g c disk clock opens =
       status_is = subst (λ (b : Bool). c.close.result.status ≡ workers_status closed.end b) served.3 ended.status;
       note = subst (λ (b : Bool). IsNoted w c.args.out.now c.close.new.out (workers_note closed.end b)) served.3 ended.noted;
     }
+
+pub returns-clause-balanced : goal.returns-clause-balanced
+returns-clause-balanced g c =
+    let counts = c.serve_office-closed.ensures.counts in
+    inr (counts.count, counts.given, counts.ended)
