@@ -24,7 +24,7 @@ pub enum CommandLine {
     Init,
     /// The messages of the input, answered: `run`.
     Run,
-    /// Those of connections, answered: `serve --listen ADDRESS [--workers N] [--connections N]`.
+    /// Those of connections, answered: `serve --listen ADDRESS [--workers N] [--connections K]`.
     Serve {
         /// Where to listen, as it was written.
         listen: String,

@@ -46,7 +46,7 @@ fn with_subcommand<'a>(command: Command<'a>, sub: Command<'a>) -> Result<Command
     command.subcommand(sub)
 }
 
-// `serve --listen ADDRESS [--workers N] [--connections N]`.
+// `serve --listen ADDRESS [--workers N] [--connections K]`.
 fn serve<'a>(alloc: Global) -> Result<Command<'a>, AllocError>
     ensures { IfOk result (IsCommand (alone serve_words)) }
 {

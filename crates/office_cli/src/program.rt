@@ -42,14 +42,17 @@ pub const JOURNAL_LIMIT: u64 = 1_073_741_824;
 // States of a disk each of whose images has a history that what it reads has one, and that it has such images as long as it is
 // left alone. It does nothing.
 fn sound_now<D: Disk>(disk: &D)
-    ensures reads { IsTrue D.honest → IsSound (D.state disk.now) → (history : List Entry) × HasAcceptedHistory history (D.state disk.now).journal.seen }
-    ensures still { IsTrue D.honest → IsSound (D.state disk.now) → KeepsTo D.state D.moment D.had_since disk.now disk.now IsSound }
+    ensures reads { IsTrue D.honest → IsSound (D.state disk.now) → (history : List Entry)
+        × HasAcceptedHistory history (D.state disk.now).journal.seen }
+    ensures still { IsTrue D.honest → IsSound (D.state disk.now)
+        → KeepsTo D.state D.moment D.had_since disk.now disk.now IsSound }
 {}
 
 // Notes that words are no command line, or that memory ran out before they were read, and answers the status.
 fn refuse_line<W: Replies>(out: &mut W, fault: LineFault) -> u8
     ensures usage { fault ≡ LineFault.NotALine → (result ≡ 1) × IsNoted W.Replies out.old out.new usage_note }
-    ensures memory { fault ≡ LineFault.NoMemory → (result ≡ 6) × IsNoted W.Replies out.old out.new (end_note NoMemory false) }
+    ensures memory { fault ≡ LineFault.NoMemory → (result ≡ 6)
+        × IsNoted W.Replies out.old out.new (end_note NoMemory false) }
     ensures silent { IsSilent W.Replies out.old out.new }
     ensures later { W.faults out.old ≤ W.faults out.new }
 {
@@ -77,7 +80,7 @@ fn refuse_line<W: Replies>(out: &mut W, fault: LineFault) -> u8
 /// input could not be read; 4 where a text could not be said; 5 where the journal is not made, foreign or damaged; 6 where
 /// memory ran out; 7 where the port did not listen or gave no connection; 8 where the first number that the clock told a `run` or a
 /// `serve` is not below the end of time, 4,102,444,800,000 milliseconds, and then nothing else was done; 9 where 2^40 bytes of input
-/// were taken and more is needed. A connection that fails, or for which memory runs out, ends alone and gives no status.
+/// were taken and more is needed. A connection that fails, or in whose session memory runs out, ends alone and gives no status.
 pub fn office<S, W, D, C, P, G, R>(
     rt: &R,
     alloc: Global,
@@ -102,56 +105,71 @@ where
 
     // What run does.
     ensures run { asked (map string_bytes words.now) ≡ Some run_line
-        → Runs D.Disk C.Clock W.Replies (S.left input.old) (around disk clock out.old) (around result.disk result.clock out.new) result.status
-        ⊎ IsUnread W.Replies (around disk clock out.old) (around result.disk result.clock out.new) result.status }
+        → Runs D.Disk C.Clock W.Replies (S.left input.old) (around disk clock out.old)
+        (around result.disk result.clock out.new) result.status
+        ⊎ (IsUnread W.Replies (around disk clock out.old) (around result.disk result.clock out.new) result.status
+        × (input.new ≡ input.old) × (port.new ≡ port.old)) }
 
     // What serve does.
-    ensures serve { (listen : List ℕ) (workers connections : ℕ) → asked (map string_bytes words.now) ≡ Some (serve_line listen workers connections)
-        → Serves D.Disk C.Clock W.Replies (Connects P.Port workers connections port.old port.new) (around disk clock out.old) (around result.disk result.clock out.new) result.status
-        ⊎ IsUnread W.Replies (around disk clock out.old) (around result.disk result.clock out.new) result.status }
+    ensures serve { (listen : List ℕ) (workers connections : ℕ)
+        → asked (map string_bytes words.now) ≡ Some (serve_line listen workers connections)
+        → Serves D.Disk C.Clock W.Replies (Connects P.Port workers connections port.old port.new)
+        (around disk clock out.old) (around result.disk result.clock out.new) result.status
+        ⊎ (IsUnread W.Replies (around disk clock out.old) (around result.disk result.clock out.new) result.status
+        × (input.new ≡ input.old) × (port.new ≡ port.old)) }
 
     // What init does.
     ensures init { asked (map string_bytes words.now) ≡ Some init_line
         → (Inits D.Disk W.Replies disk result.disk out.old out.new result.status × (result.clock ≡ clock))
-        ⊎ IsUnread W.Replies (around disk clock out.old) (around result.disk result.clock out.new) result.status }
+        ⊎ (IsUnread W.Replies (around disk clock out.old) (around result.disk result.clock out.new) result.status
+        × (input.new ≡ input.old) × (port.new ≡ port.old)) }
 
     // Words that are no command line touch nothing.
     ensures usage { result.status ≡ 1 → asked (map string_bytes words.now) ≡ None }
     ensures other { asked (map string_bytes words.now) ≡ None
-        → ((result.status ≡ 1) × (result.disk ≡ disk) × (result.clock ≡ clock) × IsSilent W.Replies out.old out.new × IsNoted W.Replies out.old out.new usage_note)
-        ⊎ IsUnread W.Replies (around disk clock out.old) (around result.disk result.clock out.new) result.status }
+        → ((result.status ≡ 1) × (result.disk ≡ disk) × (result.clock ≡ clock) × IsSilent W.Replies out.old out.new
+        × IsNoted W.Replies out.old out.new usage_note)
+        ⊎ (IsUnread W.Replies (around disk clock out.old) (around result.disk result.clock out.new) result.status
+        × (input.new ≡ input.old) × (port.new ≡ port.old)) }
 
     // Replies to messages of the input are said by a run alone, and other texts by init alone.
-    ensures unsaid { (asked (map string_bytes words.now) ≡ Some run_line → ⊥) → (W.said out.new ≡ W.said out.old) × (W.moments out.new ≡ W.moments out.old) }
+    ensures unsaid { (asked (map string_bytes words.now) ≡ Some run_line → ⊥) → (W.said out.new ≡ W.said out.old)
+        × (W.moments out.new ≡ W.moments out.old) }
     ensures no_text { (asked (map string_bytes words.now) ≡ Some init_line → ⊥) → W.texts out.new ≡ W.texts out.old }
 
     // The input is read only by a run, and the port is used only by serve, and by none that ends with status 5 or 8.
     ensures unread { (asked (map string_bytes words.now) ≡ Some run_line → ⊥) → input.new ≡ input.old }
-    ensures unused { ((listen : List ℕ) (workers connections : ℕ) → asked (map string_bytes words.now) ≡ Some (serve_line listen workers connections) → ⊥) → port.new ≡ port.old }
+    ensures unused { ((listen : List ℕ) (workers connections : ℕ)
+        → asked (map string_bytes words.now) ≡ Some (serve_line listen workers connections) → ⊥) → port.new ≡ port.old }
     ensures unopened { (result.status ≡ 5) ⊎ (result.status ≡ 8) → (input.new ≡ input.old) × (port.new ≡ port.old) }
 
     // Each connection that the port gave was given back, ended, whatever the status.
     ensures balanced { IsBalanced P.Port port.old port.new }
 
     // The causes of the statuses.
-    ensures statuses { (result.status ≡ 1) ⊎ ((result.status ≡ 8) ⊎ (IsRunStatus result.status ⊎ IsServeStatus result.status)) }
+    ensures statuses { (result.status ≡ 1)
+        ⊎ ((result.status ≡ 8) ⊎ (IsRunStatus result.status ⊎ IsServeStatus result.status)) }
     ensures clock_end { result.status ≡ 8 → asked (map string_bytes words.now) ≡ Some init_line → ⊥ }
     ensures disk_fault { result.status ≡ 2 → Rose (D.fault_count disk) (D.fault_count result.disk) }
     ensures read_fault { result.status ≡ 3 → Rose (S.faults input.old) (S.faults input.new) }
     ensures spent { result.status ≡ 9 → Gave (S.left input.old) (S.left input.new) take_limit }
     ensures write_fault { result.status ≡ 4 → Rose (W.faults out.old) (W.faults out.new) }
     ensures port_fault { result.status ≡ 7 → Rose (P.faults port.old) (P.faults port.new) }
-    ensures foreign { IsTrue D.honest → asked (map string_bytes words.now) ≡ Some init_line → result.status ≡ 5 → IsForeign (D.state disk).journal.seen }
+    ensures foreign { IsTrue D.honest → asked (map string_bytes words.now) ≡ Some init_line → result.status ≡ 5
+        → IsForeign (D.state disk).journal.seen }
 
     // A disk each of whose images has a history is opened, and has such images at every moment.
     ensures opened { IsTrue D.honest → IsSound (D.state disk) → result.status ≡ 5 → ⊥ }
-    ensures sound { IsTrue D.honest → IsSound (D.state disk) → KeepsTo D.state D.moment D.had_since disk result.disk IsSound }
+    ensures sound { IsTrue D.honest → IsSound (D.state disk)
+        → KeepsTo D.state D.moment D.had_since disk result.disk IsSound }
 
     // A command line is done, on such a disk or for init on one that is not foreign, where nothing outside fails and the
     // clock is not at its end.
     ensures complete { IsTrue D.honest → IsSome (asked (map string_bytes words.now))
-        → IsSound (D.state disk) ⊎ ((asked (map string_bytes words.now) ≡ Some init_line) × (IsForeign (D.state disk).journal.seen → ⊥))
-        → (Rose (D.fault_count disk) (D.fault_count result.disk) → ⊥) → (Rose (S.faults input.old) (S.faults input.new) → ⊥)
+        → IsSound (D.state disk) ⊎ ((asked (map string_bytes words.now) ≡ Some init_line)
+        × (IsForeign (D.state disk).journal.seen → ⊥))
+        → (Rose (D.fault_count disk) (D.fault_count result.disk) → ⊥)
+        → (Rose (S.faults input.old) (S.faults input.new) → ⊥)
         → (Rose (W.faults out.old) (W.faults out.new) → ⊥) → (Rose (P.faults port.old) (P.faults port.new) → ⊥)
         → (result.status ≡ 8 → ⊥) → IsDone result.status }
 {

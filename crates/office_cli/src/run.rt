@@ -39,9 +39,12 @@ fn answer<S: Source, W: Replies, D: Disk + Drop, C: Clock + Drop>(
 ) -> End<D, C>
     requires fresh { desk.stale ≡ false }
 
-    ensures answers { (disk : D) (clock : C) → Opens D.honest D.state D.moment D.had_since D.fault_count disk clock journal_limit desk
-        → AnswersStream D.Disk C.Clock W.Replies (S.left input.old) (around disk clock out.old) (around result.disk result.clock out.new) result.status }
-    ensures later { (S.faults input.old ≤ S.faults input.new) × (W.faults out.old ≤ W.faults out.new) × (D.fault_count desk.disk ≤ D.fault_count result.disk) }
+    ensures answers { (disk : D) (clock : C)
+        → Opens D.honest D.state D.moment D.had_since D.fault_count disk clock journal_limit desk
+        → AnswersStream D.Disk C.Clock W.Replies (S.left input.old) (around disk clock out.old)
+        (around result.disk result.clock out.new) result.status }
+    ensures later { (S.faults input.old ≤ S.faults input.new) × (W.faults out.old ≤ W.faults out.new)
+        × (D.fault_count desk.disk ≤ D.fault_count result.disk) }
     ensures statuses { IsSessionStatus result.status }
     ensures disk_fault { result.status ≡ 2 → Rose (D.fault_count desk.disk) (D.fault_count result.disk) }
     ensures read_fault { result.status ≡ 3 → Rose (S.faults input.old) (S.faults input.new) }
@@ -90,11 +93,15 @@ fn work<S: Source, W: Replies, D: Disk + Drop, C: Clock + Drop>(
     disk: D,
     clock: C,
 ) -> End<D, C>
-    ensures works { AnswersStream D.Disk C.Clock W.Replies (S.left input.old) (around disk clock out.old) (around result.disk result.clock out.new) result.status
-        ⊎ Refuses D.Disk C.Clock W.Replies (around disk clock out.old) (around result.disk result.clock out.new) result.status }
-    ensures sound { IsTrue D.honest → (history : List Entry) → HasAcceptedHistory history (D.state disk).journal.seen → result.status ≡ 5 → ⊥ }
+    ensures works { AnswersStream D.Disk C.Clock W.Replies (S.left input.old) (around disk clock out.old)
+        (around result.disk result.clock out.new) result.status
+        ⊎ Refuses D.Disk C.Clock W.Replies (around disk clock out.old) (around result.disk result.clock out.new)
+        result.status }
+    ensures sound { IsTrue D.honest → (history : List Entry)
+        → HasAcceptedHistory history (D.state disk).journal.seen → result.status ≡ 5 → ⊥ }
     ensures no_text { W.texts out.new ≡ W.texts out.old }
-    ensures later { (S.faults input.old ≤ S.faults input.new) × (W.faults out.old ≤ W.faults out.new) × (D.fault_count disk ≤ D.fault_count result.disk) }
+    ensures later { (S.faults input.old ≤ S.faults input.new) × (W.faults out.old ≤ W.faults out.new)
+        × (D.fault_count disk ≤ D.fault_count result.disk) }
     ensures statuses { IsRunStatus result.status }
     ensures unopened { result.status ≡ 5 → input.new ≡ input.old }
     ensures disk_fault { result.status ≡ 2 → Rose (D.fault_count disk) (D.fault_count result.disk) }
@@ -111,7 +118,8 @@ fn work<S: Source, W: Replies, D: Disk + Drop, C: Clock + Drop>(
 // Whether the next number of the clock is below the end of time.
 pub(crate) fn has_begun<C: Clock>(clock: &mut C) -> bool
     ensures once { C.count clock.new ≡ min (C.count clock.old + 1) (2 ^ 64 - 1) }
-    ensures told { C.count clock.new < 2 ^ 64 - 1 → Appends (C.told clock.old) (C.told clock.new) (C.last clock.new ∷ []) }
+    ensures told { C.count clock.new < 2 ^ 64 - 1
+        → Appends (C.told clock.old) (C.told clock.new) (C.last clock.new ∷ []) }
     ensures begun { IsTrue result → C.last clock.new < end_of_time }
     ensures ended { result ≡ false → end_of_time ≤ C.last clock.new }
 {
@@ -124,7 +132,8 @@ pub(crate) fn end_at_clock<W: Replies, D: Disk + Drop, C: Clock + Drop>(
     disk: D,
     clock: C,
 ) -> End<D, C>
-    ensures ends { Ends D.Disk C.Clock W.Replies (around disk clock out.old) (around result.disk result.clock out.new) result.status }
+    ensures ends { Ends D.Disk C.Clock W.Replies (around disk clock out.old)
+        (around result.disk result.clock out.new) result.status }
     ensures later { W.faults out.old ≤ W.faults out.new }
 {
     note_line(out, clock_line());
@@ -143,10 +152,13 @@ pub(crate) fn run<S: Source, W: Replies, D: Disk + Drop, C: Clock + Drop>(
     disk: D,
     mut clock: C,
 ) -> End<D, C>
-    ensures runs { Runs D.Disk C.Clock W.Replies (S.left input.old) (around disk clock out.old) (around result.disk result.clock out.new) result.status }
-    ensures sound { IsTrue D.honest → (history : List Entry) → HasAcceptedHistory history (D.state disk).journal.seen → result.status ≡ 5 → ⊥ }
+    ensures runs { Runs D.Disk C.Clock W.Replies (S.left input.old) (around disk clock out.old)
+        (around result.disk result.clock out.new) result.status }
+    ensures sound { IsTrue D.honest → (history : List Entry)
+        → HasAcceptedHistory history (D.state disk).journal.seen → result.status ≡ 5 → ⊥ }
     ensures no_text { W.texts out.new ≡ W.texts out.old }
-    ensures later { (S.faults input.old ≤ S.faults input.new) × (W.faults out.old ≤ W.faults out.new) × (D.fault_count disk ≤ D.fault_count result.disk) }
+    ensures later { (S.faults input.old ≤ S.faults input.new) × (W.faults out.old ≤ W.faults out.new)
+        × (D.fault_count disk ≤ D.fault_count result.disk) }
     ensures statuses { (result.status ≡ 8) ⊎ IsRunStatus result.status }
     ensures unopened { (result.status ≡ 5) ⊎ (result.status ≡ 8) → input.new ≡ input.old }
     ensures disk_fault { result.status ≡ 2 → Rose (D.fault_count disk) (D.fault_count result.disk) }

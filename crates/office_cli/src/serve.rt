@@ -62,8 +62,10 @@ where
     requires few { (0 < workers) × (workers ≤ 64) }
     requires fresh { desk.stale ≡ false }
 
-    ensures answers { (disk : D) (clock : C) → Opens D.honest D.state D.moment D.had_since D.fault_count disk clock journal_limit desk
-        → AnswersWorkers D.Disk C.Clock W.Replies (Connects P.Port workers connections port.old port.new) (around disk clock out.old) (around result.disk result.clock out.new) result.status }
+    ensures answers { (disk : D) (clock : C)
+        → Opens D.honest D.state D.moment D.had_since D.fault_count disk clock journal_limit desk
+        → AnswersWorkers D.Disk C.Clock W.Replies (Connects P.Port workers connections port.old port.new)
+        (around disk clock out.old) (around result.disk result.clock out.new) result.status }
     ensures later { (W.faults out.old ≤ W.faults out.new) × (D.fault_count desk.disk ≤ D.fault_count result.disk) }
     ensures statuses { IsWorkersStatus result.status }
     ensures disk_fault { result.status ≡ 2 → Rose (D.fault_count desk.disk) (D.fault_count result.disk) }
@@ -98,9 +100,12 @@ where
     P::Replies: Send,
     requires few { (0 < workers) × (workers ≤ 64) }
 
-    ensures works { AnswersWorkers D.Disk C.Clock W.Replies (Connects P.Port workers connections port.old port.new) (around disk clock out.old) (around result.disk result.clock out.new) result.status
-        ⊎ Refuses D.Disk C.Clock W.Replies (around disk clock out.old) (around result.disk result.clock out.new) result.status }
-    ensures sound { IsTrue D.honest → (history : List Entry) → HasAcceptedHistory history (D.state disk).journal.seen → result.status ≡ 5 → ⊥ }
+    ensures works { AnswersWorkers D.Disk C.Clock W.Replies (Connects P.Port workers connections port.old port.new)
+        (around disk clock out.old) (around result.disk result.clock out.new) result.status
+        ⊎ Refuses D.Disk C.Clock W.Replies (around disk clock out.old) (around result.disk result.clock out.new)
+        result.status }
+    ensures sound { IsTrue D.honest → (history : List Entry)
+        → HasAcceptedHistory history (D.state disk).journal.seen → result.status ≡ 5 → ⊥ }
     ensures unopened { result.status ≡ 5 → port.new ≡ port.old }
     ensures later { (W.faults out.old ≤ W.faults out.new) × (D.fault_count disk ≤ D.fault_count result.disk) }
     ensures statuses { IsServeStatus result.status }
@@ -148,8 +153,10 @@ where
     P::Replies: Send,
     requires few { (0 < workers) × (workers ≤ 64) }
 
-    ensures serves { Serves D.Disk C.Clock W.Replies (Connects P.Port workers connections port.old port.new) (around disk clock out.old) (around result.disk result.clock out.new) result.status }
-    ensures sound { IsTrue D.honest → (history : List Entry) → HasAcceptedHistory history (D.state disk).journal.seen → result.status ≡ 5 → ⊥ }
+    ensures serves { Serves D.Disk C.Clock W.Replies (Connects P.Port workers connections port.old port.new)
+        (around disk clock out.old) (around result.disk result.clock out.new) result.status }
+    ensures sound { IsTrue D.honest → (history : List Entry)
+        → HasAcceptedHistory history (D.state disk).journal.seen → result.status ≡ 5 → ⊥ }
     ensures unopened { (result.status ≡ 5) ⊎ (result.status ≡ 8) → port.new ≡ port.old }
     ensures later { (W.faults out.old ≤ W.faults out.new) × (D.fault_count disk ≤ D.fault_count result.disk) }
     ensures statuses { (result.status ≡ 8) ⊎ IsServeStatus result.status }
