@@ -89,3 +89,9 @@ seven_failed workers.NoMemory true status is seven = absurd (omega (arith, is, s
 seven_failed workers.NoMemory false status is seven = absurd (omega (arith, is, seven))
 seven_failed workers.Done true status is seven = absurd (omega (arith, is, seven))
 seven_failed workers.Done false status is seven = absurd (omega (arith, is, seven))
+
+pub zero_done : (end : WorkerEnd) (stale : Bool) (status : ℕ) → status ≡ workers_status end stale → status ≡ 0 → end ≡ workers.Done
+zero_done workers.Done stale status is zero = refl
+zero_done workers.PortFault stale status is zero = absurd (omega (arith, is, zero))
+zero_done workers.NoMemory true status is zero = absurd (omega (arith, is, zero))
+zero_done workers.NoMemory false status is zero = absurd (omega (arith, is, zero))

@@ -155,6 +155,7 @@ where
     ensures spent { result.status ≡ 9 → Gave (S.left input.old) (S.left input.new) take_limit }
     ensures write_fault { result.status ≡ 4 → Rose (W.faults out.old) (W.faults out.new) }
     ensures port_fault { result.status ≡ 7 → Rose (P.faults port.old) (P.faults port.new) }
+    ensures port_done { result.status ≡ 0 → P.faults port.new ≤ P.faults port.old }
     ensures foreign { IsTrue D.honest → asked (map string_bytes words.now) ≡ Some init_line → result.status ≡ 5
         → IsForeign (D.state disk).journal.seen }
 

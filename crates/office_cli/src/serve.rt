@@ -70,6 +70,7 @@ where
     ensures statuses { IsWorkersStatus result.status }
     ensures disk_fault { result.status ≡ 2 → Rose (D.fault_count desk.disk) (D.fault_count result.disk) }
     ensures port_fault { result.status ≡ 7 → Rose (P.faults port.old) (P.faults port.new) }
+    ensures port_done { result.status ≡ 0 → P.faults port.new ≤ P.faults port.old }
     ensures balanced { IsBalanced P.Port port.old port.new }
 {
     let closed = serve_office(rt, alloc, desk, port, address, gate, workers, connections);
@@ -111,6 +112,7 @@ where
     ensures statuses { IsServeStatus result.status }
     ensures disk_fault { result.status ≡ 2 → Rose (D.fault_count disk) (D.fault_count result.disk) }
     ensures port_fault { result.status ≡ 7 → Rose (P.faults port.old) (P.faults port.new) }
+    ensures port_done { result.status ≡ 0 → P.faults port.new ≤ P.faults port.old }
     ensures balanced { IsBalanced P.Port port.old port.new }
 {
     match Desk::open(alloc, disk, clock, JOURNAL_LIMIT) {
@@ -162,6 +164,7 @@ where
     ensures statuses { (result.status ≡ 8) ⊎ IsServeStatus result.status }
     ensures disk_fault { result.status ≡ 2 → Rose (D.fault_count disk) (D.fault_count result.disk) }
     ensures port_fault { result.status ≡ 7 → Rose (P.faults port.old) (P.faults port.new) }
+    ensures port_done { result.status ≡ 0 → P.faults port.new ≤ P.faults port.old }
     ensures balanced { IsBalanced P.Port port.old port.new }
 {
     if !has_begun(&mut clock) {

@@ -4,7 +4,7 @@ use Rattle.desk_core.specs.Runs.{AnswersCalls, outside}
 use Rattle.serving.specs.Serving.{log_calls}
 use Rattle.office_cli.specs.Lines.{workers_status, workers_note}
 use Rattle.office_cli.specs.Running.{journal_limit, IsNoted}
-use Rattle.office_cli.proofs.Answering.{two_stale_workers, seven_failed}
+use Rattle.office_cli.proofs.Answering.{two_stale_workers, seven_failed, zero_done}
 use Rattle.office_cli.proofs.serve.answer.Goals as goal
 
 pub returns-clause-answers : goal.returns-clause-answers
@@ -31,3 +31,8 @@ pub returns-clause-balanced : goal.returns-clause-balanced
 returns-clause-balanced g c =
     let counts = c.serve_office-closed.ensures.counts in
     inr (counts.count, counts.given, counts.ended)
+
+pub returns-clause-port_done : goal.returns-clause-port_done
+returns-clause-port_done g c zero =
+    let closed = c.serve_office-closed in
+    closed.ensures.quiet (zero_done closed.result.end closed.result.stale c.close.result.status c.close.ensures.status zero)
