@@ -1,5 +1,6 @@
 -- Worked examples, computed.
 use Rattle.std.proofs.Common.{◌≡◌, ℕ, ◌+◌, ◌*◌, [], ◌∷◌, refl}
+use Rattle.std.specs.Prelude.{replicate}
 use Rattle.jiff_core.specs.Calendar.{days_of_months}
 use Rattle.moments.specs.Time.{day}
 use Rattle.moments.specs.Months.{first_day}
@@ -8,6 +9,8 @@ use Rattle.class_rules.specs.declared.class.Class.TheVariants.{Standard, Standar
 use Rattle.accrual.specs.Books.{Book, empty_book, open_stay, ended_stay, with_early}
 use Rattle.accrual.specs.Meters.{meter, early_quantity, move_count}
 use Rattle.accrual.specs.Totals.{ended_sum, running_sum, since_sum, with_early_of}
+use Rattle.accrual.specs.Sums.{listed}
+use Rattle.accrual.specs.declared.monthly.MonthSums.{MonthSums}
 
 -- 2024-01-01 00:00 UTC; January 2024 is month 648, counted from January 1970
 abbrev new_year : ℕ
@@ -75,6 +78,16 @@ running_in_january = refl
 since_in_january : since_sum january Standard two_puts ≡ 2_000 * day
 unfolding since_sum first_day days_of_months
 since_in_january = refl
+
+-- what a list says of a month that it has, and of one that it has not
+abbrev sums_of_january : MonthSums
+sums_of_january = record { month = january; ended = 1_000 * day ∷ 0 ∷ 0 ∷ 0 ∷ 0 ∷ 0 ∷ []; early = replicate 6 0; moves = replicate 6 0 }
+
+listed_in_january : listed (λ s. s.ended) (sums_of_january ∷ []) january Standard ≡ 1_000 * day
+listed_in_january = refl
+
+not_listed : listed (λ s. s.ended) (sums_of_january ∷ []) (january + 1) Standard ≡ 0
+not_listed = refl
 
 -- what leaves after 10 days owes 20 more, what leaves after exactly 30 days owes nothing
 owed : with_early_of StandardIa 131_072 new_year (new_year + 10 * day) empty_book

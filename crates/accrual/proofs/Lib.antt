@@ -5,5 +5,6 @@ pub mod Changes
 pub mod Examples
 pub mod Places
 pub mod Settling
+pub mod Summing
 pub mod Sums
 pub mod Windows

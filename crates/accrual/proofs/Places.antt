@@ -8,7 +8,7 @@ use Rattle.std.proofs.lemmas.List.{get_or-set_same, get_or-set_other, get_or_def
 use Rattle.accrual.specs.declared.rows.Kept.{Kept}
 use Rattle.accrual.specs.declared.rows.Rows.{Rows}
 use Rattle.accrual.proofs.Cases.{by_less, by_same}
-use Rattle.accrual.specs.Kept.{nothing, kept_in, HasRowIn, IsPut}
+use Rattle.accrual.specs.Kept.{nothing, kept_in, HasRowIn, IsPut, IsRowPut}
 
 -- before the first row and behind the last one nothing is kept
 pub kept_before : (rows : Rows) (month rank : ℕ) → month < rows.first → kept_in rows month rank ≡ nothing
@@ -66,6 +66,20 @@ put_is old new month rank kept list has small is six first items as_many = recor
   others = λ m r other. kept_same old new m r first as_many (λ row.
       ap (λ k. get_or (get_or new.rows.items (m - k) []) r nothing) first ∙ (ap (λ (l : List (List Kept)). get_or (get_or l (m - old.first) []) r nothing) items
       ∙ other_place old.rows.items list kept (month - old.first) (m - old.first) r rank (differs_too month m old.first r rank has.0 row.0 other) (omega (arith, has)) is));
+  first = first;
+  as_many = as_many;
+}
+
+pub row_put_is : (old new : Rows) (month : ℕ) (row : List Kept) → HasRowIn old month → new.first ≡ old.first → new.rows.items ≡ set old.rows.items (month - old.first) row
+    → length new.rows.items ≡ length old.rows.items → IsRowPut old new month row
+row_put_is old new month row has first items as_many = record {
+  there = λ r.
+      let here : get_or new.rows.items (month - old.first) [] ≡ row = ap (λ (l : List (List Kept)). get_or l (month - old.first) []) items ∙ get_or-set_same old.rows.items (month - old.first) row [] (omega (arith, has)) in
+      kept_row new month r (omega (arith, has, first), omega (arith, has, first, as_many))
+      ∙ (ap (λ k. get_or (get_or new.rows.items (month - k) []) r nothing) first ∙ ap (λ (l : List Kept). get_or l r nothing) here);
+  others = λ m r other. kept_same old new m r first as_many (λ there.
+      ap (λ k. get_or (get_or new.rows.items (m - k) []) r nothing) first ∙ (ap (λ (l : List (List Kept)). get_or (get_or l (m - old.first) []) r nothing) items
+      ∙ ap (λ (l : List Kept). get_or l r nothing) (get_or-set_other old.rows.items (month - old.first) (m - old.first) row [] (omega (arith, has, there, other)))));
   first = first;
   as_many = as_many;
 }

@@ -1,5 +1,5 @@
 -- The kept numbers by month and class.
-use Rattle.std.specs.Prelude.{◌≡◌, ◌≢◌, ◌⊎◌, ℕ, zero, suc, ◌+◌, ◌-◌, ◌*◌, ◌^◌, ◌<◌, ◌≤◌, ◌&&◌, ◌==◌, [], length, get_or, nat_le, if◌then◌else◌}
+use Rattle.std.specs.Prelude.{◌≡◌, ◌≢◌, ◌⊎◌, ℕ, zero, suc, ◌+◌, ◌-◌, ◌*◌, ◌^◌, ◌<◌, ◌≤◌, ◌&&◌, ◌==◌, List, [], length, get_or, nat_le, if◌then◌else◌}
 use Rattle.class_rules.specs.Classes.{rank_of}
 use Rattle.class_rules.specs.Lines.{lines_of}
 use Rattle.class_rules.specs.declared.class.Class.{Class}
@@ -22,6 +22,13 @@ HasRowIn rows month = (rows.first ≤ month) × (month < rows.first + length row
 pub record IsPut (old new : Rows) (month rank : ℕ) (kept : Kept) : Type 0 where
   pub there : kept_in new month rank ≡ kept
   pub others : (m r : ℕ) → (m ≢ month) ⊎ (r ≢ rank) → kept_in new m r ≡ kept_in old m r
+  pub first : new.first ≡ old.first
+  pub as_many : length new.rows.items ≡ length old.rows.items
+
+-- one row was written
+pub record IsRowPut (old new : Rows) (month : ℕ) (row : List Kept) : Type 0 where
+  pub there : (r : ℕ) → kept_in new month r ≡ get_or row r nothing
+  pub others : (m r : ℕ) → m ≢ month → kept_in new m r ≡ kept_in old m r
   pub first : new.first ≡ old.first
   pub as_many : length new.rows.items ≡ length old.rows.items
 

@@ -11,7 +11,7 @@ use Rattle.accrual.specs.Books.{Stay, Book, open_stay, with_early}
 use Rattle.accrual.specs.Meters.{bytes_in, is_in_month, early_quantity, move_count}
 use Rattle.accrual.specs.Kept.{kept_in, HasRowIn}
 
--- what the meters are to their callers: rows by month, and the number of calls that booked something
+-- what the meters are to their callers: rows by month, and the number of calls of open, early and moved
 pub record Totals : Type 0 where
   pub rows : Rows
   pub booked : ℕ
@@ -23,9 +23,10 @@ kept totals month class = kept_in totals.rows month (rank_of class)
 abbrev pub HasRow : Totals → ℕ → Type 0
 HasRow totals month = HasRowIn totals.rows month
 
--- how often the meters book (own: so no sum leaves its range)
+-- the most calls of open, early and moved; an end is paid for by its opening (own: no sum then leaves its range, and three
+-- such calls in each of 2 ^ 42 commands are within it, with 2 ^ 20 before them)
 abbrev pub most_bookings : ℕ
-most_bookings = 2 ^ 44
+most_bookings = 3 * 2 ^ 42 + 2 ^ 20
 
 -- ---- what is kept of one stay
 

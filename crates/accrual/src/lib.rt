@@ -3,8 +3,10 @@
 
 mod calendar;
 mod meters;
+mod monthly;
 mod rows;
 #[cfg(test)]
 mod tests;
 
 pub use meters::Meters;
+pub use monthly::MonthSums;

@@ -1,13 +1,15 @@
 // The meters of one bucket.
-ghost use Rattle.std.specs.Prelude.{◌≡◌, ◌+◌, ◌<◌, ◌≤◌, ℕ, List, ◌++◌, ◌∷◌, OnOk};
+ghost use Rattle.std.specs.Prelude.{◌≡◌, ◌+◌, ◌^◌, ◌<◌, ◌≤◌, ℕ, List, ◌++◌, ◌∷◌, OnOk, IfOk, IsFalse, All};
 ghost use Rattle.office_base.specs.Sizes.{largest_size};
 ghost use Rattle.moments.specs.Months.{month_at};
 ghost use Rattle.class_rules.specs.Lines.{lines_of};
 ghost use Rattle.accrual.specs.Books.{Stay, Book, empty_book, open_stay, ended_stay, with_stay, with_move, IsBookedBy};
 ghost use Rattle.accrual.specs.Meters.{meter, early_quantity, move_count};
+ghost use Rattle.accrual.specs.Sums.{AreSumsOf, HasAllEnded, HaveRisingMonths, IsSmallMonth, is_nothing};
 ghost use Rattle.accrual.specs.Totals.{HasRow, StandsFor, HasOpenStay, IsBilled, most_bookings, with_early_of};
 
 use crate::calendar::number_of;
+use crate::monthly::MonthSums;
 use crate::rows::{Kept, NOTHING, Rows};
 use class_rules::{Class, Lines, least_duration};
 use moments::{Moment, Month, month_of, month_window};
@@ -22,7 +24,7 @@ use std::marker::Model;
 #[derive(Drop)]
 pub struct Meters {
     rows: Rows,
-    // The calls that booked something.
+    // The calls of `open`, `early` and `moved`.
     booked: u64,
 }
 
@@ -49,11 +51,47 @@ impl Meters {
         }
     }
 
-    /// Reads how many calls have booked something.
+    /// Reads how many calls of `open`, `early` and `moved` there were. `end` is not counted: its opening paid for it.
     pub fn booked(&self) -> u64
         ensures { result ≡ self.now.booked }
     {
         self.booked
+    }
+
+    /// Gives meters with these sums, in which no stay is without an end. The months strictly rise, the byte-milliseconds
+    /// are below 2^120 and the moves below 2^62.
+    ///
+    /// # Errors
+    ///
+    /// `NoMemory`: memory ran out.
+    pub fn from_sums(alloc: Global, sums: &[MonthSums]) -> Result<Meters, NoMemory>
+        requires rising { HaveRisingMonths sums.now }
+        requires small { All IsSmallMonth sums.now }
+        ensures stands { IfOk result (λ meters. (book : Book) → HasAllEnded book → AreSumsOf book sums.now
+            → StandsFor meters book) }
+        ensures booked { IfOk result (λ meters. meters.booked ≡ 0) }
+    {
+        match Rows::from_sums(alloc, sums) {
+            Ok(rows) => Ok(Meters { rows, booked: 0 }),
+            Err(_) => Err(NoMemory),
+        }
+    }
+
+    /// Lists the sums of the months, in order, without the stays that have no end yet. A month in which all are 0 is left
+    /// out.
+    ///
+    /// # Errors
+    ///
+    /// `NoMemory`: memory ran out.
+    pub fn sums(&self) -> Result<Vec<MonthSums>, NoMemory>
+        ensures exact { IfOk result (λ sums. (book : Book) → StandsFor self.now book → AreSumsOf book sums.items) }
+        ensures rising { IfOk result (λ sums. HaveRisingMonths sums.items) }
+        ensures some { IfOk result (λ sums. All (λ month. IsFalse (is_nothing month)) sums.items) }
+    {
+        match self.rows.sums() {
+            Ok(sums) => Ok(sums),
+            Err(_) => Err(NoMemory),
+        }
     }
 
     /// Makes rows for these months, and all between them and the rows that are there.
@@ -93,19 +131,17 @@ impl Meters {
     pub fn end(&mut self, lines: &Lines, from: Moment, at: Moment)
         requires later { from ≤ at }
         requires rows { (month : ℕ) → month_at from ≤ month → month ≤ month_at at → HasRow self.old month }
-        requires few { self.old.booked < most_bookings }
         requires billed { IsBilled lines.now }
         requires opened { (book : Book) × StandsFor self.old book × HasOpenStay (lines_of lines.now) from book }
         ensures stands { (book : Book) (before after : List Stay) → StandsFor self.old book → book.stays ≡ before ++ open_stay (lines_of lines.now) from ∷ after
             → StandsFor self.new (record book { stays = before ++ ended_stay (lines_of lines.now) from at ∷ after }) }
         ensures rows { (month : ℕ) → HasRow self.old month → HasRow self.new month }
-        ensures booked { self.new.booked ≡ self.old.booked + 1 }
+        ensures booked { self.new.booked ≡ self.old.booked }
     {
         let month = month_of(from);
         let (start, _) = month_window(month);
         self.rows.finish(lines, number_of(month), from.ms() - start);
         self.rows.settle(lines, from, at);
-        self.booked += 1;
     }
 
     /// Books what an object owes that entered this class at `entered`, has this many bytes on its own line, and leaves at `at`:
@@ -151,6 +187,7 @@ impl Meters {
     /// memory.
     pub fn reading(&self, month: Month, class: Class, t: Moment) -> u128
         ensures exact { (book : Book) → StandsFor self.now book → IsBookedBy t book → result ≡ meter month class t book }
+        ensures small { result < 2 ^ 121 }
     {
         let (start, end) = month_window(month);
         let ms = t.ms().min(end).saturating_sub(start);
@@ -162,6 +199,7 @@ impl Meters {
     /// Reads the early quantities of a month and a class, in byte-milliseconds. Takes no memory.
     pub fn early_of(&self, month: Month, class: Class) -> u128
         ensures exact { (book : Book) → StandsFor self.now book → result ≡ early_quantity month class book }
+        ensures small { result < 2 ^ 121 }
     {
         self.rows.kept(number_of(month), class).early
     }
@@ -169,6 +207,7 @@ impl Meters {
     /// Reads how many lifecycle transitions to the class the month had. Takes no memory.
     pub fn moves_of(&self, month: Month, class: Class) -> u64
         ensures exact { (book : Book) → StandsFor self.now book → result ≡ move_count month class book }
+        ensures small { result < 2 ^ 63 }
     {
         self.rows.kept(number_of(month), class).moves
     }

@@ -1,7 +1,7 @@
 // The kept numbers, a row for each month.
 ghost use Rattle.std.specs.Prelude.{OnOk, OnErr, ◌^◌, ◌≡◌, ◌≢◌, ◌⊎◌, ◌<◌, ◌≤◌, ◌+◌, ◌-◌, ℕ, length, slice_set};
 ghost use Rattle.class_rules.specs.Classes.{rank_of};
-ghost use Rattle.accrual.specs.Kept.{kept_in, HasRowIn, IsPut, IsAdded, HasRoom, IsWithin, IsModest, IsBegun, HasBegun, IsSettled, IsEnded, running_to, begun_numbers, ended_numbers};
+ghost use Rattle.accrual.specs.Kept.{kept_in, HasRowIn, IsPut, IsRowPut, IsAdded, HasRoom, IsWithin, IsModest, IsBegun, HasBegun, IsSettled, IsEnded, running_to, begun_numbers, ended_numbers};
 ghost use Rattle.class_rules.specs.declared.class.Class.{Class};
 ghost use Rattle.moments.specs.Months.{months, month_at, month_start, month_end};
 ghost use Rattle.accrual.specs.Totals.{IsBilled, ms_within};
@@ -71,6 +71,14 @@ impl Rows {
         ensures { IsPut self.old self.new month (rank_of class) kept }
     {
         place(&mut self.rows[(month - self.first) as usize], class, kept);
+    }
+
+    // Writes a month's row.
+    pub(crate) fn put_row(&mut self, month: u64, row: [Kept; 6])
+        requires { HasRowIn self.old month }
+        ensures { IsRowPut self.old self.new month row }
+    {
+        self.rows[(month - self.first) as usize] = row;
     }
 
     // Adds to what is kept.

@@ -1,5 +1,6 @@
-ghost use Rattle.std.specs.Prelude.{◌≡◌, ◌+◌, ◌<◌, ◌≤◌};
+ghost use Rattle.std.specs.Prelude.{◌≡◌, ◌+◌, ◌<◌, ◌≤◌, All, true};
 ghost use Rattle.accrual.specs.Books.{Book};
+ghost use Rattle.accrual.specs.Sums.{HasAllEnded, IsSmallMonth};
 ghost use Rattle.accrual.specs.Totals.{StandsFor, IsBilled};
 
 use super::*;
@@ -197,4 +198,117 @@ fn moves(rt: HostRuntime) {
     assert_eq!(rt; meters.moves_of(month(&rt, 2024, 1), Class::StandardIa), 1);
     assert_eq!(rt; meters.moves_of(month(&rt, 2024, 1), Class::Standard), 0);
     assert_eq!(rt; meters.moves_of(month(&rt, 2023, 12), Class::StandardIa), 0);
+}
+
+// Whether meters can go on from the sums of this month.
+fn is_small(month: &MonthSums) -> bool
+    ensures { result ≡ true → IsSmallMonth month.now }
+{
+    let most = 1u128 << 120;
+    month.ended.iter().all(|n| *n < most)
+        && month.early.iter().all(|n| *n < most)
+        && month.moves.iter().all(|n| *n < 1 << 62)
+}
+
+fn are_small(sums: &[MonthSums]) -> bool
+    ensures { result ≡ true → All IsSmallMonth sums.now }
+{
+    for month in sums {
+        if !is_small(month) {
+            return false;
+        }
+    }
+    true
+}
+
+// Meters that go on from the sums of others stand for the same books, those with a stay that has no end left out.
+fn gone_on(rt: &impl Abort, alloc: Global, meters: &Meters) -> Meters
+    ensures { (book : Book) → StandsFor meters.now book → HasAllEnded book → StandsFor result book }
+{
+    let months = meters.sums().expect(rt, "memory");
+    let sums = months.as_slice();
+    assert!(rt; are_small(sums));
+    Meters::from_sums(alloc, sums).expect(rt, "memory")
+}
+
+// The sums of a month in which stays ended, and nothing else was booked.
+fn ended(rt: &impl Abort, number: u8, ended: [u128; 6]) -> MonthSums {
+    MonthSums {
+        month: month(rt, 2024, number),
+        ended,
+        early: [0; 6],
+        moves: [0; 6],
+    }
+}
+
+#[test]
+fn sums_of_stays(rt: HostRuntime) {
+    let standard = Class::Standard;
+    let nothing = (standard, 0, NEW_YEAR, None);
+    let open = (standard, 1_000, NEW_YEAR, None);
+    // From 2024-01-31 to 2024-03-02, over the leap February.
+    let over = (standard, 1, NEW_YEAR + 30 * DAY, Some(NEW_YEAR + 61 * DAY));
+    let march = (
+        Class::Glacier,
+        6_144,
+        NEW_YEAR + 60 * DAY,
+        Some(NEW_YEAR + 61 * DAY),
+    );
+    let months = [
+        ended(&rt, 1, [86_400_000, 0, 0, 0, 0, 0]),
+        ended(&rt, 2, [2_505_600_000, 0, 0, 0, 0, 0]),
+        ended(&rt, 3, [86_400_000, 0, 0, 0, 0, 0]),
+    ];
+    let archived = [ended(
+        &rt,
+        3,
+        [8_192 * 86_400_000, 0, 0, 0, 38_912 * 86_400_000, 0],
+    )];
+    // What is booked, and the months listed of it.
+    let cases: [((Stay, Stay), &[MonthSums]); 4] = [
+        ((open, nothing), &[]),
+        ((over, open), &months),
+        ((open, march), &archived),
+        (((standard, 7, NEW_YEAR, Some(NEW_YEAR)), nothing), &[]),
+    ];
+    for ((first, second), wanted) in cases {
+        let meters = after(&rt, rt.alloc(), first, second);
+        let sums = meters.sums().expect(&rt, "memory");
+        assert_eq!(rt; sums.as_slice(), wanted);
+    }
+}
+
+#[test]
+fn meters_that_go_on(rt: HostRuntime) {
+    let warm = Class::StandardIa;
+    let (from, to) = (NEW_YEAR + 30 * DAY, NEW_YEAR + 61 * DAY);
+    let stays = (
+        (warm, 131_072, from, Some(to)),
+        (Class::Standard, 7, to, Some(to + DAY)),
+    );
+    let mut meters = after(&rt, rt.alloc(), stays.0, stays.1);
+    let (entered, at) = (moment(&rt, to - 10 * DAY), moment(&rt, to));
+    meters
+        .reserve(month_of(at), month_of(at))
+        .expect(&rt, "memory");
+    assert!(rt; meters.booked() < 1_000 && entered.ms() <= at.ms());
+    meters.early(warm, 131_072, entered, at);
+    meters.moved(warm, at);
+    let again = gone_on(&rt, rt.alloc(), &meters);
+    assert_eq!(rt; again.booked(), 0);
+    // The month, the class, its byte-milliseconds, what was owed, and the moves.
+    let cases = [
+        (1, warm, 131_072 * 86_400_000, 0, 0),
+        (2, warm, 131_072 * 2_505_600_000, 0, 0),
+        (3, warm, 131_072 * 86_400_000, 226_492_416_000_000, 1),
+        (3, Class::Standard, 7 * 86_400_000, 0, 0),
+        (4, warm, 0, 0, 0),
+    ];
+    let t = moment(&rt, to + 40 * DAY);
+    for (number, class, used, owed, moves) in cases {
+        let month = month(&rt, 2024, number);
+        assert_eq!(rt; again.reading(month, class, t), used);
+        assert_eq!(rt; again.early_of(month, class), owed);
+        assert_eq!(rt; again.moves_of(month, class), moves);
+    }
 }

@@ -1,5 +1,6 @@
 pub mod Faults
 pub mod Keys
+pub mod Maps
 pub mod Names
 pub mod Sizes
 pub mod Tags

@@ -3,18 +3,22 @@
 
 mod bucket_name;
 mod failed;
+mod items;
 mod key;
 mod refusal;
 mod size;
 mod tags;
 #[cfg(test)]
 mod tests;
+mod text;
 mod version_id;
 
 pub use bucket_name::BucketName;
 pub use failed::{Failed, NoMemory};
+pub use items::Items;
 pub use key::Key;
 pub use refusal::NameRefusal;
 pub use size::Size;
-pub use tags::{Tags, tag_order};
+pub use tags::{TagList, Tags, tag_order};
+pub use text::Text;
 pub use version_id::{Nth, VersionId};

@@ -1,5 +1,5 @@
 // The tags of an object.
-ghost use Rattle.std.specs.Prelude.{◌≡◌, ◌≤◌, ◌↔◌, ◌⊎◌, true, false, length, IfOk, OnOk, IfErr, IsErrOf, List, IsPermutation, nat_le, string_bytes};
+ghost use Rattle.std.specs.Prelude.{◌≡◌, ◌≤◌, ◌==◌, ◌↔◌, ◌⊎◌, true, false, length, IfOk, OnOk, IfErr, IsErrOf, List, IsPermutation, nat_le, string_bytes};
 ghost use Rattle.std.specs.List.{list_all, list_any, prefix_len};
 ghost use Rattle.std.specs.Str.{is_utf8, bytes_eq};
 ghost use Rattle.office_base.specs.Tags.{Tag, keys_rise, char_count, is_tag, has_key, keys_differ, are_tags, comes_before, with_tag, by_key, AreTags, tag_of, tags_of};
@@ -28,11 +28,26 @@ impl Model for Tags {
 }
 
 #[tactic(auto, using(crate::proofs::Utf8::utf8_is))]
-fn count_chars(text: &str) -> usize
+pub(crate) fn count_chars(text: &str) -> usize
     ensures count { result ≡ char_count text.now }
     ensures utf8 { is_utf8 text.now ≡ true }
 {
     text.chars().count()
+}
+
+/// Pairs of a key and a value as somebody wrote them, in any order and of any length; `are_tags` tells whether they are tags.
+#[derive(Drop)]
+pub struct TagList {
+    pairs: Vec<(String, String)>,
+}
+
+impl Model for TagList {
+    ghost use Rattle.std.specs.Prelude.{List};
+    ghost use Rattle.office_base.specs.Tags.{Tag, tags_of};
+
+    ghost Value = { List Tag };
+
+    ghost view = { λ t. tags_of t.pairs.items };
 }
 
 #[tactic(auto, unfolding(crate::specs::Tags::is_tag))]
@@ -179,6 +194,45 @@ impl Tags {
         ensures tags { AreTags self.now }
     {
         &self.pairs
+    }
+}
+
+impl TagList {
+    /// Takes the pairs over. Takes no memory.
+    pub fn of(pairs: Vec<(String, String)>) -> TagList
+        ensures { result ≡ tags_of pairs.items }
+    {
+        TagList { pairs }
+    }
+
+    /// Reads the pairs.
+    pub fn pairs(&self) -> &[(String, String)]
+        ensures { tags_of result.now ≡ self.now }
+    {
+        &self.pairs
+    }
+
+    /// Tells whether there is no pair.
+    #[tactic(auto, using(crate::proofs::InOrder::length_tags))]
+    pub fn is_empty(&self) -> bool
+        ensures { result ≡ (length self.now == 0) }
+    {
+        self.pairs.is_empty()
+    }
+
+    /// Tells whether `Tags::read` would take the pairs. Takes no memory.
+    pub fn are_tags(&self) -> bool
+        ensures { result ≡ are_tags self.now }
+    {
+        is_valid(&self.pairs)
+    }
+
+    /// Copies the pairs. Fails only for want of memory.
+    pub fn copy(&self) -> Result<TagList, AllocError>
+        ensures { IfOk result (λ tags. tags ≡ self.now) }
+    {
+        let pairs = copies(&self.pairs)?;
+        Ok(TagList { pairs })
     }
 }
 

@@ -71,14 +71,14 @@ impl Account {
         counts: Counts,
     ) -> Result<Counts, Refusal>
         requires stands { (account : plain.Account) × StandsForBucket self.old account × IsOrderlyAccount object.now.created account }
-        requires few { self.old.meters.booked + 3 ≤ most_bookings }
+        requires few { self.old.meters.booked + 2 ≤ most_bookings }
         requires versions { counts.versions ≤ limit_of Versions }
         requires names { counts.names ≤ limit_of Names }
         ensures counts { IfOk result (λ after. Ok (after.versions, after.names) ≡ counted (counts.versions + added key.now 1 self.old.objects) (counts.names + added key.now (length key.now) self.old.objects)) }
         ensures refused { IfErr result (λ refusal. (Err refusal ≡ counted (counts.versions + added key.now 1 self.old.objects) (counts.names + added key.now (length key.now) self.old.objects)) ⊎ (refusal ≡ Refusal.NoMemory)) }
         ensures stored { OnOk result ((account : plain.Account) → StandsForBucket self.old account → IsOrderlyAccount object.now.created account → StandsForBucket self.new (put_object key.now object.now account)) }
         ensures kept { OnErr result ((account : plain.Account) → StandsForBucket self.old account → StandsForBucket self.new account) }
-        ensures booked { self.new.meters.booked ≤ self.old.meters.booked + 3 }
+        ensures booked { self.new.meters.booked ≤ self.old.meters.booked + 2 }
         ensures not_booked { OnErr result (self.new.meters.booked ≡ self.old.meters.booked) }
     {
         if self.replace(key, object)? {
@@ -105,13 +105,13 @@ impl Account {
     // Puts an object in the place of the one that its key has, and tells whether it has one.
     fn replace(&mut self, key: &Key, object: &Object) -> Result<bool, Refusal>
         requires stands { (account : plain.Account) × StandsForBucket self.old account × IsOrderlyAccount object.now.created account }
-        requires few { self.old.meters.booked + 3 ≤ most_bookings }
+        requires few { self.old.meters.booked + 2 ≤ most_bookings }
         ensures there { IfOk result (λ there. there ≡ is_some (at_name key.now self.old.objects)) }
         ensures done { result ≡ Ok true → (account : plain.Account) → StandsForBucket self.old account → IsOrderlyAccount object.now.created account → StandsForBucket self.new (put_object key.now object.now account) }
         ensures other { result ≡ Ok false → self.new ≡ self.old }
         ensures err { OnErr result ((account : plain.Account) → StandsForBucket self.old account → StandsForBucket self.new account) }
         ensures refusal { IfErr result (λ refusal. refusal ≡ Refusal.NoMemory) }
-        ensures booked { self.new.meters.booked ≤ self.old.meters.booked + 3 }
+        ensures booked { self.new.meters.booked ≤ self.old.meters.booked + 2 }
         ensures not_booked { OnErr result (self.new.meters.booked ≡ self.old.meters.booked) }
     {
         let at = object.created;
@@ -129,11 +129,11 @@ impl Account {
     // Puts an object under a key that has none.
     fn add(&mut self, key: &Key, object: &Object) -> Result<(), Refusal>
         requires absent { at_name key.now self.old.objects ≡ None }
-        requires few { self.old.meters.booked + 3 ≤ most_bookings }
+        requires few { self.old.meters.booked + 2 ≤ most_bookings }
         ensures done { OnOk result ((account : plain.Account) → StandsForBucket self.old account → StandsForBucket self.new (put_object key.now object.now account)) }
         ensures err { OnErr result ((account : plain.Account) → StandsForBucket self.old account → StandsForBucket self.new account) }
         ensures refusal { IfErr result (λ refusal. refusal ≡ Refusal.NoMemory) }
-        ensures booked { self.new.meters.booked ≤ self.old.meters.booked + 3 }
+        ensures booked { self.new.meters.booked ≤ self.old.meters.booked + 2 }
         ensures not_booked { OnErr result (self.new.meters.booked ≡ self.old.meters.booked) }
     {
         let at = object.created;
@@ -198,10 +198,10 @@ fn reserve(meters: &mut Meters, from: Moment, to: Moment) -> Result<(), Refusal>
 fn rebook(meters: &mut Meters, before: &Object, object: &Object)
     requires later { before.now.created ≤ object.now.created }
     requires rows { (month : ℕ) → month_at before.now.created ≤ month → month ≤ month_at object.now.created → HasRow meters.old month }
-    requires few { meters.old.booked + 3 ≤ most_bookings }
+    requires few { meters.old.booked + 2 ≤ most_bookings }
     requires open { (book : Book) × StandsFor meters.old book × HasOpenStay (object_lines before.now.class before.now.size) before.now.created book }
     ensures stands { (book : Book) (earlier later : List Stay) → StandsFor meters.old book → book.stays ≡ earlier ++ stay_of before.now ∷ later → StandsFor meters.new (record { stays = (earlier ++ ended_stay (object_lines before.now.class before.now.size) before.now.created object.now.created ∷ later) ++ stay_of object.now ∷ []; early = book.early ++ owed_at object.now.created before.now; moves = book.moves }) }
-    ensures booked { meters.new.booked ≡ meters.old.booked + 3 }
+    ensures booked { meters.new.booked ≡ meters.old.booked + 2 }
 {
     let from = before.created;
     let at = object.created;

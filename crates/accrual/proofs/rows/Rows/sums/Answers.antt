@@ -1,0 +1,25 @@
+use Rattle.std.proofs.Common.{◌≡◌, ◌++◌, ◌∷◌, [], ◌+◌, subst, sym, ap, ◌∙◌, arith}
+use Rattle.accrual.proofs.Places.{kept_before, kept_behind}
+use Rattle.accrual.proofs.Summing.{AreSumsTo, listed_none, listed_more, listed_same, listed_all}
+use Rattle.accrual.proofs.rows.Rows.sums.Goals as goal
+use Rattle.accrual.proofs.rows.Rows.sums.Goals.{in-Some+in_ok-push, in_default}
+
+pub loop-number-init : goal.loop-number-init
+loop-number-init c =
+    subst (λ l. AreSumsTo c.args.self.now c.args.self.now.first l) (sym c.new-all.ensures.items)
+    (listed_none c.args.self.now c.args.self.now.first (λ m rank less. kept_before c.args.self.now m rank less))
+
+pub loop-number-preserved : goal.loop-number-preserved
+loop-number-preserved c =
+    elim c.match-sums_in.branch [
+      | in-Some+in_ok-push w ↦
+          let e : c.loop-number.all.items ++ w.in-Some.sums ∷ [] ≡ c.match-sums_in.all.items = sym (ap (λ a. a.items) w.all-is ∙ w.in_ok-push.ensures.items) in
+          subst (λ l. AreSumsTo c.args.self.now (c.loop-number.number + 1) l) e
+          (listed_more c.args.self.now c.loop-number.number c.loop-number.all.items w.in-Some.sums c.loop-number.invariant w.in-Some.ensures.sums w.in-Some.ensures.some)
+      | in_default w ↦
+          subst (λ l. AreSumsTo c.args.self.now (c.loop-number.number + 1) l) (sym (ap (λ a. a.items) w.all-is))
+          (listed_same c.args.self.now c.loop-number.number c.loop-number.all.items c.loop-number.invariant w.in_default.ensures.none)
+    ]
+
+pub returns-clause-sums : goal.returns-clause-sums
+returns-clause-sums c = listed_all c.args.self.now c.loop-number.number c.loop-number.all.items (λ m rank more. kept_behind c.args.self.now m rank (omega (arith, more))) c.loop-number.invariant

@@ -1,0 +1,86 @@
+-- The sums of a bucket's months, without the stays that have no end yet.
+use Rattle.std.specs.Prelude.{◌≡◌, ℕ, ◌^◌, ◌<◌, Bool, ◌&&◌, ◌==◌, List, get_or, sum_by, if◌then◌else◌, IsFalse, All, AllPairs}
+use Rattle.std.specs.List.{list_all}
+use Rattle.class_rules.specs.Classes.{rank_of}
+use Rattle.class_rules.specs.declared.class.Class.{Class}
+use Rattle.accrual.specs.Books.{Stay, Book}
+use Rattle.accrual.specs.Meters.{early_quantity, move_count}
+use Rattle.accrual.specs.Totals.{has_no_end, ended_sum}
+use Rattle.accrual.specs.Kept.{kept_in}
+use Rattle.accrual.specs.declared.rows.Kept.{Kept}
+use Rattle.accrual.specs.declared.rows.Rows.{Rows}
+use Rattle.accrual.specs.declared.monthly.MonthSums.{MonthSums}
+
+-- a month's number of a class by a list of months: that of the month's entry, 0 where there is none
+abbrev pub listed : (MonthSums → List ℕ) → List MonthSums → ℕ → Class → ℕ
+listed numbers sums month class =
+    sum_by (λ (s : MonthSums). if s.month == month then get_or (numbers s) (rank_of class) 0 else 0) sums
+
+-- the list has the sums of the book
+pub record AreSumsOf (book : Book) (sums : List MonthSums) : Type 0 where
+  pub ended : (month : ℕ) (class : Class) → listed (λ s. s.ended) sums month class ≡ ended_sum month class book
+  pub early : (month : ℕ) (class : Class) → listed (λ s. s.early) sums month class ≡ early_quantity month class book
+  pub moves : (month : ℕ) (class : Class) → listed (λ s. s.moves) sums month class ≡ move_count month class book
+
+-- every stay has an end
+abbrev pub HasAllEnded : Book → Type 0
+HasAllEnded book = All (λ (stay : Stay). IsFalse (has_no_end stay.to)) book.stays
+
+-- the months strictly rise
+abbrev pub HaveRisingMonths : List MonthSums → Type 0
+HaveRisingMonths sums = AllPairs (λ (a b : MonthSums). a.month < b.month) sums
+
+abbrev pub is_zero : ℕ → Bool
+is_zero n = n == 0
+
+-- each number of the month is 0
+abbrev pub is_nothing : MonthSums → Bool
+is_nothing sums = list_all is_zero sums.ended && list_all is_zero sums.early && list_all is_zero sums.moves
+
+-- numbers from which meters can go on (own: they leave room for all bookings)
+pub record IsSmallMonth (sums : MonthSums) : Type 0 where
+  pub ended : All (λ n. n < 2 ^ 120) sums.ended
+  pub early : All (λ n. n < 2 ^ 120) sums.early
+  pub moves : All (λ n. n < 2 ^ 62) sums.moves
+
+-- ---- the same of rows
+
+-- the list has the sums of the rows
+pub record AreSumsIn (rows : Rows) (sums : List MonthSums) : Type 0 where
+  pub ended : (month : ℕ) (class : Class)
+      → listed (λ s. s.ended) sums month class ≡ (kept_in rows month (rank_of class)).ended
+  pub early : (month : ℕ) (class : Class)
+      → listed (λ s. s.early) sums month class ≡ (kept_in rows month (rank_of class)).early
+  pub moves : (month : ℕ) (class : Class)
+      → listed (λ s. s.moves) sums month class ≡ (kept_in rows month (rank_of class)).moves
+
+-- the entry has the sums of this month of the rows
+pub record IsMonthOf (rows : Rows) (number : ℕ) (sums : MonthSums) : Type 0 where
+  pub month : sums.month ≡ number
+  pub ended : (class : Class) → get_or sums.ended (rank_of class) 0 ≡ (kept_in rows number (rank_of class)).ended
+  pub early : (class : Class) → get_or sums.early (rank_of class) 0 ≡ (kept_in rows number (rank_of class)).early
+  pub moves : (class : Class) → get_or sums.moves (rank_of class) 0 ≡ (kept_in rows number (rank_of class)).moves
+
+-- nothing is kept but of stays without an end
+pub record HasNoSum (kept : Kept) : Type 0 where
+  pub ended : kept.ended ≡ 0
+  pub early : kept.early ≡ 0
+  pub moves : kept.moves ≡ 0
+
+-- what is kept of a class in a month with these sums
+abbrev pub summed_numbers : MonthSums → ℕ → Kept
+summed_numbers sums rank = record {
+  ended = get_or sums.ended rank 0;
+  running = 0;
+  since = 0;
+  early = get_or sums.early rank 0;
+  moves = get_or sums.moves rank 0;
+}
+
+-- nothing is kept of a stay without an end, and the sums leave room
+pub record IsSmall (kept : Kept) : Type 0 where
+  pub ended : kept.ended < 2 ^ 120
+  pub running : kept.running ≡ 0
+  pub since : kept.since ≡ 0
+  pub early : kept.early < 2 ^ 120
+  pub moves : kept.moves < 2 ^ 62

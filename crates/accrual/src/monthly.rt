@@ -1,0 +1,147 @@
+// The sums of the months, taken out of rows and put into rows.
+ghost use Rattle.std.specs.Prelude.{◌≡◌, ◌<◌, ◌≤◌, ◌+◌, ℕ, length, get_or, IfOk, IfSome, IfNone, IsFalse, All};
+ghost use Rattle.std.specs.List.{list_all};
+ghost use Rattle.moments.specs.Months.{months};
+ghost use Rattle.class_rules.specs.Classes.{rank_of};
+ghost use Rattle.class_rules.specs.declared.class.Class.{Class};
+ghost use Rattle.accrual.specs.Kept.{nothing, kept_in, HasRowIn};
+ghost use Rattle.accrual.specs.Sums.{AreSumsIn, IsMonthOf, HasNoSum, HaveRisingMonths, IsSmallMonth, IsSmall, is_nothing, is_zero, summed_numbers};
+
+use crate::calendar::{month_numbered, number_of};
+use crate::rows::{Kept, NOTHING, Rows};
+use moments::Month;
+use std::alloc::{AllocError, Global};
+
+/// What a bucket used in a month, the stays left out that have no end yet. A number for each class, the warmest first.
+#[derive(Clone, Copy, Debug, PartialEq, Eq)]
+pub struct MonthSums {
+    pub month: Month,
+    /// The byte-milliseconds, inside the month, of the stays that have ended.
+    pub ended: [u128; 6],
+    /// The early quantities, in byte-milliseconds.
+    pub early: [u128; 6],
+    /// The lifecycle transitions to the class.
+    pub moves: [u64; 6],
+}
+
+impl MonthSums {
+    // Tells whether all its numbers are 0.
+    fn is_nothing(&self) -> bool
+        ensures { result ≡ is_nothing self.now }
+    {
+        are_zero(&self.ended) && are_zero(&self.early) && are_none(&self.moves)
+    }
+}
+
+impl Rows {
+    // Lists the sums of each month that has some.
+    pub(crate) fn sums(&self) -> Result<Vec<MonthSums>, AllocError>
+        requires run { self.now.first + length self.now.rows.items ≤ months }
+        ensures sums { IfOk result (λ sums. AreSumsIn self.now sums.items) }
+        ensures rising { IfOk result (λ sums. HaveRisingMonths sums.items) }
+        ensures some { IfOk result (λ sums. All (λ month. IsFalse (is_nothing month)) sums.items) }
+    {
+        let mut all = Vec::new(*self.rows.allocator());
+        let end = self.first + self.rows.len() as u64;
+        for number in self.first..end {
+            if let Some(sums) = self.sums_in(number) {
+                all.push(sums)?;
+            }
+        }
+        Ok(all)
+    }
+
+    // Gives the sums of a month; None where all are 0.
+    fn sums_in(&self, month: u64) -> Option<MonthSums>
+        requires row { HasRowIn self.now month }
+        requires month { month < months }
+        ensures sums { IfSome result (λ sums. IsMonthOf self.now month sums) }
+        ensures some { IfSome result (λ sums. IsFalse (is_nothing sums)) }
+        ensures none { IfNone result ((class : Class) → HasNoSum (kept_in self.now month (rank_of class))) }
+    {
+        let sums = sums_of(
+            month_numbered(month)?,
+            &self.rows[(month - self.first) as usize],
+        );
+        if sums.is_nothing() {
+            return None;
+        }
+        Some(sums)
+    }
+
+    // Gives rows with these sums, in which no stay is without an end.
+    pub(crate) fn from_sums(alloc: Global, sums: &[MonthSums]) -> Result<Rows, AllocError>
+        requires rising { HaveRisingMonths sums.now }
+        requires small { All IsSmallMonth sums.now }
+        ensures sums { IfOk result (λ rows. AreSumsIn rows sums.now) }
+        ensures small { IfOk result (λ rows. (month : ℕ) (class : Class)
+            → IsSmall (kept_in rows month (rank_of class))) }
+        ensures run { IfOk result (λ rows. rows.first + length rows.rows.items ≤ months) }
+    {
+        let mut rows = Rows::new(alloc);
+        for month in sums {
+            let number = number_of(month.month);
+            rows.reserve(number, number)?;
+            rows.put_row(number, row_of(month));
+        }
+        Ok(rows)
+    }
+}
+
+fn are_none(counts: &[u64; 6]) -> bool
+    ensures { result ≡ list_all is_zero counts.now }
+{
+    counts.iter().all(|n| *n == 0)
+}
+
+fn are_zero(numbers: &[u128; 6]) -> bool
+    ensures { result ≡ list_all is_zero numbers.now }
+{
+    numbers.iter().all(|n| *n == 0)
+}
+
+// The sums of a month by its row.
+fn sums_of(month: Month, row: &[Kept; 6]) -> MonthSums
+    ensures month { result.month ≡ month }
+    ensures ended { (class : Class)
+        → get_or result.ended (rank_of class) 0 ≡ (get_or row.now (rank_of class) nothing).ended }
+    ensures early { (class : Class)
+        → get_or result.early (rank_of class) 0 ≡ (get_or row.now (rank_of class) nothing).early }
+    ensures moves { (class : Class)
+        → get_or result.moves (rank_of class) 0 ≡ (get_or row.now (rank_of class) nothing).moves }
+{
+    let [a, b, c, d, e, f] = *row;
+    MonthSums {
+        month,
+        ended: [a.ended, b.ended, c.ended, d.ended, e.ended, f.ended],
+        early: [a.early, b.early, c.early, d.early, e.early, f.early],
+        moves: [a.moves, b.moves, c.moves, d.moves, e.moves, f.moves],
+    }
+}
+
+// The row of a month with these sums.
+fn row_of(sums: &MonthSums) -> [Kept; 6]
+    ensures { (class : Class) → get_or result (rank_of class) nothing ≡ summed_numbers sums.now (rank_of class) }
+{
+    [
+        kept_of(sums, 0),
+        kept_of(sums, 1),
+        kept_of(sums, 2),
+        kept_of(sums, 3),
+        kept_of(sums, 4),
+        kept_of(sums, 5),
+    ]
+}
+
+// What is kept of the class with this rank in a month with these sums.
+fn kept_of(sums: &MonthSums, rank: usize) -> Kept
+    requires { rank < 6 }
+    ensures { result ≡ summed_numbers sums.now rank }
+{
+    Kept {
+        ended: sums.ended[rank],
+        early: sums.early[rank],
+        moves: sums.moves[rank],
+        ..NOTHING
+    }
+}
