@@ -181,3 +181,20 @@ fn tags_in_the_order_of_their_keys(rt: HostRuntime) -> Result<(), Fail> {
     }
     Ok(())
 }
+
+#[test]
+fn texts_and_lists_as_they_were_given(rt: HostRuntime) -> Result<(), Fail> {
+    let alloc = rt.alloc();
+    let text = Text::of(String::from_str(alloc, "logs/ä")?);
+    assert_eq!(rt; text.copy()?.as_str(), "logs/ä");
+    assert_eq!(rt; text.char_count(), 6);
+    let list = TagList::of(pairs_of(alloc, &[("kind", "raw"), ("a", "x")])?);
+    assert_eq!(rt; list.copy()?.pairs()[0].1.as_str(), "raw");
+    assert_eq!(rt; list.are_tags(), true);
+    let repeated = TagList::of(pairs_of(alloc, &[("a", "x"), ("a", "y")])?);
+    assert_eq!(rt; repeated.are_tags(), false);
+    assert_eq!(rt; repeated.is_empty(), false);
+    let items = Items::of(vec![in alloc; 3u32, 1, 2]?);
+    assert_eq!(rt; items.as_slice()[0], 3);
+    Ok(())
+}
