@@ -189,12 +189,19 @@ fn texts_and_lists_as_they_were_given(rt: HostRuntime) -> Result<(), Fail> {
     assert_eq!(rt; text.copy()?.as_str(), "logs/ä");
     assert_eq!(rt; text.char_count(), 6);
     let list = TagList::of(pairs_of(alloc, &[("kind", "raw"), ("a", "x")])?);
-    assert_eq!(rt; list.copy()?.pairs()[0].1.as_str(), "raw");
+    for (pair, wanted) in list
+        .copy()?
+        .pairs()
+        .iter()
+        .zip([("kind", "raw"), ("a", "x")])
+    {
+        assert_eq!(rt; (pair.0.as_str(), pair.1.as_str()), wanted);
+    }
     assert_eq!(rt; list.are_tags(), true);
     let repeated = TagList::of(pairs_of(alloc, &[("a", "x"), ("a", "y")])?);
     assert_eq!(rt; repeated.are_tags(), false);
     assert_eq!(rt; repeated.is_empty(), false);
     let items = Items::of(vec![in alloc; 3u32, 1, 2]?);
-    assert_eq!(rt; items.as_slice()[0], 3);
+    assert_eq!(rt; items.as_slice(), [3u32, 1, 2].as_slice());
     Ok(())
 }

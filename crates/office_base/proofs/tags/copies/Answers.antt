@@ -1,5 +1,3 @@
-use Rattle.std.proofs.Common.{◌≡◌, ◌∙◌, rules}
-use Rattle.office_base.specs.Tags.{tags_of}
 use Rattle.office_base.proofs.InOrder.{copied, same_tag}
 use Rattle.office_base.proofs.tags.copies.Goals as goal
 
