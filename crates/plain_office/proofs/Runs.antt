@@ -102,9 +102,10 @@ refused_by p q e refusal other is =
 pub nothing_by : (p q : Office) (e : Entry) → IsStep (step e.moment e.command p) p q (Ok NothingDue) → (accept p e ≡ None) × (q ≡ p)
 unfolding accept
 nothing_by p q e is =
-    let told = step_of (step e.moment e.command p) p q NothingDue is in
-    (rw (told, and_false (is_not_before p.last e.moment)) refl,
-      sym (ap (λ (x : Office × Answer). x.0) told) ∙ step_nothing e.moment e.command p (ap (λ (x : Office × Answer). x.1) told))
+    let told = step_of (step e.moment e.command p) p q NothingDue is in (
+      rw (told, and_false (is_not_before p.last e.moment)) refl,
+      sym (ap (λ (x : Office × Answer). x.0) told) ∙ step_nothing e.moment e.command p (ap (λ (x : Office × Answer). x.1) told),
+    )
 
 -- an entry of an earlier moment is not accepted
 pub early_refused : (p : Office) (e : Entry) → is_not_before p.last e.moment ≡ false → accept p e ≡ None
