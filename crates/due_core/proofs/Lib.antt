@@ -1,2 +1,3 @@
+pub mod Examples
 pub mod Later
 pub mod Precedence

@@ -1,5 +1,5 @@
 -- Worked examples of commands and queries, computed.
-use Rattle.std.specs.Prelude.{⊤, ◌≡◌, ℕ, ◌+◌, ◌*◌, List, [], ◌∷◌, ◌++◌, refl, true, false, codes, length, map, replicate, sum_by, unwrap_or, option_map, Option, Some, None, Result, Ok, Err}
+use Rattle.std.specs.Prelude.{⊤, ◌≡◌, ℕ, ◌+◌, ◌*◌, List, [], ◌∷◌, refl, true, false, codes, length, map, replicate, sum_by, unwrap_or, option_map, Option, Some, None, Result, Ok, Err}
 use Rattle.std.specs.Fmt.{digits}
 use Rattle.jiff_core.specs.Calendar.{days_of_months}
 use Rattle.serde_json.proofs.OnLiterals.{serde_json_on_literals}
@@ -20,7 +20,6 @@ use Rattle.stacks.specs.Stacks.{new_version}
 use Rattle.stacks.specs.declared.version.Kind.TheVariants as kind
 use Rattle.stacks.specs.declared.version.Version.{Version}
 use Rattle.stacks.specs.declared.version.Versioning.TheVariants as versioning
-use Rattle.uploads.specs.Uploads.{UploadRecord}
 use Rattle.uploads.specs.declared.part.Part.{Part}
 use Rattle.due_core.specs.Buckets.{BucketRecord}
 use Rattle.due_core.specs.RuleActions.{version_actions}
@@ -37,7 +36,7 @@ use Rattle.office_types.specs.declared.reply.Reply.TheVariants as reply
 use Rattle.office_types.specs.declared.refusal.Refusal.{Refusal}
 use Rattle.office_types.specs.declared.refusal.Refusal.TheVariants as refusal
 use Rattle.office_types.specs.declared.refusal.What.TheVariants as what
-use Rattle.plain_office.specs.Office.{Office, Account, Books, empty_office, empty_books, book_of}
+use Rattle.plain_office.specs.Office.{Office, Account, empty_office, empty_books, book_of}
 use Rattle.plain_office.specs.Changes.{effect, versions_of}
 use Rattle.plain_office.specs.Counts.{count_of, tag_bytes_of}
 use Rattle.plain_office.specs.Step.{step, outcome, new_account, new_bucket}

@@ -1,5 +1,5 @@
 -- Worked examples of lifecycle actions, computed.
-use Rattle.std.specs.Prelude.{◌≡◌, ℕ, ◌+◌, ◌*◌, List, [], ◌∷◌, ◌++◌, refl, true, false, codes, length, replicate, Some, None, Ok, Err}
+use Rattle.std.specs.Prelude.{◌≡◌, ℕ, ◌+◌, ◌*◌, List, [], ◌∷◌, refl, true, false, codes, length, replicate, Some, None, Ok, Err}
 use Rattle.moments.specs.Time.{day}
 use Rattle.class_rules.specs.declared.class.Class.{Class}
 use Rattle.class_rules.specs.declared.class.Class.TheVariants as class
@@ -11,7 +11,6 @@ use Rattle.stacks.specs.declared.version.Versioning.TheVariants as versioning
 use Rattle.due_core.specs.declared.action.ActionKind.TheVariants as action
 use Rattle.due_core.specs.declared.action.Target.TheVariants as target
 use Rattle.accrual.specs.Meters.{meter, move_count}
-use Rattle.office_types.specs.declared.command.Command.{Command}
 use Rattle.office_types.specs.declared.command.Command.TheVariants as command
 use Rattle.office_types.specs.declared.command.Query.TheVariants as query
 use Rattle.office_types.specs.declared.command.Entry.{Entry}
@@ -20,8 +19,7 @@ use Rattle.office_types.specs.declared.refusal.Refusal.TheVariants as refusal
 use Rattle.office_types.specs.declared.refusal.What.TheVariants as what
 use Rattle.plain_office.specs.Office.{Office, empty_office}
 use Rattle.plain_office.specs.Answers.{answer}
-use Rattle.plain_office.specs.Step.{step}
-use Rattle.plain_office.proofs.Examples.{to_compute, at, after, answers, new_year, january, logs, a, put, any, no_action, rules_of, ids_in, book_in, stays_in, tags, beside, with_stack_of}
+use Rattle.plain_office.proofs.Examples.{to_compute, at, after, answers, new_year, january, logs, a, put, no_action, rules_of, ids_in, book_in, tags, beside, with_stack_of}
 
 -- 2023-12-10 09:00 UTC, and the midnight that is due 30 days later
 abbrev start : ℕ

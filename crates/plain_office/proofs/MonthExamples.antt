@@ -1,7 +1,6 @@
 -- Worked examples of months, computed: what was used, what is owed, when they are closed and what they cost.
-use Rattle.std.specs.Prelude.{◌≡◌, ℕ, ◌+◌, ◌*◌, List, [], ◌∷◌, refl, codes, Option, Some, None, option_map, Ok, Err}
+use Rattle.std.specs.Prelude.{◌≡◌, ℕ, ◌+◌, ◌*◌, List, [], ◌∷◌, refl, codes, Some, None, option_map, Ok, Err}
 use Rattle.moments.specs.Time.{day}
-use Rattle.class_rules.specs.declared.class.Class.{Class}
 use Rattle.class_rules.specs.declared.class.Class.TheVariants as class
 use Rattle.office_base.specs.declared.version_id.VersionId.TheVariants as id
 use Rattle.tariff.specs.Prices.{Prices}
