@@ -1,49 +1,126 @@
--- How the coming and going of objects is booked.
-use Rattle.std.specs.Prelude.{ℕ, ◌+◌, ◌-◌, ◌*◌, Bool, ◌&&◌, List, [], ◌∷◌, ◌++◌, map, bytes_eq, nat_lt, Option, Some, None, is_none, if◌then◌else◌}
-use Rattle.class_rules.specs.Classes.{least_stay}
-use Rattle.class_rules.specs.Lines.{own_bytes, object_lines}
-use Rattle.accrual.specs.Books.{Stay, Early, open_stay}
-use Rattle.plain_office.specs.declared.object.Object.{Object}
-use Rattle.plain_office.specs.Maps.{at_name, with_name}
-use Rattle.plain_office.specs.Office.{Books, Account}
+-- The changes that commands and lifecycle actions make to a bucket's records and books, at a moment.
+use Rattle.std.specs.Prelude.{ℕ, ◌+◌, List, [], ◌∷◌, ◌++◌, fold, Option, Some, None, unwrap_or, if◌then◌else◌}
+use Rattle.office_base.specs.Maps.{at_name, with_name, without_name, at_number, with_number, without_number}
+use Rattle.office_base.specs.declared.version_id.VersionId.{VersionId}
+use Rattle.class_rules.specs.Lines.{part_line}
+use Rattle.class_rules.specs.declared.class.Class.{Class}
+use Rattle.rules_core.specs.Matching.{is_empty}
+use Rattle.stacks.specs.Stacks.{StackRecord, new_stack, version_at, new_id, new_version, replaced, after_adding, after_removal, after_move, with_class}
+use Rattle.stacks.specs.declared.version.Versioning.{Versioning}
+use Rattle.stacks.specs.declared.version.Versioning.TheVariants.{Unversioned, Enabled, Suspended}
+use Rattle.stacks.specs.declared.version.Kind.{Kind}
+use Rattle.stacks.specs.declared.version.Kind.TheVariants as kind
+use Rattle.stacks.specs.declared.version.Version.{Version}
+use Rattle.uploads.specs.Uploads.{UploadRecord, after_part}
+use Rattle.due_core.specs.Buckets.{BucketRecord}
+use Rattle.due_core.specs.declared.action.ActionKind.{ActionKind}
+use Rattle.due_core.specs.declared.action.ActionKind.TheVariants as action
+use Rattle.due_core.specs.declared.action.Target.{Target}
+use Rattle.due_core.specs.declared.action.Target.TheVariants as target
+use Rattle.due_core.specs.declared.action.Action.{Action}
+use Rattle.plain_office.specs.Office.{Account, Books, of_part}
+use Rattle.plain_office.specs.Books.{with_stay, with_end, with_version, without_version, without_option}
 
--- the stay is that of an object with this key which is there
-abbrev pub is_open_at : List ℕ → List ℕ × Stay → Bool
-is_open_at key stay = is_none stay.1.to && bytes_eq key stay.0
+-- ---- stacks
 
--- the stay of an object that is there
-abbrev pub stay_of : Object → Stay
-stay_of object = open_stay (object_lines object.class object.size) object.created
+-- the stack of a key, or one without versions, of which no moment counts
+abbrev pub stack_at : List ℕ → BucketRecord → StackRecord
+stack_at key bucket = unwrap_or (at_name key bucket.stacks) (new_stack 0)
 
--- an object comes
-abbrev pub with_object : List ℕ → Object → Books → Books
-with_object key object books = record books { stays = books.stays ++ (key, stay_of object) ∷ [] }
+abbrev pub versions_of : List ℕ → BucketRecord → List Version
+versions_of key bucket = (stack_at key bucket).versions
 
--- what an object owes that leaves its class before the least duration (S3 User Guide, "Understanding and managing Amazon S3
--- storage classes": minimum storage durations; own: the own line's bytes times the missing milliseconds)
-abbrev pub owed_at : ℕ → Object → List Early
-owed_at at object =
-    let until = object.created + least_stay object.class in
-    if nat_lt at until
-    then record { class = object.class; amount = own_bytes object.class object.size * (until - at); moment = at } ∷ []
-    else []
+-- the key has this stack; a stack without versions is removed
+abbrev pub stacks_with : List ℕ → StackRecord → List (List ℕ × StackRecord) → List (List ℕ × StackRecord)
+stacks_with key stack stacks = if is_empty stack.versions then without_name key stacks else with_name key stack stacks
 
--- the object of this key goes: its stay ends
-abbrev pub without_object : List ℕ → ℕ → Object → Books → Books
-without_object key at object books = record books {
-  stays = map (λ (stay : List ℕ × Stay). if is_open_at key stay then (stay.0, record stay.1 { to = Some at }) else stay) books.stays;
-  early = books.early ++ owed_at at object;
-}
+abbrev pub with_stack : List ℕ → StackRecord → BucketRecord → BucketRecord
+with_stack key stack bucket = record bucket { stacks = stacks_with key stack bucket.stacks }
 
--- one that may not have been there goes
-abbrev pub without_option : List ℕ → ℕ → Option Object → Books → Books
-without_option key at None books = books
-without_option key at (Some object) books = without_object key at object books
+-- the id that the bucket's next version has
+abbrev pub next_id : BucketRecord → VersionId
+next_id bucket = new_id bucket.versioning bucket.next_version
 
--- an object comes, and the one of its key goes (S3 User Guide, "Adding objects to versioning-suspended buckets": the null version
--- is replaced; a bucket that never had versioning has null versions alone)
-abbrev pub put_object : List ℕ → Object → Account → Account
-put_object key object account = record {
-  objects = with_name key object account.objects;
-  books = with_object key object (without_option key object.created (at_name key account.objects) account.books);
-}
+-- only in an Enabled bucket a version takes a number
+abbrev pub number_after : Versioning → ℕ → ℕ
+number_after Unversioned number = number
+number_after Enabled number = number + 1
+number_after Suspended number = number
+
+-- a new version comes to the top of the key's stack, and the null version that it replaces goes (S3 User Guide, "Adding objects
+-- to versioning-enabled buckets", "Adding objects to versioning-suspended buckets")
+abbrev pub add_version : List ℕ → Kind → ℕ → Account → Account
+add_version key kind at account =
+    let bucket = account.bucket in
+    let stack = stack_at key bucket in
+    let id = next_id bucket in
+    record {
+      bucket = record (with_stack key (after_adding id kind at stack) bucket) { next_version = number_after bucket.versioning bucket.next_version };
+      books = with_version key (new_version id kind at) at (without_option key (replaced bucket.versioning stack.versions) at account.books);
+    }
+
+-- the version with this id goes (S3 User Guide, "Deleting object versions from a versioning-enabled bucket")
+abbrev pub remove_version : List ℕ → VersionId → ℕ → Account → Account
+remove_version key id at account =
+    let stack = stack_at key account.bucket in
+    record {
+      bucket = with_stack key (after_removal id at stack) account.bucket;
+      books = without_option key (version_at id stack.versions) at account.books;
+    }
+
+-- a version leaves its class: its stay there ends, the one in the other class begins, and the move is counted
+abbrev pub books_moved : List ℕ → Option Version → Class → ℕ → Books → Books
+books_moved key None to at books = books
+books_moved key (Some version) to at books =
+    let moved = with_version key (with_class to at version) at (without_version key version at books) in
+    record moved { moves = moved.moves ++ record { class = to; moment = at } ∷ [] }
+
+-- an object moves to another class (S3 User Guide, "Transitioning objects using Amazon S3 Lifecycle")
+abbrev pub move_version : List ℕ → VersionId → Class → ℕ → Account → Account
+move_version key id to at account =
+    let stack = stack_at key account.bucket in
+    record {
+      bucket = with_stack key (after_move id to at stack) account.bucket;
+      books = books_moved key (version_at id stack.versions) to at account.books;
+    }
+
+-- ---- uploads
+
+abbrev pub with_upload : ℕ → UploadRecord → BucketRecord → BucketRecord
+with_upload number upload bucket = record bucket { uploads = with_number number upload bucket.uploads }
+
+-- a part comes, and the one with its number goes (S3 User Guide, "Uploading and copying objects using multipart upload")
+abbrev pub add_part : ℕ → UploadRecord → ℕ → ℕ → ℕ → Account → Account
+add_part number upload part size at account =
+    record {
+      bucket = with_upload number (after_part part size at upload) account.bucket;
+      books = with_stay upload.key (of_part number part) (part_line upload.class size) at
+          (with_end upload.key (of_part number part) at account.books);
+    }
+
+-- an upload goes with all its parts (S3 User Guide, "Aborting a multipart upload")
+abbrev pub remove_upload : ℕ → UploadRecord → ℕ → Account → Account
+remove_upload number upload at account =
+    record {
+      bucket = record account.bucket { uploads = without_number number account.bucket.uploads };
+      books = fold (λ books part. with_end upload.key (of_part number part.0) at books) account.books upload.parts;
+    }
+
+abbrev pub remove_upload_at : ℕ → ℕ → Account → Account
+remove_upload_at number at account = gone (at_number number account.bucket.uploads) where
+  gone : Option UploadRecord → Account
+  gone None = account
+  gone (Some upload) = remove_upload number upload at account
+
+-- ---- lifecycle actions
+
+-- what a lifecycle action does, at the moment at which it stands (S3 User Guide, "Managing the lifecycle of objects"; own: it
+-- stands there whenever it is done); no action has another kind and target than these
+unfoldable pub effect : Action → Account → Account
+effect chosen account = done chosen.kind chosen.target where
+  done : ActionKind → Target → Account
+  done action.Remove (target.Version id) = remove_version chosen.key id chosen.since account
+  done (action.Transition to) (target.Version id) = move_version chosen.key id to chosen.since account
+  done action.Marker (target.Version id) = add_version chosen.key kind.Marker chosen.since account
+  done action.Abort (target.Upload number) = remove_upload_at number chosen.since account
+  done other_kind other_target = account

@@ -1,28 +1,66 @@
 -- What the office holds of each kind that has a limit (own: the limits keep every sum of the meters below 2^128).
-use Rattle.std.specs.Prelude.{ℕ, List, length, sum_by, Option, nat_lt}
-use Rattle.std.specs.List.{find}
+use Rattle.std.specs.Prelude.{ℕ, ◌+◌, List, length, sum_by, Option, Some, None, find, nat_lt}
+use Rattle.office_base.specs.Tags.{Tag}
+use Rattle.rules_core.specs.Configurations.{Configuration}
+use Rattle.rules_json.specs.Printing.{printed}
+use Rattle.stacks.specs.declared.version.Kind.{Kind}
+use Rattle.stacks.specs.declared.version.Kind.TheVariants.{Object, Marker}
+use Rattle.stacks.specs.declared.version.Version.{Version}
+use Rattle.due_core.specs.Buckets.{BucketRecord}
+use Rattle.office_types.specs.declared.refusal.What.{What}
+use Rattle.office_types.specs.declared.refusal.What.TheVariants.{Buckets, Versions, Uploads, Parts, Names, Rules}
 use Rattle.plain_office.specs.Office.{Account, Office}
-use Rattle.plain_office.specs.declared.object.Object.{Object}
-use Rattle.plain_office.specs.declared.reply.What.{What}
-use Rattle.plain_office.specs.declared.reply.What.TheVariants.{Buckets, Versions, Names}
 
 abbrev pub limit_of : What → ℕ
 limit_of Buckets = 1_000
 limit_of Versions = 200_000
+limit_of Uploads = 20_000
+limit_of Parts = 500_000
 limit_of Names = 536_870_912
+limit_of Rules = 67_108_864
 
--- each key has one version
-abbrev pub version_count : Account → ℕ
-version_count account = length account.objects
+-- ---- in a bucket
 
--- the bytes of the keys
-abbrev pub name_bytes : Account → ℕ
-name_bytes account = sum_by (λ (entry : List ℕ × Object). length entry.0) account.objects
+-- the bytes of tags, keys and values
+abbrev pub tag_bytes : List Tag → ℕ
+tag_bytes tags = sum_by (λ tag. length tag.0 + length tag.1) tags
+
+abbrev pub tag_bytes_of : Version → ℕ
+tag_bytes_of version = bytes version.kind where
+  bytes : Kind → ℕ
+  bytes Marker = 0
+  bytes (Object size class tags entered) = tag_bytes tags
+
+-- versions with delete markers
+abbrev pub version_count : BucketRecord → ℕ
+version_count bucket = sum_by (λ stack. length stack.1.versions) bucket.stacks
+
+abbrev pub part_count : BucketRecord → ℕ
+part_count bucket = sum_by (λ upload. length upload.1.parts) bucket.uploads
+
+-- the bytes of the keys of stacks and uploads, and of the tags of versions and uploads
+abbrev pub name_bytes : BucketRecord → ℕ
+name_bytes bucket =
+    sum_by (λ stack. length stack.0 + sum_by tag_bytes_of stack.1.versions) bucket.stacks
+    + sum_by (λ upload. length upload.1.key + tag_bytes upload.1.tags) bucket.uploads
+
+-- the bytes of the configuration's text
+abbrev pub rules_bytes : Option Configuration → ℕ
+rules_bytes None = 0
+rules_bytes (Some rules) = length (printed rules)
+
+-- ---- in the office
+
+abbrev pub over_buckets : (BucketRecord → ℕ) → Office → ℕ
+over_buckets count office = sum_by (λ (entry : List ℕ × Account). count entry.1.bucket) office.accounts
 
 unfoldable pub count_of : What → Office → ℕ
 count_of Buckets office = length office.accounts
-count_of Versions office = sum_by (λ (entry : List ℕ × Account). version_count entry.1) office.accounts
-count_of Names office = sum_by (λ (entry : List ℕ × Account). name_bytes entry.1) office.accounts
+count_of Versions office = over_buckets version_count office
+count_of Uploads office = over_buckets (λ bucket. length bucket.uploads) office
+count_of Parts office = over_buckets part_count office
+count_of Names office = over_buckets name_bytes office
+count_of Rules office = over_buckets (λ bucket. rules_bytes bucket.rules) office
 
 -- the first of these that is above its limit
 abbrev pub first_full : List What → Office → Option What

@@ -1,8 +1,10 @@
 pub mod Answers
+pub mod Books
 pub mod Changes
+pub mod Charges
 pub mod Counts
-pub mod Maps
 pub mod Office
 pub mod Orderly
 pub mod Run
 pub mod Step
+pub mod Sweep

@@ -1,34 +1,55 @@
--- The office as plain data: lists and nothing else.
+-- The office as plain data: lists and nothing else. Moments are in milliseconds since 1970, months are counted from 0 for
+-- January 1970.
 use Rattle.std.specs.Prelude.{ℕ, List, [], map, Option, None}
+use Rattle.office_base.specs.declared.version_id.VersionId.{VersionId}
+use Rattle.tariff.specs.Prices.{Prices}
 use Rattle.accrual.specs.Books.{Stay, Early, Move, Book}
-use Rattle.plain_office.specs.declared.object.Object.{Object}
+use Rattle.due_core.specs.Buckets.{BucketRecord}
 
--- every stay ever opened, with the key of its object; every early quantity; every move
+-- what is stored: a version by its id, or a part of an upload by both numbers
+pub data Item : Type 0 where
+  of_version : VersionId → Item
+  of_part : ℕ → ℕ → Item
+
+-- whose stay it is: an item under a key
+pub record Label : Type 0 where
+  pub key : List ℕ
+  pub item : Item
+
+abbrev pub Booked : Type 0
+Booked = Label × Stay
+
+-- what is booked of a bucket: every stay ever opened, with whose it is, every early quantity and every move, each in the
+-- order in which it was booked
 pub record Books : Type 0 where
-  pub stays : List (List ℕ × Stay)
+  pub stays : List Booked
   pub early : List Early
   pub moves : List Move
 
--- a bucket: its objects in byte order of the keys, and its books
+-- a bucket's records and its books
 pub record Account : Type 0 where
-  pub objects : List (List ℕ × Object)
+  pub bucket : BucketRecord
   pub books : Books
 
--- the moment of the last accepted command, and the buckets in byte order of their names
+-- the moment of the last accepted command, the prices where any were set, the month of the first accepted command, the closed
+-- months with the prices of their closing, and the buckets in the byte order of their names
 pub record Office : Type 0 where
   pub last : Option ℕ
+  pub tariff : Option Prices
+  pub first_month : Option ℕ
+  pub closed : List (ℕ × Prices)
   pub accounts : List (List ℕ × Account)
 
 abbrev pub empty_books : Books
 empty_books = record { stays = []; early = []; moves = [] }
 
-abbrev pub new_account : Account
-new_account = record { objects = []; books = empty_books }
-
 -- the office before the first command
 abbrev pub empty_office : Office
-empty_office = record { last = None; accounts = [] }
+empty_office = record { last = None; tariff = None; first_month = None; closed = []; accounts = [] }
 
--- what is booked, whatever its key
+abbrev pub stay_in : Booked → Stay
+stay_in booked = booked.1
+
+-- what is booked, whosever it is
 abbrev pub book_of : Books → Book
-book_of books = record { stays = map (λ (stay : List ℕ × Stay). stay.1) books.stays; early = books.early; moves = books.moves }
+book_of books = record { stays = map stay_in books.stays; early = books.early; moves = books.moves }

@@ -1,46 +1,173 @@
 -- What holds of every office that commands lead to.
-use Rattle.std.specs.Prelude.{◌≡◌, ℕ, ◌≤◌, List, [], ◌∷◌, Option, Some, None}
-use Rattle.std.specs.List.{AllByRecursion, filter}
+use Rattle.std.specs.Prelude.{◌≡◌, ℕ, ◌+◌, ◌<◌, ◌≤◌, Bool, true, false, List, [], ◌∷◌, map, filter, length, count_by, IsTrue, IfSome, IsSome, MatchOption, Option, Some, None, option_map, option_to_list, if◌then◌else◌}
+use Rattle.std.specs.List.{AllByRecursion}
+use Rattle.std.specs.Ordering.{nat_cmp}
+use Rattle.std.specs.Str.{bytes_eq}
+use Rattle.moments.specs.Months.{month_end}
+use Rattle.class_rules.specs.Lines.{part_line}
+use Rattle.office_base.specs.Maps.{bytes_cmp, at_number, Rises}
 use Rattle.office_base.specs.Sizes.{largest_size}
-use Rattle.accrual.specs.Books.{Stay, IsBookedBy}
-use Rattle.plain_office.specs.declared.object.Object.{Object}
-use Rattle.plain_office.specs.Maps.{Rises, at_name}
-use Rattle.plain_office.specs.Office.{Office, Account, book_of}
-use Rattle.plain_office.specs.Changes.{is_open_at, stay_of}
-use Rattle.plain_office.specs.Counts.{limit_of, count_of}
-use Rattle.plain_office.specs.declared.command.Command.{Command}
-use Rattle.plain_office.specs.declared.command.Command.TheVariants as command
-use Rattle.plain_office.specs.declared.reply.What.TheVariants.{Buckets, Versions, Names}
+use Rattle.office_base.specs.declared.version_id.VersionId.{VersionId}
+use Rattle.office_base.specs.declared.version_id.VersionId.TheVariants.{Null, Number}
+use Rattle.stacks.specs.Stacks.{StackRecord, IsStack, version_at}
+use Rattle.stacks.specs.declared.version.Versioning.{Versioning}
+use Rattle.stacks.specs.declared.version.Versioning.TheVariants.{Unversioned, Enabled, Suspended}
+use Rattle.stacks.specs.declared.version.Kind.{Kind}
+use Rattle.stacks.specs.declared.version.Kind.TheVariants.{Object, Marker}
+use Rattle.stacks.specs.declared.version.Version.{Version}
+use Rattle.uploads.specs.Uploads.{UploadRecord, IsUpload}
+use Rattle.uploads.specs.declared.part.Part.{Part}
+use Rattle.tariff.specs.Prices.{Prices}
+use Rattle.due_core.specs.Buckets.{BucketRecord}
+use Rattle.due_core.specs.Candidates.{eligible}
+use Rattle.accrual.specs.Books.{open_stay, IsBookedBy}
+use Rattle.office_types.specs.declared.command.Command.{Command}
+use Rattle.office_types.specs.declared.command.Command.TheVariants as command
+use Rattle.office_types.specs.declared.refusal.What.TheVariants.{Buckets, Uploads, Parts, Names, Rules}
+use Rattle.plain_office.specs.Office.{Office, Account, Item, Booked, book_of, of_version, of_part}
+use Rattle.plain_office.specs.Books.{lines_of_kind, is_open_stay}
+use Rattle.plain_office.specs.Changes.{versions_of}
+use Rattle.plain_office.specs.Counts.{count_of, limit_of, over_buckets, version_count}
 
--- the stay that a key asks to be open, where it has an object
-abbrev pub stay_expected : List ℕ → Option Object → List (List ℕ × Stay)
-stay_expected key None = []
-stay_expected key (Some object) = (key, stay_of object) ∷ []
+-- ---- a stack
 
--- the stays of a key without an end are that of its object
+-- a version's number is at least 1 and below the next one
+abbrev pub IsNumberBelow : ℕ → VersionId → Type 0
+IsNumberBelow next Null = Unit {0}
+IsNumberBelow next (Number n) = (0 < n) × (n < next)
+
+abbrev pub is_object : Kind → Bool
+is_object (Object size class tags entered) = true
+is_object Marker = false
+
+abbrev pub IsOneNullObject : List Version → Type 0
+IsOneNullObject [] = ⊥
+IsOneNullObject (version ∷ others) = (others ≡ []) × (version.id ≡ Null) × IsTrue (is_object version.kind)
+
+-- in an Unversioned bucket there is only the null object (S3 User Guide, "How S3 Versioning works")
+abbrev pub FitsVersioning : Versioning → List Version → Type 0
+FitsVersioning Unversioned versions = IsOneNullObject versions
+FitsVersioning Enabled versions = Unit {0}
+FitsVersioning Suspended versions = Unit {0}
+
+abbrev pub size_of : Kind → ℕ
+size_of (Object size class tags entered) = size
+size_of Marker = 0
+
+pub record IsOrderlyStack (versioning : Versioning) (next last : ℕ) (stack : StackRecord) : Type 0 where
+  pub some : 0 < length stack.versions
+  pub ids_and_moments : IsStack stack
+  pub numbers : AllByRecursion (λ version. IsNumberBelow next version.id) stack.versions
+  pub fits : FitsVersioning versioning stack.versions
+  pub sizes : AllByRecursion (λ version. size_of version.kind ≤ largest_size) stack.versions
+  pub changed : stack.changed ≤ last
+
+-- ---- an upload
+
+pub record IsOrderlyUpload (last : ℕ) (upload : UploadRecord) : Type 0 where
+  pub ranges_and_moments : IsUpload upload
+  pub parts : Rises nat_cmp upload.parts
+  pub changed : upload.changed ≤ last
+
+-- ---- a bucket
+
+pub record IsOrderlyBucket (last : ℕ) (bucket : BucketRecord) : Type 0 where
+  pub next_version : 0 < bucket.next_version
+  pub next_upload : 0 < bucket.next_upload
+  pub rules_since : bucket.rules_since ≤ last
+  pub keys : Rises bytes_cmp bucket.stacks
+  pub stacks : AllByRecursion (λ stack. IsOrderlyStack bucket.versioning bucket.next_version last stack.1) bucket.stacks
+  pub numbers : Rises nat_cmp bucket.uploads
+  pub uploads : AllByRecursion (λ upload. (upload.0 < bucket.next_upload) × IsOrderlyUpload last upload.1) bucket.uploads
+
+-- ---- the stays
+
+-- the moment from which a version has its lines: an object from when it entered its class, a marker from when it was made
+abbrev pub lines_since : Version → ℕ
+lines_since version = since version.kind where
+  since : Kind → ℕ
+  since (Object size class tags entered) = entered
+  since Marker = version.created
+
+-- the stay that a version under a key asks to be open
+abbrev pub stay_of_version : List ℕ → Version → Booked
+stay_of_version key version =
+    (record { key = key; item = of_version version.id }, open_stay (lines_of_kind key version.kind) (lines_since version))
+
+-- and that a part of an upload does
+abbrev pub stay_of_part : ℕ → UploadRecord → ℕ → Part → Booked
+stay_of_part number upload place part =
+    (record { key = upload.key; item = of_part number place }, open_stay (part_line upload.class part.size) part.put)
+
+abbrev pub part_stays_expected : List ℕ → ℕ → ℕ → Option UploadRecord → List Booked
+part_stays_expected key number place None = []
+part_stays_expected key number place (Some upload) =
+    if bytes_eq key upload.key then option_to_list (option_map (stay_of_part number upload place) (at_number place upload.parts)) else []
+
+-- the stays that the records ask to be open under a key for an item: one where the version or part is there
+abbrev pub stays_expected : BucketRecord → List ℕ → Item → List Booked
+stays_expected bucket key (of_version id) = option_to_list (option_map (stay_of_version key) (version_at id (versions_of key bucket)))
+stays_expected bucket key (of_part number place) = part_stays_expected key number place (at_number number bucket.uploads)
+
+-- the open stays of an item are the one that its record asks for
 abbrev pub HasOpenStays : Account → Type 0
-HasOpenStays account = (key : List ℕ) → filter (is_open_at key) account.books.stays ≡ stay_expected key (at_name key account.objects)
+HasOpenStays account =
+    (key : List ℕ) (item : Item) → filter (is_open_stay key item) account.books.stays ≡ stays_expected account.bucket key item
 
--- no moment is above the last one, no size above the largest
-pub record IsOrderlyAccount (last : ℕ) (account : Account) : Type 0 where
-  pub keys : Rises account.objects
-  pub objects : AllByRecursion (λ (entry : List ℕ × Object). (entry.1.created ≤ last) × (entry.1.size ≤ largest_size)) account.objects
-  pub stays : HasOpenStays account
-  pub booked : IsBookedBy last (book_of account.books)
+-- ---- the office
 
--- before the first command there is nothing
-abbrev pub AreOrderly : Option ℕ → List (List ℕ × Account) → Type 0
-AreOrderly None accounts = accounts ≡ []
-AreOrderly (Some last) accounts = AllByRecursion (λ (entry : List ℕ × Account). IsOrderlyAccount last entry.1) accounts
+-- these months are the given one and those after it, without a gap
+abbrev pub FollowEachOther : ℕ → List ℕ → Type 0
+FollowEachOther month [] = Unit {0}
+FollowEachOther month (first ∷ others) = (first ≡ month) × FollowEachOther (month + 1) others
 
+-- the end of the last closed month, and 0 where there is none
+abbrev pub last_end : List (ℕ × Prices) → ℕ
+last_end [] = 0
+last_end (month ∷ []) = month_end month.0
+last_end (month ∷ next ∷ others) = last_end (next ∷ others)
+
+abbrev pub closed_until : Office → ℕ
+closed_until office = last_end office.closed
+
+abbrev pub current_is_object : List Version → Bool
+current_is_object [] = false
+current_is_object (version ∷ others) = is_object version.kind
+
+-- the stacks whose current version is an object: a lifecycle action may put a marker on each
+abbrev pub current_objects : BucketRecord → ℕ
+current_objects bucket = count_by (λ stack. current_is_object stack.1.versions) bucket.stacks
+
+-- before the first accepted command there is nothing
+pub record IsBlank (office : Office) : Type 0 where
+  pub accounts : office.accounts ≡ []
+  pub closed : office.closed ≡ []
+  pub first_month : office.first_month ≡ None
+
+-- from it on there is a first month, and no moment and no closed month is above the last moment
+pub record IsOrderlyUntil (last : ℕ) (office : Office) : Type 0 where
+  pub first_month : IsSome office.first_month
+  pub buckets : AllByRecursion (λ account. IsOrderlyBucket last account.1.bucket) office.accounts
+  pub closed : closed_until office ≤ last
+
+-- all that speaks of the records: no eligible action stands before the end of the last closed month, and with a marker for each
+-- current object there are at most 400,000 versions
+pub record IsOrderlyRecords (office : Office) : Type 0 where
+  pub names : Rises bytes_cmp office.accounts
+  pub moments : MatchOption office.last (IsBlank office) (λ last. IsOrderlyUntil last office)
+  pub months : IfSome office.first_month (λ first. FollowEachOther first (map (λ month. month.0) office.closed))
+  pub nothing_due_in_closed_months : AllByRecursion (λ account.
+      AllByRecursion (λ candidate. closed_until office ≤ candidate.action.since) (eligible account.1.bucket)) office.accounts
+  pub versions : over_buckets (λ bucket. version_count bucket + current_objects bucket) office ≤ 400_000
+  pub counts : AllByRecursion (λ what. count_of what office ≤ limit_of what) (Buckets ∷ Uploads ∷ Parts ∷ Names ∷ Rules ∷ [])
+
+-- and the open stays are those that the records ask for, and no moment that is booked is above the last one
 pub record IsOrderly (office : Office) : Type 0 where
-  pub names : Rises office.accounts
-  pub accounts : AreOrderly office.last office.accounts
-  pub buckets : count_of Buckets office ≤ limit_of Buckets
-  pub versions : count_of Versions office ≤ limit_of Versions
-  pub key_bytes : count_of Names office ≤ limit_of Names
+  pub records : IsOrderlyRecords office
+  pub stays : AllByRecursion (λ account. HasOpenStays account.1) office.accounts
+  pub booked : IfSome office.last (λ last. AllByRecursion (λ account. IsBookedBy last (book_of account.1.books)) office.accounts)
 
 -- a put's size is up to the largest, as in every command of the program
 abbrev pub SizeFits : Command → Type 0
-SizeFits (command.CreateBucket name) = Unit {0}
-SizeFits (command.Put name key size class) = size ≤ largest_size
+SizeFits (command.Put name key size class tags) = size ≤ largest_size
+SizeFits other = Unit {0}

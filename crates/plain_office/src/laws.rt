@@ -1,14 +1,15 @@
-// Laws of the plain office, as calls that do nothing.
-ghost use Rattle.std.specs.Prelude.{◌≡◌, ℕ, true};
-ghost use Rattle.plain_office.specs.Office.{Office, empty_office};
-ghost use Rattle.plain_office.specs.Orderly.{IsOrderly, SizeFits};
-ghost use Rattle.plain_office.specs.Run.{is_not_before};
-ghost use Rattle.plain_office.specs.Step.{step};
-ghost use Rattle.plain_office.specs.declared.command.Command.{Command};
+// What the definitions mean, as laws.
+ghost use Rattle.std.specs.Prelude.{◌≡◌, ◌≤◌, ◌∷◌, ℕ, List, Some};
+ghost use Rattle.due_core.specs.Choice.{choice};
+ghost use Rattle.due_core.specs.declared.action.Action.{Action};
+ghost use Rattle.plain_office.specs.Office.{Account};
+ghost use Rattle.plain_office.specs.Changes.{effect};
+ghost use Rattle.plain_office.specs.Sweep.{IsSwept};
 
-/// States that the empty office is orderly, and that each step keeps an office orderly.
-#[tactic(auto, using(crate::proofs::OrderlySteps::empty_orderly, crate::proofs::OrderlySteps::step_orderly))]
-pub fn steps_are_orderly()
-    ensures begins { IsOrderly empty_office }
-    ensures keeps { (t : ℕ) (c : Command) (p : Office) → SizeFits c → IsOrderly p → is_not_before p.last t ≡ true → IsOrderly (step t c p).0 }
-{}
+/// States that doing the choice of a moment and sweeping at a later one is sweeping at the later one.
+pub fn an_early_act_is_part_of_the_sweep()
+    ensures { (t u : ℕ) (action : Action) (actions : List Action) (before after : Account) → t ≤ u → choice before.bucket t ≡ Some action
+        → IsSwept u actions (effect action before) after → IsSwept u (action ∷ actions) before after }
+{
+    due_core::the_choice_stays();
+}

@@ -2,12 +2,9 @@
 //! definitions.
 #![tactic(auto)]
 
-mod command;
 mod laws;
-mod object;
-mod reply;
 
-pub use command::{Ask, Command, Entry, Query};
-pub use laws::steps_are_orderly;
-pub use object::Object;
-pub use reply::{ClassMeters, Refusal, Reply, What};
+pub use laws::an_early_act_is_part_of_the_sweep;
+pub use office_types::{
+    Ask, ClassMeters, Command, Entry, LineKind, Query, Refusal, Reply, ReportLine, What,
+};

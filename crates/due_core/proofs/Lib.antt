@@ -1,0 +1,3 @@
+pub mod Examples
+pub mod Later
+pub mod Precedence

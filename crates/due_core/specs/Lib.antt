@@ -1,0 +1,4 @@
+pub mod Buckets
+pub mod Candidates
+pub mod Choice
+pub mod RuleActions

@@ -1,0 +1,18 @@
+// What the definitions mean, as laws.
+ghost use Rattle.std.specs.Prelude.{◌≡◌, ◌≤◌, ℕ, List, Some};
+ghost use Rattle.due_core.specs.Buckets.{BucketRecord};
+ghost use Rattle.due_core.specs.Choice.{choice, comes_before, least, IsLeast};
+ghost use Rattle.due_core.specs.declared.action.Action.{Action};
+ghost use Rattle.due_core.specs.declared.action.Candidate.{Candidate};
+
+/// States that the least of a list of candidates is one of them, and that none of them comes before it.
+#[tactic(auto, using(crate::proofs::Precedence::first_candidate))]
+pub fn the_choice_is_the_least()
+    ensures { (candidates : List Candidate) → IsLeast comes_before candidates (least comes_before candidates) }
+{}
+
+/// States that once a bucket has a choice, it is the choice at every later moment too.
+#[tactic(auto, using(crate::proofs::Later::choice_stays))]
+pub fn the_choice_stays()
+    ensures { (bucket : BucketRecord) (t u : ℕ) (action : Action) → t ≤ u → choice bucket t ≡ Some action → choice bucket u ≡ Some action }
+{}

@@ -1,0 +1,10 @@
+//! Which lifecycle actions are due in a bucket, and which of them comes first.
+#![tactic(auto)]
+
+mod action;
+mod bucket;
+mod laws;
+
+pub use action::{Action, ActionKind, Candidate, Target};
+pub use bucket::Bucket;
+pub use laws::{the_choice_is_the_least, the_choice_stays};

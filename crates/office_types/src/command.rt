@@ -1,0 +1,129 @@
+// What the office is asked.
+use class_rules::Class;
+use moments::{Moment, Month};
+use office_base::{BucketName, Key, Size, Tags, VersionId};
+use rules_core::RuleSet;
+use tariff::Tariff;
+
+/// A change that the office is asked to make. A command that it accepts becomes an entry of the journal.
+#[derive(Drop)]
+pub enum Command {
+    /// Makes a bucket, without versions or rules.
+    CreateBucket {
+        bucket: BucketName,
+    },
+    /// Sets whether a bucket keeps versions: enabled or suspended.
+    SetVersioning {
+        bucket: BucketName,
+        enabled: bool,
+    },
+    /// Sets a bucket's lifecycle configuration, in the place of the one that was there.
+    SetRules {
+        bucket: BucketName,
+        rules: RuleSet,
+    },
+    /// Drops a bucket's lifecycle configuration.
+    DropRules {
+        bucket: BucketName,
+    },
+    /// Puts an object under a key; where the bucket does not add versions, in the place of the null version.
+    Put {
+        bucket: BucketName,
+        key: Key,
+        size: Size,
+        class: Class,
+        tags: Tags,
+    },
+    /// Deletes a key: removes its null version or puts a delete marker, as the bucket's versioning says.
+    Delete {
+        bucket: BucketName,
+        key: Key,
+    },
+    /// Removes one version or delete marker for good.
+    DeleteVersion {
+        bucket: BucketName,
+        key: Key,
+        id: VersionId,
+    },
+    /// Replaces the tags of one object version.
+    SetTags {
+        bucket: BucketName,
+        key: Key,
+        id: VersionId,
+        tags: Tags,
+    },
+    /// Starts a multipart upload.
+    StartUpload {
+        bucket: BucketName,
+        key: Key,
+        class: Class,
+        tags: Tags,
+    },
+    /// Puts a part of an upload, in the place of the one with its number. `size` is in bytes.
+    PutPart {
+        bucket: BucketName,
+        upload: u64,
+        part: u32,
+        size: u64,
+    },
+    /// Makes an object of an upload's parts.
+    Complete {
+        bucket: BucketName,
+        upload: u64,
+    },
+    /// Drops an upload with its parts.
+    Abort {
+        bucket: BucketName,
+        upload: u64,
+    },
+    /// Does the first lifecycle action of a bucket that is due.
+    Act {
+        bucket: BucketName,
+    },
+    /// Sets the prices.
+    SetTariff {
+        tariff: Tariff,
+    },
+    /// Closes a month: what was used in it and what that costs are settled.
+    Close {
+        month: Month,
+    },
+}
+
+/// A question that changes nothing.
+#[derive(Drop)]
+pub enum Query {
+    /// What a bucket holds.
+    Bucket(BucketName),
+    /// A bucket's lifecycle configuration.
+    Rules(BucketName),
+    /// The versions of a key.
+    Stack(BucketName, Key),
+    /// An upload and its parts.
+    Upload(BucketName, u64),
+    /// The first lifecycle action of a bucket that is due.
+    Due(BucketName),
+    /// What a bucket used in a month, by class.
+    Meters(BucketName, Month),
+    /// The prices.
+    Tariff,
+    /// What a month costs, by bucket and class.
+    Report(Month),
+}
+
+/// What a message asks.
+#[derive(Drop)]
+pub enum Ask {
+    /// A change.
+    Command(Command),
+    /// A question.
+    Query(Query),
+}
+
+/// An accepted command, with the moment at which it was accepted.
+#[derive(Drop)]
+pub struct Entry {
+    /// The moment of the command, not before that of the entry before it.
+    pub moment: Moment,
+    pub command: Command,
+}

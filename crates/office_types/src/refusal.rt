@@ -1,0 +1,75 @@
+// Why the office did not do what it was asked.
+use due_core::Target;
+use moments::Month;
+use office_base::{BucketName, Key};
+
+/// What the office holds a limited number of. Own rules: the limits keep every sum of the meters below 2^128.
+#[derive(Clone, Copy, Debug, PartialEq, Eq)]
+pub enum What {
+    /// 1,000 buckets.
+    Buckets,
+    /// 200,000 versions and delete markers in all buckets together.
+    Versions,
+    /// 20,000 unfinished uploads in all buckets together.
+    Uploads,
+    /// 500,000 parts in all buckets together.
+    Parts,
+    /// 536,870,912 bytes of keys and tags in all buckets together.
+    Names,
+    /// 67,108,864 bytes of printed lifecycle configurations in all buckets together.
+    Rules,
+}
+
+/// Why an ask was not done. The office is then as before.
+#[derive(Drop)]
+pub enum Refusal {
+    /// 80: there is a bucket of this name.
+    BucketExists,
+    /// 81: there is no bucket of this name.
+    NoSuchBucket,
+    /// 82: the bucket has no lifecycle configuration.
+    NoRules,
+    /// 83: versioning cannot be suspended where it was never enabled.
+    NotEnabledBefore,
+    /// 50: the key has no versions.
+    NoSuchKey,
+    /// 51: the key has no version with this id.
+    NoSuchVersion,
+    /// 52: the version is a delete marker, which has no tags.
+    IsMarker,
+    /// 60: the bucket has no upload with this number.
+    NoSuchUpload,
+    /// 61: the part's number or size is out of range, or the parts together would be too large.
+    BadPart,
+    /// 62: the upload has no parts.
+    NoParts,
+    /// 84: the month ends at this moment, in milliseconds, which has not come.
+    MonthNotOver {
+        end: u64,
+    },
+    /// 86: the month counts as closed.
+    AlreadyClosed,
+    /// 87: this earlier month has to be closed first.
+    EarlierMonthOpen {
+        month: Month,
+    },
+    /// 88: no prices were set.
+    NoTariff,
+    /// 85: in this bucket a lifecycle action on this target stands before the month's end, and was not done.
+    DueActions {
+        bucket: BucketName,
+        key: Key,
+        target: Target,
+    },
+    /// 90: the office would hold more of these than the limit.
+    Full {
+        what: What,
+        limit: u64,
+    },
+    /// 91: the ask's moment, in milliseconds, is not below the end of time. Only a desk answers this.
+    ClockEnd {
+        moment: u64,
+    },
+    /// 115: memory ran out.
+    NoMemory,
+}

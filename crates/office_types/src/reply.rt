@@ -1,0 +1,146 @@
+// What the office answers to an ask that was done.
+use class_rules::Class;
+use due_core::{ActionKind, Target};
+use moments::{Moment, Month};
+use office_base::{BucketName, Items, Key, Text, VersionId};
+use rules_core::RuleSet;
+use stacks::{Stack, Versioning};
+use tariff::Tariff;
+use uploads::Upload;
+
+/// What a bucket used of one class in a month.
+#[derive(Clone, Copy, Debug, PartialEq, Eq)]
+pub struct ClassMeters {
+    pub class: Class,
+    /// Bytes times milliseconds.
+    pub byte_ms: u128,
+    /// Bytes times milliseconds that objects owe which left the class before its least duration.
+    pub early_byte_ms: u128,
+    /// The lifecycle transitions to the class.
+    pub moves: u64,
+}
+
+/// What a line of a report charges for.
+#[derive(Clone, Copy, Debug, PartialEq, Eq)]
+pub enum LineKind {
+    /// What was stored.
+    Storage,
+    /// What objects owe which left the class before its least duration.
+    Early,
+    /// The lifecycle transitions to the class.
+    Transitions,
+}
+
+/// A line of a month's report.
+#[derive(Drop)]
+pub struct ReportLine {
+    pub bucket: BucketName,
+    pub kind: LineKind,
+    pub class: Class,
+    /// Byte-milliseconds, or a number of transitions; never 0.
+    pub quantity: u128,
+    /// Units for a GiB-month, or for 1,000 transitions.
+    pub price: u32,
+    /// Whole units.
+    pub charge: u128,
+}
+
+/// The answer to an ask that was done.
+#[derive(Drop)]
+pub enum Reply {
+    /// The bucket was made.
+    BucketMade {
+        bucket: BucketName,
+    },
+    /// The bucket's versioning is this one now.
+    VersioningSet {
+        versioning: Versioning,
+    },
+    /// The bucket has so many lifecycle rules now.
+    RulesSet {
+        rules: u32,
+    },
+    /// The object was put, as this version.
+    Stored {
+        moment: Moment,
+        version: VersionId,
+    },
+    /// The key was deleted by this delete marker, or, where there is none, its null version was removed.
+    Deleted {
+        marker: Option<VersionId>,
+    },
+    /// This version or delete marker was removed.
+    VersionDeleted {
+        removed: VersionId,
+    },
+    /// The version has so many tags now.
+    TagsSet {
+        tags: u32,
+    },
+    /// The upload has this number.
+    UploadStarted {
+        upload: u64,
+    },
+    /// The part with this number was put.
+    PartStored {
+        part: u32,
+    },
+    /// The upload with this number was dropped.
+    Aborted {
+        upload: u64,
+    },
+    /// This lifecycle action is the first that is due, or was done, by the rule with this id. `since` is the moment at
+    /// which it stands; `marker` is the delete marker that was put, where the action was done and puts one.
+    Chosen {
+        kind: ActionKind,
+        key: Key,
+        target: Target,
+        rule: Text,
+        since: Moment,
+        marker: Option<VersionId>,
+    },
+    /// No lifecycle action is due.
+    NothingDue,
+    /// The prices were set.
+    TariffSet,
+    /// The month was closed.
+    Closed {
+        month: Month,
+    },
+    /// The bucket has so many rules, unfinished uploads, and versions with delete markers.
+    BucketShown {
+        bucket: BucketName,
+        rules: u32,
+        uploads: u32,
+        versioning: Versioning,
+        versions: u32,
+    },
+    /// The bucket's lifecycle configuration.
+    RulesShown {
+        rules: RuleSet,
+    },
+    /// The versions of the key.
+    StackShown {
+        key: Key,
+        stack: Stack,
+    },
+    /// The upload with this number.
+    UploadShown {
+        number: u64,
+        upload: Upload,
+    },
+    /// What the bucket used in the month, from the warmest class to the coldest.
+    MetersShown {
+        bucket: BucketName,
+        month: Month,
+        classes: [ClassMeters; 6],
+    },
+    /// The prices.
+    TariffShown {
+        tariff: Tariff,
+    },
+    /// What the month costs, by bucket and class.
+    Report {
+        lines: Items<ReportLine>,
+    },
+}
