@@ -2,8 +2,6 @@
 use Rattle.std.proofs.Common.{◌≡◌, ℕ, ◌+◌, ◌-◌, ◌<◌, List, [], ◌∷◌, ◌++◌, refl, ap, subst, Bool, true, false, ◌&&◌, cond, arith, filter, length, flat_map, ◌==◌}
 use Rattle.std.specs.Prelude.{Option, Some, None, is_some, option_map, option_to_list, nat_lt, max}
 use Rattle.std.specs.List.{AllByRecursion, best_of}
-use Rattle.std.specs.Cmp.{nat_cmp_total}
-use Rattle.std.proofs.lemmas.Cmp.{nat_list_cmp_total}
 use Rattle.std.proofs.lemmas.Bool.{and_parts}
 use Rattle.std.proofs.lemmas.Bool.Decides.{nat_tests}
 use Rattle.moments.specs.Time.{end_of_time}
@@ -34,8 +32,9 @@ use Rattle.due_core.specs.declared.action.Target.{Target}
 use Rattle.due_core.specs.declared.action.Target.TheVariants as target
 use Rattle.due_core.specs.Buckets.{BucketRecord}
 use Rattle.due_core.specs.declared.action.Candidate.{Candidate}
-use Rattle.office_laws.specs.Work.{IsTidy}
-use Rattle.office_laws.proofs.Entries.{every, every_append, every_filter, passing, every_cond, every_map, every_flat_map, every_weaker, each_found, each_some}
+use Rattle.office_laws.proofs.Work.{IsTidy}
+use Rattle.office_laws.proofs.Lists.{every, every_append, every_filter, passing, every_cond, every_map, every_flat_map, every_weaker}
+use Rattle.office_laws.proofs.Maps.{by_name, by_number, each_found}
 use Rattle.office_laws.proofs.Lowers.{RemoveFits, Fits}
 
 -- the version stands in this list, and an action of this kind fits its place
@@ -214,8 +213,8 @@ module _ (bucket : BucketRecord) where
   eligible_suit_by : IsTidy bucket → (rules : Option Configuration) → AllByRecursion SuitsCandidate (eligible_by bucket rules)
   eligible_suit_by tidy None = tt
   eligible_suit_by tidy (Some rules) = every_append SuitsCandidate _ _
-      (every_flat_map (λ (e : List ℕ × StackRecord). at_name e.0 bucket.stacks ≡ Some e.1) SuitsCandidate _ (λ e found. stack_suit rules e.0 e.1 found) bucket.stacks (each_found nat_list_cmp_total bucket.stacks tidy.keys))
-      (every_flat_map (λ (e : ℕ × UploadRecord). is_some (at_number e.0 bucket.uploads) ≡ true) SuitsCandidate _ (λ e found. upload_suit rules e.0 e.1 found) bucket.uploads (each_some nat_cmp_total bucket.uploads))
+      (every_flat_map (λ (e : List ℕ × StackRecord). at_name e.0 bucket.stacks ≡ Some e.1) SuitsCandidate _ (λ e found. stack_suit rules e.0 e.1 found) bucket.stacks (each_found by_name bucket.stacks tidy.keys))
+      (every_flat_map (λ (e : ℕ × UploadRecord). at_number e.0 bucket.uploads ≡ Some e.1) SuitsCandidate _ (λ e found. upload_suit rules e.0 e.1 (ap is_some found)) bucket.uploads (each_found by_number bucket.uploads tidy.numbers))
 
   candidates_suit : IsTidy bucket → (u : ℕ) → AllByRecursion SuitsCandidate (candidates bucket u)
   unfolding candidates eligible

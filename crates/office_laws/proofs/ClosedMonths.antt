@@ -1,7 +1,7 @@
 -- Once a month is closed, no later command changes what the office answers of it.
 use Rattle.std.proofs.lemmas.Bool.{le-leb}
 use Rattle.std.proofs.Common.{◌≡◌, ℕ, ◌+◌, ◌≤◌, List, [], ◌∷◌, map, refl, ap, sym, ◌∙◌, subst, Bool, true, false, cond, arith}
-use Rattle.std.specs.Prelude.{Option, Some, None, Ok, unwrap_or}
+use Rattle.std.specs.Prelude.{Option, Some, None, IsSome, Ok, unwrap_or}
 use Rattle.std.specs.Ordering.{is_eq, nat_cmp}
 use Rattle.moments.specs.Months.{month_end, month_at}
 use Rattle.class_rules.specs.Classes.{all_classes}
@@ -19,11 +19,16 @@ use Rattle.office_types.specs.declared.reply.ClassMeters.{ClassMeters}
 use Rattle.office_types.specs.declared.reply.Reply.{Reply}
 use Rattle.office_types.specs.declared.reply.Reply.TheVariants.{Report, MetersShown}
 use Rattle.office_types.specs.declared.reply.ReportLine.{ReportLine}
+use Rattle.office_laws.specs.ClosedMonths.{ReadsSame}
 use Rattle.office_laws.proofs.Maps.{by_number, one_key}
 use Rattle.office_laws.proofs.Calendar.{start_next}
 use Rattle.office_laws.proofs.Closed.{KeepsBooks, meter_seen}
 use Rattle.office_laws.proofs.Offices.{Entry, months_now}
 use Rattle.office_laws.proofs.Steps.{KeepsClosed, StaysClosed, lines_at, lines_same, flat_map_same}
+
+pub some_is : {X : Type 0} (o : Option X) → IsSome o → (x : X) × (o ≡ Some x)
+some_is None h = absurd cc
+some_is (Some x) h = (x, refl)
 
 -- ---- a closed month is over by the end of the last closed one
 
@@ -82,14 +87,12 @@ module _ (p q : Office) (kept : KeepsClosed (closed_until p) p q) (month : ℕ) 
 
     -- the readings of a bucket
     pub readings_kept : (name : List ℕ) (before after : Account) (class : Class) → at_name name p.accounts ≡ Some before → at_name name q.accounts ≡ Some after
-        → (meter month class v (book_of after.books) ≡ meter month class u (book_of before.books)) × (early_quantity month class (book_of after.books) ≡ early_quantity month class (book_of before.books))
-        × (move_count month class (book_of after.books) ≡ move_count month class (book_of before.books))
+        → ReadsSame month class u v (book_of before.books) (book_of after.books)
     readings_kept name before after class there here =
         let k = kept.accounts name before there in
         let same = some_same k.0 after (sym k.1 ∙ here) in
-        subst (λ (a : Account). (meter month class v (book_of a.books) ≡ meter month class u (book_of before.books)) × (early_quantity month class (book_of a.books) ≡ early_quantity month class (book_of before.books))
-        × (move_count month class (book_of a.books) ≡ move_count month class (book_of before.books))) same
-        (meter_kept before.books k.0.books k.2 class, k.2.early month class over, k.2.moves month class over)
+        subst (λ (a : Account). ReadsSame month class u v (book_of before.books) (book_of a.books)) same
+        (record { meter_stays = meter_kept before.books k.0.books k.2 class; early_stays = k.2.early month class over; moves_stay = k.2.moves month class over })
 
     meters_shown : (name : List ℕ) (b after : Books) → KeepsBooks (closed_until p) b after
         → MetersShown name month (map (class_meters month v (book_of after)) all_classes) ≡ MetersShown name month (map (class_meters month u (book_of b)) all_classes)

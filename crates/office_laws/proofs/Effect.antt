@@ -2,19 +2,13 @@
 use Rattle.std.proofs.Common.{◌≡◌, ℕ, ◌+◌, ◌-◌, ◌*◌, ◌<◌, ◌≤◌, List, [], ◌∷◌, ◌++◌, refl, sym, ap, ◌∙◌, subst, Bool, true, false, arith, length, sum_by}
 use Rattle.std.specs.Prelude.{Option, Some, None, is_some, option_map, unwrap_or}
 use Rattle.std.specs.List.{AllByRecursion}
-use Rattle.std.specs.List.Sorted.{IsStrictlySortedBy}
-use Rattle.std.specs.Map.{keys_of, values_of, lookup}
-use Rattle.std.specs.BTreeMap.{is_at}
-use Rattle.std.specs.Ordering.{nat_cmp}
-use Rattle.std.proofs.lemmas.Cmp.{nat_list_cmp_total}
-use Rattle.std.proofs.lemmas.Map.Entries.{sum_by-remove_entry, sum_by-insert_entry}
-use Rattle.office_base.specs.Maps.{at_name, at_number, without_number, bytes_cmp}
+use Rattle.office_base.specs.Maps.{at_name, with_name, without_name, at_number, without_number, bytes_cmp, Rises}
 use Rattle.stacks.specs.Stacks.{ids_differ, without, changed_at, with_class}
 use Rattle.class_rules.specs.declared.class.Class.{Class}
 use Rattle.office_base.specs.declared.version_id.VersionId.{VersionId}
 use Rattle.stacks.specs.declared.version.Kind.TheVariants as kind
 use Rattle.stacks.specs.declared.version.Version.{Version}
-use Rattle.stacks.specs.Stacks.{StackRecord, new_stack}
+use Rattle.stacks.specs.Stacks.{StackRecord, stack_of}
 use Rattle.uploads.specs.Uploads.{UploadRecord}
 use Rattle.due_core.specs.declared.action.Action.{Action}
 use Rattle.due_core.specs.declared.action.ActionKind.{ActionKind}
@@ -24,62 +18,51 @@ use Rattle.due_core.specs.declared.action.Target.TheVariants as target
 use Rattle.due_core.specs.Buckets.{BucketRecord}
 use Rattle.plain_office.specs.Office.{Account}
 use Rattle.plain_office.specs.Changes.{versions_of, next_id, add_version, remove_version, move_version, remove_upload_at, effect}
-use Rattle.office_laws.specs.Work.{stack_work, bucket_work, work_left, IsTidy}
+use Rattle.office_laws.proofs.Work.{stack_work, bucket_work, work_left, IsTidy}
 use Rattle.office_laws.proofs.Buckets.{not_empty, with_versions, versions_are}
-use Rattle.office_laws.proofs.Entries.{every_removed, every_inserted, sorted_removed, keys_inserted, length_removed}
+use Rattle.office_laws.proofs.Lists.{added_length, added_sum, replaced_sum}
+use Rattle.office_laws.proofs.Maps.{by_name, by_number, found_every, rises_written, rises_left, every_written, every_left, replaced, removed}
 use Rattle.office_laws.proofs.Ids.{adding, without_one, changed_one, differ_without, differ_added, differ_moved}
 use Rattle.office_laws.proofs.Lowers.{work, remove_lowers, move_lowers, marker_lowers}
 use Rattle.office_laws.proofs.Asked.{HasPlace, Suits, SuitsAction}
 
 -- ---- new versions of a key
 
-keys_same : (bucket : BucketRecord) (key : List ℕ) (at : ℕ) (stack : StackRecord) (versions : List Version) → IsTidy bucket → at_name key bucket.stacks ≡ Some stack
-    → IsStrictlySortedBy bytes_cmp (keys_of (with_versions key at versions bucket).stacks)
-keys_same bucket key at stack [] tidy found = sorted_removed bytes_cmp (is_at (bytes_cmp key)) bucket.stacks tidy.keys
-keys_same bucket key at stack (v ∷ versions) tidy found =
-    rw (not_empty v versions)
-    (subst (IsStrictlySortedBy bytes_cmp) (sym (keys_inserted nat_list_cmp_total key stack (record { changed = at; versions = v ∷ versions }) bucket.stacks tidy.keys found)) tidy.keys)
+module _ (bucket : BucketRecord) (tidy : IsTidy bucket) (key : List ℕ) (at : ℕ) where
+  abbrev Differ : List ℕ × StackRecord → Type 0
+  Differ stack = ids_differ stack.1.versions ≡ true
 
-ids_same : (bucket : BucketRecord) (key : List ℕ) (at : ℕ) (versions : List Version) → IsTidy bucket → ids_differ versions ≡ true
-    → AllByRecursion (λ (entry : List ℕ × StackRecord). ids_differ entry.1.versions ≡ true) (with_versions key at versions bucket).stacks
-ids_same bucket key at [] tidy differ = every_removed (λ (entry : List ℕ × StackRecord). ids_differ entry.1.versions ≡ true) (is_at (bytes_cmp key)) bucket.stacks tidy.ids
-ids_same bucket key at (v ∷ versions) tidy differ =
-    rw (not_empty v versions)
-    (every_inserted (λ (entry : List ℕ × StackRecord). ids_differ entry.1.versions ≡ true) bytes_cmp key (record { changed = at; versions = v ∷ versions }) (λ _. differ) bucket.stacks tidy.ids)
+  abbrev work_of : List ℕ × StackRecord → ℕ
+  work_of stack = stack_work stack.1
 
-weight_is : (stacks : List (List ℕ × StackRecord)) (key : List ℕ) (stack : StackRecord) → at_name key stacks ≡ Some stack
-    → unwrap_or (option_map stack_work (lookup (is_at (bytes_cmp key)) stacks)) 0 ≡ stack_work stack
-weight_is stacks key stack found = ap (λ (o : Option StackRecord). unwrap_or (option_map stack_work o) 0) found
+  keys_rise : (versions : List Version) → Rises bytes_cmp (with_versions key at versions bucket).stacks
+  keys_rise [] = rises_left by_name key bucket.stacks tidy.keys
+  keys_rise (v ∷ versions) = rw (not_empty v versions) (rises_written by_name key (stack_of at (v ∷ versions)) bucket.stacks tidy.keys)
 
-stacks_work : (bucket : BucketRecord) (key : List ℕ) (at : ℕ) (stack : StackRecord) (versions : List Version) → IsTidy bucket → at_name key bucket.stacks ≡ Some stack
-    → sum_by stack_work (values_of (with_versions key at versions bucket).stacks) + work stack.versions ≡ sum_by stack_work (values_of bucket.stacks) + work versions
-stacks_work bucket key at stack [] tidy found =
-    omega (arith, sum_by-remove_entry stack_work (is_at (bytes_cmp key)) bucket.stacks, weight_is bucket.stacks key stack found)
-stacks_work bucket key at stack (v ∷ versions) tidy found =
-    rw (not_empty v versions)
-    (omega (arith, sum_by-insert_entry stack_work nat_list_cmp_total bucket.stacks key (record { changed = at; versions = v ∷ versions }) tidy.keys, weight_is bucket.stacks key stack found))
+  all_differ : (versions : List Version) → ids_differ versions ≡ true → AllByRecursion Differ (with_versions key at versions bucket).stacks
+  all_differ [] differ = every_left by_name key Differ bucket.stacks tidy.ids
+  all_differ (v ∷ versions) differ =
+      rw (not_empty v versions) (every_written by_name key (stack_of at (v ∷ versions)) Differ bucket.stacks tidy.keys differ tidy.ids)
 
-uploads_same : (bucket : BucketRecord) (key : List ℕ) (at : ℕ) (versions : List Version) → length (with_versions key at versions bucket).uploads ≡ length bucket.uploads
-uploads_same bucket key at versions = refl
+  stacks_work : (stack : StackRecord) (versions : List Version) → at_name key bucket.stacks ≡ Some stack
+      → sum_by work_of (with_versions key at versions bucket).stacks + work stack.versions ≡ sum_by work_of bucket.stacks + work versions
+  stacks_work stack [] found =
+      let sum = added_sum (key, stack) (without_name key bucket.stacks) bucket.stacks (removed by_name key stack bucket.stacks found) work_of in
+      omega (arith, sum)
+  stacks_work stack (v ∷ versions) found =
+      let new = stack_of at (v ∷ versions) in
+      let sum = replaced_sum (key, stack) (key, new) bucket.stacks (with_name key new bucket.stacks) (replaced by_name key new stack bucket.stacks tidy.keys found) work_of in
+      rw (not_empty v versions) (omega (arith, sum))
 
-pub falls : (bucket : BucketRecord) (key : List ℕ) (at : ℕ) (stack : StackRecord) (versions : List Version) → IsTidy bucket → at_name key bucket.stacks ≡ Some stack
-    → work versions < work stack.versions → bucket_work (with_versions key at versions bucket) < bucket_work bucket
-falls bucket key at stack versions tidy found less =
-    omega (arith, stacks_work bucket key at stack versions tidy found, uploads_same bucket key at versions)
+  pub falls : (stack : StackRecord) (versions : List Version) → at_name key bucket.stacks ≡ Some stack → work versions < work stack.versions
+      → bucket_work (with_versions key at versions bucket) < bucket_work bucket
+  falls stack versions found less = omega (arith, stacks_work stack versions found)
 
-pub stays_tidy : (bucket : BucketRecord) (key : List ℕ) (at : ℕ) (stack : StackRecord) (versions : List Version) → IsTidy bucket → at_name key bucket.stacks ≡ Some stack
-    → ids_differ versions ≡ true → IsTidy (with_versions key at versions bucket)
-stays_tidy bucket key at stack versions tidy found differ = record { keys = keys_same bucket key at stack versions tidy found; ids = ids_same bucket key at versions tidy differ }
+  pub stays_tidy : (versions : List Version) → ids_differ versions ≡ true → IsTidy (with_versions key at versions bucket)
+  stays_tidy versions differ = record { keys = keys_rise versions; numbers = tidy.numbers; ids = all_differ versions differ }
 
--- ---- the stack of the target
-
-found_differ : (key : List ℕ) (stack : StackRecord) (stacks : List (List ℕ × StackRecord)) → AllByRecursion (λ (entry : List ℕ × StackRecord). ids_differ entry.1.versions ≡ true) stacks
-    → at_name key stacks ≡ Some stack → ids_differ stack.versions ≡ true
-found_differ key stack [] all found = absurd (cc)
-found_differ key stack (e ∷ es) all found = by (is_at (bytes_cmp key) e.0) found (found_differ key stack es all.1) where
-  by : (b : Bool) → Rattle.std.proofs.Common.cond b (Some e.1) (at_name key es) ≡ Some stack → (at_name key es ≡ Some stack → ids_differ stack.versions ≡ true) → ids_differ stack.versions ≡ true
-  by true is more = let same : e.1 ≡ stack = cc in subst (λ (s : StackRecord). ids_differ s.versions ≡ true) same all.0
-  by false is more = more is
+  pub found_differ : (stack : StackRecord) → at_name key bucket.stacks ≡ Some stack → ids_differ stack.versions ≡ true
+  found_differ stack found = found_every by_name Differ key stack bucket.stacks tidy.ids found
 
 -- ---- the actions on a version
 
@@ -122,41 +105,40 @@ module _ (account : Account) (tidy : IsTidy account.bucket) (key : List ℕ) (ru
   remove_less : (id : VersionId) → Suits account.bucket key action.Remove (target.Version id) → IsLess (remove_version key id since account) account
   remove_less id suits =
       let stack = suits.0 in
-      let differ = found_differ key stack account.bucket.stacks tidy.ids suits.1 in
+      let differ = found_differ account.bucket tidy key since stack suits.1 in
       rw (versions_are account.bucket key stack suits.1) (
-        falls account.bucket key since stack (without id stack.versions) tidy suits.1 (remove_here stack id differ suits.2),
-        stays_tidy account.bucket key since stack (without id stack.versions) tidy suits.1 (differ_without id stack.versions differ),
+        falls account.bucket tidy key since stack (without id stack.versions) suits.1 (remove_here stack id differ suits.2),
+        stays_tidy account.bucket tidy key since (without id stack.versions) (differ_without id stack.versions differ),
       )
 
   move_less : (id : VersionId) (to : Class) → Suits account.bucket key (action.Transition to) (target.Version id) → IsLess (move_version key id to since account) account
   move_less id to suits =
       let stack = suits.0 in
-      let differ = found_differ key stack account.bucket.stacks tidy.ids suits.1 in
+      let differ = found_differ account.bucket tidy key since stack suits.1 in
       rw (versions_are account.bucket key stack suits.1) (
-        falls account.bucket key since stack (changed_at id (with_class to since) stack.versions) tidy suits.1 (move_here stack id differ to since suits.2),
-        stays_tidy account.bucket key since stack (changed_at id (with_class to since) stack.versions) tidy suits.1 (differ_moved id to since stack.versions ∙ differ),
+        falls account.bucket tidy key since stack (changed_at id (with_class to since) stack.versions) suits.1 (move_here stack id differ to since suits.2),
+        stays_tidy account.bucket tidy key since (changed_at id (with_class to since) stack.versions) (differ_moved id to since stack.versions ∙ differ),
       )
 
   marker_less : (id : VersionId) → Suits account.bucket key action.Marker (target.Version id) → IsLess (add_version key kind.Marker since account) account
   marker_less id suits =
       let stack = suits.0 in
       let new = next_id account.bucket in
-      let differ = found_differ key stack account.bucket.stacks tidy.ids suits.1 in
+      let differ = found_differ account.bucket tidy key since stack suits.1 in
       let after = adding new kind.Marker since stack.versions in
-      let still = stays_tidy account.bucket key since stack after tidy suits.1 (differ_added new kind.Marker since stack.versions differ) in
+      let still = stays_tidy account.bucket tidy key since after (differ_added new kind.Marker since stack.versions differ) in
       rw (versions_are account.bucket key stack suits.1) (
-        falls account.bucket key since stack after tidy suits.1 (marker_here stack id differ new since suits.2),
-        record { keys = still.keys; ids = still.ids },
+        falls account.bucket tidy key since stack after suits.1 (marker_here stack id differ new since suits.2),
+        record { keys = still.keys; numbers = still.numbers; ids = still.ids },
       )
 
   abort_less : (number : ℕ) → is_some (at_number number account.bucket.uploads) ≡ true → IsLess (remove_upload_at number since account) account
   abort_less number some = by (at_number number account.bucket.uploads) refl where
-    gone : length (without_number number account.bucket.uploads) + 1 ≡ length account.bucket.uploads
-    gone = length_removed (is_at (nat_cmp number)) account.bucket.uploads some
-
     by : (o : Option UploadRecord) → at_number number account.bucket.uploads ≡ o → IsLess (remove_upload_at number since account) account
     by None is = absurd (cc)
-    by (Some upload) is = rw is (omega (arith, gone), record { keys = tidy.keys; ids = tidy.ids })
+    by (Some upload) is =
+        let gone = added_length (number, upload) (without_number number account.bucket.uploads) account.bucket.uploads (removed by_number number upload account.bucket.uploads is) in
+        rw is (omega (arith, gone), record { keys = tidy.keys; numbers = rises_left by_number number account.bucket.uploads tidy.numbers; ids = tidy.ids })
 
   no_version_abort : (kind : ActionKind) (number : ℕ) → kind ≡ action.Abort → is_some (at_number number account.bucket.uploads) ≡ true
       → IsLess (effect (record { kind = kind; key = key; target = target.Upload number; rule = rule; since = since }) account) account

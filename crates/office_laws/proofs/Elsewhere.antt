@@ -18,7 +18,7 @@ use Rattle.office_types.specs.declared.refusal.Refusal.{Refusal}
 use Rattle.office_types.specs.declared.refusal.Refusal.TheVariants.{NoSuchBucket, BucketExists, NoTariff}
 use Rattle.office_types.specs.declared.refusal.What.{What}
 use Rattle.office_types.specs.declared.refusal.What.TheVariants.{Buckets, Versions, Uploads, Parts, Names, Rules}
-use Rattle.office_laws.specs.Named.{IsElsewhere}
+use Rattle.office_laws.specs.Commands.{IsElsewhere}
 use Rattle.office_laws.proofs.Maps.{by_name, other_names, bytes_same, at_other}
 
 module _ (name : List ℕ) (p : Office) where

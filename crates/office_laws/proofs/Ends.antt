@@ -2,13 +2,9 @@
 use Rattle.std.proofs.Common.{◌≡◌, ℕ, zero, suc, ◌*◌, ◌≤◌, List, [], ◌∷◌, refl, sym, ◌∙◌, subst, true, arith, length, sum_by, is_lt}
 use Rattle.std.specs.Prelude.{Option, Some, None, MatchOption}
 use Rattle.std.specs.List.{AllByRecursion, list_all}
-use Rattle.std.specs.List.Sorted.{IsStrictlySortedBy}
-use Rattle.std.specs.Map.{keys_of, values_of}
-use Rattle.std.specs.declared.cmp.Ordering.{Ordering}
-use Rattle.std.specs.declared.cmp.Ordering.TheVariants.{Less, Equal, Greater}
 use Rattle.std.proofs.lemmas.Bool.{and_parts}
 use Rattle.std.proofs.lemmas.List.Sums.{sum_by-cons}
-use Rattle.office_base.specs.Maps.{bytes_cmp, Rises}
+use Rattle.office_base.specs.Maps.{at_name}
 use Rattle.stacks.specs.Stacks.{ids_differ, has_moments_until}
 use Rattle.stacks.specs.Stacks.{StackRecord}
 use Rattle.due_core.specs.Choice.{choice}
@@ -18,8 +14,10 @@ use Rattle.plain_office.specs.Office.{Account, Office}
 use Rattle.plain_office.specs.Changes.{effect}
 use Rattle.plain_office.specs.Orderly.{IsOrderlyStack, IsOrderlyBucket, IsBlank, IsOrderlyUntil, IsOrderly}
 use Rattle.plain_office.specs.Sweep.{IsSwept}
-use Rattle.office_laws.specs.Work.{most_actions, work_left, stack_work, IsTidy, HasSweepWithin}
-use Rattle.office_laws.proofs.Entries.{every_weaker}
+use Rattle.office_laws.specs.Bound.{most_actions, HasSweepWithin}
+use Rattle.office_laws.proofs.Work.{work_left, stack_work, IsTidy}
+use Rattle.office_laws.proofs.Lists.{every_weaker}
+use Rattle.office_laws.proofs.Maps.{by_name, found_every}
 use Rattle.office_laws.proofs.Lowers.{stack_most}
 use Rattle.office_laws.proofs.Asked.{choice_suits}
 use Rattle.office_laws.proofs.Effect.{effect_lowers}
@@ -60,40 +58,29 @@ one_sweep u (a ∷ actions) (b ∷ others) before after end h k =
 
 -- ---- the bound
 
-stacks_most : (stacks : List (List ℕ × StackRecord)) → sum_by stack_work (values_of stacks) ≤ 8 * sum_by (λ stack. length stack.1.versions) stacks
+stacks_most : (stacks : List (List ℕ × StackRecord))
+    → sum_by (λ (stack : List ℕ × StackRecord). stack_work stack.1) stacks ≤ 8 * sum_by (λ (stack : List ℕ × StackRecord). length stack.1.versions) stacks
 stacks_most [] = omega arith
 stacks_most (e ∷ es) =
     let h = stacks_most es in
-    omega (arith, stack_most e.1.versions, sum_by-cons stack_work e.1 (values_of es), sum_by-cons (λ (stack : List ℕ × StackRecord). length stack.1.versions) e es)
+    let a = sum_by-cons (λ (stack : List ℕ × StackRecord). stack_work stack.1) e es in
+    let b = sum_by-cons (λ (stack : List ℕ × StackRecord). length stack.1.versions) e es in
+    omega (arith, stack_most e.1.versions)
 
-pub work_most : (account : Account) → work_left account ≤ most_actions account
+pub work_most : (account : Account) → work_left account ≤ most_actions account.bucket
 work_most account = omega (arith, stacks_most account.bucket.stacks)
 
 -- ---- an orderly bucket is tidy
 
-less_is : (o : Ordering) → is_lt o ≡ true → o ≡ Less
-less_is Less h = refl
-less_is Equal h = absurd (cc)
-less_is Greater h = absurd (cc)
-
-keys_above : {X : Type 0} (key : List ℕ) (es : List (List ℕ × X)) → AllByRecursion (λ (other : List ℕ × X). is_lt (bytes_cmp key other.0) ≡ true) es
-    → AllByRecursion (λ (other : List ℕ). bytes_cmp key other ≡ Less) (keys_of es)
-keys_above key [] h = tt
-keys_above key (e ∷ es) h = (less_is (bytes_cmp key e.0) h.0, keys_above key es h.1)
-
-keys_rise : {X : Type 0} (es : List (List ℕ × X)) → Rises bytes_cmp es → IsStrictlySortedBy bytes_cmp (keys_of es)
-unfolding IsStrictlySortedBy
-keys_rise [] h = tt
-keys_rise (e ∷ es) h = (keys_above e.0 es h.0, keys_rise es h.1)
-
 pub tidy_from_orderly : (last : ℕ) (bucket : BucketRecord) → IsOrderlyBucket last bucket → IsTidy bucket
 tidy_from_orderly last bucket orderly = record {
-  keys = keys_rise bucket.stacks orderly.keys;
+  keys = orderly.keys;
+  numbers = orderly.numbers;
   ids = every_weaker (λ (entry : List ℕ × StackRecord). IsOrderlyStack bucket.versioning bucket.next_version last entry.1) (λ (entry : List ℕ × StackRecord). ids_differ entry.1.versions ≡ true)
       (λ entry h. (and_parts (ids_differ entry.1.versions) (list_all (has_moments_until entry.1.changed) entry.1.versions) h.ids_and_moments).0) bucket.stacks orderly.stacks;
 }
 
-pub sweep_ends : (u last : ℕ) (account : Account) → IsOrderlyBucket last account.bucket → HasSweepWithin u account (most_actions account)
+pub sweep_ends : (u last : ℕ) (account : Account) → IsOrderlyBucket last account.bucket → HasSweepWithin u account (most_actions account.bucket)
 sweep_ends u last account orderly =
     let s = sweep_exists u account (tidy_from_orderly last account.bucket orderly) in
     let most = work_most account in
@@ -102,12 +89,14 @@ sweep_ends u last account orderly =
 -- ---- each account of an orderly office
 
 abbrev HasSweeps : List ℕ × Account → Type 0
-HasSweeps entry = (u : ℕ) → HasSweepWithin u entry.1 (most_actions entry.1)
+HasSweeps entry = (u : ℕ) → HasSweepWithin u entry.1 (most_actions entry.1.bucket)
 
 sweeps_by : (office : Office) (last : Option ℕ) → MatchOption last (IsBlank office) (λ moment. IsOrderlyUntil moment office) → AllByRecursion HasSweeps office.accounts
 sweeps_by office None blank = subst (AllByRecursion HasSweeps) (sym blank.accounts) tt
 sweeps_by office (Some last) until =
     every_weaker (λ (entry : List ℕ × Account). IsOrderlyBucket last entry.1.bucket) HasSweeps (λ entry h u. sweep_ends u last entry.1 h) office.accounts until.buckets
 
-pub office_sweeps : (office : Office) → IsOrderly office → AllByRecursion (λ (entry : List ℕ × Account). (u : ℕ) → HasSweepWithin u entry.1 (most_actions entry.1)) office.accounts
-office_sweeps office orderly = sweeps_by office office.last orderly.records.moments
+pub office_sweeps : (u : ℕ) (office : Office) (name : List ℕ) (account : Account) → IsOrderly office → at_name name office.accounts ≡ Some account
+    → HasSweepWithin u account (most_actions account.bucket)
+office_sweeps u office name account orderly is =
+    found_every by_name HasSweeps name account office.accounts (sweeps_by office office.last orderly.records.moments) is u

@@ -27,6 +27,19 @@ module _ {X : Type 0} (P : X → Type 0) where
     by true k = (h.0, k)
     by false k = k
 
+module _ {X : Type 0} (P : X → Type 0) where
+  -- what passes a test
+  pub passing : (test : X → Bool) → ((x : X) → test x ≡ true → P x) → (xs : List X) → AllByRecursion P (filter test xs)
+  passing test f [] = tt
+  passing test f (x ∷ xs) = by (test x) refl (passing test f xs) where
+    by : (b : Bool) → test x ≡ b → AllByRecursion P (filter test xs) → AllByRecursion P (cond b (x ∷ filter test xs) (filter test xs))
+    by true is k = (f x is, k)
+    by false is k = k
+
+  pub every_cond : (b : Bool) (xs ys : List X) → (b ≡ true → AllByRecursion P xs) → (b ≡ false → AllByRecursion P ys) → AllByRecursion P (cond b xs ys)
+  every_cond true xs ys f g = f refl
+  every_cond false xs ys f g = g refl
+
 pub every_weaker : {X : Type 0} (Q P : X → Type 0) → ((x : X) → Q x → P x) → (xs : List X) → AllByRecursion Q xs → AllByRecursion P xs
 every_weaker Q P f [] h = tt
 every_weaker Q P f (x ∷ xs) h = (f x h.0, every_weaker Q P f xs h.1)

@@ -11,7 +11,7 @@ use Rattle.stacks.specs.declared.version.Kind.TheVariants.{Object, Marker}
 use Rattle.stacks.specs.declared.version.Version.{Version}
 use Rattle.due_core.specs.declared.action.ActionKind.{ActionKind}
 use Rattle.due_core.specs.declared.action.ActionKind.TheVariants as action
-use Rattle.office_laws.specs.Work.{version_work, marker_work}
+use Rattle.office_laws.proofs.Work.{version_work, marker_work}
 use Rattle.office_laws.proofs.Ids.{adding}
 
 abbrev pub work : List Version → ℕ

@@ -15,7 +15,7 @@ use Rattle.office_types.specs.declared.command.Command.{Command}
 use Rattle.office_types.specs.declared.command.Command.TheVariants as command
 use Rattle.office_types.specs.declared.command.Entry.{Entry}
 use Rattle.office_types.specs.declared.reply.Reply.TheVariants.{NothingDue}
-use Rattle.office_laws.specs.Named.{OnlyActs}
+use Rattle.office_laws.specs.Commands.{OnlyActs}
 use Rattle.office_laws.proofs.Maps.{by_name, at_written}
 use Rattle.office_laws.proofs.Elsewhere.{step_leaves}
 
