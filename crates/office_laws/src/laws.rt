@@ -1,0 +1,133 @@
+// What holds of every office, as calls that do nothing.
+ghost use Rattle.std.specs.Prelude.{◌≡◌, ℕ, ◌≤◌, ◌++◌, ◌∷◌, List, [], Some, Ok, true, filter, is_none};
+ghost use Rattle.std.specs.List.{AllByRecursion};
+ghost use Rattle.office_base.specs.Maps.{at_name, at_number};
+ghost use Rattle.office_base.specs.declared.version_id.VersionId.{VersionId};
+ghost use Rattle.class_rules.specs.declared.class.Class.{Class};
+ghost use Rattle.tariff.specs.Prices.{Prices};
+ghost use Rattle.stacks.specs.Stacks.{version_at};
+ghost use Rattle.stacks.specs.declared.version.Version.{Version};
+ghost use Rattle.uploads.specs.Uploads.{UploadRecord};
+ghost use Rattle.uploads.specs.declared.part.Part.{Part};
+ghost use Rattle.due_core.specs.declared.action.Action.{Action};
+ghost use Rattle.office_types.specs.declared.command.Command.{Command};
+ghost use Rattle.office_types.specs.declared.command.Command.TheVariants as command;
+ghost use Rattle.office_types.specs.declared.command.Entry.{Entry};
+ghost use Rattle.office_types.specs.declared.command.Query.TheVariants as query;
+ghost use Rattle.office_types.specs.declared.reply.Reply.TheVariants.{NothingDue};
+ghost use Rattle.plain_office.specs.Office.{Office, Account, Booked, of_version, of_part, empty_office, book_of};
+ghost use Rattle.plain_office.specs.Books.{is_open_stay};
+ghost use Rattle.plain_office.specs.Changes.{versions_of};
+ghost use Rattle.plain_office.specs.Orderly.{IsOrderly, SizeFits, HasOpenStays, stays_expected, stay_of_version, stay_of_part};
+ghost use Rattle.plain_office.specs.Step.{step};
+ghost use Rattle.plain_office.specs.Answers.{answer};
+ghost use Rattle.plain_office.specs.Run.{is_not_before, run_from, run};
+ghost use Rattle.plain_office.specs.Sweep.{IsSwept};
+ghost use Rattle.office_laws.specs.Commands.{SizesFit, IsElsewhere, OnlyActs};
+ghost use Rattle.office_laws.specs.ClosedMonths.{IsClosedMonth, ReadsSame};
+ghost use Rattle.office_laws.specs.Bound.{most_actions, HasSweepWithin};
+
+/// States that the empty office is orderly, that each command keeps an office orderly, and that so does each run.
+pub fn steps_are_orderly()
+    ensures begins { IsOrderly empty_office }
+    ensures keeps { (t : ℕ) (c : Command) (p : Office) → SizeFits c → IsOrderly p → is_not_before p.last t ≡ true
+        → IsOrderly (step t c p).0 }
+    ensures runs { (entries : List Entry) (p : Office) → SizesFit entries → run entries ≡ Some p → IsOrderly p }
+{}
+
+/// States that each open stay is the one that the records ask for under its key and item, and that each version and each
+/// part has exactly one.
+pub fn open_stays_are_those_of_the_records()
+    ensures asked { (account : Account) (front back : List Booked) (stay : Booked)
+        → HasOpenStays account → account.books.stays ≡ front ++ stay ∷ back → is_none stay.1.to ≡ true
+        → stays_expected account.bucket stay.0.key stay.0.item ≡ stay ∷ [] }
+    ensures version { (account : Account) (key : List ℕ) (id : VersionId) (version : Version)
+        → HasOpenStays account → version_at id (versions_of key account.bucket) ≡ Some version
+        → filter (is_open_stay key (of_version id)) account.books.stays ≡ stay_of_version key version ∷ [] }
+    ensures part { (account : Account) (number place : ℕ) (upload : UploadRecord) (part : Part)
+        → HasOpenStays account → at_number number account.bucket.uploads ≡ Some upload
+        → at_number place upload.parts ≡ Some part
+        → filter (is_open_stay upload.key (of_part number place)) account.books.stays
+        ≡ stay_of_part number upload place part ∷ [] }
+{}
+
+/// States that a closed month stays closed, with its prices, and that no later command changes what is answered of its
+/// meters, early quantities and moves, nor its report.
+///
+/// Own rule: a month is closed by a command.
+pub fn closed_months_stay()
+    ensures closed { (t : ℕ) (c : Command) (p : Office) (month : ℕ) (tariff : Prices)
+        → SizeFits c → IsOrderly p → is_not_before p.last t ≡ true → at_number month p.closed ≡ Some tariff
+        → at_number month (step t c p).0.closed ≡ Some tariff }
+    ensures readings { (t u v : ℕ) (c : Command) (p : Office) (month : ℕ) (name : List ℕ) (class : Class)
+        (before after : Account)
+        → SizeFits c → is_not_before p.last t ≡ true → IsClosedMonth month u v p
+        → at_name name p.accounts ≡ Some before → at_name name (step t c p).0.accounts ≡ Some after
+        → ReadsSame month class u v (book_of before.books) (book_of after.books) }
+    ensures meters { (t u v : ℕ) (c : Command) (p : Office) (month : ℕ) (name : List ℕ) (account : Account)
+        → SizeFits c → is_not_before p.last t ≡ true → IsClosedMonth month u v p
+        → at_name name p.accounts ≡ Some account
+        → answer v (query.Meters name month) (step t c p).0 ≡ answer u (query.Meters name month) p }
+    ensures report { (t u v : ℕ) (c : Command) (p : Office) (month : ℕ)
+        → SizeFits c → is_not_before p.last t ≡ true → IsClosedMonth month u v p
+        → answer v (query.Report month) (step t c p).0 ≡ answer u (query.Report month) p }
+{}
+
+/// States the same of any number of later commands.
+pub fn closed_months_stay_for_good()
+    ensures meters { (entries : List Entry) (u v : ℕ) (p q : Office) (month : ℕ) (name : List ℕ) (account : Account)
+        → SizesFit entries → run_from (Some p) entries ≡ Some q → IsClosedMonth month u v p
+        → at_name name p.accounts ≡ Some account
+        → answer v (query.Meters name month) q ≡ answer u (query.Meters name month) p }
+    ensures report { (entries : List Entry) (u v : ℕ) (p q : Office) (month : ℕ)
+        → SizesFit entries → run_from (Some p) entries ≡ Some q → IsClosedMonth month u v p
+        → answer v (query.Report month) q ≡ answer u (query.Report month) p }
+{}
+
+/// States that a command leaves every bucket that it does not name, records and books.
+pub fn other_buckets_stay()
+    ensures { (t : ℕ) (c : Command) (p : Office) (name : List ℕ) → IsElsewhere name c
+        → at_name name (step t c p).0.accounts ≡ at_name name p.accounts }
+{}
+
+/// States that where an act answers that nothing is due, the sweep at that moment does nothing, and the office is as before.
+pub fn nothing_due_is_the_empty_sweep()
+    ensures swept { (t : ℕ) (p : Office) (name : List ℕ) (account : Account)
+        → at_name name p.accounts ≡ Some account → (step t (command.Act name) p).1 ≡ Ok NothingDue
+        → IsSwept t [] account account }
+    ensures same { (t : ℕ) (p : Office) (name : List ℕ) (account : Account)
+        → at_name name p.accounts ≡ Some account → (step t (command.Act name) p).1 ≡ Ok NothingDue
+        → (step t (command.Act name) p).0 ≡ p }
+{}
+
+/// States that each bucket of an orderly office has a sweep at each moment, of no more actions than the bound, and only one.
+pub fn every_sweep_ends()
+    ensures ends { (u : ℕ) (p : Office) (name : List ℕ) (account : Account)
+        → IsOrderly p → at_name name p.accounts ≡ Some account
+        → HasSweepWithin u account (most_actions account.bucket) }
+    ensures one { (u : ℕ) (actions others : List Action) (before after end : Account)
+        → IsSwept u actions before after → IsSwept u others before end → (actions ≡ others) × (after ≡ end) }
+{}
+
+/// States that sweeping at a moment and again at a later one is sweeping at the later one.
+pub fn sweeping_twice_is_sweeping_once()
+    ensures { (t u : ℕ) (actions others : List Action) (before middle after : Account)
+        → t ≤ u → IsSwept t actions before middle → IsSwept u others middle after
+        → IsSwept u (actions ++ others) before after }
+{}
+
+/// States that where nothing but acts was done to a bucket by a moment, sweeping it then ends as if nothing had been done:
+/// in the same records and books.
+pub fn acts_change_no_later_sweep()
+    ensures swept { (entries : List Entry) (u : ℕ) (p q : Office) (name : List ℕ) (others : List Action)
+        (before after end : Account)
+        → AllByRecursion (OnlyActs name u) entries → run_from (Some p) entries ≡ Some q
+        → at_name name p.accounts ≡ Some before → at_name name q.accounts ≡ Some after → IsSwept u others after end
+        → (all : List Action) × IsSwept u all before end }
+    ensures same { (entries : List Entry) (u : ℕ) (p q : Office) (name : List ℕ) (others all : List Action)
+        (before after end last : Account)
+        → AllByRecursion (OnlyActs name u) entries → run_from (Some p) entries ≡ Some q
+        → at_name name p.accounts ≡ Some before → at_name name q.accounts ≡ Some after
+        → IsSwept u others after end → IsSwept u all before last
+        → last ≡ end }
+{}
