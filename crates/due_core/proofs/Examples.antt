@@ -16,6 +16,7 @@ use Rattle.due_core.specs.Candidates.{eligible, candidates}
 use Rattle.due_core.specs.Choice.{choice}
 use Rattle.due_core.specs.declared.action.ActionKind.{ActionKind}
 use Rattle.due_core.specs.declared.action.ActionKind.TheVariants as action
+use Rattle.due_core.specs.declared.action.Action.{Action}
 use Rattle.due_core.specs.declared.action.Candidate.{Candidate}
 use Rattle.due_core.specs.declared.action.Target.TheVariants as target
 
@@ -57,14 +58,20 @@ bucket versioning rules versions = record {
   rules = Some (record { rules = rules; mode = mode.All128K });
   rules_since = start;
   stacks = (a, record { changed = start; versions = versions }) ∷ [];
-  uploads = (7, record { key = a; class = class.Standard; tags = []; started = start; changed = start; parts = [] }) ∷ [];
+  uploads = (7, record { key = a; class = class.Standard; tags = []; started = start; changed = start; parts = [] })
+      ∷ [];
   next_version = 9;
   next_upload = 8;
 }
 
--- an action on `a` by the first rule, three days after the start
-abbrev removal : ℕ → Candidate
-removal number = record { action = record { kind = action.Remove; key = a; target = target.Version (id.Number number); rule = 1; since = in_three_days }; age = 0 }
+-- an action on a version of `a` by this rule
+abbrev on_version : ActionKind → ℕ → ℕ → ℕ → Action
+on_version kind number rule since =
+    record { kind = kind; key = a; target = target.Version (id.Number number); rule = rule; since = since }
+
+-- one of the first rule on the oldest version
+abbrev on_oldest : ActionKind → ℕ → ℕ → Candidate
+on_oldest kind number since = record { action = on_version kind number 1 since; age = 0 }
 
 -- ---- what each action of a rule asks
 
@@ -72,12 +79,12 @@ abbrev expires : Rule
 expires = record no_action { expiration = Some (record { days = Some 3; date = None; lone_marker = false }) }
 
 -- a current object is removed for good where the bucket keeps no versions, and else covered by a marker
-expired : eligible (bucket versioning.Unversioned (expires ∷ []) (object 1 ∷ [])) ≡ removal 1 ∷ []
+expired : eligible (bucket versioning.Unversioned (expires ∷ []) (object 1 ∷ [])) ≡ on_oldest action.Remove 1 in_three_days ∷ []
 unfolding eligible version_actions
 expired = refl
 
 covered : eligible (bucket versioning.Enabled (expires ∷ []) (object 1 ∷ []))
-    ≡ record { action = record { kind = action.Marker; key = a; target = target.Version (id.Number 1); rule = 1; since = in_three_days }; age = 0 } ∷ []
+    ≡ on_oldest action.Marker 1 in_three_days ∷ []
 unfolding eligible version_actions
 covered = refl
 
@@ -86,12 +93,12 @@ abbrev on_a_date : Rule
 on_a_date = record no_action { expiration = Some (record { days = None; date = Some 0; lone_marker = false }) }
 
 at_the_change : eligible (bucket versioning.Unversioned (on_a_date ∷ []) (object 1 ∷ []))
-    ≡ record { action = record { kind = action.Remove; key = a; target = target.Version (id.Number 1); rule = 1; since = start }; age = 0 } ∷ []
+    ≡ on_oldest action.Remove 1 start ∷ []
 unfolding eligible version_actions
 at_the_change = refl
 
 -- a marker that is the only version expires as an object does; one above another version does not
-marker_expires : eligible (bucket versioning.Enabled (expires ∷ []) (marker 1 ∷ [])) ≡ removal 1 ∷ []
+marker_expires : eligible (bucket versioning.Enabled (expires ∷ []) (marker 1 ∷ [])) ≡ on_oldest action.Remove 1 in_three_days ∷ []
 unfolding eligible version_actions
 marker_expires = refl
 
@@ -104,13 +111,15 @@ abbrev clears : Rule
 clears = record no_action { expiration = Some (record { days = None; date = None; lone_marker = true }) }
 
 cleared : eligible (bucket versioning.Enabled (clears ∷ []) (marker 1 ∷ []))
-    ≡ record { action = record { kind = action.Remove; key = a; target = target.Version (id.Number 1); rule = 1; since = 1_389_830_400_000 }; age = 0 } ∷ []
+    ≡ on_oldest action.Remove 1 1_389_830_400_000 ∷ []
 unfolding eligible version_actions
 cleared = refl
 
 -- an object moves to colder classes alone
 abbrev moves : Rule
-moves = record no_action { transitions = map (λ to. record { when = when.Days 3; to = to }) (class.StandardIa ∷ class.GlacierIr ∷ class.Glacier ∷ []) }
+moves = record no_action {
+  transitions = map (λ to. record { when = when.Days 3; to = to }) (class.StandardIa ∷ class.GlacierIr ∷ class.Glacier ∷ []);
+}
 
 abbrev kinds_in : List Candidate → List (ActionKind × ℕ)
 kinds_in found = map (λ (candidate : Candidate). (candidate.action.kind, candidate.action.since)) found
@@ -124,7 +133,8 @@ moved = refl
 abbrev removes : Option ℕ → Rule
 removes newer = record no_action { noncurrent_expiration = Some (record { days = 3; newer = newer }) }
 
-noncurrent_removed : eligible (bucket versioning.Enabled (removes (Some 1) ∷ []) (object 3 ∷ marker 2 ∷ object 1 ∷ [])) ≡ removal 1 ∷ []
+noncurrent_removed : eligible
+    (bucket versioning.Enabled (removes (Some 1) ∷ []) (object 3 ∷ marker 2 ∷ object 1 ∷ [])) ≡ on_oldest action.Remove 1 in_three_days ∷ []
 unfolding eligible version_actions
 noncurrent_removed = refl
 
@@ -133,7 +143,7 @@ abbrev moves_noncurrent : Rule
 moves_noncurrent = record no_action { noncurrent_moves = record { days = 3; newer = None; to = class.Glacier } ∷ [] }
 
 noncurrent_moved : eligible (bucket versioning.Enabled (moves_noncurrent ∷ []) (object 3 ∷ marker 2 ∷ object 1 ∷ []))
-    ≡ record { action = record { kind = action.Transition class.Glacier; key = a; target = target.Version (id.Number 1); rule = 1; since = in_three_days }; age = 0 } ∷ []
+    ≡ on_oldest (action.Transition class.Glacier) 1 in_three_days ∷ []
 unfolding eligible version_actions
 noncurrent_moved = refl
 
@@ -142,12 +152,16 @@ abbrev aborts : Rule
 aborts = record no_action { abort_days = Some 3 }
 
 upload_aborted : eligible (bucket versioning.Enabled (aborts ∷ []) [])
-    ≡ record { action = record { kind = action.Abort; key = a; target = target.Upload 7; rule = 1; since = in_three_days }; age = 7 } ∷ []
+    ≡ record {
+      action = record { kind = action.Abort; key = a; target = target.Upload 7; rule = 1; since = in_three_days };
+      age = 7;
+    } ∷ []
 unfolding eligible version_actions
 upload_aborted = refl
 
 -- a rule that is not enabled asks for nothing
-disabled : eligible (bucket versioning.Enabled (record expires { enabled = false } ∷ record aborts { enabled = false } ∷ []) (object 1 ∷ [])) ≡ []
+disabled : eligible (bucket versioning.Enabled
+    (record expires { enabled = false } ∷ record aborts { enabled = false } ∷ []) (object 1 ∷ [])) ≡ []
 unfolding eligible version_actions
 disabled = refl
 
@@ -162,24 +176,27 @@ never = refl
 -- ---- which comes first
 
 -- among actions of one moment: the removal of the oldest version, whatever the places of the rules
-chosen : choice (bucket versioning.Enabled (expires ∷ moves ∷ aborts ∷ removes None ∷ []) (object 3 ∷ object 2 ∷ object 1 ∷ [])) in_three_days
-    ≡ Some (record { kind = action.Remove; key = a; target = target.Version (id.Number 1); rule = 4; since = in_three_days })
+chosen : choice (bucket versioning.Enabled (expires ∷ moves ∷ aborts ∷ removes None ∷ [])
+    (object 3 ∷ object 2 ∷ object 1 ∷ [])) in_three_days
+    ≡ Some (on_version action.Remove 1 4 in_three_days)
 unfolding choice candidates eligible version_actions
 chosen = refl
 
 -- without it the colder of the two transitions
-chosen_move : choice (bucket versioning.Enabled (expires ∷ moves ∷ aborts ∷ []) (object 3 ∷ object 2 ∷ object 1 ∷ [])) in_three_days
-    ≡ Some (record { kind = action.Transition class.Glacier; key = a; target = target.Version (id.Number 3); rule = 2; since = in_three_days })
+chosen_move : choice (bucket versioning.Enabled (expires ∷ moves ∷ aborts ∷ [])
+    (object 3 ∷ object 2 ∷ object 1 ∷ [])) in_three_days
+    ≡ Some (on_version (action.Transition class.Glacier) 3 2 in_three_days)
 unfolding choice candidates eligible version_actions
 chosen_move = refl
 
 -- without them the marker, and then the abort
 chosen_marker : choice (bucket versioning.Enabled (aborts ∷ expires ∷ []) (object 3 ∷ [])) in_three_days
-    ≡ Some (record { kind = action.Marker; key = a; target = target.Version (id.Number 3); rule = 2; since = in_three_days })
+    ≡ Some (on_version action.Marker 3 2 in_three_days)
 unfolding choice candidates eligible version_actions
 chosen_marker = refl
 
 -- nothing a millisecond earlier
-none_yet : choice (bucket versioning.Enabled (expires ∷ moves ∷ aborts ∷ removes None ∷ []) (object 3 ∷ object 1 ∷ [])) 1_390_089_599_999 ≡ None
+none_yet : choice (bucket versioning.Enabled (expires ∷ moves ∷ aborts ∷ removes None ∷ [])
+    (object 3 ∷ object 1 ∷ [])) 1_390_089_599_999 ≡ None
 unfolding choice candidates eligible version_actions
 none_yet = refl

@@ -5,8 +5,8 @@ use Rattle.stacks.specs.Stacks.{StackRecord}
 use Rattle.stacks.specs.declared.version.Versioning.{Versioning}
 use Rattle.uploads.specs.Uploads.{UploadRecord}
 
--- a bucket's records: the stack of each key that has versions, in the byte order of the keys, and the unfinished uploads by
--- their numbers; moments in milliseconds since 1970 (S3 User Guide, "General purpose buckets overview")
+-- a bucket's records: the stack of each key that has versions, in the byte order of the keys, and the unfinished
+-- uploads by their numbers; moments in milliseconds since 1970 (S3 User Guide, "General purpose buckets overview")
 pub record BucketRecord : Type 0 where
   pub versioning : Versioning
   pub rules : Option Configuration

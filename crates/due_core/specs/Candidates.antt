@@ -13,15 +13,19 @@ use Rattle.due_core.specs.declared.action.Target.{Target}
 use Rattle.due_core.specs.declared.action.Target.TheVariants as target
 use Rattle.due_core.specs.declared.action.Candidate.{Candidate}
 
--- the rules that are enabled, each with its place from 1 (S3 User Guide, "Lifecycle configuration elements": Status element)
+-- the rules that are enabled, each with its place from 1 (S3 User Guide, "Lifecycle configuration elements": Status
+-- element)
 abbrev pub enabled_rules : Configuration → List (ℕ × Rule)
 enabled_rules rules = filter (λ numbered. numbered.1.enabled) (enumerate_from 1 rules.rules)
 
--- the actions on one target by one rule: what is due after the end of time is left out, and no action stands before the
--- moment at which its target or the bucket's rules changed last (own)
+-- the actions on one target by one rule: what is due after the end of time is left out, and no action stands before
+-- the moment at which its target or the bucket's rules changed last (own)
 abbrev pub timely : List ℕ → Target → ℕ → ℕ → ℕ → List DueAction → List Candidate
 timely key target rule age not_before asked =
-    map (λ due. record { action = record { kind = due.0; key = key; target = target; rule = rule; since = max due.1 not_before }; age = age })
+    map (λ due. record {
+      action = record { kind = due.0; key = key; target = target; rule = rule; since = max due.1 not_before };
+      age = age;
+    })
     (filter (λ due. nat_lt due.1 end_of_time) asked)
 
 -- the actions on the versions of a key
@@ -29,12 +33,13 @@ abbrev pub stack_candidates : BucketRecord → Configuration → List ℕ × Sta
 stack_candidates bucket rules (key, stack) = flat_map of_version (placed_from 0 stack.versions) where
   of_version : Placed → List Candidate
   of_version placed = flat_map
-      (λ numbered. timely key (target.Version placed.version.id) numbered.0 placed.older (max stack.changed bucket.rules_since)
+      (λ numbered. timely key (target.Version placed.version.id) numbered.0 placed.older
+      (max stack.changed bucket.rules_since)
       (version_actions bucket.versioning rules.mode stack.changed numbered.1 placed))
       (filter (λ numbered. matches_version numbered.1.filter key placed.version) (enabled_rules rules))
 
--- the actions on an upload, which a rule matches by its prefix alone (S3 User Guide, "Lifecycle configuration elements":
--- AbortIncompleteMultipartUpload action element; own: a filter with tags or sizes matches it too, where a rule may have one)
+-- the actions on an upload, which a rule matches by its prefix (S3 User Guide, "Configuring a bucket lifecycle
+-- configuration to delete incomplete multipart uploads")
 abbrev pub upload_candidates : BucketRecord → Configuration → ℕ × UploadRecord → List Candidate
 upload_candidates bucket rules (number, upload) = flat_map
     (λ numbered. timely upload.key (target.Upload number) numbered.0 number (max upload.changed bucket.rules_since)
@@ -46,8 +51,8 @@ eligible_by bucket None = []
 eligible_by bucket (Some rules) =
     flat_map (stack_candidates bucket rules) bucket.stacks ++ flat_map (upload_candidates bucket rules) bucket.uploads
 
--- every version and upload, every enabled rule that matches it, every action of that rule (S3 User Guide, "Managing the
--- lifecycle of objects")
+-- every version and upload, every enabled rule that matches it, every action of that rule (S3 User Guide, "Managing
+-- the lifecycle of objects")
 unfoldable pub eligible : BucketRecord → List Candidate
 eligible bucket = eligible_by bucket bucket.rules
 

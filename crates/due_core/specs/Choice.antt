@@ -1,4 +1,5 @@
--- Which candidate comes first (S3 User Guide, "Examples of S3 Lifecycle configurations": conflicting lifecycle rules).
+-- Which candidate comes first (S3 User Guide, "Examples of S3 Lifecycle configurations": conflicting lifecycle
+-- rules).
 use Rattle.std.specs.Prelude.{◌≡◌, ℕ, Bool, List, [], ◌∷◌, Option, Some, None, option_map, Contains, All, false}
 use Rattle.std.specs.declared.cmp.Ordering.{Ordering}
 use Rattle.std.specs.Ordering.{nat_cmp, ordering_then, is_lt}
@@ -25,8 +26,8 @@ abbrev pub coldness : ActionKind → ℕ
 coldness (Transition to) = rank_of to
 coldness kind = 0
 
--- by the moment; then the kind; the key; the older version or lower upload number; the colder class; the place of the rule
--- (own: that the earlier moment goes first, and all after the kind but the colder class)
+-- by the moment; then the kind; the key; the older version or lower upload number; the colder class; the place of the
+-- rule (own: that the earlier moment goes first, and all after the kind but the colder class)
 abbrev pub precedence : Candidate → Candidate → Ordering
 precedence a b =
     ordering_then (nat_cmp a.action.since b.action.since)

@@ -1,5 +1,5 @@
--- What one rule asks of one version or upload: kinds of action, each with the moment at which it is due. Each line of the
--- table of lifecycle actions is one definition.
+-- What one rule asks of one version or upload: kinds of action, each with the moment at which it is due. Each line of
+-- the table of lifecycle actions is one definition.
 use Rattle.std.specs.Prelude.{ℕ, ◌+◌, ◌-◌, Bool, ◌&&◌, List, [], ◌∷◌, ◌++◌, map, filter, flat_map, length, nat_le, ◌==◌, Option, unwrap_or, option_map, option_to_list, if◌then◌else◌}
 use Rattle.moments.specs.Time.{due, next_midnight}
 use Rattle.class_rules.specs.Classes.{may_move}
@@ -26,7 +26,8 @@ DueAction = ActionKind × ℕ
 
 -- ---- current versions
 
--- by days from its creation, or at a date (S3 User Guide, "Lifecycle configuration elements": expiration action elements)
+-- by days from its creation, or at a date (S3 User Guide, "Lifecycle configuration elements": expiration action
+-- elements)
 abbrev pub expirations : ℕ → Expiration → List ℕ
 expirations created expiration =
     option_to_list (option_map (due created) expiration.days) ++ option_to_list expiration.date
@@ -35,8 +36,8 @@ abbrev pub due_when : ℕ → When → ℕ
 due_when created (Days days) = due created days
 due_when created (Date date) = date
 
--- a current object expires for good in a bucket without versioning, else a delete marker covers it (S3 User Guide, "Expiring
--- objects")
+-- a current object expires for good in a bucket without versioning, else a delete marker covers it (S3 User Guide,
+-- "Expiring objects")
 abbrev pub expiring : Versioning → ActionKind
 expiring Unversioned = Remove
 expiring Enabled = Marker
@@ -46,8 +47,9 @@ abbrev pub expiration_actions : Versioning → Rule → ℕ → List DueAction
 expiration_actions versioning rule created =
     map (λ at. (expiring versioning, at)) (flat_map (expirations created) (option_to_list rule.expiration))
 
--- an object of this class and size may move to the other class, and meets the size condition (S3 User Guide, "Transitioning
--- objects using Amazon S3 Lifecycle": supported transitions; constraints and considerations for transitions)
+-- an object of this class and size may move to the other class, and meets the size condition (S3 User Guide,
+-- "Transitioning objects using Amazon S3 Lifecycle": supported transitions; constraints and considerations for
+-- transitions)
 abbrev pub admits_move : SizeMode → Filter → Class → ℕ → Class → Bool
 admits_move mode filter class size to = may_move class to && size_admits mode filter to size
 
@@ -70,19 +72,20 @@ abbrev pub marker_expirations : Rule → ℕ → List DueAction
 marker_expirations rule created =
     map (λ at. (Remove, at)) (flat_map (expirations created) (option_to_list rule.expiration))
 
--- a rule may ask that it is removed once it stands alone (S3 User Guide, "Removing expired object delete markers"; own: at
--- the midnight that is not before the stack's last change)
+-- a rule may ask that it is removed once it stands alone (S3 User Guide, "Removing expired object delete markers";
+-- own: at the midnight that is not before the stack's last change)
 abbrev pub lone_marker_removals : Rule → ℕ → List DueAction
 lone_marker_removals rule changed =
-    map (λ _. (Remove, next_midnight changed)) (filter (λ expiration. expiration.lone_marker) (option_to_list rule.expiration))
+    map (λ _. (Remove, next_midnight changed))
+    (filter (λ expiration. expiration.lone_marker) (option_to_list rule.expiration))
 
 abbrev pub lone_marker_actions : Rule → ℕ → ℕ → List DueAction
 lone_marker_actions rule created changed = marker_expirations rule created ++ lone_marker_removals rule changed
 
 -- ---- noncurrent versions
 
--- as many newer noncurrent versions of the key as the rule names are kept (S3 User Guide, "Lifecycle configuration elements":
--- NewerNoncurrentVersions; own: delete markers count too, and none named is 0)
+-- as many newer noncurrent versions of the key as the rule names are kept (S3 User Guide, "Lifecycle configuration
+-- elements": NewerNoncurrentVersions; own: delete markers count too, and none named is 0)
 abbrev pub keeps_newer : Option ℕ → ℕ → Bool
 keeps_newer wanted newer = nat_le (unwrap_or wanted 0) newer
 
@@ -93,11 +96,13 @@ noncurrent_removals rule newer ceased =
     map (λ expiration. (Remove, due ceased expiration.days))
     (filter (λ expiration. keeps_newer expiration.newer newer) (option_to_list rule.noncurrent_expiration))
 
--- a noncurrent object moves (S3 User Guide, "Lifecycle configuration elements": NoncurrentVersionTransition action element)
+-- a noncurrent object moves (S3 User Guide, "Lifecycle configuration elements": NoncurrentVersionTransition action
+-- element)
 abbrev pub noncurrent_transitions : SizeMode → Rule → ℕ → Class → ℕ → ℕ → List DueAction
 noncurrent_transitions mode rule size class newer ceased =
     map (λ move. (Transition move.to, due ceased move.days))
-    (filter (λ move. keeps_newer move.newer newer && admits_move mode rule.filter class size move.to) rule.noncurrent_moves)
+    (filter (λ move. keeps_newer move.newer newer && admits_move mode rule.filter class size move.to)
+    rule.noncurrent_moves)
 
 -- ---- any version
 
@@ -112,8 +117,8 @@ placed_from newer [] = []
 placed_from newer (version ∷ versions) =
     record { version = version; newer = newer; older = length versions } ∷ placed_from (newer + 1) versions
 
--- what the rule asks of a version that its filter matches, in a stack that changed last at this moment; the version without
--- newer ones is the current one (S3 User Guide, "How S3 Versioning works")
+-- what the rule asks of a version that its filter matches, in a stack that changed last at this moment; the version
+-- without newer ones is the current one (S3 User Guide, "How S3 Versioning works")
 unfoldable pub version_actions : Versioning → SizeMode → ℕ → Rule → Placed → List DueAction
 version_actions versioning mode changed rule placed = asked placed.version.kind where
   asked : Kind → List DueAction
@@ -122,7 +127,8 @@ version_actions versioning mode changed rule placed = asked placed.version.kind 
       else noncurrent_removals rule (placed.newer - 1) placed.version.ceased
       ++ noncurrent_transitions mode rule size class (placed.newer - 1) placed.version.ceased
   asked DeleteMarker =
-      if placed.newer == 0 then (if placed.older == 0 then lone_marker_actions rule placed.version.created changed else [])
+      if placed.newer == 0
+      then (if placed.older == 0 then lone_marker_actions rule placed.version.created changed else [])
       else noncurrent_removals rule (placed.newer - 1) placed.version.ceased
 
 -- the filter matches the version (S3 User Guide, "Adding filters to Lifecycle rules")
@@ -134,7 +140,7 @@ matches_version filter key version = fits version.kind where
 
 -- ---- uploads
 
--- an unfinished upload is aborted by days from its start (S3 User Guide, "Configuring a bucket lifecycle configuration to
--- delete incomplete multipart uploads")
+-- an unfinished upload is aborted by days from its start (S3 User Guide, "Configuring a bucket lifecycle
+-- configuration to delete incomplete multipart uploads")
 abbrev pub upload_actions : Rule → UploadRecord → List DueAction
 upload_actions rule upload = map (λ days. (Abort, due upload.started days)) (option_to_list rule.abort_days)

@@ -14,5 +14,6 @@ pub fn the_choice_is_the_least()
 /// States that once a bucket has a choice, it is the choice at every later moment too.
 #[tactic(auto, using(crate::proofs::Later::choice_stays))]
 pub fn the_choice_stays()
-    ensures { (bucket : BucketRecord) (t u : ℕ) (action : Action) → t ≤ u → choice bucket t ≡ Some action → choice bucket u ≡ Some action }
+    ensures { (bucket : BucketRecord) (t u : ℕ) (action : Action) → t ≤ u
+        → choice bucket t ≡ Some action → choice bucket u ≡ Some action }
 {}

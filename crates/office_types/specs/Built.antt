@@ -40,8 +40,8 @@ IsBuiltQuery (query.Meters name month) = Unit {0}
 IsBuiltQuery query.Tariff = ⊥
 IsBuiltQuery (query.Report month) = ⊥
 
--- the replies that are built: all those to commands, and of those to queries what a bucket holds and used. The id of a rule
--- has at most 255 characters (S3 User Guide, "Lifecycle configuration elements")
+-- the replies that are built: all those to commands, and of those to queries what a bucket holds and used. The id of
+-- a rule has at most 255 characters (S3 User Guide, "Lifecycle configuration elements")
 abbrev pub IsBuiltReply : Reply → Type 0
 IsBuiltReply (BucketMade bucket) = Unit {0}
 IsBuiltReply (VersioningSet versioning) = Unit {0}

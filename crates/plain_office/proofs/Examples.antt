@@ -16,7 +16,8 @@ use Rattle.rules_core.specs.declared.rule.Rule.{Rule}
 use Rattle.rules_core.specs.declared.rule.Filter.{Filter}
 use Rattle.rules_core.specs.declared.rule.SizeMode.TheVariants as mode
 use Rattle.rules_json.specs.Printing.{printed, configuration_data, rule_data, filter_data, single_data, conjunction_data, tag_data, transition_data, noncurrent_move_data, expiration_data, noncurrent_data, abort_data}
-use Rattle.stacks.specs.Stacks.{new_version}
+use Rattle.stacks.specs.Stacks.{new_version, stack_of}
+use Rattle.uploads.specs.Uploads.{new_upload, upload_of}
 use Rattle.stacks.specs.declared.version.Kind.TheVariants as kind
 use Rattle.stacks.specs.declared.version.Version.{Version}
 use Rattle.stacks.specs.declared.version.Versioning.TheVariants as versioning
@@ -46,7 +47,10 @@ use Rattle.plain_office.specs.Run.{accept, run}
 
 -- what an example unfolds to compute
 unfoldable pub to_compute : ⊤
-unfolding run accept step outcome count_of answer report_lines effect choice candidates eligible version_actions meter early_quantity move_count first_day months_over days_of_months digits moment_text printed configuration_data rule_data filter_data single_data conjunction_data tag_data transition_data noncurrent_move_data expiration_data noncurrent_data abort_data serde_json_on_literals
+unfolding run accept step outcome count_of answer report_lines effect choice candidates eligible version_actions
+    meter early_quantity move_count first_day months_over days_of_months digits moment_text
+    printed configuration_data rule_data filter_data single_data conjunction_data tag_data transition_data
+    noncurrent_move_data expiration_data noncurrent_data abort_data serde_json_on_literals
 to_compute = tt
 
 -- ---- words
@@ -152,12 +156,14 @@ with_logs = at new_year (command.CreateBucket logs) ∷ []
 -- versioning is suspended only where it was enabled
 not_suspended : answers (after empty_office with_logs) (at new_year (command.SetVersioning logs false)
     ∷ at new_year (command.SetVersioning logs true) ∷ at new_year (command.SetVersioning logs false) ∷ [])
-    ≡ Err refusal.NotEnabledBefore ∷ Ok (reply.VersioningSet versioning.Enabled) ∷ Ok (reply.VersioningSet versioning.Suspended) ∷ []
+    ≡ Err refusal.NotEnabledBefore ∷ Ok (reply.VersioningSet versioning.Enabled)
+    ∷ Ok (reply.VersioningSet versioning.Suspended) ∷ []
 unfolding to_compute
 not_suspended = refl
 
 -- an empty configuration is one, and is dropped once
-dropped_once : answers (after empty_office with_logs) (at new_year (command.DropRules logs) ∷ at new_year (command.SetRules logs (rules_of []))
+dropped_once : answers (after empty_office with_logs)
+    (at new_year (command.DropRules logs) ∷ at new_year (command.SetRules logs (rules_of []))
     ∷ at new_year (command.DropRules logs) ∷ at new_year (command.DropRules logs) ∷ [])
     ≡ Err refusal.NoRules ∷ Ok (reply.RulesSet 0) ∷ Ok (reply.RulesSet 0) ∷ Err refusal.NoRules ∷ []
 unfolding to_compute
@@ -165,10 +171,11 @@ dropped_once = refl
 
 -- ---- versions
 
--- an object of 1,000 bytes, and a day later one of 2,000 bytes under the same key; in a bucket without versioning it is the only
--- version
+-- an object of 1,000 bytes, and a day later one of 2,000 bytes under the same key; in a bucket without versioning it
+-- is the only version
 abbrev pub two_puts : List Entry
-two_puts = at new_year (command.CreateBucket logs) ∷ at new_year (put 1_000 class.Standard) ∷ at (new_year + day) (put 2_000 class.Standard) ∷ []
+two_puts = at new_year (command.CreateBucket logs) ∷ at new_year (put 1_000 class.Standard)
+    ∷ at (new_year + day) (put 2_000 class.Standard) ∷ []
 
 one_version : option_map (answer (new_year + 2 * day) (query.Bucket logs)) (run two_puts)
     ≡ Some (Ok (reply.BucketShown logs 0 0 versioning.Unversioned 1))
@@ -176,7 +183,8 @@ unfolding to_compute
 one_version = refl
 
 -- a delete there removes it, and is refused where there is none
-deleted_once : answers (after empty_office two_puts) (at (new_year + day) (command.Delete logs a) ∷ at (new_year + day) (command.Delete logs a) ∷ [])
+deleted_once : answers (after empty_office two_puts)
+    (at (new_year + day) (command.Delete logs a) ∷ at (new_year + day) (command.Delete logs a) ∷ [])
     ≡ Ok (reply.Deleted None) ∷ Err refusal.NoSuchKey ∷ []
 unfolding to_compute
 deleted_once = refl
@@ -184,8 +192,10 @@ deleted_once = refl
 -- the null version is put, covered by version 1, and put again in the suspended bucket
 abbrev pub suspended : List Entry
 suspended =
-    at new_year (command.CreateBucket logs) ∷ at new_year (put 200_000 class.StandardIa) ∷ at new_year (command.SetVersioning logs true)
-    ∷ at new_year (put 1 class.Standard) ∷ at new_year (command.SetVersioning logs false) ∷ at (new_year + 10 * day) (put 2 class.Standard) ∷ []
+    at new_year (command.CreateBucket logs) ∷ at new_year (put 200_000 class.StandardIa)
+    ∷ at new_year (command.SetVersioning logs true)
+    ∷ at new_year (put 1 class.Standard) ∷ at new_year (command.SetVersioning logs false)
+    ∷ at (new_year + 10 * day) (put 2 class.Standard) ∷ []
 
 null_on_top : ids_in (after empty_office suspended) ≡ id.Null ∷ id.Number 1 ∷ []
 unfolding to_compute
@@ -198,7 +208,8 @@ replaced_early = refl
 
 -- a version is removed once
 removed_once : answers (after empty_office suspended) (at (new_year + 10 * day) (command.DeleteVersion logs a id.Null)
-    ∷ at (new_year + 10 * day) (command.DeleteVersion logs a id.Null) ∷ at (new_year + 10 * day) (command.DeleteVersion logs (codes "b") id.Null) ∷ [])
+    ∷ at (new_year + 10 * day) (command.DeleteVersion logs a id.Null)
+    ∷ at (new_year + 10 * day) (command.DeleteVersion logs (codes "b") id.Null) ∷ [])
     ≡ Ok (reply.VersionDeleted id.Null) ∷ Err refusal.NoSuchVersion ∷ Err refusal.NoSuchKey ∷ []
 unfolding to_compute
 removed_once = refl
@@ -213,20 +224,31 @@ ceased_once = refl
 abbrev pub tags : List (List ℕ × List ℕ)
 tags = (codes "kind", codes "raw") ∷ []
 
-marked : answers (after empty_office with_logs) (at new_year (command.SetVersioning logs true) ∷ at new_year (put 1 class.Standard) ∷ at new_year (command.Delete logs a)
-    ∷ at new_year (command.SetTags logs a (id.Number 2) tags) ∷ at new_year (command.SetTags logs a (id.Number 1) tags) ∷ at new_year (command.SetTags logs a (id.Number 3) tags) ∷ [])
-    ≡ Ok (reply.VersioningSet versioning.Enabled) ∷ Ok (reply.Stored new_year (id.Number 1)) ∷ Ok (reply.Deleted (Some (id.Number 2)))
+marked : answers (after empty_office with_logs)
+    (at new_year (command.SetVersioning logs true) ∷ at new_year (put 1 class.Standard)
+    ∷ at new_year (command.Delete logs a)
+    ∷ at new_year (command.SetTags logs a (id.Number 2) tags)
+    ∷ at new_year (command.SetTags logs a (id.Number 1) tags)
+    ∷ at new_year (command.SetTags logs a (id.Number 3) tags) ∷ [])
+    ≡ Ok (reply.VersioningSet versioning.Enabled) ∷ Ok (reply.Stored new_year (id.Number 1))
+    ∷ Ok (reply.Deleted (Some (id.Number 2)))
     ∷ Err refusal.IsMarker ∷ Ok (reply.TagsSet 1) ∷ Err refusal.NoSuchVersion ∷ []
 unfolding to_compute
 marked = refl
 
 -- the versions of a key, as they are shown
-shown : answer new_year (query.Stack logs a) (after (after empty_office with_logs) (at new_year (command.SetVersioning logs true)
+shown : answer new_year (query.Stack logs a)
+    (after (after empty_office with_logs) (at new_year (command.SetVersioning logs true)
     ∷ at new_year (command.Put logs a 5 class.Glacier tags) ∷ at (new_year + day) (command.Delete logs a) ∷ []))
     ≡ Ok (reply.StackShown a (record {
       changed = new_year + day;
       versions = record { id = id.Number 2; kind = kind.Marker; created = new_year + day; ceased = new_year + day }
-          ∷ record { id = id.Number 1; kind = kind.Object 5 class.Glacier tags new_year; created = new_year; ceased = new_year + day } ∷ [];
+          ∷ record {
+            id = id.Number 1;
+            kind = kind.Object 5 class.Glacier tags new_year;
+            created = new_year;
+            ceased = new_year + day;
+          } ∷ [];
     }))
 unfolding to_compute
 shown = refl
@@ -236,7 +258,8 @@ shown = refl
 -- a part that is put again replaces the one before; a part of an archive's upload is billed in STANDARD
 abbrev pub part_twice : List Entry
 part_twice =
-    at new_year (command.CreateBucket logs) ∷ at new_year (command.StartUpload logs a class.Glacier []) ∷ at new_year (command.PutPart logs 1 1 1_000)
+    at new_year (command.CreateBucket logs) ∷ at new_year (command.StartUpload logs a class.Glacier [])
+    ∷ at new_year (command.PutPart logs 1 1 1_000)
     ∷ at new_year (command.PutPart logs 1 1 1_000) ∷ []
 
 one_open_part : stays_in (after empty_office part_twice)
@@ -265,9 +288,12 @@ unfolding to_compute
 completed = refl
 
 -- numbers of parts go to 10,000, an upload needs a part to be completed, and goes once
-refused_uploads : answers (after empty_office part_twice) (at new_year (command.PutPart logs 1 10_001 1) ∷ at new_year (command.StartUpload logs a class.Standard [])
-    ∷ at new_year (command.Complete logs 2) ∷ at new_year (command.Abort logs 2) ∷ at new_year (command.Abort logs 2) ∷ [])
-    ≡ Err refusal.BadPart ∷ Ok (reply.UploadStarted 2) ∷ Err refusal.NoParts ∷ Ok (reply.Aborted 2) ∷ Err refusal.NoSuchUpload ∷ []
+refused_uploads : answers (after empty_office part_twice)
+    (at new_year (command.PutPart logs 1 10_001 1) ∷ at new_year (command.StartUpload logs a class.Standard [])
+    ∷ at new_year (command.Complete logs 2) ∷ at new_year (command.Abort logs 2)
+    ∷ at new_year (command.Abort logs 2) ∷ [])
+    ≡ Err refusal.BadPart ∷ Ok (reply.UploadStarted 2) ∷ Err refusal.NoParts ∷ Ok (reply.Aborted 2)
+    ∷ Err refusal.NoSuchUpload ∷ []
 unfolding to_compute
 refused_uploads = refl
 
@@ -275,18 +301,24 @@ refused_uploads = refl
 
 -- as many buckets, all of one name before `logs`
 abbrev with_buckets : ℕ → Office
-with_buckets n = record empty_office { last = Some new_year; first_month = Some january; accounts = replicate n (codes "box", new_account new_year) }
+with_buckets n = record empty_office {
+  last = Some new_year;
+  first_month = Some january;
+  accounts = replicate n (codes "box", new_account new_year);
+}
 
 last_bucket : (step new_year (command.CreateBucket logs) (with_buckets 999)).1 ≡ Ok (reply.BucketMade logs)
 unfolding to_compute
 last_bucket = refl
 
-no_more_buckets : step new_year (command.CreateBucket logs) (with_buckets 1_000) ≡ (with_buckets 1_000, Err (refusal.Full what.Buckets 1_000))
+no_more_buckets : step new_year (command.CreateBucket logs) (with_buckets 1_000)
+    ≡ (with_buckets 1_000, Err (refusal.Full what.Buckets 1_000))
 unfolding to_compute
 no_more_buckets = refl
 
 -- a name that is taken is refused as such, though there are as many buckets as there may be
-taken_at_the_limit : (step new_year (command.CreateBucket (codes "box")) (with_buckets 1_000)).1 ≡ Err refusal.BucketExists
+taken_at_the_limit : (step new_year (command.CreateBucket (codes "box")) (with_buckets 1_000)).1
+    ≡ Err refusal.BucketExists
 unfolding to_compute
 taken_at_the_limit = refl
 
@@ -299,8 +331,8 @@ beside more = record empty_office {
     logs,
     record {
       bucket = record (new_bucket new_year) {
-        stacks = (a, record { changed = new_year; versions = new_version id.Null (kind.Object 1 class.Standard [] new_year) new_year ∷ [] }) ∷ [];
-        uploads = (1, record { key = a; class = class.Standard; tags = []; started = new_year; changed = new_year; parts = [] }) ∷ [];
+        stacks = (a, stack_of new_year (new_version id.Null (kind.Object 1 class.Standard [] new_year) new_year ∷ [])) ∷ [];
+        uploads = (1, new_upload a class.Standard [] new_year) ∷ [];
         next_upload = 2;
       };
       books = empty_books;
@@ -310,52 +342,59 @@ beside more = record empty_office {
 }
 
 abbrev pub with_stack_of : List Version → BucketRecord
-with_stack_of versions = record (new_bucket new_year) { stacks = (codes "b", record { changed = new_year; versions = versions }) ∷ [] }
+with_stack_of versions = record (new_bucket new_year) { stacks = (codes "b", stack_of new_year versions) ∷ [] }
 
--- at the limit a put in the place of the null version is accepted, and one under a new key is not; above it neither is
+-- at the limit a put in the place of the null version is accepted, and one under a new key is not; above it neither
+-- is
 replaced_at_the_limit : (versions : List Version) → length versions ≡ 199_999 → sum_by tag_bytes_of versions ≡ 0
     → (step new_year (put 5 class.Standard) (beside (with_stack_of versions))).1 ≡ Ok (reply.Stored new_year id.Null)
 unfolding to_compute
 replaced_at_the_limit versions many untagged = rw (many, untagged) refl
 
 no_more_versions : (versions : List Version) → length versions ≡ 199_999
-    → (step new_year (command.Put logs (codes "c") 5 class.Standard []) (beside (with_stack_of versions))).1 ≡ Err (refusal.Full what.Versions 200_000)
+    → (step new_year (command.Put logs (codes "c") 5 class.Standard []) (beside (with_stack_of versions))).1
+    ≡ Err (refusal.Full what.Versions 200_000)
 unfolding to_compute
 no_more_versions versions many = rw many refl
 
 replaced_above_the_limit : (versions : List Version) → length versions ≡ 200_000
-    → (step new_year (put 5 class.Standard) (beside (with_stack_of versions))).1 ≡ Err (refusal.Full what.Versions 200_000)
+    → (step new_year (put 5 class.Standard) (beside (with_stack_of versions))).1
+    ≡ Err (refusal.Full what.Versions 200_000)
 unfolding to_compute
 replaced_above_the_limit versions many = rw many refl
 
--- the last bytes of tags, and one too many: the keys `a` of the object and of the upload, and `b` of the others have three bytes
+-- the last bytes of tags, and one too many: the keys `a` of the object and of the upload, and `b` of the others have
+-- three bytes
 last_tag : (versions : List Version) → sum_by tag_bytes_of versions ≡ 536_870_902
     → (step new_year (command.SetTags logs a id.Null tags) (beside (with_stack_of versions))).1 ≡ Ok (reply.TagsSet 1)
 unfolding to_compute
 last_tag versions tagged = rw tagged refl
 
 no_more_names : (versions : List Version) → sum_by tag_bytes_of versions ≡ 536_870_903
-    → (step new_year (command.SetTags logs a id.Null tags) (beside (with_stack_of versions))).1 ≡ Err (refusal.Full what.Names 536_870_912)
+    → (step new_year (command.SetTags logs a id.Null tags) (beside (with_stack_of versions))).1
+    ≡ Err (refusal.Full what.Names 536_870_912)
 unfolding to_compute
 no_more_names versions tagged = rw tagged refl
 
 -- as many uploads and parts
 abbrev with_uploads : ℕ → BucketRecord
 with_uploads n = record (new_bucket new_year) {
-  uploads = replicate n (1, record { key = a; class = class.Standard; tags = []; started = new_year; changed = new_year; parts = [] });
+  uploads = replicate n (1, new_upload a class.Standard [] new_year);
 }
 
-last_upload : (step new_year (command.StartUpload logs a class.Standard []) (beside (with_uploads 19_998))).1 ≡ Ok (reply.UploadStarted 2)
+last_upload : (step new_year (command.StartUpload logs a class.Standard []) (beside (with_uploads 19_998))).1
+    ≡ Ok (reply.UploadStarted 2)
 unfolding to_compute
 last_upload = refl
 
-no_more_uploads : (step new_year (command.StartUpload logs a class.Standard []) (beside (with_uploads 19_999))).1 ≡ Err (refusal.Full what.Uploads 20_000)
+no_more_uploads : (step new_year (command.StartUpload logs a class.Standard []) (beside (with_uploads 19_999))).1
+    ≡ Err (refusal.Full what.Uploads 20_000)
 unfolding to_compute
 no_more_uploads = refl
 
 abbrev with_parts : List (ℕ × Part) → BucketRecord
 with_parts parts = record (new_bucket new_year) {
-  uploads = (1, record { key = a; class = class.Standard; tags = []; started = new_year; changed = new_year; parts = parts }) ∷ [];
+  uploads = (1, upload_of a class.Standard [] new_year new_year parts) ∷ [];
 }
 
 last_part : (parts : List (ℕ × Part)) → length parts ≡ 499_999
@@ -378,6 +417,7 @@ unfolding to_compute
 last_rules rules long = rw long refl
 
 no_more_rules : (rules : Configuration) → length (printed rules) ≡ 67_108_789
-    → (step new_year (command.SetRules logs (rules_of [])) (beside (with_rules_of rules))).1 ≡ Err (refusal.Full what.Rules 67_108_864)
+    → (step new_year (command.SetRules logs (rules_of [])) (beside (with_rules_of rules))).1
+    ≡ Err (refusal.Full what.Rules 67_108_864)
 unfolding to_compute
 no_more_rules rules long = rw long refl

@@ -29,7 +29,9 @@ abbrev due_midnight : ℕ
 due_midnight = 1_704_844_800_000
 
 abbrev pub expires : List ℕ → ℕ → Rule
-expires name days = record (no_action name) { expiration = Some (record { days = Some days; date = None; lone_marker = false }) }
+expires name days = record (no_action name) {
+  expiration = Some (record { days = Some days; date = None; lone_marker = false });
+}
 
 abbrev moves : List ℕ → ℕ → Class → Rule
 moves name days to = record (no_action name) { transitions = record { when = when.Days days; to = to } ∷ [] }
@@ -42,7 +44,8 @@ abbrev ruled : List Rule → List Entry
 ruled rules = at start (command.CreateBucket logs) ∷ at start (command.SetRules logs (rules_of rules)) ∷ []
 
 abbrev versioned : List Rule → List Entry
-versioned rules = at start (command.CreateBucket logs) ∷ at start (command.SetVersioning logs true) ∷ at start (command.SetRules logs (rules_of rules)) ∷ []
+versioned rules = at start (command.CreateBucket logs) ∷ at start (command.SetVersioning logs true)
+    ∷ at start (command.SetRules logs (rules_of rules)) ∷ []
 
 -- ---- conflicts
 
@@ -50,21 +53,27 @@ versioned rules = at start (command.CreateBucket logs) ∷ at start (command.Set
 abbrev move_and_expire : List Rule
 move_and_expire = moves (codes "r1") 30 class.StandardIa ∷ expires (codes "r2") 30 ∷ []
 
-removal_first : answers (after empty_office (ruled move_and_expire)) (at start (put 1_000_000 class.Standard) ∷ act due_midnight ∷ act due_midnight ∷ [])
-    ≡ Ok (reply.Stored start id.Null) ∷ Ok (reply.Chosen action.Remove a (target.Version id.Null) (codes "r2") due_midnight None) ∷ Ok reply.NothingDue ∷ []
+removal_first : answers (after empty_office (ruled move_and_expire))
+    (at start (put 1_000_000 class.Standard) ∷ act due_midnight ∷ act due_midnight ∷ [])
+    ≡ Ok (reply.Stored start id.Null)
+    ∷ Ok (reply.Chosen action.Remove a (target.Version id.Null) (codes "r2") due_midnight None)
+    ∷ Ok reply.NothingDue ∷ []
 unfolding to_compute
 removal_first = refl
 
 -- nothing is due a millisecond earlier
-not_yet : answers (after empty_office (ruled move_and_expire)) (at start (put 1_000_000 class.Standard) ∷ act 1_704_844_799_999 ∷ [])
+not_yet : answers (after empty_office (ruled move_and_expire))
+    (at start (put 1_000_000 class.Standard) ∷ act 1_704_844_799_999 ∷ [])
     ≡ Ok (reply.Stored start id.Null) ∷ Ok reply.NothingDue ∷ []
 unfolding to_compute
 not_yet = refl
 
 -- with versions the transition goes before the marker of the same moment
-transition_then_marker : answers (after empty_office (versioned move_and_expire)) (at start (put 1_000_000 class.Standard) ∷ act due_midnight ∷ act due_midnight ∷ act due_midnight ∷ [])
+transition_then_marker : answers (after empty_office (versioned move_and_expire))
+    (at start (put 1_000_000 class.Standard) ∷ act due_midnight ∷ act due_midnight ∷ act due_midnight ∷ [])
     ≡ Ok (reply.Stored start (id.Number 1))
-    ∷ Ok (reply.Chosen (action.Transition class.StandardIa) a (target.Version (id.Number 1)) (codes "r1") due_midnight None)
+    ∷ Ok (reply.Chosen (action.Transition class.StandardIa) a (target.Version (id.Number 1))
+    (codes "r1") due_midnight None)
     ∷ Ok (reply.Chosen action.Marker a (target.Version (id.Number 1)) (codes "r2") due_midnight (Some (id.Number 2)))
     ∷ Ok reply.NothingDue ∷ []
 unfolding to_compute
@@ -74,19 +83,23 @@ transition_then_marker = refl
 abbrev two_moves : List Rule
 two_moves = moves (codes "r1") 30 class.StandardIa ∷ moves (codes "r2") 30 class.Glacier ∷ []
 
-colder_first : answers (after empty_office (ruled two_moves)) (at start (put 1_000_000 class.Standard) ∷ act due_midnight ∷ act due_midnight ∷ [])
-    ≡ Ok (reply.Stored start id.Null) ∷ Ok (reply.Chosen (action.Transition class.Glacier) a (target.Version id.Null) (codes "r2") due_midnight None) ∷ Ok reply.NothingDue ∷ []
+colder_first : answers (after empty_office (ruled two_moves))
+    (at start (put 1_000_000 class.Standard) ∷ act due_midnight ∷ act due_midnight ∷ [])
+    ≡ Ok (reply.Stored start id.Null)
+    ∷ Ok (reply.Chosen (action.Transition class.Glacier) a (target.Version id.Null)
+    (codes "r2") due_midnight None) ∷ Ok reply.NothingDue ∷ []
 unfolding to_compute
 colder_first = refl
 
 -- objects below 128 KiB are not moved
-small_objects_stay : answers (after empty_office (ruled two_moves)) (at start (put 131_071 class.Standard) ∷ act due_midnight ∷ [])
+small_objects_stay : answers (after empty_office (ruled two_moves))
+    (at start (put 131_071 class.Standard) ∷ act due_midnight ∷ [])
     ≡ Ok (reply.Stored start id.Null) ∷ Ok reply.NothingDue ∷ []
 unfolding to_compute
 small_objects_stay = refl
 
--- a change of the version, here of its tags, moves the moment at which its actions stand; a query shows the action and does not
--- do it
+-- a change of the version, here of its tags, moves the moment at which its actions stand; a query shows the action
+-- and does not do it
 changed_later : answer due_midnight (query.Due logs) (after (after empty_office (ruled (expires (codes "e") 3 ∷ [])))
     (at start (put 5 class.Standard) ∷ at (start + 10 * day) (command.SetTags logs a id.Null tags) ∷ []))
     ≡ Ok (reply.Chosen action.Remove a (target.Version id.Null) (codes "e") (start + 10 * day) None)
@@ -112,22 +125,27 @@ oldest_first : answers (after (after empty_office (versioned (keeping_one ∷ []
 unfolding to_compute
 oldest_first = refl
 
-newest_kept : ids_in (after (after (after empty_office (versioned (keeping_one ∷ []))) four_puts) two_removals) ≡ id.Number 4 ∷ id.Number 3 ∷ []
+newest_kept : ids_in (after (after (after empty_office (versioned (keeping_one ∷ []))) four_puts) two_removals)
+    ≡ id.Number 4 ∷ id.Number 3 ∷ []
 unfolding to_compute
 newest_kept = refl
 
 -- ---- delete markers
 
--- in a suspended bucket the null marker of an expiration takes the null version's place, and, alone in its stack, is removed at
--- the same midnight
+-- in a suspended bucket the null marker of an expiration takes the null version's place, and, alone in its stack, is
+-- removed at the same midnight
 abbrev lone_marker : List Rule
-lone_marker = expires (codes "e") 3 ∷ record (no_action (codes "m")) { expiration = Some (record { days = None; date = None; lone_marker = true }) } ∷ []
+lone_marker = expires (codes "e") 3
+    ∷ record (no_action (codes "m")) { expiration = Some (record { days = None; date = None; lone_marker = true }) }
+    ∷ []
 
 marker_goes : answers empty_office (
-    at new_year (command.CreateBucket logs) ∷ at new_year (command.SetVersioning logs true) ∷ at new_year (command.SetVersioning logs false)
+    at new_year (command.CreateBucket logs) ∷ at new_year (command.SetVersioning logs true)
+    ∷ at new_year (command.SetVersioning logs false)
     ∷ at new_year (command.SetRules logs (rules_of lone_marker)) ∷ at new_year (put 5 class.Standard)
     ∷ act (new_year + 3 * day) ∷ act (new_year + 3 * day) ∷ act (new_year + 3 * day) ∷ [])
-    ≡ Ok (reply.BucketMade logs) ∷ Ok (reply.VersioningSet versioning.Enabled) ∷ Ok (reply.VersioningSet versioning.Suspended) ∷ Ok (reply.RulesSet 2)
+    ≡ Ok (reply.BucketMade logs) ∷ Ok (reply.VersioningSet versioning.Enabled)
+    ∷ Ok (reply.VersioningSet versioning.Suspended) ∷ Ok (reply.RulesSet 2)
     ∷ Ok (reply.Stored new_year id.Null)
     ∷ Ok (reply.Chosen action.Marker a (target.Version id.Null) (codes "e") (new_year + 3 * day) (Some id.Null))
     ∷ Ok (reply.Chosen action.Remove a (target.Version id.Null) (codes "m") (new_year + 3 * day) None)
@@ -142,10 +160,12 @@ abbrev aborts : Rule
 aborts = record (no_action (codes "u")) { abort_days = Some 7 }
 
 aborted : answers empty_office (
-    at new_year (command.CreateBucket logs) ∷ at new_year (command.SetRules logs (rules_of (aborts ∷ []))) ∷ at new_year (command.StartUpload logs a class.Standard [])
+    at new_year (command.CreateBucket logs) ∷ at new_year (command.SetRules logs (rules_of (aborts ∷ [])))
+    ∷ at new_year (command.StartUpload logs a class.Standard [])
     ∷ at new_year (command.PutPart logs 1 1 5) ∷ act (new_year + 7 * day) ∷ act (new_year + 7 * day) ∷ [])
     ≡ Ok (reply.BucketMade logs) ∷ Ok (reply.RulesSet 1) ∷ Ok (reply.UploadStarted 1) ∷ Ok (reply.PartStored 1)
-    ∷ Ok (reply.Chosen action.Abort a (target.Upload 1) (codes "u") (new_year + 7 * day) None) ∷ Ok reply.NothingDue ∷ []
+    ∷ Ok (reply.Chosen action.Abort a (target.Upload 1) (codes "u") (new_year + 7 * day) None) ∷ Ok reply.NothingDue
+    ∷ []
 unfolding to_compute
 aborted = refl
 
@@ -156,7 +176,8 @@ abbrev late : ℕ
 late = 1_705_233_600_000
 
 abbrev late_move : Office
-late_move = after (after empty_office (ruled (moves (codes "r1") 30 class.StandardIa ∷ []))) (at start (put 1_000_000 class.Standard) ∷ act late ∷ [])
+late_move = after (after empty_office (ruled (moves (codes "r1") 30 class.StandardIa ∷ [])))
+    (at start (put 1_000_000 class.Standard) ∷ act late ∷ [])
 
 billed_as_standard : meter january class.Standard late (book_in late_move) ≡ 777_600_000_000_000
 unfolding to_compute
@@ -178,6 +199,7 @@ marker_at_the_limit : (versions : List Version) → length versions ≡ 199_999
     ∷ at new_year (command.SetRules logs (rules_of (expires (codes "e") 3 ∷ []))) ∷ []))
     (at new_year (command.Put logs (codes "c") 5 class.Standard []) ∷ act (new_year + 3 * day) ∷ [])
     ≡ Err (refusal.Full what.Versions 200_000)
-    ∷ Ok (reply.Chosen action.Marker a (target.Version id.Null) (codes "e") (new_year + 3 * day) (Some (id.Number 1))) ∷ []
+    ∷ Ok (reply.Chosen action.Marker a (target.Version id.Null) (codes "e") (new_year + 3 * day)
+    (Some (id.Number 1))) ∷ []
 unfolding to_compute
 marker_at_the_limit versions many = rw many refl

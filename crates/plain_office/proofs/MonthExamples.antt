@@ -12,6 +12,7 @@ use Rattle.office_types.specs.declared.command.Query.TheVariants as query
 use Rattle.office_types.specs.declared.command.Entry.{Entry}
 use Rattle.office_types.specs.declared.reply.LineKind.TheVariants as line
 use Rattle.office_types.specs.declared.reply.Reply.TheVariants as reply
+use Rattle.office_types.specs.declared.reply.ReportLine.{ReportLine}
 use Rattle.office_types.specs.declared.refusal.Refusal.TheVariants as refusal
 use Rattle.plain_office.specs.Office.{Office, empty_office}
 use Rattle.plain_office.specs.Answers.{answer}
@@ -30,7 +31,8 @@ priced price = record { storage = price ∷ 0 ∷ 0 ∷ 0 ∷ 0 ∷ 0 ∷ []; tr
 -- ---- meters
 
 -- 1,000 bytes for a day, and 2,000 for another
-two_days : option_map (answer (new_year + 2 * day) (query.Meters logs january)) (run two_puts) ≡ Some (Ok (reply.MetersShown logs january (
+two_days : option_map (answer (new_year + 2 * day) (query.Meters logs january)) (run two_puts)
+    ≡ Some (Ok (reply.MetersShown logs january (
     record { class = class.Standard; byte_ms = 259_200_000_000; early_byte_ms = 0; moves = 0 }
     ∷ record { class = class.StandardIa; byte_ms = 0; early_byte_ms = 0; moves = 0 }
     ∷ record { class = class.OnezoneIa; byte_ms = 0; early_byte_ms = 0; moves = 0 }
@@ -42,7 +44,9 @@ two_days = refl
 
 -- an object of 100 bytes in STANDARD_IA is billed as 131,072; deleted after 10 of 30 days it owes the other 20
 abbrev kept_for : ℕ → Office
-kept_for days = after empty_office (at new_year (command.CreateBucket logs) ∷ at new_year (put 100 class.StandardIa) ∷ at (new_year + days * day) (command.Delete logs a) ∷ [])
+kept_for days = after empty_office
+    (at new_year (command.CreateBucket logs) ∷ at new_year (put 100 class.StandardIa)
+    ∷ at (new_year + days * day) (command.Delete logs a) ∷ [])
 
 gone_after_ten_days : early_quantity january class.StandardIa (book_in (kept_for 10)) ≡ 226_492_416_000_000
 unfolding to_compute
@@ -57,12 +61,15 @@ gone_after_thirty_days = refl
 abbrev closing : Office
 closing = after empty_office (
     at new_year (command.CreateBucket logs) ∷ at new_year (command.SetTariff (priced 23_000))
-    ∷ at new_year (command.SetRules logs (rules_of (expires (codes "e") 9 ∷ []))) ∷ at new_year (put 1_000 class.Standard) ∷ [])
+    ∷ at new_year (command.SetRules logs (rules_of (expires (codes "e") 9 ∷ [])))
+    ∷ at new_year (put 1_000 class.Standard) ∷ [])
 
 -- a month is closed once it is over and all that was due in it is done, once, and in order
 closes_in_order : answers closing (
-    at 1_706_745_599_999 (command.Close january) ∷ at february_begins (command.Close january) ∷ at february_begins (command.Act logs)
-    ∷ at february_begins (command.Close january) ∷ at february_begins (command.Close january) ∷ at 1_711_929_600_000 (command.Close 650) ∷ [])
+    at 1_706_745_599_999 (command.Close january) ∷ at february_begins (command.Close january)
+    ∷ at february_begins (command.Act logs)
+    ∷ at february_begins (command.Close january) ∷ at february_begins (command.Close january)
+    ∷ at 1_711_929_600_000 (command.Close 650) ∷ [])
     ≡ Err (refusal.MonthNotOver february_begins) ∷ Err (refusal.DueActions logs a (target.Version id.Null))
     ∷ Ok (reply.Chosen action.Remove a (target.Version id.Null) (codes "e") (new_year + 9 * day) None)
     ∷ Ok (reply.Closed january) ∷ Err refusal.AlreadyClosed ∷ Err (refusal.EarlierMonthOpen 649) ∷ []
@@ -70,7 +77,9 @@ unfolding to_compute
 closes_in_order = refl
 
 -- without prices it is not closed; where nothing was accepted yet, every month that is over counts as closed
-not_without_prices : answers empty_office (at february_begins (command.Close january) ∷ at new_year (command.CreateBucket logs) ∷ at february_begins (command.Close january) ∷ [])
+not_without_prices : answers empty_office
+    (at february_begins (command.Close january) ∷ at new_year (command.CreateBucket logs)
+    ∷ at february_begins (command.Close january) ∷ [])
     ≡ Err refusal.AlreadyClosed ∷ Ok (reply.BucketMade logs) ∷ Err refusal.NoTariff ∷ []
 unfolding to_compute
 not_without_prices = refl
@@ -79,22 +88,34 @@ not_without_prices = refl
 
 -- a GiB for a whole month costs the price of a GiB-month; a closed month keeps its prices
 abbrev a_gib : List Entry
-a_gib = at new_year (command.SetTariff (priced 23_000)) ∷ at new_year (command.CreateBucket logs) ∷ at new_year (put 1_073_741_824 class.Standard) ∷ []
+a_gib = at new_year (command.SetTariff (priced 23_000)) ∷ at new_year (command.CreateBucket logs)
+    ∷ at new_year (put 1_073_741_824 class.Standard) ∷ []
 
 abbrev new_prices : List Entry
 new_prices = at february_begins (command.Close january) ∷ at february_begins (command.SetTariff (priced 24_000)) ∷ []
 
+abbrev gib_line : ReportLine
+gib_line = record {
+  bucket = logs;
+  kind = line.Storage;
+  class = class.Standard;
+  quantity = 2_875_910_101_401_600_000;
+  price = 23_000;
+  charge = 23_000;
+}
+
 reported : answer february_begins (query.Report january) (after empty_office a_gib)
-    ≡ Ok (reply.Report (record { bucket = logs; kind = line.Storage; class = class.Standard; quantity = 2_875_910_101_401_600_000; price = 23_000; charge = 23_000 } ∷ []))
+    ≡ Ok (reply.Report (gib_line ∷ []))
 unfolding to_compute
 reported = refl
 
 kept_prices : answer february_begins (query.Report january) (after (after empty_office a_gib) new_prices)
-    ≡ Ok (reply.Report (record { bucket = logs; kind = line.Storage; class = class.Standard; quantity = 2_875_910_101_401_600_000; price = 23_000; charge = 23_000 } ∷ []))
+    ≡ Ok (reply.Report (gib_line ∷ []))
 unfolding to_compute
 kept_prices = refl
 
-prices_now : answer february_begins query.Tariff (after (after empty_office a_gib) new_prices) ≡ Ok (reply.TariffShown (priced 24_000))
+prices_now : answer february_begins query.Tariff (after (after empty_office a_gib) new_prices)
+    ≡ Ok (reply.TariffShown (priced 24_000))
 unfolding to_compute
 prices_now = refl
 

@@ -36,8 +36,8 @@ due_shown t account = shown (choice account.bucket t) where
   shown None = NothingDue
   shown (Some action) = shown_action action None account.bucket
 
--- what was used of one class, as seen at the moment (S3 User Guide, "Understanding your AWS billing and usage reports for
--- Amazon S3")
+-- what was used of one class, as seen at the moment (S3 User Guide, "Understanding your AWS billing and usage reports
+-- for Amazon S3")
 abbrev pub class_meters : ℕ → ℕ → Book → Class → ClassMeters
 class_meters month t book class = record {
   class = class;

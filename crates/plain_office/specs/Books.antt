@@ -31,19 +31,23 @@ with_stay key item lines from books =
 -- the item goes: its open stay ends
 abbrev pub with_end : List ℕ → Item → ℕ → Books → Books
 with_end key item at books = record books {
-  stays = map (λ (stay : Booked). if is_open_stay key item stay then (stay.0, record stay.1 { to = Some at }) else stay) books.stays;
+  stays = map (λ (stay : Booked). if is_open_stay key item stay then (stay.0, record stay.1 { to = Some at }) else stay)
+      books.stays;
 }
 
 -- ---- versions
 
--- what an object owes that leaves its class before the least duration (S3 User Guide, "Understanding and managing Amazon S3
--- storage classes": minimum storage durations; own: the own line's bytes times the missing milliseconds); a marker owes nothing
+-- what an object owes that leaves its class before the least duration (S3 User Guide, "Understanding and managing
+-- Amazon S3 storage classes": minimum storage durations; own: the own line's bytes times the missing milliseconds); a
+-- marker owes nothing
 abbrev pub with_early : Kind → ℕ → Books → Books
 with_early Marker at books = books
 with_early (Object size class tags entered) at books =
     let until = entered + least_stay class in
     if nat_lt at until
-    then record books { early = books.early ++ record { class = class; amount = own_bytes class size * (until - at); moment = at } ∷ [] }
+    then record books {
+      early = books.early ++ record { class = class; amount = own_bytes class size * (until - at); moment = at } ∷ [];
+    }
     else books
 
 -- what is billed of an object or of a marker under a key

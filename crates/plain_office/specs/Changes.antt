@@ -47,16 +47,19 @@ number_after Unversioned number = number
 number_after Enabled number = number + 1
 number_after Suspended number = number
 
--- a new version comes to the top of the key's stack, and the null version that it replaces goes (S3 User Guide, "Adding objects
--- to versioning-enabled buckets", "Adding objects to versioning-suspended buckets")
+-- a new version comes to the top of the key's stack, and the null version that it replaces goes (S3 User Guide,
+-- "Adding objects to versioning-enabled buckets", "Adding objects to versioning-suspended buckets")
 abbrev pub add_version : List ℕ → Kind → ℕ → Account → Account
 add_version key kind at account =
     let bucket = account.bucket in
     let stack = stack_at key bucket in
     let id = next_id bucket in
     record {
-      bucket = record (with_stack key (after_adding id kind at stack) bucket) { next_version = number_after bucket.versioning bucket.next_version };
-      books = with_version key (new_version id kind at) at (without_option key (replaced bucket.versioning stack.versions) at account.books);
+      bucket = record (with_stack key (after_adding id kind at stack) bucket) {
+        next_version = number_after bucket.versioning bucket.next_version;
+      };
+      books = with_version key (new_version id kind at) at
+          (without_option key (replaced bucket.versioning stack.versions) at account.books);
     }
 
 -- the version with this id goes (S3 User Guide, "Deleting object versions from a versioning-enabled bucket")
@@ -89,7 +92,8 @@ move_version key id to at account =
 abbrev pub with_upload : ℕ → UploadRecord → BucketRecord → BucketRecord
 with_upload number upload bucket = record bucket { uploads = with_number number upload bucket.uploads }
 
--- a part comes, and the one with its number goes (S3 User Guide, "Uploading and copying objects using multipart upload")
+-- a part comes, and the one with its number goes (S3 User Guide, "Uploading and copying objects using multipart
+-- upload")
 abbrev pub add_part : ℕ → UploadRecord → ℕ → ℕ → ℕ → Account → Account
 add_part number upload part size at account =
     record {
@@ -114,8 +118,8 @@ remove_upload_at number at account = gone (at_number number account.bucket.uploa
 
 -- ---- lifecycle actions
 
--- what a lifecycle action does, at the moment at which it stands (S3 User Guide, "Managing the lifecycle of objects"; own: it
--- stands there whenever it is done); no action has another kind and target than these
+-- what a lifecycle action does, at the moment at which it stands (S3 User Guide, "Managing the lifecycle of objects";
+-- own: it stands there whenever it is done); no action has another kind and target than these
 unfoldable pub effect : Action → Account → Account
 effect chosen account = done chosen.kind chosen.target where
   done : ActionKind → Target → Account

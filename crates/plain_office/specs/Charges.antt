@@ -12,7 +12,8 @@ use Rattle.office_types.specs.declared.reply.LineKind.TheVariants.{Storage, Earl
 use Rattle.office_types.specs.declared.reply.ReportLine.{ReportLine}
 use Rattle.plain_office.specs.Office.{Office, book_of}
 
--- a quantity of byte-milliseconds at the price of storage
+-- a quantity of byte-milliseconds, also an early one, at the price of storage (S3 User Guide, "Understanding your AWS
+-- billing and usage reports for Amazon S3")
 abbrev pub storage_line : LineKind → Prices → ℕ → List ℕ → Class → ℕ → ReportLine
 storage_line kind tariff month name class quantity = let price = storage_price tariff class in record {
   bucket = name;
@@ -23,7 +24,8 @@ storage_line kind tariff month name class quantity = let price = storage_price t
   charge = charge_of quantity price month;
 }
 
--- transitions to a class
+-- lifecycle transitions to a class, at its price for them (S3 User Guide, "Transitioning objects using Amazon S3
+-- Lifecycle")
 abbrev pub transition_line : Prices → List ℕ → Class → ℕ → ReportLine
 transition_line tariff name class moves = let price = move_price tariff class in record {
   bucket = name;
@@ -34,8 +36,7 @@ transition_line tariff name class moves = let price = move_price tariff class in
   charge = move_charge_of moves price;
 }
 
--- the lines of a bucket and a class, those whose quantity is not 0 (S3 User Guide, "Understanding your AWS billing and usage
--- reports for Amazon S3"); early quantities have the price of storage
+-- the lines of a bucket and a class: those whose quantity is not 0 (own)
 abbrev pub class_lines : Prices → ℕ → ℕ → List ℕ → Book → Class → List ReportLine
 class_lines tariff month t name book class =
     filter (λ line. not (line.quantity == 0)) (
@@ -51,7 +52,9 @@ tariff_for month office = kept_or (at_number month office.closed) where
   kept_or None = office.tariff
   kept_or (Some tariff) = Some tariff
 
--- the lines of a month's report, as seen at the moment: buckets in the byte order of their names, classes from the warmest
+-- the lines of a month's report, as seen at the moment: buckets in the byte order of their names, classes from the
+-- warmest
 unfoldable pub report_lines : Prices → ℕ → ℕ → Office → List ReportLine
 report_lines tariff month t office =
-    flat_map (λ account. flat_map (class_lines tariff month t account.0 (book_of account.1.books)) all_classes) office.accounts
+    flat_map (λ account. flat_map (class_lines tariff month t account.0 (book_of account.1.books)) all_classes)
+    office.accounts

@@ -1,5 +1,5 @@
--- The office as plain data: lists and nothing else. Moments are in milliseconds since 1970, months are counted from 0 for
--- January 1970.
+-- The office as plain data: lists and nothing else. Moments are in milliseconds since 1970, months are counted from 0
+-- for January 1970.
 use Rattle.std.specs.Prelude.{ℕ, List, [], map, Option, None}
 use Rattle.office_base.specs.declared.version_id.VersionId.{VersionId}
 use Rattle.tariff.specs.Prices.{Prices}
@@ -19,8 +19,8 @@ pub record Label : Type 0 where
 abbrev pub Booked : Type 0
 Booked = Label × Stay
 
--- what is booked of a bucket: every stay ever opened, with whose it is, every early quantity and every move, each in the
--- order in which it was booked
+-- what is booked of a bucket: every stay ever opened, with whose it is, every early quantity and every move, each in
+-- the order in which it was booked
 pub record Books : Type 0 where
   pub stays : List Booked
   pub early : List Early
@@ -31,8 +31,8 @@ pub record Account : Type 0 where
   pub bucket : BucketRecord
   pub books : Books
 
--- the moment of the last accepted command, the prices where any were set, the month of the first accepted command, the closed
--- months with the prices of their closing, and the buckets in the byte order of their names
+-- the moment of the last accepted command, the prices where any were set, the month of the first accepted command,
+-- the closed months with the prices of their closing, and the buckets in the byte order of their names
 pub record Office : Type 0 where
   pub last : Option ℕ
   pub tariff : Option Prices

@@ -78,11 +78,13 @@ pub record IsOrderlyBucket (last : ℕ) (bucket : BucketRecord) : Type 0 where
   pub keys : Rises bytes_cmp bucket.stacks
   pub stacks : AllByRecursion (λ stack. IsOrderlyStack bucket.versioning bucket.next_version last stack.1) bucket.stacks
   pub numbers : Rises nat_cmp bucket.uploads
-  pub uploads : AllByRecursion (λ upload. (upload.0 < bucket.next_upload) × IsOrderlyUpload last upload.1) bucket.uploads
+  pub uploads : AllByRecursion (λ upload. (upload.0 < bucket.next_upload) × IsOrderlyUpload last upload.1)
+      bucket.uploads
 
 -- ---- the stays
 
--- the moment from which a version has its lines: an object from when it entered its class, a marker from when it was made
+-- the moment from which a version has its lines: an object from when it entered its class, a marker from when it was
+-- made
 abbrev pub lines_since : Version → ℕ
 lines_since version = since version.kind where
   since : Kind → ℕ
@@ -91,8 +93,10 @@ lines_since version = since version.kind where
 
 -- the stay that a version under a key asks to be open
 abbrev pub stay_of_version : List ℕ → Version → Booked
-stay_of_version key version =
-    (record { key = key; item = of_version version.id }, open_stay (lines_of_kind key version.kind) (lines_since version))
+stay_of_version key version = (
+  record { key = key; item = of_version version.id },
+  open_stay (lines_of_kind key version.kind) (lines_since version),
+)
 
 -- and that a part of an upload does
 abbrev pub stay_of_part : ℕ → UploadRecord → ℕ → Part → Booked
@@ -102,17 +106,22 @@ stay_of_part number upload place part =
 abbrev pub part_stays_expected : List ℕ → ℕ → ℕ → Option UploadRecord → List Booked
 part_stays_expected key number place None = []
 part_stays_expected key number place (Some upload) =
-    if bytes_eq key upload.key then option_to_list (option_map (stay_of_part number upload place) (at_number place upload.parts)) else []
+    if bytes_eq key upload.key
+    then option_to_list (option_map (stay_of_part number upload place) (at_number place upload.parts))
+    else []
 
 -- the stays that the records ask to be open under a key for an item: one where the version or part is there
 abbrev pub stays_expected : BucketRecord → List ℕ → Item → List Booked
-stays_expected bucket key (of_version id) = option_to_list (option_map (stay_of_version key) (version_at id (versions_of key bucket)))
-stays_expected bucket key (of_part number place) = part_stays_expected key number place (at_number number bucket.uploads)
+stays_expected bucket key (of_version id) =
+    option_to_list (option_map (stay_of_version key) (version_at id (versions_of key bucket)))
+stays_expected bucket key (of_part number place) =
+    part_stays_expected key number place (at_number number bucket.uploads)
 
 -- the open stays of an item are the one that its record asks for
 abbrev pub HasOpenStays : Account → Type 0
 HasOpenStays account =
-    (key : List ℕ) (item : Item) → filter (is_open_stay key item) account.books.stays ≡ stays_expected account.bucket key item
+    (key : List ℕ) (item : Item)
+    → filter (is_open_stay key item) account.books.stays ≡ stays_expected account.bucket key item
 
 -- ---- the office
 
@@ -150,22 +159,25 @@ pub record IsOrderlyUntil (last : ℕ) (office : Office) : Type 0 where
   pub buckets : AllByRecursion (λ account. IsOrderlyBucket last account.1.bucket) office.accounts
   pub closed : closed_until office ≤ last
 
--- all that speaks of the records: no eligible action stands before the end of the last closed month, and with a marker for each
--- current object there are at most 400,000 versions
+-- all that speaks of the records: no eligible action stands before the end of the last closed month, and with a
+-- marker for each current object there are at most 400,000 versions
 pub record IsOrderlyRecords (office : Office) : Type 0 where
   pub names : Rises bytes_cmp office.accounts
   pub moments : MatchOption office.last (IsBlank office) (λ last. IsOrderlyUntil last office)
   pub months : IfSome office.first_month (λ first. FollowEachOther first (map (λ month. month.0) office.closed))
   pub nothing_due_in_closed_months : AllByRecursion (λ account.
-      AllByRecursion (λ candidate. closed_until office ≤ candidate.action.since) (eligible account.1.bucket)) office.accounts
+      AllByRecursion (λ candidate. closed_until office ≤ candidate.action.since) (eligible account.1.bucket))
+      office.accounts
   pub versions : over_buckets (λ bucket. version_count bucket + current_objects bucket) office ≤ 400_000
-  pub counts : AllByRecursion (λ what. count_of what office ≤ limit_of what) (Buckets ∷ Uploads ∷ Parts ∷ Names ∷ Rules ∷ [])
+  pub counts : AllByRecursion (λ what. count_of what office ≤ limit_of what)
+      (Buckets ∷ Uploads ∷ Parts ∷ Names ∷ Rules ∷ [])
 
 -- and the open stays are those that the records ask for, and no moment that is booked is above the last one
 pub record IsOrderly (office : Office) : Type 0 where
   pub records : IsOrderlyRecords office
   pub stays : AllByRecursion (λ account. HasOpenStays account.1) office.accounts
-  pub booked : IfSome office.last (λ last. AllByRecursion (λ account. IsBookedBy last (book_of account.1.books)) office.accounts)
+  pub booked : IfSome office.last (λ last.
+      AllByRecursion (λ account. IsBookedBy last (book_of account.1.books)) office.accounts)
 
 -- a put's size is up to the largest, as in every command of the program
 abbrev pub SizeFits : Command → Type 0

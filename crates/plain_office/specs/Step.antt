@@ -74,13 +74,15 @@ is_unversioned Unversioned = true
 is_unversioned Enabled = false
 is_unversioned Suspended = false
 
--- (S3 User Guide, "Using versioning in S3 buckets": once enabled, versioning is suspended, and never taken back; own: it is
--- suspended only where it was enabled before)
+-- (S3 User Guide, "Using versioning in S3 buckets": once enabled, versioning is suspended, and never taken back; own:
+-- it is suspended only where it was enabled before)
 abbrev pub set_versioning : ℕ → Bool → Account → Change
 set_versioning t enabled account =
     let versioning = if enabled then Enabled else Suspended in
-    refuse_if (not enabled && is_unversioned account.bucket.versioning) NotEnabledBefore
-    (record account { bucket = record account.bucket { versioning = versioning; rules_since = t } }, VersioningSet versioning)
+    refuse_if (not enabled && is_unversioned account.bucket.versioning) NotEnabledBefore (
+      record account { bucket = record account.bucket { versioning = versioning; rules_since = t } },
+      VersioningSet versioning,
+    )
 
 abbrev pub with_rules : ℕ → Option Configuration → Account → Account
 with_rules t rules account = record account { bucket = record account.bucket { rules = rules; rules_since = t } }
@@ -98,12 +100,13 @@ abbrev pub put_object : ℕ → List ℕ → ℕ → Class → List Tag → Acco
 put_object t key size class tags account =
     Ok (add_version key (kind.Object size class tags t) t account, Stored t (next_id account.bucket))
 
--- without versioning the null version goes (own: refused where the key has none); else a delete marker comes (S3 User Guide,
--- "Working with delete markers", "Deleting objects from versioning-suspended buckets")
+-- without versioning the null version goes (own: refused where the key has none); else a delete marker comes (S3 User
+-- Guide, "Working with delete markers", "Deleting objects from versioning-suspended buckets")
 abbrev pub delete : ℕ → List ℕ → Account → Change
 delete t key account = by_versioning account.bucket.versioning where
   by_versioning : Versioning → Change
-  by_versioning Unversioned = refuse_if (not (has_stack key account)) NoSuchKey (remove_version key Null t account, Deleted None)
+  by_versioning Unversioned =
+      refuse_if (not (has_stack key account)) NoSuchKey (remove_version key Null t account, Deleted None)
   by_versioning kept = Ok (add_version key kind.Marker t account, Deleted (Some (next_id account.bucket)))
 
 -- (S3 User Guide, "Deleting object versions from a versioning-enabled bucket")
@@ -131,15 +134,17 @@ start_upload t key class tags account =
 abbrev pub put_part : ℕ → ℕ → ℕ → ℕ → Account → Change
 put_part t number part size account = do
   upload ← upload_in number account
-  refuse_if (not (admits_part part (new_part size t) upload.parts)) BadPart (add_part number upload part size t account, PartStored part)
+  refuse_if (not (admits_part part (new_part size t) upload.parts)) BadPart
+      (add_part number upload part size t account, PartStored part)
 
--- the parts go, and an object of all their bytes comes (S3 User Guide, "Uploading and copying objects using multipart upload":
--- completion; own: it is created then)
+-- the parts go, and an object of all their bytes comes (S3 User Guide, "Uploading and copying objects using multipart
+-- upload": completion; own: it is created then)
 abbrev pub complete : ℕ → ℕ → Account → Change
 complete t number account = do
   upload ← upload_in number account
   if is_empty upload.parts then Err NoParts
-      else put_object t upload.key (total_size upload.parts) upload.class upload.tags (remove_upload number upload t account)
+      else put_object t upload.key (total_size upload.parts) upload.class upload.tags
+      (remove_upload number upload t account)
 
 -- (S3 User Guide, "Aborting a multipart upload")
 abbrev pub abort : ℕ → ℕ → Account → Change
@@ -168,7 +173,8 @@ abbrev pub act : ℕ → Account → Change
 act t account = done (choice account.bucket t) where
   done : Option Action → Change
   done None = Ok (account, NothingDue)
-  done (Some action) = Ok (effect action account, shown_action action (marker_made action.kind account.bucket) account.bucket)
+  done (Some action) =
+      Ok (effect action account, shown_action action (marker_made action.kind account.bucket) account.bucket)
 
 -- ---- the commands on the whole office
 
@@ -192,7 +198,8 @@ within_limits whats outcome = do
   done ← outcome
   unless_full (first_full whats done.0) done
 
--- a bucket as it is made: without versioning, rules, versions and uploads (S3 User Guide, "Creating a general purpose bucket")
+-- a bucket as it is made: without versioning, rules, versions and uploads (S3 User Guide, "Creating a general purpose
+-- bucket")
 abbrev pub new_bucket : ℕ → BucketRecord
 new_bucket t = record {
   versioning = Unversioned;
@@ -216,8 +223,8 @@ create_bucket t name office =
 abbrev pub set_tariff : Prices → Office → Outcome
 set_tariff tariff office = Ok (record office { tariff = Some tariff }, TariffSet)
 
--- the first month that does not count as closed (own: months before the first accepted command do, and before there is one, all
--- months before the moment's)
+-- the first month that does not count as closed (own: months before the first accepted command do, and before there
+-- is one, all months before the moment's)
 abbrev pub month_to_close : ℕ → Office → ℕ
 month_to_close t office = unwrap_or office.first_month (month_at t) + length office.closed
 
@@ -233,7 +240,8 @@ abbrev pub unless_due : Option (List ℕ × Action) → Office × Reply → Outc
 unless_due None done = Ok done
 unless_due (Some (name, action)) done = Err (DueActions name action.key action.target)
 
--- months are closed in order, once they are over, once all that is due in them is done, and with the prices of now (own)
+-- months are closed in order, once they are over, once all that is due in them is done, and with the prices of now
+-- (own)
 abbrev pub close : ℕ → ℕ → Office → Outcome
 close t month office =
     if nat_lt t (month_end month) then Err (MonthNotOver (month_end month))
@@ -251,7 +259,8 @@ adds_marker name office = kept (at_name name office.accounts) where
   kept None = false
   kept (Some account) = not (is_unversioned account.bucket.versioning)
 
--- refusals come in the order of the tests; a count is tested where the command adds to it
+-- what a command does, and what it is refused for, in the order of the tests; a count is tested where the command adds
+-- to it (own)
 unfoldable pub outcome : ℕ → Command → Office → Outcome
 outcome t (command.CreateBucket name) office = within_limits (Buckets ∷ []) (create_bucket t name office)
 outcome t (command.SetVersioning name enabled) office = on_bucket name (set_versioning t enabled) office
@@ -260,13 +269,17 @@ outcome t (command.DropRules name) office = on_bucket name (drop_rules t) office
 outcome t (command.Put name key size class tags) office =
     within_limits (Versions ∷ Names ∷ []) (on_bucket name (put_object t key size class tags) office)
 outcome t (command.Delete name key) office =
-    within_limits (if adds_marker name office then Versions ∷ Names ∷ [] else Names ∷ []) (on_bucket name (delete t key) office)
+    within_limits (if adds_marker name office then Versions ∷ Names ∷ [] else Names ∷ [])
+    (on_bucket name (delete t key) office)
 outcome t (command.DeleteVersion name key id) office = on_bucket name (delete_version t key id) office
-outcome t (command.SetTags name key id tags) office = within_limits (Names ∷ []) (on_bucket name (set_tags t key id tags) office)
+outcome t (command.SetTags name key id tags) office =
+    within_limits (Names ∷ []) (on_bucket name (set_tags t key id tags) office)
 outcome t (command.StartUpload name key class tags) office =
     within_limits (Uploads ∷ Names ∷ []) (on_bucket name (start_upload t key class tags) office)
-outcome t (command.PutPart name upload part size) office = within_limits (Parts ∷ []) (on_bucket name (put_part t upload part size) office)
-outcome t (command.Complete name upload) office = within_limits (Versions ∷ Names ∷ []) (on_bucket name (complete t upload) office)
+outcome t (command.PutPart name upload part size) office =
+    within_limits (Parts ∷ []) (on_bucket name (put_part t upload part size) office)
+outcome t (command.Complete name upload) office =
+    within_limits (Versions ∷ Names ∷ []) (on_bucket name (complete t upload) office)
 outcome t (command.Abort name upload) office = on_bucket name (abort t upload) office
 outcome t (command.Act name) office = on_bucket name (act t) office
 outcome t (command.SetTariff tariff) office = set_tariff tariff office
@@ -284,8 +297,8 @@ settled t before (Err refusal) = (before, Err refusal)
 settled t before (Ok (after, NothingDue)) = (before, Ok NothingDue)
 settled t before (Ok (after, reply)) = (accepted t after, Ok reply)
 
--- the office after a command at this moment, and the answer, for a moment that is not before the last one and below the end of
--- time
+-- the office after a command at this moment, and the answer, for a moment that is not before the last one and below
+-- the end of time
 unfoldable pub step : ℕ → Command → Office → Office × Result Reply Refusal
 step t command office = settled t office (outcome t command office)
 

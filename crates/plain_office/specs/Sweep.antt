@@ -5,8 +5,9 @@ use Rattle.due_core.specs.declared.action.Action.{Action}
 use Rattle.plain_office.specs.Office.{Account}
 use Rattle.plain_office.specs.Changes.{effect}
 
--- these actions, each the choice at the moment in what the ones before it left, lead from one account to the other, where there
--- is no choice any more
+-- these actions, each the choice at the moment in what the ones before it left, lead from one account to the other,
+-- where there is no choice any more
 abbrev pub IsSwept : ℕ → List Action → Account → Account → Type 0
 IsSwept u [] before after = (choice before.bucket u ≡ None) × (after ≡ before)
-IsSwept u (action ∷ actions) before after = (choice before.bucket u ≡ Some action) × IsSwept u actions (effect action before) after
+IsSwept u (action ∷ actions) before after =
+    (choice before.bucket u ≡ Some action) × IsSwept u actions (effect action before) after

@@ -8,7 +8,8 @@ ghost use Rattle.plain_office.specs.Sweep.{IsSwept};
 
 /// States that doing the choice of a moment and sweeping at a later one is sweeping at the later one.
 pub fn an_early_act_is_part_of_the_sweep()
-    ensures { (t u : ℕ) (action : Action) (actions : List Action) (before after : Account) → t ≤ u → choice before.bucket t ≡ Some action
+    ensures { (t u : ℕ) (action : Action) (actions : List Action) (before after : Account) → t ≤ u
+        → choice before.bucket t ≡ Some action
         → IsSwept u actions (effect action before) after → IsSwept u (action ∷ actions) before after }
 {
     due_core::the_choice_stays();
