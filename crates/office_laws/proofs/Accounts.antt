@@ -190,9 +190,6 @@ moved_since : (to : Class) (at : ℕ) (id : VersionId) (created ceased : ℕ) (k
 moved_since to at id created ceased (Object size class tags entered) h = refl
 moved_since to at id created ceased Marker h = absurd cc
 
-moved_id : (to : Class) (at : ℕ) (v : Version) → (with_class to at v).id ≡ v.id
-moved_id to at v = refl
-
 pub stays_moved : (key : List ℕ) (id : VersionId) (to : Class) (at : ℕ) (account : Account) → MayMove (version_at id (versions_of key account.bucket)) → Rises bytes_cmp account.bucket.stacks → HasOpenStays account
     → HasOpenStays (move_version key id to at account)
 stays_moved key id to at account may rises has = by (version_at id (versions_of key account.bucket)) refl may where

@@ -1,6 +1,6 @@
 -- What the choice of a bucket keeps of its account when it is done.
 use Rattle.std.proofs.Common.{◌≡◌, ℕ, ◌≤◌, List, [], ◌∷◌, ◌++◌, refl, ap, sym, ◌∙◌, subst, true, false, inl, arith}
-use Rattle.std.specs.Prelude.{Option, Some, None, option_map, unwrap_or}
+use Rattle.std.specs.Prelude.{Option, Some, None}
 use Rattle.std.specs.List.{list_any}
 use Rattle.std.proofs.lemmas.Bool.{and_parts, or_parts}
 use Rattle.office_base.specs.Maps.{at_name, at_number}
@@ -21,7 +21,7 @@ use Rattle.due_core.specs.declared.action.ActionKind.TheVariants as action
 use Rattle.due_core.specs.declared.action.Target.{Target}
 use Rattle.due_core.specs.declared.action.Target.TheVariants as target
 use Rattle.plain_office.specs.Office.{Account}
-use Rattle.plain_office.specs.Changes.{versions_of, remove_upload_at, effect}
+use Rattle.plain_office.specs.Changes.{remove_upload_at, effect}
 use Rattle.plain_office.specs.Orderly.{current_is_object, is_object}
 use Rattle.office_types.specs.declared.refusal.What.{What}
 use Rattle.office_laws.proofs.Ids.{same_itself, apart}
@@ -31,7 +31,7 @@ use Rattle.office_laws.proofs.Ends.{tidy_from_orderly}
 use Rattle.office_laws.proofs.Versions.{KindFits}
 use Rattle.office_laws.proofs.Buckets.{ChangedBy, stack_orderly, versions_are}
 use Rattle.office_laws.proofs.Accounts.{MayMove}
-use Rattle.office_laws.proofs.Chosen.{MarkerFits, HasTarget, chosen_holds, chosen_come, chosen_target}
+use Rattle.office_laws.proofs.Chosen.{MayMark, HasTarget, chosen_holds, chosen_come, chosen_target}
 use Rattle.office_laws.proofs.Closed.{keeps_same}
 use Rattle.office_laws.proofs.Kept.{IsKept, Keeps, keeps_removed, keeps_moved, keeps_marked, keeps_aborted}
 
@@ -65,7 +65,7 @@ is_current id versions place =
     ap current_is_object place.is
     ∙ current_at place.version.kind place.version.id place.version.created place.version.ceased place.front place.back place.fits
 
-marker_kept : (versioning : Versioning) → MarkerFits versioning action.Marker → KindFits versioning Marker
+marker_kept : (versioning : Versioning) → MayMark versioning action.Marker → KindFits versioning Marker
 marker_kept Unversioned fits = absurd fits
 marker_kept Enabled fits = tt
 marker_kept Suspended fits = tt

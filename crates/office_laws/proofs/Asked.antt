@@ -1,7 +1,7 @@
 -- What is known of the choice of a bucket: the place of its target, and that its kind fits there.
-use Rattle.std.proofs.Common.{◌≡◌, ℕ, ◌+◌, ◌-◌, ◌<◌, List, [], ◌∷◌, ◌++◌, refl, ap, subst, Bool, true, false, ◌&&◌, cond, arith, filter, length, flat_map, ◌==◌}
-use Rattle.std.specs.Prelude.{Option, Some, None, is_some, option_map, option_to_list, nat_lt, max}
-use Rattle.std.specs.List.{AllByRecursion, best_of}
+use Rattle.std.proofs.Common.{◌≡◌, ℕ, ◌+◌, ◌-◌, ◌<◌, List, [], ◌∷◌, ◌++◌, refl, ap, true, false, ◌&&◌, arith, filter, length, flat_map, ◌==◌}
+use Rattle.std.specs.Prelude.{Option, Some, None, is_some, option_to_list, nat_lt, max}
+use Rattle.std.specs.List.{AllByRecursion}
 use Rattle.std.proofs.lemmas.Bool.{and_parts}
 use Rattle.std.proofs.lemmas.Bool.Decides.{nat_tests}
 use Rattle.moments.specs.Time.{end_of_time}
@@ -23,8 +23,8 @@ use Rattle.stacks.specs.declared.version.Version.{Version}
 use Rattle.stacks.specs.Stacks.{StackRecord}
 use Rattle.uploads.specs.Uploads.{UploadRecord}
 use Rattle.due_core.specs.RuleActions.{Placed, placed_from, expirations, expiring, admits_move, object_actions, lone_marker_actions, noncurrent_removals, noncurrent_transitions, keeps_newer, version_actions, matches_version}
-use Rattle.due_core.specs.Candidates.{enabled_rules, timely, stack_candidates, upload_candidates, eligible_by, eligible, candidates}
-use Rattle.due_core.specs.Choice.{least, comes_before, choice}
+use Rattle.due_core.specs.Candidates.{enabled_rules, timely, stack_candidates, upload_candidates, eligible_by, eligible}
+use Rattle.due_core.specs.Choice.{choice}
 use Rattle.due_core.specs.declared.action.Action.{Action}
 use Rattle.due_core.specs.declared.action.ActionKind.{ActionKind}
 use Rattle.due_core.specs.declared.action.ActionKind.TheVariants as action
@@ -35,7 +35,8 @@ use Rattle.due_core.specs.declared.action.Candidate.{Candidate}
 use Rattle.office_laws.proofs.Work.{IsTidy}
 use Rattle.office_laws.proofs.Lists.{every, every_append, every_filter, passing, every_cond, every_map, every_flat_map, every_weaker}
 use Rattle.office_laws.proofs.Maps.{by_name, by_number, each_found}
-use Rattle.office_laws.proofs.Lowers.{RemoveFits, Fits}
+use Rattle.office_laws.proofs.Chosen.{chosen_holds}
+use Rattle.office_laws.proofs.Lowers.{RemoveFits, FitsPlace}
 
 -- the version stands in this list, and an action of this kind fits its place
 pub record HasPlace (versions : List Version) (kind : ActionKind) (id : VersionId) : Type 0 where
@@ -44,7 +45,7 @@ pub record HasPlace (versions : List Version) (kind : ActionKind) (id : VersionI
   pub back : List Version
   pub is : versions ≡ front ++ version ∷ back
   pub same : version.id ≡ id
-  pub fits : Fits kind version.kind front back
+  pub fits : FitsPlace kind version.kind front back
 
 -- the action's target is there, and it may be done to it
 abbrev pub Suits : BucketRecord → List ℕ → ActionKind → Target → Type 0
@@ -72,8 +73,8 @@ all_placed before (v ∷ versions) = (
 
 -- ---- what a rule asks of a version
 
-abbrev WishFits : Kind → List Version → List Version → ActionKind × ℕ → Type 0
-WishFits kind front back wish = Fits wish.0 kind front back
+abbrev DueFits : Kind → List Version → List Version → ActionKind × ℕ → Type 0
+DueFits kind front back due = FitsPlace due.0 kind front back
 
 colder : (from to : Class) → may_move from to ≡ true → rank_of from < rank_of to
 colder OnezoneIa GlacierIr h = absurd (cc)
@@ -90,44 +91,44 @@ colder DeepArchive to h = grind (arith, nat_tests)
 
 module _ (mode : SizeMode) (rule : Rule) where
   moves_fit : (filter : Filter) (size : ℕ) (class : Class) (tags : List (List ℕ × List ℕ)) (entered : ℕ) (front back : List Version) (to : Class)
-      → admits_move mode filter class size to ≡ true → Fits (action.Transition to) (Object size class tags entered) front back
+      → admits_move mode filter class size to ≡ true → FitsPlace (action.Transition to) (Object size class tags entered) front back
   moves_fit filter size class tags entered front back to h = colder class to (and_parts (may_move class to) (size_admits mode filter to size) h).0
 
   expiring_fits : (versioning : Versioning) (size : ℕ) (class : Class) (tags : List (List ℕ × List ℕ)) (entered : ℕ) (back : List Version)
-      → Fits (expiring versioning) (Object size class tags entered) [] back
+      → FitsPlace (expiring versioning) (Object size class tags entered) [] back
   expiring_fits Unversioned size class tags entered back = tt
   expiring_fits Enabled size class tags entered back = tt
   expiring_fits Suspended size class tags entered back = tt
 
   object_fit : (versioning : Versioning) (size : ℕ) (class : Class) (tags : List (List ℕ × List ℕ)) (entered created : ℕ) (back : List Version)
-      → AllByRecursion (WishFits (Object size class tags entered) [] back) (object_actions versioning mode rule size class created)
+      → AllByRecursion (DueFits (Object size class tags entered) [] back) (object_actions versioning mode rule size class created)
   object_fit versioning size class tags entered created back = every_append P _ _
       (every_map (λ (at : ℕ). Unit {0}) P _ (λ at _. expiring_fits versioning size class tags entered back) (flat_map (expirations created) (option_to_list rule.expiration)) (every (λ (at : ℕ). Unit {0}) (λ at. tt) _))
-      (every_map (λ transition. Fits (action.Transition transition.to) (Object size class tags entered) [] back) P _ (λ transition h. h) _
-      (passing (λ transition. Fits (action.Transition transition.to) (Object size class tags entered) [] back) (λ transition. admits_move mode rule.filter class size transition.to)
+      (every_map (λ transition. FitsPlace (action.Transition transition.to) (Object size class tags entered) [] back) P _ (λ transition h. h) _
+      (passing (λ transition. FitsPlace (action.Transition transition.to) (Object size class tags entered) [] back) (λ transition. admits_move mode rule.filter class size transition.to)
       (λ transition h. moves_fit rule.filter size class tags entered [] back transition.to h) rule.transitions))
     where
       P : ActionKind × ℕ → Type 0
-      P = WishFits (Object size class tags entered) [] back
+      P = DueFits (Object size class tags entered) [] back
 
   -- in the first place, and in a later one
-  lone_fit : (created changed : ℕ) → AllByRecursion (WishFits Marker [] []) (lone_marker_actions rule created changed)
+  lone_fit : (created changed : ℕ) → AllByRecursion (DueFits Marker [] []) (lone_marker_actions rule created changed)
   lone_fit created changed = every_append P _ _
       (every_map (λ (at : ℕ). Unit {0}) P _ (λ at _. refl) (flat_map (expirations created) (option_to_list rule.expiration)) (every (λ (at : ℕ). Unit {0}) (λ at. tt) _))
       (every_map (λ _. Unit {0}) P _ (λ _ _. refl) (filter (λ expiration. expiration.lone_marker) (option_to_list rule.expiration)) (every (λ _. Unit {0}) (λ _. tt) _))
     where
       P : ActionKind × ℕ → Type 0
-      P = WishFits Marker [] []
+      P = DueFits Marker [] []
 
-  removals_fit : (kind : Kind) (front back : List Version) → RemoveFits kind front back → (newer ceased : ℕ) → AllByRecursion (WishFits kind front back) (noncurrent_removals rule newer ceased)
+  removals_fit : (kind : Kind) (front back : List Version) → RemoveFits kind front back → (newer ceased : ℕ) → AllByRecursion (DueFits kind front back) (noncurrent_removals rule newer ceased)
   removals_fit kind front back fits newer ceased =
-      every_map (λ _. Unit {0}) (WishFits kind front back) _ (λ _ _. fits) (filter (λ expiration. keeps_newer expiration.newer newer) (option_to_list rule.noncurrent_expiration)) (every (λ _. Unit {0}) (λ _. tt) _)
+      every_map (λ _. Unit {0}) (DueFits kind front back) _ (λ _ _. fits) (filter (λ expiration. keeps_newer expiration.newer newer) (option_to_list rule.noncurrent_expiration)) (every (λ _. Unit {0}) (λ _. tt) _)
 
   later_moves_fit : (size : ℕ) (class : Class) (tags : List (List ℕ × List ℕ)) (entered : ℕ) (front back : List Version) (newer ceased : ℕ)
-      → AllByRecursion (WishFits (Object size class tags entered) front back) (noncurrent_transitions mode rule size class newer ceased)
+      → AllByRecursion (DueFits (Object size class tags entered) front back) (noncurrent_transitions mode rule size class newer ceased)
   later_moves_fit size class tags entered front back newer ceased =
-      every_map (λ move. Fits (action.Transition move.to) (Object size class tags entered) front back) (WishFits (Object size class tags entered) front back) _ (λ move h. h) _
-      (passing (λ move. Fits (action.Transition move.to) (Object size class tags entered) front back)
+      every_map (λ move. FitsPlace (action.Transition move.to) (Object size class tags entered) front back) (DueFits (Object size class tags entered) front back) _ (λ move h. h) _
+      (passing (λ move. FitsPlace (action.Transition move.to) (Object size class tags entered) front back)
       (λ move. keeps_newer move.newer newer && admits_move mode rule.filter class size move.to)
       (λ move h. moves_fit rule.filter size class tags entered front back move.to (and_parts (keeps_newer move.newer newer) (admits_move mode rule.filter class size move.to) h).1)
       rule.noncurrent_moves)
@@ -147,7 +148,7 @@ module _ (mode : SizeMode) (rule : Rule) where
 
   version_fit : (versioning : Versioning) (changed : ℕ) (front : List Version) (kind : Kind) (id : VersionId) (created ceased : ℕ) (back : List Version) (newer older : ℕ)
       → newer ≡ length front → older ≡ length back
-      → AllByRecursion (WishFits kind front back)
+      → AllByRecursion (DueFits kind front back)
       (version_actions versioning mode changed rule (record { version = record { id = id; kind = kind; created = created; ceased = ceased }; newer = newer; older = older }))
   unfolding version_actions
   version_fit versioning changed [] (Object size class tags entered) id created ceased back newer older is_newer is_older =
@@ -178,10 +179,10 @@ module _ (bucket : BucketRecord) where
   abbrev SuitsCandidate : Candidate → Type 0
   SuitsCandidate candidate = SuitsAction bucket candidate.action
 
-  timely_suit : (key : List ℕ) (goal : Target) (rule age not_before : ℕ) (Q : ActionKind × ℕ → Type 0) → ((wish : ActionKind × ℕ) → Q wish → Suits bucket key wish.0 goal)
+  timely_suit : (key : List ℕ) (goal : Target) (rule age not_before : ℕ) (Q : ActionKind × ℕ → Type 0) → ((due : ActionKind × ℕ) → Q due → Suits bucket key due.0 goal)
       → (asked : List (ActionKind × ℕ)) → AllByRecursion Q asked → AllByRecursion SuitsCandidate (timely key goal rule age not_before asked)
   timely_suit key goal rule age not_before Q f asked h =
-      every_map Q SuitsCandidate _ (λ wish q. f wish q) _ (every_filter Q (λ wish. nat_lt wish.1 end_of_time) asked h)
+      every_map Q SuitsCandidate _ (λ due q. f due q) _ (every_filter Q (λ due. nat_lt due.1 end_of_time) asked h)
 
   placed_suit : (rules : Configuration) (key : List ℕ) (stack : StackRecord) → at_name key bucket.stacks ≡ Some stack
       → (id : VersionId) (kind : Kind) (created ceased newer older : ℕ)
@@ -190,8 +191,8 @@ module _ (bucket : BucketRecord) where
       → AllByRecursion SuitsCandidate (timely key (target.Version id) numbered.0 older (max stack.changed bucket.rules_since)
       (version_actions bucket.versioning rules.mode stack.changed numbered.1 (record { version = record { id = id; kind = kind; created = created; ceased = ceased }; newer = newer; older = older })))
   placed_suit rules key stack found id kind created ceased newer older h numbered =
-      timely_suit key (target.Version id) numbered.0 older _ (WishFits kind h.0 h.1)
-      (λ wish fits. (stack, found, record { front = h.0; version = record { id = id; kind = kind; created = created; ceased = ceased }; back = h.1; is = h.2; same = refl; fits = fits }))
+      timely_suit key (target.Version id) numbered.0 older _ (DueFits kind h.0 h.1)
+      (λ due fits. (stack, found, record { front = h.0; version = record { id = id; kind = kind; created = created; ceased = ceased }; back = h.1; is = h.2; same = refl; fits = fits }))
       _ (version_fit rules.mode numbered.1 bucket.versioning stack.changed h.0 kind id created ceased h.1 newer older (omega (arith, h.3)) h.4)
 
   stack_suit : (rules : Configuration) (key : List ℕ) (stack : StackRecord) → at_name key bucket.stacks ≡ Some stack → AllByRecursion SuitsCandidate (stack_candidates bucket rules (key, stack))
@@ -205,9 +206,9 @@ module _ (bucket : BucketRecord) where
   upload_suit : (rules : Configuration) (number : ℕ) (upload : UploadRecord) → is_some (at_number number bucket.uploads) ≡ true → AllByRecursion SuitsCandidate (upload_candidates bucket rules (number, upload))
   upload_suit rules number upload found =
       every_flat_map (λ (numbered : ℕ × Rule). Unit {0}) SuitsCandidate _
-      (λ numbered _. timely_suit upload.key (target.Upload number) numbered.0 number _ (λ (wish : ActionKind × ℕ). wish.0 ≡ action.Abort)
-      (λ wish is. (is, found)) _
-      (every_map (λ (days : ℕ). Unit {0}) (λ (wish : ActionKind × ℕ). wish.0 ≡ action.Abort) _ (λ days _. refl) (option_to_list numbered.1.abort_days) (every (λ (days : ℕ). Unit {0}) (λ days. tt) _)))
+      (λ numbered _. timely_suit upload.key (target.Upload number) numbered.0 number _ (λ (due : ActionKind × ℕ). due.0 ≡ action.Abort)
+      (λ due is. (is, found)) _
+      (every_map (λ (days : ℕ). Unit {0}) (λ (due : ActionKind × ℕ). due.0 ≡ action.Abort) _ (λ days _. refl) (option_to_list numbered.1.abort_days) (every (λ (days : ℕ). Unit {0}) (λ days. tt) _)))
       (filter (λ numbered. has_prefix numbered.1.filter upload.key) (enabled_rules rules)) (every (λ (numbered : ℕ × Rule). Unit {0}) (λ numbered. tt) _)
 
   eligible_suit_by : IsTidy bucket → (rules : Option Configuration) → AllByRecursion SuitsCandidate (eligible_by bucket rules)
@@ -216,26 +217,10 @@ module _ (bucket : BucketRecord) where
       (every_flat_map (λ (e : List ℕ × StackRecord). at_name e.0 bucket.stacks ≡ Some e.1) SuitsCandidate _ (λ e found. stack_suit rules e.0 e.1 found) bucket.stacks (each_found by_name bucket.stacks tidy.keys))
       (every_flat_map (λ (e : ℕ × UploadRecord). at_number e.0 bucket.uploads ≡ Some e.1) SuitsCandidate _ (λ e found. upload_suit rules e.0 e.1 (ap is_some found)) bucket.uploads (each_found by_number bucket.uploads tidy.numbers))
 
-  candidates_suit : IsTidy bucket → (u : ℕ) → AllByRecursion SuitsCandidate (candidates bucket u)
-  unfolding candidates eligible
-  candidates_suit tidy u = every_filter SuitsCandidate _ _ (eligible_suit_by tidy bucket.rules)
-
-either : {X : Type 0} (P : X → Type 0) (b : Bool) (x y : X) → P x → P y → P (cond b x y)
-either P true x y h k = h
-either P false x y h k = k
-
-best_suits : {X : Type 0} (P : X → Type 0) (before : X → X → Bool) (x : X) (xs : List X) → P x → AllByRecursion P xs → P (best_of before x xs)
-best_suits P before x [] h all = h
-best_suits P before x (y ∷ ys) h all = best_suits P before (cond (before y x) y x) ys (either P (before y x) y x all.0 h) all.1
-
-chosen_suits : (bucket : BucketRecord) (xs : List Candidate) (chosen : Action) → AllByRecursion (λ (c : Candidate). SuitsAction bucket c.action) xs
-    → option_map (λ (c : Candidate). c.action) (least comes_before xs) ≡ Some chosen → SuitsAction bucket chosen
-chosen_suits bucket [] chosen all is = absurd (cc)
-chosen_suits bucket (x ∷ xs) chosen all is =
-    let same : (best_of comes_before x xs).action ≡ chosen = cc in
-    subst (SuitsAction bucket) same (best_suits (λ (c : Candidate). SuitsAction bucket c.action) comes_before x xs all.0 all.1)
+  all_suit : IsTidy bucket → AllByRecursion SuitsCandidate (eligible bucket)
+  unfolding eligible
+  all_suit tidy = eligible_suit_by tidy bucket.rules
 
 -- the choice suits its bucket
 pub choice_suits : (bucket : BucketRecord) → IsTidy bucket → (u : ℕ) (chosen : Action) → choice bucket u ≡ Some chosen → SuitsAction bucket chosen
-unfolding choice
-choice_suits bucket tidy u chosen is = chosen_suits bucket (candidates bucket u) chosen (candidates_suit bucket tidy u) is
+choice_suits bucket tidy u chosen is = chosen_holds (SuitsAction bucket) bucket u chosen (all_suit bucket tidy) is

@@ -180,10 +180,6 @@ module _ (bucket : BucketRecord) (key : List ℕ) where
         → sum_by weigh (with_versions key at versions bucket).stacks + weight_of key (versions_of key bucket) ≡ sum_by weigh bucket.stacks + weight_of key versions
     weight_with last at h versions = weight_by last at h (at_name key bucket.stacks) refl versions
 
-    pub lighter : (last at : ℕ) → IsOrderlyBucket last bucket → (versions : List Version) → weight_of key versions ≤ weight_of key (versions_of key bucket)
-        → sum_by weigh (with_versions key at versions bucket).stacks ≤ sum_by weigh bucket.stacks
-    lighter last at h versions le = let sum = weight_with last at h versions in omega (arith, sum, le)
-
 -- ---- nothing is due earlier than this moment
 
 module _ (until : ℕ) where
@@ -195,8 +191,8 @@ module _ (until : ℕ) where
 
   late : (key : List ℕ) (goal : Target) (rule age not_before : ℕ) (asked : List (ActionKind × ℕ)) → until ≤ not_before → AllByRecursion IsSince (timely key goal rule age not_before asked)
   late key goal rule age not_before asked le =
-      every_map (λ (wish : ActionKind × ℕ). Unit {0}) IsSince _ (λ wish _. omega (arith, le)) (filter (λ (wish : ActionKind × ℕ). nat_lt wish.1 end_of_time) asked)
-      (every (λ (wish : ActionKind × ℕ). Unit {0}) (λ wish. tt) _)
+      every_map (λ (due : ActionKind × ℕ). Unit {0}) IsSince _ (λ due _. omega (arith, le)) (filter (λ (due : ActionKind × ℕ). nat_lt due.1 end_of_time) asked)
+      (every (λ (due : ActionKind × ℕ). Unit {0}) (λ due. tt) _)
 
   pub late_stack : (bucket : BucketRecord) (rules : Configuration) (key : List ℕ) (stack : StackRecord) → until ≤ max stack.changed bucket.rules_since → AllByRecursion IsSince (stack_candidates bucket rules (key, stack))
   late_stack bucket rules key stack le =

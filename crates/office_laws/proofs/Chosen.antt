@@ -38,33 +38,33 @@ use Rattle.office_laws.proofs.Buckets.{IsTimely, IsSince}
 
 -- ---- markers are asked for only where versions are kept
 
-abbrev pub MarkerFits : Versioning → ActionKind → Type 0
-MarkerFits Unversioned action.Marker = ⊥
-MarkerFits versioning kind = Unit {0}
+abbrev pub MayMark : Versioning → ActionKind → Type 0
+MayMark Unversioned action.Marker = ⊥
+MayMark versioning kind = Unit {0}
 
-abbrev WishFits : Versioning → ActionKind × ℕ → Type 0
-WishFits versioning wish = MarkerFits versioning wish.0
+abbrev DueFits : Versioning → ActionKind × ℕ → Type 0
+DueFits versioning due = MayMark versioning due.0
 
-removes : (versioning : Versioning) → MarkerFits versioning action.Remove
+removes : (versioning : Versioning) → MayMark versioning action.Remove
 removes Unversioned = tt
 removes Enabled = tt
 removes Suspended = tt
 
-moves : (versioning : Versioning) (to : Class) → MarkerFits versioning (action.Transition to)
+moves : (versioning : Versioning) (to : Class) → MayMark versioning (action.Transition to)
 moves Unversioned to = tt
 moves Enabled to = tt
 moves Suspended to = tt
 
-expires : (versioning : Versioning) → MarkerFits versioning (expiring versioning)
+expires : (versioning : Versioning) → MayMark versioning (expiring versioning)
 expires Unversioned = tt
 expires Enabled = tt
 expires Suspended = tt
 
 module _ (versioning : Versioning) (mode : SizeMode) (rule : Rule) where
   abbrev P : ActionKind × ℕ → Type 0
-  P = WishFits versioning
+  P = DueFits versioning
 
-  all_map : {X : Type 0} (f : X → ActionKind × ℕ) → ((x : X) → WishFits versioning (f x)) → (xs : List X) → AllByRecursion P (Rattle.std.proofs.Common.map f xs)
+  all_map : {X : Type 0} (f : X → ActionKind × ℕ) → ((x : X) → DueFits versioning (f x)) → (xs : List X) → AllByRecursion P (Rattle.std.proofs.Common.map f xs)
   all_map {X = X} f g xs = every_map (λ (x : X). Unit {0}) P f (λ x _. g x) xs (every (λ (x : X). Unit {0}) (λ x. tt) xs)
 
   removals : (newer ceased : ℕ) → AllByRecursion P (noncurrent_removals rule newer ceased)
@@ -104,7 +104,7 @@ module _ (versioning : Versioning) (mode : SizeMode) (rule : Rule) where
 
 -- the target is there and has not changed after the action's moment
 abbrev pub HasTarget : BucketRecord → ℕ → List ℕ → ActionKind → Target → Type 0
-HasTarget bucket since key kind (target.Version id) = (stack : StackRecord) × (at_name key bucket.stacks ≡ Some stack) × (stack.changed ≤ since) × MarkerFits bucket.versioning kind
+HasTarget bucket since key kind (target.Version id) = (stack : StackRecord) × (at_name key bucket.stacks ≡ Some stack) × (stack.changed ≤ since) × MayMark bucket.versioning kind
 HasTarget bucket since key kind (target.Upload number) = (upload : UploadRecord) × (at_number number bucket.uploads ≡ Some upload) × (upload.changed ≤ since)
 
 abbrev pub Targets : BucketRecord → Action → Type 0
@@ -115,17 +115,17 @@ module _ (bucket : BucketRecord) where
   TargetOf candidate = Targets bucket candidate.action
 
   timely_targets : (key : List ℕ) (goal : Target) (rule age not_before : ℕ) (Q : ActionKind × ℕ → Type 0)
-      → ((wish : ActionKind × ℕ) → Q wish → HasTarget bucket (max wish.1 not_before) key wish.0 goal)
+      → ((due : ActionKind × ℕ) → Q due → HasTarget bucket (max due.1 not_before) key due.0 goal)
       → (asked : List (ActionKind × ℕ)) → AllByRecursion Q asked → AllByRecursion TargetOf (timely key goal rule age not_before asked)
   timely_targets key goal rule age not_before Q f asked h =
-      every_map Q TargetOf _ (λ wish q. f wish q) _ (every_filter Q (λ wish. nat_lt wish.1 end_of_time) asked h)
+      every_map Q TargetOf _ (λ due q. f due q) _ (every_filter Q (λ due. nat_lt due.1 end_of_time) asked h)
 
   stack_targets : (rules : Configuration) (key : List ℕ) (stack : StackRecord) → at_name key bucket.stacks ≡ Some stack → AllByRecursion TargetOf (stack_candidates bucket rules (key, stack))
   stack_targets rules key stack found =
       every_flat_map (λ (placed : Placed). Unit {0}) TargetOf _
       (λ placed _. every_flat_map (λ (numbered : ℕ × Rule). Unit {0}) TargetOf _
       (λ numbered _. timely_targets key (target.Version placed.version.id) numbered.0 placed.older (max stack.changed bucket.rules_since)
-      (WishFits bucket.versioning) (λ wish fits. (stack, found, omega arith, fits))
+      (DueFits bucket.versioning) (λ due fits. (stack, found, omega arith, fits))
       (version_actions bucket.versioning rules.mode stack.changed numbered.1 placed) (all_actions bucket.versioning rules.mode numbered.1 stack.changed placed))
       (filter (λ numbered. matches_version numbered.1.filter key placed.version) (enabled_rules rules)) (every (λ (numbered : ℕ × Rule). Unit {0}) (λ numbered. tt) _))
       (placed_from 0 stack.versions) (every (λ (placed : Placed). Unit {0}) (λ placed. tt) _)
@@ -134,8 +134,8 @@ module _ (bucket : BucketRecord) where
   upload_targets rules number upload found =
       every_flat_map (λ (numbered : ℕ × Rule). Unit {0}) TargetOf _
       (λ numbered _. timely_targets upload.key (target.Upload number) numbered.0 number (max upload.changed bucket.rules_since)
-      (λ (wish : ActionKind × ℕ). Unit {0}) (λ wish _. (upload, found, omega arith))
-      (upload_actions numbered.1 upload) (every (λ (wish : ActionKind × ℕ). Unit {0}) (λ wish. tt) _))
+      (λ (due : ActionKind × ℕ). Unit {0}) (λ due _. (upload, found, omega arith))
+      (upload_actions numbered.1 upload) (every (λ (due : ActionKind × ℕ). Unit {0}) (λ due. tt) _))
       (filter (λ numbered. has_prefix numbered.1.filter upload.key) (enabled_rules rules)) (every (λ (numbered : ℕ × Rule). Unit {0}) (λ numbered. tt) _)
 
   targets_by : Rises bytes_cmp bucket.stacks → Rises nat_cmp bucket.uploads → (rules : Option Configuration) → AllByRecursion TargetOf (eligible_by bucket rules)

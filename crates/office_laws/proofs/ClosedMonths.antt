@@ -9,7 +9,7 @@ use Rattle.office_base.specs.Maps.{at_name, at_number}
 use Rattle.class_rules.specs.declared.class.Class.{Class}
 use Rattle.plain_office.specs.Office.{Office, Account, Books, book_of}
 use Rattle.plain_office.specs.Answers.{class_meters, answer}
-use Rattle.accrual.specs.Meters.{meter, early_quantity, move_count}
+use Rattle.accrual.specs.Meters.{meter}
 use Rattle.plain_office.specs.Charges.{report_lines}
 use Rattle.plain_office.specs.Orderly.{FollowEachOther, last_end, closed_until, IsOrderly}
 use Rattle.plain_office.specs.Run.{is_not_before}
@@ -23,7 +23,7 @@ use Rattle.office_laws.specs.ClosedMonths.{ReadsSame}
 use Rattle.office_laws.proofs.Maps.{by_number, one_key}
 use Rattle.office_laws.proofs.Calendar.{start_next}
 use Rattle.office_laws.proofs.Closed.{KeepsBooks, meter_seen}
-use Rattle.office_laws.proofs.Offices.{Entry, months_now}
+use Rattle.office_laws.proofs.Offices.{NamedAccount, months_now}
 use Rattle.office_laws.proofs.Steps.{KeepsClosed, StaysClosed, lines_at, lines_same, flat_map_same}
 
 pub some_is : {X : Type 0} (o : Option X) → IsSome o → (x : X) × (o ≡ Some x)
@@ -115,7 +115,7 @@ module _ (p q : Office) (kept : KeepsClosed (closed_until p) p q) (month : ℕ) 
     report_seen : (o : Office) (w : ℕ) → month_end month ≤ w → report_lines tariff month w o ≡ report_lines tariff month (month_end month) o
     unfolding report_lines
     report_seen o w le = flat_map_same (lines_at tariff month w) (lines_at tariff month (month_end month))
-        (λ (entry : Entry). lines_same tariff month entry.0 (month_end month) w (book_of entry.1.books) (book_of entry.1.books) (λ class. meter_seen month class w (book_of entry.1.books) le) (λ class. refl) (λ class. refl)) o.accounts
+        (λ (entry : NamedAccount). lines_same tariff month entry.0 (month_end month) w (book_of entry.1.books) (book_of entry.1.books) (λ class. meter_seen month class w (book_of entry.1.books) le) (λ class. refl) (λ class. refl)) o.accounts
 
     report_kept : report_lines tariff month v q ≡ report_lines tariff month u p
     report_kept = report_seen q v le_v ∙ kept.report tariff month over ∙ sym (report_seen p u le_u)

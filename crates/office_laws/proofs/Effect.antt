@@ -1,6 +1,6 @@
 -- An action that suits its bucket lowers the work that is left, and keeps the bucket tidy.
-use Rattle.std.proofs.Common.{◌≡◌, ℕ, ◌+◌, ◌-◌, ◌*◌, ◌<◌, ◌≤◌, List, [], ◌∷◌, ◌++◌, refl, sym, ap, ◌∙◌, subst, Bool, true, false, arith, length, sum_by}
-use Rattle.std.specs.Prelude.{Option, Some, None, is_some, option_map, unwrap_or}
+use Rattle.std.proofs.Common.{◌≡◌, ℕ, ◌+◌, ◌<◌, List, [], ◌∷◌, ◌++◌, refl, sym, ap, ◌∙◌, subst, true, arith, sum_by}
+use Rattle.std.specs.Prelude.{Option, Some, None, is_some}
 use Rattle.std.specs.List.{AllByRecursion}
 use Rattle.office_base.specs.Maps.{at_name, with_name, without_name, at_number, without_number, bytes_cmp, Rises}
 use Rattle.stacks.specs.Stacks.{ids_differ, without, changed_at, with_class}
@@ -17,7 +17,7 @@ use Rattle.due_core.specs.declared.action.Target.{Target}
 use Rattle.due_core.specs.declared.action.Target.TheVariants as target
 use Rattle.due_core.specs.Buckets.{BucketRecord}
 use Rattle.plain_office.specs.Office.{Account}
-use Rattle.plain_office.specs.Changes.{versions_of, next_id, add_version, remove_version, move_version, remove_upload_at, effect}
+use Rattle.plain_office.specs.Changes.{next_id, add_version, remove_version, move_version, remove_upload_at, effect}
 use Rattle.office_laws.proofs.Work.{stack_work, bucket_work, work_left, IsTidy}
 use Rattle.office_laws.proofs.Buckets.{not_empty, with_versions, versions_are}
 use Rattle.office_laws.proofs.Lists.{added_length, added_sum, replaced_sum}

@@ -40,7 +40,7 @@ apart (f ∷ front) v back h =
     let here = any_at (has_id f.id) front v back (not-true _ parts.0) in
     (or_from (has_id v.id f) (list_any (has_id v.id) front) (same_back v.id f.id ∙ here) rest.0, rest.1)
 
-without_none : (id : VersionId) (versions : List Version) → list_any (has_id id) versions ≡ false → without id versions ≡ versions
+pub without_none : (id : VersionId) (versions : List Version) → list_any (has_id id) versions ≡ false → without id versions ≡ versions
 without_none id [] h = refl
 without_none id (v ∷ versions) h =
     let parts = or_parts (has_id id v) (list_any (has_id id) versions) h in

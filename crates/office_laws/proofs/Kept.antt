@@ -71,9 +71,6 @@ grow_more : (whats : List What) (what : What) (a b c : BucketRecord) → measure
 grow_more whats what a b c le (inl less) = inl (omega (arith, le, less))
 grow_more whats what a b c le (inr listed) = inr listed
 
-not_listed : (what : What) (A : Type 0) (h : Listed what []) → A
-not_listed what A h = absurd h
-
 grow_least : (what : What) (a b : BucketRecord) → MayGrow [] what a b → measure what b ≤ measure what a
 grow_least what a b (inl less) = less
 grow_least what a b (inr listed) = absurd listed
@@ -122,9 +119,6 @@ module _ (last at : ℕ) (bucket : BucketRecord) (key : List ℕ) (versions : Li
       let a = count_is versions in
       let b = count_is (versions_of key bucket) in
       omega (arith, sum, was, is, a, b, le)
-
-  upload_names : ℕ × UploadRecord → ℕ
-  upload_names upload = length upload.1.key + tag_bytes upload.1.tags
 
   names_less : weight_of bucket key name_weight key versions ≤ weight_of bucket key name_weight key (versions_of key bucket) → measure Names after ≤ measure Names bucket
   names_less le =

@@ -131,11 +131,6 @@ module _ {X : Type 0} (x : X) (xs ys : List X) (a : Added x xs ys) where
       let parts = every_parts P a.front a.back (subst (AllByRecursion P) a.was all) in
       subst (AllByRecursion P) (sym a.is) (every_append P a.front (x ∷ a.back) parts.0 (h, parts.1))
 
-  pub left_every : (P : X → Type 0) → AllByRecursion P ys → AllByRecursion P xs
-  left_every P all =
-      let parts = every_parts P a.front (x ∷ a.back) (subst (AllByRecursion P) a.is all) in
-      subst (AllByRecursion P) (sym a.was) (every_append P a.front a.back parts.0 parts.1.1)
-
 -- ---- one element changed
 
 pub record Replaced {X : Type 0} (old new : X) (xs ys : List X) : Type 0 where

@@ -41,11 +41,11 @@ MarkerFits (Object size class tags entered) [] = Unit {0}
 MarkerFits (Object size class tags entered) (f ∷ front) = ⊥
 MarkerFits Marker front = ⊥
 
-abbrev pub Fits : ActionKind → Kind → List Version → List Version → Type 0
-Fits action.Remove kind front back = RemoveFits kind front back
-Fits (action.Transition to) kind front back = MoveFits to kind
-Fits action.Marker kind front back = MarkerFits kind front
-Fits action.Abort kind front back = ⊥
+abbrev pub FitsPlace : ActionKind → Kind → List Version → List Version → Type 0
+FitsPlace action.Remove kind front back = RemoveFits kind front back
+FitsPlace (action.Transition to) kind front back = MoveFits to kind
+FitsPlace action.Marker kind front back = MarkerFits kind front
+FitsPlace action.Abort kind front back = ⊥
 
 -- ---- sums
 

@@ -25,19 +25,19 @@ use Rattle.office_laws.proofs.Kept.{measure, Listed, MayGrow, Grows, IsKept}
 
 -- ---- the office at a moment that is not before the last one
 
-abbrev pub Entry : Type 0
-Entry = List ℕ × Account
+abbrev pub NamedAccount : Type 0
+NamedAccount = List ℕ × Account
 
-abbrev pub IsOrderlyBy : ℕ → Entry → Type 0
+abbrev pub IsOrderlyBy : ℕ → NamedAccount → Type 0
 IsOrderlyBy t entry = IsOrderlyBucket t entry.1.bucket
 
-abbrev pub IsTimelyFrom : ℕ → Entry → Type 0
+abbrev pub IsTimelyFrom : ℕ → NamedAccount → Type 0
 IsTimelyFrom until entry = IsTimely until entry.1.bucket
 
-abbrev pub IsBookedUntil : ℕ → Entry → Type 0
+abbrev pub IsBookedUntil : ℕ → NamedAccount → Type 0
 IsBookedUntil t entry = IsBookedBy t (book_of entry.1.books)
 
-abbrev pub HasStays : Entry → Type 0
+abbrev pub HasStays : NamedAccount → Type 0
 HasStays entry = HasOpenStays entry.1
 
 module _ (t : ℕ) (p : Office) (h : IsOrderly p) (later : is_not_before p.last t ≡ true) where
@@ -71,7 +71,7 @@ module _ (t : ℕ) (p : Office) (h : IsOrderly p) (later : is_not_before p.last 
   pub months_now : FollowEachOther (unwrap_or p.first_month (month_at t)) (map (λ (month : ℕ × Prices). month.0) p.closed)
   months_now = months_by p.first_month refl h.records.months
 
-  booked_from : (last : Option ℕ) → MatchOption last (IsBlank p) (λ moment. IsOrderlyUntil moment p) → IfSome last (λ last. AllByRecursion (λ (entry : Entry). IsBookedBy last (book_of entry.1.books)) p.accounts) → is_not_before last t ≡ true
+  booked_from : (last : Option ℕ) → MatchOption last (IsBlank p) (λ moment. IsOrderlyUntil moment p) → IfSome last (λ last. AllByRecursion (λ (entry : NamedAccount). IsBookedBy last (book_of entry.1.books)) p.accounts) → is_not_before last t ≡ true
       → AllByRecursion (IsBookedUntil t) p.accounts
   booked_from None blank booked later = subst (AllByRecursion (IsBookedUntil t)) (sym blank.accounts) tt
   booked_from (Some last) until booked later =
@@ -90,8 +90,8 @@ module _ (t : ℕ) (p : Office) (h : IsOrderly p) (later : is_not_before p.last 
 
 -- ---- counts
 
-abbrev pub in_all : (BucketRecord → ℕ) → List Entry → ℕ
-in_all count accounts = sum_by (λ (entry : Entry). count entry.1.bucket) accounts
+abbrev pub in_all : (BucketRecord → ℕ) → List NamedAccount → ℕ
+in_all count accounts = sum_by (λ (entry : NamedAccount). count entry.1.bucket) accounts
 
 objects_most : (stack : List ℕ × StackRecord) → cond (current_is_object stack.1.versions) 1 0 ≤ length stack.1.versions
 objects_most stack = by stack.1.versions where
@@ -103,17 +103,17 @@ objects_most stack = by stack.1.versions where
   by [] = omega arith
   by (v ∷ versions) = let most = one_most (current_is_object (v ∷ versions)) in omega (arith, most)
 
-versions_most : (accounts : List Entry) → in_all (measure Versions) accounts ≤ 2 * in_all version_count accounts
+versions_most : (accounts : List NamedAccount) → in_all (measure Versions) accounts ≤ 2 * in_all version_count accounts
 versions_most [] = omega arith
 versions_most (e ∷ es) =
     let rest = versions_most es in
     let here = sum_most (λ (stack : List ℕ × StackRecord). cond (current_is_object stack.1.versions) 1 0) (λ (stack : List ℕ × StackRecord). length stack.1.versions) objects_most e.1.bucket.stacks in
-    let a = sum_by-cons (λ (entry : Entry). measure Versions entry.1.bucket) e es in
-    let b = sum_by-cons (λ (entry : Entry). version_count entry.1.bucket) e es in
+    let a = sum_by-cons (λ (entry : NamedAccount). measure Versions entry.1.bucket) e es in
+    let b = sum_by-cons (λ (entry : NamedAccount). version_count entry.1.bucket) e es in
     omega (arith, rest, here, a, b)
 
 -- the limits, and for the versions with the current objects twice the limit
-pub record HasRoom (accounts : List Entry) : Type 0 where
+pub record HasRoom (accounts : List NamedAccount) : Type 0 where
   pub buckets : length accounts ≤ 1_000
   pub versions : in_all (measure Versions) accounts ≤ 400_000
   pub uploads : in_all (measure Uploads) accounts ≤ 20_000
@@ -145,12 +145,9 @@ listed_within what [] p listed h = absurd listed
 listed_within what (x ∷ xs) p (inl same) h = subst (λ (w : What). count_of w p ≤ limit_of w) (sym same) h.0
 listed_within what (x ∷ xs) p (inr more) h = listed_within what xs p more h.1
 
-less_left : (f a b s q limit : ℕ) → q + a ≡ s + b → b ≤ a → s ≤ limit → q ≤ limit
-less_left f a b s q limit sum le small = omega (arith, sum, le, small)
-
 module _ (p q : Office) (name : List ℕ) (before after : Account) (one : Replaced (name, before) (name, after) p.accounts q.accounts) (whats : List What) (within : Within whats q) (room : HasRoom p.accounts) where
   changed_sum : (what : What) → in_all (measure what) q.accounts + measure what before.bucket ≡ in_all (measure what) p.accounts + measure what after.bucket
-  changed_sum what = replaced_sum (name, before) (name, after) p.accounts q.accounts one (λ (entry : Entry). measure what entry.1.bucket)
+  changed_sum what = replaced_sum (name, before) (name, after) p.accounts q.accounts one (λ (entry : NamedAccount). measure what entry.1.bucket)
 
   by_what : (what : What) (limit : ℕ) → in_all (measure what) p.accounts ≤ limit → MayGrow whats what before.bucket after.bucket → (count_of what q ≤ limit_of what → in_all (measure what) q.accounts ≤ limit)
       → in_all (measure what) q.accounts ≤ limit

@@ -38,7 +38,7 @@ use Rattle.office_laws.proofs.Chosen.{timely_from_choice}
 use Rattle.office_laws.proofs.Closed.{KeepsBooks, keeps_same}
 use Rattle.office_laws.proofs.Kept.{measure, IsKept, Keeps}
 use Rattle.office_laws.proofs.Commands.{Done, versioning_done, rules_done, drop_done, put_done, delete_done, delete_version_done, tags_done, start_done, part_done, abort_done, complete_done, act_done}
-use Rattle.office_laws.proofs.Offices.{Entry, HasStays, buckets_now, closed_now, months_now, kept_now, HasRoom, room_of, counts_of, Within, room_after, booked_now, IsBookedUntil}
+use Rattle.office_laws.proofs.Offices.{NamedAccount, HasStays, buckets_now, closed_now, months_now, kept_now, HasRoom, room_of, counts_of, Within, room_after, booked_now, IsBookedUntil}
 
 -- ---- the lines of a report
 
@@ -47,7 +47,7 @@ flat_map_same f g same [] = refl
 flat_map_same f g same (x ∷ xs) = λ i. same x i ++ flat_map_same f g same xs i
 
 module _ (tariff : Prices) (month : ℕ) where
-  abbrev pub lines_at : ℕ → Entry → List ReportLine
+  abbrev pub lines_at : ℕ → NamedAccount → List ReportLine
   lines_at t entry = flat_map (class_lines tariff month t entry.0 (book_of entry.1.books)) all_classes
 
   pub lines_same : (name : List ℕ) (t u : ℕ) (b c : Book) → ((class : Class) → meter month class u c ≡ meter month class t b)
@@ -66,7 +66,7 @@ module _ (tariff : Prices) (month : ℕ) where
   unfolding meter early_quantity move_count
   lines_none name t = refl
 
-  lines_replaced : (name : List ℕ) (before after : Account) (until : ℕ) → KeepsBooks until before.books after.books → month_end month ≤ until → (xs ys : List Entry) → Replaced (name, before) (name, after) xs ys
+  lines_replaced : (name : List ℕ) (before after : Account) (until : ℕ) → KeepsBooks until before.books after.books → month_end month ≤ until → (xs ys : List NamedAccount) → Replaced (name, before) (name, after) xs ys
       → flat_map (lines_at (month_end month)) ys ≡ flat_map (lines_at (month_end month)) xs
   lines_replaced name before after until k le xs ys one =
       ap (flat_map (lines_at (month_end month))) one.is
@@ -75,7 +75,7 @@ module _ (tariff : Prices) (month : ℕ) where
       ∙ sym (flat_map-append (lines_at (month_end month)) one.front ((name, before) ∷ one.back))
       ∙ sym (ap (flat_map (lines_at (month_end month))) one.was)
 
-  lines_added : (name : List ℕ) (new : Account) → new.books ≡ empty_books → (xs ys : List Entry) → Added (name, new) xs ys
+  lines_added : (name : List ℕ) (new : Account) → new.books ≡ empty_books → (xs ys : List NamedAccount) → Added (name, new) xs ys
       → flat_map (lines_at (month_end month)) ys ≡ flat_map (lines_at (month_end month)) xs
   lines_added name new none xs ys one =
       ap (flat_map (lines_at (month_end month))) one.is
@@ -165,14 +165,14 @@ found_more number value (x ∷ xs) ys h = by (is_eq (nat_cmp number x.0)) h (fou
   by false h more = more h
 
 -- no choice stands before the moment
-abbrev NoneBefore : ℕ → ℕ → Entry → Type 0
+abbrev NoneBefore : ℕ → ℕ → NamedAccount → Type 0
 NoneBefore t end entry = (a : Action) → choice entry.1.bucket t ≡ Some a → end ≤ a.since
 
 abbrev early_of : ℕ → List ℕ → Option Action → Option (List ℕ × Action) → Option (List ℕ × Action)
 early_of end name None others = others
 early_of end name (Some action) others = cond (nat_lt action.since end) (Some (name, action)) others
 
-due_none : (t end : ℕ) (accounts : List Entry) → due_before t end accounts ≡ None → AllByRecursion (NoneBefore t end) accounts
+due_none : (t end : ℕ) (accounts : List NamedAccount) → due_before t end accounts ≡ None → AllByRecursion (NoneBefore t end) accounts
 due_none t end [] h = tt
 due_none t end (e ∷ accounts) h = by (choice e.1.bucket t) refl h (due_none t end accounts) where
   test : (action : Action) → choice e.1.bucket t ≡ Some action → (b : Bool) → nat_lt action.since end ≡ b → cond b (Some (e.0, action)) (due_before t end accounts) ≡ None
@@ -198,14 +198,14 @@ module _ (t : ℕ) (p : Office) (h : IsOrderly p) (later : is_not_before p.last 
   abbrev with_account : List ℕ → Account → Office
   with_account name account = record p { accounts = with_name name account p.accounts }
 
-  abbrev OrderlyNow : Entry → Type 0
+  abbrev OrderlyNow : NamedAccount → Type 0
   OrderlyNow entry = IsOrderlyBucket t entry.1.bucket
 
-  abbrev TimelyNow : Entry → Type 0
+  abbrev TimelyNow : NamedAccount → Type 0
   TimelyNow entry = IsTimely (closed_until p) entry.1.bucket
 
   -- with other buckets, as many months closed as before
-  with_buckets : (accounts : List Entry) → Rises bytes_cmp accounts → AllByRecursion OrderlyNow accounts → AllByRecursion TimelyNow accounts → AllByRecursion HasStays accounts → AllByRecursion (IsBookedUntil t) accounts → HasRoom accounts
+  with_buckets : (accounts : List NamedAccount) → Rises bytes_cmp accounts → AllByRecursion OrderlyNow accounts → AllByRecursion TimelyNow accounts → AllByRecursion HasStays accounts → AllByRecursion (IsBookedUntil t) accounts → HasRoom accounts
       → (tariff : Option Prices) → IsOrderly (accepted t (record p { accounts = accounts; tariff = tariff }))
   with_buckets accounts names buckets timely stays booked room tariff = record {
     records = record {
@@ -291,7 +291,7 @@ module _ (t : ℕ) (p : Office) (h : IsOrderly p) (later : is_not_before p.last 
   room_added name none within =
       let one = added by_name name (new_account t) p.accounts none in
       let room = room_of p h.records in
-      let sum = λ (what : What). added_sum (name, new_account t) p.accounts (with_name name (new_account t) p.accounts) one (λ (entry : Entry). measure what entry.1.bucket) in
+      let sum = λ (what : What). added_sum (name, new_account t) p.accounts (with_name name (new_account t) p.accounts) one (λ (entry : NamedAccount). measure what entry.1.bucket) in
       record {
         buckets = within.0;
         versions = let s = sum Versions in let small = room.versions in omega (arith, s, small);
@@ -361,8 +361,8 @@ module _ (t : ℕ) (p : Office) (h : IsOrderly p) (later : is_not_before p.last 
               names = h.records.names;
               moments = record { first_month = refl; buckets = buckets_now t p h later; closed = omega (arith, end, over) };
               months = follow_more (unwrap_or p.first_month (month_at t)) p.closed month tariff next (months_now t p h later);
-              nothing_due_in_closed_months = subst (λ (n : ℕ). AllByRecursion (λ (entry : Entry). IsTimely n entry.1.bucket) p.accounts) (sym end)
-                  (every_weaker (NoneBefore t (month_end month)) (λ (entry : Entry). IsTimely (month_end month) entry.1.bucket)
+              nothing_due_in_closed_months = subst (λ (n : ℕ). AllByRecursion (λ (entry : NamedAccount). IsTimely n entry.1.bucket) p.accounts) (sym end)
+                  (every_weaker (NoneBefore t (month_end month)) (λ (entry : NamedAccount). IsTimely (month_end month) entry.1.bucket)
                   (λ entry is. timely_from_choice (month_end month) t entry.1.bucket over is) p.accounts none);
               versions = h.records.versions;
               counts = counts_of (accepted t (record p { closed = p.closed ++ (month, tariff) ∷ [] })) (room_of p h.records);

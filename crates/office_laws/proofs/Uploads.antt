@@ -1,5 +1,5 @@
 -- A bucket and its open stays after an upload started, a part came, and an upload went.
-use Rattle.std.proofs.Common.{◌≡◌, ℕ, ◌+◌, ◌<◌, ◌≤◌, List, [], ◌∷◌, map, refl, ap, sym, ◌∙◌, Bool, true, false, ◌&&◌, cond, arith, ◌==◌}
+use Rattle.std.proofs.Common.{◌≡◌, ℕ, ◌<◌, ◌≤◌, List, [], ◌∷◌, map, refl, ap, sym, ◌∙◌, Bool, true, false, ◌&&◌, cond, arith, ◌==◌}
 use Rattle.std.specs.Prelude.{Option, Some, None, fold, nat_le}
 use Rattle.std.specs.Str.{bytes_eq}
 use Rattle.std.specs.List.{AllByRecursion, list_all}
@@ -20,7 +20,7 @@ use Rattle.plain_office.specs.Books.{same_item, with_end}
 use Rattle.plain_office.specs.Changes.{with_upload, add_part, remove_upload}
 use Rattle.plain_office.specs.Orderly.{IsOrderlyUpload, IsOrderlyBucket, part_stays_expected, stays_expected, HasOpenStays}
 use Rattle.office_laws.proofs.Lists.{every_true, all_true, every_weaker}
-use Rattle.office_laws.proofs.Maps.{by_number, one_key, found_every, at_written, at_other, rises_written, every_written, every_left, rises_left, at_removed, at_left, bytes_itself, bytes_same, added, replaced, removed, remove_none}
+use Rattle.office_laws.proofs.Maps.{by_number, one_key, found_every, at_written, at_other, rises_written, every_written, every_left, rises_left, at_removed, at_left, bytes_itself, bytes_same}
 use Rattle.office_laws.proofs.Stays.{is_of, open_of, open_begun, open_other, open_ended, open_kept, item_same, after_end}
 use Rattle.office_laws.proofs.Buckets.{HasUpload, upload_later}
 use Rattle.office_laws.proofs.Accounts.{stays_by}
@@ -29,9 +29,6 @@ use Rattle.office_laws.proofs.Accounts.{stays_by}
 
 pub numbers_differ : (a b : ℕ) → (a == b) ≡ false → is_eq (nat_cmp a b) ≡ false
 numbers_differ a b h = unsigned_tied a b ∙ h
-
-number_itself : (a : ℕ) → (a == a) ≡ true
-number_itself a = grind (arith, nat_tests)
 
 number_same : (a b : ℕ) → (a == b) ≡ true → a ≡ b
 number_same a b h = grind (arith, nat_tests)

@@ -309,15 +309,6 @@ keep_added Unversioned next at (Object size class tags entered) versions fits h 
 keep_added Enabled next at kind versions fits h = tt
 keep_added Suspended next at kind versions fits h = tt
 
-pub fits_later : (versioning : Versioning) (next more at : ℕ) → next ≤ more → (versions : List Version) → Fits versioning next at versions → Fits versioning more at versions
-fits_later versioning next more at le versions h = record {
-  differ = h.differ;
-  moments = h.moments;
-  numbers = every_weaker (λ version. IsNumberBelow next version.id) (λ version. IsNumberBelow more version.id) (λ version n. below_more next more le version.id n) versions h.numbers;
-  only_null = h.only_null;
-  sizes = h.sizes;
-}
-
 pub stack_later : (versioning : Versioning) (next more a b : ℕ) → next ≤ more → a ≤ b → (stack : StackRecord) → IsOrderlyStack versioning next a stack → IsOrderlyStack versioning more b stack
 stack_later versioning next more a b le later stack h = record {
   some = h.some;
