@@ -1,0 +1,12 @@
+#!/bin/sh
+# Compares what tools/journal-dump reads in a journal with what the program reads there, on a whole journal and on damaged ones.
+#
+#   journal_dump.sh PROGRAM
+#
+# The cases are in journal_dump_cases.py. Prints one line a case, and 'N passed, M failed' last; ends with 1 where a case failed.
+set -u
+
+tools='python3'
+here=$(CDPATH='' cd -- "$(dirname -- "$0")" && pwd) || exit 1
+. "$here/common"
+python3 -B "$here/journal_dump_cases.py" "$program" "$here/../tools/journal-dump" "$work"
