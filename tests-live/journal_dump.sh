@@ -9,4 +9,4 @@ set -u
 tools='python3'
 here=$(CDPATH='' cd -- "$(dirname -- "$0")" && pwd) || exit 1
 . "$here/common"
-python3 -B "$here/journal_dump_cases.py" "$program" "$here/../tools/journal-dump" "$work"
+python3 -B "$here/journal_dump_cases.py" "$program" "$here/../tools" "$work"

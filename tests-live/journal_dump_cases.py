@@ -1,33 +1,22 @@
 """The cases of journal_dump.sh: python3 journal_dump_cases.py PROGRAM TOOL FOLDER. Ends with 1 where one failed."""
 import contextlib
-import importlib.machinery
 import io
 import json
-import pathlib
+import runpy
 import subprocess
-import sys
+import types
 import urllib.parse
 
-PROGRAM, TOOL, FOLDER = sys.argv[1], pathlib.Path(sys.argv[2]).resolve(), pathlib.Path(sys.argv[3])
+import tool_cases
+from tool_cases import FOLDER, TOOLS, check, finish, office
+
+TOOL = TOOLS / "journal-dump"
 JOURNAL = FOLDER / "office-data" / "journal"
 BUCKET = b"zoo-zoo"
 PUTS = [("a", 0, "STANDARD"), ("b/c d", 1, "STANDARD_IA"), ("f", 5497558138880, "DEEP_ARCHIVE"),
         ("\u00e9\u20ac\U0001d11e?#%", 131072, "ONEZONE_IA"), ("\"\\\x01\x7f", 6144, "GLACIER"), ("k" * 90, 77, "GLACIER_IR")]
 MOMENT = ("moment", "ms")
-tool = importlib.machinery.SourceFileLoader("journal_dump", str(TOOL)).load_module()
-counts = {True: 0, False: 0}
-
-
-def check(name, wanted, found, quiet=False):
-    counts[wanted == found] += 1
-    if wanted != found:
-        print(f"FAILED: {name}: wanted {wanted!r}, found {found!r}")
-    elif not quiet:
-        print(f"ok: {name}")
-
-
-def office(word, sent=b""):
-    return subprocess.run([PROGRAM, word], cwd=FOLDER, input=sent, capture_output=True)
+tool = types.SimpleNamespace(**runpy.run_path(str(TOOL)))
 
 
 def by_program():
@@ -47,8 +36,7 @@ def by_tool():
 
 
 def run_tool(*words):
-    ended = subprocess.run([TOOL, *words], capture_output=True, text=True)
-    return ended.returncode, ended.stdout, ended.stderr.strip()
+    return tool_cases.run_tool("journal-dump", *words)
 
 
 def request(method, target, body=b""):
@@ -64,8 +52,8 @@ def compare(name, files):
         told[program[0]] = told.get(program[0], 0) + 1
         if program != own:
             others.append((program, own))
-    check(f"{name}: {len(told) and sum(told.values())} files, status 0 of {told.get(0, 0)}, 5 of {told.get(5, 0)}", [], others)
-    check(f"{name}: all have status 0 or 5, and both come", [0, 5], sorted(told), quiet=True)
+    check(f"{name}: both say the same of {sum(told.values())} files, status 0 of {told.get(0)}, 5 of {told.get(5)}",
+          ([], [0, 5]), (others, sorted(told)))
 
 
 def changed(data, place, byte):
@@ -113,10 +101,10 @@ def main():
         check(f"{name}: the same by the tool, and {before} entries", (5, note, f"entries before it: {before}"),
               (status, own, text.strip().rpartition("; ")[2]))
         status, text, own = run_tool(JOURNAL)
-        check(f"{name}: the entries before it are printed", (5, before), (status, len(text.splitlines())), quiet=True)
+        check(f"{name}: the entries before it are printed", (5, before), (status, len(text.splitlines())))
 
     # Each byte but those of the bucket's name, which the program alone can judge, changed in two ways; each cut; more at the end.
-    names = [place for place in range(len(whole)) for at in range(place - 6, place + 1) if whole[at:at + 7] == BUCKET and at >= 0]
+    names = [at + n for at in range(len(whole)) if whole.startswith(BUCKET, at) for n in range(len(BUCKET))]
     places = [place for place in range(len(whole)) if place not in names]
     compare("a byte turned", [changed(whole, place, whole[place] ^ 0xFF) for place in places])
     compare("a bit turned", [changed(whole, place, whole[place] ^ 1) for place in places])
@@ -139,5 +127,4 @@ def main():
 
 
 main()
-print(f"{counts[True]} passed, {counts[False]} failed")
-sys.exit(1 if counts[False] else 0)
+finish()
