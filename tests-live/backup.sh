@@ -1,0 +1,94 @@
+#!/bin/sh
+# Takes copies of a journal with tools/backup while a server puts objects, restores one of them, and shows what is said of a journal
+# that is damaged or was replaced, and of a folder that is full.
+#
+#   backup.sh PROGRAM
+#
+# Prints one line a case, and 'N passed, M failed' last; ends with 1 where a case failed.
+set -u
+
+tools='awk cat cmp cp dd find grep head ls python3 rm sed sync'
+root=$(CDPATH='' cd -- "$(dirname -- "$0")/.." && pwd) || exit 1
+. "$root/tests-live/common"
+cd "$work" || exit 1
+backup=$root/tools/backup
+
+check() {
+    if [ "$2" = "$3" ]; then
+        passed=$((passed + 1))
+        echo "ok: $1"
+    else
+        failed=$((failed + 1))
+        echo "FAILED: $1: wanted '$2', found '$3'"
+    fi
+}
+
+# How many copies there are, and how many objects the program finds with a copy in the journal's place.
+copies() {
+    find copies -name 'journal-*Z' | grep -c .
+}
+
+objects() {
+    rm -rf restored
+    mkdir -p restored/office-data
+    cp "$1" restored/office-data/journal
+    (cd restored && printf 'GET /buckets/load HTTP/1.1\r\n\r\n' | "$program" run 2>&1) | sed -n 's/.*"versions":\([0-9]*\)}.*/\1/p'
+}
+
+puts() {
+    awk -v first="$1" -v count="$2" 'BEGIN {
+        printf "PUT /buckets/load HTTP/1.1\r\n\r\n"
+        for (n = first; n < first + count; n++)
+            printf "PUT /buckets/load/objects/key-%d HTTP/1.1\r\nContent-Length: 13\r\n\r\n{\"size\":1000}", n
+    }'
+}
+
+"$program" init >said
+puts 0 100 >asks
+"$program" run <asks >said
+check 'a copy, status' 0 "$("$backup" office-data/journal copies >name 2>notes; echo $?)"
+check 'its name is said' "$(ls copies)" "$(sed 's|copies/||' name)"
+first=$(cat name)
+check 'the program reads the copy' 100 "$(objects "$first")"
+
+# Five copies beside a run that works; those of one second have one name.
+puts 1000 20000 >asks
+"$program" run <asks >said &
+run=$!
+n=0
+while [ "$n" -lt 5 ]; do
+    status=$("$backup" office-data/journal copies >name 2>notes; echo $?)
+    check "copy $n beside a run has what was there before" '0 yes' \
+        "$status $([ "$(objects "$(cat name)")" -ge 100 ] && echo yes || echo no)"
+    n=$((n + 1))
+done
+kill "$run" 2>/dev/null
+wait "$run" 2>/dev/null
+check 'all copies are kept' yes "$([ "$(copies)" -ge 2 ] && echo yes || echo no)"
+check '--keep 1, status' 0 "$("$backup" --keep 1 office-data/journal copies >name 2>notes; echo $?)"
+check '--keep 1 leaves one copy' "1 $(sed 's|copies/||' name)" "$(copies) $(ls copies)"
+
+# A damaged journal is not kept, and costs no copy; one that was replaced is kept beside the other.
+cp office-data/journal whole
+printf '\001' | dd of=office-data/journal bs=1 seek=15 conv=notrunc 2>/dev/null
+check 'a damaged journal, status' 5 "$("$backup" --keep 1 office-data/journal copies >said 2>notes; echo $?)"
+check 'a damaged journal, the copies' 1 "$(copies)"
+rm -rf office-data
+"$program" init >said
+sleep 1
+check 'a journal that was replaced, status' 6 "$("$backup" --keep 1 office-data/journal copies >said 2>notes; echo $?)"
+check 'a journal that was replaced, the copies' 2 "$(copies)"
+
+# Bad words, no journal, no folder, and a disk that is full.
+for words in '' 'one' '--keep 0 a b' '--keep x a b' '--none a b' 'a b c'; do
+    # shellcheck disable=SC2086
+    check "words that are none, status: $words" 1 "$("$backup" $words >said 2>notes; echo $?)"
+done
+check 'no journal, status' 3 "$("$backup" none copies >said 2>notes; echo $?)"
+: >file
+check 'no folder, status' 4 "$("$backup" whole file >said 2>notes; echo $?)"
+check 'a full disk, status' 4 "$( (trap '' XFSZ; ulimit -f 1; "$backup" whole copies 2>&1) >/dev/null; echo $?)"
+check 'nothing is left of it' '0 2' "$(find copies -name '*part*' | grep -c .) $(copies)"
+
+echo "$passed passed, $failed failed"
+[ "$failed" -eq 0 ]

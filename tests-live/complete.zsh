@@ -1,0 +1,16 @@
+# What zsh shows where the words of an `office` line are completed: zsh -f complete.zsh FOLDER WORDS, with _office in FOLDER.
+zmodload zsh/zpty || exit 3
+zpty -b shell zsh -f -i
+zpty -w shell "fpath=($1 \$fpath); autoload -U compinit; compinit -D -u; PS1=; print READY"
+said=
+for (( n = 0; n < 300; n++ )); do
+    zpty -r -t shell chunk && said+=$chunk || sleep 0.02
+    [[ $said = *$'\n'READY* ]] && break
+done
+zpty -w -n shell "office $2"$'\t'
+said=
+for (( n = 0; n < 25; n++ )); do
+    zpty -r -t shell chunk && said+=$chunk || sleep 0.02
+done
+zpty -d shell
+print -r -- $said
