@@ -73,6 +73,17 @@ cp office-data/journal whole
 printf '\001' | dd of=office-data/journal bs=1 seek=15 conv=notrunc 2>/dev/null
 check 'a damaged journal, status' 5 "$("$backup" --keep 1 office-data/journal copies >said 2>notes; echo $?)"
 check 'a damaged journal, the copies' 1 "$(copies)"
+
+# What docs/OPERATIONS.md does where no copy has as many entries: it closes the gate at which the damage is.
+count=$("$root/tools/journal-dump" whole | grep -c .)
+gate=$("$root/tools/journal-dump" whole | sed -n 's/^{"offset":\([0-9]*\).*/\1/p' | sed -n "$((count - 4))p")
+cp whole office-data/journal
+printf '\001' | dd of=office-data/journal bs=1 seek=$((gate + 5)) conv=notrunc 2>/dev/null
+"$program" run </dev/null >said 2>notes
+check 'damage at the fifth entry from the end' "5 journal: damaged at $gate" "$? $(cat notes)"
+printf '\000' | dd of=office-data/journal bs=1 seek="$gate" conv=notrunc 2>/dev/null
+check 'behind a closed gate the entries before it are there' $((count - 6)) "$(objects office-data/journal)"
+
 rm -rf office-data
 "$program" init >said
 sleep 1

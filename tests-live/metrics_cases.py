@@ -82,6 +82,8 @@ def by_file(server, to):
     text = out.read_text("utf-8")
     with server.client() as client:
         compare(client, text)
+    size = (server.folder / "office-data/journal").stat().st_size
+    check("the size of the journal", str(size), samples_of(text)["office_journal_size_bytes", ""])
     check("both buckets of the journal", 2, len(re.findall("^office_bucket_up{", text, re.M)))
     check("an early quantity is told", True, byte_ms(samples_of(text)["office_early_deletion_byte_seconds_total",
           f'bucket="logs",class="STANDARD_IA",month="{MONTH}"']) > 2 ** 40 * 2_591_000_000)

@@ -7,6 +7,7 @@ from asking import reason
 HELP = {
     "office_up": "Whether the server of the office gave replies.",
     "office_scrape_duration_seconds": "How long the replies took.",
+    "office_journal_size_bytes": "Size of the file of the journal, which holds at most 1073741824.",
     "office_bucket_up": "Whether the bucket could be read.",
     "office_bucket_versions": "Object versions in the bucket.",
     "office_bucket_rules": "Lifecycle rules of the bucket.",
