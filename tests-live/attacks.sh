@@ -1,0 +1,12 @@
+#!/bin/sh
+# Does on the socket of a server what an attacker would, and shows what comes of it; docs/SECURITY.md cites these cases.
+#
+#   attacks.sh PROGRAM
+#
+# The cases are in attacks_cases.py. Prints one line a case, and 'N passed, M failed' last; ends with 1 where one failed.
+set -u
+
+tools='python3'
+here=$(CDPATH='' cd -- "$(dirname -- "$0")" && pwd) || exit 1
+. "$here/common"
+python3 -B "$here/attacks_cases.py" "$program" "$here/../tools" "$work"
