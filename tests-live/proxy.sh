@@ -92,6 +92,9 @@ check 'a body in chunks, which the program alone refuses' 201 \
     "$(printf '{"size":5}' | ask anna:secret-of-anna --upload-file - -H 'Transfer-Encoding: chunked' "$at/objects/chunked")"
 check 'fields of 12,000 bytes, which the program alone refuses' 201 \
     "$(ask anna:secret-of-anna -X PUT -H "X-1: $(printf '%06000d' 0)" -H "X-2: $(printf '%06000d' 0)" --data '{"size":5}' "$at/objects/f")"
+check 'a key with a byte 0' 400 "$(ask anna:secret-of-anna -X PUT --data '{"size":5}' "$at/objects/a%00b")"
+check 'a target that goes above its root' 400 "$(ask anna:secret-of-anna "$at/../../../x")"
+check 'a key that only looks so' 201 "$(ask anna:secret-of-anna -X PUT --data '{"size":5}' "$at/objects/a/../b//c")"
 printf '%070000d' 0 >large
 check 'a body above 64 KiB' 413 "$(ask anna:secret-of-anna -X PUT --data-binary @large "$at/objects/large")"
 check 'plain HTTP' 400 "$(curl --silent --noproxy '*' --output reply --write-out '%{http_code}' "http://127.0.0.1:$front/")"
