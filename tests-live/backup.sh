@@ -7,8 +7,12 @@
 # Prints one line a case, and 'N passed, M failed' last; ends with 1 where a case failed.
 set -u
 
-tools='awk cat cmp cp dd find grep head ls python3 rm sed sync'
+tools='awk cat cmp cp dd find grep head ls python3 rm sed sleep sync'
 root=$(CDPATH='' cd -- "$(dirname -- "$0")/.." && pwd) || exit 1
+# In memory where there is such a folder, since nothing here is about what a disk keeps.
+if [ -d /dev/shm ] && [ -w /dev/shm ]; then
+    export TMPDIR=/dev/shm
+fi
 . "$root/tests-live/common"
 cd "$work" || exit 1
 backup=$root/tools/backup
@@ -52,8 +56,12 @@ first=$(cat name)
 check 'the program reads the copy' 100 "$(objects "$first")"
 
 # Five copies beside a run that works; those of one second have one name.
-puts 1000 20000 >asks
-"$program" run <asks >said &
+(
+    for batch in 1 2 3 4 5 6 7 8 9 10 11 12 13 14 15 16 17 18 19 20; do
+        puts $((batch * 1000)) 100
+        sleep 0.1
+    done
+) | "$program" run >said &
 run=$!
 n=0
 while [ "$n" -lt 5 ]; do
@@ -62,8 +70,7 @@ while [ "$n" -lt 5 ]; do
         "$status $([ "$(objects "$(cat name)")" -ge 100 ] && echo yes || echo no)"
     n=$((n + 1))
 done
-kill "$run" 2>/dev/null
-wait "$run" 2>/dev/null
+wait "$run"
 check 'all copies are kept' yes "$([ "$(copies)" -ge 2 ] && echo yes || echo no)"
 check '--keep 1, status' 0 "$("$backup" --keep 1 office-data/journal copies >name 2>notes; echo $?)"
 check '--keep 1 leaves one copy' "1 $(sed 's|copies/||' name)" "$(copies) $(ls copies)"

@@ -8,5 +8,9 @@ set -u
 
 tools='python3'
 here=$(CDPATH='' cd -- "$(dirname -- "$0")" && pwd) || exit 1
+# In memory where there is such a folder, since nothing here is about what a disk keeps.
+if [ -d /dev/shm ] && [ -w /dev/shm ]; then
+    export TMPDIR=/dev/shm
+fi
 . "$here/common"
 python3 -B "$here/journal_dump_cases.py" "$program" "$here/../tools" "$work"
