@@ -49,8 +49,9 @@ check 'office-backup, status' 0 "$("$bin/office-backup" office-data/journal copi
 printf 'Bucket,Key,Size\nlogs,a%%2Bb,5\n' >listing.csv
 check 'office-import-inventory, status' 0 "$("$bin/office-import-inventory" --out asks listing.csv 2>notes; echo $?)"
 check 'what it made is read' 2 "$("$bin/office" run <asks | grep -a -o 'HTTP/1.1 201 ' | grep -c .)"
+check 'office-usage without a server, status' 2 "$("$bin/office-usage" --from http://127.0.0.1:1 --bucket logs 2026-11 2>notes; echo $?)"
 check 'office-metrics without a server, status' 2 "$("$bin/office-metrics" --from http://127.0.0.1:1 --bucket logs --out m 2>notes; echo $?)"
-for tool in journal-dump import-inventory metrics backup; do
+for tool in journal-dump import-inventory metrics usage backup; do
     check "office-$tool --help" 0 "$("$bin/office-$tool" --help >said 2>&1; echo $?)"
 done
 cd .. || exit 1
