@@ -4,6 +4,7 @@ import io
 import json
 import runpy
 import subprocess
+import sys
 import types
 import urllib.parse
 
@@ -16,6 +17,7 @@ BUCKET = b"zoo-zoo"
 PUTS = [("a", 0, "STANDARD"), ("b/c d", 1, "STANDARD_IA"), ("f", 5497558138880, "DEEP_ARCHIVE"),
         ("\u00e9\u20ac\U0001d11e?#%", 131072, "ONEZONE_IA"), ("\"\\\x01\x7f", 6144, "GLACIER"), ("k" * 90, 77, "GLACIER_IR")]
 MOMENT = ("moment", "ms")
+sys.path.insert(0, str(TOOLS))
 tool = types.SimpleNamespace(**runpy.run_path(str(TOOL)))
 
 
