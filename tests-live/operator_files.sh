@@ -37,8 +37,9 @@ fi
 if has man && man --warnings -l "$page" >shown 2>warned && grep -q . shown; then
     check 'man --warnings' '' "$(cat warned)"
 fi
-check 'each status is in the man page' "$(sed -n 's/^| \([0-9]\) | .*/\1/p' "$root/docs/FORMATS.md" | sort -u | tr '\n' ' ')" \
-    "$(sed -n 's/^\.It \([0-9]\)$/\1/p' "$page" | sort -u | tr '\n' ' ')"
+check 'each status of docs/FORMATS.md is in the man page' \
+    "$(sed -n '/^## Statuses/,/^## Versions/s/^| \([0-9][0-9]*\) |.*/\1/p' "$root/docs/FORMATS.md" | tr '\n' ' ')" \
+    "$(sed -n 's/^\.It \([0-9][0-9]*\)$/\1/p' "$page" | tr '\n' ' ')"
 
 # The status of the program with these words, in a folder without a journal: 1 where they are no command line.
 status_of() {

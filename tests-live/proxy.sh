@@ -86,7 +86,9 @@ check 'what was put is there once' '"versions":1' "$(ask anna:secret-of-anna "$a
 check 'billing by a path that nginx reads as meters' 403 "$(ask clerk:secret-of-clerk "$at/objects/../meters/$month")"
 check 'billing with a query behind the path' 403 "$(ask clerk:secret-of-clerk "$at/meters/$month?x")"
 check 'reading with a method of its own' 403 "$(ask ben:secret-of-ben -X PATCH "$at")"
-check 'reading what is not built' 501 "$(ask ben:secret-of-ben "$at/lifecycle")"
+direct=http://127.0.0.1:$behind/buckets/logs/lifecycle
+check 'reading another target, as the program answers' "$(curl --silent --noproxy '*' --output reply --write-out '%{http_code}' "$direct")" \
+    "$(ask ben:secret-of-ben "$at/lifecycle")"
 
 check 'a body in chunks, which the program alone refuses' 201 \
     "$(printf '{"size":5}' | ask anna:secret-of-anna --upload-file - -H 'Transfer-Encoding: chunked' "$at/objects/chunked")"
