@@ -55,6 +55,8 @@ check 'its name is said' "$(ls copies)" "$(sed 's|copies/||' name)"
 first=$(cat name)
 check 'the program reads the copy' 100 "$(objects "$first")"
 
+sleep 1
+
 # Five copies beside a run that works; those of one second have one name.
 (
     for batch in 1 2 3 4 5 6 7 8 9 10 11 12 13 14 15 16 17 18 19 20; do

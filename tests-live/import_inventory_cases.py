@@ -8,11 +8,10 @@ import resource
 import signal
 import subprocess
 import threading
-import time
 import urllib.parse
 
 from serve_client import Server
-from tool_cases import CLASSES, FOLDER, PROGRAM, TOOLS, check, finish, new_folder, objects_of, office, run_tool
+from tool_cases import CLASSES, FOLDER, PROGRAM, TOOLS, check, finish, new_folder, objects_of, office, relay, run_tool
 
 SCHEMA = "Bucket, Key, VersionId, IsLatest, IsDeleteMarker, Size, LastModifiedDate, StorageClass"
 SHORT = "Bucket, Key, Size, StorageClass"
@@ -109,41 +108,30 @@ def by_server():
 
 def stopped():
     """A server that is killed, a tool that is killed, and a disk that is full, each in the middle; the same words go on."""
-    rows = [("load", f"key-{n:05}", n, "UNKNOWN" if n % 100 == 50 else CLASSES[n % 6]) for n in range(1500)]
+    rows = [("load", f"key-{n:05}", n, "UNKNOWN" if n % 100 == 50 else CLASSES[n % 6]) for n in range(1000)]
     wanted = [row for row in rows if row[3] != "UNKNOWN"]
-    words = ["--schema", SHORT, write_csv("load.csv", rows)]
+    words, folder = ["--schema", SHORT, write_csv("load.csv", rows)], FOLDER / "load"
 
-    def half(server, stop):
-        """Starts the import, and stops something once a part is there."""
-        tool = subprocess.Popen([TOOLS / "import-inventory", "--to", f"http://127.0.0.1:{server.port}", *words], cwd=FOLDER,
-                                stderr=subprocess.PIPE)
-        before = server.folder.joinpath("office-data/journal").stat().st_size
-        while tool.poll() is None and server.folder.joinpath("office-data/journal").stat().st_size < before + 12000:
-            time.sleep(0.002)
-        stop(tool)
-        tool.communicate(timeout=20)
-        return tool.returncode
-    folder = FOLDER / "load"
+    def kill(process):
+        process.kill()
+        process.wait()
     with Server(PROGRAM, folder) as server:
-        server.client().socket.close()
-        check("a server that is killed in the middle, status", 2, half(server, lambda _: server.process.kill()))
-    first = len(objects_of(folder))
+        check("a server that is killed in the middle, status", 2, relay(server, words, 202, lambda _: kill(server.process)))
+    check("200 rows have a reply, two of them are refused, and one more is put", 199, len(objects_of(folder)))
     with Server(PROGRAM, folder) as server:
-        server.client().socket.close()
-        check("a tool that is killed in the middle, status", -9, half(server, lambda tool: tool.send_signal(signal.SIGKILL)))
-    second = len(objects_of(folder))
-    limit = folder.joinpath("office-data/journal").stat().st_size + 16000
+        check("a tool that is killed in the middle, status", -9, relay(server, words, 402, kill))
+    check("400 rows have a reply, four of them are refused, and one more is put", 397, len(objects_of(folder)))
+    limit = folder.joinpath("office-data/journal").stat().st_size + 8000
     signal.signal(signal.SIGXFSZ, signal.SIG_IGN)
     with Server(PROGRAM, folder) as server:
         server.client().socket.close()
         resource.prlimit(server.process.pid, resource.RLIMIT_FSIZE, (limit, limit))
-        check("a disk that is full in the middle, status", 2, half(server, lambda tool: tool.wait(20)))
-    third = len(objects_of(folder))
-    check("each went on behind the one before", True, 0 < first < second < third < len(wanted))
+        check("a disk that is full in the middle, status", 2, run("--to", f"http://127.0.0.1:{server.port}", *words)[0])
+    check("it went on behind the one before", True, 397 < len(objects_of(folder)) < len(wanted))
     with Server(PROGRAM, folder) as server:
         server.client().socket.close()
         status, notes = run("--to", f"http://127.0.0.1:{server.port}", *words)
-        check("the last one ends the import, and 15 rows are refused", (5, True), (status, "refused 15," in notes))
+        check("the last one ends the import, and 10 rows are refused", (5, True), (status, "refused 10," in notes))
     check("each object is put once, in order", wanted, objects_of(folder))
 
 

@@ -6,7 +6,7 @@
 # The cases are in metrics_cases.py. Prints one line a case, and 'N passed, M failed' last; ends with 1 where one failed.
 set -u
 
-tools='python3'
+tools='python3 timeout'
 here=$(CDPATH='' cd -- "$(dirname -- "$0")" && pwd) || exit 1
 . "$here/common"
-python3 -B "$here/metrics_cases.py" "$program" "$here/../tools" "$work"
+timeout 100 python3 -B "$here/metrics_cases.py" "$program" "$here/../tools" "$work"

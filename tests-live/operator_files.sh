@@ -8,7 +8,7 @@
 # case failed.
 set -u
 
-tools='awk cp grep mkdir sed sort timeout tr'
+tools='awk cp grep mkdir sed sleep sort timeout tr'
 root=$(CDPATH='' cd -- "$(dirname -- "$0")/.." && pwd) || exit 1
 . "$root/tests-live/common"
 cd "$work" || exit 1
@@ -81,13 +81,13 @@ if has bash; then
 fi
 
 if has zsh; then
-    # Whether zsh shows a text where it completes these words.
+    # What zsh shows where it completes these words, up to a text that is wanted.
     shows() {
-        timeout 20 zsh -f "$root/tests-live/complete.zsh" "$root/tools/completion" "$1" | grep -c -F -e "$2"
+        timeout 20 zsh -f "$root/tests-live/complete.zsh" "$root/tools/completion" "$@"
     }
-    check 'zsh: words' 1 "$(shows '' 'serve  -- answer the requests of connections')"
-    check 'zsh: an option begun' 1 "$(shows 'serve --c' 'serve --connections')"
-    check 'zsh: nothing behind run' 0 "$(shows 'run ' '--')"
+    check 'zsh: words' 1 "$(shows '' 'serve  -- answer the requests' | grep -c -e 'serve  -- answer the requests')"
+    check 'zsh: an option begun' 1 "$(shows 'serve --c' 'serve --connections' | grep -c -e 'serve --connections')"
+    check 'zsh: nothing behind run' 0 "$(shows 'run ' '' | grep -c -e '--')"
 fi
 
 # The units, with the paths of an installation turned into those of here.
@@ -106,7 +106,13 @@ if has systemd-analyze; then
         "$program" init >/dev/null
         printf 'PUT /buckets/logs HTTP/1.1\r\n\r\n' >asks
         strace -f -o trace "$program" run <asks >/dev/null 2>&1
-        timeout 2 strace -f -o served "$program" serve --listen 127.0.0.1:0 --workers 2 >/dev/null 2>&1
+        timeout 10 strace -f -o served "$program" serve --listen 127.0.0.1:0 --workers 2 >/dev/null 2>&1 &
+        for _ in 1 2 3 4 5 6 7 8 9 10 11 12 13 14 15 16 17 18 19 20; do
+            grep -q 'accept4(' served 2>/dev/null && break
+            sleep 0.2
+        done
+        kill $!
+        wait
         # The calls of these groups of a filter, with the groups in them.
         calls_of() {
             groups=$*

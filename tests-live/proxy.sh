@@ -105,20 +105,17 @@ check 'TLS 1.2' 200 "$(ask ben:secret-of-ben --tls-max 1.2 "$at")"
 check 'another name' 000 "$(ask anna:secret-of-anna --insecure --resolve "evil.example:$front:127.0.0.1" "https://evil.example:$front/")"
 check 'another name in the field Host alone' 421 "$(ask anna:secret-of-anna -H 'Host: evil.example' "$at")"
 
-# A client that sends half a request for two seconds, beside the one worker.
+# A client that sends half a request, beside the one worker.
 {
     printf 'PUT /buckets/logs/objects/slow HTTP/1.1\r\nHost: office.example\r\nAuthorization: Basic %s\r\nContent-Length: 100\r\n\r\n{' \
         "$(printf 'anna:secret-of-anna' | openssl base64)"
-    sleep 2
+    sleep 8
 } | openssl s_client -quiet -connect "127.0.0.1:$front" -servername office.example >slow 2>&1 &
-sleep 0.3
-check 'a slow client holds no worker' 200 "$(ask anna:secret-of-anna --max-time 1 "$at")"
+slow=$!
+sleep 0.5
+check 'a slow client holds no worker' 200 "$(ask anna:secret-of-anna --max-time 6 "$at")"
+kill "$slow" 2>/dev/null
 
-# 300 requests one behind the other, many more than 50 a second.
-ask ben:secret-of-ben "https://office.example:$front/buckets/many-[100-399]" --write-out '%{http_code}\n' >codes
-check 'more than the rate: some are served, some are not' yes \
-    "$([ "$(grep -c '^404' codes)" -ge 100 ] && [ "$(grep -c '^429' codes)" -gt 0 ] && echo yes || echo no)"
-sleep 2
 kill -9 "$server"
 wait "$server" 2>/dev/null
 check 'a server that was killed' 502 "$(ask ben:secret-of-ben "$at")"
@@ -127,6 +124,14 @@ server=$!
 sleep 0.3
 check 'and started again' 200 "$(ask ben:secret-of-ben "$at")"
 check 'the log has who asked' 1 "$(grep -c " clerk \"GET /buckets/logs/meters/$month\" 200 " access.log)"
+
+# The same limit with smaller numbers, which a reload brings in, so that a slow machine passes it too.
+sed 's/rate=50r/rate=1r/; s/burst=100/burst=10/' nginx.conf >slower && mv slower nginx.conf
+kill -HUP "$proxy"
+sleep 0.5
+ask ben:secret-of-ben "https://office.example:$front/buckets/many-[100-159]" --write-out '%{http_code}\n' >codes
+check 'more than the rate: some are served, some are not' yes \
+    "$([ "$(grep -c '^404' codes)" -ge 10 ] && [ "$(grep -c '^429' codes)" -gt 0 ] && echo yes || echo no)"
 
 echo "$passed passed, $failed failed"
 [ "$failed" -eq 0 ]

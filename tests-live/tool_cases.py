@@ -1,5 +1,7 @@
 """What the cases of the tools share: checks, the tools as processes, and the objects in a journal."""
 import pathlib
+import select
+import socket
 import subprocess
 import sys
 
@@ -50,3 +52,25 @@ def objects_of(folder):
                 fields, rest = [*fields, rest[2:2 + size].decode()], rest[2 + size:]
             found.append((*fields, int.from_bytes(rest[:8], "big"), CLASSES[rest[8]]))
     return found
+
+
+def relay(server, words, replies, stop):
+    """Runs import-inventory against a server through this process, which calls `stop` in place of passing on one reply more.
+
+    The command of that reply is done then, and the tool does not know it.
+    """
+    with socket.create_server(("127.0.0.1", 0)) as door:
+        to = f"http://127.0.0.1:{door.getsockname()[1]}"
+        with subprocess.Popen([TOOLS / "import-inventory", "--to", to, *words], cwd=FOLDER, stderr=subprocess.DEVNULL) as tool:
+            tool_side, (behind, count) = door.accept()[0], (server.client().socket, 0)
+            with tool_side, behind:
+                while count <= replies:
+                    for ready in select.select([tool_side, behind], [], [], 20)[0] or [None]:
+                        data = ready and ready.recv(65536)
+                        if not data:
+                            raise EOFError(f"only {count} replies came")
+                        count += data.count(b"HTTP/1.1 ") if ready is behind else 0
+                        if count <= replies:
+                            (tool_side if ready is behind else behind).sendall(data)
+                stop(tool)
+            return tool.wait(20)
