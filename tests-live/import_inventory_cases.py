@@ -1,15 +1,17 @@
 """The cases of import_inventory.sh: python3 import_inventory_cases.py PROGRAM TOOLS FOLDER. Ends with 1 where one failed."""
 import csv
 import gzip
-import http.server
 import io
 import json
+import os
+import re
 import resource
+import shutil
 import signal
 import subprocess
-import threading
 import urllib.parse
 
+import listing_server
 from serve_client import Server
 from tool_cases import CLASSES, FOLDER, PROGRAM, TOOLS, check, finish, new_folder, objects_of, office, relay, run_tool
 
@@ -106,6 +108,23 @@ def by_server():
         check("the state file of another import, status", 1, run("--to", to, "--schema", SHORT, "refused.csv")[0])
 
 
+def by_aws():
+    """What the AWS command line prints of a bucket in two pages."""
+    if not shutil.which("aws"):
+        return print("skipped: there is no command aws")
+    server = listing_server.serve()
+    listed = subprocess.run(["aws", "--no-sign-request", "--endpoint-url", f"http://127.0.0.1:{server.server_port}", "s3api",
+                             "list-object-versions", "--bucket", "photos"], capture_output=True, timeout=30, check=False,
+                            env={**os.environ, "AWS_DEFAULT_REGION": "us-east-1", "NO_PROXY": "*"})
+    server.shutdown()
+    (FOLDER / "aws.json").write_bytes(listed.stdout)
+    status, notes = run("--bucket", "photos", "--out", "requests", "aws.json")
+    check("what aws lists, status", (0, True), (status, "put 2, refused 0, noncurrent versions 1, delete markers 1" in notes))
+    targets = re.findall(rb"PUT (\S+)", (FOLDER / "requests").read_bytes())
+    objects = b"/buckets/photos/objects/"
+    check("what aws lists, the keys", [b"/buckets/photos", objects + b"a%2Bb%20c", objects + b"%C3%A9/%2541"], targets)
+
+
 def stopped():
     """A server that is killed, a tool that is killed, and a disk that is full, each in the middle; the same words go on."""
     rows = [("load", f"key-{n:05}", n, "UNKNOWN" if n % 100 == 50 else CLASSES[n % 6]) for n in range(1000)]
@@ -135,20 +154,12 @@ def stopped():
     check("each object is put once, in order", wanted, objects_of(folder))
 
 
-class Other(http.server.BaseHTTPRequestHandler):
-    """A server that is not the program."""
-    def do_GET(self):
-        self.send_error(404)
-    log_message = staticmethod(lambda *_: None)
-
-
 def bad():
     """Servers and files that are not what they should be: a status, and nothing done."""
     listing = write_csv("good.csv", [("logs", "a", 1, "STANDARD")])
     words = ["--schema", SHORT, listing]
     check("nobody listens, status", 2, run("--to", "http://127.0.0.1:1", *words)[0])
-    other = http.server.HTTPServer(("127.0.0.1", 0), Other)
-    threading.Thread(target=other.serve_forever, daemon=True).start()
+    other = listing_server.serve()
     status, notes = run("--to", f"http://127.0.0.1:{other.server_port}", *words)
     check("another server, status", (2, True), (status, "is not the program" in notes))
     other.shutdown()
@@ -177,6 +188,6 @@ def bad():
     check("what is no file, status", 4, run("--schema", SHORT, "--out", ".", listing)[0])
 
 
-for part in (by_run, by_server, stopped, bad):
+for part in (by_run, by_server, by_aws, stopped, bad):
     part()
 finish()

@@ -58,10 +58,6 @@ cd .. || exit 1
 check 'no tool left something in the package' '' "$(find there -newer control -type f)"
 check 'the units name programs of the package' '' "$(sed -n 's/^ExecStart=\([^ ]*\).*/\1/p' there/usr/lib/systemd/system/*.service |
     while read -r path; do [ -x "there$path" ] || echo "$path"; done)"
-if command -v lintian >/dev/null 2>&1; then
-    check 'lintian, errors' '' "$(lintian --fail-on none --display-level '=error' "$deb" 2>&1)"
-fi
-
 for words in '' '--version' "--version one $program" "--none $program" "$program one two"; do
     # shellcheck disable=SC2086
     check "words that are none, status: $words" 1 "$("$package" $words >said 2>notes; echo $?)"
