@@ -1,0 +1,139 @@
+#!/bin/sh
+# Checks the man page, the completions of the shells and the units of systemd, each by the tool that reads them, and that what
+# they name is a command line of the program.
+#
+#   operator_files.sh PROGRAM
+#
+# A tool that is missing is skipped with a line. Prints one line a case, and 'N passed, M failed' last; ends with 1 where a
+# case failed.
+set -u
+
+tools='awk cp grep mkdir sed sleep sort timeout tr'
+root=$(CDPATH='' cd -- "$(dirname -- "$0")/.." && pwd) || exit 1
+. "$root/tests-live/common"
+cd "$work" || exit 1
+
+check() {
+    if [ "$2" = "$3" ]; then
+        passed=$((passed + 1))
+        echo "ok: $1"
+    else
+        failed=$((failed + 1))
+        echo "FAILED: $1: wanted '$2', found '$3'"
+    fi
+}
+
+has() {
+    command -v "$1" >/dev/null 2>&1 && return
+    echo "skipped: there is no command $1"
+    return 1
+}
+
+# The man page: no warnings, and each status that docs/FORMATS.md names.
+page=$root/docs/office.1
+if has mandoc; then
+    check 'mandoc -Tlint' '' "$(mandoc -Tlint -W warning "$page" 2>&1)"
+fi
+if has man && man --warnings -l "$page" >shown 2>warned && grep -q . shown; then
+    check 'man --warnings' '' "$(cat warned)"
+fi
+check 'each status of docs/FORMATS.md is in the man page' \
+    "$(sed -n '/^## Statuses/,/^## Versions/s/^| \([0-9][0-9]*\) |.*/\1/p' "$root/docs/FORMATS.md" | tr '\n' ' ')" \
+    "$(sed -n 's/^\.It \([0-9][0-9]*\)$/\1/p' "$page" | tr '\n' ' ')"
+
+# The status of the program with these words, in a folder without a journal: 1 where they are no command line.
+status_of() {
+    mkdir -p none
+    (cd none && timeout 5 "$program" "$@" </dev/null >/dev/null 2>&1)
+    echo $?
+}
+
+if has bash; then
+    # What bash completes behind these words, the last of which is under way.
+    complete_bash() {
+        # shellcheck disable=SC2016
+        bash -c '. "$0"; COMP_WORDS=("$@"); COMP_CWORD=$(($# - 1)); _office; echo "${COMPREPLY[*]}"' \
+            "$root/tools/completion/office.bash" "$@"
+    }
+    check 'bash: words' 'init run serve' "$(complete_bash office '')"
+    check 'bash: a word begun' 'serve' "$(complete_bash office s)"
+    check 'bash: options' '--listen --workers --connections' "$(complete_bash office serve '')"
+    check 'bash: options that are left' '--workers --connections' "$(complete_bash office serve --listen 127.0.0.1:1 '')"
+    check 'bash: nothing behind run' '' "$(complete_bash office run '')"
+    for word in $(complete_bash office ''); do
+        case $word in
+        serve) ;;
+        *) check "the program knows $word" no "$([ "$(status_of "$word")" = 1 ] && echo yes || echo no)" ;;
+        esac
+        rm -rf none
+    done
+    words='serve'
+    for option in $(complete_bash office serve ''); do
+        case $option in
+        --listen) value=$(complete_bash office serve --listen '' | awk '{ print $1 }') ;;
+        --workers) value=$(complete_bash office serve --workers '' | awk '{ print $NF }') ;;
+        *) value=1 ;;
+        esac
+        words="$words $option $value"
+    done
+    # shellcheck disable=SC2086
+    check "the program knows $words" 5 "$(status_of $words)"
+fi
+
+if has zsh; then
+    # What zsh shows where it completes these words, up to a text that is wanted.
+    shows() {
+        timeout 20 zsh -f "$root/tests-live/complete.zsh" "$root/tools/completion" "$@"
+    }
+    check 'zsh: words' 1 "$(shows '' 'serve  -- answer the requests' | grep -c -e 'serve  -- answer the requests')"
+    check 'zsh: an option begun' 1 "$(shows 'serve --c' 'serve --connections' | grep -c -e 'serve --connections')"
+    check 'zsh: nothing behind run' 0 "$(shows 'run ' '' | grep -c -e '--')"
+fi
+
+# The units, with the paths of an installation turned into those of here.
+mkdir units
+for unit in "$root"/tools/systemd/*; do
+    sed "s|/usr/bin/office-backup|$root/tools/backup|; s|/usr/bin/office |$program |" "$unit" >"units/${unit##*/}"
+done
+# shellcheck disable=SC2046
+check 'the unit gives words that the program knows' 5 "$(status_of serve $(sed -n 's/^Environment="OFFICE_OPTIONS=\(.*\)"/\1/p' \
+    "$root/tools/systemd/office.service"))"
+if has systemd-analyze; then
+    check 'systemd-analyze verify' '' "$(systemd-analyze --man=no verify units/* 2>&1)"
+    systemd-analyze security --offline=yes --threshold=20 units/office.service >secure 2>&1
+    check 'systemd-analyze security, at most 2.0' 0 $?
+    if has strace && strace -o trace true 2>/dev/null; then
+        "$program" init >/dev/null
+        printf 'PUT /buckets/logs HTTP/1.1\r\n\r\n' >asks
+        strace -f -o trace "$program" run <asks >/dev/null 2>&1
+        timeout 10 strace -f -o served "$program" serve --listen 127.0.0.1:0 --workers 2 >/dev/null 2>&1 &
+        for _ in 1 2 3 4 5 6 7 8 9 10 11 12 13 14 15 16 17 18 19 20; do
+            grep -q 'accept4(' served 2>/dev/null && break
+            sleep 0.2
+        done
+        kill $!
+        wait
+        # The calls of these groups of a filter, with the groups in them.
+        calls_of() {
+            groups=$*
+            for _ in 1 2 3 4; do
+                for group in $groups; do
+                    systemd-analyze syscall-filter "$group" | sed -n 's/^ *\([@a-z0-9_-]*\)$/\1/p'
+                done | sort -u >names
+                groups=$(grep '^@' names | tr '\n' ' ')
+                grep -v '^@' names
+            done | sort -u
+        }
+        # shellcheck disable=SC2046
+        calls_of $(sed -n 's/^SystemCallFilter=\([^~].*\)/\1/p' units/office.service) >in_filter
+        # shellcheck disable=SC2046
+        calls_of $(sed -n 's/^SystemCallFilter=~\(.*\)/\1/p' units/office.service) >out_of_filter
+        grep -v -x -F -f out_of_filter in_filter >allowed
+        sed 's/^[0-9]* *//; s/(.*//' trace served | grep '^[a-z0-9_]*$' | sort -u >used
+        check 'strace saw a sync and a port' 2 "$(grep -c -x -e fdatasync -e listen used)"
+        check 'each system call is in the filter of the unit' '' "$(grep -v -x -F -f allowed used | tr '\n' ' ')"
+    fi
+fi
+
+echo "$passed passed, $failed failed"
+[ "$failed" -eq 0 ]

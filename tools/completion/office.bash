@@ -1,0 +1,33 @@
+# Completion of office for bash: source it, or put it as `office` into /usr/share/bash-completion/completions.
+
+_office() {
+    local word=${COMP_WORDS[COMP_CWORD]} before=${COMP_WORDS[COMP_CWORD - 1]} option left=
+    COMPREPLY=()
+    # readline cuts words at '=' and ':' too.
+    if [ "$COMP_CWORD" = 1 ]; then
+        mapfile -t COMPREPLY < <(compgen -W 'init run serve' -- "$word")
+        return
+    fi
+    [ "${COMP_WORDS[1]}" = serve ] || return
+    case $before in
+    --listen)
+        mapfile -t COMPREPLY < <(compgen -W '127.0.0.1:8080 [::1]:8080' -- "$word")
+        return
+        ;;
+    --workers)
+        mapfile -t COMPREPLY < <(compgen -W '1 2 4 8 16 32 64' -- "$word")
+        return
+        ;;
+    --connections | = | :) return ;;
+    esac
+    # Each option is given at most once.
+    for option in --listen --workers --connections; do
+        case " ${COMP_WORDS[*]:2:COMP_CWORD-2} " in
+        *" $option "*) ;;
+        *) left="$left $option" ;;
+        esac
+    done
+    mapfile -t COMPREPLY < <(compgen -W "$left" -- "$word")
+}
+
+complete -F _office office

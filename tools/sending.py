@@ -1,0 +1,92 @@
+"""Sends the objects of a listing to a running server, each once over any number of tries, for import-inventory."""
+import os
+import urllib.parse
+
+from asking import Stop, reason
+
+
+def target_of(row, bucket=None):
+    """Where a row's object is put. The key's bytes but for letters, digits and `-._~/` are percent-encoded."""
+    return f"{bucket_target(bucket or row.bucket)}/objects/{urllib.parse.quote(row.key, safe='/')}"
+
+
+def bucket_target(bucket):
+    return f"/buckets/{urllib.parse.quote(bucket, safe='')}"
+
+
+def body_of(row):
+    return {"size": row.size} if row.storage_class is None else {"size": row.size, "class": row.storage_class}
+
+
+def is_begun(state, digest):
+    """Whether this import was begun before, by its file."""
+    try:
+        with open(state, encoding="ascii") as file:
+            if file.read().split() != [digest]:
+                raise Stop(1, f"{state} is of another import; give another --state")
+        return True
+    except FileNotFoundError:
+        return False
+    except (OSError, ValueError):
+        raise Stop(1, f"{state} cannot be read; give another --state") from None
+
+
+def begin(state, digest):
+    """Says in its file that the import is begun, before anything is sent; the file is whole or absent."""
+    part = f"{state}.part"
+    try:
+        with open(part, "w", encoding="ascii") as file:
+            print(digest, file=file, flush=True)
+            os.fsync(file.fileno())
+        os.replace(part, state)
+    except OSError as fault:
+        raise Stop(4, f"{state}: {fault.strerror}") from None
+
+
+def versions(office, bucket):
+    """How many objects a bucket has; 0 where it is not made, or where its name is none."""
+    status, found = office.ask("GET", bucket_target(bucket))
+    if status in (400, 404):
+        return 0
+    if status != 200 or not isinstance(found.get("versions"), int):
+        raise Stop(2, f"bucket {bucket}: {reason(status, found)}")
+    return found["versions"]
+
+
+def put(office, work, row, nowhere=None):
+    """Asks for one object. Whether the program takes it; a row that it refuses for its text is named."""
+    status, found = office.ask("PUT", target_of(row, nowhere), body_of(row))
+    if status == 400:
+        work.leave(row, "refused", f"refused: {found.get('error')}")
+    elif status != (404 if nowhere else 201):
+        raise Stop(2, f"{row.where}: {reason(status, found)}")
+    return status != 400
+
+
+def send(work, office, state):
+    """Puts what is not there yet.
+
+    What is there already are the first rows that the program took. They are asked for again, in a bucket that is not made,
+    which puts nothing and tells which rows are refused.
+    """
+    begun, there = is_begun(state, work.digest), {}
+    for bucket in work.buckets:
+        there[bucket] = versions(office, bucket)
+        if there[bucket] and not begun:
+            raise Stop(6, f"bucket {bucket} has {there[bucket]} objects already, and no file {state} says that they are of "
+                       "this import; nothing was sent")
+    if not begun:
+        begin(state, work.digest)
+    for bucket in work.buckets:
+        status, found = office.ask("PUT", bucket_target(bucket))
+        if status not in (201, 400) and found.get("error") != "BucketExists":
+            raise Stop(2, f"bucket {bucket}: {reason(status, found)}")
+    accepted, nowhere = dict.fromkeys(work.buckets, 0), f"not-made-{work.digest[:32]}"
+    for place, row in enumerate(work.rows(), 1):
+        is_there = accepted[row.bucket] < there[row.bucket]
+        accepted[row.bucket] += put(office, work, row, nowhere if is_there else None)
+        work.tell(place)
+    work.counts["put"] = sum(accepted.values())
+    for bucket, count in accepted.items():
+        if (found := versions(office, bucket)) != count:
+            raise Stop(6, f"bucket {bucket} has {found} objects at the end, and {count} of this import")
