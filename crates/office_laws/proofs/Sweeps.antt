@@ -1,9 +1,12 @@
 -- What acts do to a bucket is part of its sweep at any later moment.
 use Rattle.std.proofs.Common.{◌≡◌, ℕ, ◌≤◌, List, [], ◌∷◌, ◌++◌, refl, ap, sym, ◌∙◌, subst, Bool, true, false, ◌&&◌, cond, inl, inr}
-use Rattle.std.specs.Prelude.{Option, Some, None, Ok}
+use Rattle.std.specs.Prelude.{Option, Some, None, option_map, Result, Ok, ◌↔◌}
 use Rattle.std.specs.List.{AllByRecursion}
 use Rattle.office_base.specs.Maps.{at_name, with_name}
-use Rattle.due_core.specs.Choice.{choice}
+use Rattle.due_core.specs.Buckets.{BucketRecord}
+use Rattle.due_core.specs.Candidates.{candidates}
+use Rattle.due_core.specs.Choice.{choice, least, comes_before}
+use Rattle.due_core.specs.declared.action.Candidate.{Candidate}
 use Rattle.due_core.specs.declared.action.Action.{Action}
 use Rattle.due_core.proofs.Later.{choice_stays}
 use Rattle.plain_office.specs.Office.{Office, Account}
@@ -14,7 +17,11 @@ use Rattle.plain_office.specs.Sweep.{IsSwept}
 use Rattle.office_types.specs.declared.command.Command.{Command}
 use Rattle.office_types.specs.declared.command.Command.TheVariants as command
 use Rattle.office_types.specs.declared.command.Entry.{Entry}
+use Rattle.office_types.specs.declared.command.Query.TheVariants as query
+use Rattle.office_types.specs.declared.reply.Reply.{Reply}
 use Rattle.office_types.specs.declared.reply.Reply.TheVariants.{NothingDue}
+use Rattle.office_types.specs.declared.refusal.Refusal.{Refusal}
+use Rattle.plain_office.specs.Answers.{answer, due_shown}
 use Rattle.office_laws.specs.Commands.{OnlyActs}
 use Rattle.office_laws.proofs.Maps.{by_name, at_written}
 use Rattle.office_laws.proofs.Elsewhere.{step_leaves}
@@ -27,6 +34,18 @@ swept_twice t u le (a ∷ actions) others before middle after h k =
     (choice_stays before.bucket t u a le h.0, swept_twice t u le actions others (effect a before) middle after h.1 k)
 
 -- ---- one act
+
+-- there is a choice where there is a candidate
+least_none : (xs : List Candidate) → (option_map (λ (c : Candidate). c.action) (least comes_before xs) ≡ None) ↔ (xs ≡ [])
+least_none [] = ((λ e. refl), (λ e. refl))
+least_none (x ∷ xs) = ((λ e. absurd cc), (λ e. absurd cc))
+
+choice_none : (bucket : BucketRecord) (t : ℕ) → (choice bucket t ≡ None) ↔ (candidates bucket t ≡ [])
+unfolding choice
+choice_none bucket t = least_none (candidates bucket t)
+
+abbrev ok_reply : Reply → Result Reply Refusal
+ok_reply reply = Ok reply
 
 -- what `Act` makes of an account: nothing where nothing is due, else the choice is done
 abbrev pub acted : Account → Option Action → Account
@@ -65,6 +84,52 @@ module _ (t : ℕ) (name : List ℕ) (p : Office) where
       let parts = acted_by account is (choice account.bucket t) in
       let none = parts.1 (rw (outcome_found account is) at answer) in
       (none, rw (outcome_found account is) (parts.2 none))
+
+  -- what is answered of the choice
+  told_of : Account → Option Action → Result Reply Refusal
+  told_of account None = Ok NothingDue
+  told_of account (Some action) = Ok (shown_action action (marker_made action.kind account.bucket) account.bucket)
+
+  told_by : (account : Account) (o : Option Action) → (settled t p (outcome_of (act_of account o))).1 ≡ told_of account o
+  unfolding outcome_of act_of told_of
+  told_by account None = refl
+  told_by account (Some action) = refl
+
+  act_told : (account : Account) → at_name name p.accounts ≡ Some account → (step t (command.Act name) p).1 ≡ told_of account (choice account.bucket t)
+  unfolding step
+  act_told account is = rw (outcome_found account is) (told_by account (choice account.bucket t))
+
+  pub act_chosen : (account : Account) (action : Action) → at_name name p.accounts ≡ Some account → choice account.bucket t ≡ Some action
+      → (at_name name (step t (command.Act name) p).0.accounts ≡ Some (effect action account))
+      × ((step t (command.Act name) p).1 ≡ Ok (shown_action action (marker_made action.kind account.bucket) account.bucket))
+  unfolding told_of
+  act_chosen account action is chosen = (
+    act_found account is ∙ ap (λ (o : Option Action). Some (acted account o)) chosen,
+    act_told account is ∙ ap (told_of account) chosen,
+  )
+
+  told_nothing : (account : Account) (o : Option Action) → (told_of account o ≡ Ok NothingDue) ↔ (o ≡ None)
+  unfolding told_of
+  told_nothing account None = ((λ e. refl), (λ e. refl))
+  told_nothing account (Some action) = ((λ e. absurd cc), (λ e. absurd cc))
+
+  pub act_idle : (account : Account) → at_name name p.accounts ≡ Some account
+      → ((step t (command.Act name) p).1 ≡ Ok NothingDue) ↔ (candidates account.bucket t ≡ [])
+  act_idle account is =
+      let told = told_nothing account (choice account.bucket t) in
+      let none = choice_none account.bucket t in
+      ((λ e. none.0 (told.0 (sym (act_told account is) ∙ e))), (λ e. act_told account is ∙ told.1 (none.1 e)))
+
+  shown_nothing : (account : Account) (o : Option Action) → choice account.bucket t ≡ o → (due_shown t account ≡ NothingDue) ↔ (o ≡ None)
+  shown_nothing account None is = ((λ e. refl), (λ e. rw is refl))
+  shown_nothing account (Some action) is = ((λ e. let shown = rw is at e in absurd cc), (λ e. absurd cc))
+
+  pub due_idle : (account : Account) → at_name name p.accounts ≡ Some account → (answer t (query.Due name) p ≡ Ok NothingDue) ↔ (candidates account.bucket t ≡ [])
+  unfolding answer
+  due_idle account is =
+      let shown = shown_nothing account (choice account.bucket t) refl in
+      let none = choice_none account.bucket t in
+      rw is ((λ e. none.0 (shown.0 cc)), (λ e. ap (λ (reply : Reply). ok_reply reply) (shown.1 (none.1 e))))
 
 -- sweeping what an act left is sweeping what it found
 pub act_swept : (t u : ℕ) → t ≤ u → (account after : Account) (o : Option Action) → choice account.bucket t ≡ o → (others : List Action) → IsSwept u others (acted account o) after

@@ -1,5 +1,5 @@
 // What holds of every office, as calls that do nothing.
-ghost use Rattle.std.specs.Prelude.{◌≡◌, ℕ, ◌≤◌, ◌++◌, ◌∷◌, List, [], Some, Ok, true, filter, is_none};
+ghost use Rattle.std.specs.Prelude.{◌≡◌, ◌↔◌, ℕ, ◌≤◌, ◌++◌, ◌∷◌, List, [], Some, Ok, true, filter, is_none};
 ghost use Rattle.std.specs.List.{AllByRecursion};
 ghost use Rattle.office_base.specs.Maps.{at_name, at_number};
 ghost use Rattle.office_base.specs.declared.version_id.VersionId.{VersionId};
@@ -9,6 +9,8 @@ ghost use Rattle.stacks.specs.Stacks.{version_at};
 ghost use Rattle.stacks.specs.declared.version.Version.{Version};
 ghost use Rattle.uploads.specs.Uploads.{UploadRecord};
 ghost use Rattle.uploads.specs.declared.part.Part.{Part};
+ghost use Rattle.due_core.specs.Candidates.{candidates};
+ghost use Rattle.due_core.specs.Choice.{choice};
 ghost use Rattle.due_core.specs.declared.action.Action.{Action};
 ghost use Rattle.office_types.specs.declared.command.Command.{Command};
 ghost use Rattle.office_types.specs.declared.command.Command.TheVariants as command;
@@ -17,9 +19,9 @@ ghost use Rattle.office_types.specs.declared.command.Query.TheVariants as query;
 ghost use Rattle.office_types.specs.declared.reply.Reply.TheVariants.{NothingDue};
 ghost use Rattle.plain_office.specs.Office.{Office, Account, Booked, of_version, of_part, empty_office, book_of};
 ghost use Rattle.plain_office.specs.Books.{is_open_stay};
-ghost use Rattle.plain_office.specs.Changes.{versions_of};
+ghost use Rattle.plain_office.specs.Changes.{versions_of, effect};
 ghost use Rattle.plain_office.specs.Orderly.{IsOrderly, SizeFits, HasOpenStays, stays_expected, stay_of_version, stay_of_part};
-ghost use Rattle.plain_office.specs.Step.{step};
+ghost use Rattle.plain_office.specs.Step.{step, shown_action, marker_made};
 ghost use Rattle.plain_office.specs.Answers.{answer};
 ghost use Rattle.plain_office.specs.Run.{is_not_before, run_from, run};
 ghost use Rattle.plain_office.specs.Sweep.{IsSwept};
@@ -88,6 +90,23 @@ pub fn closed_months_stay_for_good()
 pub fn other_buckets_stay()
     ensures { (t : ℕ) (c : Command) (p : Office) (name : List ℕ) → IsElsewhere name c
         → at_name name (step t c p).0.accounts ≡ at_name name p.accounts }
+{}
+
+/// States that an act does the choice and answers it, and that an act and the question what is due answer that nothing is due
+/// exactly where there is no candidate.
+///
+/// Rule: S3 User Guide, "Managing the lifecycle of objects".
+pub fn an_act_does_the_choice()
+    ensures chosen { (t : ℕ) (p : Office) (name : List ℕ) (account : Account) (action : Action)
+        → at_name name p.accounts ≡ Some account → choice account.bucket t ≡ Some action
+        → (at_name name (step t (command.Act name) p).0.accounts ≡ Some (effect action account))
+        × ((step t (command.Act name) p).1 ≡ Ok (shown_action action (marker_made action.kind account.bucket) account.bucket)) }
+    ensures nothing { (t : ℕ) (p : Office) (name : List ℕ) (account : Account)
+        → at_name name p.accounts ≡ Some account
+        → ((step t (command.Act name) p).1 ≡ Ok NothingDue) ↔ (candidates account.bucket t ≡ []) }
+    ensures asked { (t : ℕ) (p : Office) (name : List ℕ) (account : Account)
+        → at_name name p.accounts ≡ Some account
+        → (answer t (query.Due name) p ≡ Ok NothingDue) ↔ (candidates account.bucket t ≡ []) }
 {}
 
 /// States that where an act answers that nothing is due, the sweep at that moment does nothing, and the office is as before.
