@@ -6,10 +6,11 @@ use Rattle.plain_office.specs.Office.{Account}
 use Rattle.plain_office.specs.Counts.{version_count}
 use Rattle.plain_office.specs.Sweep.{IsSwept}
 
--- at most five transitions and a removal for each version, a marker on its key and that one's removal; and an abort for each upload
+-- for each version at most five transitions and a removal, a marker on its key and that one's removal; an abort for each upload
 abbrev pub most_actions : BucketRecord → ℕ
 most_actions bucket = 8 * version_count bucket + length bucket.uploads
 
 -- the account has a sweep at the moment, of no more actions than this
 abbrev pub HasSweepWithin : ℕ → Account → ℕ → Type 0
-HasSweepWithin u account most = (actions : List Action) × (after : Account) × IsSwept u actions account after × (length actions ≤ most)
+HasSweepWithin u account most =
+    (actions : List Action) × (after : Account) × IsSwept u actions account after × (length actions ≤ most)

@@ -37,8 +37,8 @@ pub fn steps_are_orderly()
     ensures runs { (entries : List Entry) (p : Office) → SizesFit entries → run entries ≡ Some p → IsOrderly p }
 {}
 
-/// States that each open stay is the one that the records ask for under its key and item, and that each version and each
-/// part has exactly one.
+/// States that each open stay is the one that the records ask for under its key and item, and that each version and
+/// each part has exactly one.
 pub fn open_stays_are_those_of_the_records()
     ensures asked { (account : Account) (front back : List Booked) (stay : Booked)
         → HasOpenStays account → account.books.stays ≡ front ++ stay ∷ back → is_none stay.1.to ≡ true
@@ -92,15 +92,16 @@ pub fn other_buckets_stay()
         → at_name name (step t c p).0.accounts ≡ at_name name p.accounts }
 {}
 
-/// States that an act does the choice and answers it, and that an act and the question what is due answer that nothing is due
-/// exactly where there is no candidate.
+/// States that an act does the choice and answers it, and that an act and the question what is due answer that nothing
+/// is due exactly where there is no candidate.
 ///
 /// Rule: S3 User Guide, "Managing the lifecycle of objects".
 pub fn an_act_does_the_choice()
     ensures chosen { (t : ℕ) (p : Office) (name : List ℕ) (account : Account) (action : Action)
         → at_name name p.accounts ≡ Some account → choice account.bucket t ≡ Some action
         → (at_name name (step t (command.Act name) p).0.accounts ≡ Some (effect action account))
-        × ((step t (command.Act name) p).1 ≡ Ok (shown_action action (marker_made action.kind account.bucket) account.bucket)) }
+        × ((step t (command.Act name) p).1
+        ≡ Ok (shown_action action (marker_made action.kind account.bucket) account.bucket)) }
     ensures nothing { (t : ℕ) (p : Office) (name : List ℕ) (account : Account)
         → at_name name p.accounts ≡ Some account
         → ((step t (command.Act name) p).1 ≡ Ok NothingDue) ↔ (candidates account.bucket t ≡ []) }
@@ -109,7 +110,8 @@ pub fn an_act_does_the_choice()
         → (answer t (query.Due name) p ≡ Ok NothingDue) ↔ (candidates account.bucket t ≡ []) }
 {}
 
-/// States that where an act answers that nothing is due, the sweep at that moment does nothing, and the office is as before.
+/// States that where an act answers that nothing is due, the sweep at that moment does nothing, and the office is as
+/// before.
 pub fn nothing_due_is_the_empty_sweep()
     ensures swept { (t : ℕ) (p : Office) (name : List ℕ) (account : Account)
         → at_name name p.accounts ≡ Some account → (step t (command.Act name) p).1 ≡ Ok NothingDue
@@ -119,7 +121,8 @@ pub fn nothing_due_is_the_empty_sweep()
         → (step t (command.Act name) p).0 ≡ p }
 {}
 
-/// States that each bucket of an orderly office has a sweep at each moment, of no more actions than the bound, and only one.
+/// States that each bucket of an orderly office has a sweep at each moment, of no more actions than the bound, and only
+/// one.
 pub fn every_sweep_ends()
     ensures ends { (u : ℕ) (p : Office) (name : List ℕ) (account : Account)
         → IsOrderly p → at_name name p.accounts ≡ Some account
@@ -135,8 +138,8 @@ pub fn sweeping_twice_is_sweeping_once()
         → IsSwept u (actions ++ others) before after }
 {}
 
-/// States that where nothing but acts was done to a bucket by a moment, sweeping it then ends as if nothing had been done:
-/// in the same records and books.
+/// States that where nothing but acts was done to a bucket by a moment, sweeping it then ends as if nothing had been
+/// done: in the same records and books.
 pub fn acts_change_no_later_sweep()
     ensures swept { (entries : List Entry) (u : ℕ) (p q : Office) (name : List ℕ) (others : List Action)
         (before after end : Account)
