@@ -12,7 +12,7 @@ import subprocess
 import urllib.parse
 
 import listing_server
-from serve_client import Server
+from serve_client import Server, free_port
 from tool_cases import CLASSES, FOLDER, PROGRAM, TOOLS, check, finish, new_folder, objects_of, office, relay, run_tool
 
 SCHEMA = "Bucket, Key, VersionId, IsLatest, IsDeleteMarker, Size, LastModifiedDate, StorageClass"
@@ -35,14 +35,10 @@ def write_csv(path, rows, pack=False):
     return path
 
 
-def encoded(key):
-    return urllib.parse.quote_plus(key, safe="/")
-
-
 def by_run():
     """Files of requests, that `office run` reads."""
     wanted = [("data-1" if n % 2 else "data-2", key, n * 1000, CLASSES[n % 6]) for n, key in enumerate(KEYS)]
-    rows = [(bucket, encoded(key), "v1", "true", "false", size, "2024-01-01T00:00:00.000Z", name)
+    rows = [(bucket, urllib.parse.quote_plus(key, safe="/"), "v1", "true", "false", size, "2024-01-01T00:00:00.000Z", name)
             for bucket, key, size, name in wanted]
     header = [name.strip() for name in SCHEMA.split(",")]
     for name, words in (("with a schema", ["--schema", SCHEMA, write_csv("plain.csv", rows)]),
@@ -129,27 +125,34 @@ def stopped():
     """A server that is killed, a tool that is killed, and a disk that is full, each in the middle; the same words go on."""
     rows = [("load", f"key-{n:05}", n, "UNKNOWN" if n % 100 == 50 else CLASSES[n % 6]) for n in range(1000)]
     wanted = [row for row in rows if row[3] != "UNKNOWN"]
-    words, folder = ["--schema", SHORT, write_csv("load.csv", rows)], FOLDER / "load"
+    words, folder, port = ["--schema", SHORT, write_csv("load.csv", rows)], FOLDER / "load", free_port()
 
     def kill(process):
         process.kill()
         process.wait()
+
+    def move(server):
+        """The same office at another address, which is said in the state file."""
+        server.client().socket.close()
+        state = FOLDER / "load.csv.import"
+        state.write_text(f"{state.read_text('utf-8').split()[0]} http://127.0.0.1:{server.port}\n", encoding="utf-8")
+        return ["--to", f"http://127.0.0.1:{server.port}", *words]
     with Server(PROGRAM, folder) as server:
-        check("a server that is killed in the middle, status", 2, relay(server, words, 202, lambda _: kill(server.process)))
+        check("a server that is killed in the middle, status", 2, relay(server, port, words, 202, lambda _: kill(server.process)))
     check("200 rows have a reply, two of them are refused, and one more is put", 199, len(objects_of(folder)))
     with Server(PROGRAM, folder) as server:
-        check("a tool that is killed in the middle, status", -9, relay(server, words, 402, kill))
+        check("a tool that is killed in the middle, status", -9, relay(server, port, words, 402, kill))
     check("400 rows have a reply, four of them are refused, and one more is put", 397, len(objects_of(folder)))
     limit = folder.joinpath("office-data/journal").stat().st_size + 8000
     signal.signal(signal.SIGXFSZ, signal.SIG_IGN)
     with Server(PROGRAM, folder) as server:
-        server.client().socket.close()
+        check("another server, status", 1, run("--to", f"http://127.0.0.1:{server.port}", *words)[0])
+        words_there = move(server)
         resource.prlimit(server.process.pid, resource.RLIMIT_FSIZE, (limit, limit))
-        check("a disk that is full in the middle, status", 2, run("--to", f"http://127.0.0.1:{server.port}", *words)[0])
+        check("a disk that is full in the middle, status", 2, run(*words_there)[0])
     check("it went on behind the one before", True, 397 < len(objects_of(folder)) < len(wanted))
     with Server(PROGRAM, folder) as server:
-        server.client().socket.close()
-        status, notes = run("--to", f"http://127.0.0.1:{server.port}", *words)
+        status, notes = run(*move(server))
         check("the last one ends the import, and 10 rows are refused", (5, True), (status, "refused 10," in notes))
     check("each object is put once, in order", wanted, objects_of(folder))
 

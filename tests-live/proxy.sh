@@ -35,13 +35,14 @@ behind=$1
 front=$3
 chmod 755 "$work"
 mkdir temp
-sed "s/127.0.0.1:8080/127.0.0.1:$behind/; s/127.0.0.1:8079/127.0.0.1:$2/; s/listen 8443/listen 127.0.0.1:$front/" \
+sed "s/127.0.0.1:8080/127.0.0.1:$behind/; s/127.0.0.1:8079/127.0.0.1:$2/; s/listen 8443/listen 127.0.0.1:$front/; \
+    s/server_name office.example/server_name office.example localhost/" \
     "$root/tools/proxy/nginx.conf" >nginx.conf
 cp "$root/tools/proxy/roles" roles
 for login in anna ben clerk dora; do
     echo "$login:$(openssl passwd -6 "secret-of-$login")"
 done >users
-if ! openssl req -x509 -newkey rsa:2048 -nodes -days 1 -subj /CN=office.example -addext subjectAltName=DNS:office.example \
+if ! openssl req -x509 -newkey rsa:2048 -nodes -days 1 -subj /CN=office.example -addext subjectAltName=DNS:office.example,DNS:localhost \
     -keyout key.pem -out cert.pem 2>notes; then
     echo 'skipped: openssl makes no certificate here'
     exit 0
@@ -90,6 +91,24 @@ direct=http://127.0.0.1:$behind/buckets/logs/lifecycle
 check 'reading another target, as the program answers' "$(curl --silent --noproxy '*' --output reply --write-out '%{http_code}' "$direct")" \
     "$(ask ben:secret-of-ben "$at/lifecycle")"
 
+# The tools behind the proxy, for those who have no account on the machine. The name has to be one that this machine finds.
+usage() {
+    SSL_CERT_FILE=$work/cert.pem OFFICE_PASSWORD=$2 "$root/tools/usage" --from "https://$1@localhost:$front" --bucket logs "$month" \
+        >told 2>notes </dev/null
+    echo "$? $(grep -c ^logs, told)"
+}
+check 'tools/usage by billing' '0 1' "$(usage clerk secret-of-clerk)"
+check 'tools/usage with a wrong password' '2 0' "$(usage clerk x)"
+check 'tools/usage by a login without a role' '2 0' "$(usage dora secret-of-dora)"
+check 'and why' 1 "$(grep -c '403 the login may not ask this' notes)"
+check 'tools/usage without the certificate' '2' "$(OFFICE_PASSWORD=x "$root/tools/usage" --from "https://clerk@localhost:$front" \
+    --bucket logs "$month" 2>notes; echo $?)"
+check 'tools/usage without a password' '1' "$("$root/tools/usage" --from "https://clerk@localhost:$front" --bucket logs "$month" \
+    2>notes </dev/null; echo $?)"
+check 'tools/usage with the password in its words' '1' "$("$root/tools/usage" --from "https://clerk:x@localhost:$front" --bucket logs \
+    "$month" 2>notes; echo $?)"
+check 'a login without TLS' '1' "$("$root/tools/usage" --from "http://clerk@localhost:$front" --bucket logs "$month" 2>notes; echo $?)"
+
 check 'a body in chunks, which the program alone refuses' 201 \
     "$(printf '{"size":5}' | ask anna:secret-of-anna --upload-file - -H 'Transfer-Encoding: chunked' "$at/objects/chunked")"
 check 'fields of 12,000 bytes, which the program alone refuses' 201 \
@@ -123,7 +142,7 @@ check 'a server that was killed' 502 "$(ask ben:secret-of-ben "$at")"
 server=$!
 sleep 0.3
 check 'and started again' 200 "$(ask ben:secret-of-ben "$at")"
-check 'the log has who asked' 1 "$(grep -c " clerk \"GET /buckets/logs/meters/$month\" 200 " access.log)"
+check 'the log has who asked, twice' 2 "$(grep -c " clerk \"GET /buckets/logs/meters/$month\" 200 " access.log)"
 
 # The same limit with smaller numbers, which a reload brings in, so that a slow machine passes it too.
 sed 's/rate=50r/rate=1r/; s/burst=100/burst=10/' nginx.conf >slower && mv slower nginx.conf

@@ -54,14 +54,14 @@ def objects_of(folder):
     return found
 
 
-def relay(server, words, replies, stop):
-    """Runs import-inventory against a server through this process, which calls `stop` in place of passing on one reply more.
+def relay(server, port, words, replies, stop):
+    """Runs import-inventory against a server through this port, and calls `stop` in place of passing on one reply more.
 
     The command of that reply is done then, and the tool does not know it.
     """
-    with socket.create_server(("127.0.0.1", 0)) as door:
-        to = f"http://127.0.0.1:{door.getsockname()[1]}"
-        with subprocess.Popen([TOOLS / "import-inventory", "--to", to, *words], cwd=FOLDER, stderr=subprocess.DEVNULL) as tool:
+    with socket.create_server(("127.0.0.1", port)) as door:
+        sending = [TOOLS / "import-inventory", "--to", f"http://127.0.0.1:{port}", *words]
+        with subprocess.Popen(sending, cwd=FOLDER, stderr=subprocess.DEVNULL) as tool:
             tool_side, (behind, count) = door.accept()[0], (server.client().socket, 0)
             with tool_side, behind:
                 while count <= replies:

@@ -18,25 +18,29 @@ def body_of(row):
     return {"size": row.size} if row.storage_class is None else {"size": row.size, "class": row.storage_class}
 
 
-def is_begun(state, digest):
-    """Whether this import was begun before, by its file."""
+def is_begun(state, digest, where):
+    """Whether this import was begun before, by its file, at this server."""
     try:
-        with open(state, encoding="ascii") as file:
-            if file.read().split() != [digest]:
-                raise Stop(1, f"{state} is of another import; give another --state")
-        return True
+        with open(state, encoding="utf-8") as file:
+            found = file.read().split()
     except FileNotFoundError:
         return False
     except (OSError, ValueError):
         raise Stop(1, f"{state} cannot be read; give another --state") from None
+    if len(found) != 2 or found[0] != digest:
+        raise Stop(1, f"{state} is of another import; give another --state")
+    if found[1] != where:
+        raise Stop(1, f"{state} says that the import was begun at {found[1]}; if the same office is at {where} now, write that "
+                   "address there, else give another --state")
+    return True
 
 
-def begin(state, digest):
+def begin(state, digest, where):
     """Says in its file that the import is begun, before anything is sent; the file is whole or absent."""
     part = f"{state}.part"
     try:
-        with open(part, "w", encoding="ascii") as file:
-            print(digest, file=file, flush=True)
+        with open(part, "w", encoding="utf-8") as file:
+            print(digest, where, file=file, flush=True)
             os.fsync(file.fileno())
         os.replace(part, state)
     except OSError as fault:
@@ -69,14 +73,14 @@ def send(work, office, state):
     What is there already are the first rows that the program took. They are asked for again, in a bucket that is not made,
     which puts nothing and tells which rows are refused.
     """
-    begun, there = is_begun(state, work.digest), {}
+    begun, there = is_begun(state, work.digest, office.name), {}
     for bucket in work.buckets:
         there[bucket] = versions(office, bucket)
         if there[bucket] and not begun:
             raise Stop(6, f"bucket {bucket} has {there[bucket]} objects already, and no file {state} says that they are of "
                        "this import; nothing was sent")
     if not begun:
-        begin(state, work.digest)
+        begin(state, work.digest, office.name)
     for bucket in work.buckets:
         status, found = office.ask("PUT", bucket_target(bucket))
         if status not in (201, 400) and found.get("error") != "BucketExists":
