@@ -77,7 +77,7 @@ def main():
     check("the tool reads to the end", (0, ""), (status, note))
     bucket = BUCKET.decode()
     wanted = [{"kind": "create-bucket", "bucket": bucket}]
-    wanted += [{"kind": "put", "bucket": bucket, "key": key, "size": size, "class": name} for key, size, name in PUTS]
+    wanted += [{"kind": "put", "bucket": bucket, "key": key, "size": size, "class": name, "tags": {}} for key, size, name in PUTS]
     found = [{name: it[name] for name in it if name not in (*MOMENT, "offset")} for it in lines]
     check("the entries are the commands that were accepted, in order", wanted, found)
     moments = [it.partition('"moment":"')[2][:24] for it in said.decode().split("HTTP/1.1 ")[2:]]

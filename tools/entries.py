@@ -53,22 +53,33 @@ class Fields:
     def storage_class(self):
         return CLASSES[self.below(1, "class", len(CLASSES))]
 
-    def no_tags(self):
-        self.below(1, "number of tags", 1)
+    def text(self, least, most, what):
+        """A text of so many characters, with its length in bytes before it."""
+        try:
+            found = self.take(self.number(2, what), what).decode("utf-8")
+        except UnicodeDecodeError:
+            raise Damaged(f"the {what} is not UTF-8") from None
+        if not least <= len(found) <= most:
+            raise Damaged(f"the {what} has {len(found)} characters")
+        return found
+
+    def tags(self):
+        found, last = {}, b""
+        for _ in range(self.below(1, "number of tags", 11)):
+            key = self.text(1, 128, "tag's key")
+            if key.encode() <= last:
+                raise Damaged("the tags are not in the order of their keys")
+            last = key.encode()
+            found[key] = self.text(0, 256, "tag's value")
+        return found
 
 
-def create_bucket(fields):
-    return {"kind": "create-bucket", "bucket": fields.bucket()}
-
-
-def put(fields):
-    found = {"kind": "put", "bucket": fields.bucket(), "key": fields.key(), "size": fields.size(),
-             "class": fields.storage_class()}
-    fields.no_tags()
-    return found
-
-
-KINDS = {0x01: create_bucket, 0x05: put}
+# Of each kind its name, and its fields in their order with the reader of each.
+BUCKET, KEY, TAGS = ("bucket", Fields.bucket), ("key", Fields.key), ("tags", Fields.tags)
+KINDS = {
+    0x01: ("create-bucket", BUCKET),
+    0x05: ("put", BUCKET, KEY, ("size", Fields.size), ("class", Fields.storage_class), TAGS),
+}
 
 
 def read_entry(entry, before):
@@ -78,7 +89,8 @@ def read_entry(entry, before):
     kind = fields.number(1, "kind")
     if kind not in KINDS:
         raise Damaged(f"the kind {kind:02x} is unknown")
-    found = KINDS[kind](fields)
+    name, *readers = KINDS[kind]
+    found = {"kind": name, **{field: reader(fields) for field, reader in readers}}
     if fields.rest:
         raise Damaged("bytes follow the last field of the entry")
     if ms < before:
