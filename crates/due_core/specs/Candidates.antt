@@ -2,7 +2,7 @@
 use Rattle.std.specs.Prelude.{ℕ, max, List, [], ◌++◌, map, filter, flat_map, nat_lt, nat_le, Option, Some, None}
 use Rattle.std.specs.List.{enumerate_from}
 use Rattle.moments.specs.Time.{end_of_time}
-use Rattle.rules_core.specs.Matching.{has_prefix}
+use Rattle.rules_core.specs.Matching.{matches_upload}
 use Rattle.rules_core.specs.Configurations.{Configuration}
 use Rattle.rules_core.specs.declared.rule.Rule.{Rule}
 use Rattle.stacks.specs.Stacks.{StackRecord}
@@ -44,7 +44,7 @@ abbrev pub upload_candidates : BucketRecord → Configuration → ℕ × UploadR
 upload_candidates bucket rules (number, upload) = flat_map
     (λ numbered. timely upload.key (target.Upload number) numbered.0 number (max upload.changed bucket.rules_since)
     (upload_actions numbered.1 upload))
-    (filter (λ numbered. has_prefix numbered.1.filter upload.key) (enabled_rules rules))
+    (filter (λ numbered. matches_upload numbered.1.filter upload.key) (enabled_rules rules))
 
 abbrev pub eligible_by : BucketRecord → Option Configuration → List Candidate
 eligible_by bucket None = []
