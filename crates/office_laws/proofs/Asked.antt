@@ -7,7 +7,7 @@ use Rattle.std.proofs.lemmas.Bool.Decides.{nat_tests}
 use Rattle.moments.specs.Time.{end_of_time}
 use Rattle.office_base.specs.Maps.{at_name, at_number}
 use Rattle.class_rules.specs.Classes.{may_move, rank_of}
-use Rattle.rules_core.specs.Matching.{size_admits, has_prefix}
+use Rattle.rules_core.specs.Matching.{size_admits, matches_upload}
 use Rattle.class_rules.specs.declared.class.Class.{Class}
 use Rattle.class_rules.specs.declared.class.Class.TheVariants.{Standard, StandardIa, OnezoneIa, GlacierIr, Glacier, DeepArchive}
 use Rattle.office_base.specs.declared.version_id.VersionId.{VersionId}
@@ -209,7 +209,7 @@ module _ (bucket : BucketRecord) where
       (λ numbered _. timely_suit upload.key (target.Upload number) numbered.0 number _ (λ (due : ActionKind × ℕ). due.0 ≡ action.Abort)
       (λ due is. (is, found)) _
       (every_map (λ (days : ℕ). Unit {0}) (λ (due : ActionKind × ℕ). due.0 ≡ action.Abort) _ (λ days _. refl) (option_to_list numbered.1.abort_days) (every (λ (days : ℕ). Unit {0}) (λ days. tt) _)))
-      (filter (λ numbered. has_prefix numbered.1.filter upload.key) (enabled_rules rules)) (every (λ (numbered : ℕ × Rule). Unit {0}) (λ numbered. tt) _)
+      (filter (λ numbered. matches_upload numbered.1.filter upload.key) (enabled_rules rules)) (every (λ (numbered : ℕ × Rule). Unit {0}) (λ numbered. tt) _)
 
   eligible_suit_by : IsTidy bucket → (rules : Option Configuration) → AllByRecursion SuitsCandidate (eligible_by bucket rules)
   eligible_suit_by tidy None = tt

@@ -6,7 +6,7 @@ use Rattle.std.specs.List.{AllByRecursion}
 use Rattle.std.proofs.lemmas.Bool.Decides.{nat_tests}
 use Rattle.moments.specs.Time.{end_of_time}
 use Rattle.office_base.specs.Maps.{bytes_cmp, at_name, with_name, without_name, with_number, without_number, Rises}
-use Rattle.rules_core.specs.Matching.{is_empty, has_prefix}
+use Rattle.rules_core.specs.Matching.{is_empty, matches_upload}
 use Rattle.rules_core.specs.declared.rule.Rule.{Rule}
 use Rattle.rules_core.specs.Configurations.{Configuration}
 use Rattle.stacks.specs.declared.version.Versioning.{Versioning}
@@ -207,7 +207,7 @@ module _ (until : ℕ) where
   late_upload bucket rules number upload le =
       every_flat_map (λ (numbered : ℕ × Rule). Unit {0}) IsSince _
       (λ numbered _. late upload.key (target.Upload number) numbered.0 number (max upload.changed bucket.rules_since) (upload_actions numbered.1 upload) le)
-      (filter (λ numbered. has_prefix numbered.1.filter upload.key) (enabled_rules rules)) (every (λ (numbered : ℕ × Rule). Unit {0}) (λ numbered. tt) _)
+      (filter (λ numbered. matches_upload numbered.1.filter upload.key) (enabled_rules rules)) (every (λ (numbered : ℕ × Rule). Unit {0}) (λ numbered. tt) _)
 
   -- of each stack and of each upload
   module _ (bucket : BucketRecord) (rules : Configuration) where

@@ -9,7 +9,7 @@ use Rattle.std.specs.Cmp.{ranked}
 use Rattle.std.proofs.lemmas.Bool.{leb-true, leb-false}
 use Rattle.moments.specs.Time.{end_of_time}
 use Rattle.office_base.specs.Maps.{at_name, at_number, bytes_cmp, Rises}
-use Rattle.rules_core.specs.Matching.{has_prefix}
+use Rattle.rules_core.specs.Matching.{matches_upload}
 use Rattle.class_rules.specs.declared.class.Class.{Class}
 use Rattle.office_base.specs.declared.version_id.VersionId.{VersionId}
 use Rattle.rules_core.specs.declared.rule.Rule.{Rule}
@@ -136,7 +136,7 @@ module _ (bucket : BucketRecord) where
       (λ numbered _. timely_targets upload.key (target.Upload number) numbered.0 number (max upload.changed bucket.rules_since)
       (λ (due : ActionKind × ℕ). Unit {0}) (λ due _. (upload, found, omega arith))
       (upload_actions numbered.1 upload) (every (λ (due : ActionKind × ℕ). Unit {0}) (λ due. tt) _))
-      (filter (λ numbered. has_prefix numbered.1.filter upload.key) (enabled_rules rules)) (every (λ (numbered : ℕ × Rule). Unit {0}) (λ numbered. tt) _)
+      (filter (λ numbered. matches_upload numbered.1.filter upload.key) (enabled_rules rules)) (every (λ (numbered : ℕ × Rule). Unit {0}) (λ numbered. tt) _)
 
   targets_by : Rises bytes_cmp bucket.stacks → Rises nat_cmp bucket.uploads → (rules : Option Configuration) → AllByRecursion TargetOf (eligible_by bucket rules)
   targets_by keys numbers None = tt
