@@ -106,7 +106,7 @@ not_alone : eligible (bucket versioning.Enabled (expires ∷ []) (marker 2 ∷ o
 unfolding eligible version_actions
 not_alone = refl
 
--- or it goes at the midnight after the last change
+-- or it goes at the last change, rounded up to a midnight
 abbrev clears : Rule
 clears = record no_action { expiration = Some (record { days = None; date = None; lone_marker = true }) }
 

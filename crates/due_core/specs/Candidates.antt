@@ -18,8 +18,8 @@ use Rattle.due_core.specs.declared.action.Candidate.{Candidate}
 abbrev pub enabled_rules : Configuration → List (ℕ × Rule)
 enabled_rules rules = filter (λ numbered. numbered.1.enabled) (enumerate_from 1 rules.rules)
 
--- the actions on one target by one rule: what is due after the end of time is left out, and no action stands before
--- the moment at which its target or the bucket's rules changed last (own)
+-- the actions on one target by one rule: what is not due before the end of time is left out, and no action stands
+-- before the moment at which its stack or upload, or the bucket's rules or versioning, changed last (own)
 abbrev pub timely : List ℕ → Target → ℕ → ℕ → ℕ → List DueAction → List Candidate
 timely key target rule age not_before asked =
     map (λ due. record {

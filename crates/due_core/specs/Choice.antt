@@ -13,8 +13,7 @@ use Rattle.due_core.specs.declared.action.ActionKind.TheVariants.{Remove, Transi
 use Rattle.due_core.specs.declared.action.Action.{Action}
 use Rattle.due_core.specs.declared.action.Candidate.{Candidate}
 
--- a permanent deletion goes before a transition, a transition before a delete marker (S3 User Guide, "Examples of S3
--- Lifecycle configurations": conflicting lifecycle rules)
+-- a permanent deletion goes before a transition, a transition before a delete marker, and an abort comes last (own)
 abbrev pub kind_place : ActionKind → ℕ
 kind_place Remove = 0
 kind_place (Transition to) = 1
@@ -27,7 +26,7 @@ coldness (Transition to) = rank_of to
 coldness kind = 0
 
 -- by the moment; then the kind; the key; the older version or lower upload number; the colder class; the place of the
--- rule (own: that the earlier moment goes first, and all after the kind but the colder class)
+-- rule (own: the whole order)
 abbrev pub precedence : Candidate → Candidate → Ordering
 precedence a b =
     ordering_then (nat_cmp a.action.since b.action.since)

@@ -12,8 +12,8 @@ use Rattle.office_types.specs.declared.reply.LineKind.TheVariants.{Storage, Earl
 use Rattle.office_types.specs.declared.reply.ReportLine.{ReportLine}
 use Rattle.plain_office.specs.Office.{Office, book_of}
 
--- a quantity of byte-milliseconds, also an early one, at the price of storage (S3 User Guide, "Understanding your AWS
--- billing and usage reports for Amazon S3")
+-- a quantity of byte-milliseconds (S3 User Guide, "Understanding your AWS billing and usage reports for Amazon
+-- S3"), also an early one, at the price of storage (own)
 abbrev pub storage_line : LineKind → Prices → ℕ → List ℕ → Class → ℕ → ReportLine
 storage_line kind tariff month name class quantity = let price = storage_price tariff class in record {
   bucket = name;
@@ -53,7 +53,7 @@ tariff_for month office = kept_or (at_number month office.closed) where
   kept_or (Some tariff) = Some tariff
 
 -- the lines of a month's report, as seen at the moment: buckets in the byte order of their names, classes from the
--- warmest
+-- warmest (own order)
 unfoldable pub report_lines : Prices → ℕ → ℕ → Office → List ReportLine
 report_lines tariff month t office =
     flat_map (λ account. flat_map (class_lines tariff month t account.0 (book_of account.1.books)) all_classes)

@@ -220,6 +220,7 @@ create_bucket t name office =
     refuse_if (is_some (at_name name office.accounts)) BucketExists
     (record office { accounts = with_name name (new_account t) office.accounts }, BucketMade name)
 
+-- the prices of now, in place of those before (own)
 abbrev pub set_tariff : Prices → Office → Outcome
 set_tariff tariff office = Ok (record office { tariff = Some tariff }, TariffSet)
 
@@ -252,7 +253,7 @@ close t month office =
       unless_due (due_before t (month_end month) office.accounts)
           (record office { closed = office.closed ++ (month, tariff) ∷ [] }, Closed month)
 
--- a deletion here puts a marker, and so adds to the versions
+-- a delete in this bucket puts a marker, and so adds to the versions
 abbrev pub adds_marker : List ℕ → Office → Bool
 adds_marker name office = kept (at_name name office.accounts) where
   kept : Option Account → Bool
@@ -287,11 +288,11 @@ outcome t (command.Close month) office = close t month office
 
 -- ---- a step
 
--- an accepted command sets the last moment, and the first one the first month
+-- an accepted command sets the last moment, and the first one the first month (own)
 abbrev pub accepted : ℕ → Office → Office
 accepted t office = record office { last = Some t; first_month = Some (unwrap_or office.first_month (month_at t)) }
 
--- a refused command leaves the office, and so does an act that found nothing due
+-- a refused command leaves the office, and so does an act that found nothing due (own)
 abbrev pub settled : ℕ → Office → Outcome → Office × Result Reply Refusal
 settled t before (Err refusal) = (before, Err refusal)
 settled t before (Ok (after, NothingDue)) = (before, Ok NothingDue)
