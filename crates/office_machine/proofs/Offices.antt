@@ -18,9 +18,9 @@ use Rattle.plain_office.specs.declared.command.Command.TheVariants as command
 use Rattle.plain_office.specs.declared.command.Query.TheVariants as query
 use Rattle.plain_office.specs.declared.object.Object.{Object}
 use Rattle.plain_office.specs.declared.reply.Reply.TheVariants.{BucketMade, Stored, BucketShown, MetersShown}
-use Rattle.plain_office.specs.declared.reply.Refusal.{Refusal}
-use Rattle.plain_office.specs.declared.reply.Refusal.TheVariants.{BucketExists, NoSuchBucket, Full, NoMemory}
-use Rattle.plain_office.specs.declared.reply.What.TheVariants.{Buckets, Versions, Names}
+use Rattle.plain_office.specs.declared.refusal.Refusal.{Refusal}
+use Rattle.plain_office.specs.declared.refusal.Refusal.TheVariants.{BucketExists, NoSuchBucket, Full, NoMemory}
+use Rattle.plain_office.specs.declared.refusal.What.TheVariants.{Buckets, Versions, Names}
 use Rattle.plain_office.proofs.Counting.{with_accounts, created_counts, put_versions, put_names, count_any_time, versions_within}
 use Rattle.plain_office.proofs.OrderlyAccounts.{orderly_by, booked_by}
 use Rattle.office_machine.specs.Standing.{Records, BucketRecords, StandsForBucket, StandForAccounts, StandsForOffice, Does}

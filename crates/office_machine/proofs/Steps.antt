@@ -12,9 +12,9 @@ use Rattle.plain_office.specs.declared.command.Command.TheVariants as command
 use Rattle.plain_office.specs.declared.object.Object.{Object}
 use Rattle.plain_office.specs.declared.reply.Reply.{Reply}
 use Rattle.plain_office.specs.declared.reply.Reply.TheVariants.{BucketMade, Stored}
-use Rattle.plain_office.specs.declared.reply.Refusal.{Refusal}
-use Rattle.plain_office.specs.declared.reply.Refusal.TheVariants.{BucketExists, NoSuchBucket, Full}
-use Rattle.plain_office.specs.declared.reply.What.TheVariants.{Buckets, Versions, Names}
+use Rattle.plain_office.specs.declared.refusal.Refusal.{Refusal}
+use Rattle.plain_office.specs.declared.refusal.Refusal.TheVariants.{BucketExists, NoSuchBucket, Full}
+use Rattle.plain_office.specs.declared.refusal.What.TheVariants.{Buckets, Versions, Names}
 use Rattle.plain_office.proofs.Counting.{with_accounts, created_counts}
 use Rattle.office_machine.specs.Counting.{counted}
 
