@@ -8,6 +8,7 @@ use Rattle.std.specs.Ordering.{match_ordering, is_eq, is_lt, ordering_reverse}
 use Rattle.std.specs.Map.{set_value}
 use Rattle.std.specs.BTreeMap.{is_at}
 use Rattle.std.proofs.lemmas.Cmp.{nat_list_cmp_total}
+use Rattle.std.proofs.lemmas.Map.Steps.{set_value_same}
 use Rattle.office_base.specs.Maps.{bytes_cmp, at_name, with_name, Rises}
 use Rattle.plain_office.specs.Office.{Account}
 use Rattle.office_laws.proofs.Lists.{held_every}
@@ -99,17 +100,10 @@ module _ (name : List ℕ) where
     stand_set buckets accounts old h rises is =
         subst (λ (l : List (List ℕ × Account)). StandForAccounts (set_value (is_at (bytes_cmp name)) buckets written) l) (set_is_with name plain old accounts rises is) (stand_places buckets accounts h)
 
--- one set in its place whose bucket stands for the same
-module _ (name : List ℕ) (written records : AccountRecord) (kept : (account : Account) → StandsForAccount records account → StandsForAccount written account) where
-  kept_at : (here : Bool) (first : List ℕ × AccountRecord) (account : List ℕ × Account) (o : Option AccountRecord) (buckets rest : List (List ℕ × AccountRecord)) (accounts : List (List ℕ × Account)) → StandsForEntry first account → StandForAccounts buckets accounts
-      → cond here (Some first.1) o ≡ Some records → (o ≡ Some records → StandForAccounts rest accounts) → StandForAccounts (cond here ((first.0, written) ∷ buckets) (first ∷ rest)) (account ∷ accounts)
-  kept_at true first account o buckets rest accounts h all found more =
-      let same : first.1 ≡ records = cc in
-      (record { name = h.name; account = kept account.1 (subst (λ (r : AccountRecord). StandsForAccount r account.1) same h.account) }, all)
-  kept_at false first account o buckets rest accounts h all found more = (h, more found)
-
-  pub stand_kept : (buckets : List (List ℕ × AccountRecord)) (accounts : List (List ℕ × Account)) → StandForAccounts buckets accounts → at_name name buckets ≡ Some records → StandForAccounts (set_value (is_at (bytes_cmp name)) buckets written) accounts
-  stand_kept [] [] h found = tt
-  stand_kept [] (account ∷ accounts) h found = absurd h
-  stand_kept (first ∷ buckets) [] h found = absurd h
-  stand_kept (first ∷ buckets) (account ∷ accounts) h found = kept_at (is_at (bytes_cmp name) first.0) first account (at_name name buckets) buckets _ accounts h.0 h.1 found (stand_kept buckets accounts h.1)
+    -- one set in its place that stands for what is there
+    pub stand_one : (buckets : List (List ℕ × AccountRecord)) (accounts : List (List ℕ × Account)) → StandForAccounts buckets accounts → Rises bytes_cmp accounts → at_name name accounts ≡ Some plain
+        → StandForAccounts (set_value (is_at (bytes_cmp name)) buckets written) accounts
+    stand_one buckets accounts h rises is =
+        subst (λ (l : List (List ℕ × Account)). StandForAccounts (set_value (is_at (bytes_cmp name)) buckets written) l)
+        (sym (set_is_with name plain plain accounts rises is) ∙ set_value_same (is_at (bytes_cmp name)) accounts plain is)
+        (stand_set buckets accounts plain h rises is)

@@ -4,9 +4,11 @@ use Rattle.std.specs.Prelude.{Some, nat_lt}
 use Rattle.std.proofs.lemmas.List.{map-append}
 use Rattle.office_base.specs.Tags.{Tag}
 use Rattle.class_rules.specs.Classes.{least_stay}
-use Rattle.class_rules.specs.Lines.{own_bytes}
+use Rattle.class_rules.specs.Lines.{own_bytes, object_lines, lines_of}
+use Rattle.class_rules.specs.declared.billing.Lines.{Lines}
 use Rattle.class_rules.specs.declared.class.Class.{Class}
-use Rattle.stacks.specs.declared.version.Kind.TheVariants.{Object}
+use Rattle.stacks.specs.declared.version.Kind.{Kind}
+use Rattle.stacks.specs.declared.version.Kind.TheVariants.{Object, Marker}
 use Rattle.stacks.specs.declared.version.Version.{Version}
 use Rattle.accrual.specs.Books.{Book, Stay, Early, open_stay, ended_stay, with_stay, with_early}
 use Rattle.accrual.specs.Totals.{Totals, StandsFor, HasOpenStay, with_early_of}
@@ -72,3 +74,45 @@ pub begun_is : (key : List ℕ) (version : Version) (at : ℕ) (books : Books)
 begun_is key version at books =
     ap (λ (stays : List Stay). record { stays = stays; early = books.early; moves = books.moves })
     (sym (map-append stay_in books.stays ((record { key = key; item = of_version version.id }, open_stay (lines_of_kind key version.kind) at) ∷ [])))
+
+-- ---- a version goes, as its kind says
+
+-- what the meters say of the end of a stay
+abbrev pub Ends : Totals → Totals → ℕ → List (Class × ℕ) → ℕ → Type 0
+Ends old new at lines from = (book : Book) (front back : List Stay) → StandsFor old book → book.stays ≡ front ++ open_stay lines from ∷ back
+    → StandsFor new (record book { stays = front ++ ended_stay lines from at ∷ back })
+
+module _ (key : List ℕ) (version : Version) (at : ℕ) (books : Books) (has : HasStay key version books) where
+  abbrev of_kind : Kind → Version
+  of_kind kind = record version { kind = kind }
+
+  module _ (kind : Kind) (is : version.kind ≡ kind) (lines : List (Class × ℕ)) (same : lines ≡ lines_of_kind key kind) where
+    pub opened : HasOpenStay lines (lines_since (of_kind kind)) (book_of books)
+    opened =
+        subst (λ (l : List (Class × ℕ)). HasOpenStay l (lines_since (of_kind kind)) (book_of books)) (sym same)
+        (subst (λ (k : Kind). HasOpenStay (lines_of_kind key k) (lines_since (of_kind k)) (book_of books)) is (has_open key version at books has))
+
+    pub gone : (old new : Totals) → StandsFor old (book_of books) → Ends old new at lines (lines_since (of_kind kind)) → StandsFor new (book_of (with_end key (of_version version.id) at books))
+    gone old new stands ends =
+        stay_ended key version at books has old new stands
+        (subst (λ (k : Kind). Ends old new at (lines_of_kind key k) (lines_since (of_kind k))) (sym is)
+        (subst (λ (l : List (Class × ℕ)). Ends old new at l (lines_since (of_kind kind))) same ends))
+
+  pub object_gone : (size : ℕ) (class : Class) (tags : List Tag) (entered : ℕ) → version.kind ≡ Object size class tags entered → (lines : Lines) → lines_of lines ≡ object_lines class size → lines.class ≡ class → lines.bytes ≡ own_bytes class size
+      → (old middle new : Totals) → StandsFor old (book_of books) → Ends old middle at (lines_of lines) entered → ((book : Book) → StandsFor middle book → StandsFor new (with_early_of lines.class lines.bytes entered at book))
+      → StandsFor new (book_of (plain.without_version key version at books))
+  object_gone size class tags entered is lines same of_class own old middle new stands ends owes =
+      let left : Books = with_end key (of_version version.id) at books in
+      let ended : StandsFor middle (book_of left) = gone (Object size class tags entered) is (lines_of lines) same old middle stands ends in
+      let owed : StandsFor new (with_early_of lines.class lines.bytes entered at (book_of left)) = owes (book_of left) ended in
+      let of_the_class : StandsFor new (with_early_of class lines.bytes entered at (book_of left)) = subst (λ (c : Class). StandsFor new (with_early_of c lines.bytes entered at (book_of left))) of_class owed in
+      let of_bytes : StandsFor new (with_early_of class (own_bytes class size) entered at (book_of left)) = subst (λ (n : ℕ). StandsFor new (with_early_of class n entered at (book_of left))) own of_the_class in
+      subst (λ (k : Kind). StandsFor new (book_of (plain.with_early k at left))) (sym is)
+      (subst (StandsFor new) (early_is size class tags entered at left) of_bytes)
+
+  pub marker_gone : version.kind ≡ Marker → (lines : List (Class × ℕ)) → lines ≡ lines_of_kind key Marker → (old new : Totals) → StandsFor old (book_of books) → Ends old new at lines version.created
+      → StandsFor new (book_of (plain.without_version key version at books))
+  marker_gone is lines same old new stands ends =
+      let left : Books = with_end key (of_version version.id) at books in
+      let ended : StandsFor new (book_of left) = gone Marker is lines same old new stands ends in
+      subst (λ (k : Kind). StandsFor new (book_of (plain.with_early k at left))) (sym is) ended

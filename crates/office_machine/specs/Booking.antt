@@ -3,6 +3,8 @@ use Rattle.std.specs.Prelude.{◌≡◌, ℕ, ◌+◌, ◌-◌, ◌≤◌, List,
 use Rattle.std.specs.List.{filter}
 use Rattle.office_base.specs.Tags.{Tag}
 use Rattle.moments.specs.Months.{month_at}
+use Rattle.stacks.specs.declared.version.Versioning.{Versioning}
+use Rattle.stacks.specs.declared.version.Versioning.TheVariants.{Unversioned, Enabled, Suspended}
 use Rattle.stacks.specs.declared.version.Kind.{Kind}
 use Rattle.stacks.specs.declared.version.Kind.TheVariants.{Object}
 use Rattle.stacks.specs.declared.version.Version.{Version}
@@ -45,6 +47,12 @@ IsSinceBy at None = Unit {0}
 IsSinceBy at (Some version) = lines_since version ≤ at
 
 -- ---- an object that is put
+
+-- the number of the next version, after one came
+abbrev pub next_after : Versioning → ℕ → ℕ
+next_after Unversioned number = number
+next_after Enabled number = number + 1
+next_after Suspended number = number
 
 abbrev pub kind_of : Incoming → Kind
 kind_of object = Object object.size object.class object.tags object.at

@@ -30,6 +30,11 @@ abbrev pub limits_of : Command → List What
 limits_of (command.Put name key size class tags) = Versions ∷ Names ∷ []
 limits_of other = []
 
+-- a command that is done on this bucket
+abbrev pub IsOnBucket : List ℕ → Command → Type 0
+IsOnBucket bucket (command.Put name key size class tags) = bucket ≡ name
+IsOnBucket bucket other = ⊥
+
 -- what a change has to know of its account: its records are orderly at the moment, and its stays open as they ask
 pub record IsOrderlyAccount (t : ℕ) (account : Account) : Type 0 where
   pub bucket : IsOrderlyBucket t account.bucket

@@ -1,5 +1,5 @@
 // A bucket in memory: its records, its meters and its running count of versions.
-ghost use Rattle.std.specs.Prelude.{◌≡◌, ◌×◌, ◌+◌, ◌*◌, ◌<◌, ◌≤◌, ℕ, length, OnOk, OnErr, IfOk};
+ghost use Rattle.std.specs.Prelude.{◌≡◌, ◌+◌, ◌*◌, ◌<◌, ◌≤◌, ℕ, length, OnOk, OnErr, IfOk};
 ghost use Rattle.accrual.specs.Books.{IsBookedBy};
 ghost use Rattle.accrual.specs.Totals.{StandsFor};
 ghost use Rattle.plain_office.specs.Office as plain;
@@ -104,7 +104,7 @@ impl Account {
 
     /// Counts the unfinished uploads.
     pub(crate) fn uploads(&self) -> u32
-        requires few { length self.now.bucket.uploads ≤ 20_000 }
+        requires few { length self.now.bucket.uploads ≤ 40_000 }
         ensures { result ≡ length self.now.bucket.uploads }
     {
         self.bucket.uploads.len() as u32

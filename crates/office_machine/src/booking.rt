@@ -1,13 +1,13 @@
 // How the coming and going of versions is booked.
-ghost use Rattle.std.specs.Prelude.{◌≡◌, ◌×◌, ◌+◌, ◌<◌, ◌≤◌, ℕ, OnOk, IfErr};
-ghost use Rattle.class_rules.specs.Lines.{lines_of, object_lines, own_bytes};
+ghost use Rattle.std.specs.Prelude.{◌≡◌, ◌+◌, ◌<◌, ◌≤◌, ℕ, length, OnOk, IfErr};
+ghost use Rattle.class_rules.specs.Lines.{lines_of, object_lines, own_bytes, marker_line};
 ghost use Rattle.moments.specs.Months.{month_at};
 ghost use Rattle.accrual.specs.Books.{Book};
 ghost use Rattle.accrual.specs.Totals.{StandsFor, HasRow, IsBilled, most_bookings};
 ghost use Rattle.plain_office.specs.Office.{Books, book_of};
-ghost use Rattle.plain_office.specs.Books.{lines_of_kind, without_version, without_option};
+ghost use Rattle.plain_office.specs.Books.{without_version, without_option};
 ghost use Rattle.plain_office.specs.Orderly.{lines_since};
-ghost use Rattle.office_machine.specs.Booking.{HasStay, MayHaveStay, IsLater, HasRowsFrom};
+ghost use Rattle.office_machine.specs.Booking.{HasStay, MayHaveStay, MayHaveRows, IsSinceBy, HasRowsFrom};
 
 use accrual::Meters;
 use class_rules::{Class, Lines, billed, marker_lines};
@@ -75,7 +75,7 @@ pub(crate) fn end_version(meters: &mut Meters, key: &Key, version: &Version, at:
 
 /// Books that a version goes, where there is one.
 pub(crate) fn end_replaced(meters: &mut Meters, key: &Key, gone: &Option<Version>, at: Moment)
-    requires later { IsLater gone.now at }
+    requires later { IsSinceBy at gone.now }
     requires rows { MayHaveRows gone.now at meters.old }
     requires few { meters.old.booked < most_bookings }
     requires open { (books : Books) × StandsFor meters.old (book_of books) × MayHaveStay key.now gone.now books }

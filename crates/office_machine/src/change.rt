@@ -1,5 +1,5 @@
 // What a command does to its bucket.
-ghost use Rattle.std.specs.Prelude.{◌≡◌, ◌×◌, ◌+◌, ◌<◌, ◌≤◌, ℕ, OnOk, OnErr, IfOk};
+ghost use Rattle.std.specs.Prelude.{◌≡◌, ◌+◌, ◌<◌, ◌≤◌, ℕ, OnOk, OnErr, IfOk};
 ghost use Rattle.plain_office.specs.Office as plain;
 ghost use Rattle.office_machine.specs.Changing.{change_of, limits_of, IsOrderlyAccount, DoesTold};
 ghost use Rattle.office_machine.specs.Counting.{account_of, AreCountsOver, HasRoom, HasGrownBy};

@@ -1,7 +1,6 @@
 // How much there is of each kind that has a limit.
-ghost use Rattle.std.specs.Prelude.{◌≡◌, ◌×◌, ◌⊎◌, Some, None, IfOk, IfErr};
+ghost use Rattle.std.specs.Prelude.{◌≡◌, Some, None, nat_lt, IfOk, IfErr};
 ghost use Rattle.plain_office.specs.Counts.{limit_of};
-ghost use Rattle.office_types.specs.declared.refusal.What.{What};
 ghost use Rattle.office_machine.specs.Counting.{amount, first_over};
 
 use office_types::{Refusal, What};

@@ -31,6 +31,7 @@ pub(crate) struct Leaving {
     pub(crate) tag_bytes: u64,
 }
 
+#[tactic(auto, using(crate::proofs::TagSizes::tag_most))]
 fn pair_bytes(pairs: &[(String, String)]) -> u64
     requires tags { IsTrue (list_all is_tag (tags_of pairs.now)) }
     requires few { length (tags_of pairs.now) ≤ 10 }
@@ -63,7 +64,7 @@ pub(crate) fn since(version: &Version) -> Moment
     }
 }
 
-fn leaving(version: &Version) -> Leaving
+fn leave_of(version: &Version) -> Leaving
     ensures { result ≡ leaving_of version.now }
 {
     let tag_bytes = match &version.kind {
@@ -83,7 +84,7 @@ fn leaving_null(versions: &[Version]) -> Option<Leaving>
         .iter()
         .find(|version| version.id == VersionId::Null)
     {
-        Some(version) => Some(leaving(version)),
+        Some(version) => Some(leave_of(version)),
         None => None,
     }
 }

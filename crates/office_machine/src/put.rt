@@ -1,16 +1,16 @@
 // An object is put.
-ghost use Rattle.std.specs.Prelude.{◌≡◌, ◌×◌, ◌⊎◌, ◌+◌, ◌*◌, ◌^◌, ◌<◌, ◌≤◌, ◌∷◌, [], ℕ, None, Some, length, option_map, OnOk, OnErr, IfOk, IfErr};
+ghost use Rattle.std.specs.Prelude.{◌≡◌, ◌⊎◌, ◌+◌, ◌*◌, ◌^◌, ◌<◌, ◌≤◌, ◌∷◌, [], ℕ, None, Some, length, option_map, OnOk, OnErr, IfOk, IfErr};
 ghost use Rattle.office_base.specs.Maps.{at_name, with_name};
 ghost use Rattle.stacks.specs.Stacks.{IsFree, new_id, replaced, after_adding, new_stack};
 ghost use Rattle.accrual.specs.Books.{Book};
 ghost use Rattle.accrual.specs.Totals.{StandsFor, most_bookings};
 ghost use Rattle.plain_office.specs.Office.{Books, Account, book_of};
-ghost use Rattle.plain_office.specs.Counts.{tag_bytes};
+ghost use Rattle.plain_office.specs.Counts.{limit_of, tag_bytes};
 ghost use Rattle.plain_office.specs.Step.{put_object};
 ghost use Rattle.office_types.specs.declared.refusal.What.TheVariants.{Versions, Names};
-ghost use Rattle.office_machine.specs.Booking.{leaving_of, kind_of, books_put, counts_put, gone_bytes, MayHaveStay};
+ghost use Rattle.office_machine.specs.Booking.{leaving_of, kind_of, books_put, counts_put, gone_bytes, next_after, MayHaveStay, IsSinceBy};
 ghost use Rattle.office_machine.specs.Changing.{IsOrderlyAccount, DoesTold};
-ghost use Rattle.office_machine.specs.Counting.{AreCountsOver};
+ghost use Rattle.office_machine.specs.Counting.{AreCountsOver, first_over};
 ghost use Rattle.office_machine.specs.Standing.{StandsForAccount};
 
 use crate::booking::{end_replaced, object_billed, reserve};
