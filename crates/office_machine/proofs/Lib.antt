@@ -1,7 +1,7 @@
 pub mod Accounts
-pub mod Bookings
-pub mod Offices
-pub mod Rebooked
-pub mod Replaced
-pub mod Runs
+pub mod Sums
+pub mod Ending
+pub mod Once
+pub mod Room
 pub mod Steps
+pub mod TagSizes

@@ -5,7 +5,7 @@ use Rattle.moments.specs.Months.{month_at}
 use Rattle.office_base.specs.Maps.{at_name, with_name}
 use Rattle.plain_office.specs.Office.{Office, Account}
 use Rattle.plain_office.specs.Counts.{limit_of, first_full}
-use Rattle.plain_office.specs.Step.{Outcome, on_bucket, within, unless_full, settled, accepted, outcome, step, is_accepted, new_account}
+use Rattle.plain_office.specs.Step.{Change, Outcome, on_bucket, within_limits, unless_full, settled, accepted, outcome, step, is_accepted, new_account}
 use Rattle.office_types.specs.declared.command.Command.{Command}
 use Rattle.office_types.specs.declared.command.Command.TheVariants as command
 use Rattle.office_types.specs.declared.reply.Reply.{Reply}
@@ -14,7 +14,7 @@ use Rattle.office_types.specs.declared.refusal.Refusal.{Refusal}
 use Rattle.office_types.specs.declared.refusal.Refusal.TheVariants.{NoSuchBucket, BucketExists, Full}
 use Rattle.office_types.specs.declared.refusal.What.{What}
 use Rattle.office_types.specs.declared.refusal.What.TheVariants.{Buckets}
-use Rattle.office_machine.specs.Changing.{Told, change_of, limits_of, IsOnBucket}
+use Rattle.office_machine.specs.Changing.{change_of, limits_of, IsOnBucket}
 
 abbrev pub Answer : Type 0
 Answer = Result Reply Refusal
@@ -26,7 +26,7 @@ module _ (t : ℕ) (p : Office) where
 
   -- ---- a command on a bucket
 
-  outcome_on : (name : List ℕ) (asked : Command) → IsOnBucket name asked → outcome t asked p ≡ within (limits_of asked) (on_bucket name (change_of t asked) p)
+  outcome_on : (name : List ℕ) (asked : Command) → IsOnBucket name asked → outcome t asked p ≡ within_limits (limits_of asked) (on_bucket name (change_of t asked) p)
   unfolding outcome
   outcome_on name (command.Put bucket key size class tags) same = rw same refl
   outcome_on name other same = absurd same
@@ -44,12 +44,12 @@ module _ (t : ℕ) (p : Office) where
     abbrev pub placed : Account → Office
     placed after = record p { accounts = with_name name after p.accounts }
 
-    abbrev told_outcome : Told → Outcome
+    abbrev told_outcome : Change → Outcome
     told_outcome (Ok done) = Ok (placed done.0, done.1)
     told_outcome (Err refusal) = Err refusal
 
     module _ (account : Account) (there : at_name name p.accounts ≡ Some account) where
-      outcome_told : (told : Told) → change_of t asked account ≡ told → outcome t asked p ≡ within (limits_of asked) (told_outcome told)
+      outcome_told : (told : Change) → change_of t asked account ≡ told → outcome t asked p ≡ within_limits (limits_of asked) (told_outcome told)
       outcome_told (Ok done) is = outcome_on name asked on ∙ rw (there, is) refl
       outcome_told (Err refusal) is = outcome_on name asked on ∙ rw (there, is) refl
 

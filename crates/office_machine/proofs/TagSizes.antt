@@ -1,11 +1,13 @@
 -- How many bytes tags have.
 use Rattle.std.proofs.Common.{◌≡◌, ℕ, ◌+◌, ◌*◌, ◌≤◌, List, [], ◌∷◌, length, sym, subst, Bool, true, ◌&&◌, arith, length-append}
-use Rattle.std.specs.Prelude.{nat_le}
+use Rattle.std.specs.Prelude.{nat_le, get_or, String, string_bytes, IsTrue}
+use Rattle.std.specs.declared.alloc.Global.{Global}
+use Rattle.std.specs.List.{list_all}
 use Rattle.std.specs.Str.{is_utf8, chars, encode_utf8_all}
 use Rattle.std.specs.Char.{encode_utf8}
 use Rattle.std.proofs.lemmas.Str.{encodes-chars, len_utf8_bounds, length-encode, IsUtf8-from_is_utf8}
 use Rattle.std.proofs.lemmas.Bool.{and_parts, leb-true}
-use Rattle.office_base.specs.Tags.{Tag, char_count, is_tag}
+use Rattle.office_base.specs.Tags.{Tag, char_count, is_tag, tag_of, tags_of}
 
 encoded_most : (cs : List ℕ) → length (encode_utf8_all cs) ≤ 4 * length cs
 encoded_most [] = omega arith
@@ -34,3 +36,11 @@ tag_most tag is =
     let k = leb-true (char_count tag.0) 128 key.1 in
     let v = leb-true (char_count tag.1) 256 value.1 in
     omega (arith, a, b, k, v)
+
+-- the first of some tags
+pub first_most : (pairs : List (String Global × String Global)) (first : String Global × String Global) → IsTrue (list_all is_tag (tags_of pairs)) → 1 ≤ length pairs → first ≡ get_or pairs 0 first
+    → length (string_bytes first.0) + length (string_bytes first.1) ≤ 1_536
+first_most [] first tags some is = absurd (omega (arith, some))
+first_most (pair ∷ pairs) first tags some is =
+    let here = and_parts (is_tag (tag_of pair)) (list_all is_tag (tags_of pairs)) tags in
+    subst (λ (p : String Global × String Global). length (string_bytes p.0) + length (string_bytes p.1) ≤ 1_536) (sym is) (tag_most (tag_of pair) here.0)

@@ -1,14 +1,13 @@
 -- How a version's coming and going is booked, in meters that stand for a bucket's books.
-use Rattle.std.specs.Prelude.{◌≡◌, ℕ, ◌+◌, ◌-◌, ◌≤◌, List, [], ◌∷◌, Bool, true, false, Option, Some, None, length, if◌then◌else◌}
+use Rattle.std.specs.Prelude.{◌≡◌, ℕ, ◌+◌, ◌-◌, ◌≤◌, List, [], ◌∷◌, Bool, true, false, ◌^◌, Option, Some, None, is_some, unwrap_or, option_map, length, if◌then◌else◌}
 use Rattle.std.specs.List.{filter}
+use Rattle.office_base.specs.Maps.{at_name}
 use Rattle.office_base.specs.Tags.{Tag}
 use Rattle.moments.specs.Months.{month_at}
-use Rattle.stacks.specs.declared.version.Versioning.{Versioning}
-use Rattle.stacks.specs.declared.version.Versioning.TheVariants.{Unversioned, Enabled, Suspended}
 use Rattle.stacks.specs.declared.version.Kind.{Kind}
 use Rattle.stacks.specs.declared.version.Kind.TheVariants.{Object}
 use Rattle.stacks.specs.declared.version.Version.{Version}
-use Rattle.stacks.specs.Stacks.{new_id, new_version}
+use Rattle.stacks.specs.Stacks.{StackRecord, new_stack, new_id, new_version, replaced, after_adding, IsFree}
 use Rattle.accrual.specs.Totals.{Totals, HasRow}
 use Rattle.plain_office.specs.Office.{Books, of_version}
 use Rattle.plain_office.specs.Books.{is_open_stay, with_version, without_option}
@@ -48,22 +47,21 @@ IsSinceBy at (Some version) = lines_since version ≤ at
 
 -- ---- an object that is put
 
--- the number of the next version, after one came
-abbrev pub next_after : Versioning → ℕ → ℕ
-next_after Unversioned number = number
-next_after Enabled number = number + 1
-next_after Suspended number = number
+abbrev pub kind_of : Incoming → List Tag → Kind
+kind_of object tags = Object object.size object.class tags object.at
 
-abbrev pub kind_of : Incoming → Kind
-kind_of object = Object object.size object.class object.tags object.at
+abbrev pub version_of : Incoming → List Tag → Version
+version_of object tags = new_version (new_id object.versioning object.number) (kind_of object tags) object.at
 
-abbrev pub version_of : Incoming → Version
-version_of object = new_version (new_id object.versioning object.number) (kind_of object) object.at
+-- the stack after it came
+abbrev pub stack_put : Incoming → List Tag → StackRecord → StackRecord
+stack_put object tags stack =
+    after_adding (new_id object.versioning object.number) (kind_of object tags) object.at stack
 
 -- the books after it came in the place of one that may have been there
-abbrev pub books_put : List ℕ → Incoming → Option Version → Books → Books
-books_put key object gone books =
-    with_version key (version_of object) object.at (without_option key gone object.at books)
+abbrev pub books_put : List ℕ → Incoming → List Tag → Option Version → Books → Books
+books_put key object tags gone books =
+    with_version key (version_of object tags) object.at (without_option key gone object.at books)
 
 -- the counts after it came with so many bytes of a new key
 abbrev pub gone_versions : Option Leaving → ℕ
@@ -79,3 +77,32 @@ counts_put key_bytes tags gone counts = record counts {
   versions = counts.versions + 1 - gone_versions gone;
   names = counts.names + key_bytes + tag_bytes tags - gone_bytes gone;
 }
+
+-- ---- an object that is put under a key of these stacks
+
+-- what it is put on: the key's stack, or one without versions
+abbrev pub stack_of : List ℕ → List (List ℕ × StackRecord) → StackRecord
+stack_of key stacks = unwrap_or (at_name key stacks) (new_stack 0)
+
+abbrev pub gone_of : List ℕ → Incoming → List (List ℕ × StackRecord) → Option Version
+gone_of key object stacks = replaced object.versioning (stack_of key stacks).versions
+
+-- the bytes of a new key
+abbrev pub new_bytes : List ℕ → List (List ℕ × StackRecord) → ℕ
+new_bytes key stacks = if is_some (at_name key stacks) then 0 else length key
+
+abbrev pub counts_after : List ℕ → Incoming → List Tag → List (List ℕ × StackRecord) → Counts → Counts
+counts_after key object tags stacks counts =
+    counts_put (new_bytes key stacks) tags (option_map leaving_of (gone_of key object stacks)) counts
+
+-- it may be put on this stack, and what goes has its lines since a moment that is not later
+pub record IsReady (object : Incoming) (stack : StackRecord) : Type 0 where
+  pub later : stack.changed ≤ object.at
+  pub free : IsFree object.versioning object.number stack.versions
+  pub since : IsSinceBy object.at (replaced object.versioning stack.versions)
+
+-- counts that can be moved by a put that takes so many bytes of tags away
+pub record HaveRoom (counts : Counts) (bytes : ℕ) : Type 0 where
+  pub versions : counts.versions ≤ 400_000
+  pub names : counts.names ≤ 2 ^ 32
+  pub gone : bytes ≤ counts.names

@@ -1,9 +1,11 @@
 -- The running counts of what has a limit, as a change of one bucket moves them.
-use Rattle.std.specs.Prelude.{◌≡◌, ℕ, ◌+◌, ◌*◌, ◌^◌, ◌≤◌, List, length, nat_lt, Option}
+use Rattle.std.specs.Prelude.{◌≡◌, ℕ, ◌+◌, ◌*◌, ◌^◌, ◌≤◌, List, length, nat_lt, Option, Some}
 use Rattle.std.specs.List.{find}
 use Rattle.accrual.specs.Totals.{Totals}
 use Rattle.due_core.specs.Buckets.{BucketRecord}
 use Rattle.plain_office.specs.Counts.{limit_of, version_count, part_count, name_bytes, rules_bytes}
+use Rattle.office_types.specs.declared.refusal.Refusal.{Refusal}
+use Rattle.office_types.specs.declared.refusal.Refusal.TheVariants.{Full}
 use Rattle.office_types.specs.declared.refusal.What.{What}
 use Rattle.office_types.specs.declared.refusal.What.TheVariants.{Buckets, Versions, Uploads, Parts, Names, Rules}
 use Rattle.office_machine.specs.declared.counts.Counts.{Counts}
@@ -46,6 +48,10 @@ HaveMoved before after counts moved =
 -- the first of these that is above its limit
 abbrev pub first_over : List What → Counts → Option What
 first_over whats counts = find (λ what. nat_lt (limit_of what) (amount what counts)) whats
+
+-- refused for the counts: this is the first of them above its limit
+abbrev pub IsFullOf : List What → Counts → Refusal → Type 0
+IsFullOf whats counts refusal = (what : What) × (first_over whats counts ≡ Some what) × (refusal ≡ Full what (limit_of what))
 
 -- after so many accepted commands: a command books at most three times in a bucket's meters and gives at most one number of
 -- each kind, and an office that is restored begins within these

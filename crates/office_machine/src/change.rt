@@ -1,5 +1,5 @@
 // What a command does to its bucket.
-ghost use Rattle.std.specs.Prelude.{◌≡◌, ◌+◌, ◌<◌, ◌≤◌, ℕ, OnOk, OnErr, IfOk};
+ghost use Rattle.std.specs.Prelude.{◌+◌, ◌<◌, ◌≤◌, ℕ, OnOk, OnErr, IfOk};
 ghost use Rattle.plain_office.specs.Office as plain;
 ghost use Rattle.office_machine.specs.Changing.{change_of, limits_of, IsOrderlyAccount, DoesTold};
 ghost use Rattle.office_machine.specs.Counting.{account_of, AreCountsOver, HasRoom, HasGrownBy};
@@ -50,18 +50,14 @@ pub(crate) fn change(
             tags,
             ..
         } => {
-            let Ok(tags) = tags.copy() else {
-                return Err(Refusal::NoMemory);
-            };
             let object = Incoming {
                 versioning: bucket.versioning,
                 number: bucket.next_version,
                 size: *size,
                 class: *class,
-                tags,
                 at: t,
             };
-            put(bucket, meters, alloc, key, object, counts)
+            put(bucket, meters, alloc, key, object, tags, counts)
         }
         _ => Err(Refusal::NoMemory),
     }

@@ -1,7 +1,7 @@
 // How much there is of each kind that has a limit.
-ghost use Rattle.std.specs.Prelude.{◌≡◌, Some, None, nat_lt, IfOk, IfErr};
+ghost use Rattle.std.specs.Prelude.{◌≡◌, None, nat_lt, IfOk, IfErr};
 ghost use Rattle.plain_office.specs.Counts.{limit_of};
-ghost use Rattle.office_machine.specs.Counting.{amount, first_over};
+ghost use Rattle.office_machine.specs.Counting.{amount, first_over, IsFullOf};
 
 use office_types::{Refusal, What};
 
@@ -43,6 +43,7 @@ fn limit(what: What) -> u64
 }
 
 impl Counts {
+    /// Reads how much there is of a kind.
     fn of(self, what: What) -> u64
         ensures { result ≡ amount what self }
     {
@@ -56,22 +57,29 @@ impl Counts {
         }
     }
 
+    /// There is more of a kind than its limit.
     fn is_over(self, what: What) -> bool
         ensures { result ≡ nat_lt (limit_of what) (amount what self) }
     {
         self.of(what) > limit(what)
     }
 
+    /// Gives the first of these that is above its limit.
+    fn first_above(self, whats: &[What]) -> Option<What>
+        ensures { result ≡ first_over whats.now self }
+    {
+        whats.iter().copied().find(|what| self.is_over(*what))
+    }
+
     /// Gives the counts again, or refuses them for the first of these that is above its limit.
     pub(crate) fn within(self, whats: &[What]) -> Result<Counts, Refusal>
         ensures ok { IfOk result (λ same. (same ≡ self) × (first_over whats.now self ≡ None)) }
-        ensures full { IfErr result (λ refusal. (what : What) × (first_over whats.now self ≡ Some what)
-            × (refusal ≡ Refusal.Full what (limit_of what))) }
+        ensures full { IfErr result (λ refusal. IsFullOf whats.now self refusal) }
     {
-        match whats.iter().find(|what| self.is_over(**what)) {
+        match self.first_above(whats) {
             Some(what) => Err(Refusal::Full {
-                what: *what,
-                limit: limit(*what),
+                what,
+                limit: limit(what),
             }),
             None => Ok(self),
         }

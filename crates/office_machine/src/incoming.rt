@@ -1,5 +1,5 @@
 // An object that is put, and the version that it replaces.
-ghost use Rattle.std.specs.Prelude.{◌≡◌, ◌≤◌, ◌*◌, length, option_map, IsTrue};
+ghost use Rattle.std.specs.Prelude.{◌≡◌, ◌≤◌, ◌*◌, length, option_map, unwrap_or, IsTrue};
 ghost use Rattle.std.specs.List.{list_all};
 ghost use Rattle.office_base.specs.Tags.{is_tag, tags_of};
 ghost use Rattle.plain_office.specs.Counts.{tag_bytes, tag_bytes_of};
@@ -12,15 +12,14 @@ use moments::Moment;
 use office_base::{Size, Tags, VersionId};
 use stacks::{Kind, Version, Versioning};
 
-/// An object that is put.
-#[derive(Drop)]
+/// An object that is put, but for its key and tags.
+#[derive(Clone, Copy)]
 pub(crate) struct Incoming {
     pub(crate) versioning: Versioning,
     /// The number that it gets in an Enabled bucket.
     pub(crate) number: u64,
     pub(crate) size: Size,
     pub(crate) class: Class,
-    pub(crate) tags: Tags,
     pub(crate) at: Moment,
 }
 
@@ -89,12 +88,22 @@ fn leaving_null(versions: &[Version]) -> Option<Leaving>
     }
 }
 
-/// Tells what goes where an object is put on these versions: the null version, unless it gets a number.
+/// Tells what goes where an object is put on these versions: the null version, unless the object gets a number.
 pub(crate) fn replaced(versioning: Versioning, versions: &[Version]) -> Option<Leaving>
     ensures { result ≡ option_map leaving_of (replaced versioning versions.now) }
 {
     match versioning {
         Versioning::Enabled => None,
         Versioning::Unversioned | Versioning::Suspended => leaving_null(versions),
+    }
+}
+
+/// Gives since when what goes has its lines, or the moment where nothing goes.
+pub(crate) fn since_of(gone: Option<Leaving>, at: Moment) -> Moment
+    ensures { result ≡ unwrap_or (option_map (λ leaving. leaving.since) gone) at }
+{
+    match gone {
+        Some(leaving) => leaving.since,
+        None => at,
     }
 }

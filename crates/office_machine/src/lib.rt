@@ -8,7 +8,5 @@ mod counts;
 mod incoming;
 mod office;
 mod put;
-#[cfg(test)]
-mod tests;
 
 pub use office::Office;

@@ -1,14 +1,15 @@
 // The office, its commands and its queries.
-ghost use Rattle.std.specs.Prelude.{◌≡◌, ◌⊎◌, ◌<◌, ℕ, Err, Some, IfOk, IfErr, IsTrue};
+ghost use Rattle.std.specs.Prelude.{◌≡◌, ◌⊎◌, ◌<◌, ℕ, Err, Some, unwrap_or, IfOk, IfErr, IsTrue};
 ghost use Rattle.plain_office.specs.Office as plain;
 ghost use Rattle.plain_office.specs.Office.{empty_office};
 ghost use Rattle.plain_office.specs.Step.{step};
 ghost use Rattle.plain_office.specs.Answers.{answer};
 ghost use Rattle.plain_office.specs.Run.{is_not_before};
-ghost use Rattle.office_laws.specs.Named.{bucket_of};
 ghost use Rattle.office_types.specs.Built.{IsBuilt, IsBuiltQuery};
 ghost use Rattle.office_types.specs.declared.command.Command.TheVariants as command;
 ghost use Rattle.office_types.specs.declared.command.Query.TheVariants as query;
+ghost use Rattle.moments.specs.Months.{month_at};
+ghost use Rattle.office_machine.specs.Changing.{IsOnBucket};
 ghost use Rattle.office_machine.specs.Standing.{StandsForOffice, Does, accepted_after, most_commands};
 
 use crate::account::Account;

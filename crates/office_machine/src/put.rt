@@ -1,28 +1,29 @@
 // An object is put.
-ghost use Rattle.std.specs.Prelude.{◌≡◌, ◌⊎◌, ◌+◌, ◌*◌, ◌^◌, ◌<◌, ◌≤◌, ◌∷◌, [], ℕ, None, Some, length, option_map, OnOk, OnErr, IfOk, IfErr};
-ghost use Rattle.office_base.specs.Maps.{at_name, with_name};
-ghost use Rattle.stacks.specs.Stacks.{IsFree, new_id, replaced, after_adding, new_stack};
+ghost use Rattle.std.specs.Prelude.{◌≡◌, ◌⊎◌, ◌+◌, ◌^◌, ◌<◌, ◌≤◌, ◌∷◌, [], ℕ, None, option_map, OnOk, OnErr, IfOk, IfErr};
+ghost use Rattle.office_base.specs.Maps.{bytes_cmp, at_name, with_name, Rises};
+ghost use Rattle.stacks.specs.Stacks.{IsFree, new_id, new_stack, replaced};
 ghost use Rattle.accrual.specs.Books.{Book};
 ghost use Rattle.accrual.specs.Totals.{StandsFor, most_bookings};
 ghost use Rattle.plain_office.specs.Office.{Books, Account, book_of};
-ghost use Rattle.plain_office.specs.Counts.{limit_of, tag_bytes};
+ghost use Rattle.plain_office.specs.Changes.{number_after};
+ghost use Rattle.plain_office.specs.Counts.{tag_bytes};
 ghost use Rattle.plain_office.specs.Step.{put_object};
 ghost use Rattle.office_types.specs.declared.refusal.What.TheVariants.{Versions, Names};
-ghost use Rattle.office_machine.specs.Booking.{leaving_of, kind_of, books_put, counts_put, gone_bytes, next_after, MayHaveStay, IsSinceBy};
+ghost use Rattle.office_machine.specs.Booking.{leaving_of, stack_of, stack_put, gone_of, books_put, counts_put, counts_after, gone_bytes, MayHaveStay, IsReady, HaveRoom};
 ghost use Rattle.office_machine.specs.Changing.{IsOrderlyAccount, DoesTold};
-ghost use Rattle.office_machine.specs.Counting.{AreCountsOver, first_over};
-ghost use Rattle.office_machine.specs.Standing.{StandsForAccount};
+ghost use Rattle.office_machine.specs.Counting.{account_of, AreCountsOver, HasRoom, HasGrownBy, first_over, IsFullOf};
+ghost use Rattle.office_machine.specs.Standing.{StandsForAccount, most_commands};
 
 use crate::booking::{end_replaced, object_billed, reserve};
 use crate::change::Done;
 use crate::counts::Counts;
-use crate::incoming::{Incoming, Leaving, replaced, tag_bytes};
+use crate::incoming::{Incoming, Leaving, replaced, since_of, tag_bytes};
 use accrual::Meters;
 use due_core::Bucket;
 use moments::Moment;
-use office_base::{Key, NoMemory, Nth, VersionId};
+use office_base::{Key, NoMemory, Nth, Tags, VersionId};
 use office_types::{Refusal, Reply, What};
-use stacks::{Stack, Versioning};
+use stacks::{Stack, Version, Versioning};
 use std::alloc::Global;
 use std::collections::BTreeMap;
 
@@ -44,7 +45,7 @@ fn id_of(versioning: Versioning, number: u64) -> VersionId
 
 fn next_number(versioning: Versioning, number: u64) -> u64
     requires { number < 2 ^ 63 }
-    ensures { result ≡ next_after versioning number }
+    ensures { result ≡ number_after versioning number }
 {
     match versioning {
         Versioning::Enabled => number + 1,
@@ -56,16 +57,14 @@ fn next_number(versioning: Versioning, number: u64) -> u64
 fn counted(
     counts: Counts,
     key_bytes: u64,
-    object: &Incoming,
+    tags: &Tags,
     gone: Option<Leaving>,
 ) -> Result<Counts, Refusal>
     requires key { key_bytes ≤ 1_024 }
-    requires few { (counts.versions ≤ 400_000) × (counts.names ≤ 2 ^ 32) }
-    requires gone { gone_bytes gone ≤ counts.names + tag_bytes object.now.tags }
-    ensures ok { IfOk result (λ after. (after ≡ counts_put key_bytes object.now.tags gone counts)
+    requires room { HaveRoom counts (gone_bytes gone) }
+    ensures ok { IfOk result (λ after. (after ≡ counts_put key_bytes tags.now gone counts)
         × (first_over (Versions ∷ Names ∷ []) after ≡ None)) }
-    ensures full { IfErr result (λ refusal. (what : What) × (refusal ≡ Refusal.Full what (limit_of what))
-        × (first_over (Versions ∷ Names ∷ []) (counts_put key_bytes object.now.tags gone counts) ≡ Some what)) }
+    ensures full { IfErr result (IsFullOf (Versions ∷ Names ∷ []) (counts_put key_bytes tags.now gone counts)) }
 {
     let (versions, bytes) = match gone {
         Some(leaving) => (1, leaving.tag_bytes),
@@ -73,10 +72,35 @@ fn counted(
     };
     let after = Counts {
         versions: counts.versions + 1 - versions,
-        names: counts.names + key_bytes + tag_bytes(&object.tags) - bytes,
+        names: counts.names + key_bytes + tag_bytes(tags) - bytes,
         ..counts
     };
     after.within(&ADDED)
+}
+
+/// Puts an object in a stack.
+fn stacked(stack: &mut Stack, object: Incoming, tags: &Tags) -> Result<Option<Version>, Refusal>
+    requires later { stack.old.changed ≤ object.at }
+    requires free { IsFree object.versioning object.number stack.old.versions }
+    ensures ok { OnOk result (stack.new ≡ stack_put object tags.now stack.old) }
+    ensures gone { IfOk result (λ gone. gone ≡ replaced object.versioning stack.old.versions) }
+    ensures err { OnErr result (stack.new ≡ stack.old) }
+    ensures refusal { IfErr result (λ refusal. refusal ≡ Refusal.NoMemory) }
+{
+    let Ok(tags) = tags.copy() else {
+        return Err(Refusal::NoMemory);
+    };
+    let Incoming {
+        versioning,
+        number,
+        size,
+        class,
+        at,
+    } = object;
+    match stack.put(versioning, number, size, class, tags, at) {
+        Ok(gone) => Ok(gone),
+        Err(NoMemory) => Err(Refusal::NoMemory),
+    }
 }
 
 /// Puts an object on the versions of its key.
@@ -85,20 +109,18 @@ fn put_on(
     meters: &mut Meters,
     key: &Key,
     object: Incoming,
+    tags: &Tags,
     gone: Option<Leaving>,
 ) -> Result<(), Refusal>
-    requires later { stack.old.changed ≤ object.at }
-    requires free { IsFree object.versioning object.number stack.old.versions }
+    requires ready { IsReady object stack.old }
     requires gone { gone ≡ option_map leaving_of (replaced object.versioning stack.old.versions) }
-    requires since { IsSinceBy object.at (replaced object.versioning stack.old.versions) }
     requires few { meters.old.booked + 2 ≤ most_bookings }
     requires open { (books : Books) × StandsFor meters.old (book_of books)
         × MayHaveStay key.now (replaced object.versioning stack.old.versions) books }
-    ensures stack { OnOk result (stack.new
-        ≡ after_adding (new_id object.versioning object.number) (kind_of object) object.at stack.old) }
+    ensures stack { OnOk result (stack.new ≡ stack_put object tags.now stack.old) }
     ensures meters { OnOk result ((books : Books) → StandsFor meters.old (book_of books)
-        → MayHaveStay key.now (replaced object.versioning stack.old.versions) books
-        → StandsFor meters.new (book_of (books_put key.now object (replaced object.versioning stack.old.versions) books))) }
+        → MayHaveStay key.now (replaced object.versioning stack.old.versions) books → StandsFor meters.new
+        (book_of (books_put key.now object tags.now (replaced object.versioning stack.old.versions) books))) }
     ensures stack_kept { OnErr result (stack.new ≡ stack.old) }
     ensures meters_kept { OnErr result ((book : Book) → StandsFor meters.old book → StandsFor meters.new book) }
     ensures refusal { IfErr result (λ refusal. refusal ≡ Refusal.NoMemory) }
@@ -106,28 +128,12 @@ fn put_on(
     ensures not_booked { OnErr result (meters.new.booked ≡ meters.old.booked) }
 {
     let at = object.at;
-    let since = match gone {
-        Some(leaving) => leaving.since,
-        None => at,
-    };
-    reserve(meters, since, at)?;
+    reserve(meters, since_of(gone, at), at)?;
     let opened = object_billed(object.class, object.size);
-    let Incoming {
-        versioning,
-        number,
-        size,
-        class,
-        tags,
-        ..
-    } = object;
-    match stack.put(versioning, number, size, class, tags, at) {
-        Ok(gone) => {
-            end_replaced(meters, key, &gone, at);
-            meters.open(&opened, at);
-            Ok(())
-        }
-        Err(NoMemory) => Err(Refusal::NoMemory),
-    }
+    let gone = stacked(stack, object, tags)?;
+    end_replaced(meters, key, &gone, at);
+    meters.open(&opened, at);
+    Ok(())
 }
 
 /// Puts an object under a key that has no versions.
@@ -137,15 +143,15 @@ fn put_first(
     alloc: Global,
     key: &Key,
     object: Incoming,
+    tags: &Tags,
 ) -> Result<(), Refusal>
     requires absent { at_name key.now stacks.old.entries ≡ None }
     requires free { IsFree object.versioning object.number [] }
     requires few { meters.old.booked + 2 ≤ most_bookings }
-    ensures stacks { OnOk result (stacks.new.entries ≡ with_name key.now
-        (after_adding (new_id object.versioning object.number) (kind_of object) object.at (new_stack object.at))
-        stacks.old.entries) }
+    ensures stacks { OnOk result (stacks.new.entries
+        ≡ with_name key.now (stack_put object tags.now (new_stack object.at)) stacks.old.entries) }
     ensures meters { OnOk result ((books : Books) → StandsFor meters.old (book_of books)
-        → StandsFor meters.new (book_of (books_put key.now object None books))) }
+        → StandsFor meters.new (book_of (books_put key.now object tags.now None books))) }
     ensures stacks_kept { OnErr result (stacks.new.entries ≡ stacks.old.entries) }
     ensures meters_kept { OnErr result ((book : Book) → StandsFor meters.old book → StandsFor meters.new book) }
     ensures refusal { IfErr result (λ refusal. refusal ≡ Refusal.NoMemory) }
@@ -155,7 +161,8 @@ fn put_first(
     let at = object.at;
     reserve(meters, at, at)?;
     let opened = object_billed(object.class, object.size);
-    let stack = first_stack(alloc, object)?;
+    let mut stack = Stack::new(alloc, at);
+    stacked(&mut stack, object, tags)?;
     let Ok(kept) = key.copy() else {
         return Err(Refusal::NoMemory);
     };
@@ -166,29 +173,6 @@ fn put_first(
     Ok(())
 }
 
-/// Gives the stack that has one version, an object.
-fn first_stack(alloc: Global, object: Incoming) -> Result<Stack, Refusal>
-    requires free { IsFree object.versioning object.number [] }
-    ensures ok { IfOk result (λ stack. stack
-        ≡ after_adding (new_id object.versioning object.number) (kind_of object) object.at (new_stack object.at)) }
-    ensures refusal { IfErr result (λ refusal. refusal ≡ Refusal.NoMemory) }
-{
-    let at = object.at;
-    let mut stack = Stack::new(alloc, at);
-    let Incoming {
-        versioning,
-        number,
-        size,
-        class,
-        tags,
-        ..
-    } = object;
-    match stack.put(versioning, number, size, class, tags, at) {
-        Ok(_) => Ok(stack),
-        Err(NoMemory) => Err(Refusal::NoMemory),
-    }
-}
-
 /// Puts an object, and gives the counts after it.
 fn put_version(
     stacks: &mut BTreeMap<Key, Stack>,
@@ -196,19 +180,41 @@ fn put_version(
     alloc: Global,
     key: &Key,
     object: Incoming,
+    tags: &Tags,
     counts: Counts,
 ) -> Result<Counts, Refusal>
+    requires rises { Rises bytes_cmp stacks.old.entries }
+    requires ready { IsReady object (stack_of key.now stacks.old.entries) }
+    requires free { IsFree object.versioning object.number [] }
+    requires few { meters.old.booked + 2 ≤ most_bookings }
+    requires room { HaveRoom counts (gone_bytes (option_map leaving_of (gone_of key.now object stacks.old.entries))) }
+    requires open { (books : Books) × StandsFor meters.old (book_of books)
+        × MayHaveStay key.now (gone_of key.now object stacks.old.entries) books }
+    ensures stacks { OnOk result (stacks.new.entries ≡ with_name key.now
+        (stack_put object tags.now (stack_of key.now stacks.old.entries)) stacks.old.entries) }
+    ensures meters { OnOk result ((books : Books) → StandsFor meters.old (book_of books)
+        → MayHaveStay key.now (gone_of key.now object stacks.old.entries) books → StandsFor meters.new
+        (book_of (books_put key.now object tags.now (gone_of key.now object stacks.old.entries) books))) }
+    ensures counts { IfOk result (λ after. (after
+        ≡ counts_after key.now object tags.now stacks.old.entries counts)
+        × (first_over (Versions ∷ Names ∷ []) after ≡ None)) }
+    ensures refused { IfErr result (λ refusal. (refusal ≡ Refusal.NoMemory) ⊎ IsFullOf (Versions ∷ Names ∷ [])
+        (counts_after key.now object tags.now stacks.old.entries counts) refusal) }
+    ensures stacks_kept { OnErr result (stacks.new.entries ≡ stacks.old.entries) }
+    ensures meters_kept { OnErr result ((book : Book) → StandsFor meters.old book → StandsFor meters.new book) }
+    ensures booked { meters.new.booked ≤ meters.old.booked + 2 }
+    ensures not_booked { OnErr result (meters.new.booked ≡ meters.old.booked) }
 {
     match stacks.get_mut(key) {
         Some(stack) => {
             let gone = replaced(object.versioning, stack.versions());
-            let counts = counted(counts, 0, &object, gone)?;
-            put_on(stack, meters, key, object, gone)?;
+            let counts = counted(counts, 0, tags, gone)?;
+            put_on(stack, meters, key, object, tags, gone)?;
             Ok(counts)
         }
         None => {
-            let counts = counted(counts, key.bytes().len() as u64, &object, None)?;
-            put_first(stacks, meters, alloc, key, object)?;
+            let counts = counted(counts, key.bytes().len() as u64, tags, None)?;
+            put_first(stacks, meters, alloc, key, object, tags)?;
             Ok(counts)
         }
     }
@@ -221,18 +227,31 @@ pub(crate) fn put(
     alloc: Global,
     key: &Key,
     object: Incoming,
+    tags: &Tags,
     counts: Counts,
-) -> Result<Done, Refusal> {
-    let at = object.at;
-    let versioning = object.versioning;
-    let number = object.number;
-    let counts = put_version(&mut bucket.stacks, meters, alloc, key, object, counts)?;
-    bucket.next_version = next_number(versioning, number);
+) -> Result<Done, Refusal>
+    requires account { (account : Account) × StandsForAccount (account_of bucket.old meters.old) account
+        × IsOrderlyAccount object.at account }
+    requires next { (object.versioning ≡ bucket.old.versioning) × (object.number ≡ bucket.old.next_version) }
+    requires room { (accepted : ℕ) × (accepted < most_commands)
+        × HasRoom accepted (account_of bucket.old meters.old) }
+    requires counts { AreCountsOver bucket.old counts }
+    ensures done { (account : Account) → StandsForAccount (account_of bucket.old meters.old) account
+        → IsOrderlyAccount object.at account → DoesTold (Versions ∷ Names ∷ [])
+        (put_object object.at key.now object.size object.class tags.now account) account counts
+        (account_of bucket.new meters.new) result }
+    ensures room { OnOk result (HasGrownBy 3 1 (account_of bucket.old meters.old) (account_of bucket.new meters.new)) }
+    ensures room_kept { OnErr result (HasGrownBy 0 0 (account_of bucket.old meters.old)
+        (account_of bucket.new meters.new)) }
+    ensures few { IfOk result (λ done. done.counts.versions ≤ counts.versions + 1) }
+{
+    let counts = put_version(&mut bucket.stacks, meters, alloc, key, object, tags, counts)?;
+    bucket.next_version = next_number(object.versioning, object.number);
     Ok(Done {
         counts,
         reply: Reply::Stored {
-            moment: at,
-            version: id_of(versioning, number),
+            moment: object.at,
+            version: id_of(object.versioning, object.number),
         },
     })
 }
