@@ -17,7 +17,7 @@ use Rattle.plain_office.specs.Books as plain
 use Rattle.plain_office.specs.Books.{lines_of_kind, with_end}
 use Rattle.plain_office.specs.Orderly.{lines_since, stay_of_version}
 use Rattle.office_machine.specs.Booking.{HasStay}
-use Rattle.office_machine.proofs.Once.{StandsOnce, one_stay}
+use Rattle.office_laws.proofs.OneStay.{StandsOnce, one_stay}
 
 module _ (key : List ℕ) (version : Version) (at : ℕ) (books : Books) (has : HasStay key version books) where
   abbrev lines : List (Class × ℕ)

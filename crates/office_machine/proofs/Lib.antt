@@ -1,7 +1,10 @@
 pub mod Accounts
-pub mod Sums
 pub mod Ending
-pub mod Once
+pub mod Offices
+pub mod Putting
+pub mod Replacing
 pub mod Room
+pub mod Rules
 pub mod Steps
+pub mod Sums
 pub mod TagSizes

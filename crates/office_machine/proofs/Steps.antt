@@ -31,15 +31,21 @@ module _ (t : ℕ) (p : Office) where
   outcome_on name (command.Put bucket key size class tags) same = rw same refl
   outcome_on name other same = absurd same
 
+  abbrev told_is : Change → Bool
+  told_is (Ok done) = is_accepted (Ok done.1)
+  told_is (Err refusal) = true
+
   -- what is told of it is accepted
   told_accepted : (name : List ℕ) (asked : Command) → IsOnBucket name asked → (account after : Account) (told : Reply) → change_of t asked account ≡ Ok (after, told) → is_accepted (Ok told) ≡ true
-  told_accepted name (command.Put bucket key size class tags) same account after told is = cc
+  told_accepted name (command.Put bucket key size class tags) same account after told is = sym (ap told_is is)
   told_accepted name other same account after told is = absurd same
 
   module _ (name : List ℕ) (asked : Command) (on : IsOnBucket name asked) where
     pub step_missing : at_name name p.accounts ≡ None → step t asked p ≡ (p, Err NoSuchBucket)
     unfolding step
-    step_missing none = ap (settled t p) (outcome_on name asked on ∙ rw none refl)
+    step_missing none =
+        let told : outcome t asked p ≡ Err NoSuchBucket = outcome_on name asked on ∙ rw none refl in
+        ap (settled t p) told
 
     abbrev pub placed : Account → Office
     placed after = record p { accounts = with_name name after p.accounts }

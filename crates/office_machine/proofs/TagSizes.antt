@@ -1,5 +1,6 @@
 -- How many bytes tags have.
-use Rattle.std.proofs.Common.{◌≡◌, ℕ, ◌+◌, ◌*◌, ◌≤◌, List, [], ◌∷◌, length, sym, subst, Bool, true, ◌&&◌, arith, length-append}
+use Rattle.std.proofs.Common.{◌≡◌, ℕ, ◌+◌, ◌-◌, ◌*◌, ◌≤◌, List, [], ◌∷◌, length, take, drop, sym, subst, Bool, true, ◌&&◌, arith, length-append}
+use Rattle.std.proofs.lemmas.List.{length-map, length-take}
 use Rattle.std.specs.Prelude.{nat_le, get_or, String, string_bytes, IsTrue}
 use Rattle.std.specs.declared.alloc.Global.{Global}
 use Rattle.std.specs.List.{list_all}
@@ -44,3 +45,12 @@ first_most [] first tags some is = absurd (omega (arith, some))
 first_most (pair ∷ pairs) first tags some is =
     let here = and_parts (is_tag (tag_of pair)) (list_all is_tag (tags_of pairs)) tags in
     subst (λ (p : String Global × String Global). length (string_bytes p.0) + length (string_bytes p.1) ≤ 1_536) (sym is) (tag_most (tag_of pair) here.0)
+
+-- the others are one fewer
+pub rest_length : (pairs : List (String Global × String Global)) → 1 ≤ length pairs → length (tags_of (take (length pairs - 1) (drop 1 pairs))) + 1 ≡ length (tags_of pairs)
+rest_length [] some = absurd (omega (arith, some))
+rest_length (pair ∷ pairs) some =
+    let rest = length-map tag_of (take (length pairs) pairs) in
+    let all = length-map tag_of (pair ∷ pairs) in
+    let same = length-take (length pairs) pairs in
+    omega (arith, rest, all, same)

@@ -22,6 +22,15 @@ use Rattle.office_machine.specs.declared.incoming.Leaving.{Leaving}
 abbrev pub leaving_of : Version → Leaving
 leaving_of version = record { since = lines_since version; tag_bytes = tag_bytes_of version }
 
+-- since when it has its lines, or the moment where nothing goes
+abbrev pub leaving_since : ℕ → Option Leaving → ℕ
+leaving_since at None = at
+leaving_since at (Some leaving) = leaving.since
+
+abbrev pub since_option : ℕ → Option Version → ℕ
+since_option at None = at
+since_option at (Some version) = lines_since version
+
 -- the version's open stay is the one that its record asks for
 abbrev pub HasStay : List ℕ → Version → Books → Type 0
 HasStay key version books =
@@ -81,11 +90,11 @@ counts_put key_bytes tags gone counts = record counts {
 -- ---- an object that is put under a key of these stacks
 
 -- what it is put on: the key's stack, or one without versions
-abbrev pub stack_of : List ℕ → List (List ℕ × StackRecord) → StackRecord
-stack_of key stacks = unwrap_or (at_name key stacks) (new_stack 0)
+abbrev pub stack_under : List ℕ → List (List ℕ × StackRecord) → StackRecord
+stack_under key stacks = unwrap_or (at_name key stacks) (new_stack 0)
 
 abbrev pub gone_of : List ℕ → Incoming → List (List ℕ × StackRecord) → Option Version
-gone_of key object stacks = replaced object.versioning (stack_of key stacks).versions
+gone_of key object stacks = replaced object.versioning (stack_under key stacks).versions
 
 -- the bytes of a new key
 abbrev pub new_bytes : List ℕ → List (List ℕ × StackRecord) → ℕ

@@ -1,6 +1,6 @@
 // A bucket in memory: its records, its meters and its running count of versions.
 ghost use Rattle.std.specs.Prelude.{◌≡◌, ◌+◌, ◌*◌, ◌<◌, ◌≤◌, ℕ, length, OnOk, OnErr, IfOk};
-ghost use Rattle.accrual.specs.Books.{IsBookedBy};
+ghost use Rattle.accrual.specs.Books.{Book, IsBookedBy};
 ghost use Rattle.accrual.specs.Totals.{StandsFor};
 ghost use Rattle.plain_office.specs.Office as plain;
 ghost use Rattle.plain_office.specs.Step.{new_account};
@@ -93,6 +93,7 @@ impl Account {
     }
 
     /// Counts the rules.
+    #[tactic(auto, using(crate::proofs::Rules::few_rules))]
     pub(crate) fn rules(&self) -> u32
         ensures { result ≡ rule_count self.now.bucket.rules }
     {

@@ -57,7 +57,7 @@ pub(crate) fn change(
                 class: *class,
                 at: t,
             };
-            put(bucket, meters, alloc, key, object, tags, counts)
+            put(bucket, meters, alloc, key, &object, tags, counts)
         }
         _ => Err(Refusal::NoMemory),
     }

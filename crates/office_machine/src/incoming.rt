@@ -1,11 +1,11 @@
 // An object that is put, and the version that it replaces.
-ghost use Rattle.std.specs.Prelude.{◌≡◌, ◌≤◌, ◌*◌, length, option_map, unwrap_or, IsTrue};
+ghost use Rattle.std.specs.Prelude.{◌≡◌, ◌≤◌, ◌*◌, length, option_map, IsTrue};
 ghost use Rattle.std.specs.List.{list_all};
 ghost use Rattle.office_base.specs.Tags.{is_tag, tags_of};
 ghost use Rattle.plain_office.specs.Counts.{tag_bytes, tag_bytes_of};
 ghost use Rattle.plain_office.specs.Orderly.{lines_since};
 ghost use Rattle.stacks.specs.Stacks.{replaced, version_at};
-ghost use Rattle.office_machine.specs.Booking.{leaving_of};
+ghost use Rattle.office_machine.specs.Booking.{leaving_of, leaving_since};
 
 use class_rules::Class;
 use moments::Moment;
@@ -13,7 +13,7 @@ use office_base::{Size, Tags, VersionId};
 use stacks::{Kind, Version, Versioning};
 
 /// An object that is put, but for its key and tags.
-#[derive(Clone, Copy)]
+#[derive(Drop)]
 pub(crate) struct Incoming {
     pub(crate) versioning: Versioning,
     /// The number that it gets in an Enabled bucket.
@@ -99,8 +99,8 @@ pub(crate) fn replaced(versioning: Versioning, versions: &[Version]) -> Option<L
 }
 
 /// Gives since when what goes has its lines, or the moment where nothing goes.
-pub(crate) fn since_of(gone: Option<Leaving>, at: Moment) -> Moment
-    ensures { result ≡ unwrap_or (option_map (λ leaving. leaving.since) gone) at }
+pub(crate) fn since_of(gone: &Option<Leaving>, at: Moment) -> Moment
+    ensures { result ≡ leaving_since at gone.now }
 {
     match gone {
         Some(leaving) => leaving.since,

@@ -9,7 +9,7 @@ ghost use Rattle.plain_office.specs.Changes.{number_after};
 ghost use Rattle.plain_office.specs.Counts.{tag_bytes};
 ghost use Rattle.plain_office.specs.Step.{put_object};
 ghost use Rattle.office_types.specs.declared.refusal.What.TheVariants.{Versions, Names};
-ghost use Rattle.office_machine.specs.Booking.{leaving_of, stack_of, stack_put, gone_of, books_put, counts_put, counts_after, gone_bytes, MayHaveStay, IsReady, HaveRoom};
+ghost use Rattle.office_machine.specs.Booking.{leaving_of, stack_under, stack_put, gone_of, since_option, books_put, counts_put, counts_after, gone_bytes, MayHaveStay, IsReady, HaveRoom};
 ghost use Rattle.office_machine.specs.Changing.{IsOrderlyAccount, DoesTold};
 ghost use Rattle.office_machine.specs.Counting.{account_of, AreCountsOver, HasRoom, HasGrownBy, first_over, IsFullOf};
 ghost use Rattle.office_machine.specs.Standing.{StandsForAccount, most_commands};
@@ -58,13 +58,13 @@ fn counted(
     counts: Counts,
     key_bytes: u64,
     tags: &Tags,
-    gone: Option<Leaving>,
+    gone: &Option<Leaving>,
 ) -> Result<Counts, Refusal>
     requires key { key_bytes ≤ 1_024 }
-    requires room { HaveRoom counts (gone_bytes gone) }
-    ensures ok { IfOk result (λ after. (after ≡ counts_put key_bytes tags.now gone counts)
+    requires room { HaveRoom counts (gone_bytes gone.now) }
+    ensures ok { IfOk result (λ after. (after ≡ counts_put key_bytes tags.now gone.now counts)
         × (first_over (Versions ∷ Names ∷ []) after ≡ None)) }
-    ensures full { IfErr result (IsFullOf (Versions ∷ Names ∷ []) (counts_put key_bytes tags.now gone counts)) }
+    ensures full { IfErr result (IsFullOf (Versions ∷ Names ∷ []) (counts_put key_bytes tags.now gone.now counts)) }
 {
     let (versions, bytes) = match gone {
         Some(leaving) => (1, leaving.tag_bytes),
@@ -79,25 +79,25 @@ fn counted(
 }
 
 /// Puts an object in a stack.
-fn stacked(stack: &mut Stack, object: Incoming, tags: &Tags) -> Result<Option<Version>, Refusal>
-    requires later { stack.old.changed ≤ object.at }
-    requires free { IsFree object.versioning object.number stack.old.versions }
-    ensures ok { OnOk result (stack.new ≡ stack_put object tags.now stack.old) }
-    ensures gone { IfOk result (λ gone. gone ≡ replaced object.versioning stack.old.versions) }
+fn stacked(stack: &mut Stack, object: &Incoming, tags: &Tags) -> Result<Option<Version>, Refusal>
+    requires later { stack.old.changed ≤ object.now.at }
+    requires free { IsFree object.now.versioning object.now.number stack.old.versions }
+    ensures ok { OnOk result (stack.new ≡ stack_put object.now tags.now stack.old) }
+    ensures gone { IfOk result (λ gone. gone ≡ replaced object.now.versioning stack.old.versions) }
     ensures err { OnErr result (stack.new ≡ stack.old) }
     ensures refusal { IfErr result (λ refusal. refusal ≡ Refusal.NoMemory) }
 {
     let Ok(tags) = tags.copy() else {
         return Err(Refusal::NoMemory);
     };
-    let Incoming {
-        versioning,
-        number,
-        size,
-        class,
-        at,
-    } = object;
-    match stack.put(versioning, number, size, class, tags, at) {
+    match stack.put(
+        object.versioning,
+        object.number,
+        object.size,
+        object.class,
+        tags,
+        object.at,
+    ) {
         Ok(gone) => Ok(gone),
         Err(NoMemory) => Err(Refusal::NoMemory),
     }
@@ -108,19 +108,19 @@ fn put_on(
     stack: &mut Stack,
     meters: &mut Meters,
     key: &Key,
-    object: Incoming,
+    object: &Incoming,
     tags: &Tags,
-    gone: Option<Leaving>,
+    since: Moment,
 ) -> Result<(), Refusal>
-    requires ready { IsReady object stack.old }
-    requires gone { gone ≡ option_map leaving_of (replaced object.versioning stack.old.versions) }
+    requires ready { IsReady object.now stack.old }
+    requires since { since ≡ since_option object.now.at (replaced object.now.versioning stack.old.versions) }
     requires few { meters.old.booked + 2 ≤ most_bookings }
     requires open { (books : Books) × StandsFor meters.old (book_of books)
-        × MayHaveStay key.now (replaced object.versioning stack.old.versions) books }
-    ensures stack { OnOk result (stack.new ≡ stack_put object tags.now stack.old) }
+        × MayHaveStay key.now (replaced object.now.versioning stack.old.versions) books }
+    ensures stack { OnOk result (stack.new ≡ stack_put object.now tags.now stack.old) }
     ensures meters { OnOk result ((books : Books) → StandsFor meters.old (book_of books)
-        → MayHaveStay key.now (replaced object.versioning stack.old.versions) books → StandsFor meters.new
-        (book_of (books_put key.now object tags.now (replaced object.versioning stack.old.versions) books))) }
+        → MayHaveStay key.now (replaced object.now.versioning stack.old.versions) books → StandsFor meters.new
+        (book_of (books_put key.now object.now tags.now (replaced object.now.versioning stack.old.versions) books))) }
     ensures stack_kept { OnErr result (stack.new ≡ stack.old) }
     ensures meters_kept { OnErr result ((book : Book) → StandsFor meters.old book → StandsFor meters.new book) }
     ensures refusal { IfErr result (λ refusal. refusal ≡ Refusal.NoMemory) }
@@ -128,7 +128,7 @@ fn put_on(
     ensures not_booked { OnErr result (meters.new.booked ≡ meters.old.booked) }
 {
     let at = object.at;
-    reserve(meters, since_of(gone, at), at)?;
+    reserve(meters, since, at)?;
     let opened = object_billed(object.class, object.size);
     let gone = stacked(stack, object, tags)?;
     end_replaced(meters, key, &gone, at);
@@ -142,16 +142,16 @@ fn put_first(
     meters: &mut Meters,
     alloc: Global,
     key: &Key,
-    object: Incoming,
+    object: &Incoming,
     tags: &Tags,
 ) -> Result<(), Refusal>
     requires absent { at_name key.now stacks.old.entries ≡ None }
-    requires free { IsFree object.versioning object.number [] }
+    requires free { IsFree object.now.versioning object.now.number [] }
     requires few { meters.old.booked + 2 ≤ most_bookings }
     ensures stacks { OnOk result (stacks.new.entries
-        ≡ with_name key.now (stack_put object tags.now (new_stack object.at)) stacks.old.entries) }
+        ≡ with_name key.now (stack_put object.now tags.now (new_stack object.now.at)) stacks.old.entries) }
     ensures meters { OnOk result ((books : Books) → StandsFor meters.old (book_of books)
-        → StandsFor meters.new (book_of (books_put key.now object tags.now None books))) }
+        → StandsFor meters.new (book_of (books_put key.now object.now tags.now None books))) }
     ensures stacks_kept { OnErr result (stacks.new.entries ≡ stacks.old.entries) }
     ensures meters_kept { OnErr result ((book : Book) → StandsFor meters.old book → StandsFor meters.new book) }
     ensures refusal { IfErr result (λ refusal. refusal ≡ Refusal.NoMemory) }
@@ -179,27 +179,27 @@ fn put_version(
     meters: &mut Meters,
     alloc: Global,
     key: &Key,
-    object: Incoming,
+    object: &Incoming,
     tags: &Tags,
     counts: Counts,
 ) -> Result<Counts, Refusal>
     requires rises { Rises bytes_cmp stacks.old.entries }
-    requires ready { IsReady object (stack_of key.now stacks.old.entries) }
-    requires free { IsFree object.versioning object.number [] }
+    requires ready { IsReady object.now (stack_under key.now stacks.old.entries) }
+    requires free { IsFree object.now.versioning object.now.number [] }
     requires few { meters.old.booked + 2 ≤ most_bookings }
-    requires room { HaveRoom counts (gone_bytes (option_map leaving_of (gone_of key.now object stacks.old.entries))) }
+    requires room { HaveRoom counts (gone_bytes (option_map leaving_of (gone_of key.now object.now stacks.old.entries))) }
     requires open { (books : Books) × StandsFor meters.old (book_of books)
-        × MayHaveStay key.now (gone_of key.now object stacks.old.entries) books }
+        × MayHaveStay key.now (gone_of key.now object.now stacks.old.entries) books }
     ensures stacks { OnOk result (stacks.new.entries ≡ with_name key.now
-        (stack_put object tags.now (stack_of key.now stacks.old.entries)) stacks.old.entries) }
+        (stack_put object.now tags.now (stack_under key.now stacks.old.entries)) stacks.old.entries) }
     ensures meters { OnOk result ((books : Books) → StandsFor meters.old (book_of books)
-        → MayHaveStay key.now (gone_of key.now object stacks.old.entries) books → StandsFor meters.new
-        (book_of (books_put key.now object tags.now (gone_of key.now object stacks.old.entries) books))) }
+        → MayHaveStay key.now (gone_of key.now object.now stacks.old.entries) books → StandsFor meters.new
+        (book_of (books_put key.now object.now tags.now (gone_of key.now object.now stacks.old.entries) books))) }
     ensures counts { IfOk result (λ after. (after
-        ≡ counts_after key.now object tags.now stacks.old.entries counts)
+        ≡ counts_after key.now object.now tags.now stacks.old.entries counts)
         × (first_over (Versions ∷ Names ∷ []) after ≡ None)) }
     ensures refused { IfErr result (λ refusal. (refusal ≡ Refusal.NoMemory) ⊎ IsFullOf (Versions ∷ Names ∷ [])
-        (counts_after key.now object tags.now stacks.old.entries counts) refusal) }
+        (counts_after key.now object.now tags.now stacks.old.entries counts) refusal) }
     ensures stacks_kept { OnErr result (stacks.new.entries ≡ stacks.old.entries) }
     ensures meters_kept { OnErr result ((book : Book) → StandsFor meters.old book → StandsFor meters.new book) }
     ensures booked { meters.new.booked ≤ meters.old.booked + 2 }
@@ -208,12 +208,12 @@ fn put_version(
     match stacks.get_mut(key) {
         Some(stack) => {
             let gone = replaced(object.versioning, stack.versions());
-            let counts = counted(counts, 0, tags, gone)?;
-            put_on(stack, meters, key, object, tags, gone)?;
+            let counts = counted(counts, 0, tags, &gone)?;
+            put_on(stack, meters, key, object, tags, since_of(&gone, object.at))?;
             Ok(counts)
         }
         None => {
-            let counts = counted(counts, key.bytes().len() as u64, tags, None)?;
+            let counts = counted(counts, key.bytes().len() as u64, tags, &None)?;
             put_first(stacks, meters, alloc, key, object, tags)?;
             Ok(counts)
         }
@@ -226,19 +226,19 @@ pub(crate) fn put(
     meters: &mut Meters,
     alloc: Global,
     key: &Key,
-    object: Incoming,
+    object: &Incoming,
     tags: &Tags,
     counts: Counts,
 ) -> Result<Done, Refusal>
     requires account { (account : Account) × StandsForAccount (account_of bucket.old meters.old) account
-        × IsOrderlyAccount object.at account }
-    requires next { (object.versioning ≡ bucket.old.versioning) × (object.number ≡ bucket.old.next_version) }
+        × IsOrderlyAccount object.now.at account }
+    requires next { (object.now.versioning ≡ bucket.old.versioning) × (object.now.number ≡ bucket.old.next_version) }
     requires room { (accepted : ℕ) × (accepted < most_commands)
         × HasRoom accepted (account_of bucket.old meters.old) }
     requires counts { AreCountsOver bucket.old counts }
     ensures done { (account : Account) → StandsForAccount (account_of bucket.old meters.old) account
-        → IsOrderlyAccount object.at account → DoesTold (Versions ∷ Names ∷ [])
-        (put_object object.at key.now object.size object.class tags.now account) account counts
+        → IsOrderlyAccount object.now.at account → DoesTold (Versions ∷ Names ∷ [])
+        (put_object object.now.at key.now object.now.size object.now.class tags.now account) account counts
         (account_of bucket.new meters.new) result }
     ensures room { OnOk result (HasGrownBy 3 1 (account_of bucket.old meters.old) (account_of bucket.new meters.new)) }
     ensures room_kept { OnErr result (HasGrownBy 0 0 (account_of bucket.old meters.old)

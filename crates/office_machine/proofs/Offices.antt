@@ -1,0 +1,275 @@
+-- What the office in memory stands for after each command, and the replies to queries.
+use Rattle.std.proofs.Common.{◌≡◌, ◌⊎◌, inl, inr, ℕ, ◌+◌, ◌≤◌, ◌<◌, List, [], ◌∷◌, length, map, refl, ap, sym, ◌∙◌, Bool, true, false, subst, arith}
+use Rattle.std.specs.Prelude.{Option, Some, None, Result, Ok, Err, is_some, unwrap_or}
+use Rattle.std.specs.List.{AllByRecursion}
+use Rattle.std.specs.Map.{set_value}
+use Rattle.std.specs.BTreeMap.{is_at}
+use Rattle.moments.specs.Months.{month_at}
+use Rattle.class_rules.specs.Classes.{all_classes}
+use Rattle.office_base.specs.Maps.{bytes_cmp, at_name, with_name}
+use Rattle.accrual.specs.Books.{IsBookedBy}
+use Rattle.plain_office.specs.Office.{Office, Account, empty_office, book_of}
+use Rattle.plain_office.specs.Counts.{count_of, limit_of, first_full, version_count}
+use Rattle.plain_office.specs.Orderly.{IsOrderly, SizeFits}
+use Rattle.plain_office.specs.Run.{is_not_before}
+use Rattle.plain_office.specs.Step.{Change, step, accepted, new_account}
+use Rattle.plain_office.specs.Answers.{answer, class_meters, rule_count, bucket_shown}
+use Rattle.office_types.specs.declared.command.Command.{Command}
+use Rattle.office_types.specs.declared.command.Command.TheVariants as command
+use Rattle.office_types.specs.declared.command.Query.TheVariants as query
+use Rattle.office_types.specs.declared.reply.Reply.{Reply}
+use Rattle.office_types.specs.declared.reply.Reply.TheVariants.{BucketMade, BucketShown, MetersShown}
+use Rattle.office_types.specs.declared.refusal.Refusal.{Refusal}
+use Rattle.office_types.specs.declared.refusal.Refusal.TheVariants.{BucketExists, NoSuchBucket, Full, NoMemory}
+use Rattle.office_types.specs.declared.refusal.What.{What}
+use Rattle.office_types.specs.declared.refusal.What.TheVariants.{Buckets, Versions, Uploads}
+use Rattle.office_laws.proofs.Lists.{Added, Replaced}
+use Rattle.office_laws.proofs.Maps.{by_name, added, replaced}
+use Rattle.office_laws.proofs.Offices.{kept_now}
+use Rattle.office_laws.proofs.Steps.{step_orderly}
+use Rattle.office_machine.specs.declared.change.Done.{Done}
+use Rattle.office_machine.specs.declared.counts.Counts.{Counts}
+use Rattle.office_machine.specs.Changing.{change_of, limits_of, IsOnBucket, IsOrderlyAccount, DoesTold}
+use Rattle.office_machine.specs.Counting.{AccountRecord, AreCountsOver, amount, in_bucket, HaveMoved, first_over}
+use Rattle.office_machine.specs.Standing.{Records, StandsForAccount, StandForAccounts, StandsForOffice, Does}
+use Rattle.office_machine.proofs.Accounts.{StandsForOption, stand_at, stand_with, stand_set, stand_one}
+use Rattle.office_machine.proofs.Sums.{AreCountsOf, full_is, moved_is, added_is, counts_over}
+use Rattle.office_machine.proofs.Steps.{Answer, step_missing, step_refused, step_full, step_done, placed, made, create_exists, create_full, create_made}
+
+-- ---- an answer that is the step's
+
+pub does : (expected : Office × Answer) (before q : Office) (after : Records) (result : Answer) → expected ≡ (q, result) → StandsForOffice after q → Does expected before after result
+does expected before q after result is stands =
+    inl (sym (ap (λ (x : Office × Answer). x.1) is), subst (StandsForOffice after) (sym (ap (λ (x : Office × Answer). x.0) is)) stands)
+
+-- want of memory
+pub wants : (expected : Office × Answer) (before : Office) (after : Records) → StandsForOffice after before → Does expected before after (Err NoMemory)
+wants expected before after stands = inr (refl, stands)
+
+-- ---- the buckets on both sides
+
+none_of : (q : Option Account) → StandsForOption None q → q ≡ None
+none_of None h = refl
+none_of (Some account) h = absurd h
+
+some_of : (held : AccountRecord) (q : Option Account) → StandsForOption (Some held) q → (account : Account) × (q ≡ Some account) × StandsForAccount held account
+some_of held None h = absurd h
+some_of held (Some account) h = (account, refl, h)
+
+there_too : (o : Option AccountRecord) (q : Option Account) → StandsForOption o q → is_some o ≡ is_some q
+there_too None None h = refl
+there_too None (Some account) h = absurd h
+there_too (Some held) None h = absurd h
+there_too (Some held) (Some account) h = refl
+
+is_some_none : {X : Type 0} (o : Option X) → is_some o ≡ false → o ≡ None
+is_some_none None h = refl
+is_some_none (Some x) h = absurd cc
+
+-- the records after an accepted command
+abbrev pub accepted_records : ℕ → Records → List (List ℕ × AccountRecord) → Counts → ℕ → Records
+accepted_records t records accounts counts number = record {
+  last = Some t;
+  tariff = records.tariff;
+  first_month = Some (unwrap_or records.first_month (month_at t));
+  closed = records.closed;
+  accounts = accounts;
+  counts = counts;
+  accepted = number;
+}
+
+abbrev pub with_accounts : Records → List (List ℕ × AccountRecord) → Records
+with_accounts records accounts = record records { accounts = accounts }
+
+module _ (records : Records) (p : Office) (stands : StandsForOffice records p) where
+  -- another order of the accounts' values, which stand for the same
+  pub still : (accounts : List (List ℕ × AccountRecord)) → StandForAccounts accounts p.accounts → StandsForOffice (with_accounts records accounts) p
+  still accounts same = record {
+    orderly = stands.orderly;
+    last = stands.last;
+    tariff = stands.tariff;
+    first_month = stands.first_month;
+    closed = stands.closed;
+    accounts = same;
+    counts = stands.counts;
+  }
+
+  module _ (t : ℕ) (later : is_not_before records.last t ≡ true) where
+    pub later_plain : is_not_before p.last t ≡ true
+    later_plain = subst (λ (last : Option ℕ). is_not_before last t ≡ true) stands.last later
+
+    -- an accepted command that changed accounts and counts alone
+    moved_on : (q : Office) (accounts : List (List ℕ × AccountRecord)) (counts : Counts) (number : ℕ) → q.tariff ≡ p.tariff → q.first_month ≡ p.first_month → q.closed ≡ p.closed
+        → StandForAccounts accounts q.accounts → AreCountsOf (accepted t q) counts → IsOrderly (accepted t q)
+        → StandsForOffice (accepted_records t records accounts counts number) (accepted t q)
+    moved_on q accounts counts number tariff first closed same are orderly = record {
+      orderly = orderly;
+      last = refl;
+      tariff = stands.tariff ∙ sym tariff;
+      first_month = ap (λ (month : Option ℕ). Some (unwrap_or month (month_at t))) (stands.first_month ∙ sym first);
+      closed = stands.closed ∙ sym closed;
+      accounts = same;
+      counts = are;
+    }
+
+  module _ (name : List ℕ) where
+    side_by_side : StandsForOption (at_name name records.accounts) (at_name name p.accounts)
+    side_by_side = stand_at name records.accounts p.accounts stands.accounts
+
+    pub absent : at_name name records.accounts ≡ None → at_name name p.accounts ≡ None
+    absent none = none_of (at_name name p.accounts) (subst (λ (o : Option AccountRecord). StandsForOption o (at_name name p.accounts)) none side_by_side)
+
+    pub present : (held : AccountRecord) → at_name name records.accounts ≡ Some held → (account : Account) × (at_name name p.accounts ≡ Some account) × StandsForAccount held account
+    present held found = some_of held (at_name name p.accounts) (subst (λ (o : Option AccountRecord). StandsForOption o (at_name name p.accounts)) found side_by_side)
+
+    there_is : (b : Bool) → is_some (at_name name records.accounts) ≡ b → is_some (at_name name p.accounts) ≡ b
+    there_is b is = sym (there_too (at_name name records.accounts) (at_name name p.accounts) side_by_side) ∙ is
+
+    -- ---- a new bucket
+
+    module _ (t : ℕ) (later : is_not_before records.last t ≡ true) where
+      pub does_exist : is_some (at_name name records.accounts) ≡ true → Does (step t (command.CreateBucket name) p) p records (Err BucketExists)
+      does_exist there = does (step t (command.CreateBucket name) p) p p records (Err BucketExists) (create_exists t p name (there_is true there)) stands
+
+      module _ (none : is_some (at_name name records.accounts) ≡ false) (counts : Counts) (more : (what : What) → amount what counts ≡ amount what records.counts + in_bucket what (new_account t).bucket) where
+        one : Added (name, new_account t) p.accounts (made t p name).accounts
+        one = added by_name name (new_account t) p.accounts (absent (is_some_none (at_name name records.accounts) none))
+
+        made_counts : AreCountsOf (made t p name) counts
+        made_counts = added_is p (made t p name) name (new_account t) one records.counts counts stands.counts more
+
+        pub does_fill : (what : What) → first_over (Buckets ∷ []) counts ≡ Some what → Does (step t (command.CreateBucket name) p) p records (Err (Full what (limit_of what)))
+        does_fill what full =
+            does (step t (command.CreateBucket name) p) p p records (Err (Full what (limit_of what)))
+            (create_full t p name (there_is false none) what (full_is (Buckets ∷ []) (made t p name) counts made_counts ∙ full)) stands
+
+        pub does_make : first_over (Buckets ∷ []) counts ≡ None → (held : AccountRecord) → StandsForAccount held (new_account t) → (accounts : List (List ℕ × AccountRecord)) → accounts ≡ with_name name held records.accounts
+            → (number : ℕ) → Does (step t (command.CreateBucket name) p) p (accepted_records t records accounts counts number) (Ok (BucketMade name))
+        does_make free held same accounts is number =
+            let told = create_made t p name (there_is false none) (full_is (Buckets ∷ []) (made t p name) counts made_counts ∙ free) in
+            does (step t (command.CreateBucket name) p) p (accepted t (made t p name)) (accepted_records t records accounts counts number) (Ok (BucketMade name)) told
+            (moved_on t later (made t p name) accounts counts number refl refl refl
+            (subst (λ (l : List (List ℕ × AccountRecord)). StandForAccounts l (with_name name (new_account t) p.accounts)) (sym is) (stand_with name held (new_account t) same records.accounts p.accounts stands.accounts))
+            (added_is p (accepted t (made t p name)) name (new_account t) one records.counts counts stands.counts more)
+            (subst IsOrderly (ap (λ (x : Office × Answer). x.0) told) (step_orderly t (command.CreateBucket name) p tt stands.orderly (later_plain t later))))
+
+    -- ---- a command on the bucket
+
+    module _ (t : ℕ) (later : is_not_before records.last t ≡ true) (asked : Command) (on : IsOnBucket name asked) where
+      pub does_miss : at_name name records.accounts ≡ None → Does (step t asked p) p records (Err NoSuchBucket)
+      does_miss none = does (step t asked p) p p records (Err NoSuchBucket) (step_missing t p name asked on (absent none)) stands
+
+      module _ (held : AccountRecord) (found : at_name name records.accounts ≡ Some held) where
+        abbrev account : Account
+        account = (present held found).0
+
+        there : at_name name p.accounts ≡ Some account
+        there = (present held found).1
+
+        holds : StandsForAccount held account
+        holds = (present held found).2
+
+        -- what the change has to know
+        pub for_account : (account : Account) × StandsForAccount held account × IsOrderlyAccount t account
+        for_account =
+            let kept = kept_now t p stands.orderly (later_plain t later) name account there in
+            (account, holds, record { bucket = kept.bucket; stays = kept.stays })
+
+        pub for_counts : AreCountsOver held.bucket records.counts
+        for_counts = rw holds.bucket (counts_over p records.counts name account stands.orderly.records stands.counts there)
+
+        module _ (written : AccountRecord) (accounts : List (List ℕ × AccountRecord)) (set : accounts ≡ set_value (is_at (bytes_cmp name)) records.accounts written) where
+          abbrev whats : List What
+          whats = limits_of asked
+
+          set_standing : (after : Account) → StandsForAccount written after → StandForAccounts accounts (with_name name after p.accounts)
+          set_standing after same =
+              subst (λ (l : List (List ℕ × AccountRecord)). StandForAccounts l (with_name name after p.accounts)) (sym set)
+              (stand_set name written after same records.accounts p.accounts account stands.accounts stands.orderly.records.names there)
+
+          one : (after : Account) → Replaced (name, account) (name, after) p.accounts (with_name name after p.accounts)
+          one after = replaced by_name name after account p.accounts stands.orderly.records.names there
+
+          counts_are : (after : Account) (moved : Counts) → HaveMoved account.bucket after.bucket records.counts moved → AreCountsOf (placed t p name asked on after) moved
+          counts_are after moved follow = moved_is p (placed t p name asked on after) name account after (one after) records.counts moved stands.counts follow
+
+          done_by : (told : Change) (done : Done) (number : ℕ) → change_of t asked account ≡ told → SizeFits asked → DoesTold whats told account records.counts written (Ok done)
+              → Does (step t asked p) p (accepted_records t records accounts done.counts number) (Ok done.reply)
+          done_by (Err refusal) done number is fits h = absurd h
+          done_by (Ok (after, reply)) done number is fits h =
+              let free = full_is whats (placed t p name asked on after) done.counts (counts_are after done.counts h.2) ∙ h.3 in
+              let stepped = step_done t p name asked on account there after reply is free in
+              does (step t asked p) p (accepted t (placed t p name asked on after)) (accepted_records t records accounts done.counts number) (Ok done.reply)
+              (stepped ∙ ap (λ (r : Reply). (accepted t (placed t p name asked on after), Ok r)) (sym h.0))
+              (moved_on t later (placed t p name asked on after) accounts done.counts number refl refl refl (set_standing after h.1)
+              (moved_is p (accepted t (placed t p name asked on after)) name account after (one after) records.counts done.counts stands.counts h.2)
+              (subst IsOrderly (ap (λ (x : Office × Answer). x.0) stepped) (step_orderly t asked p fits stands.orderly (later_plain t later))))
+
+          -- a change that was done
+          pub does_done : (done : Done) (number : ℕ) → SizeFits asked → ((account : Account) → StandsForAccount held account → IsOrderlyAccount t account → DoesTold whats (change_of t asked account) account records.counts written (Ok done))
+              → Does (step t asked p) p (accepted_records t records accounts done.counts number) (Ok done.reply)
+          does_done done number fits does_told = done_by (change_of t asked account) done number refl fits (does_told account holds for_account.2)
+
+          kept : (written_for : StandsForAccount written account) → StandsForOffice (with_accounts records accounts) p
+          kept written_for =
+              still accounts
+              (subst (λ (l : List (List ℕ × AccountRecord)). StandForAccounts l p.accounts) (sym set)
+              (stand_one name written account written_for records.accounts p.accounts stands.accounts stands.orderly.records.names there))
+
+          refused_by : (told : Change) (refusal : Refusal) → change_of t asked account ≡ told → DoesTold whats told account records.counts written (Err refusal)
+              → Does (step t asked p) p (with_accounts records accounts) (Err refusal)
+          refused_by (Err refused) refusal is (inl wanting, same) = inr (ap (λ (r : Refusal). Err r) wanting, kept same)
+          refused_by (Err refused) refusal is (inr told, same) =
+              does (step t asked p) p p (with_accounts records accounts) (Err refusal)
+              (step_refused t p name asked on account there refused is ∙ ap (λ (r : Refusal). (p, Err r)) (sym told)) (kept same)
+          refused_by (Ok (after, reply)) refusal is (inl wanting, same) = inr (ap (λ (r : Refusal). Err r) wanting, kept same)
+          refused_by (Ok (after, reply)) refusal is (inr after_all, same) =
+              let full = after_all.full in
+              let first = full_is whats (placed t p name asked on after) after_all.moved (counts_are after after_all.moved after_all.follow) ∙ full.1 in
+              does (step t asked p) p p (with_accounts records accounts) (Err refusal)
+              (step_full t p name asked on account there after reply full.0 is first ∙ ap (λ (r : Refusal). (p, Err r)) (sym full.2)) (kept same)
+
+          -- a change that was refused
+          pub does_refuse : (refusal : Refusal) → ((account : Account) → StandsForAccount held account → IsOrderlyAccount t account → DoesTold whats (change_of t asked account) account records.counts written (Err refusal))
+              → Does (step t asked p) p (with_accounts records accounts) (Err refusal)
+          does_refuse refusal does_told = refused_by (change_of t asked account) refusal refl (does_told account holds for_account.2)
+
+    -- ---- queries
+
+    pub shows_none : (t : ℕ) → at_name name records.accounts ≡ None → answer t (query.Bucket name) p ≡ Err NoSuchBucket
+    unfolding answer
+    shows_none t none = let nothing = absent none in rw nothing refl
+
+    pub meters_none : (t month : ℕ) → at_name name records.accounts ≡ None → answer t (query.Meters name month) p ≡ Err NoSuchBucket
+    unfolding answer
+    meters_none t month none = let nothing = absent none in rw nothing refl
+
+    module _ (held : AccountRecord) (found : at_name name records.accounts ≡ Some held) where
+      abbrev pub shown_account : Account
+      shown_account = (present held found).0
+
+      shown_there : at_name name p.accounts ≡ Some shown_account
+      shown_there = (present held found).1
+
+      pub shown_stands : StandsForAccount held shown_account
+      shown_stands = (present held found).2
+
+      over : AreCountsOver held.bucket records.counts
+      over = rw shown_stands.bucket (counts_over p records.counts name shown_account stands.orderly.records stands.counts shown_there)
+
+      pub few_versions : version_count held.bucket ≤ 400_000
+      few_versions = let most = over Versions in omega (arith, most.0, most.1)
+
+      pub few_uploads : length held.bucket.uploads ≤ 40_000
+      few_uploads = let most = over Uploads in omega (arith, most.0, most.1)
+
+      pub shows : (t : ℕ) → answer t (query.Bucket name) p ≡ Ok (BucketShown name (rule_count held.bucket.rules) (length held.bucket.uploads) held.bucket.versioning (version_count held.bucket))
+      unfolding answer
+      shows t = let there = shown_there in let same = shown_stands.bucket in rw (there, same) refl
+
+      pub shows_meters : (t month : ℕ) → answer t (query.Meters name month) p ≡ Ok (MetersShown name month (map (class_meters month t (book_of shown_account.books)) all_classes))
+      unfolding answer
+      shows_meters t month = let there = shown_there in rw there refl
+
+      pub shown_booked : (t : ℕ) → is_not_before records.last t ≡ true → IsBookedBy t (book_of shown_account.books)
+      shown_booked t later = (kept_now t p stands.orderly (later_plain t later) name shown_account shown_there).booked
