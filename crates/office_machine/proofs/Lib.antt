@@ -1,4 +1,5 @@
 pub mod Accounts
+pub mod Doing
 pub mod Ending
 pub mod Offices
 pub mod Putting

@@ -8,6 +8,8 @@ use Rattle.moments.specs.Months.{month_at}
 use Rattle.class_rules.specs.Classes.{all_classes}
 use Rattle.office_base.specs.Maps.{bytes_cmp, at_name, with_name}
 use Rattle.accrual.specs.Books.{IsBookedBy}
+use Rattle.tariff.specs.Prices.{Prices}
+use Rattle.due_core.specs.Buckets.{BucketRecord}
 use Rattle.plain_office.specs.Office.{Office, Account, empty_office, book_of}
 use Rattle.plain_office.specs.Counts.{count_of, limit_of, first_full, version_count}
 use Rattle.plain_office.specs.Orderly.{IsOrderly, SizeFits}
@@ -22,16 +24,16 @@ use Rattle.office_types.specs.declared.reply.Reply.TheVariants.{BucketMade, Buck
 use Rattle.office_types.specs.declared.refusal.Refusal.{Refusal}
 use Rattle.office_types.specs.declared.refusal.Refusal.TheVariants.{BucketExists, NoSuchBucket, Full, NoMemory}
 use Rattle.office_types.specs.declared.refusal.What.{What}
-use Rattle.office_types.specs.declared.refusal.What.TheVariants.{Buckets, Versions, Uploads}
+use Rattle.office_types.specs.declared.refusal.What.TheVariants.{Buckets, Versions, Uploads, Parts, Names, Rules}
 use Rattle.office_laws.proofs.Lists.{Added, Replaced}
 use Rattle.office_laws.proofs.Maps.{by_name, added, replaced}
 use Rattle.office_laws.proofs.Offices.{kept_now}
-use Rattle.office_laws.proofs.Steps.{step_orderly}
+use Rattle.office_laws.proofs.Steps.{step_orderly, empty_orderly}
 use Rattle.office_machine.specs.declared.change.Done.{Done}
 use Rattle.office_machine.specs.declared.counts.Counts.{Counts}
 use Rattle.office_machine.specs.Changing.{change_of, limits_of, IsOnBucket, IsOrderlyAccount, DoesTold}
-use Rattle.office_machine.specs.Counting.{AccountRecord, AreCountsOver, amount, in_bucket, HaveMoved, first_over}
-use Rattle.office_machine.specs.Standing.{Records, StandsForAccount, StandForAccounts, StandsForOffice, Does}
+use Rattle.office_machine.specs.Counting.{AccountRecord, HasRoom, AreCountsOver, amount, in_bucket, HaveMoved, first_over}
+use Rattle.office_machine.specs.Standing.{Records, StandsForAccount, StandForAccounts, StandsForOffice, IsKept, Does}
 use Rattle.office_machine.proofs.Accounts.{StandsForOption, stand_at, stand_with, stand_set, stand_one}
 use Rattle.office_machine.proofs.Sums.{AreCountsOf, full_is, moved_is, added_is, counts_over}
 use Rattle.office_machine.proofs.Steps.{Answer, step_missing, step_refused, step_full, step_done, placed, made, create_exists, create_full, create_made}
@@ -169,14 +171,18 @@ module _ (records : Records) (p : Office) (stands : StandsForOffice records p) w
         holds : StandsForAccount held account
         holds = (present held found).2
 
+        orderly_account : IsOrderlyAccount t account
+        orderly_account =
+            let kept = kept_now t p stands.orderly (later_plain t later) name account there in
+            record { bucket = kept.bucket; stays = kept.stays }
+
         -- what the change has to know
         pub for_account : (account : Account) × StandsForAccount held account × IsOrderlyAccount t account
-        for_account =
-            let kept = kept_now t p stands.orderly (later_plain t later) name account there in
-            (account, holds, record { bucket = kept.bucket; stays = kept.stays })
+        for_account = (account, holds, orderly_account)
 
         pub for_counts : AreCountsOver held.bucket records.counts
-        for_counts = rw holds.bucket (counts_over p records.counts name account stands.orderly.records stands.counts there)
+        for_counts =
+            subst (λ (bucket : BucketRecord). AreCountsOver bucket records.counts) (sym holds.bucket) (counts_over p records.counts name account stands.orderly.records stands.counts there)
 
         module _ (written : AccountRecord) (accounts : List (List ℕ × AccountRecord)) (set : accounts ≡ set_value (is_at (bytes_cmp name)) records.accounts written) where
           abbrev whats : List What
@@ -187,11 +193,11 @@ module _ (records : Records) (p : Office) (stands : StandsForOffice records p) w
               subst (λ (l : List (List ℕ × AccountRecord)). StandForAccounts l (with_name name after p.accounts)) (sym set)
               (stand_set name written after same records.accounts p.accounts account stands.accounts stands.orderly.records.names there)
 
-          one : (after : Account) → Replaced (name, account) (name, after) p.accounts (with_name name after p.accounts)
-          one after = replaced by_name name after account p.accounts stands.orderly.records.names there
+          one_after : (after : Account) → Replaced (name, account) (name, after) p.accounts (with_name name after p.accounts)
+          one_after after = replaced by_name name after account p.accounts stands.orderly.records.names there
 
           counts_are : (after : Account) (moved : Counts) → HaveMoved account.bucket after.bucket records.counts moved → AreCountsOf (placed t p name asked on after) moved
-          counts_are after moved follow = moved_is p (placed t p name asked on after) name account after (one after) records.counts moved stands.counts follow
+          counts_are after moved follow = moved_is p (placed t p name asked on after) name account after (one_after after) records.counts moved stands.counts follow
 
           done_by : (told : Change) (done : Done) (number : ℕ) → change_of t asked account ≡ told → SizeFits asked → DoesTold whats told account records.counts written (Ok done)
               → Does (step t asked p) p (accepted_records t records accounts done.counts number) (Ok done.reply)
@@ -202,13 +208,13 @@ module _ (records : Records) (p : Office) (stands : StandsForOffice records p) w
               does (step t asked p) p (accepted t (placed t p name asked on after)) (accepted_records t records accounts done.counts number) (Ok done.reply)
               (stepped ∙ ap (λ (r : Reply). (accepted t (placed t p name asked on after), Ok r)) (sym h.0))
               (moved_on t later (placed t p name asked on after) accounts done.counts number refl refl refl (set_standing after h.1)
-              (moved_is p (accepted t (placed t p name asked on after)) name account after (one after) records.counts done.counts stands.counts h.2)
+              (moved_is p (accepted t (placed t p name asked on after)) name account after (one_after after) records.counts done.counts stands.counts h.2)
               (subst IsOrderly (ap (λ (x : Office × Answer). x.0) stepped) (step_orderly t asked p fits stands.orderly (later_plain t later))))
 
           -- a change that was done
           pub does_done : (done : Done) (number : ℕ) → SizeFits asked → ((account : Account) → StandsForAccount held account → IsOrderlyAccount t account → DoesTold whats (change_of t asked account) account records.counts written (Ok done))
               → Does (step t asked p) p (accepted_records t records accounts done.counts number) (Ok done.reply)
-          does_done done number fits does_told = done_by (change_of t asked account) done number refl fits (does_told account holds for_account.2)
+          does_done done number fits does_told = done_by (change_of t asked account) done number refl fits (does_told account holds orderly_account)
 
           kept : (written_for : StandsForAccount written account) → StandsForOffice (with_accounts records accounts) p
           kept written_for =
@@ -232,7 +238,7 @@ module _ (records : Records) (p : Office) (stands : StandsForOffice records p) w
           -- a change that was refused
           pub does_refuse : (refusal : Refusal) → ((account : Account) → StandsForAccount held account → IsOrderlyAccount t account → DoesTold whats (change_of t asked account) account records.counts written (Err refusal))
               → Does (step t asked p) p (with_accounts records accounts) (Err refusal)
-          does_refuse refusal does_told = refused_by (change_of t asked account) refusal refl (does_told account holds for_account.2)
+          does_refuse refusal does_told = refused_by (change_of t asked account) refusal refl (does_told account holds orderly_account)
 
     -- ---- queries
 
@@ -255,7 +261,8 @@ module _ (records : Records) (p : Office) (stands : StandsForOffice records p) w
       shown_stands = (present held found).2
 
       over : AreCountsOver held.bucket records.counts
-      over = rw shown_stands.bucket (counts_over p records.counts name shown_account stands.orderly.records stands.counts shown_there)
+      over =
+          subst (λ (bucket : BucketRecord). AreCountsOver bucket records.counts) (sym shown_stands.bucket) (counts_over p records.counts name shown_account stands.orderly.records stands.counts shown_there)
 
       pub few_versions : version_count held.bucket ≤ 400_000
       few_versions = let most = over Versions in omega (arith, most.0, most.1)
@@ -265,7 +272,9 @@ module _ (records : Records) (p : Office) (stands : StandsForOffice records p) w
 
       pub shows : (t : ℕ) → answer t (query.Bucket name) p ≡ Ok (BucketShown name (rule_count held.bucket.rules) (length held.bucket.uploads) held.bucket.versioning (version_count held.bucket))
       unfolding answer
-      shows t = let there = shown_there in let same = shown_stands.bucket in rw (there, same) refl
+      shows t =
+          let there = shown_there in
+          rw there (ap (λ (bucket : BucketRecord). Ok (BucketShown name (rule_count bucket.rules) (length bucket.uploads) bucket.versioning (version_count bucket))) (sym shown_stands.bucket))
 
       pub shows_meters : (t month : ℕ) → answer t (query.Meters name month) p ≡ Ok (MetersShown name month (map (class_meters month t (book_of shown_account.books)) all_classes))
       unfolding answer
@@ -273,3 +282,64 @@ module _ (records : Records) (p : Office) (stands : StandsForOffice records p) w
 
       pub shown_booked : (t : ℕ) → is_not_before records.last t ≡ true → IsBookedBy t (book_of shown_account.books)
       shown_booked t later = (kept_now t p stands.orderly (later_plain t later) name shown_account shown_there).booked
+
+-- ---- the office before the first command
+
+none_counted : (what : What) → count_of what empty_office ≡ 0
+unfolding count_of
+none_counted Buckets = refl
+none_counted Versions = refl
+none_counted Uploads = refl
+none_counted Parts = refl
+none_counted Names = refl
+none_counted Rules = refl
+
+pub empty_stands : (closed : List (ℕ × Prices)) (accounts : List (List ℕ × AccountRecord)) (counts : Counts) (number : ℕ) → closed ≡ [] → accounts ≡ [] → ((what : What) → amount what counts ≡ 0)
+    → StandsForOffice (record { last = None; tariff = None; first_month = None; closed = closed; accounts = accounts; counts = counts; accepted = number }) empty_office
+empty_stands closed accounts counts number no_month no_account none = record {
+  orderly = empty_orderly;
+  last = refl;
+  tariff = refl;
+  first_month = refl;
+  closed = no_month;
+  accounts = subst (λ (l : List (List ℕ × AccountRecord)). StandForAccounts l []) (sym no_account) tt;
+  counts = λ what. none what ∙ sym (none_counted what);
+}
+
+-- ---- what is kept
+
+-- whatever it stood for, it stands for some office after an answer that is the step's
+pub stands_on : (expected : Office × Answer) (before : Office) (after : Records) (result : Answer) → Does expected before after result → (p : Office) × StandsForOffice after p
+stands_on expected before after result (inl done) = (expected.0, done.1)
+stands_on expected before after result (inr wanting) = (before, wanting.1)
+
+pub kept_on : (expected : Office × Answer) (before : Office) (after : Records) (result : Answer) → Does expected before after result → AllByRecursion (λ account. HasRoom after.accepted account.1) after.accounts → IsKept after
+kept_on expected before after result does_it room =
+    let stands = stands_on expected before after result does_it in
+    record { office = stands.0; stands = stands.1; room = room }
+
+pub empty_kept : (closed : List (ℕ × Prices)) (accounts : List (List ℕ × AccountRecord)) (counts : Counts) (number : ℕ) → closed ≡ [] → accounts ≡ [] → ((what : What) → amount what counts ≡ 0)
+    → IsKept (record { last = None; tariff = None; first_month = None; closed = closed; accounts = accounts; counts = counts; accepted = number })
+empty_kept closed accounts counts number no_month no_account none = record {
+  office = empty_office;
+  stands = empty_stands closed accounts counts number no_month no_account none;
+  room = subst (λ (l : List (List ℕ × AccountRecord)). AllByRecursion (λ account. HasRoom number account.1) l) (sym no_account) tt;
+}
+
+-- ---- with what the calls give
+
+-- a bucket more
+pub one_more : (counts : Counts) (t : ℕ) (what : What) → amount what (record counts { buckets = counts.buckets + 1 }) ≡ amount what counts + in_bucket what (new_account t).bucket
+one_more counts t Buckets = refl
+one_more counts t Versions = omega arith
+one_more counts t Uploads = omega arith
+one_more counts t Parts = omega arith
+one_more counts t Names = omega arith
+one_more counts t Rules = omega arith
+
+-- the first month that a call gives
+pub with_month : (t : ℕ) (records : Records) (accounts : List (List ℕ × AccountRecord)) (counts : Counts) (number month : ℕ) → month ≡ unwrap_or records.first_month (month_at t) → (P : Records → Type 0)
+    → P (accepted_records t records accounts counts number)
+    → P (record { last = Some t; tariff = records.tariff; first_month = Some month; closed = records.closed; accounts = accounts; counts = counts; accepted = number })
+with_month t records accounts counts number month is P h =
+    subst (λ (m : ℕ). P (record { last = Some t; tariff = records.tariff; first_month = Some m; closed = records.closed; accounts = accounts; counts = counts; accepted = number })) (sym is) h

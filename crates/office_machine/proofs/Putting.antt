@@ -38,7 +38,7 @@ use Rattle.office_machine.specs.declared.incoming.Incoming.{Incoming}
 use Rattle.office_machine.specs.declared.incoming.Leaving.{Leaving}
 use Rattle.office_machine.specs.Booking.{leaving_of, MayHaveStay, HasStay, version_of, stack_put, books_put, gone_versions, gone_bytes, counts_put, stack_under, gone_of, new_bytes, counts_after, IsReady, HaveRoom}
 use Rattle.office_machine.specs.Changing.{IsOrderlyAccount, IsFullAfter, DoesTold}
-use Rattle.office_machine.specs.Counting.{account_of, AreCountsOver, HaveMoved, first_over, IsFullOf}
+use Rattle.office_machine.specs.Counting.{AccountRecord, account_of, AreCountsOver, HaveMoved, first_over, IsFullOf}
 use Rattle.office_machine.specs.Standing.{StandsForAccount}
 use Rattle.office_machine.proofs.Replacing.{is_free, since_by, of_option, sum_below, one_each}
 
@@ -165,10 +165,10 @@ module _ (b : BucketRecord) (books : Books) (key : List ℕ) (size : ℕ) (class
   names_by : (o : Option StackRecord) → at_name key b.stacks ≡ o
       → weight_of b key by_names key (unwrap_or o (new_stack 0)).versions + new_bytes key b.stacks ≡ length key + sum_by tag_bytes_of (unwrap_or o (new_stack 0)).versions
   names_by None is = rw is (omega arith)
-  names_by (Some stack) is = some stack.versions (stack_orderly b key t orderly.bucket stack is).some where
-    some : (vs : List Version) → 0 < length vs → weight_of b key by_names key vs + new_bytes key b.stacks ≡ length key + sum_by tag_bytes_of vs
-    some [] none = absurd (omega (arith, none))
-    some (v ∷ vs) some = rw is (omega arith)
+  names_by (Some stack) is = with_some stack.versions (stack_orderly b key t orderly.bucket stack is).some where
+    with_some : (vs : List Version) → 0 < length vs → weight_of b key by_names key vs + new_bytes key b.stacks ≡ length key + sum_by tag_bytes_of vs
+    with_some [] few = absurd (omega (arith, few))
+    with_some (v ∷ vs) many = rw is (omega arith)
 
   names_weight : weight_of b key by_names key versions + new_bytes key b.stacks ≡ length key + sum_by tag_bytes_of versions
   names_weight = names_by (at_name key b.stacks) refl
@@ -245,3 +245,59 @@ module _ (b : BucketRecord) (books : Books) (key : List ℕ) (size : ℕ) (class
       because : (refusal ≡ NoMemory) ⊎ IsFullOf whats moved refusal → (refusal ≡ NoMemory) ⊎ IsFullAfter whats b after counts refusal
       because (inl wanting) = inl wanting
       because (inr full) = inr (record { moved = moved; follow = have_moved; full = full })
+
+-- ---- of any account that the bucket stands for, and any object with the bucket's versioning and next number
+
+module _ (b : BucketRecord) (of : Account) (same : b ≡ of.bucket) (key : List ℕ) (put : Incoming) (versioning : put.versioning ≡ b.versioning) (number : put.number ≡ b.next_version) (tags : List Tag)
+    (orderly : IsOrderlyAccount put.at of) where
+  here : IsOrderlyAccount put.at (record { bucket = b; books = of.books })
+  here = subst (λ (x : BucketRecord). IsOrderlyAccount put.at (record { bucket = x; books = of.books })) (sym same) orderly
+
+  put_is : object b of.books key put.size put.class tags put.at here ≡ put
+  put_is = λ i. record { versioning = sym versioning i; number = sym number i; size = put.size; class = put.class; at = put.at }
+
+  pub ready_for : IsReady put (stack_under key b.stacks)
+  ready_for = subst (λ (o : Incoming). IsReady o (stack_under key b.stacks)) put_is (is_ready b of.books key put.size put.class tags put.at here)
+
+  pub first_for : IsFree put.versioning put.number []
+  first_for = subst (λ (o : Incoming). IsFree o.versioning o.number []) put_is (first_free b of.books key put.size put.class tags put.at here)
+
+  pub stay_for : MayHaveStay key (gone_of key put b.stacks) of.books
+  stay_for = subst (λ (o : Incoming). MayHaveStay key (gone_of key o b.stacks) of.books) put_is (has_stay b of.books key put.size put.class tags put.at here)
+
+  module _ (counts : Counts) (over : AreCountsOver b counts) where
+    pub room_for : HaveRoom counts (gone_bytes (option_map leaving_of (gone_of key put b.stacks)))
+    room_for = subst (λ (o : Incoming). HaveRoom counts (gone_bytes (option_map leaving_of (gone_of key o b.stacks)))) put_is (has_room b of.books key put.size put.class tags put.at here counts over)
+
+    abbrev Told : Incoming → AccountRecord → Result Done Refusal → Type 0
+    Told o after result = DoesTold (Versions ∷ Names ∷ []) (put_object o.at key o.size o.class tags of) of counts after result
+
+    of_account : (o : Incoming) (after : AccountRecord) (result : Result Done Refusal)
+        → DoesTold (Versions ∷ Names ∷ []) (put_object o.at key o.size o.class tags (record { bucket = b; books = of.books })) (record { bucket = b; books = of.books }) counts after result → Told o after result
+    of_account o after result h =
+        subst (λ (x : BucketRecord). DoesTold (Versions ∷ Names ∷ []) (put_object o.at key o.size o.class tags (record { bucket = x; books = of.books })) (record { bucket = x; books = of.books }) counts after result) same h
+
+    abbrev IsDone : Incoming → Type 0
+    IsDone o = (stacks : List (List ℕ × StackRecord)) → stacks ≡ with_name key (stack_put o tags (stack_under key b.stacks)) b.stacks → (next : ℕ) → next ≡ number_after o.versioning o.number
+        → (meters : Totals) → StandsFor meters (book_of (books_put key o tags (gone_of key o b.stacks) of.books)) → (done : Done) → done.counts ≡ counts_after key o tags b.stacks counts
+        → done.reply ≡ Stored o.at (new_id o.versioning o.number) → first_over (Versions ∷ Names ∷ []) done.counts ≡ None
+        → Told o (account_of (record b { stacks = stacks; next_version = next }) meters) (Ok done)
+
+    pub done_for : IsDone put
+    done_for =
+        subst IsDone put_is
+        (λ stacks written next is meters stands done are reply free.
+        of_account (object b of.books key put.size put.class tags put.at here) (account_of (record b { stacks = stacks; next_version = next }) meters) (Ok done)
+        (put_done b of.books key put.size put.class tags put.at here counts over stacks written next is meters stands done are reply free))
+
+    abbrev IsRefused : Incoming → Type 0
+    IsRefused o = (stacks : List (List ℕ × StackRecord)) → stacks ≡ b.stacks → (meters : Totals) → StandsFor meters (book_of of.books) → (refusal : Refusal)
+        → (refusal ≡ NoMemory) ⊎ IsFullOf (Versions ∷ Names ∷ []) (counts_after key o tags b.stacks counts) refusal
+        → Told o (account_of (record b { stacks = stacks }) meters) (Err refusal)
+
+    pub refused_for : IsRefused put
+    refused_for =
+        subst IsRefused put_is
+        (λ stacks kept meters stands refusal why.
+        of_account (object b of.books key put.size put.class tags put.at here) (account_of (record b { stacks = stacks }) meters) (Err refusal)
+        (put_refused b of.books key put.size put.class tags put.at here counts over stacks kept meters stands refusal why))

@@ -14,7 +14,6 @@ use Rattle.stacks.specs.declared.version.Kind.TheVariants.{Object, Marker}
 use Rattle.stacks.specs.declared.version.Version.{Version}
 use Rattle.stacks.specs.Stacks.{same_id, has_id, version_at, without, ids_differ, covered, new_id, replaced, IsFree, has_moments_until, is_entered_until, is_stack}
 use Rattle.plain_office.specs.Orderly.{IsNumberBelow, lines_since}
-use Rattle.office_laws.proofs.Ids.{without_none}
 use Rattle.office_laws.proofs.Versions.{id_same}
 use Rattle.accrual.specs.Totals.{Totals}
 use Rattle.office_machine.specs.Booking.{IsSinceBy, MayHaveRows, HasRowsFrom, since_option}
@@ -39,10 +38,10 @@ is_free Suspended next versions some h = tt
 
 found_all : (p q : Version → Bool) (versions : List Version) (v : Version) → list_all p versions ≡ true → find q versions ≡ Some v → p v ≡ true
 found_all p q [] v all is = absurd cc
-found_all p q (x ∷ versions) v all is = by (q x) (and_parts (p x) (list_all p versions) all) is where
-  by : (b : Bool) → (p x ≡ true) × (list_all p versions ≡ true) → cond b (Some x) (find q versions) ≡ Some v → p v ≡ true
-  by true parts is = let same : x ≡ v = cc in subst (λ (w : Version). p w ≡ true) same parts.0
-  by false parts is = found_all p q versions v parts.1 is
+found_all p q (x ∷ versions) v all is = by (q x) (and_parts (p x) (list_all p versions) all) is (found_all p q versions v) where
+  by : (b : Bool) → (p x ≡ true) × (list_all p versions ≡ true) → cond b (Some x) (find q versions) ≡ Some v → (list_all p versions ≡ true → find q versions ≡ Some v → p v ≡ true) → p v ≡ true
+  by true parts is more = let same : x ≡ v = cc in subst (λ (w : Version). p w ≡ true) same parts.0
+  by false parts is more = more parts.1 is
 
 until_since : (changed : ℕ) (v : Version) → has_moments_until changed v ≡ true → lines_since v ≤ changed
 until_since changed v h = by v.kind h where
@@ -84,22 +83,28 @@ abbrev pub of_option : (Version → ℕ) → Option Version → ℕ
 of_option f None = 0
 of_option f (Some v) = f v
 
+without_none : (id : VersionId) (versions : List Version) → list_any (has_id id) versions ≡ false → without id versions ≡ versions
+without_none id [] h = refl
+without_none id (v ∷ versions) h =
+    let parts = or_parts (has_id id v) (list_any (has_id id) versions) h in
+    rw parts.0 (ap (λ (l : List Version). v ∷ l) (without_none id versions parts.1))
+
 pub sum_without : (f : Version → ℕ) (id : VersionId) (versions : List Version) → ids_differ versions ≡ true → sum_by f (without id versions) + of_option f (version_at id versions) ≡ sum_by f versions
 sum_without f id [] differ = refl
-sum_without f id (v ∷ versions) differ = by (has_id id v) refl where
+sum_without f id (v ∷ versions) differ = by (has_id id v) refl (sum_without f id versions) where
   parts : (not (list_any (has_id v.id) versions) ≡ true) × (ids_differ versions ≡ true)
   parts = and_parts (not (list_any (has_id v.id) versions)) (ids_differ versions) differ
 
-  by : (b : Bool) → has_id id v ≡ b
+  by : (b : Bool) → has_id id v ≡ b → (ids_differ versions ≡ true → sum_by f (without id versions) + of_option f (version_at id versions) ≡ sum_by f versions)
       → sum_by f (cond (not b) (v ∷ without id versions) (without id versions)) + of_option f (cond b (Some v) (version_at id versions)) ≡ sum_by f (v ∷ versions)
-  by true is =
+  by true is left_over =
       let same = id_same id v.id is in
       let none = subst (λ (i : VersionId). list_any (has_id i) versions ≡ false) (sym same) (not-true _ parts.0) in
       let left = ap (λ (l : List Version). sum_by f l) (without_none id versions none) in
       let cons = sum_by-cons f v versions in
       omega (arith, left, cons)
-  by false is =
-      let rest = sum_without f id versions parts.1 in
+  by false is left_over =
+      let rest = left_over parts.1 in
       let more = sum_by-cons f v (without id versions) in
       let cons = sum_by-cons f v versions in
       omega (arith, rest, more, cons)

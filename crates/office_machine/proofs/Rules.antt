@@ -1,5 +1,5 @@
 -- How many rules a configuration has.
-use Rattle.std.proofs.Common.{◌≡◌, ℕ, ◌≤◌, length, refl, Bool, true, false, cond}
+use Rattle.std.proofs.Common.{◌≡◌, ℕ, ◌≤◌, [], length, refl, Bool, true, false, cond}
 use Rattle.std.specs.Prelude.{Option, Some, None, nat_lt}
 use Rattle.std.proofs.lemmas.Bool.{ltb-false}
 use Rattle.rules_core.specs.Conditions.{first_flaw, first_flaw_after}

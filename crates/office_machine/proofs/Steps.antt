@@ -19,6 +19,15 @@ use Rattle.office_machine.specs.Changing.{change_of, limits_of, IsOnBucket}
 abbrev pub Answer : Type 0
 Answer = Result Reply Refusal
 
+abbrev told_is : Change → Bool
+told_is (Ok done) = is_accepted (Ok done.1)
+told_is (Err refusal) = true
+
+-- what is told of a command on a bucket is accepted
+pub told_accepted : (t : ℕ) (name : List ℕ) (asked : Command) → IsOnBucket name asked → (account after : Account) (told : Reply) → change_of t asked account ≡ Ok (after, told) → is_accepted (Ok told) ≡ true
+told_accepted t name (command.Put bucket key size class tags) same account after told is = sym (ap told_is is)
+told_accepted t name other same account after told is = absurd same
+
 module _ (t : ℕ) (p : Office) where
   settled_ok : (after : Office) (told : Reply) → is_accepted (Ok told) ≡ true → settled t p (Ok (after, told)) ≡ (accepted t after, Ok told)
   settled_ok after reply.NothingDue h = absurd cc
@@ -30,15 +39,6 @@ module _ (t : ℕ) (p : Office) where
   unfolding outcome
   outcome_on name (command.Put bucket key size class tags) same = rw same refl
   outcome_on name other same = absurd same
-
-  abbrev told_is : Change → Bool
-  told_is (Ok done) = is_accepted (Ok done.1)
-  told_is (Err refusal) = true
-
-  -- what is told of it is accepted
-  told_accepted : (name : List ℕ) (asked : Command) → IsOnBucket name asked → (account after : Account) (told : Reply) → change_of t asked account ≡ Ok (after, told) → is_accepted (Ok told) ≡ true
-  told_accepted name (command.Put bucket key size class tags) same account after told is = sym (ap told_is is)
-  told_accepted name other same account after told is = absurd same
 
   module _ (name : List ℕ) (asked : Command) (on : IsOnBucket name asked) where
     pub step_missing : at_name name p.accounts ≡ None → step t asked p ≡ (p, Err NoSuchBucket)
@@ -77,7 +77,7 @@ module _ (t : ℕ) (p : Office) where
       unfolding step
       step_done after told is free =
           ap (settled t p) (outcome_told (Ok (after, told)) is ∙ ap (λ (o : Option What). unless_full o (placed after, told)) free)
-          ∙ settled_ok (placed after) told (told_accepted name asked on account after told is)
+          ∙ settled_ok (placed after) told (told_accepted t name asked on account after told is)
 
   -- ---- a new bucket
 

@@ -1,6 +1,6 @@
 -- How many bytes tags have.
 use Rattle.std.proofs.Common.{◌≡◌, ℕ, ◌+◌, ◌-◌, ◌*◌, ◌≤◌, List, [], ◌∷◌, length, take, drop, sym, subst, Bool, true, ◌&&◌, arith, length-append}
-use Rattle.std.proofs.lemmas.List.{length-map, length-take}
+use Rattle.std.proofs.lemmas.List.{length-map, length-take, length-drop}
 use Rattle.std.specs.Prelude.{nat_le, get_or, String, string_bytes, IsTrue}
 use Rattle.std.specs.declared.alloc.Global.{Global}
 use Rattle.std.specs.List.{list_all}
@@ -48,9 +48,9 @@ first_most (pair ∷ pairs) first tags some is =
 
 -- the others are one fewer
 pub rest_length : (pairs : List (String Global × String Global)) → 1 ≤ length pairs → length (tags_of (take (length pairs - 1) (drop 1 pairs))) + 1 ≡ length (tags_of pairs)
-rest_length [] some = absurd (omega (arith, some))
-rest_length (pair ∷ pairs) some =
-    let rest = length-map tag_of (take (length pairs) pairs) in
-    let all = length-map tag_of (pair ∷ pairs) in
-    let same = length-take (length pairs) pairs in
-    omega (arith, rest, all, same)
+rest_length pairs some =
+    let rest = length-map (take (length pairs - 1) (drop 1 pairs)) tag_of in
+    let all = length-map pairs tag_of in
+    let taken = length-take (length pairs - 1) (drop 1 pairs) in
+    let dropped = length-drop 1 pairs in
+    omega (arith, rest, all, taken, dropped, some)

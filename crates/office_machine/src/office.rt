@@ -4,6 +4,7 @@ ghost use Rattle.plain_office.specs.Office as plain;
 ghost use Rattle.plain_office.specs.Office.{empty_office};
 ghost use Rattle.plain_office.specs.Step.{step};
 ghost use Rattle.plain_office.specs.Answers.{answer};
+ghost use Rattle.plain_office.specs.Orderly.{SizeFits};
 ghost use Rattle.plain_office.specs.Run.{is_not_before};
 ghost use Rattle.office_types.specs.Built.{IsBuilt, IsBuiltQuery};
 ghost use Rattle.office_types.specs.declared.command.Command.TheVariants as command;
@@ -112,7 +113,11 @@ impl Office {
     {
         match command {
             Command::CreateBucket { bucket } => self.create_bucket(t, bucket),
-            Command::Put { bucket, .. } => self.on_bucket(t, bucket, command),
+            Command::Put { bucket, size, .. } => {
+                // A size is at most 5 TiB, by its type.
+                let _ = size.bytes();
+                self.on_bucket(t, bucket, command)
+            }
             _ => Err(Refusal::NoMemory),
         }
     }
@@ -158,6 +163,7 @@ impl Office {
         requires later { IsTrue (is_not_before self.old.last t) }
         requires few { self.old.accepted < most_commands }
         requires named { IsOnBucket name.now command.now }
+        requires fits { SizeFits command.now }
         ensures step { (p : plain.Office) → StandsForOffice self.old p → Does (step t command.now p) p self.new result }
         ensures accepted { self.new.accepted ≡ accepted_after result self.old.accepted }
     {

@@ -1,0 +1,28 @@
+use Rattle.std.proofs.Common.{◌≡◌, inl, ℕ, sym, subst}
+use Rattle.std.specs.Prelude.{Ok}
+use Rattle.plain_office.specs.Answers.{answer, rule_count}
+use Rattle.plain_office.specs.Counts.{version_count}
+use Rattle.office_types.specs.declared.command.Query.TheVariants as query
+use Rattle.office_types.specs.declared.reply.Reply.TheVariants.{BucketShown}
+use Rattle.office_machine.specs.Standing.{Records, StandsForOffice}
+use Rattle.office_machine.proofs.Offices.{shows_none, few_versions, few_uploads, shows}
+use Rattle.office_machine.proofs.office.Office.show_bucket.Goals as goal
+
+pub returns-in_default : goal.returns-in_default
+returns-in_default c = record {
+  reply = λ t p stands.
+      inl (sym (shows_none _ p (subst (λ (r : Records). StandsForOffice r p) (sym c.self.view_is) stands) c.args.name.now t (sym c.in_default.ensures.value)));
+}
+
+pub uploads-requires : goal.uploads-requires
+uploads-requires c = record { few = few_uploads _ c.self.invariant.office c.self.invariant.stands c.args.name.now c.in-Some.account.now (sym c.in-Some.ensures.value) }
+
+pub versions-requires : goal.versions-requires
+versions-requires c = record { few = few_versions _ c.self.invariant.office c.self.invariant.stands c.args.name.now c.in-Some.account.now (sym c.in-Some.ensures.value) }
+
+pub returns : goal.returns
+returns c = record {
+  reply = λ t p stands.
+      let is = shows _ p (subst (λ (r : Records). StandsForOffice r p) (sym c.self.view_is) stands) c.args.name.now c.in-Some.account.now (sym c.in-Some.ensures.value) t in
+      inl (rw (c.in_ok-copy_of.ensures.ok, c.rules.ensures, c.uploads.ensures, c.versioning.ensures, c.versions.ensures) (sym is));
+}

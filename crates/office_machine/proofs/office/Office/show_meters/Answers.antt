@@ -1,0 +1,31 @@
+use Rattle.std.proofs.Common.{◌≡◌, inl, ℕ, sym, subst, true}
+use Rattle.accrual.specs.Books.{Book}
+use Rattle.plain_office.specs.Office.{book_of}
+use Rattle.plain_office.specs.Run.{is_not_before}
+use Rattle.office_machine.specs.Standing.{Records, StandsForOffice}
+use Rattle.office_machine.proofs.Offices.{meters_none, shows_meters, shown_account, shown_stands, shown_booked}
+use Rattle.office_machine.proofs.office.Office.show_meters.Goals as goal
+
+pub returns-in_default : goal.returns-in_default
+returns-in_default c = record {
+  reply = λ p stands.
+      inl (sym (meters_none _ p (subst (λ (r : Records). StandsForOffice r p) (sym c.self.view_is) stands) c.args.name.now c.args.t c.args.month (sym c.in_default.ensures.value)));
+}
+
+pub returns : goal.returns
+returns c = record {
+  reply = λ p stands.
+      let stood = subst (λ (r : Records). StandsForOffice r p) (sym c.self.view_is) stands in
+      let found = sym c.in-Some.ensures.value in
+      let is = shows_meters _ p stood c.args.name.now c.in-Some.account.now found c.args.t c.args.month in
+      let book : Book = book_of (shown_account _ p stood c.args.name.now c.in-Some.account.now found).books in
+      let meters = (shown_stands _ p stood c.args.name.now c.in-Some.account.now found).meters in
+      let booked = shown_booked _ p stood c.args.name.now c.in-Some.account.now found c.args.t (subst (λ (r : Records). is_not_before r.last c.args.t ≡ true) (sym c.self.view_is) c.requires.later) in
+      let used1 = c.used.ensures book meters booked in
+      let used2 = c.used-2.ensures book meters booked in
+      let used3 = c.used-3.ensures book meters booked in
+      let used4 = c.used-4.ensures book meters booked in
+      let used5 = c.used-5.ensures book meters booked in
+      let used6 = c.used-6.ensures book meters booked in
+      inl (rw (c.in_ok-bucket.ensures.ok, used1, used2, used3, used4, used5, used6) (sym is));
+}
