@@ -8,5 +8,7 @@ mod counts;
 mod incoming;
 mod office;
 mod put;
+#[cfg(test)]
+mod tests;
 
 pub use office::Office;

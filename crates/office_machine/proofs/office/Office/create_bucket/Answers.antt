@@ -9,6 +9,7 @@ use Rattle.office_types.specs.declared.command.Command.TheVariants as command
 use Rattle.office_types.specs.declared.reply.Reply.{Reply}
 use Rattle.office_types.specs.declared.reply.Reply.TheVariants.{BucketMade}
 use Rattle.office_types.specs.declared.refusal.Refusal.{Refusal}
+use Rattle.office_types.specs.declared.refusal.Refusal.TheVariants.{BucketExists}
 use Rattle.office_types.specs.declared.refusal.What.{What}
 use Rattle.office_types.specs.declared.refusal.What.TheVariants.{Buckets}
 use Rattle.office_machine.specs.declared.counts.Counts.{Counts}
@@ -25,20 +26,22 @@ ok_of (Err e) P ok holds = absurd cc
 
 pub returns-then-contains_key-clause-step : goal.returns-then-contains_key-clause-step
 returns-then-contains_key-clause-step c = λ p stands.
-    subst (λ (r : Records). Does (step c.args.t (command.CreateBucket c.args.name.now) p) p r _) c.self.view_is
+    subst (λ (r : Records). Does (step c.args.t (command.CreateBucket c.args.name.now) p) p r (Err BucketExists)) c.self.view_is
     (does_exist _ p (subst (λ (r : Records). StandsForOffice r p) (sym c.self.view_is) stands) c.args.name.now c.args.t
     (subst (λ (r : Records). is_not_before r.last c.args.t ≡ true) (sym c.self.view_is) c.requires.later) (sym c.contains_key.ensures ∙ c.if-contains_key.true))
 
 pub returns-in_err-counts-clause-step : goal.returns-in_err-counts-clause-step
 returns-in_err-counts-clause-step c = λ p stands.
+    let inside : Records =
+    record { last = c.self.inside.last; tariff = c.self.inside.tariff; first_month = c.self.inside.first_month; closed = c.self.inside.closed.items; accounts = c.self.inside.accounts.entries; counts = c.self.inside.counts; accepted = c.self.inside.accepted } in
     let full = c.in_err-counts.ensures.full in
     let none = sym c.contains_key.ensures ∙ c.if-contains_key.false in
     let done =
-    does_fill _ p (subst (λ (r : Records). StandsForOffice r p) (sym c.self.view_is) stands) c.args.name.now c.args.t
+    does_fill inside p (subst (λ (r : Records). StandsForOffice r p) (sym c.self.view_is) stands) c.args.name.now c.args.t
     (subst (λ (r : Records). is_not_before r.last c.args.t ≡ true) (sym c.self.view_is) c.requires.later) none
     (record c.self.inside.counts { buckets = c.self.inside.counts.buckets + 1 }) (one_more c.self.inside.counts c.args.t) full.0 full.1 in
     subst (λ (r : Records). Does (step c.args.t (command.CreateBucket c.args.name.now) p) p r c.from_residual.result) c.self.view_is
-    (subst (λ (r : Result Reply Refusal). Does (step c.args.t (command.CreateBucket c.args.name.now) p) p _ r)
+    (subst (λ (r : Result Reply Refusal). Does (step c.args.t (command.CreateBucket c.args.name.now) p) p inside r)
     (ap (λ (e : Refusal). Err e) (sym full.2) ∙ err_of c.from_residual.result c.in_err-counts.field-0.0 c.from_residual.ensures.1) done)
 
 pub invariant_of-self-2 : goal.invariant_of-self-2
