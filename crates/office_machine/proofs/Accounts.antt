@@ -1,4 +1,4 @@
--- Buckets in memory and the plain office's accounts side by side.
+-- Accounts in memory and the plain office's side by side.
 use Rattle.std.proofs.Common.{◌≡◌, ℕ, suc, List, [], ◌∷◌, length, refl, ap, sym, ◌∙◌, Bool, true, false, cond, subst}
 use Rattle.std.specs.Prelude.{Option, Some, None}
 use Rattle.std.specs.Bool.{IsTrue}
@@ -8,88 +8,85 @@ use Rattle.std.specs.Ordering.{match_ordering, is_eq, is_lt, ordering_reverse}
 use Rattle.std.specs.Map.{set_value}
 use Rattle.std.specs.BTreeMap.{is_at}
 use Rattle.std.proofs.lemmas.Cmp.{nat_list_cmp_total}
-use Rattle.plain_office.specs.Maps.{bytes_cmp, at_name, with_name, Rises}
+use Rattle.std.proofs.lemmas.Map.Steps.{set_value_same}
+use Rattle.office_base.specs.Maps.{bytes_cmp, at_name, with_name, Rises}
 use Rattle.plain_office.specs.Office.{Account}
-use Rattle.plain_office.proofs.OrderlyLists.{held_every}
-use Rattle.plain_office.proofs.OrderlyMaps.{found}
-use Rattle.office_machine.specs.Standing.{BucketRecords, StandsForBucket, StandsForAccount, StandForAccounts}
+use Rattle.office_laws.proofs.Lists.{held_every}
+use Rattle.office_laws.proofs.Maps.{by_name, found, less_of}
+use Rattle.office_machine.specs.Counting.{AccountRecord}
+use Rattle.office_machine.specs.Standing.{StandsForAccount, StandsForEntry, StandForAccounts}
 
 -- ---- a value set in its place is the value written under the name
 
 module _ {X : Type 0} (name : List ℕ) (value old : X) where
-  less_of : (o : Ordering) → IsTrue (is_lt o) → o ≡ Less
-  less_of Less h = refl
-  less_of Equal h = absurd cc
-  less_of Greater h = absurd cc
-
-  not_above : (e : List ℕ × X) (es : List (List ℕ × X)) → bytes_cmp name e.0 ≡ Less → Rises (e ∷ es) → at_name name es ≡ Some old → ⊥
+  not_above : (e : List ℕ × X) (es : List (List ℕ × X)) → bytes_cmp name e.0 ≡ Less → Rises bytes_cmp (e ∷ es) → at_name name es ≡ Some old → ⊥
   not_above e es is rises h =
-      let lower = less_of (bytes_cmp e.0 name) (held_every (name, old) es (found name old es h) (λ (other : List ℕ × X). IsTrue (is_lt (bytes_cmp e.0 other.0))) rises.0) in
+      let lower = less_of (bytes_cmp e.0 name) (held_every (name, old) es (found by_name name old es h) (λ (other : List ℕ × X). IsTrue (is_lt (bytes_cmp e.0 other.0))) rises.0) in
       let turned : bytes_cmp name e.0 ≡ ordering_reverse (bytes_cmp e.0 name) = nat_list_cmp_total.antisymm name e.0 in
       let greater : bytes_cmp name e.0 ≡ Greater = turned ∙ ap ordering_reverse lower in
       absurd cc
 
-  set_at : (o : Ordering) (e : List ℕ × X) (es set rest : List (List ℕ × X)) → bytes_cmp name e.0 ≡ o → Rises (e ∷ es) → cond (is_eq o) (Some e.1) (at_name name es) ≡ Some old → (at_name name es ≡ Some old → set ≡ rest)
+  set_at : (o : Ordering) (e : List ℕ × X) (es set rest : List (List ℕ × X)) → bytes_cmp name e.0 ≡ o → Rises bytes_cmp (e ∷ es) → cond (is_eq o) (Some e.1) (at_name name es) ≡ Some old → (at_name name es ≡ Some old → set ≡ rest)
       → cond (is_eq o) ((e.0, value) ∷ es) (e ∷ set) ≡ match_ordering o ((name, value) ∷ e ∷ es) ((e.0, value) ∷ es) (e ∷ rest)
   set_at Less e es set rest is rises h more = absurd (not_above e es is rises h)
   set_at Equal e es set rest is rises h more = refl
   set_at Greater e es set rest is rises h more = ap (λ (l : List (List ℕ × X)). e ∷ l) (more h)
 
-  pub set_is_with : (es : List (List ℕ × X)) → Rises es → at_name name es ≡ Some old → set_value (is_at (bytes_cmp name)) es value ≡ with_name name value es
+  pub set_is_with : (es : List (List ℕ × X)) → Rises bytes_cmp es → at_name name es ≡ Some old → set_value (is_at (bytes_cmp name)) es value ≡ with_name name value es
   set_is_with [] rises h = absurd cc
   set_is_with (e ∷ es) rises h = set_at (bytes_cmp name e.0) e es _ _ refl rises h (set_is_with es rises.1)
 
 -- ---- side by side
 
-abbrev pub StandsForOption : Option BucketRecords → Option Account → Type 0
+abbrev pub StandsForOption : Option AccountRecord → Option Account → Type 0
 StandsForOption None None = Unit {0}
 StandsForOption None (Some account) = ⊥
 StandsForOption (Some records) None = ⊥
-StandsForOption (Some records) (Some account) = StandsForBucket records account
+StandsForOption (Some records) (Some account) = StandsForAccount records account
 
-pub stand_length : (buckets : List (List ℕ × BucketRecords)) (accounts : List (List ℕ × Account)) → StandForAccounts buckets accounts → length buckets ≡ length accounts
+pub stand_length : (buckets : List (List ℕ × AccountRecord)) (accounts : List (List ℕ × Account)) → StandForAccounts buckets accounts → length buckets ≡ length accounts
 stand_length [] [] h = refl
 stand_length [] (account ∷ accounts) h = absurd h
 stand_length (records ∷ buckets) [] h = absurd h
 stand_length (records ∷ buckets) (account ∷ accounts) h = ap (λ (n : ℕ). suc n) (stand_length buckets accounts h.1)
 
 module _ (name : List ℕ) where
-  stand_pick : (here : Bool) (records : BucketRecords) (account : Account) (o : Option BucketRecords) (p : Option Account) → StandsForBucket records account → StandsForOption o p
+  stand_pick : (here : Bool) (records : AccountRecord) (account : Account) (o : Option AccountRecord) (p : Option Account) → StandsForAccount records account → StandsForOption o p
       → StandsForOption (cond here (Some records) o) (cond here (Some account) p)
   stand_pick true records account o p h more = h
   stand_pick false records account o p h more = more
 
   -- what stands under a name
-  pub stand_at : (buckets : List (List ℕ × BucketRecords)) (accounts : List (List ℕ × Account)) → StandForAccounts buckets accounts → StandsForOption (at_name name buckets) (at_name name accounts)
+  pub stand_at : (buckets : List (List ℕ × AccountRecord)) (accounts : List (List ℕ × Account)) → StandForAccounts buckets accounts → StandsForOption (at_name name buckets) (at_name name accounts)
   stand_at [] [] h = tt
   stand_at [] (account ∷ accounts) h = absurd h
   stand_at (records ∷ buckets) [] h = absurd h
   stand_at (records ∷ buckets) (account ∷ accounts) h =
       subst (λ (n : List ℕ). StandsForOption (cond (is_at (bytes_cmp name) n) (Some records.1) (at_name name buckets)) (at_name name (account ∷ accounts))) (sym h.0.name)
-      (stand_pick (is_at (bytes_cmp name) account.0) records.1 account.1 (at_name name buckets) (at_name name accounts) h.0.bucket (stand_at buckets accounts h.1))
+      (stand_pick (is_at (bytes_cmp name) account.0) records.1 account.1 (at_name name buckets) (at_name name accounts) h.0.account (stand_at buckets accounts h.1))
 
-  module _ (written : BucketRecords) (plain : Account) (same : StandsForBucket written plain) where
-    with_pick : (o : Ordering) (records : List ℕ × BucketRecords) (account : List ℕ × Account) (buckets rest : List (List ℕ × BucketRecords)) (accounts others : List (List ℕ × Account)) → StandsForAccount records account → StandForAccounts buckets accounts → StandForAccounts rest others
+  module _ (written : AccountRecord) (plain : Account) (same : StandsForAccount written plain) where
+    with_pick : (o : Ordering) (records : List ℕ × AccountRecord) (account : List ℕ × Account) (buckets rest : List (List ℕ × AccountRecord)) (accounts others : List (List ℕ × Account)) → StandsForEntry records account → StandForAccounts buckets accounts → StandForAccounts rest others
         → StandForAccounts (match_ordering o ((name, written) ∷ records ∷ buckets) ((records.0, written) ∷ buckets) (records ∷ rest)) (match_ordering o ((name, plain) ∷ account ∷ accounts) ((account.0, plain) ∷ accounts) (account ∷ others))
-    with_pick Less records account buckets rest accounts others h all more = (record { name = refl; bucket = same }, (h, all))
-    with_pick Equal records account buckets rest accounts others h all more = (record { name = h.name; bucket = same }, all)
+    with_pick Less records account buckets rest accounts others h all more = (record { name = refl; account = same }, (h, all))
+    with_pick Equal records account buckets rest accounts others h all more = (record { name = h.name; account = same }, all)
     with_pick Greater records account buckets rest accounts others h all more = (h, more)
 
     -- one written under a name on both sides
-    pub stand_with : (buckets : List (List ℕ × BucketRecords)) (accounts : List (List ℕ × Account)) → StandForAccounts buckets accounts → StandForAccounts (with_name name written buckets) (with_name name plain accounts)
-    stand_with [] [] h = (record { name = refl; bucket = same }, tt)
+    pub stand_with : (buckets : List (List ℕ × AccountRecord)) (accounts : List (List ℕ × Account)) → StandForAccounts buckets accounts → StandForAccounts (with_name name written buckets) (with_name name plain accounts)
+    stand_with [] [] h = (record { name = refl; account = same }, tt)
     stand_with [] (account ∷ accounts) h = absurd h
     stand_with (records ∷ buckets) [] h = absurd h
     stand_with (records ∷ buckets) (account ∷ accounts) h =
         subst (λ (n : List ℕ). StandForAccounts (match_ordering (bytes_cmp name n) ((name, written) ∷ records ∷ buckets) ((records.0, written) ∷ buckets) (records ∷ with_name name written buckets)) (with_name name plain (account ∷ accounts))) (sym h.0.name)
         (with_pick (bytes_cmp name account.0) records account buckets (with_name name written buckets) accounts (with_name name plain accounts) h.0 h.1 (stand_with buckets accounts h.1))
 
-    set_pick : (here : Bool) (records : List ℕ × BucketRecords) (account : List ℕ × Account) (buckets rest : List (List ℕ × BucketRecords)) (accounts others : List (List ℕ × Account)) → StandsForAccount records account → StandForAccounts buckets accounts → StandForAccounts rest others
+    set_pick : (here : Bool) (records : List ℕ × AccountRecord) (account : List ℕ × Account) (buckets rest : List (List ℕ × AccountRecord)) (accounts others : List (List ℕ × Account)) → StandsForEntry records account → StandForAccounts buckets accounts → StandForAccounts rest others
         → StandForAccounts (cond here ((records.0, written) ∷ buckets) (records ∷ rest)) (cond here ((account.0, plain) ∷ accounts) (account ∷ others))
-    set_pick true records account buckets rest accounts others h all more = (record { name = h.name; bucket = same }, all)
+    set_pick true records account buckets rest accounts others h all more = (record { name = h.name; account = same }, all)
     set_pick false records account buckets rest accounts others h all more = (h, more)
 
-    stand_places : (buckets : List (List ℕ × BucketRecords)) (accounts : List (List ℕ × Account)) → StandForAccounts buckets accounts → StandForAccounts (set_value (is_at (bytes_cmp name)) buckets written) (set_value (is_at (bytes_cmp name)) accounts plain)
+    stand_places : (buckets : List (List ℕ × AccountRecord)) (accounts : List (List ℕ × Account)) → StandForAccounts buckets accounts → StandForAccounts (set_value (is_at (bytes_cmp name)) buckets written) (set_value (is_at (bytes_cmp name)) accounts plain)
     stand_places [] [] h = tt
     stand_places [] (account ∷ accounts) h = absurd h
     stand_places (records ∷ buckets) [] h = absurd h
@@ -98,22 +95,15 @@ module _ (name : List ℕ) where
         (set_pick (is_at (bytes_cmp name) account.0) records account buckets (set_value (is_at (bytes_cmp name)) buckets written) accounts (set_value (is_at (bytes_cmp name)) accounts plain) h.0 h.1 (stand_places buckets accounts h.1))
 
     -- one set in its place, and written under the name that is there
-    pub stand_set : (buckets : List (List ℕ × BucketRecords)) (accounts : List (List ℕ × Account)) (old : Account) → StandForAccounts buckets accounts → Rises accounts → at_name name accounts ≡ Some old
+    pub stand_set : (buckets : List (List ℕ × AccountRecord)) (accounts : List (List ℕ × Account)) (old : Account) → StandForAccounts buckets accounts → Rises bytes_cmp accounts → at_name name accounts ≡ Some old
         → StandForAccounts (set_value (is_at (bytes_cmp name)) buckets written) (with_name name plain accounts)
     stand_set buckets accounts old h rises is =
         subst (λ (l : List (List ℕ × Account)). StandForAccounts (set_value (is_at (bytes_cmp name)) buckets written) l) (set_is_with name plain old accounts rises is) (stand_places buckets accounts h)
 
--- one set in its place whose bucket stands for the same
-module _ (name : List ℕ) (written records : BucketRecords) (kept : (account : Account) → StandsForBucket records account → StandsForBucket written account) where
-  kept_at : (here : Bool) (first : List ℕ × BucketRecords) (account : List ℕ × Account) (o : Option BucketRecords) (buckets rest : List (List ℕ × BucketRecords)) (accounts : List (List ℕ × Account)) → StandsForAccount first account → StandForAccounts buckets accounts
-      → cond here (Some first.1) o ≡ Some records → (o ≡ Some records → StandForAccounts rest accounts) → StandForAccounts (cond here ((first.0, written) ∷ buckets) (first ∷ rest)) (account ∷ accounts)
-  kept_at true first account o buckets rest accounts h all found more =
-      let same : first.1 ≡ records = cc in
-      (record { name = h.name; bucket = kept account.1 (subst (λ (r : BucketRecords). StandsForBucket r account.1) same h.bucket) }, all)
-  kept_at false first account o buckets rest accounts h all found more = (h, more found)
-
-  pub stand_kept : (buckets : List (List ℕ × BucketRecords)) (accounts : List (List ℕ × Account)) → StandForAccounts buckets accounts → at_name name buckets ≡ Some records → StandForAccounts (set_value (is_at (bytes_cmp name)) buckets written) accounts
-  stand_kept [] [] h found = tt
-  stand_kept [] (account ∷ accounts) h found = absurd h
-  stand_kept (first ∷ buckets) [] h found = absurd h
-  stand_kept (first ∷ buckets) (account ∷ accounts) h found = kept_at (is_at (bytes_cmp name) first.0) first account (at_name name buckets) buckets _ accounts h.0 h.1 found (stand_kept buckets accounts h.1)
+    -- one set in its place that stands for what is there
+    pub stand_one : (buckets : List (List ℕ × AccountRecord)) (accounts : List (List ℕ × Account)) → StandForAccounts buckets accounts → Rises bytes_cmp accounts → at_name name accounts ≡ Some plain
+        → StandForAccounts (set_value (is_at (bytes_cmp name)) buckets written) accounts
+    stand_one buckets accounts h rises is =
+        subst (λ (l : List (List ℕ × Account)). StandForAccounts (set_value (is_at (bytes_cmp name)) buckets written) l)
+        (sym (set_is_with name plain plain accounts rises is) ∙ set_value_same (is_at (bytes_cmp name)) accounts plain is)
+        (stand_set buckets accounts plain h rises is)

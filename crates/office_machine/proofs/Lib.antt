@@ -1,7 +1,11 @@
 pub mod Accounts
-pub mod Bookings
+pub mod Doing
+pub mod Ending
 pub mod Offices
-pub mod Rebooked
-pub mod Replaced
-pub mod Runs
+pub mod Putting
+pub mod Replacing
+pub mod Room
+pub mod Rules
 pub mod Steps
+pub mod Sums
+pub mod TagSizes

@@ -1,32 +1,42 @@
 -- What the office in memory stands for after each command, and the replies to queries.
-use Rattle.std.proofs.Common.{◌≡◌, ◌⊎◌, inl, inr, ℕ, ◌+◌, ◌≤◌, ◌<◌, List, length, map, refl, ap, sym, ◌∙◌, Bool, true, false, cond, subst, arith}
-use Rattle.std.specs.Prelude.{Option, Some, None, Result, Ok, Err, is_some, nat_lt}
+use Rattle.std.proofs.Common.{◌≡◌, ◌⊎◌, inl, inr, ℕ, ◌+◌, ◌≤◌, ◌<◌, List, [], ◌∷◌, length, map, refl, ap, sym, ◌∙◌, Bool, true, false, subst, arith}
+use Rattle.std.specs.Prelude.{Option, Some, None, Result, Ok, Err, is_some, unwrap_or}
+use Rattle.std.specs.List.{AllByRecursion}
 use Rattle.std.specs.Map.{set_value}
 use Rattle.std.specs.BTreeMap.{is_at}
+use Rattle.moments.specs.Months.{month_at}
 use Rattle.class_rules.specs.Classes.{all_classes}
-use Rattle.office_base.specs.declared.version_id.VersionId.TheVariants.{Null}
+use Rattle.office_base.specs.Maps.{bytes_cmp, at_name, with_name}
 use Rattle.accrual.specs.Books.{IsBookedBy}
-use Rattle.plain_office.specs.Maps.{bytes_cmp, at_name, with_name}
-use Rattle.plain_office.specs.Office.{Office, Account, new_account, book_of}
-use Rattle.plain_office.specs.Changes.{put_object}
-use Rattle.plain_office.specs.Counts.{count_of}
-use Rattle.plain_office.specs.Orderly.{IsOrderly, IsOrderlyAccount}
+use Rattle.tariff.specs.Prices.{Prices}
+use Rattle.due_core.specs.Buckets.{BucketRecord}
+use Rattle.plain_office.specs.Office.{Office, Account, empty_office, book_of}
+use Rattle.plain_office.specs.Counts.{count_of, limit_of, first_full, version_count}
+use Rattle.plain_office.specs.Orderly.{IsOrderly, SizeFits}
 use Rattle.plain_office.specs.Run.{is_not_before}
-use Rattle.plain_office.specs.Step.{step}
-use Rattle.plain_office.specs.Answers.{answer, class_meters}
-use Rattle.plain_office.specs.declared.command.Command.TheVariants as command
-use Rattle.plain_office.specs.declared.command.Query.TheVariants as query
-use Rattle.plain_office.specs.declared.object.Object.{Object}
-use Rattle.plain_office.specs.declared.reply.Reply.TheVariants.{BucketMade, Stored, BucketShown, MetersShown}
-use Rattle.plain_office.specs.declared.reply.Refusal.{Refusal}
-use Rattle.plain_office.specs.declared.reply.Refusal.TheVariants.{BucketExists, NoSuchBucket, Full, NoMemory}
-use Rattle.plain_office.specs.declared.reply.What.TheVariants.{Buckets, Versions, Names}
-use Rattle.plain_office.proofs.Counting.{with_accounts, created_counts, put_versions, put_names, count_any_time, versions_within}
-use Rattle.plain_office.proofs.OrderlyAccounts.{orderly_by, booked_by}
-use Rattle.office_machine.specs.Standing.{Records, BucketRecords, StandsForBucket, StandForAccounts, StandsForOffice, Does}
-use Rattle.office_machine.specs.Counting.{added, counted}
-use Rattle.office_machine.proofs.Accounts.{StandsForOption, stand_at, stand_length, stand_with, stand_set, stand_kept}
-use Rattle.office_machine.proofs.Steps.{Answer, create_exists, create_full, create_made, put_missing, put_result, put_by}
+use Rattle.plain_office.specs.Step.{Change, step, accepted, new_account}
+use Rattle.plain_office.specs.Answers.{answer, class_meters, rule_count, bucket_shown}
+use Rattle.office_types.specs.declared.command.Command.{Command}
+use Rattle.office_types.specs.declared.command.Command.TheVariants as command
+use Rattle.office_types.specs.declared.command.Query.TheVariants as query
+use Rattle.office_types.specs.declared.reply.Reply.{Reply}
+use Rattle.office_types.specs.declared.reply.Reply.TheVariants.{BucketMade, BucketShown, MetersShown}
+use Rattle.office_types.specs.declared.refusal.Refusal.{Refusal}
+use Rattle.office_types.specs.declared.refusal.Refusal.TheVariants.{BucketExists, NoSuchBucket, Full, NoMemory}
+use Rattle.office_types.specs.declared.refusal.What.{What}
+use Rattle.office_types.specs.declared.refusal.What.TheVariants.{Buckets, Versions, Uploads, Parts, Names, Rules}
+use Rattle.office_laws.proofs.Lists.{Added, Replaced}
+use Rattle.office_laws.proofs.Maps.{by_name, added, replaced}
+use Rattle.office_laws.proofs.Offices.{kept_now}
+use Rattle.office_laws.proofs.Steps.{step_orderly, empty_orderly}
+use Rattle.office_machine.specs.declared.change.Done.{Done}
+use Rattle.office_machine.specs.declared.counts.Counts.{Counts}
+use Rattle.office_machine.specs.Changing.{change_of, limits_of, IsOnBucket, IsOrderlyAccount, DoesTold}
+use Rattle.office_machine.specs.Counting.{AccountRecord, HasRoom, AreCountsOver, amount, in_bucket, HaveMoved, first_over}
+use Rattle.office_machine.specs.Standing.{Records, StandsForAccount, StandForAccounts, StandsForOffice, IsKept, Does}
+use Rattle.office_machine.proofs.Accounts.{StandsForOption, stand_at, stand_with, stand_set, stand_one}
+use Rattle.office_machine.proofs.Sums.{AreCountsOf, full_is, moved_is, added_is, counts_over}
+use Rattle.office_machine.proofs.Steps.{Answer, step_missing, step_refused, step_full, step_done, placed, made, create_exists, create_full, create_made}
 
 -- ---- an answer that is the step's
 
@@ -44,198 +54,292 @@ none_of : (q : Option Account) → StandsForOption None q → q ≡ None
 none_of None h = refl
 none_of (Some account) h = absurd h
 
-some_of : (records : BucketRecords) (q : Option Account) → StandsForOption (Some records) q → (account : Account) × (q ≡ Some account) × StandsForBucket records account
-some_of records None h = absurd h
-some_of records (Some account) h = (account, refl, h)
+some_of : (held : AccountRecord) (q : Option Account) → StandsForOption (Some held) q → (account : Account) × (q ≡ Some account) × StandsForAccount held account
+some_of held None h = absurd h
+some_of held (Some account) h = (account, refl, h)
+
+there_too : (o : Option AccountRecord) (q : Option Account) → StandsForOption o q → is_some o ≡ is_some q
+there_too None None h = refl
+there_too None (Some account) h = absurd h
+there_too (Some held) None h = absurd h
+there_too (Some held) (Some account) h = refl
 
 is_some_none : {X : Type 0} (o : Option X) → is_some o ≡ false → o ≡ None
 is_some_none None h = refl
 is_some_none (Some x) h = absurd cc
 
-there_too : (o : Option BucketRecords) (q : Option Account) → StandsForOption o q → is_some o ≡ is_some q
-there_too None None h = refl
-there_too None (Some account) h = absurd h
-there_too (Some records) None h = absurd h
-there_too (Some records) (Some account) h = refl
+-- the records after an accepted command
+abbrev pub accepted_records : ℕ → Records → List (List ℕ × AccountRecord) → Counts → ℕ → Records
+accepted_records t records accounts counts number = record {
+  last = Some t;
+  tariff = records.tariff;
+  first_month = Some (unwrap_or records.first_month (month_at t));
+  closed = records.closed;
+  accounts = accounts;
+  counts = counts;
+  accepted = number;
+}
 
-module _ (records : Records) (p : Office) (stands : StandsForOffice records p) (name : List ℕ) where
-  side_by_side : StandsForOption (at_name name records.buckets) (at_name name p.accounts)
-  side_by_side = stand_at name records.buckets p.accounts stands.buckets
+abbrev pub with_accounts : Records → List (List ℕ × AccountRecord) → Records
+with_accounts records accounts = record records { accounts = accounts }
 
-  pub absent : at_name name records.buckets ≡ None → at_name name p.accounts ≡ None
-  absent none = none_of (at_name name p.accounts) (subst (λ (o : Option BucketRecords). StandsForOption o (at_name name p.accounts)) none side_by_side)
+module _ (records : Records) (p : Office) (stands : StandsForOffice records p) where
+  -- another order of the accounts' values, which stand for the same
+  pub still : (accounts : List (List ℕ × AccountRecord)) → StandForAccounts accounts p.accounts → StandsForOffice (with_accounts records accounts) p
+  still accounts same = record {
+    orderly = stands.orderly;
+    last = stands.last;
+    tariff = stands.tariff;
+    first_month = stands.first_month;
+    closed = stands.closed;
+    accounts = same;
+    counts = stands.counts;
+  }
 
-  pub present : (bucket : BucketRecords) → at_name name records.buckets ≡ Some bucket → (account : Account) × (at_name name p.accounts ≡ Some account) × StandsForBucket bucket account
-  present bucket found = some_of bucket (at_name name p.accounts) (subst (λ (o : Option BucketRecords). StandsForOption o (at_name name p.accounts)) found side_by_side)
+  module _ (t : ℕ) (later : is_not_before records.last t ≡ true) where
+    pub later_plain : is_not_before p.last t ≡ true
+    later_plain = subst (λ (last : Option ℕ). is_not_before last t ≡ true) stands.last later
 
-  -- ---- a new bucket
+    -- an accepted command that changed accounts and counts alone
+    moved_on : (q : Office) (accounts : List (List ℕ × AccountRecord)) (counts : Counts) (number : ℕ) → q.tariff ≡ p.tariff → q.first_month ≡ p.first_month → q.closed ≡ p.closed
+        → StandForAccounts accounts q.accounts → AreCountsOf (accepted t q) counts → IsOrderly (accepted t q)
+        → StandsForOffice (accepted_records t records accounts counts number) (accepted t q)
+    moved_on q accounts counts number tariff first closed same are orderly = record {
+      orderly = orderly;
+      last = refl;
+      tariff = stands.tariff ∙ sym tariff;
+      first_month = ap (λ (month : Option ℕ). Some (unwrap_or month (month_at t))) (stands.first_month ∙ sym first);
+      closed = stands.closed ∙ sym closed;
+      accounts = same;
+      counts = are;
+    }
 
-  module _ (t : ℕ) where
-    pub does_exist : is_some (at_name name records.buckets) ≡ true → Does (step t (command.CreateBucket name) p) p records (Err BucketExists)
-    does_exist there =
-        does (step t (command.CreateBucket name) p) p p records (Err BucketExists)
-        (create_exists t name p (sym (there_too (at_name name records.buckets) (at_name name p.accounts) side_by_side) ∙ there)) stands
+  module _ (name : List ℕ) where
+    side_by_side : StandsForOption (at_name name records.accounts) (at_name name p.accounts)
+    side_by_side = stand_at name records.accounts p.accounts stands.accounts
 
-    not_there : is_some (at_name name records.buckets) ≡ false → at_name name p.accounts ≡ None
-    not_there there = absent (is_some_none (at_name name records.buckets) there)
+    pub absent : at_name name records.accounts ≡ None → at_name name p.accounts ≡ None
+    absent none = none_of (at_name name p.accounts) (subst (λ (o : Option AccountRecord). StandsForOption o (at_name name p.accounts)) none side_by_side)
 
-    pub does_fill : is_some (at_name name records.buckets) ≡ false → 1000 ≤ length records.buckets → Does (step t (command.CreateBucket name) p) p records (Err (Full Buckets 1000))
-    does_fill there many =
-        let same = stand_length records.buckets p.accounts stands.buckets in
-        does (step t (command.CreateBucket name) p) p p records (Err (Full Buckets 1000)) (create_full t name p (not_there there) (omega (arith, many, same))) stands
+    pub present : (held : AccountRecord) → at_name name records.accounts ≡ Some held → (account : Account) × (at_name name p.accounts ≡ Some account) × StandsForAccount held account
+    present held found = some_of held (at_name name p.accounts) (subst (λ (o : Option AccountRecord). StandsForOption o (at_name name p.accounts)) found side_by_side)
 
-    pub does_make : is_some (at_name name records.buckets) ≡ false → length records.buckets < 1000 → (bucket : BucketRecords) → StandsForBucket bucket new_account
-        → (accepted : ℕ) (buckets : List (List ℕ × BucketRecords)) → buckets ≡ with_name name bucket records.buckets
-        → Does (step t (command.CreateBucket name) p) p (record { last = Some t; buckets = buckets; versions = records.versions; names = records.names; accepted = accepted }) (Ok (BucketMade name))
-    does_make there few bucket same accepted buckets is =
-        let long = stand_length records.buckets p.accounts stands.buckets in
-        let none = not_there there in
-        let counts = created_counts (Some t) p name none in
-        does (step t (command.CreateBucket name) p) p (with_accounts (Some t) (with_name name new_account p.accounts))
-        (record { last = Some t; buckets = buckets; versions = records.versions; names = records.names; accepted = accepted }) (Ok (BucketMade name))
-        (create_made t name p none (omega (arith, few, long)))
-        (record {
-          last = refl;
-          buckets = subst (λ (l : List (List ℕ × BucketRecords)). StandForAccounts l (with_name name new_account p.accounts)) (sym is) (stand_with name bucket new_account same records.buckets p.accounts stands.buckets);
-          versions = stands.versions ∙ sym counts.1;
-          names = stands.names ∙ sym counts.2;
-        })
+    there_is : (b : Bool) → is_some (at_name name records.accounts) ≡ b → is_some (at_name name p.accounts) ≡ b
+    there_is b is = sym (there_too (at_name name records.accounts) (at_name name p.accounts) side_by_side) ∙ is
 
-  -- ---- a put
+    -- ---- a new bucket
 
-  module _ (orderly : IsOrderly p) (key : List ℕ) (object : Object) where
-    pub does_miss : at_name name records.buckets ≡ None → Does (step object.created (command.Put name key object.size object.class) p) p records (Err NoSuchBucket)
-    does_miss none = does (step object.created (command.Put name key object.size object.class) p) p p records (Err NoSuchBucket) (put_missing name key object p (absent none)) stands
+    module _ (t : ℕ) (later : is_not_before records.last t ≡ true) where
+      pub does_exist : is_some (at_name name records.accounts) ≡ true → Does (step t (command.CreateBucket name) p) p records (Err BucketExists)
+      does_exist there = does (step t (command.CreateBucket name) p) p p records (Err BucketExists) (create_exists t p name (there_is true there)) stands
 
-    module _ (later : is_not_before records.last object.created ≡ true) (bucket : BucketRecords) (found : at_name name records.buckets ≡ Some bucket) where
-      not_before_plain : is_not_before p.last object.created ≡ true
-      not_before_plain = subst (λ (last : Option ℕ). is_not_before last object.created ≡ true) stands.last later
+      module _ (none : is_some (at_name name records.accounts) ≡ false) (counts : Counts) (more : (what : What) → amount what counts ≡ amount what records.counts + in_bucket what (new_account t).bucket) where
+        one : Added (name, new_account t) p.accounts (made t p name).accounts
+        one = added by_name name (new_account t) p.accounts (absent (is_some_none (at_name name records.accounts) none))
 
-      -- the account that the bucket stands for is orderly
-      pub for_account : (account : Account) × StandsForBucket bucket account × IsOrderlyAccount object.created account
-      for_account = let here = present bucket found in (here.0, here.2, orderly_by p object.created name here.0 orderly not_before_plain here.1)
+        made_counts : AreCountsOf (made t p name) counts
+        made_counts = added_is p (made t p name) name (new_account t) one records.counts counts stands.counts more
 
-      abbrev holder : Account
-      holder = (present bucket found).0
+        pub does_fill : (what : What) → first_over (Buckets ∷ []) counts ≡ Some what → Does (step t (command.CreateBucket name) p) p records (Err (Full what (limit_of what)))
+        does_fill what full =
+            does (step t (command.CreateBucket name) p) p p records (Err (Full what (limit_of what)))
+            (create_full t p name (there_is false none) what (full_is (Buckets ∷ []) (made t p name) counts made_counts ∙ full)) stands
 
-      held : at_name name p.accounts ≡ Some holder
-      held = (present bucket found).1
+        pub does_make : first_over (Buckets ∷ []) counts ≡ None → (held : AccountRecord) → StandsForAccount held (new_account t) → (accounts : List (List ℕ × AccountRecord)) → accounts ≡ with_name name held records.accounts
+            → (number : ℕ) → Does (step t (command.CreateBucket name) p) p (accepted_records t records accounts counts number) (Ok (BucketMade name))
+        does_make free held same accounts is number =
+            let told = create_made t p name (there_is false none) (full_is (Buckets ∷ []) (made t p name) counts made_counts ∙ free) in
+            does (step t (command.CreateBucket name) p) p (accepted t (made t p name)) (accepted_records t records accounts counts number) (Ok (BucketMade name)) told
+            (moved_on t later (made t p name) accounts counts number refl refl refl
+            (subst (λ (l : List (List ℕ × AccountRecord)). StandForAccounts l (with_name name (new_account t) p.accounts)) (sym is) (stand_with name held (new_account t) same records.accounts p.accounts stands.accounts))
+            (added_is p (accepted t (made t p name)) name (new_account t) one records.counts counts stands.counts more)
+            (subst IsOrderly (ap (λ (x : Office × Answer). x.0) told) (step_orderly t (command.CreateBucket name) p tt stands.orderly (later_plain t later))))
 
-      holds : StandsForBucket bucket holder
-      holds = (present bucket found).2
+    -- ---- a command on the bucket
 
-      abbrev after : Option ℕ → Office
-      after last = with_accounts last (with_name name (put_object key object holder) p.accounts)
+    module _ (t : ℕ) (later : is_not_before records.last t ≡ true) (asked : Command) (on : IsOnBucket name asked) where
+      pub does_miss : at_name name records.accounts ≡ None → Does (step t asked p) p records (Err NoSuchBucket)
+      does_miss none = does (step t asked p) p p records (Err NoSuchBucket) (step_missing t p name asked on (absent none)) stands
 
-      count_by : (o : Option Object) → at_name key holder.objects ≡ o
-          → (count_of Versions (after p.last) ≡ count_of Versions p + cond (is_some o) 0 1) × (count_of Names (after p.last) ≡ count_of Names p + cond (is_some o) 0 (length key))
-      count_by None is =
-          let keys = (orderly_by p object.created name holder orderly not_before_plain held).keys in
-          ((put_versions p.last p name holder orderly.names held key object keys).0 is, (put_names p.last p name holder orderly.names held key object keys).0 is)
-      count_by (Some old) is =
-          let keys = (orderly_by p object.created name holder orderly not_before_plain held).keys in
-          let versions = (put_versions p.last p name holder orderly.names held key object keys).1 old is in
-          let names = (put_names p.last p name holder orderly.names held key object keys).1 old is in
-          (omega (arith, versions), omega (arith, names))
+      module _ (held : AccountRecord) (found : at_name name records.accounts ≡ Some held) where
+        abbrev account : Account
+        account = (present held found).0
 
-      abbrev new_versions : ℕ
-      new_versions = records.versions + added key 1 bucket.objects
+        there : at_name name p.accounts ≡ Some account
+        there = (present held found).1
 
-      abbrev new_names : ℕ
-      new_names = records.names + added key (length key) bucket.objects
+        holds : StandsForAccount held account
+        holds = (present held found).2
 
-      counts_after : (count_of Versions (after p.last) ≡ new_versions) × (count_of Names (after p.last) ≡ new_names)
-      counts_after =
-          let counts = count_by (at_name key holder.objects) refl in
-          let versions = stands.versions in
-          let names = stands.names in
-          let objects = holds.objects in (
-            subst (λ (objects : List (List ℕ × Object)). count_of Versions (after p.last) ≡ records.versions + added key 1 objects) (sym objects) (omega (arith, counts.0, versions)),
-            subst (λ (objects : List (List ℕ × Object)). count_of Names (after p.last) ≡ records.names + added key (length key) objects) (sym objects) (omega (arith, counts.1, names)),
-          )
+        orderly_account : IsOrderlyAccount t account
+        orderly_account =
+            let kept = kept_now t p stands.orderly (later_plain t later) name account there in
+            record { bucket = kept.bucket; stays = kept.stays }
 
-      stepped : step object.created (command.Put name key object.size object.class) p ≡ put_result name key object p holder (counted new_versions new_names)
-      stepped = put_by name key object p holder new_versions new_names held counts_after.0 counts_after.1
+        -- what the change has to know
+        pub for_account : (account : Account) × StandsForAccount held account × IsOrderlyAccount t account
+        for_account = (account, holds, orderly_account)
 
-      abbrev both : ℕ → ℕ → Result (ℕ × ℕ) Refusal
-      both v n = Ok (v, n)
+        pub for_counts : AreCountsOver held.bucket records.counts
+        for_counts =
+            subst (λ (bucket : BucketRecord). AreCountsOver bucket records.counts) (sym holds.bucket) (counts_over p records.counts name account stands.orderly.records stands.counts there)
 
-      abbrev parts : Result (ℕ × ℕ) Refusal → ℕ × ℕ
-      parts (Ok counts) = counts
-      parts (Err refusal) = (0, 0)
+        module _ (written : AccountRecord) (accounts : List (List ℕ × AccountRecord)) (set : accounts ≡ set_value (is_at (bytes_cmp name)) records.accounts written) where
+          abbrev whats : List What
+          whats = limits_of asked
 
-      counted_ok : (v n versions names : ℕ) (many long : Bool) → both v n ≡ cond many (Err (Full Versions 200_000)) (cond long (Err (Full Names 536_870_912)) (Ok (versions, names))) → (v ≡ versions) × (n ≡ names)
-      counted_ok v n versions names true long h = absurd cc
-      counted_ok v n versions names false true h = absurd cc
-      counted_ok v n versions names false false h = (ap (λ (r : Result (ℕ × ℕ) Refusal). (parts r).0) h, ap (λ (r : Result (ℕ × ℕ) Refusal). (parts r).1) h)
+          set_standing : (after : Account) → StandsForAccount written after → StandForAccounts accounts (with_name name after p.accounts)
+          set_standing after same =
+              subst (λ (l : List (List ℕ × AccountRecord)). StandForAccounts l (with_name name after p.accounts)) (sym set)
+              (stand_set name written after same records.accounts p.accounts account stands.accounts stands.orderly.records.names there)
 
-      module _ (written : BucketRecords) (accepted : ℕ) (buckets : List (List ℕ × BucketRecords)) (set : buckets ≡ set_value (is_at (bytes_cmp name)) records.buckets written) where
-        pub does_put : (v n : ℕ) → Ok (v, n) ≡ counted new_versions new_names → ((account : Account) → StandsForBucket bucket account → IsOrderlyAccount object.created account → StandsForBucket written (put_object key object account))
-            → Does (step object.created (command.Put name key object.size object.class) p) p (record { last = Some object.created; buckets = buckets; versions = v; names = n; accepted = accepted }) (Ok (Stored object.created Null))
-        does_put v n counts stored =
-            let same = counted_ok v n new_versions new_names (nat_lt 200_000 new_versions) (nat_lt 536_870_912 new_names) counts in
-            let versions : v ≡ count_of Versions (after (Some object.created)) = same.0 ∙ sym counts_after.0 ∙ sym (count_any_time Versions (Some object.created) (after p.last)) in
-            let names : n ≡ count_of Names (after (Some object.created)) = same.1 ∙ sym counts_after.1 ∙ sym (count_any_time Names (Some object.created) (after p.last)) in
-            does (step object.created (command.Put name key object.size object.class) p) p (after (Some object.created))
-            (record { last = Some object.created; buckets = buckets; versions = v; names = n; accepted = accepted }) (Ok (Stored object.created Null))
-            (stepped ∙ ap (λ (r : Result (ℕ × ℕ) Refusal). put_result name key object p holder r) (sym counts))
-            (record {
-              last = refl;
-              buckets = subst (λ (l : List (List ℕ × BucketRecords)). StandForAccounts l (with_name name (put_object key object holder) p.accounts)) (sym set)
-                  (stand_set name written (put_object key object holder) (stored holder holds (orderly_by p object.created name holder orderly not_before_plain held)) records.buckets p.accounts holder stands.buckets orderly.names held);
-              versions = versions;
-              names = names;
-            })
+          one_after : (after : Account) → Replaced (name, account) (name, after) p.accounts (with_name name after p.accounts)
+          one_after after = replaced by_name name after account p.accounts stands.orderly.records.names there
 
-        still : ((account : Account) → StandsForBucket bucket account → StandsForBucket written account)
-            → StandsForOffice (record { last = records.last; buckets = buckets; versions = records.versions; names = records.names; accepted = accepted }) p
-        still kept = record { last = stands.last; buckets = subst (λ (l : List (List ℕ × BucketRecords)). StandForAccounts l p.accounts) (sym set) (stand_kept name written bucket kept records.buckets p.accounts stands.buckets found); versions = stands.versions; names = stands.names }
+          counts_are : (after : Account) (moved : Counts) → HaveMoved account.bucket after.bucket records.counts moved → AreCountsOf (placed t p name asked on after) moved
+          counts_are after moved follow = moved_is p (placed t p name asked on after) name account after (one_after after) records.counts moved stands.counts follow
 
-        pub does_refuse : (refusal : Refusal) → (Err refusal ≡ counted new_versions new_names) ⊎ (refusal ≡ NoMemory) → ((account : Account) → StandsForBucket bucket account → StandsForBucket written account)
-            → Does (step object.created (command.Put name key object.size object.class) p) p (record { last = records.last; buckets = buckets; versions = records.versions; names = records.names; accepted = accepted }) (Err refusal)
-        does_refuse refusal (inl counts) kept =
-            does (step object.created (command.Put name key object.size object.class) p) p p
-            (record { last = records.last; buckets = buckets; versions = records.versions; names = records.names; accepted = accepted }) (Err refusal)
-            (stepped ∙ ap (λ (r : Result (ℕ × ℕ) Refusal). put_result name key object p holder r) (sym counts)) (still kept)
-        does_refuse refusal (inr wanting) kept = inr (ap (λ (r : Refusal). Err r) wanting, still kept)
+          done_by : (told : Change) (done : Done) (number : ℕ) → change_of t asked account ≡ told → SizeFits asked → DoesTold whats told account records.counts written (Ok done)
+              → Does (step t asked p) p (accepted_records t records accounts done.counts number) (Ok done.reply)
+          done_by (Err refusal) done number is fits h = absurd h
+          done_by (Ok (after, reply)) done number is fits h =
+              let free = full_is whats (placed t p name asked on after) done.counts (counts_are after done.counts h.2) ∙ h.3 in
+              let stepped = step_done t p name asked on account there after reply is free in
+              does (step t asked p) p (accepted t (placed t p name asked on after)) (accepted_records t records accounts done.counts number) (Ok done.reply)
+              (stepped ∙ ap (λ (r : Reply). (accepted t (placed t p name asked on after), Ok r)) (sym h.0))
+              (moved_on t later (placed t p name asked on after) accounts done.counts number refl refl refl (set_standing after h.1)
+              (moved_is p (accepted t (placed t p name asked on after)) name account after (one_after after) records.counts done.counts stands.counts h.2)
+              (subst IsOrderly (ap (λ (x : Office × Answer). x.0) stepped) (step_orderly t asked p fits stands.orderly (later_plain t later))))
 
-  -- ---- queries
+          -- a change that was done
+          pub does_done : (done : Done) (number : ℕ) → SizeFits asked → ((account : Account) → StandsForAccount held account → IsOrderlyAccount t account → DoesTold whats (change_of t asked account) account records.counts written (Ok done))
+              → Does (step t asked p) p (accepted_records t records accounts done.counts number) (Ok done.reply)
+          does_done done number fits does_told = done_by (change_of t asked account) done number refl fits (does_told account holds orderly_account)
 
-  pub shows_none : (t : ℕ) → at_name name records.buckets ≡ None → answer t (query.Bucket name) p ≡ Err NoSuchBucket
-  unfolding answer
-  shows_none t none = let nothing = absent none in rw nothing refl
+          kept : (written_for : StandsForAccount written account) → StandsForOffice (with_accounts records accounts) p
+          kept written_for =
+              still accounts
+              (subst (λ (l : List (List ℕ × AccountRecord)). StandForAccounts l p.accounts) (sym set)
+              (stand_one name written account written_for records.accounts p.accounts stands.accounts stands.orderly.records.names there))
 
-  pub meters_none : (t month : ℕ) → at_name name records.buckets ≡ None → answer t (query.Meters name month) p ≡ Err NoSuchBucket
-  unfolding answer
-  meters_none t month none = let nothing = absent none in rw nothing refl
+          refused_by : (told : Change) (refusal : Refusal) → change_of t asked account ≡ told → DoesTold whats told account records.counts written (Err refusal)
+              → Does (step t asked p) p (with_accounts records accounts) (Err refusal)
+          refused_by (Err refused) refusal is (inl wanting, same) = inr (ap (λ (r : Refusal). Err r) wanting, kept same)
+          refused_by (Err refused) refusal is (inr told, same) =
+              does (step t asked p) p p (with_accounts records accounts) (Err refusal)
+              (step_refused t p name asked on account there refused is ∙ ap (λ (r : Refusal). (p, Err r)) (sym told)) (kept same)
+          refused_by (Ok (after, reply)) refusal is (inl wanting, same) = inr (ap (λ (r : Refusal). Err r) wanting, kept same)
+          refused_by (Ok (after, reply)) refusal is (inr after_all, same) =
+              let full = after_all.full in
+              let first = full_is whats (placed t p name asked on after) after_all.moved (counts_are after after_all.moved after_all.follow) ∙ full.1 in
+              does (step t asked p) p p (with_accounts records accounts) (Err refusal)
+              (step_full t p name asked on account there after reply full.0 is first ∙ ap (λ (r : Refusal). (p, Err r)) (sym full.2)) (kept same)
 
-  module _ (bucket : BucketRecords) (found : at_name name records.buckets ≡ Some bucket) where
-    pub few_versions : IsOrderly p → length bucket.objects ≤ 200_000
-    few_versions orderly =
-        let here = present bucket found in
-        let within = versions_within p name here.0 here.1 in
-        let most = orderly.versions in
-        let same = ap (λ (objects : List (List ℕ × Object)). length objects) here.2.objects in
-        omega (arith, within, most, same)
+          -- a change that was refused
+          pub does_refuse : (refusal : Refusal) → ((account : Account) → StandsForAccount held account → IsOrderlyAccount t account → DoesTold whats (change_of t asked account) account records.counts written (Err refusal))
+              → Does (step t asked p) p (with_accounts records accounts) (Err refusal)
+          does_refuse refusal does_told = refused_by (change_of t asked account) refusal refl (does_told account holds orderly_account)
 
-    pub shows : (t : ℕ) → answer t (query.Bucket name) p ≡ Ok (BucketShown name (length bucket.objects))
+    -- ---- queries
+
+    pub shows_none : (t : ℕ) → at_name name records.accounts ≡ None → answer t (query.Bucket name) p ≡ Err NoSuchBucket
     unfolding answer
-    shows t =
-        let here = present bucket found in
-        let is = here.1 in
-        let same : length here.0.objects ≡ length bucket.objects = ap (λ (objects : List (List ℕ × Object)). length objects) (sym here.2.objects) in
-        rw (is, same) refl
+    shows_none t none = let nothing = absent none in rw nothing refl
 
-    abbrev pub shown_account : Account
-    shown_account = (present bucket found).0
-
-    pub shows_meters : (t month : ℕ) → answer t (query.Meters name month) p ≡ Ok (MetersShown name month (map (class_meters month t (book_of shown_account.books)) all_classes))
+    pub meters_none : (t month : ℕ) → at_name name records.accounts ≡ None → answer t (query.Meters name month) p ≡ Err NoSuchBucket
     unfolding answer
-    shows_meters t month = let is = (present bucket found).1 in rw is refl
+    meters_none t month none = let nothing = absent none in rw nothing refl
 
-    pub shown_stands : StandsForBucket bucket shown_account
-    shown_stands = (present bucket found).2
+    module _ (held : AccountRecord) (found : at_name name records.accounts ≡ Some held) where
+      abbrev pub shown_account : Account
+      shown_account = (present held found).0
 
-    pub shown_booked : (t : ℕ) → IsOrderly p → is_not_before records.last t ≡ true → IsBookedBy t (book_of shown_account.books)
-    shown_booked t orderly later =
-        booked_by p t name shown_account orderly (subst (λ (last : Option ℕ). is_not_before last t ≡ true) stands.last later) (present bucket found).1
+      shown_there : at_name name p.accounts ≡ Some shown_account
+      shown_there = (present held found).1
+
+      pub shown_stands : StandsForAccount held shown_account
+      shown_stands = (present held found).2
+
+      over : AreCountsOver held.bucket records.counts
+      over =
+          subst (λ (bucket : BucketRecord). AreCountsOver bucket records.counts) (sym shown_stands.bucket) (counts_over p records.counts name shown_account stands.orderly.records stands.counts shown_there)
+
+      pub few_versions : version_count held.bucket ≤ 400_000
+      few_versions = let most = over Versions in omega (arith, most.0, most.1)
+
+      pub few_uploads : length held.bucket.uploads ≤ 40_000
+      few_uploads = let most = over Uploads in omega (arith, most.0, most.1)
+
+      pub shows : (t : ℕ) → answer t (query.Bucket name) p ≡ Ok (BucketShown name (rule_count held.bucket.rules) (length held.bucket.uploads) held.bucket.versioning (version_count held.bucket))
+      unfolding answer
+      shows t =
+          let there = shown_there in
+          rw there (ap (λ (bucket : BucketRecord). Ok (BucketShown name (rule_count bucket.rules) (length bucket.uploads) bucket.versioning (version_count bucket))) (sym shown_stands.bucket))
+
+      pub shows_meters : (t month : ℕ) → answer t (query.Meters name month) p ≡ Ok (MetersShown name month (map (class_meters month t (book_of shown_account.books)) all_classes))
+      unfolding answer
+      shows_meters t month = let there = shown_there in rw there refl
+
+      pub shown_booked : (t : ℕ) → is_not_before records.last t ≡ true → IsBookedBy t (book_of shown_account.books)
+      shown_booked t later = (kept_now t p stands.orderly (later_plain t later) name shown_account shown_there).booked
+
+-- ---- the office before the first command
+
+none_counted : (what : What) → count_of what empty_office ≡ 0
+unfolding count_of
+none_counted Buckets = refl
+none_counted Versions = refl
+none_counted Uploads = refl
+none_counted Parts = refl
+none_counted Names = refl
+none_counted Rules = refl
+
+pub empty_stands : (closed : List (ℕ × Prices)) (accounts : List (List ℕ × AccountRecord)) (counts : Counts) (number : ℕ) → closed ≡ [] → accounts ≡ [] → ((what : What) → amount what counts ≡ 0)
+    → StandsForOffice (record { last = None; tariff = None; first_month = None; closed = closed; accounts = accounts; counts = counts; accepted = number }) empty_office
+empty_stands closed accounts counts number no_month no_account none = record {
+  orderly = empty_orderly;
+  last = refl;
+  tariff = refl;
+  first_month = refl;
+  closed = no_month;
+  accounts = subst (λ (l : List (List ℕ × AccountRecord)). StandForAccounts l []) (sym no_account) tt;
+  counts = λ what. none what ∙ sym (none_counted what);
+}
+
+-- ---- what is kept
+
+-- whatever it stood for, it stands for some office after an answer that is the step's
+pub stands_on : (expected : Office × Answer) (before : Office) (after : Records) (result : Answer) → Does expected before after result → (p : Office) × StandsForOffice after p
+stands_on expected before after result (inl done) = (expected.0, done.1)
+stands_on expected before after result (inr wanting) = (before, wanting.1)
+
+pub kept_on : (expected : Office × Answer) (before : Office) (after : Records) (result : Answer) → Does expected before after result → AllByRecursion (λ account. HasRoom after.accepted account.1) after.accounts → IsKept after
+kept_on expected before after result does_it room =
+    let stands = stands_on expected before after result does_it in
+    record { office = stands.0; stands = stands.1; room = room }
+
+pub empty_kept : (closed : List (ℕ × Prices)) (accounts : List (List ℕ × AccountRecord)) (counts : Counts) (number : ℕ) → closed ≡ [] → accounts ≡ [] → ((what : What) → amount what counts ≡ 0)
+    → IsKept (record { last = None; tariff = None; first_month = None; closed = closed; accounts = accounts; counts = counts; accepted = number })
+empty_kept closed accounts counts number no_month no_account none = record {
+  office = empty_office;
+  stands = empty_stands closed accounts counts number no_month no_account none;
+  room = subst (λ (l : List (List ℕ × AccountRecord)). AllByRecursion (λ account. HasRoom number account.1) l) (sym no_account) tt;
+}
+
+-- ---- with what the calls give
+
+-- a bucket more
+pub one_more : (counts : Counts) (t : ℕ) (what : What) → amount what (record counts { buckets = counts.buckets + 1 }) ≡ amount what counts + in_bucket what (new_account t).bucket
+one_more counts t Buckets = refl
+one_more counts t Versions = omega arith
+one_more counts t Uploads = omega arith
+one_more counts t Parts = omega arith
+one_more counts t Names = omega arith
+one_more counts t Rules = omega arith
+
+-- the first month that a call gives
+pub with_month : (t : ℕ) (records : Records) (accounts : List (List ℕ × AccountRecord)) (counts : Counts) (number month : ℕ) → month ≡ unwrap_or records.first_month (month_at t) → (P : Records → Type 0)
+    → P (accepted_records t records accounts counts number)
+    → P (record { last = Some t; tariff = records.tariff; first_month = Some month; closed = records.closed; accounts = accounts; counts = counts; accepted = number })
+with_month t records accounts counts number month is P h =
+    subst (λ (m : ℕ). P (record { last = Some t; tariff = records.tariff; first_month = Some m; closed = records.closed; accounts = accounts; counts = counts; accepted = number })) (sym is) h

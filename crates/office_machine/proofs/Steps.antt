@@ -1,76 +1,103 @@
--- What each command and query gives, told by what stands in the office.
-use Rattle.std.proofs.Common.{◌≡◌, ℕ, ◌+◌, ◌≤◌, ◌<◌, List, length, refl, ap, Bool, true, false, cond, arith}
-use Rattle.std.specs.Prelude.{Option, Some, None, Result, Ok, Err, is_some, nat_lt}
-use Rattle.std.proofs.lemmas.Bool.Decides.{nat_tests}
-use Rattle.office_base.specs.declared.version_id.VersionId.TheVariants.{Null}
-use Rattle.plain_office.specs.Maps.{at_name, with_name}
-use Rattle.plain_office.specs.Office.{Office, Account, new_account}
-use Rattle.plain_office.specs.Changes.{put_object}
-use Rattle.plain_office.specs.Counts.{count_of}
-use Rattle.plain_office.specs.Step.{settled, unless_full, outcome, step}
-use Rattle.plain_office.specs.declared.command.Command.TheVariants as command
-use Rattle.plain_office.specs.declared.object.Object.{Object}
-use Rattle.plain_office.specs.declared.reply.Reply.{Reply}
-use Rattle.plain_office.specs.declared.reply.Reply.TheVariants.{BucketMade, Stored}
-use Rattle.plain_office.specs.declared.reply.Refusal.{Refusal}
-use Rattle.plain_office.specs.declared.reply.Refusal.TheVariants.{BucketExists, NoSuchBucket, Full}
-use Rattle.plain_office.specs.declared.reply.What.TheVariants.{Buckets, Versions, Names}
-use Rattle.plain_office.proofs.Counting.{with_accounts, created_counts}
-use Rattle.office_machine.specs.Counting.{counted}
+-- What a command gives, told by what stands in the office.
+use Rattle.std.proofs.Common.{◌≡◌, ℕ, ◌+◌, List, [], ◌∷◌, refl, ap, sym, ◌∙◌, subst, Bool, true, false, cond}
+use Rattle.std.specs.Prelude.{Option, Some, None, Result, Ok, Err, is_some, unwrap_or}
+use Rattle.moments.specs.Months.{month_at}
+use Rattle.office_base.specs.Maps.{at_name, with_name}
+use Rattle.plain_office.specs.Office.{Office, Account}
+use Rattle.plain_office.specs.Counts.{limit_of, first_full}
+use Rattle.plain_office.specs.Step.{Change, Outcome, on_bucket, within_limits, unless_full, settled, accepted, outcome, step, is_accepted, new_account}
+use Rattle.office_types.specs.declared.command.Command.{Command}
+use Rattle.office_types.specs.declared.command.Command.TheVariants as command
+use Rattle.office_types.specs.declared.reply.Reply.{Reply}
+use Rattle.office_types.specs.declared.reply.Reply.TheVariants as reply
+use Rattle.office_types.specs.declared.refusal.Refusal.{Refusal}
+use Rattle.office_types.specs.declared.refusal.Refusal.TheVariants.{NoSuchBucket, BucketExists, Full}
+use Rattle.office_types.specs.declared.refusal.What.{What}
+use Rattle.office_types.specs.declared.refusal.What.TheVariants.{Buckets}
+use Rattle.office_machine.specs.Changing.{change_of, limits_of, IsOnBucket}
 
 abbrev pub Answer : Type 0
 Answer = Result Reply Refusal
 
--- ---- a new bucket
+abbrev told_is : Change → Bool
+told_is (Ok done) = is_accepted (Ok done.1)
+told_is (Err refusal) = true
 
-module _ (t : ℕ) (name : List ℕ) (p : Office) where
-  pub create_exists : is_some (at_name name p.accounts) ≡ true → step t (command.CreateBucket name) p ≡ (p, Err BucketExists)
-  unfolding step outcome
-  create_exists there = rw there refl
+-- what is told of a command on a bucket is accepted
+pub told_accepted : (t : ℕ) (name : List ℕ) (asked : Command) → IsOnBucket name asked → (account after : Account) (told : Reply) → change_of t asked account ≡ Ok (after, told) → is_accepted (Ok told) ≡ true
+told_accepted t name (command.Put bucket key size class tags) same account after told is = sym (ap told_is is)
+told_accepted t name other same account after told is = absurd same
 
-  abbrev pub made : Office
-  made = with_accounts (Some t) (with_name name new_account p.accounts)
+module _ (t : ℕ) (p : Office) where
+  settled_ok : (after : Office) (told : Reply) → is_accepted (Ok told) ≡ true → settled t p (Ok (after, told)) ≡ (accepted t after, Ok told)
+  settled_ok after reply.NothingDue h = absurd cc
+  settled_ok after told h = refl
 
-  pub create_full : at_name name p.accounts ≡ None → 1000 ≤ length p.accounts → step t (command.CreateBucket name) p ≡ (p, Err (Full Buckets 1000))
-  unfolding step outcome count_of
-  create_full none many =
-      let there : is_some (at_name name p.accounts) ≡ false = ap (λ (o : Option Account). is_some o) none in
-      let n = length (with_name name new_account p.accounts) in
-      let count : n ≡ length p.accounts + 1 = (created_counts p.last p name none).0 in
-      let above : nat_lt 1000 n ≡ true = grind (arith, nat_tests) in
-      rw (there, above) refl
+  -- ---- a command on a bucket
 
-  pub create_made : at_name name p.accounts ≡ None → length p.accounts < 1000 → step t (command.CreateBucket name) p ≡ (made, Ok (BucketMade name))
-  unfolding step outcome count_of
-  create_made none few =
-      let there : is_some (at_name name p.accounts) ≡ false = ap (λ (o : Option Account). is_some o) none in
-      let n = length (with_name name new_account p.accounts) in
-      let count : n ≡ length p.accounts + 1 = (created_counts p.last p name none).0 in
-      let below : nat_lt 1000 n ≡ false = grind (arith, nat_tests) in
-      rw (there, below) refl
+  outcome_on : (name : List ℕ) (asked : Command) → IsOnBucket name asked → outcome t asked p ≡ within_limits (limits_of asked) (on_bucket name (change_of t asked) p)
+  unfolding outcome
+  outcome_on name (command.Put bucket key size class tags) same = rw same refl
+  outcome_on name other same = absurd same
 
--- ---- a put
+  module _ (name : List ℕ) (asked : Command) (on : IsOnBucket name asked) where
+    pub step_missing : at_name name p.accounts ≡ None → step t asked p ≡ (p, Err NoSuchBucket)
+    unfolding step
+    step_missing none =
+        let told : outcome t asked p ≡ Err NoSuchBucket = outcome_on name asked on ∙ rw none refl in
+        ap (settled t p) told
 
-module _ (name key : List ℕ) (object : Object) (p : Office) where
-  pub put_missing : at_name name p.accounts ≡ None → step object.created (command.Put name key object.size object.class) p ≡ (p, Err NoSuchBucket)
-  unfolding step outcome
-  put_missing none = rw none refl
+    abbrev pub placed : Account → Office
+    placed after = record p { accounts = with_name name after p.accounts }
 
-  abbrev pub placed : Account → Option ℕ → Office
-  placed account last = with_accounts last (with_name name (put_object key object account) p.accounts)
+    abbrev told_outcome : Change → Outcome
+    told_outcome (Ok done) = Ok (placed done.0, done.1)
+    told_outcome (Err refusal) = Err refusal
 
-  abbrev pub put_result : Account → Result (ℕ × ℕ) Refusal → Office × Answer
-  put_result account (Ok counts) = (placed account (Some object.created), Ok (Stored object.created Null))
-  put_result account (Err refusal) = (p, Err refusal)
+    module _ (account : Account) (there : at_name name p.accounts ≡ Some account) where
+      outcome_told : (told : Change) → change_of t asked account ≡ told → outcome t asked p ≡ within_limits (limits_of asked) (told_outcome told)
+      outcome_told (Ok done) is = outcome_on name asked on ∙ rw (there, is) refl
+      outcome_told (Err refusal) is = outcome_on name asked on ∙ rw (there, is) refl
 
-  decided : (account : Account) (versions names : ℕ) (many long : Bool)
-      → settled object.created p (unless_full (cond many (Some Versions) (cond long (Some Names) None)) (placed account p.last, Stored object.created Null))
-      ≡ put_result account (cond many (Err (Full Versions 200_000)) (cond long (Err (Full Names 536_870_912)) (Ok (versions, names))))
-  decided account versions names true long = refl
-  decided account versions names false true = refl
-  decided account versions names false false = refl
+      -- refused as it is told
+      pub step_refused : (refusal : Refusal) → change_of t asked account ≡ Err refusal → step t asked p ≡ (p, Err refusal)
+      unfolding step
+      step_refused refusal is = ap (settled t p) (outcome_told (Err refusal) is)
 
-  pub put_by : (account : Account) (versions names : ℕ) → at_name name p.accounts ≡ Some account → count_of Versions (placed account p.last) ≡ versions → count_of Names (placed account p.last) ≡ names
-      → step object.created (command.Put name key object.size object.class) p ≡ put_result account (counted versions names)
-  unfolding step outcome
-  put_by account versions names there many long = rw (there, many, long) (decided account versions names (nat_lt 200_000 versions) (nat_lt 536_870_912 names))
+      -- refused for a count
+      pub step_full : (after : Account) (told : Reply) (what : What) → change_of t asked account ≡ Ok (after, told) → first_full (limits_of asked) (placed after) ≡ Some what
+          → step t asked p ≡ (p, Err (Full what (limit_of what)))
+      unfolding step
+      step_full after told what is full =
+          ap (settled t p) (outcome_told (Ok (after, told)) is ∙ ap (λ (o : Option What). unless_full o (placed after, told)) full)
+
+      -- done
+      pub step_done : (after : Account) (told : Reply) → change_of t asked account ≡ Ok (after, told) → first_full (limits_of asked) (placed after) ≡ None
+          → step t asked p ≡ (accepted t (placed after), Ok told)
+      unfolding step
+      step_done after told is free =
+          ap (settled t p) (outcome_told (Ok (after, told)) is ∙ ap (λ (o : Option What). unless_full o (placed after, told)) free)
+          ∙ settled_ok (placed after) told (told_accepted t name asked on account after told is)
+
+  -- ---- a new bucket
+
+  module _ (name : List ℕ) where
+    abbrev pub made : Office
+    made = record p { accounts = with_name name (new_account t) p.accounts }
+
+    pub create_exists : is_some (at_name name p.accounts) ≡ true → step t (command.CreateBucket name) p ≡ (p, Err BucketExists)
+    unfolding step outcome
+    create_exists there = rw there refl
+
+    create_told : is_some (at_name name p.accounts) ≡ false → (o : Option What) → first_full (Buckets ∷ []) made ≡ o
+        → step t (command.CreateBucket name) p ≡ settled t p (unless_full o (made, reply.BucketMade name))
+    unfolding step outcome
+    create_told there o is = rw there (ap (λ (o : Option What). settled t p (unless_full o (made, reply.BucketMade name))) is)
+
+    pub create_full : is_some (at_name name p.accounts) ≡ false → (what : What) → first_full (Buckets ∷ []) made ≡ Some what
+        → step t (command.CreateBucket name) p ≡ (p, Err (Full what (limit_of what)))
+    create_full there what full = create_told there (Some what) full
+
+    pub create_made : is_some (at_name name p.accounts) ≡ false → first_full (Buckets ∷ []) made ≡ None
+        → step t (command.CreateBucket name) p ≡ (accepted t made, Ok (reply.BucketMade name))
+    create_made there free = create_told there None free

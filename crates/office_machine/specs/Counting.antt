@@ -1,25 +1,67 @@
--- The running counts of versions and of the bytes of keys, as one put changes them.
-use Rattle.std.specs.Prelude.{ℕ, ◌*◌, ◌≤◌, List, is_some, nat_lt, Result, Ok, Err, if◌then◌else◌}
-use Rattle.std.specs.List.{AllByRecursion}
-use Rattle.plain_office.specs.Counts.{limit_of}
-use Rattle.plain_office.specs.Maps.{at_name}
-use Rattle.plain_office.specs.declared.object.Object.{Object}
-use Rattle.plain_office.specs.declared.reply.Refusal.{Refusal}
-use Rattle.plain_office.specs.declared.reply.Refusal.TheVariants.{Full}
-use Rattle.plain_office.specs.declared.reply.What.TheVariants.{Versions, Names}
-use Rattle.office_machine.specs.Standing.{BucketRecords}
+-- The running counts of what has a limit, as a change of one bucket moves them.
+use Rattle.std.specs.Prelude.{◌≡◌, ℕ, ◌+◌, ◌*◌, ◌^◌, ◌≤◌, List, length, nat_lt, Option, Some}
+use Rattle.std.specs.List.{find}
+use Rattle.accrual.specs.Totals.{Totals}
+use Rattle.due_core.specs.Buckets.{BucketRecord}
+use Rattle.plain_office.specs.Counts.{limit_of, version_count, part_count, name_bytes, rules_bytes}
+use Rattle.office_types.specs.declared.refusal.Refusal.{Refusal}
+use Rattle.office_types.specs.declared.refusal.Refusal.TheVariants.{Full}
+use Rattle.office_types.specs.declared.refusal.What.{What}
+use Rattle.office_types.specs.declared.refusal.What.TheVariants.{Buckets, Versions, Uploads, Parts, Names, Rules}
+use Rattle.office_machine.specs.declared.counts.Counts.{Counts}
 
--- a key that is there adds nothing
-abbrev pub added : List ℕ → ℕ → List (List ℕ × Object) → ℕ
-added key amount objects = if is_some (at_name key objects) then 0 else amount
+-- what contracts see of a bucket: its records and its meters
+pub record AccountRecord : Type 0 where
+  pub bucket : BucketRecord
+  pub meters : Totals
 
--- the count of versions and the bytes of keys, where neither is above its limit
-abbrev pub counted : ℕ → ℕ → Result (ℕ × ℕ) Refusal
-counted versions names =
-    if nat_lt (limit_of Versions) versions then Err (Full Versions (limit_of Versions))
-    else if nat_lt (limit_of Names) names then Err (Full Names (limit_of Names))
-    else Ok (versions, names)
+abbrev pub account_of : BucketRecord → Totals → AccountRecord
+account_of bucket meters = record { bucket = bucket; meters = meters }
 
--- no bucket's meters have more than three bookings for each accepted command
-abbrev pub FewBookings : ℕ → List (List ℕ × BucketRecords) → Type 0
-FewBookings accepted buckets = AllByRecursion (λ (entry : List ℕ × BucketRecords). entry.1.meters.booked ≤ 3 * accepted) buckets
+-- how much is counted of a kind
+abbrev pub amount : What → Counts → ℕ
+amount Buckets counts = counts.buckets
+amount Versions counts = counts.versions
+amount Uploads counts = counts.uploads
+amount Parts counts = counts.parts
+amount Names counts = counts.names
+amount Rules counts = counts.rules
+
+-- how much of it is one bucket's
+abbrev pub in_bucket : What → BucketRecord → ℕ
+in_bucket Buckets bucket = 1
+in_bucket Versions bucket = version_count bucket
+in_bucket Uploads bucket = length bucket.uploads
+in_bucket Parts bucket = part_count bucket
+in_bucket Names bucket = name_bytes bucket
+in_bucket Rules bucket = rules_bytes bucket.rules
+
+-- the counts include this bucket, and are not above twice their limits
+abbrev pub AreCountsOver : BucketRecord → Counts → Type 0
+AreCountsOver bucket counts = (what : What) → (in_bucket what bucket ≤ amount what counts) × (amount what counts ≤ 2 * limit_of what)
+
+-- the counts have moved as one bucket did
+abbrev pub HaveMoved : BucketRecord → BucketRecord → Counts → Counts → Type 0
+HaveMoved before after counts moved =
+    (what : What) → amount what moved + in_bucket what before ≡ amount what counts + in_bucket what after
+
+-- the first of these that is above its limit
+abbrev pub first_over : List What → Counts → Option What
+first_over whats counts = find (λ what. nat_lt (limit_of what) (amount what counts)) whats
+
+-- refused for the counts: this is the first of them above its limit
+abbrev pub IsFullOf : List What → Counts → Refusal → Type 0
+IsFullOf whats counts refusal = (what : What) × (first_over whats counts ≡ Some what) × (refusal ≡ Full what (limit_of what))
+
+-- after so many accepted commands: a command books at most three times in a bucket's meters and gives at most one number of
+-- each kind, and an office that is restored begins within these
+pub record HasRoom (accepted : ℕ) (account : AccountRecord) : Type 0 where
+  pub booked : account.meters.booked ≤ 2 ^ 20 + 3 * accepted
+  pub next_version : account.bucket.next_version ≤ 2 ^ 62 + accepted
+  pub next_upload : account.bucket.next_upload ≤ 2 ^ 62 + accepted
+
+-- at most so many bookings and numbers of each kind were added
+pub record HasGrownBy (bookings numbers : ℕ) (old new : AccountRecord) : Type 0 where
+  pub booked : new.meters.booked ≤ old.meters.booked + bookings
+  pub next_version : new.bucket.next_version ≤ old.bucket.next_version + numbers
+  pub next_upload : new.bucket.next_upload ≤ old.bucket.next_upload + numbers

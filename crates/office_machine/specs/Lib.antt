@@ -1,2 +1,4 @@
+pub mod Booking
+pub mod Changing
 pub mod Counting
 pub mod Standing

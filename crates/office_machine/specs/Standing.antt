@@ -1,54 +1,69 @@
--- What the office in memory stands for: it keeps records and totals, where the plain office has lists.
-use Rattle.std.specs.Prelude.{◌≡◌, ◌⊎◌, ℕ, ◌+◌, ◌^◌, List, [], ◌∷◌, Option, Result, Ok, Err}
+-- What the office in memory stands for: it keeps records, totals and counts, where the plain office has lists.
+use Rattle.std.specs.Prelude.{◌≡◌, ◌⊎◌, ℕ, ◌+◌, ◌^◌, List, [], ◌∷◌, Option, Result, Ok, Err, if◌then◌else◌}
+use Rattle.std.specs.List.{AllByRecursion}
 use Rattle.accrual.specs.Totals.{Totals, StandsFor}
+use Rattle.tariff.specs.Prices.{Prices}
+use Rattle.due_core.specs.Buckets.{BucketRecord}
 use Rattle.plain_office.specs.Office.{Office, Account, book_of}
 use Rattle.plain_office.specs.Counts.{count_of}
-use Rattle.plain_office.specs.declared.object.Object.{Object}
-use Rattle.plain_office.specs.declared.reply.Reply.{Reply}
-use Rattle.plain_office.specs.declared.reply.Refusal.{Refusal}
-use Rattle.plain_office.specs.declared.reply.Refusal.TheVariants.{NoMemory}
-use Rattle.plain_office.specs.declared.reply.What.TheVariants.{Versions, Names}
+use Rattle.plain_office.specs.Orderly.{IsOrderly}
+use Rattle.plain_office.specs.Step.{is_accepted}
+use Rattle.office_types.specs.declared.reply.Reply.{Reply}
+use Rattle.office_types.specs.declared.refusal.Refusal.{Refusal}
+use Rattle.office_types.specs.declared.refusal.Refusal.TheVariants.{NoMemory}
+use Rattle.office_types.specs.declared.refusal.What.{What}
+use Rattle.office_machine.specs.declared.counts.Counts.{Counts}
+use Rattle.office_machine.specs.Counting.{amount, AccountRecord, HasRoom}
 
--- what contracts see of a bucket: its objects in byte order of the keys, and its meters
-pub record BucketRecords : Type 0 where
-  pub objects : List (List ℕ × Object)
-  pub meters : Totals
-
--- what contracts see of an office: the moment of the last accepted command, its buckets in byte order of their names, the
--- running counts of versions and of the bytes of keys, and how many commands were accepted
+-- what contracts see of an office: the moment of the last accepted command, the tariff, the month of the first accepted
+-- command, the closed months, its buckets in byte order of their names, the running counts, and how many commands were
+-- accepted
 pub record Records : Type 0 where
   pub last : Option ℕ
-  pub buckets : List (List ℕ × BucketRecords)
-  pub versions : ℕ
-  pub names : ℕ
+  pub tariff : Option Prices
+  pub first_month : Option ℕ
+  pub closed : List (ℕ × Prices)
+  pub accounts : List (List ℕ × AccountRecord)
+  pub counts : Counts
   pub accepted : ℕ
 
--- fewer commands than this are accepted, which keeps every sum of the meters below 2^128
+-- fewer commands than this are accepted, which keeps every sum of the meters below 2^121
 abbrev pub most_commands : ℕ
 most_commands = 2 ^ 42
 
--- a bucket's objects are these, and its meters stand for its book
-pub record StandsForBucket (records : BucketRecords) (account : Account) : Type 0 where
-  pub objects : records.objects ≡ account.objects
+-- the bucket has these records, and its meters stand for its book
+pub record StandsForAccount (records : AccountRecord) (account : Account) : Type 0 where
+  pub bucket : records.bucket ≡ account.bucket
   pub meters : StandsFor records.meters (book_of account.books)
 
--- so do those of the bucket of this name
-pub record StandsForAccount (records : List ℕ × BucketRecords) (account : List ℕ × Account) : Type 0 where
-  pub name : records.0 ≡ account.0
-  pub bucket : StandsForBucket records.1 account.1
+-- under the same name
+pub record StandsForEntry (records : List ℕ × AccountRecord) (entry : List ℕ × Account) : Type 0 where
+  pub name : records.0 ≡ entry.0
+  pub account : StandsForAccount records.1 entry.1
 
-abbrev pub StandForAccounts : List (List ℕ × BucketRecords) → List (List ℕ × Account) → Type 0
+abbrev pub StandForAccounts : List (List ℕ × AccountRecord) → List (List ℕ × Account) → Type 0
 StandForAccounts [] [] = Unit {0}
 StandForAccounts [] (account ∷ accounts) = ⊥
-StandForAccounts (records ∷ buckets) [] = ⊥
-StandForAccounts (records ∷ buckets) (account ∷ accounts) = StandsForAccount records account × StandForAccounts buckets accounts
+StandForAccounts (records ∷ others) [] = ⊥
+StandForAccounts (records ∷ others) (account ∷ accounts) =
+    StandsForEntry records account × StandForAccounts others accounts
 
--- the office in memory stands for the plain office
+-- the office in memory stands for the plain office, which is orderly: the same records, meters that stand for the books,
+-- and running counts that are the counts
 pub record StandsForOffice (records : Records) (office : Office) : Type 0 where
+  pub orderly : IsOrderly office
   pub last : records.last ≡ office.last
-  pub buckets : StandForAccounts records.buckets office.accounts
-  pub versions : records.versions ≡ count_of Versions office
-  pub names : records.names ≡ count_of Names office
+  pub tariff : records.tariff ≡ office.tariff
+  pub first_month : records.first_month ≡ office.first_month
+  pub closed : records.closed ≡ office.closed
+  pub accounts : StandForAccounts records.accounts office.accounts
+  pub counts : (what : What) → amount what records.counts ≡ count_of what office
+
+-- there is a plain office that it stands for, and each bucket has room for what later commands book and number
+pub record IsKept (records : Records) : Type 0 where
+  pub office : Office
+  pub stands : StandsForOffice records office
+  pub room : AllByRecursion (λ account. HasRoom records.accepted account.1) records.accounts
 
 -- the answer is the expected one, and the office in memory stands for the office expected; or memory is wanting, and it
 -- stands for the one before
@@ -58,5 +73,4 @@ Does expected before after result =
 
 -- the number of accepted commands after an answer
 abbrev pub accepted_after : Result Reply Refusal → ℕ → ℕ
-accepted_after (Ok reply) count = count + 1
-accepted_after (Err refusal) count = count
+accepted_after result count = if is_accepted result then count + 1 else count

@@ -1,10 +1,14 @@
-//! The office in memory: its buckets, their objects and their meters, changed by commands.
+//! The office in memory: its buckets, their records and their meters, changed by commands.
 #![tactic(auto)]
 
 mod account;
+mod booking;
+mod change;
+mod counts;
+mod incoming;
 mod office;
+mod put;
 #[cfg(test)]
 mod tests;
 
 pub use office::Office;
-pub use plain_office::{Ask, ClassMeters, Command, Entry, Object, Query, Refusal, Reply, What};

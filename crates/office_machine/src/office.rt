@@ -1,47 +1,70 @@
 // The office, its commands and its queries.
-ghost use Rattle.std.specs.Prelude.{◌≡◌, ◌⊎◌, ◌<◌, ◌≤◌, ◌+◌, ◌*◌, ℕ, OnOk, OnErr, IfOk, IfErr, IsTrue, Err};
+ghost use Rattle.std.specs.Prelude.{◌≡◌, ◌⊎◌, ◌<◌, ℕ, Err, Some, unwrap_or, IfOk, IfErr, IsTrue};
 ghost use Rattle.plain_office.specs.Office as plain;
 ghost use Rattle.plain_office.specs.Office.{empty_office};
 ghost use Rattle.plain_office.specs.Step.{step};
 ghost use Rattle.plain_office.specs.Answers.{answer};
+ghost use Rattle.plain_office.specs.Orderly.{SizeFits};
 ghost use Rattle.plain_office.specs.Run.{is_not_before};
-ghost use Rattle.plain_office.specs.Orderly.{IsOrderly};
-ghost use Rattle.plain_office.specs.declared.command.Command.TheVariants as command;
-ghost use Rattle.plain_office.specs.declared.command.Query.TheVariants as query;
+ghost use Rattle.office_types.specs.Built.{IsBuilt, IsBuiltQuery};
+ghost use Rattle.office_types.specs.declared.command.Command.TheVariants as command;
+ghost use Rattle.office_types.specs.declared.command.Query.TheVariants as query;
+ghost use Rattle.moments.specs.Months.{month_at};
+ghost use Rattle.office_machine.specs.Changing.{IsOnBucket};
 ghost use Rattle.office_machine.specs.Standing.{StandsForOffice, Does, accepted_after, most_commands};
 
-use crate::account::{Account, Counts};
+use crate::account::Account;
+use crate::counts::{Counts, NOTHING};
 use class_rules::Class;
-use moments::{Moment, Month};
-use office_base::{BucketName, Key, Size, VersionId};
-use plain_office::{Command, Object, Query, Refusal, Reply, What};
+use moments::{Moment, Month, month_of};
+use office_base::BucketName;
+use office_types::{Command, Query, Refusal, Reply, What};
 use std::alloc::Global;
 use std::collections::BTreeMap;
 use std::marker::Model;
+use tariff::Tariff;
 
-/// The most buckets. Own rule: the limits keep every sum of the meters below 2^128.
-const MOST_BUCKETS: usize = 1_000;
-
-/// The moment of the last accepted command, and the buckets with their objects and meters.
+/// The office in memory: its buckets with their records and meters, the tariff and the closed months.
 #[derive(Drop)]
 pub struct Office {
     alloc: Global,
+    // The moment of the last accepted command.
     last: Option<Moment>,
-    buckets: BTreeMap<BucketName, Account>,
+    tariff: Option<Tariff>,
+    // The month of the first accepted command.
+    first_month: Option<Month>,
+    // The closed months, each with the tariff of its closing.
+    closed: Vec<(Month, Tariff)>,
+    accounts: BTreeMap<BucketName, Account>,
     counts: Counts,
     // How many commands were accepted.
     accepted: u64,
 }
 
 impl Model for Office {
-    ghost use Rattle.office_machine.specs.Standing.{Records};
-    ghost use Rattle.office_machine.specs.Counting.{FewBookings};
+    ghost use Rattle.office_machine.specs.Standing.{Records, IsKept};
 
     ghost Value = { Records };
 
-    ghost view = { λ o. record { last = o.last; buckets = o.buckets.entries; versions = o.counts.versions; names = o.counts.names; accepted = o.accepted } };
+    ghost view = { λ o. record {
+        last = o.last;
+        tariff = o.tariff;
+        first_month = o.first_month;
+        closed = o.closed.items;
+        accounts = o.accounts.entries;
+        counts = o.counts;
+        accepted = o.accepted;
+    } };
 
-    ghost invariant = { λ o. FewBookings o.accepted o.buckets.entries };
+    ghost invariant = { λ o. IsKept (record {
+        last = o.last;
+        tariff = o.tariff;
+        first_month = o.first_month;
+        closed = o.closed.items;
+        accounts = o.accounts.entries;
+        counts = o.counts;
+        accepted = o.accepted;
+    }) };
 }
 
 impl Office {
@@ -53,11 +76,11 @@ impl Office {
         Office {
             alloc,
             last: None,
-            buckets: BTreeMap::new(alloc),
-            counts: Counts {
-                versions: 0,
-                names: 0,
-            },
+            tariff: None,
+            first_month: None,
+            closed: Vec::new(alloc),
+            accounts: BTreeMap::new(alloc),
+            counts: NOTHING,
             accepted: 0,
         }
     }
@@ -71,123 +94,131 @@ impl Office {
 
     /// Does a command at a moment, and answers it. `t` is not before the moment of the last accepted command.
     ///
-    /// Cost: one search of the buckets and one of the bucket's objects, two where the key is new; memory for copies of
-    /// names and keys that are new, and for the months since the object that is replaced was put.
+    /// Cost: one search of the buckets and one of the bucket's keys, two where the key is new; where the null version is
+    /// replaced two passes over the key's versions. Memory for copies of names, keys and tags, and for the months since
+    /// the version that is replaced came. Nothing is counted again.
     ///
     /// # Errors
     ///
     /// `BucketExists`: there is a bucket of the name of `CreateBucket` (S3 User Guide, "Creating a general purpose
-    /// bucket"). `NoSuchBucket`: there is none of the name of `Put`. `Full`: there would be more than 1,000 buckets,
-    /// 200,000 versions or 536,870,912 bytes of keys. `NoMemory`: memory ran out. The office then stands for what it
-    /// stood for.
+    /// bucket"). `NoSuchBucket`: there is none of the name of another command. `Full`: there would be more of a kind than
+    /// its limit, the first in the order of `What`: 1,000 buckets, 200,000 versions, 536,870,912 bytes of keys and tags.
+    /// `NoMemory`: memory ran out, or the command is not built. The office then stands for what it stood for.
     pub fn apply(&mut self, t: Moment, command: &Command) -> Result<Reply, Refusal>
-        requires stands { (p : plain.Office) × StandsForOffice self.old p × IsOrderly p }
         requires later { IsTrue (is_not_before self.old.last t) }
         requires few { self.old.accepted < most_commands }
-        ensures step { (p : plain.Office) → StandsForOffice self.old p → IsOrderly p → Does (step t command.now p) p self.new result }
+        ensures step { (p : plain.Office) → StandsForOffice self.old p → Does (step t command.now p) p self.new result }
         ensures accepted { self.new.accepted ≡ accepted_after result self.old.accepted }
+        ensures unbuilt { (IsBuilt command.now → ⊥) → result ≡ Err Refusal.NoMemory }
     {
         match command {
             Command::CreateBucket { bucket } => self.create_bucket(t, bucket),
-            Command::Put {
-                bucket,
-                key,
-                size,
-                class,
-            } => {
-                let object = Object {
-                    size: *size,
-                    class: *class,
-                    created: t,
-                };
-                self.put(bucket, key, &object)
+            Command::Put { bucket, size, .. } => {
+                // A size is at most 5 TiB, by its type.
+                let _ = size.bytes();
+                self.on_bucket(t, bucket, command)
             }
+            _ => Err(Refusal::NoMemory),
         }
     }
 
     fn create_bucket(&mut self, t: Moment, name: &BucketName) -> Result<Reply, Refusal>
+        requires later { IsTrue (is_not_before self.old.last t) }
         requires few { self.old.accepted < most_commands }
-        ensures step { (p : plain.Office) → StandsForOffice self.old p → IsOrderly p → Does (step t (command.CreateBucket name.now) p) p self.new result }
+        ensures step { (p : plain.Office) → StandsForOffice self.old p
+            → Does (step t (command.CreateBucket name.now) p) p self.new result }
         ensures accepted { self.new.accepted ≡ accepted_after result self.old.accepted }
     {
-        if self.buckets.contains_key(name) {
+        if self.accounts.contains_key(name) {
             return Err(Refusal::BucketExists);
         }
-        if self.buckets.len() >= MOST_BUCKETS {
-            return Err(Refusal::Full {
-                what: What::Buckets,
-                limit: MOST_BUCKETS as u64,
-            });
-        }
+        let counts = Counts {
+            buckets: self.counts.buckets + 1,
+            ..self.counts
+        };
+        let counts = counts.within(&[What::Buckets])?;
         let shown = copy_of(name)?;
         let kept = copy_of(name)?;
-        if self.buckets.insert(kept, Account::new(self.alloc)).is_err() {
+        if self
+            .accounts
+            .insert(kept, Account::new(self.alloc, t))
+            .is_err()
+        {
             return Err(Refusal::NoMemory);
         }
+        self.counts = counts;
         self.last = Some(t);
+        self.first_month = Some(first_of(self.first_month, t));
         self.accepted += 1;
         Ok(Reply::BucketMade { bucket: shown })
     }
 
-    // The object is put at the moment of its creation.
-    fn put(&mut self, bucket: &BucketName, key: &Key, object: &Object) -> Result<Reply, Refusal>
-        requires stands { (p : plain.Office) × StandsForOffice self.old p × IsOrderly p }
-        requires later { IsTrue (is_not_before self.old.last object.now.created) }
+    /// Does a command on the bucket that it names.
+    fn on_bucket(
+        &mut self,
+        t: Moment,
+        name: &BucketName,
+        command: &Command,
+    ) -> Result<Reply, Refusal>
+        requires later { IsTrue (is_not_before self.old.last t) }
         requires few { self.old.accepted < most_commands }
-        ensures step { (p : plain.Office) → StandsForOffice self.old p → IsOrderly p → Does (step object.now.created (command.Put bucket.now key.now object.now.size object.now.class) p) p self.new result }
+        requires named { IsOnBucket name.now command.now }
+        requires fits { SizeFits command.now }
+        ensures step { (p : plain.Office) → StandsForOffice self.old p → Does (step t command.now p) p self.new result }
         ensures accepted { self.new.accepted ≡ accepted_after result self.old.accepted }
     {
-        let t = object.created;
         let counts = self.counts;
-        let Some(account) = self.buckets.get_mut(bucket) else {
+        let Some(account) = self.accounts.get_mut(name) else {
             return Err(Refusal::NoSuchBucket);
         };
-        self.counts = account.put(key, object, counts)?;
+        let done = account.apply(self.alloc, t, command, counts)?;
+        self.counts = done.counts;
         self.last = Some(t);
+        self.first_month = Some(first_of(self.first_month, t));
         self.accepted += 1;
-        Ok(Reply::Stored {
-            moment: t,
-            version: VersionId::Null,
-        })
+        Ok(done.reply)
     }
 
-    /// Answers a query at a moment, which is not before that of the last accepted command.
-    ///
-    /// Cost: one search of the buckets, and memory for a copy of the name.
+    /// Answers a query as of a moment, which is not before that of the last accepted command. Nothing changes.
     ///
     /// # Errors
     ///
-    /// `NoSuchBucket`: there is no bucket of this name. `NoMemory`: memory ran out.
+    /// `NoSuchBucket`: there is no bucket of the name. `NoMemory`: memory ran out, or the query is not built.
     pub fn answer(&self, t: Moment, query: &Query) -> Result<Reply, Refusal>
-        requires stands { (p : plain.Office) × StandsForOffice self.now p × IsOrderly p }
         requires later { IsTrue (is_not_before self.now.last t) }
-        ensures reply { (p : plain.Office) → StandsForOffice self.now p → IsOrderly p → (result ≡ answer t query.now p) ⊎ (result ≡ Err Refusal.NoMemory) }
+        ensures reply { (p : plain.Office) → StandsForOffice self.now p
+            → (result ≡ answer t query.now p) ⊎ (result ≡ Err Refusal.NoMemory) }
+        ensures unbuilt { (IsBuiltQuery query.now → ⊥) → result ≡ Err Refusal.NoMemory }
     {
         match query {
             Query::Bucket(name) => self.show_bucket(name),
             Query::Meters(name, month) => self.show_meters(t, name, *month),
+            _ => Err(Refusal::NoMemory),
         }
     }
 
     fn show_bucket(&self, name: &BucketName) -> Result<Reply, Refusal>
-        requires stands { (p : plain.Office) × StandsForOffice self.now p × IsOrderly p }
-        ensures reply { (t : ℕ) (p : plain.Office) → StandsForOffice self.now p → IsOrderly p → (result ≡ answer t (query.Bucket name.now) p) ⊎ (result ≡ Err Refusal.NoMemory) }
+        ensures reply { (t : ℕ) (p : plain.Office) → StandsForOffice self.now p
+            → (result ≡ answer t (query.Bucket name.now) p) ⊎ (result ≡ Err Refusal.NoMemory) }
     {
-        let Some(account) = self.buckets.get(name) else {
+        let Some(account) = self.accounts.get(name) else {
             return Err(Refusal::NoSuchBucket);
         };
         Ok(Reply::BucketShown {
             bucket: copy_of(name)?,
+            rules: account.rules(),
+            uploads: account.uploads(),
+            versioning: account.versioning(),
             versions: account.versions(),
         })
     }
 
     fn show_meters(&self, t: Moment, name: &BucketName, month: Month) -> Result<Reply, Refusal>
-        requires stands { (p : plain.Office) × StandsForOffice self.now p × IsOrderly p }
         requires later { IsTrue (is_not_before self.now.last t) }
-        ensures reply { (p : plain.Office) → StandsForOffice self.now p → IsOrderly p → (result ≡ answer t (query.Meters name.now month) p) ⊎ (result ≡ Err Refusal.NoMemory) }
+        ensures reply { (p : plain.Office) → StandsForOffice self.now p
+            → (result ≡ answer t (query.Meters name.now month) p) ⊎ (result ≡ Err Refusal.NoMemory) }
     {
-        let Some(account) = self.buckets.get(name) else {
+        let Some(account) = self.accounts.get(name) else {
             return Err(Refusal::NoSuchBucket);
         };
         let bucket = copy_of(name)?;
@@ -203,6 +234,16 @@ impl Office {
                 account.used(month, Class::DeepArchive, t),
             ],
         })
+    }
+}
+
+/// Gives the month of the first accepted command, where one is accepted at this moment.
+fn first_of(first: Option<Month>, t: Moment) -> Month
+    ensures { result ≡ unwrap_or first (month_at t) }
+{
+    match first {
+        Some(month) => month,
+        None => month_of(t),
     }
 }
 

@@ -1,11 +1,11 @@
-ghost use Rattle.std.specs.Prelude.{◌≡◌, ◌≤◌, IfOk};
+ghost use Rattle.std.specs.Prelude.{◌≡◌};
 ghost use Rattle.plain_office.specs.Run.{is_not_before};
-ghost use Rattle.plain_office.specs.Orderly.{SizeFits};
 
 use super::*;
 use class_rules::Class;
 use moments::{Moment, Month};
-use office_base::{BucketName, Key, Size, VersionId};
+use office_base::{BucketName, Key, Size, Tags, VersionId};
+use office_types::{ClassMeters, Command, Query, Refusal, Reply, What};
 use std::alloc::Global;
 use std::marker::Model;
 use std::process::Abort;
@@ -22,6 +22,8 @@ enum Wish<'a> {
     Make(&'a str),
     // A put under this key, of this many bytes.
     Put(&'a str, &'a str, u64, Class),
+    // A put of one byte under this key, with this many tags.
+    Tagged(&'a str, &'a str, u64),
     Show(&'a str),
     // The meters of this month of a year.
     Meters(&'a str, u16, u8),
@@ -43,8 +45,10 @@ enum Heard {
     // How many versions.
     Shown(u32),
     Metered(Used),
-    Refused(Refusal),
-    // A reply to something else.
+    Exists,
+    Missing,
+    Full(What, u64),
+    // Another refusal, or a reply to something else.
     Other,
 }
 
@@ -64,15 +68,22 @@ struct Tried {
 
 impl Model for Tried {
     ghost use Rattle.std.specs.Prelude.{◌≤◌};
-    ghost use Rattle.plain_office.specs.Office as plain;
-    ghost use Rattle.plain_office.specs.Orderly.{IsOrderly};
-    ghost use Rattle.office_machine.specs.Standing.{Records, StandsForOffice};
+    ghost use Rattle.office_machine.specs.Standing.{Records};
 
     ghost Value = { Records };
 
     ghost view = { λ t. t.office };
 
-    ghost invariant = { λ t. ((p : plain.Office) × StandsForOffice t.office p × IsOrderly p) × (t.office.accepted ≤ t.asked) };
+    ghost invariant = { λ t. t.office.accepted ≤ t.asked };
+}
+
+// As many tags, with different keys.
+fn tags(alloc: Global, number: u64) -> Result<Tags, Fail> {
+    let mut pairs = Vec::new(alloc);
+    for n in 0..number {
+        pairs.push((format!(in alloc; "key-{n}")?, format!(in alloc; "value")?))?;
+    }
+    Ok(Tags::read(alloc, pairs)?)
 }
 
 impl Tried {
@@ -91,8 +102,11 @@ impl Tried {
         ms: u64,
         wish: Wish<'_>,
     ) -> Result<Heard, Fail> {
-        let (Wish::Make(name) | Wish::Put(name, ..) | Wish::Show(name) | Wish::Meters(name, ..)) =
-            wish;
+        let (Wish::Make(name)
+        | Wish::Put(name, ..)
+        | Wish::Tagged(name, ..)
+        | Wish::Show(name)
+        | Wish::Meters(name, ..)) = wish;
         let bucket = BucketName::read(alloc, name)?;
         let moment = Moment::of(ms)?;
         let said = match wish {
@@ -103,6 +117,17 @@ impl Tried {
                     key: Key::read(alloc, key.as_bytes())?,
                     size: Size::of(size)?,
                     class,
+                    tags: tags(alloc, 0)?,
+                };
+                self.ask(rt, moment, &command)
+            }
+            Wish::Tagged(_, key, number) => {
+                let command = Command::Put {
+                    bucket,
+                    key: Key::read(alloc, key.as_bytes())?,
+                    size: Size::of(1)?,
+                    class: Class::Standard,
+                    tags: tags(alloc, number)?,
                 };
                 self.ask(rt, moment, &command)
             }
@@ -114,9 +139,12 @@ impl Tried {
         Ok(answer_of(&said, ms, wish))
     }
 
-    fn ask(&mut self, rt: &impl Abort, moment: Moment, command: &Command) -> Result<Reply, Refusal>
-        requires fits { SizeFits command.now }
-    {
+    fn ask(
+        &mut self,
+        rt: &impl Abort,
+        moment: Moment,
+        command: &Command,
+    ) -> Result<Reply, Refusal> {
         assert!(rt; self.is_later(moment));
         assert!(rt; self.asked < 1_000_000);
         self.asked += 1;
@@ -149,18 +177,30 @@ impl Tried {
 fn answer_of(said: &Result<Reply, Refusal>, ms: u64, wish: Wish<'_>) -> Heard {
     let reply = match said {
         Ok(reply) => reply,
-        Err(refusal) => return Heard::Refused(*refusal),
+        Err(refusal) => return refused(refusal),
     };
     let (what, is_so) = match (reply, wish) {
         (Reply::BucketMade { bucket }, Wish::Make(name)) => (Heard::Made, bucket.text() == name),
-        (Reply::Stored { moment, version }, Wish::Put(..)) => {
+        (Reply::Stored { moment, version }, Wish::Put(..) | Wish::Tagged(..)) => {
             (
                 Heard::Stored,
                 moment.ms() == ms && *version == VersionId::Null,
             )
         }
-        (Reply::BucketShown { bucket, versions }, Wish::Show(name)) => {
-            (Heard::Shown(*versions), bucket.text() == name)
+        (
+            Reply::BucketShown {
+                bucket,
+                versions,
+                rules,
+                uploads,
+                ..
+            },
+            Wish::Show(name),
+        ) => {
+            (
+                Heard::Shown(*versions),
+                bucket.text() == name && *rules == 0 && *uploads == 0,
+            )
         }
         (
             Reply::MetersShown {
@@ -176,6 +216,15 @@ fn answer_of(said: &Result<Reply, Refusal>, ms: u64, wish: Wish<'_>) -> Heard {
         _ => (Heard::Other, true),
     };
     if is_so { what } else { Heard::Other }
+}
+
+fn refused(refusal: &Refusal) -> Heard {
+    match refusal {
+        Refusal::BucketExists => Heard::Exists,
+        Refusal::NoSuchBucket => Heard::Missing,
+        Refusal::Full { what, limit } => Heard::Full(*what, *limit),
+        _ => Heard::Other,
+    }
 }
 
 fn metered(meters: &[ClassMeters; 6]) -> Heard {
@@ -235,9 +284,9 @@ fn assert_rows(rt: &impl Abort, alloc: Global, rows: &[Row]) -> Result<(), Fail>
 
 const MADE: Heard = Heard::Made;
 
-const EXISTS: Heard = Heard::Refused(Refusal::BucketExists);
+const EXISTS: Heard = Heard::Exists;
 
-const MISSING: Heard = Heard::Refused(Refusal::NoSuchBucket);
+const MISSING: Heard = Heard::Missing;
 
 const STANDARD: Class = Class::Standard;
 
@@ -415,6 +464,78 @@ fn replaced_before_the_least_duration(rt: HostRuntime) -> Result<(), Fail> {
     assert_rows(&rt, rt.alloc(), &REPLACED)
 }
 
+// 100 bytes in STANDARD_IA are billed as 131,072.
+const LEFT_EARLY: [Row; 4] = [
+    (NEW_YEAR, Wish::Make("logs"), MADE, NEW_YEAR),
+    (
+        NEW_YEAR,
+        Wish::Put("logs", "a", 100, Class::StandardIa),
+        Heard::Stored,
+        NEW_YEAR,
+    ),
+    (
+        NEW_YEAR + 10 * DAY,
+        Wish::Put("logs", "a", 0, STANDARD),
+        Heard::Stored,
+        NEW_YEAR + 10 * DAY,
+    ),
+    (
+        NEW_YEAR + 10 * DAY,
+        Wish::Meters("logs", 2024, 1),
+        Heard::Metered(Used {
+            standard: 0,
+            infrequent: 113_246_208_000_000,
+            early: 226_492_416_000_000,
+        }),
+        NEW_YEAR + 10 * DAY,
+    ),
+];
+
+const LEFT_AT_THE_LEAST_DURATION: [Row; 4] = [
+    (NEW_YEAR, Wish::Make("logs"), MADE, NEW_YEAR),
+    (
+        NEW_YEAR,
+        Wish::Put("logs", "a", 100, Class::StandardIa),
+        Heard::Stored,
+        NEW_YEAR,
+    ),
+    (
+        NEW_YEAR + 30 * DAY,
+        Wish::Put("logs", "a", 0, STANDARD),
+        Heard::Stored,
+        NEW_YEAR + 30 * DAY,
+    ),
+    (
+        NEW_YEAR + 30 * DAY,
+        Wish::Meters("logs", 2024, 1),
+        Heard::Metered(Used {
+            standard: 0,
+            infrequent: 339_738_624_000_000,
+            early: 0,
+        }),
+        NEW_YEAR + 30 * DAY,
+    ),
+];
+
+#[test]
+fn replaced_at_the_least_size(rt: HostRuntime) -> Result<(), Fail> {
+    assert_rows(&rt, rt.alloc(), &LEFT_EARLY)?;
+    assert_rows(&rt, rt.alloc(), &LEFT_AT_THE_LEAST_DURATION)
+}
+
+const TAGGED: [Row; 5] = [
+    (5, Wish::Make("logs"), MADE, 5),
+    (6, Wish::Tagged("logs", "a", 10), Heard::Stored, 6),
+    (7, Wish::Tagged("logs", "a", 1), Heard::Stored, 7),
+    (8, Wish::Tagged("logs", "b", 2), Heard::Stored, 8),
+    (9, LOGS, Heard::Shown(2), 8),
+];
+
+#[test]
+fn puts_with_tags(rt: HostRuntime) -> Result<(), Fail> {
+    assert_rows(&rt, rt.alloc(), &TAGGED)
+}
+
 #[test]
 fn a_thousand_buckets(rt: HostRuntime) -> Result<(), Fail> {
     let alloc = rt.alloc();
@@ -428,10 +549,7 @@ fn a_thousand_buckets(rt: HostRuntime) -> Result<(), Fail> {
             "{name}"
         );
     }
-    let full = Heard::Refused(Refusal::Full {
-        what: What::Buckets,
-        limit: 1_000,
-    });
+    let full = Heard::Full(What::Buckets, 1_000);
     assert_eq!(rt; tried.turn(&rt, alloc, 101, Wish::Make("one-more"))?, full);
     assert_eq!(rt; tried.last_ms(), Some(100));
     Ok(())

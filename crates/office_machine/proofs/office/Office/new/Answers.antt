@@ -1,13 +1,25 @@
-use Rattle.std.proofs.Common.{ℕ, List, [], refl, sym, subst}
-use Rattle.plain_office.specs.Counts.{count_of}
-use Rattle.office_machine.specs.Standing.{BucketRecords, StandForAccounts}
+use Rattle.std.proofs.Common.{◌≡◌, ℕ, refl}
+use Rattle.office_types.specs.declared.refusal.What.{What}
+use Rattle.office_types.specs.declared.refusal.What.TheVariants.{Buckets, Versions, Uploads, Parts, Names, Rules}
+use Rattle.plain_office.specs.Office.{empty_office}
+use Rattle.office_machine.specs.declared.counts.Counts.{Counts}
+use Rattle.office_machine.specs.Counting.{amount}
+use Rattle.office_machine.proofs.Offices.{empty_stands, empty_kept}
 use Rattle.office_machine.proofs.office.Office.new.Goals as goal
 
+abbrev nothing : Counts
+nothing = record { buckets = 0; versions = 0; uploads = 0; parts = 0; names = 0; rules = 0 }
+
+none : (what : What) → amount what nothing ≡ 0
+none Buckets = refl
+none Versions = refl
+none Uploads = refl
+none Parts = refl
+none Names = refl
+none Rules = refl
+
+pub invariant_of-result : goal.invariant_of-result
+invariant_of-result c = empty_kept c.new.result.items c.new-2.result.entries nothing 0 c.new.ensures.items c.new-2.ensures.empty none
+
 pub returns-clause-stands : goal.returns-clause-stands
-unfolding count_of
-returns-clause-stands c = record {
-  last = refl;
-  buckets = subst (λ (l : List (List ℕ × BucketRecords)). StandForAccounts l []) (sym c.new.ensures.empty) tt;
-  versions = refl;
-  names = refl;
-}
+returns-clause-stands c = empty_stands c.new.result.items c.new-2.result.entries nothing 0 c.new.ensures.items c.new-2.ensures.empty none

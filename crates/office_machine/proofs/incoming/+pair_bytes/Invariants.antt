@@ -1,0 +1,5 @@
+use Rattle.std.proofs.Common.{ℕ, length}
+use Rattle.office_machine.proofs.incoming.+pair_bytes.Given as goal
+
+abbrev pub decreases-pair_bytes : goal.decreases-pair_bytes
+decreases-pair_bytes l = length l.pairs.now

@@ -1,0 +1,56 @@
+-- What a command does to its bucket in memory, against what the plain office tells of it.
+use Rattle.std.specs.Prelude.{◌≡◌, ◌⊎◌, ℕ, List, [], ◌∷◌, Option, Some, None, Result, Ok, Err}
+use Rattle.due_core.specs.Buckets.{BucketRecord}
+use Rattle.plain_office.specs.Office.{Account}
+use Rattle.plain_office.specs.Orderly.{HasOpenStays, IsOrderlyBucket}
+use Rattle.plain_office.specs.Step.{Change, put_object}
+use Rattle.office_types.specs.declared.command.Command.{Command}
+use Rattle.office_types.specs.declared.command.Command.TheVariants as command
+use Rattle.office_types.specs.declared.reply.Reply.{Reply}
+use Rattle.office_types.specs.declared.refusal.Refusal.{Refusal}
+use Rattle.office_types.specs.declared.refusal.Refusal.TheVariants.{NoMemory}
+use Rattle.office_types.specs.declared.refusal.What.{What}
+use Rattle.office_types.specs.declared.refusal.What.TheVariants.{Versions, Names}
+use Rattle.office_machine.specs.declared.change.Done.{Done}
+use Rattle.office_machine.specs.declared.counts.Counts.{Counts}
+use Rattle.office_machine.specs.Counting.{AccountRecord, HaveMoved, first_over, IsFullOf}
+use Rattle.office_machine.specs.Standing.{StandsForAccount}
+
+-- what the plain office tells of a command on the account of its bucket, one equation for each that is built
+abbrev pub change_of : ℕ → Command → Account → Change
+change_of t (command.Put name key size class tags) account = put_object t key size class tags account
+change_of t other account = Err NoMemory
+
+-- the counts to which a command on a bucket adds, in the order in which they are tested
+abbrev pub limits_of : Command → List What
+limits_of (command.Put name key size class tags) = Versions ∷ Names ∷ []
+limits_of other = []
+
+-- a command that is done on this bucket
+abbrev pub IsOnBucket : List ℕ → Command → Type 0
+IsOnBucket bucket (command.Put name key size class tags) = bucket ≡ name
+IsOnBucket bucket other = ⊥
+
+-- what a change has to know of its account: its records are orderly at the moment, and its stays open as they ask
+pub record IsOrderlyAccount (t : ℕ) (account : Account) : Type 0 where
+  pub bucket : IsOrderlyBucket t account.bucket
+  pub stays : HasOpenStays account
+
+-- refused for a count: one of these would be above its limit afterwards
+pub record IsFullAfter (whats : List What) (before after : BucketRecord) (counts : Counts) (refusal : Refusal)
+    : Type 0 where
+  pub moved : Counts
+  pub follow : HaveMoved before after counts moved
+  pub full : IsFullOf whats moved refusal
+
+-- What is told is done: the bucket stands for the account told and the counts have moved with it, within their limits. Or
+-- it is refused as told, for a count, or for want of memory, and the bucket stands for the account before.
+abbrev pub DoesTold : List What → Change → Account → Counts → AccountRecord → Result Done Refusal → Type 0
+DoesTold whats (Ok told) before counts after (Ok done) =
+    (done.reply ≡ told.1) × StandsForAccount after told.0 × HaveMoved before.bucket told.0.bucket counts done.counts
+    × (first_over whats done.counts ≡ None)
+DoesTold whats (Ok told) before counts after (Err refusal) =
+    ((refusal ≡ NoMemory) ⊎ IsFullAfter whats before.bucket told.0.bucket counts refusal) × StandsForAccount after before
+DoesTold whats (Err refused) before counts after (Ok done) = ⊥
+DoesTold whats (Err refused) before counts after (Err refusal) =
+    ((refusal ≡ NoMemory) ⊎ (refusal ≡ refused)) × StandsForAccount after before
