@@ -1,4 +1,5 @@
-pub mod Examples
+pub mod Built
 pub mod Fields
+pub mod FieldLaws
+pub mod FormatLaws
 pub mod Laws
-pub mod Sizes
