@@ -2,7 +2,7 @@
 use Rattle.std.proofs.Common.{◌≡◌, ℕ, zero, suc, ◌+◌, ◌<◌, ◌≤◌, Bool, true, false, ◌&&◌, cond, eqb, if◌then◌else◌, List, [], ◌∷◌, Option, Some, None, Result, Ok, Err, refl, sym, ap, subst, ◌∙◌, arith, is_none}
 use Rattle.std.specs.Prelude.{option_and_then}
 use Rattle.std.specs.Result.{result_ok}
-use Rattle.std.specs.Str.{bytes_eq}
+use Rattle.std.specs.Str.{is_utf8, bytes_eq}
 use Rattle.std.specs.List.{list_all}
 use Rattle.std.proofs.lemmas.Bool.{eqb-true}
 use Rattle.std.proofs.lemmas.Slice.Eq.{bytes_eq-Decides}
@@ -12,7 +12,7 @@ use Rattle.class_rules.specs.declared.class.Class.{Class}
 use Rattle.class_rules.specs.declared.class.Class.TheVariants.{Standard, StandardIa, OnezoneIa, GlacierIr, Glacier, DeepArchive}
 use Rattle.office_base.specs.declared.version_id.VersionId.{VersionId}
 use Rattle.office_base.specs.declared.version_id.VersionId.TheVariants as version
-use Rattle.entry_codec.specs.Fields.{ranks, statuses, ids, is_configuration, if_printed, texts, Field, Name, Key, Size, Rank, Tags, Rules, Status, Id, Number4, Number8, Price, Year, Month, format, moment_format}
+use Rattle.entry_codec.specs.Fields.{ranks, statuses, ids, utf8_text, tag, are_kept, is_configuration, if_printed, texts, Field, Name, Key, Size, Rank, Tags, Rules, Status, Id, Number4, Number8, Price, Year, Month, format, moment_format}
 use Rattle.entry_codec.specs.Kinds.{Kind, kinds, kind_format, number_of, is_built}
 use Rattle.entry_codec.specs.Kinds as kind
 use Rattle.std.specs.Int.{w8, w16, w32, w64}
@@ -21,7 +21,7 @@ use Rattle.moments.specs.Time.{end_of_time}
 use Rattle.office_base.specs.Names.{is_bucket_name}
 use Rattle.office_base.specs.Keys.{is_key}
 use Rattle.office_base.specs.Sizes.{largest_size}
-use Rattle.office_base.specs.Tags.{Tag, is_tag, keys_rise}
+use Rattle.office_base.specs.Tags.{Tag}
 use Rattle.tariff.specs.Prices.{is_price}
 use Rattle.rules_core.specs.Conditions.{first_flaw}
 use Rattle.rules_core.specs.Configurations.{Configuration, has_name, has_midnights, has_texts, IsConfiguration}
@@ -149,15 +149,19 @@ rank-IsFormat = coded-IsFormat (number w8) ranks (number-IsFormat w8 wide8) rank
 abbrev few : Format ℕ
 few = number w8 such_that λ n. nat_le n 10
 
-abbrev tag : Format Tag
-tag = pair (text (number w16)) (text (number w16)) such_that is_tag
+utf8-IsFormat : IsFormat utf8_text
+unfolding utf8_text
+utf8-IsFormat = such_that-IsFormat (text (number w16)) is_utf8 two_byte_text
+
+tag-IsFormat : IsFormat tag
+unfolding tag
+tag-IsFormat = pair-IsFormat utf8_text utf8_text utf8-IsFormat utf8-IsFormat
 
 pub tags-IsFormat : IsFormat (format Tags)
 unfolding format
 tags-IsFormat =
-    let one = such_that-IsFormat (pair (text (number w16)) (text (number w16))) is_tag (pair-IsFormat (text (number w16)) (text (number w16)) two_byte_text two_byte_text) in
     let count = such_that-IsFormat (number w8) (λ n. nat_le n 10) (number-IsFormat w8 wide8) in
-    such_that-IsFormat (list few tag) keys_rise (list-IsFormat few tag count one)
+    such_that-IsFormat (list few tag) are_kept (list-IsFormat few tag count tag-IsFormat)
 
 -- each field; configurations by the law of their texts
 pub format-IsFormat : RulesReadBack → (field : Field) → IsFormat (format field)

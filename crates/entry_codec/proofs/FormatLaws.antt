@@ -6,7 +6,7 @@ use Rattle.std.proofs.lemmas.Bool.{ltb-false, ltb-true, le-ltb, lt-ltb}
 use Rattle.std.proofs.lemmas.List.{take_at, drop_at, length-take}
 use Rattle.std.proofs.lemmas.Nat.{be_bytes_2, be_bytes_4, be_bytes_8, from_be_bytes-to_be_bytes_2, from_be_bytes-to_be_bytes_4, from_be_bytes-to_be_bytes_8}
 use Rattle.entry_codec.specs.Formats.{Format, ◌>>=◌, split, number, text, ◌such_that◌, pair, front_items, list, Code, coded}
-use Rattle.entry_codec.proofs.Fields.{IsBytes, IsBytes-drop, IsBytes-take}
+use Rattle.entry_codec.proofs.Bytes.{IsBytes, IsBytes-drop, IsBytes-take}
 
 -- the two laws of a format
 pub record IsFormat {X : Type 0} (format : Format X) : Type 0 where

@@ -16,9 +16,9 @@ use Rattle.entry_codec.specs.Fields.{Field, Rules, format, moment_format}
 use Rattle.entry_codec.specs.Kinds.{Kind, Parts, Values, kind_format, fields_of, is_built, parts_of, command_of}
 use Rattle.entry_codec.specs.Kinds as kind
 use Rattle.entry_codec.specs.Spelling.{entry_at, written_values, are_values, command_spelling, IsInRange, CommandFits, Fits, spelling}
-use Rattle.entry_codec.specs.Reading.{◌>>=◌, Gives, place, value_at, values_at, alone, command_at, entry_of}
+use Rattle.entry_codec.specs.Reading.{◌>>=◌, Gives, place, value_at, values_at, kind_at, command_at, entry_of}
 use Rattle.entry_codec.proofs.Built.{each_built, each_built_command}
-use Rattle.entry_codec.proofs.Fields.{IsBytes}
+use Rattle.entry_codec.proofs.Bytes.{IsBytes}
 use Rattle.entry_codec.proofs.FormatLaws.{IsBytes-rest, both, and_true, IsFormat}
 use Rattle.entry_codec.proofs.FieldLaws.{RulesReadBack, name-IsFormat, key-IsFormat, size-IsFormat, rank-IsFormat, tags-IsFormat, format-IsFormat, moment-IsFormat, kind-IsFormat}
 
@@ -159,40 +159,40 @@ kind_built : (k : Kind) → kind_format.has k ≡ true → is_built k ≡ true
 unfolding kind_format
 kind_built k has = (both _ _ has).1
 
-alone_is : {X : Type 0} (total : ℕ) (x : X × List ℕ) (y : X) → alone total x ≡ Ok y → (x.0 ≡ y) × (x.1 ≡ [])
-alone_is total x y e =
-    let g = guard_passed (eqb (length x.1) 0) (place total x.1) x.0 y e in
-    (g.1, nil_from_length x.1 (eqb-true _ _ g.0))
+-- the command of a kind that was read with its fields
+record Reads (k : Kind) (bytes : List ℕ) (x : Command × List ℕ) : Type 0 where
+  parts : kind_format.written k ++ bytes ≡ command_spelling x.0 ++ x.1
+  fits : CommandFits x.0
 
--- the command of a kind and of all that was read behind it
-made : (k : Kind) (values : Values (fields_of k)) (bytes behind : List ℕ) (read : Values (fields_of k)) (left : List ℕ) → is_built k ≡ true
-    → bytes ≡ kind_format.written k ++ behind → behind ≡ written_values (fields_of k) read ++ left → are_values (fields_of k) read ≡ true → read ≡ values → left ≡ []
-    → (bytes ≡ command_spelling (command_of k values)) × CommandFits (command_of k values)
-unfolding command_spelling
-made k values bytes behind read left built first second has same none =
-    let range : are_values (fields_of k) values ≡ true = subst (λ (v : Values (fields_of k)). are_values (fields_of k) v ≡ true) same has in
-    let rest : behind ≡ written_values (fields_of k) values =
-    second ∙ ap₂ (λ (v : Values (fields_of k)) (l : List ℕ). written_values (fields_of k) v ++ l) same none ∙ append-nil (written_values (fields_of k) values) in
-    let whole : bytes ≡ kind_format.written k ++ written_values (fields_of k) values = first ∙ ap (λ (l : List ℕ). kind_format.written k ++ l) rest in
-    (whole ∙ ap (λ (p : Parts). kind_format.written p.kind ++ written_values (fields_of p.kind) p.values) (sym (same_parts k values range)),
-      record { built = built_command k values built; in_range = in_range_of k values range })
+kind_takes : (k : Kind) → is_built k ≡ true → (total : ℕ) (bytes : List ℕ) (x : Command × List ℕ) → IsBytes bytes → kind_at k total bytes ≡ Ok x → Reads k bytes x
+unfolding kind_at command_spelling
+kind_takes k built total bytes x fits is =
+    let read = bind_ok (values_at (fields_of k) total bytes) _ x is in
+    let t = values_take (fields_of k) (built_row k built) total bytes read.0 fits read.1 in
+    let front = kind_format.written k in
+    let values = written_values (fields_of k) read.0.0 in
+    let parts : front ++ bytes ≡ (front ++ values) ++ read.0.1 = ap (λ (l : List ℕ). front ++ l) t.0 ∙ sym (append_assoc front values read.0.1) in
+    let same = ap (λ (p : Parts). kind_format.written p.kind ++ written_values (fields_of p.kind) p.values) (same_parts k read.0.0 t.1) in
+    subst (Reads k bytes) (ok_is (command_of k read.0.0, read.0.1) x read.2) (record {
+      parts = parts ∙ ap (λ (l : List ℕ). l ++ read.0.1) (sym same);
+      fits = record { built = built_command k read.0.0 built; in_range = in_range_of k read.0.0 t.1 };
+    })
 
 command_takes : (total : ℕ) (bytes : List ℕ) (c : Command) → IsBytes bytes → command_at total bytes ≡ Ok c → (bytes ≡ command_spelling c) × CommandFits c
 unfolding command_at
 command_takes total bytes c fits is =
     let kind = bind_ok (value_at kind_format total bytes) _ c is in
-    let read = bind_ok (values_at (fields_of kind.0.0) total kind.0.1) _ c kind.2 in
-    let values = bind_ok (alone total read.0) _ c read.2 in
+    let command = bind_ok (kind_at kind.0.0 total kind.0.1) _ c kind.2 in
     let t = value_takes kind_format kind-IsFormat total bytes kind.0 fits kind.1 in
     let behind : IsBytes kind.0.1 = IsBytes-rest (kind_format.written kind.0.0) kind.0.1 (subst IsBytes t.0 fits) in
-    let built = kind_built kind.0.0 t.1 in
-    let u = values_take (fields_of kind.0.0) (built_row kind.0.0 built) total kind.0.1 read.0 behind read.1 in
-    let last = alone_is total read.0 values.0 values.1 in
-    subst (λ (d : Command). (bytes ≡ command_spelling d) × CommandFits d) (ok_is (command_of kind.0.0 values.0) c values.2)
-    (made kind.0.0 values.0 bytes kind.0.1 read.0.0 read.0.1 built t.0 u.0 u.1 last.0 last.1)
+    let u = kind_takes kind.0.0 (kind_built kind.0.0 t.1) total kind.0.1 command.0 behind command.1 in
+    let last = guard_passed (eqb (length command.0.1) 0) (place total command.0.1) command.0.0 c command.2 in
+    let none : command.0.1 ≡ [] = nil_from_length command.0.1 (eqb-true _ _ last.0) in
+    let parts : bytes ≡ command_spelling command.0.0 = t.0 ∙ u.parts ∙ ap (λ (l : List ℕ). command_spelling command.0.0 ++ l) none ∙ append-nil (command_spelling command.0.0) in
+    subst (λ (d : Command). (bytes ≡ command_spelling d) × CommandFits d) last.1 (parts, u.fits)
 
 command_again : (total : ℕ) (c : Command) → CommandFits c → command_at total (command_spelling c) ≡ Ok c
-unfolding command_at command_spelling
+unfolding command_at kind_at command_spelling
 command_again total c fits =
     let parts = parts_of c in
     let fields = fields_of parts.kind in

@@ -1,5 +1,9 @@
 pub mod Built
-pub mod Fields
+pub mod Bytes
 pub mod FieldLaws
 pub mod FormatLaws
+pub mod Items
 pub mod Laws
+pub mod Rising
+pub mod Sizes
+pub mod TagLemmas

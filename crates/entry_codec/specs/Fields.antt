@@ -3,7 +3,7 @@ use Rattle.std.specs.Prelude.{◌≡◌, ℕ, zero, suc, ◌-◌, Bool, true, fa
 use Rattle.std.specs.Result.{result_ok}
 use Rattle.std.specs.Int.{w8, w16, w32, w64}
 use Rattle.std.specs.List.{find, list_all}
-use Rattle.std.specs.Str.{bytes_eq}
+use Rattle.std.specs.Str.{is_utf8, bytes_eq}
 use Rattle.moments.specs.Time.{end_of_time}
 use Rattle.office_base.specs.Names.{is_bucket_name}
 use Rattle.office_base.specs.Keys.{is_key}
@@ -52,6 +52,17 @@ id_of n = Some (if n == 0 then version.Null else version.Number n)
 abbrev pub ids : Code ℕ VersionId
 ids = record { code = id_code; has = is_id; value = id_of }
 
+-- a text in UTF-8 behind two bytes of length
+unfoldable pub utf8_text : Format (List ℕ)
+utf8_text = text (number w16) such_that is_utf8
+
+unfoldable pub tag : Format Tag
+tag = pair utf8_text utf8_text
+
+-- tags as an object keeps them, beside their number (S3 User Guide, "Categorizing your objects using tags"; the order is own)
+abbrev pub are_kept : List Tag → Bool
+are_kept tags = list_all is_tag tags && keys_rise tags
+
 -- a configuration as it is kept
 abbrev pub is_configuration : Configuration → Bool
 is_configuration configuration =
@@ -93,7 +104,7 @@ format Name = text (number w16) such_that is_bucket_name
 format Key = text (number w16) such_that is_key
 format Size = number w64 such_that λ size. nat_le size largest_size
 format Rank = coded (number w8) ranks
-format Tags = list (number w8 such_that λ n. nat_le n 10) (pair (text (number w16)) (text (number w16)) such_that is_tag) such_that keys_rise
+format Tags = list (number w8 such_that λ n. nat_le n 10) tag such_that are_kept
 format Rules = coded (text (number w32)) texts
 format Status = coded (number w8) statuses
 format Id = coded (number w64) ids

@@ -1,13 +1,13 @@
 -- Reading bytes from left to right, by the fields of the kind. A fault is the place at which the first field that breaks the format
 -- begins, in bytes from the first byte of the entry; bytes behind the last field break it where they begin (own).
-use Rattle.std.specs.Prelude.{◌≡◌, ℕ, ◌-◌, List, [], ◌∷◌, length, Result, Ok, Err, ok_or, ◌==◌, if◌then◌else◌}
+use Rattle.std.specs.Prelude.{◌≡◌, ℕ, ◌-◌, List, [], ◌∷◌, length, Option, option_map, Result, Ok, Err, ok_or, ◌==◌, if◌then◌else◌}
 use Rattle.office_types.specs.declared.command.Command.{Command}
 use Rattle.office_types.specs.declared.command.Entry.{Entry}
 use Rattle.entry_codec.specs.declared.fault.EntryFault.{EntryFault}
 use Rattle.entry_codec.specs.declared.fault.EntryFault.TheVariants as faults
 use Rattle.entry_codec.specs.Formats.{Format}
 use Rattle.entry_codec.specs.Fields.{Field, format, moment_format}
-use Rattle.entry_codec.specs.Kinds.{kind_format, fields_of, Values, command_of}
+use Rattle.entry_codec.specs.Kinds.{Kind, kind_format, fields_of, Values, command_of}
 
 -- one field after another, up to the first fault
 infixl 10 ◌>>=◌
@@ -25,6 +25,11 @@ abbrev pub Gives : {X Y : Type 0} → (X → Y) → Result X EntryFault → Resu
 Gives view (Ok x) read = read ≡ Ok (view x)
 Gives view (Err e) read = Fails e read
 
+-- what a function finds, seen by view, is what stands at the front, unless memory is wanting
+abbrev pub Finds : {X Y E : Type 0} → (X → Y) → Result (Option X) E → Option Y → Type 0
+Finds view (Ok found) front = front ≡ option_map view found
+Finds view (Err e) front = Unit {0}
+
 -- where the bytes that are left begin, in an entry of this many bytes
 abbrev pub place : ℕ → List ℕ → ℕ
 place total bytes = total - length bytes
@@ -41,17 +46,18 @@ values_at (field ∷ fields) total bytes = do
   others ← values_at fields total first.1
   Ok ((first.0, others.0), others.1)
 
--- what was read, if nothing is left
-abbrev pub alone : {X : Type 0} → ℕ → X × List ℕ → Result X ℕ
-alone total x = if length x.1 == 0 then Ok x.0 else Err (place total x.1)
+-- the command of a kind whose fields are these, and what is left behind them
+unfoldable pub kind_at : Kind → ℕ → List ℕ → Result (Command × List ℕ) ℕ
+kind_at kind total bytes = do
+  read ← values_at (fields_of kind) total bytes
+  Ok (command_of kind read.0, read.1)
 
--- a command: a kind, and its fields
+-- a command by its kind, and nothing behind it
 unfoldable pub command_at : ℕ → List ℕ → Result Command ℕ
 command_at total bytes = do
   kind ← value_at kind_format total bytes
-  read ← values_at (fields_of kind.0) total kind.1
-  values ← alone total read
-  Ok (command_of kind.0 values)
+  command ← kind_at kind.0 total kind.1
+  if length command.1 == 0 then Ok command.0 else Err (place total command.1)
 
 -- the entry of all the bytes
 unfoldable pub entry_of : List ℕ → Result Entry ℕ

@@ -2,5 +2,9 @@
 #![tactic(auto)]
 
 mod fault;
+mod fields;
+mod reading;
+mod writing;
 
 pub use fault::EntryFault;
+pub use office_types::{Command, Entry};
