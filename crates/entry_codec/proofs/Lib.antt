@@ -1,6 +1,7 @@
 pub mod Built
 pub mod Bytes
 pub mod FieldLaws
+pub mod Fitting
 pub mod FormatLaws
 pub mod Items
 pub mod Laws

@@ -1,8 +1,9 @@
 -- The tags with which bytes begin, by their number and the pairs.
-use Rattle.std.proofs.Common.{◌≡◌, ℕ, ◌<◌, ◌≤◌, Bool, true, false, not, ◌&&◌, ◌||◌, if◌then◌else◌, List, [], ◌∷◌, length, Option, Some, None, refl, sym, ap, ◌∙◌, arith}
+use Rattle.std.proofs.Common.{◌≡◌, ℕ, zero, suc, ◌+◌, ◌<◌, ◌≤◌, Bool, true, false, not, ◌&&◌, ◌||◌, if◌then◌else◌, List, [], ◌∷◌, ◌++◌, length, get_or, take, Option, Some, None, String, refl, sym, ap, ◌∙◌, arith}
+use Rattle.std.specs.declared.alloc.Global.{Global}
 use Rattle.std.specs.Prelude.{nat_le}
-use Rattle.std.specs.Int.{w8}
-use Rattle.std.specs.List.{list_all, list_any}
+use Rattle.std.specs.Int.{w8, to_be_bytes}
+use Rattle.std.specs.List.{list_all, list_any, flat_map}
 use Rattle.std.specs.Str.{bytes_eq}
 use Rattle.std.specs.Ordering.{nat_cmp, is_lt, is_eq}
 use Rattle.std.specs.declared.cmp.Ordering.{Ordering}
@@ -10,8 +11,8 @@ use Rattle.std.specs.declared.cmp.Ordering.TheVariants.{Less, Equal, Greater}
 use Rattle.std.specs.Cmp.Lexicographic.{slice_cmp, texts_ties}
 use Rattle.std.proofs.lemmas.Bool.Decides.{nat_tests}
 use Rattle.std.proofs.lemmas.Slice.Eq.{bytes_eq-Decides}
-use Rattle.office_base.specs.Tags.{Tag, is_tag, has_key, keys_differ, are_tags, by_key, comes_before, keys_rise, AreTags}
-use Rattle.office_base.proofs.InOrder.{kept_in_order}
+use Rattle.office_base.specs.Tags.{Tag, is_tag, has_key, keys_differ, are_tags, by_key, comes_before, keys_rise, AreTags, tag_of, tags_of}
+use Rattle.office_base.proofs.InOrder.{kept_in_order, length_tags}
 use Rattle.entry_codec.specs.Formats.{◌>>=◌, number, front_items}
 use Rattle.entry_codec.specs.Fields.{Tags, tag, are_kept, format}
 use Rattle.entry_codec.proofs.FormatLaws.{both, and_true}
@@ -112,3 +113,28 @@ out_of_range bytes n rest tags left is small some rise not_tags =
     let many : nat_le (length tags) 10 ≡ true = grind (arith, nat_tests) in
     let out : list_all is_tag tags ≡ false = first_false (nat_le (length tags) 10) (list_all is_tag tags) (keys_differ tags) not_tags many (rising_differ tags rise) in
     by_pairs bytes n rest tags left false is small some (and_false (list_all is_tag tags) (keys_rise tags) out)
+
+-- ---- writing
+
+-- a pair of tags is a tag
+pub tag_at : (pairs : List (String Global × String Global)) (i : ℕ) (pair : String Global × String Global) → list_all is_tag (tags_of pairs) ≡ true → i < length pairs → pair ≡ get_or pairs i pair
+    → is_tag (tag_of pair) ≡ true
+tag_at [] i pair all small is = absurd (omega (arith, small))
+tag_at (first ∷ pairs) zero pair all small is = ap (λ p. is_tag (tag_of p)) is ∙ (both (is_tag (tag_of first)) (list_all is_tag (tags_of pairs)) all).0
+tag_at (first ∷ pairs) (suc i) pair all small is =
+    let less : i < length pairs = omega (arith, small) in
+    tag_at pairs i pair (both (is_tag (tag_of first)) (list_all is_tag (tags_of pairs)) all).1 less is
+
+take_past : {X : Type 0} (n : ℕ) (xs : List X) → length xs ≤ n → take n xs ≡ xs
+take_past zero [] le = refl
+take_past (suc n) [] le = refl
+take_past zero (x ∷ xs) le = absurd (omega (arith, le))
+take_past (suc n) (x ∷ xs) le = let less : length xs ≤ n = omega (arith, le) in ap (λ ys. x ∷ ys) (take_past n xs less)
+
+pub all_written : (n : ℕ) (pairs : List (String Global × String Global)) (tags : List Tag) → length pairs ≤ n → tags_of pairs ≡ tags
+    → to_be_bytes w8 (length pairs) ++ flat_map tag.written (tags_of (take n pairs)) ≡ (format Tags).written tags
+unfolding format
+all_written n pairs tags past is =
+    ap (λ (ps : List (String Global × String Global)). to_be_bytes w8 (length pairs) ++ flat_map tag.written (tags_of ps)) (take_past n pairs past)
+    ∙ ap (λ (k : ℕ). to_be_bytes w8 k ++ flat_map tag.written (tags_of pairs)) (sym (length_tags pairs))
+    ∙ ap (λ (ts : List Tag). to_be_bytes w8 (length ts) ++ flat_map tag.written ts) is
