@@ -1,11 +1,11 @@
 -- What holds of each kind and command that is built.
-use Rattle.std.proofs.Common.{◌≡◌, ℕ, true, List}
+use Rattle.std.proofs.Common.{◌≡◌, ℕ, true, List, refl}
 use Rattle.class_rules.specs.declared.class.Class.{Class}
 use Rattle.office_base.specs.Tags.{Tag}
 use Rattle.office_types.specs.Built.{IsBuilt}
 use Rattle.office_types.specs.declared.command.Command.{Command}
 use Rattle.office_types.specs.declared.command.Command.TheVariants as command
-use Rattle.entry_codec.specs.Kinds.{Kind, CreateBucket, SetVersioning, SetRules, DropRules, Put, Delete, DeleteVersion, SetTags, StartUpload, PutPart, Complete, Abort, Act, SetTariff, Close, is_built}
+use Rattle.entry_codec.specs.Kinds.{Kind, CreateBucket, SetVersioning, SetRules, DropRules, Put, Delete, DeleteVersion, SetTags, StartUpload, PutPart, Complete, Abort, Act, SetTariff, Close, is_built, parts_of}
 
 pub each_built : (P : Kind → Type 0) → P CreateBucket → P Put → (k : Kind) → is_built k ≡ true → P k
 each_built P make put CreateBucket built = make
@@ -41,3 +41,7 @@ each_built_command P make put (command.Abort bucket upload) built = absurd built
 each_built_command P make put (command.Act bucket) built = absurd built
 each_built_command P make put (command.SetTariff tariff) built = absurd built
 each_built_command P make put (command.Close month) built = absurd built
+
+-- a command is built where its kind is
+pub built_kind : (c : Command) → IsBuilt c → is_built (parts_of c).kind ≡ true
+built_kind = each_built_command (λ c. is_built (parts_of c).kind ≡ true) (λ bucket. refl) (λ bucket key size class tags. refl)

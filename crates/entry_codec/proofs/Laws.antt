@@ -17,7 +17,7 @@ use Rattle.entry_codec.specs.Kinds.{Kind, Parts, Values, kind_format, fields_of,
 use Rattle.entry_codec.specs.Kinds as kind
 use Rattle.entry_codec.specs.Spelling.{entry_at, written_values, are_values, command_spelling, IsInRange, CommandFits, Fits, spelling}
 use Rattle.entry_codec.specs.Reading.{◌>>=◌, Gives, place, value_at, values_at, kind_at, command_at, entry_of}
-use Rattle.entry_codec.proofs.Built.{each_built, each_built_command}
+use Rattle.entry_codec.proofs.Built.{each_built, built_kind}
 use Rattle.entry_codec.proofs.Bytes.{IsBytes}
 use Rattle.entry_codec.proofs.FormatLaws.{IsBytes-rest, both, and_true, IsFormat}
 use Rattle.entry_codec.proofs.FieldLaws.{RulesReadBack, name-IsFormat, key-IsFormat, size-IsFormat, rank-IsFormat, tags-IsFormat, format-IsFormat, moment-IsFormat, kind-IsFormat}
@@ -91,10 +91,6 @@ built_row = each_built (λ k. AreFormats (fields_of k)) (name-IsFormat, tt) (nam
 pub every_row : RulesReadBack → (fields : List Field) → AreFormats fields
 every_row law [] = tt
 every_row law (field ∷ fields) = (format-IsFormat law field, every_row law fields)
-
--- a command is built where its kind is
-built_kind : (c : Command) → IsBuilt c → is_built (parts_of c).kind ≡ true
-built_kind = each_built_command (λ c. is_built (parts_of c).kind ≡ true) (λ bucket. refl) (λ bucket key size class tags. refl)
 
 built_command : (k : Kind) (values : Values (fields_of k)) → is_built k ≡ true → IsBuilt (command_of k values)
 built_command k values built = each_built (λ k. (values : Values (fields_of k)) → IsBuilt (command_of k values)) (λ values. tt) (λ values. tt) k built values

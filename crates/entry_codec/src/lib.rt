@@ -8,3 +8,5 @@ mod writing;
 
 pub use fault::EntryFault;
 pub use office_types::{Command, Entry};
+pub use reading::{decode, one_spelling};
+pub use writing::{ENTRY_LIMIT, encode, encode_command, short_spelling};

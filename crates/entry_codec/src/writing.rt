@@ -166,3 +166,9 @@ pub fn encode(alloc: Global, entry: &Entry) -> Result<Vec<u8>, NoMemory>
 {
     encode_command(alloc, entry.moment, &entry.command)
 }
+
+/// States that no entry has a spelling of more than `ENTRY_LIMIT` bytes.
+#[tactic(auto, using(crate::proofs::Sizes::spelling_short))]
+pub fn short_spelling()
+    ensures short { (e : Entry) → Fits e → length (spelling e) ≤ entry_limit }
+{}
