@@ -1,5 +1,6 @@
 pub mod Built
 pub mod Bytes
+pub mod Examples
 pub mod FieldLaws
 pub mod Fitting
 pub mod FormatLaws

@@ -4,6 +4,8 @@
 mod fault;
 mod fields;
 mod reading;
+#[cfg(test)]
+mod tests;
 mod writing;
 
 pub use fault::EntryFault;
