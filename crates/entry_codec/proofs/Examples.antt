@@ -1,7 +1,9 @@
 -- Worked examples, computed.
-use Rattle.std.proofs.Common.{◌≡◌, ℕ, true, false, List, [], ◌∷◌, ◌++◌, take, drop, refl}
-use Rattle.std.specs.Prelude.{Ok, Err, codes, chars}
-use Rattle.std.specs.Str.{is_utf8}
+use Rattle.std.proofs.Common.{◌≡◌, ℕ, ◌-◌, ◌^◌, true, false, List, [], ◌∷◌, ◌++◌, take, drop, refl}
+use Rattle.std.specs.Prelude.{Ok, Err, codes, ⊤}
+use Rattle.std.specs.List.{repeat}
+use Rattle.std.specs.Str.{is_utf8, chars}
+use Rattle.std.proofs.Math.Utf8.{encode}
 use Rattle.office_types.specs.declared.command.Command.TheVariants as command
 use Rattle.office_types.specs.declared.command.Entry.{Entry}
 use Rattle.class_rules.specs.declared.class.Class.TheVariants.{Standard, Glacier}
@@ -15,6 +17,12 @@ use Rattle.entry_codec.specs.Kinds.{kind_format, fields_of}
 use Rattle.entry_codec.specs.Kinds as kind
 use Rattle.entry_codec.specs.Spelling.{command_spelling, spelling}
 use Rattle.entry_codec.specs.Reading.{value_at, values_at, kind_at, command_at, entry_of}
+
+-- what an example unfolds to compute
+unfoldable to_compute : ⊤
+unfolding entry_of command_at kind_at value_at spelling command_spelling moment_format kind_format format front_items tag utf8_text
+    is_bucket_name is_key is_tag is_utf8 chars encode
+to_compute = tt
 
 -- ---- a bucket is made at 2024-01-01 00:00 UTC
 
@@ -33,56 +41,56 @@ abbrev logs_bytes : List ℕ
 logs_bytes = moment_bytes ++ 0x01 ∷ name_bytes
 
 made_spelled : spelling logs_made ≡ logs_bytes
-unfolding spelling command_spelling moment_format kind_format format
+unfolding to_compute
 made_spelled = refl
 
 made_read : entry_of logs_bytes ≡ Ok logs_made
-unfolding entry_of command_at kind_at value_at moment_format kind_format format is_bucket_name
+unfolding to_compute
 made_read = refl
 
 -- a byte behind the last field is a fault where it stands
 made_longer : entry_of (logs_bytes ++ 0x00 ∷ []) ≡ Err 15
-unfolding entry_of command_at kind_at value_at moment_format kind_format format is_bucket_name
+unfolding to_compute
 made_longer = refl
 
 -- a name that is cut off is a fault where its length stands
 made_shorter : entry_of (take 14 logs_bytes) ≡ Err 9
-unfolding entry_of command_at kind_at value_at moment_format kind_format format is_bucket_name
+unfolding to_compute
 made_shorter = refl
 
 -- `Logs` is no name
 capital : entry_of (moment_bytes ++ 0x01 ∷ 0x00 ∷ 0x04 ∷ 0x4C ∷ drop 3 name_bytes) ≡ Err 9
-unfolding entry_of command_at kind_at value_at moment_format kind_format format is_bucket_name
+unfolding to_compute
 capital = refl
 
 nothing : entry_of [] ≡ Err 0
-unfolding entry_of value_at moment_format
+unfolding to_compute
 nothing = refl
 
 moment_cut : entry_of (take 7 logs_bytes) ≡ Err 0
-unfolding entry_of value_at moment_format
+unfolding to_compute
 moment_cut = refl
 
 -- 2100-01-01 00:00 UTC, 00 00 03 bb 2c c3 d8 00, is no moment
 moment_past : entry_of (0x00 ∷ 0x00 ∷ 0x03 ∷ 0xBB ∷ 0x2C ∷ 0xC3 ∷ 0xD8 ∷ 0x00 ∷ drop 8 logs_bytes) ≡ Err 0
-unfolding entry_of value_at moment_format
+unfolding to_compute
 moment_past = refl
 
 no_kind : entry_of moment_bytes ≡ Err 8
-unfolding entry_of command_at value_at moment_format kind_format
+unfolding to_compute
 no_kind = refl
 
 kind_00 : entry_of (moment_bytes ++ 0x00 ∷ name_bytes) ≡ Err 8
-unfolding entry_of command_at value_at moment_format kind_format
+unfolding to_compute
 kind_00 = refl
 
 -- a kind that is not built is unknown
 kind_04 : entry_of (moment_bytes ++ 0x04 ∷ name_bytes) ≡ Err 8
-unfolding entry_of command_at value_at moment_format kind_format
+unfolding to_compute
 kind_04 = refl
 
 kind_10 : entry_of (moment_bytes ++ 0x10 ∷ name_bytes) ≡ Err 8
-unfolding entry_of command_at value_at moment_format kind_format
+unfolding to_compute
 kind_10 = refl
 
 -- ---- 1,000 bytes are put at that moment under the key `a`, in GLACIER, with the tags keep: no and kind: raw
@@ -114,9 +122,131 @@ abbrev put_bytes : List ℕ
 put_bytes = class_bytes ++ 0x02 ∷ keep_bytes ++ kind_bytes
 
 put_spelled : spelling a_put ≡ put_bytes
-unfolding spelling command_spelling moment_format kind_format format tag utf8_text
+unfolding to_compute
 put_spelled = refl
 
 put_read : entry_of put_bytes ≡ Ok a_put
-unfolding entry_of command_at kind_at value_at moment_format kind_format format is_bucket_name is_key front_items tag utf8_text is_tag chars
+unfolding to_compute
 put_read = refl
+
+-- the number of tags is missing, or above 10
+no_tags : entry_of class_bytes ≡ Err 27
+unfolding to_compute
+no_tags = refl
+
+eleven_tags : entry_of (class_bytes ++ 0x0B ∷ keep_bytes ++ kind_bytes) ≡ Err 27
+unfolding to_compute
+eleven_tags = refl
+
+-- whatever breaks in the tags: they are one field
+tag_cut : entry_of (take 48 put_bytes) ≡ Err 27
+unfolding to_compute
+tag_cut = refl
+
+same_key : entry_of (class_bytes ++ 0x02 ∷ keep_bytes ++ keep_bytes) ≡ Err 27
+unfolding to_compute
+same_key = refl
+
+falling_keys : entry_of (class_bytes ++ 0x02 ∷ kind_bytes ++ keep_bytes) ≡ Err 27
+unfolding to_compute
+falling_keys = refl
+
+empty_key_of_tag : entry_of (class_bytes ++ 0x01 ∷ 0x00 ∷ 0x00 ∷ 0x00 ∷ 0x00 ∷ []) ≡ Err 27
+unfolding to_compute
+empty_key_of_tag = refl
+
+-- one tag, and bytes behind it
+one_tag : entry_of (class_bytes ++ 0x01 ∷ keep_bytes ++ kind_bytes) ≡ Err 38
+unfolding to_compute
+one_tag = refl
+
+put_longer : entry_of (put_bytes ++ 0x00 ∷ []) ≡ Err 49
+unfolding to_compute
+put_longer = refl
+
+-- a name of 65,535 bytes
+name_too_long : entry_of (moment_bytes ++ 0x05 ∷ 0xFF ∷ 0xFF ∷ drop 11 put_bytes) ≡ Err 9
+unfolding to_compute
+name_too_long = refl
+
+empty_key : entry_of (moment_bytes ++ 0x05 ∷ name_bytes ++ 0x00 ∷ 0x00 ∷ drop 18 put_bytes) ≡ Err 15
+unfolding to_compute
+empty_key = refl
+
+-- 5 x 2^40 + 1 bytes
+size_too_large : entry_of (key_bytes ++ 0x00 ∷ 0x00 ∷ 0x05 ∷ 0x00 ∷ 0x00 ∷ 0x00 ∷ 0x00 ∷ 0x01 ∷ drop 26 put_bytes) ≡ Err 18
+unfolding to_compute
+size_too_large = refl
+
+size_cut : entry_of (take 25 put_bytes) ≡ Err 18
+unfolding to_compute
+size_cut = refl
+
+no_such_class : entry_of (key_bytes ++ size_bytes ++ 0x06 ∷ 0x00 ∷ []) ≡ Err 26
+unfolding to_compute
+no_such_class = refl
+
+no_class : entry_of (take 26 put_bytes) ≡ Err 26
+unfolding to_compute
+no_class = refl
+
+abbrev zeros : List ℕ
+zeros = repeat 32 (0x00 ∷ [])
+
+abbrev all_ones : List ℕ
+all_ones = repeat 8 (0xFF ∷ [])
+
+-- ---- the rows of kinds that are not built, each in an entry of that moment
+
+suspended : command_spelling (command.SetVersioning (codes "logs") false) ≡ 0x02 ∷ name_bytes ++ 0x02 ∷ []
+unfolding to_compute
+suspended = refl
+
+null_deleted : command_spelling (command.DeleteVersion (codes "logs") (codes "a") Null)
+    ≡ 0x07 ∷ name_bytes ++ 0x00 ∷ 0x01 ∷ 0x61 ∷ 0x00 ∷ 0x00 ∷ 0x00 ∷ 0x00 ∷ 0x00 ∷ 0x00 ∷ 0x00 ∷ 0x00 ∷ []
+unfolding to_compute
+null_deleted = refl
+
+third_deleted : command_spelling (command.DeleteVersion (codes "logs") (codes "a") (Number 3))
+    ≡ 0x07 ∷ name_bytes ++ 0x00 ∷ 0x01 ∷ 0x61 ∷ 0x00 ∷ 0x00 ∷ 0x00 ∷ 0x00 ∷ 0x00 ∷ 0x00 ∷ 0x00 ∷ 0x03 ∷ []
+unfolding to_compute
+third_deleted = refl
+
+part_put : command_spelling (command.PutPart (codes "logs") 1 5 1_000)
+    ≡ 0x0A ∷ name_bytes ++ (0x00 ∷ 0x00 ∷ 0x00 ∷ 0x00 ∷ 0x00 ∷ 0x00 ∷ 0x00 ∷ 0x01 ∷ []) ++ (0x00 ∷ 0x00 ∷ 0x00 ∷ 0x05 ∷ []) ++ size_bytes
+unfolding to_compute
+part_put = refl
+
+-- 2024-01 is the month of this number
+january_closed : command_spelling (command.Close 648) ≡ 0x0F ∷ 0x07 ∷ 0xE8 ∷ 0x01 ∷ []
+unfolding to_compute
+january_closed = refl
+
+january_read : values_at (fields_of kind.Close) 12 (0x07 ∷ 0xE8 ∷ 0x01 ∷ []) ≡ Ok ((2024, (1, tt)), [])
+unfolding to_compute
+january_read = refl
+
+-- the year and the month are two fields
+year_2100 : values_at (fields_of kind.Close) 12 (0x08 ∷ 0x34 ∷ 0x01 ∷ []) ≡ Err 9
+unfolding to_compute
+year_2100 = refl
+
+month_13 : values_at (fields_of kind.Close) 12 (0x07 ∷ 0xE8 ∷ 0x0D ∷ []) ≡ Err 11
+unfolding to_compute
+month_13 = refl
+
+-- each price is a field: here the third, 1,048,577, is too large
+third_price : values_at (fields_of kind.SetTariff) 53 ((0x00 ∷ 0x10 ∷ 0x00 ∷ 0x00 ∷ []) ++ (0x00 ∷ 0x00 ∷ 0x00 ∷ 0x01 ∷ []) ++ 0x00 ∷ 0x10 ∷ 0x00 ∷ 0x01 ∷ zeros) ≡ Err 17
+unfolding to_compute
+third_price = refl
+
+-- part numbers and sizes of parts are read whatever they are, and no id is too large
+part_read : values_at (fields_of kind.PutPart) 35 (name_bytes ++ all_ones ++ take 4 all_ones ++ all_ones)
+    ≡ Ok ((codes "logs", (2 ^ 64 - 1, (2 ^ 32 - 1, (2 ^ 64 - 1, tt)))), [])
+unfolding to_compute
+part_read = refl
+
+-- a status that is neither
+status_3 : values_at (fields_of kind.SetVersioning) 16 (name_bytes ++ 0x03 ∷ []) ≡ Err 15
+unfolding to_compute
+status_3 = refl
