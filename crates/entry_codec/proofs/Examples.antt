@@ -1,121 +1,252 @@
 -- Worked examples, computed.
-use Rattle.std.proofs.Common.{◌≡◌, ℕ, true, List, [], ◌∷◌, ◌++◌, take, drop, refl, arith}
-use Rattle.std.specs.Prelude.{Ok, Err, codes}
-use Rattle.std.specs.Str.{is_utf8}
-use Rattle.std.proofs.lemmas.Str.{IsUtf8-from_ascii, is_utf8-from_IsUtf8}
-use Rattle.std.proofs.lemmas.Str.Ascii.{IsAscii-nil, IsAscii-cons}
-use Rattle.plain_office.specs.declared.command.Command.TheVariants.{CreateBucket, Put}
-use Rattle.plain_office.specs.declared.command.Entry.{Entry}
-use Rattle.class_rules.specs.declared.class.Class.TheVariants.{Standard}
+use Rattle.std.proofs.Common.{◌≡◌, ℕ, ◌-◌, ◌^◌, true, false, List, [], ◌∷◌, ◌++◌, take, drop, refl}
+use Rattle.std.specs.Prelude.{Ok, Err, codes, ⊤}
+use Rattle.std.specs.List.{repeat}
+use Rattle.std.specs.Str.{is_utf8, chars}
+use Rattle.std.proofs.Math.Utf8.{encode}
+use Rattle.office_types.specs.declared.command.Command.TheVariants as command
+use Rattle.office_types.specs.declared.command.Entry.{Entry}
+use Rattle.class_rules.specs.declared.class.Class.TheVariants.{Standard, Glacier}
 use Rattle.office_base.specs.Names.{is_bucket_name}
 use Rattle.office_base.specs.Keys.{is_key}
-use Rattle.entry_codec.specs.Spelling.{spelling}
-use Rattle.entry_codec.specs.Reading.{counted_at, moment_at, name_at, key_at, size_at, class_ranked, class_at, no_tags_at, create_bucket_at, put_at, kind_at, command_at, entry_of}
+use Rattle.office_base.specs.Tags.{is_tag}
+use Rattle.office_base.specs.declared.version_id.VersionId.TheVariants.{Null, Number}
+use Rattle.entry_codec.specs.Formats.{front_items}
+use Rattle.entry_codec.specs.Fields.{format, moment_format, utf8_text, tag}
+use Rattle.entry_codec.specs.Kinds.{kind_format, fields_of}
+use Rattle.entry_codec.specs.Kinds as kind
+use Rattle.entry_codec.specs.Spelling.{command_spelling, spelling}
+use Rattle.entry_codec.specs.Reading.{value_at, values_at, kind_at, command_at, entry_of}
 
--- a bucket is made at 2024-01-01 00:00 UTC
+-- what an example unfolds to compute
+unfoldable to_compute : ⊤
+unfolding entry_of command_at kind_at value_at spelling command_spelling moment_format kind_format format front_items tag utf8_text
+    is_bucket_name is_key is_tag is_utf8 chars encode
+to_compute = tt
+
+-- ---- a bucket is made at 2024-01-01 00:00 UTC
+
 abbrev logs_made : Entry
-logs_made = record { moment = 1_704_067_200_000; command = CreateBucket (codes "logs") }
+logs_made = record { moment = 1_704_067_200_000; command = command.CreateBucket (codes "logs") }
 
--- 00 00 01 8c c2 51 f4 00
+-- 2024-01-01 00:00 UTC in ms
 abbrev moment_bytes : List ℕ
-moment_bytes = 0 ∷ 0 ∷ 1 ∷ 140 ∷ 194 ∷ 81 ∷ 244 ∷ 0 ∷ []
+moment_bytes = 0x00 ∷ 0x00 ∷ 0x01 ∷ 0x8C ∷ 0xC2 ∷ 0x51 ∷ 0xF4 ∷ 0x00 ∷ []
 
--- 00 04, 6c 6f 67 73
+-- `logs`
 abbrev name_bytes : List ℕ
-name_bytes = 0 ∷ 4 ∷ 108 ∷ 111 ∷ 103 ∷ 115 ∷ []
+name_bytes = 0x00 ∷ 0x04 ∷ 0x6C ∷ 0x6F ∷ 0x67 ∷ 0x73 ∷ []
 
 abbrev logs_bytes : List ℕ
-logs_bytes = moment_bytes ++ 1 ∷ name_bytes
+logs_bytes = moment_bytes ++ 0x01 ∷ name_bytes
 
 made_spelled : spelling logs_made ≡ logs_bytes
-unfolding spelling
+unfolding to_compute
 made_spelled = refl
 
 made_read : entry_of logs_bytes ≡ Ok logs_made
-unfolding entry_of moment_at command_at kind_at create_bucket_at name_at counted_at is_bucket_name
+unfolding to_compute
 made_read = refl
 
 -- a byte behind the last field is a fault where it stands
-made_longer : entry_of (logs_bytes ++ 0 ∷ []) ≡ Err 15
-unfolding entry_of moment_at command_at kind_at create_bucket_at name_at counted_at is_bucket_name
+made_longer : entry_of (logs_bytes ++ 0x00 ∷ []) ≡ Err 15
+unfolding to_compute
 made_longer = refl
 
 -- a name that is cut off is a fault where its length stands
 made_shorter : entry_of (take 14 logs_bytes) ≡ Err 9
-unfolding entry_of moment_at command_at kind_at create_bucket_at name_at counted_at is_bucket_name
+unfolding to_compute
 made_shorter = refl
 
-no_moment : entry_of [] ≡ Err 0
-unfolding entry_of moment_at
-no_moment = refl
+-- `Logs` is no name
+capital : entry_of (moment_bytes ++ 0x01 ∷ 0x00 ∷ 0x04 ∷ 0x4C ∷ drop 3 name_bytes) ≡ Err 9
+unfolding to_compute
+capital = refl
+
+nothing : entry_of [] ≡ Err 0
+unfolding to_compute
+nothing = refl
+
+moment_cut : entry_of (take 7 logs_bytes) ≡ Err 0
+unfolding to_compute
+moment_cut = refl
+
+-- 2100-01-01 00:00 UTC, 00 00 03 bb 2c c3 d8 00, is no moment
+moment_past : entry_of (0x00 ∷ 0x00 ∷ 0x03 ∷ 0xBB ∷ 0x2C ∷ 0xC3 ∷ 0xD8 ∷ 0x00 ∷ drop 8 logs_bytes) ≡ Err 0
+unfolding to_compute
+moment_past = refl
 
 no_kind : entry_of moment_bytes ≡ Err 8
-unfolding entry_of moment_at command_at kind_at
+unfolding to_compute
 no_kind = refl
 
-other_kind : entry_of (moment_bytes ++ 2 ∷ name_bytes) ≡ Err 8
-unfolding entry_of moment_at command_at kind_at
-other_kind = refl
+kind_00 : entry_of (moment_bytes ++ 0x00 ∷ name_bytes) ≡ Err 8
+unfolding to_compute
+kind_00 = refl
 
-a_is_text : is_utf8 (codes "a") ≡ true
-a_is_text = is_utf8-from_IsUtf8 (codes "a") (IsUtf8-from_ascii (codes "a") (IsAscii-cons 97 [] (omega arith) IsAscii-nil))
+-- a kind that is not built is unknown
+kind_04 : entry_of (moment_bytes ++ 0x04 ∷ name_bytes) ≡ Err 8
+unfolding to_compute
+kind_04 = refl
 
--- at that moment 1,000 bytes are put under the key `a`, in STANDARD
+kind_10 : entry_of (moment_bytes ++ 0x10 ∷ name_bytes) ≡ Err 8
+unfolding to_compute
+kind_10 = refl
+
+-- ---- 1,000 bytes are put at that moment under the key `a`, in GLACIER, with the tags keep: no and kind: raw
+
 abbrev a_put : Entry
-a_put = record { moment = 1_704_067_200_000; command = Put (codes "logs") (codes "a") 1_000 Standard }
+a_put = record {
+  moment = 1_704_067_200_000;
+  command = command.Put (codes "logs") (codes "a") 1_000 Glacier ((codes "keep", codes "no") ∷ (codes "kind", codes "raw") ∷ []);
+}
 
--- the moment, 05, the name, 00 01, 61
+-- up to the key: 05, `logs`, `a`
 abbrev key_bytes : List ℕ
-key_bytes = moment_bytes ++ 5 ∷ name_bytes ++ 0 ∷ 1 ∷ 97 ∷ []
+key_bytes = moment_bytes ++ 0x05 ∷ name_bytes ++ 0x00 ∷ 0x01 ∷ 0x61 ∷ []
 
--- 00 00 00 00 00 00 03 e8
 abbrev size_bytes : List ℕ
-size_bytes = 0 ∷ 0 ∷ 0 ∷ 0 ∷ 0 ∷ 0 ∷ 3 ∷ 232 ∷ []
+size_bytes = 0x00 ∷ 0x00 ∷ 0x00 ∷ 0x00 ∷ 0x00 ∷ 0x00 ∷ 0x03 ∷ 0xE8 ∷ []
 
--- the class 00, no tags 00
+-- up to the class, which has rank 4
+abbrev class_bytes : List ℕ
+class_bytes = key_bytes ++ size_bytes ++ 0x04 ∷ []
+
+abbrev keep_bytes : List ℕ
+keep_bytes = 0x00 ∷ 0x04 ∷ 0x6B ∷ 0x65 ∷ 0x65 ∷ 0x70 ∷ 0x00 ∷ 0x02 ∷ 0x6E ∷ 0x6F ∷ []
+
+abbrev kind_bytes : List ℕ
+kind_bytes = 0x00 ∷ 0x04 ∷ 0x6B ∷ 0x69 ∷ 0x6E ∷ 0x64 ∷ 0x00 ∷ 0x03 ∷ 0x72 ∷ 0x61 ∷ 0x77 ∷ []
+
 abbrev put_bytes : List ℕ
-put_bytes = key_bytes ++ size_bytes ++ 0 ∷ 0 ∷ []
+put_bytes = class_bytes ++ 0x02 ∷ keep_bytes ++ kind_bytes
 
 put_spelled : spelling a_put ≡ put_bytes
-unfolding spelling
+unfolding to_compute
 put_spelled = refl
 
 put_read : entry_of put_bytes ≡ Ok a_put
-unfolding entry_of moment_at command_at kind_at put_at name_at counted_at is_bucket_name key_at is_key size_at class_at class_ranked no_tags_at
-put_read = rw a_is_text refl
+unfolding to_compute
+put_read = refl
+
+-- the number of tags is missing, or above 10
+no_tags : entry_of class_bytes ≡ Err 27
+unfolding to_compute
+no_tags = refl
+
+eleven_tags : entry_of (class_bytes ++ 0x0B ∷ keep_bytes ++ kind_bytes) ≡ Err 27
+unfolding to_compute
+eleven_tags = refl
+
+-- whatever breaks in the tags: they are one field
+tag_cut : entry_of (take 48 put_bytes) ≡ Err 27
+unfolding to_compute
+tag_cut = refl
+
+same_key : entry_of (class_bytes ++ 0x02 ∷ keep_bytes ++ keep_bytes) ≡ Err 27
+unfolding to_compute
+same_key = refl
+
+falling_keys : entry_of (class_bytes ++ 0x02 ∷ kind_bytes ++ keep_bytes) ≡ Err 27
+unfolding to_compute
+falling_keys = refl
+
+empty_key_of_tag : entry_of (class_bytes ++ 0x01 ∷ 0x00 ∷ 0x00 ∷ 0x00 ∷ 0x00 ∷ []) ≡ Err 27
+unfolding to_compute
+empty_key_of_tag = refl
+
+-- one tag, and bytes behind it
+one_tag : entry_of (class_bytes ++ 0x01 ∷ keep_bytes ++ kind_bytes) ≡ Err 38
+unfolding to_compute
+one_tag = refl
+
+put_longer : entry_of (put_bytes ++ 0x00 ∷ []) ≡ Err 49
+unfolding to_compute
+put_longer = refl
 
 -- a name of 65,535 bytes
-name_too_long : entry_of (moment_bytes ++ 5 ∷ 255 ∷ 255 ∷ drop 11 put_bytes) ≡ Err 9
-unfolding entry_of moment_at command_at kind_at put_at name_at counted_at
+name_too_long : entry_of (moment_bytes ++ 0x05 ∷ 0xFF ∷ 0xFF ∷ drop 11 put_bytes) ≡ Err 9
+unfolding to_compute
 name_too_long = refl
 
-empty_key : entry_of (moment_bytes ++ 5 ∷ name_bytes ++ 0 ∷ 0 ∷ size_bytes ++ 0 ∷ 0 ∷ []) ≡ Err 15
-unfolding entry_of moment_at command_at kind_at put_at name_at counted_at is_bucket_name key_at is_key
+empty_key : entry_of (moment_bytes ++ 0x05 ∷ name_bytes ++ 0x00 ∷ 0x00 ∷ drop 18 put_bytes) ≡ Err 15
+unfolding to_compute
 empty_key = refl
 
--- 5 x 2^40 + 1 is 00 00 05 00 00 00 00 01
-size_too_large : entry_of (key_bytes ++ (0 ∷ 0 ∷ 5 ∷ 0 ∷ 0 ∷ 0 ∷ 0 ∷ 1 ∷ []) ++ 0 ∷ 0 ∷ []) ≡ Err 18
-unfolding entry_of moment_at command_at kind_at put_at name_at counted_at is_bucket_name key_at is_key size_at
-size_too_large = rw a_is_text refl
+-- 5 x 2^40 + 1 bytes
+size_too_large : entry_of (key_bytes ++ 0x00 ∷ 0x00 ∷ 0x05 ∷ 0x00 ∷ 0x00 ∷ 0x00 ∷ 0x00 ∷ 0x01 ∷ drop 26 put_bytes) ≡ Err 18
+unfolding to_compute
+size_too_large = refl
 
-no_such_class : entry_of (key_bytes ++ size_bytes ++ 6 ∷ 0 ∷ []) ≡ Err 26
-unfolding entry_of moment_at command_at kind_at put_at name_at counted_at is_bucket_name key_at is_key size_at class_at class_ranked
-no_such_class = rw a_is_text refl
-
-one_tag : entry_of (key_bytes ++ size_bytes ++ 0 ∷ 1 ∷ []) ≡ Err 27
-unfolding entry_of moment_at command_at kind_at put_at name_at counted_at is_bucket_name key_at is_key size_at class_at class_ranked no_tags_at
-one_tag = rw a_is_text refl
-
-put_longer : entry_of (put_bytes ++ 0 ∷ []) ≡ Err 28
-unfolding entry_of moment_at command_at kind_at put_at name_at counted_at is_bucket_name key_at is_key size_at class_at class_ranked no_tags_at
-put_longer = rw a_is_text refl
-
--- cut short inside the size
 size_cut : entry_of (take 25 put_bytes) ≡ Err 18
-unfolding entry_of moment_at command_at kind_at put_at name_at counted_at is_bucket_name key_at is_key size_at
-size_cut = rw a_is_text refl
+unfolding to_compute
+size_cut = refl
 
--- cut before the class
+no_such_class : entry_of (key_bytes ++ size_bytes ++ 0x06 ∷ 0x00 ∷ []) ≡ Err 26
+unfolding to_compute
+no_such_class = refl
+
 no_class : entry_of (take 26 put_bytes) ≡ Err 26
-unfolding entry_of moment_at command_at kind_at put_at name_at counted_at is_bucket_name key_at is_key size_at class_at
-no_class = rw a_is_text refl
+unfolding to_compute
+no_class = refl
+
+abbrev zeros : List ℕ
+zeros = repeat 32 (0x00 ∷ [])
+
+abbrev all_ones : List ℕ
+all_ones = repeat 8 (0xFF ∷ [])
+
+-- ---- the rows of kinds that are not built, each in an entry of that moment
+
+suspended : command_spelling (command.SetVersioning (codes "logs") false) ≡ 0x02 ∷ name_bytes ++ 0x02 ∷ []
+unfolding to_compute
+suspended = refl
+
+null_deleted : command_spelling (command.DeleteVersion (codes "logs") (codes "a") Null)
+    ≡ 0x07 ∷ name_bytes ++ 0x00 ∷ 0x01 ∷ 0x61 ∷ 0x00 ∷ 0x00 ∷ 0x00 ∷ 0x00 ∷ 0x00 ∷ 0x00 ∷ 0x00 ∷ 0x00 ∷ []
+unfolding to_compute
+null_deleted = refl
+
+third_deleted : command_spelling (command.DeleteVersion (codes "logs") (codes "a") (Number 3))
+    ≡ 0x07 ∷ name_bytes ++ 0x00 ∷ 0x01 ∷ 0x61 ∷ 0x00 ∷ 0x00 ∷ 0x00 ∷ 0x00 ∷ 0x00 ∷ 0x00 ∷ 0x00 ∷ 0x03 ∷ []
+unfolding to_compute
+third_deleted = refl
+
+part_put : command_spelling (command.PutPart (codes "logs") 1 5 1_000)
+    ≡ 0x0A ∷ name_bytes ++ (0x00 ∷ 0x00 ∷ 0x00 ∷ 0x00 ∷ 0x00 ∷ 0x00 ∷ 0x00 ∷ 0x01 ∷ []) ++ (0x00 ∷ 0x00 ∷ 0x00 ∷ 0x05 ∷ []) ++ size_bytes
+unfolding to_compute
+part_put = refl
+
+-- 2024-01 is the month of this number
+january_closed : command_spelling (command.Close 648) ≡ 0x0F ∷ 0x07 ∷ 0xE8 ∷ 0x01 ∷ []
+unfolding to_compute
+january_closed = refl
+
+january_read : values_at (fields_of kind.Close) 12 (0x07 ∷ 0xE8 ∷ 0x01 ∷ []) ≡ Ok ((2024, (1, tt)), [])
+unfolding to_compute
+january_read = refl
+
+-- the year and the month are two fields
+year_2100 : values_at (fields_of kind.Close) 12 (0x08 ∷ 0x34 ∷ 0x01 ∷ []) ≡ Err 9
+unfolding to_compute
+year_2100 = refl
+
+month_13 : values_at (fields_of kind.Close) 12 (0x07 ∷ 0xE8 ∷ 0x0D ∷ []) ≡ Err 11
+unfolding to_compute
+month_13 = refl
+
+-- each price is a field: here the third, 1,048,577, is too large
+third_price : values_at (fields_of kind.SetTariff) 53 ((0x00 ∷ 0x10 ∷ 0x00 ∷ 0x00 ∷ []) ++ (0x00 ∷ 0x00 ∷ 0x00 ∷ 0x01 ∷ []) ++ 0x00 ∷ 0x10 ∷ 0x00 ∷ 0x01 ∷ zeros) ≡ Err 17
+unfolding to_compute
+third_price = refl
+
+-- part numbers and sizes of parts are read whatever they are, and no id is too large
+part_read : values_at (fields_of kind.PutPart) 35 (name_bytes ++ all_ones ++ take 4 all_ones ++ all_ones)
+    ≡ Ok ((codes "logs", (2 ^ 64 - 1, (2 ^ 32 - 1, (2 ^ 64 - 1, tt)))), [])
+unfolding to_compute
+part_read = refl
+
+-- a status that is neither
+status_3 : values_at (fields_of kind.SetVersioning) 16 (name_bytes ++ 0x03 ∷ []) ≡ Err 15
+unfolding to_compute
+status_3 = refl

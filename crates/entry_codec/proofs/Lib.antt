@@ -1,4 +1,11 @@
+pub mod Built
+pub mod Bytes
 pub mod Examples
-pub mod Fields
+pub mod FieldLaws
+pub mod Fitting
+pub mod FormatLaws
+pub mod Items
 pub mod Laws
+pub mod Rising
 pub mod Sizes
+pub mod TagLemmas

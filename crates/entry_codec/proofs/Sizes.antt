@@ -1,19 +1,133 @@
 -- How long an entry is.
-use Rattle.std.proofs.Common.{◌≡◌, ℕ, ◌^◌, ◌<◌, ◌≤◌, List, length, refl, ap, arith, length-append}
-use Rattle.plain_office.specs.declared.command.Command.{Command}
-use Rattle.plain_office.specs.declared.command.Command.TheVariants.{CreateBucket, Put}
-use Rattle.plain_office.specs.declared.command.Entry.{Entry}
-use Rattle.plain_office.specs.Run.{entry_at}
+use Rattle.std.proofs.Common.{◌≡◌, ℕ, ◌+◌, ◌*◌, ◌^◌, ◌<◌, ◌≤◌, Bool, true, ◌&&◌, List, [], ◌∷◌, ◌++◌, length, refl, ap, arith, length-append}
+use Rattle.std.specs.Prelude.{nat_le}
+use Rattle.std.specs.List.{list_all, flat_map}
+use Rattle.std.specs.Str.{is_utf8}
+use Rattle.std.proofs.lemmas.Bool.Decides.{nat_tests}
+use Rattle.std.proofs.lemmas.Str.{IsUtf8-from_is_utf8}
+use Rattle.office_base.specs.Tags.{Tag, char_count, is_tag, keys_rise}
 use Rattle.office_base.proofs.Sizes.{name_small, key_small}
-use Rattle.entry_codec.specs.Spelling.{IsEntry, Fits, CommandFits, command_spelling, entry_limit, spelling}
+use Rattle.office_types.specs.Built.{IsBuilt}
+use Rattle.office_types.specs.declared.command.Command.{Command}
+use Rattle.office_types.specs.declared.command.Entry.{Entry}
+use Rattle.rules_json.proofs.Sizes.{text_small}
+use Rattle.rules_json.proofs.ShortTexts.{printed_small}
+use Rattle.std.specs.Int.{w8}
+use Rattle.entry_codec.specs.Formats.{Format, number, ◌such_that◌}
+use Rattle.entry_codec.specs.Fields.{Field, Name, Key, Size, Rank, Tags, Rules, Status, Id, Number4, Number8, Price, Year, Month, Holds, format, moment_format, tag, utf8_text}
+use Rattle.entry_codec.specs.Kinds.{Kind, Values, kind_format, fields_of, is_built, parts_of}
+use Rattle.entry_codec.specs.Kinds as kind
+use Rattle.entry_codec.specs.Spelling.{entry_at, written_values, are_values, command_spelling, IsInRange, IsEntry, Fits, entry_limit, spelling}
+use Rattle.entry_codec.proofs.Built.{each_built, built_kind}
+use Rattle.entry_codec.proofs.FieldLaws.{kept}
+use Rattle.entry_codec.proofs.FormatLaws.{both}
 
-command_small : (c : Command) → CommandFits c → length (command_spelling c) ≤ 1_102
-command_small (CreateBucket bucket) fits = omega (arith, name_small bucket fits)
-command_small (Put bucket key size class) fits = grind (arith, length-append, name_small bucket fits.named, key_small key fits.keyed)
+-- ---- fields
 
-spelling_small : (e : Entry) → Fits e → length (spelling e) ≤ 1_110
-unfolding spelling
-spelling_small e fits = omega (arith, command_small e.command fits.command)
+-- a text of few characters has few bytes
+few_bytes : (t : List ℕ) (n : ℕ) → is_utf8 t ≡ true → nat_le (char_count t) n ≡ true → length t ≤ 4 * n
+few_bytes t n text few = omega (arith, text_small t (IsUtf8-from_is_utf8 t text), at_most)
+  where
+    at_most : char_count t ≤ n
+    at_most = grind (arith, nat_tests)
+
+pub tag_parts_small : (t : Tag) → is_tag t ≡ true → (length t.0 ≤ 512) × (length t.1 ≤ 1_024)
+unfolding is_tag
+tag_parts_small t is =
+    let values = both _ _ is in
+    let longest = both _ _ values.0 in
+    let least = both _ _ longest.0 in
+    let texts = both _ _ least.0 in
+    (few_bytes t.0 128 texts.0 longest.1, few_bytes t.1 256 texts.1 values.1)
+
+tag_small : (t : Tag) → is_tag t ≡ true → length (tag.written t) ≤ 1_540
+unfolding tag utf8_text
+tag_small t is = omega (arith, tag_parts_small t is, length-append (utf8_text.written t.0) (utf8_text.written t.1))
+
+all_small : (tags : List Tag) → list_all is_tag tags ≡ true → length (flat_map tag.written tags) ≤ 1_540 * length tags
+all_small [] all = omega arith
+all_small (t ∷ tags) all =
+    let parts = both (is_tag t) (list_all is_tag tags) all in
+    omega (arith, length-append (tag.written t) (flat_map tag.written tags), tag_small t parts.0, all_small tags parts.1)
+
+abbrev few : Format ℕ
+few = number w8 such_that λ n. nat_le n 10
+
+-- the most bytes that each field has
+abbrev most : Field → ℕ
+most Name = 65
+most Key = 1_026
+most Size = 8
+most Rank = 1
+most Tags = 15_401
+most Rules = 2 ^ 32 + 3
+most Status = 1
+most Id = 8
+most Number4 = 4
+most Number8 = 8
+most Price = 4
+most Year = 2
+most Month = 1
+
+value_small : (field : Field) (value : Holds field) → (format field).has value ≡ true → length ((format field).written value) ≤ most field
+unfolding format
+value_small Name value has = omega (arith, name_small value (both _ _ has).1)
+value_small Key value has = omega (arith, key_small value (both _ _ has).1)
+value_small Size value has = omega arith
+value_small Rank value has = omega arith
+value_small Tags value has =
+    let parts = both (few.has (length value) && list_all tag.has value) (list_all is_tag value && keys_rise value) has in
+    let count = both (few.has (length value)) (list_all tag.has value) parts.0 in
+    let ten : nat_le (length value) 10 ≡ true = (both ((number w8).has (length value)) (nat_le (length value) 10) count.0).1 in
+    let at_most : length value ≤ 10 = grind (arith, nat_tests) in
+    omega (arith, at_most, all_small value (both (list_all is_tag value) (keys_rise value) parts.1).0)
+value_small Rules value has = omega (arith, printed_small value (kept value (both _ _ has).1))
+value_small Status value has = omega arith
+value_small Id value has = omega arith
+value_small Number4 value has = omega arith
+value_small Number8 value has = omega arith
+value_small Price value has = omega arith
+value_small Year value has = omega arith
+value_small Month value has = omega arith
+
+-- ---- entries
+
+abbrev most_of : List Field → ℕ
+most_of [] = 0
+most_of (field ∷ fields) = most field + most_of fields
+
+values_small : (fields : List Field) (values : Values fields) → are_values fields values ≡ true → length (written_values fields values) ≤ most_of fields
+values_small [] values has = omega arith
+values_small (field ∷ fields) values has =
+    let parts = both ((format field).has values.0) (are_values fields values.1) has in
+    omega (arith, length-append ((format field).written values.0) (written_values fields values.1), value_small field values.0 parts.0, values_small fields values.1 parts.1)
+
+kind_small : (k : Kind) → length (kind_format.written k) ≡ 1
+unfolding kind_format
+kind_small k = refl
+
+moment_small : (moment : ℕ) → length (moment_format.written moment) ≡ 8
+unfolding moment_format
+moment_small moment = refl
+
+by_fields : (e : Entry) → IsInRange e.command → length (spelling e) ≤ 9 + most_of (fields_of (parts_of e.command).kind)
+unfolding spelling command_spelling
+by_fields e range =
+    let parts = parts_of e.command in
+    omega (
+      arith,
+      length-append (moment_format.written e.moment) (kind_format.written parts.kind ++ written_values (fields_of parts.kind) parts.values),
+      length-append (kind_format.written parts.kind) (written_values (fields_of parts.kind) parts.values),
+      moment_small e.moment,
+      kind_small parts.kind,
+      values_small (fields_of parts.kind) parts.values range.values,
+    )
+
+built_most : (k : Kind) → is_built k ≡ true → most_of (fields_of k) ≤ 16_501
+built_most = each_built (λ k. most_of (fields_of k) ≤ 16_501) (omega arith) (omega arith)
+
+spelling_small : (e : Entry) → Fits e → length (spelling e) ≤ 16_510
+spelling_small e fits = omega (arith, by_fields e fits.command.in_range, built_most (parts_of e.command).kind (built_kind e.command fits.command.built))
 
 pub spelling_short : (e : Entry) → Fits e → length (spelling e) ≤ entry_limit
 spelling_short e fits = omega (arith, spelling_small e fits)
@@ -21,16 +135,20 @@ spelling_short e fits = omega (arith, spelling_small e fits)
 pub entry_small : (bytes : List ℕ) → IsEntry bytes → length bytes < 2 ^ 32
 entry_small bytes is = omega (arith, ap length is.2, spelling_small is.0 is.1)
 
-command_long : (c : Command) → 1 ≤ length (command_spelling c)
-command_long (CreateBucket bucket) = omega arith
-command_long (Put bucket key size class) = omega arith
-
 -- a moment and a kind
 pub spelling_long : (e : Entry) → 9 ≤ length (spelling e)
-unfolding spelling
-spelling_long e = omega (arith, command_long e.command)
+unfolding spelling command_spelling
+spelling_long e =
+    let parts = parts_of e.command in
+    omega (
+      arith,
+      length-append (moment_format.written e.moment) (kind_format.written parts.kind ++ written_values (fields_of parts.kind) parts.values),
+      length-append (kind_format.written parts.kind) (written_values (fields_of parts.kind) parts.values),
+      moment_small e.moment,
+      kind_small parts.kind,
+    )
 
 -- a moment has eight bytes, whichever it is
 pub same_length : (t u : ℕ) (c : Command) → length (spelling (entry_at t c)) ≡ length (spelling (entry_at u c))
-unfolding spelling
+unfolding spelling moment_format
 same_length t u c = refl

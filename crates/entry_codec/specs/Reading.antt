@@ -1,20 +1,13 @@
--- Reading bytes from left to right. Each reader takes one field from the front of the bytes that are left of an entry, and
--- gives its value and what is left then. A fault is the place at which the first field that breaks the format begins, in
--- bytes from the first byte of the entry. Kinds, widths and orders of fields are own.
-use Rattle.std.specs.Prelude.{◌≡◌, ℕ, ◌-◌, List, [], ◌∷◌, length, take, drop, Option, ok_or, Result, Ok, Err, nat_lt, nat_le, ◌==◌, if◌then◌else◌}
-use Rattle.std.specs.Int.{Width, w16, w64, byte_len, from_be_bytes}
-use Rattle.std.specs.List.{find}
-use Rattle.moments.specs.Time.{end_of_time}
-use Rattle.office_base.specs.Names.{is_bucket_name}
-use Rattle.office_base.specs.Keys.{is_key}
-use Rattle.office_base.specs.Sizes.{largest_size}
-use Rattle.class_rules.specs.Classes.{all_classes, rank_of}
-use Rattle.class_rules.specs.declared.class.Class.{Class}
-use Rattle.plain_office.specs.declared.command.Command.{Command}
-use Rattle.plain_office.specs.declared.command.Command.TheVariants.{CreateBucket, Put}
-use Rattle.plain_office.specs.declared.command.Entry.{Entry}
+-- Reading bytes from left to right, by the fields of the kind. A fault is the place at which the first field that breaks the format
+-- begins, in bytes from the first byte of the entry; bytes behind the last field break it where they begin (own).
+use Rattle.std.specs.Prelude.{◌≡◌, ℕ, ◌-◌, List, [], ◌∷◌, length, Option, option_map, Result, Ok, Err, ok_or, ◌==◌, if◌then◌else◌}
+use Rattle.office_types.specs.declared.command.Command.{Command}
+use Rattle.office_types.specs.declared.command.Entry.{Entry}
 use Rattle.entry_codec.specs.declared.fault.EntryFault.{EntryFault}
 use Rattle.entry_codec.specs.declared.fault.EntryFault.TheVariants as faults
+use Rattle.entry_codec.specs.Formats.{Format}
+use Rattle.entry_codec.specs.Fields.{Field, format, moment_format}
+use Rattle.entry_codec.specs.Kinds.{Kind, kind_format, fields_of, Values, command_of}
 
 -- one field after another, up to the first fault
 infixl 10 ◌>>=◌
@@ -32,93 +25,43 @@ abbrev pub Gives : {X Y : Type 0} → (X → Y) → Result X EntryFault → Resu
 Gives view (Ok x) read = read ≡ Ok (view x)
 Gives view (Err e) read = Fails e read
 
+-- what a function finds, seen by view, is what stands at the front, unless memory is wanting
+abbrev pub Finds : {X Y E : Type 0} → (X → Y) → Result (Option X) E → Option Y → Type 0
+Finds view (Ok found) front = front ≡ option_map view found
+Finds view (Err e) front = Unit {0}
+
 -- where the bytes that are left begin, in an entry of this many bytes
 abbrev pub place : ℕ → List ℕ → ℕ
 place total bytes = total - length bytes
 
--- a number of this width
-abbrev pub number_at : Width → ℕ → List ℕ → Result (ℕ × List ℕ) ℕ
-number_at w total bytes = if nat_lt (length bytes) (byte_len w) then Err (place total bytes) else Ok (from_be_bytes w (take (byte_len w) bytes), drop (byte_len w) bytes)
+-- the value at the front of the bytes that are left, and what is left then
+unfoldable pub value_at : {X : Type 0} → Format X → ℕ → List ℕ → Result (X × List ℕ) ℕ
+value_at format total bytes = ok_or (format.front bytes) (place total bytes)
 
--- a length in two bytes, and so many bytes
-unfoldable pub counted_at : ℕ → List ℕ → Result (List ℕ × List ℕ) ℕ
-counted_at total bytes = do
-  n ← number_at w16 total bytes
-  if nat_lt (length n.1) n.0 then Err (place total bytes) else Ok (take n.0 n.1, drop n.0 n.1)
+-- a value for each field, from left to right
+abbrev pub values_at : (fields : List Field) → ℕ → List ℕ → Result (Values fields × List ℕ) ℕ
+values_at [] total bytes = Ok (tt, bytes)
+values_at (field ∷ fields) total bytes = do
+  first ← value_at (format field) total bytes
+  others ← values_at fields total first.1
+  Ok ((first.0, others.0), others.1)
 
--- the moment of an entry
-unfoldable pub moment_at : ℕ → List ℕ → Result (ℕ × List ℕ) ℕ
-moment_at total bytes = do
-  n ← number_at w64 total bytes
-  if nat_lt n.0 end_of_time then Ok n else Err (place total bytes)
+-- the command of a kind whose fields are these, and what is left behind them
+unfoldable pub kind_at : Kind → ℕ → List ℕ → Result (Command × List ℕ) ℕ
+kind_at kind total bytes = do
+  read ← values_at (fields_of kind) total bytes
+  Ok (command_of kind read.0, read.1)
 
--- the name of a bucket
-unfoldable pub name_at : ℕ → List ℕ → Result (List ℕ × List ℕ) ℕ
-name_at total bytes = do
-  text ← counted_at total bytes
-  if is_bucket_name text.0 then Ok text else Err (place total bytes)
-
--- the key of an object
-unfoldable pub key_at : ℕ → List ℕ → Result (List ℕ × List ℕ) ℕ
-key_at total bytes = do
-  text ← counted_at total bytes
-  if is_key text.0 then Ok text else Err (place total bytes)
-
--- the size of an object
-unfoldable pub size_at : ℕ → List ℕ → Result (ℕ × List ℕ) ℕ
-size_at total bytes = do
-  n ← number_at w64 total bytes
-  if nat_le n.0 largest_size then Ok n else Err (place total bytes)
-
--- the class of this rank
-unfoldable pub class_ranked : ℕ → Option Class
-class_ranked rank = find (λ class. rank_of class == rank) all_classes
-
--- a class by its rank
-unfoldable pub class_at : ℕ → List ℕ → Result (Class × List ℕ) ℕ
-class_at total [] = Err (place total [])
-class_at total (rank ∷ bytes) = do
-  class ← ok_or (class_ranked rank) (place total (rank ∷ bytes))
-  Ok (class, bytes)
-
--- no tags
-unfoldable pub no_tags_at : ℕ → List ℕ → Result (List ℕ) ℕ
-no_tags_at total [] = Err (place total [])
-no_tags_at total (count ∷ bytes) = if count == 0 then Ok bytes else Err (place total (count ∷ bytes))
-
--- the fields of a command that makes a bucket
-unfoldable pub create_bucket_at : ℕ → List ℕ → Result (Command × List ℕ) ℕ
-create_bucket_at total bytes = do
-  bucket ← name_at total bytes
-  Ok (CreateBucket bucket.0, bucket.1)
-
--- the fields of a command that puts an object
-unfoldable pub put_at : ℕ → List ℕ → Result (Command × List ℕ) ℕ
-put_at total bytes = do
-  bucket ← name_at total bytes
-  key ← key_at total bucket.1
-  size ← size_at total key.1
-  class ← class_at total size.1
-  left ← no_tags_at total class.1
-  Ok (Put bucket.0 key.0 size.0 class.0, left)
-
--- a kind, and the fields that it has
-unfoldable pub kind_at : ℕ → List ℕ → Result (Command × List ℕ) ℕ
-kind_at total [] = Err (place total [])
-kind_at total (kind ∷ bytes) =
-    if kind == 1 then create_bucket_at total bytes else
-    (if kind == 5 then put_at total bytes else
-    Err (place total (kind ∷ bytes)))
-
--- a command, and nothing behind it
+-- a command by its kind, and nothing behind it
 unfoldable pub command_at : ℕ → List ℕ → Result Command ℕ
 command_at total bytes = do
-  c ← kind_at total bytes
-  if length c.1 == 0 then Ok c.0 else Err (place total c.1)
+  kind ← value_at kind_format total bytes
+  command ← kind_at kind.0 total kind.1
+  if length command.1 == 0 then Ok command.0 else Err (place total command.1)
 
 -- the entry of all the bytes
 unfoldable pub entry_of : List ℕ → Result Entry ℕ
 entry_of bytes = do
-  m ← moment_at (length bytes) bytes
-  c ← command_at (length bytes) m.1
-  Ok (record { moment = m.0; command = c })
+  moment ← value_at moment_format (length bytes) bytes
+  command ← command_at (length bytes) moment.1
+  Ok (record { moment = moment.0; command = command })

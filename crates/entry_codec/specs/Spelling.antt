@@ -1,49 +1,49 @@
--- The one spelling of each entry (own). Numbers stand with the most significant byte first.
-use Rattle.std.specs.Prelude.{◌≡◌, ℕ, ◌<◌, ◌≤◌, List, [], ◌∷◌, ◌++◌, length}
-use Rattle.std.specs.Int.{w16, w64, to_be_bytes}
+-- The one spelling of each entry (own).
+use Rattle.std.specs.Prelude.{◌≡◌, ℕ, ◌<◌, Bool, true, ◌&&◌, List, [], ◌∷◌, ◌++◌}
 use Rattle.moments.specs.Time.{end_of_time}
-use Rattle.office_base.specs.Names.{IsBucketName}
-use Rattle.office_base.specs.Keys.{IsKey}
-use Rattle.office_base.specs.Sizes.{largest_size}
-use Rattle.class_rules.specs.Classes.{rank_of}
-use Rattle.plain_office.specs.declared.command.Command.{Command}
-use Rattle.plain_office.specs.declared.command.Command.TheVariants.{CreateBucket, Put}
-use Rattle.plain_office.specs.declared.command.Entry.{Entry}
+use Rattle.office_types.specs.Built.{IsBuilt}
+use Rattle.office_types.specs.declared.command.Command.{Command}
+use Rattle.office_types.specs.declared.command.Entry.{Entry}
+use Rattle.entry_codec.specs.Fields.{Field, format, moment_format}
+use Rattle.entry_codec.specs.Kinds.{kind_format, fields_of, Values, parts_of, command_of}
 
--- a name or a key: its length in two bytes, and its bytes (own)
-abbrev pub counted : List ℕ → List ℕ
-counted text = to_be_bytes w16 (length text) ++ text
+-- a command at a moment
+abbrev pub entry_at : ℕ → Command → Entry
+entry_at moment command = record { moment = moment; command = command }
 
--- tags: their number in one byte (own: so far entries have none)
-abbrev pub no_tags : List ℕ
-no_tags = 0 ∷ []
+-- the values of fields, one behind the other
+abbrev pub written_values : (fields : List Field) → Values fields → List ℕ
+written_values [] none = []
+written_values (field ∷ fields) (value, values) = (format field).written value ++ written_values fields values
 
--- a command: its kind in one byte, and its fields (own); 1 makes a bucket of this name, and 5 puts an object of this size
--- in bytes into a class, which its rank spells
-abbrev pub command_spelling : Command → List ℕ
-command_spelling (CreateBucket bucket) = 1 ∷ counted bucket
-command_spelling (Put bucket key size class) = 5 ∷ counted bucket ++ counted key ++ to_be_bytes w64 size ++ rank_of class ∷ no_tags
+-- a command: its kind, and its fields
+unfoldable pub command_spelling : Command → List ℕ
+command_spelling c = let parts = parts_of c in kind_format.written parts.kind ++ written_values (fields_of parts.kind) parts.values
 
--- an entry: its moment in eight bytes, in ms, and its command (own)
+-- an entry: its moment, and its command
 unfoldable pub spelling : Entry → List ℕ
-spelling e = to_be_bytes w64 e.moment ++ command_spelling e.command
-
--- the fields of a put are in range
-pub record PutFits (bucket key : List ℕ) (size : ℕ) : Type 0 where
-  pub named : IsBucketName bucket
-  pub keyed : IsKey key
-  pub sized : size ≤ largest_size
-
--- the fields of a command are in range
-abbrev pub CommandFits : Command → Type 0
-CommandFits (CreateBucket bucket) = IsBucketName bucket
-CommandFits (Put bucket key size class) = PutFits bucket key size
+spelling e = moment_format.written e.moment ++ command_spelling e.command
 
 -- no entry has a longer spelling, in bytes (own: 2 MiB, room for a command that carries a whole request body of 1 MiB)
 abbrev pub entry_limit : ℕ
 entry_limit = 2_097_152
 
--- all fields of an entry are in range
+-- each value is one of its field
+abbrev pub are_values : (fields : List Field) → Values fields → Bool
+are_values [] none = true
+are_values (field ∷ fields) (value, values) = (format field).has value && are_values fields values
+
+-- a command is its kind with its fields, all in range
+pub record IsInRange (c : Command) : Type 0 where
+  pub values : are_values (fields_of (parts_of c).kind) (parts_of c).values ≡ true
+  pub whole : command_of (parts_of c).kind (parts_of c).values ≡ c
+
+-- a command that entries have by now
+pub record CommandFits (c : Command) : Type 0 where
+  pub built : IsBuilt c
+  pub in_range : IsInRange c
+
+-- an entry as it is kept
 pub record Fits (e : Entry) : Type 0 where
   pub moment : e.moment < end_of_time
   pub command : CommandFits e.command

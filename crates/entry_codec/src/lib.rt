@@ -2,12 +2,13 @@
 #![tactic(auto)]
 
 mod fault;
+mod fields;
 mod reading;
 #[cfg(test)]
 mod tests;
 mod writing;
 
 pub use fault::EntryFault;
-pub use plain_office::{Command, Entry};
+pub use office_types::{Command, Entry};
 pub use reading::{decode, one_spelling};
 pub use writing::{ENTRY_LIMIT, encode, encode_command, short_spelling};

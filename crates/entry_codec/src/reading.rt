@@ -1,16 +1,21 @@
 // Reading an entry.
 ghost use Rattle.std.specs.Prelude.{◌≡◌, ◌+◌, ◌<◌, ◌≤◌, ◌^◌, List, length, IfOk, Ok};
-ghost use Rattle.std.specs.Int.{w16, w64};
-ghost use Rattle.plain_office.specs.declared.command.Entry.{Entry};
+ghost use Rattle.std.specs.Int.{w16};
+ghost use Rattle.office_types.specs.declared.command.Entry.{Entry};
 ghost use Rattle.entry_codec.specs.declared.fault.EntryFault.TheVariants.{BadEntry};
+ghost use Rattle.entry_codec.specs.Formats.{number, text};
+ghost use Rattle.entry_codec.specs.Fields as field;
+ghost use Rattle.entry_codec.specs.Fields.{ranks, format, moment_format};
+ghost use Rattle.entry_codec.specs.Kinds as kind;
 ghost use Rattle.entry_codec.specs.Spelling.{Fits, spelling};
-ghost use Rattle.entry_codec.specs.Reading.{Gives, place, number_at, counted_at, name_at, key_at, size_at, class_ranked, class_at, no_tags_at, create_bucket_at, put_at, kind_at, command_at, entry_of};
+ghost use Rattle.entry_codec.specs.Reading.{Gives, place, value_at, kind_at, command_at, entry_of};
 
 use crate::fault::EntryFault;
+use crate::fields::{counted_in, tags_in, u8_in, u64_in};
 use class_rules::Class;
 use moments::Moment;
-use office_base::{BucketName, Key, NameRefusal, Size};
-use plain_office::{Command, Entry};
+use office_base::{BucketName, Key, NameRefusal, Size, Tags};
+use office_types::{Command, Entry};
 use std::alloc::Global;
 
 // The fault of the field with which the bytes begin that are left of an entry of `total` bytes.
@@ -22,47 +27,13 @@ fn fault_at(total: usize, bytes: &[u8]) -> EntryFault
     }
 }
 
-fn u16_at(total: usize, bytes: &[u8]) -> Result<(u16, &[u8]), EntryFault>
-    ensures { Gives (λ x. (x.0, x.1.now)) result (number_at w16 total bytes.now) }
-{
-    if bytes.len() < 2 {
-        return Err(fault_at(total, bytes));
-    }
-    let (front, rest) = bytes.split_at(2);
-    Ok((u16::from_be_bytes([front[0], front[1]]), rest))
-}
-
-fn u64_at(total: usize, bytes: &[u8]) -> Result<(u64, &[u8]), EntryFault>
-    ensures { Gives (λ x. (x.0, x.1.now)) result (number_at w64 total bytes.now) }
-{
-    if bytes.len() < 8 {
-        return Err(fault_at(total, bytes));
-    }
-    let (front, rest) = bytes.split_at(8);
-    let number = u64::from_be_bytes([
-        front[0], front[1], front[2], front[3], front[4], front[5], front[6], front[7],
-    ]);
-    Ok((number, rest))
-}
-
-#[tactic(auto, unfolding(crate::specs::Reading::counted_at))]
-fn counted_of(total: usize, bytes: &[u8]) -> Result<(&[u8], &[u8]), EntryFault>
-    ensures { Gives (λ x. (x.0.now, x.1.now)) result (counted_at total bytes.now) }
-{
-    let (len, rest) = u16_at(total, bytes)?;
-    let len = len as usize;
-    if rest.len() < len {
-        return Err(fault_at(total, bytes));
-    }
-    let (text, rest) = rest.split_at(len);
-    Ok((text, rest))
-}
-
-#[tactic(auto, using(office_base::proofs::Utf8::name_is_text), unfolding(crate::specs::Reading::name_at))]
+#[tactic(auto, using(office_base::proofs::Utf8::name_is_text), unfolding(crate::specs::Reading::value_at, crate::specs::Fields::format))]
 fn name_of(alloc: Global, total: usize, bytes: &[u8]) -> Result<(BucketName, &[u8]), EntryFault>
-    ensures { Gives (λ x. (x.0, x.1.now)) result (name_at total bytes.now) }
+    ensures { Gives (λ x. (x.0, x.1.now)) result (value_at (format field.Name) total bytes.now) }
 {
-    let (name, rest) = counted_of(total, bytes)?;
+    let Some((name, rest)) = counted_in(bytes) else {
+        return Err(fault_at(total, bytes));
+    };
     let Ok(text) = str::from_utf8(name) else {
         return Err(fault_at(total, bytes));
     };
@@ -73,11 +44,13 @@ fn name_of(alloc: Global, total: usize, bytes: &[u8]) -> Result<(BucketName, &[u
     }
 }
 
-#[tactic(auto, unfolding(crate::specs::Reading::key_at))]
+#[tactic(auto, unfolding(crate::specs::Reading::value_at, crate::specs::Fields::format))]
 fn key_of(alloc: Global, total: usize, bytes: &[u8]) -> Result<(Key, &[u8]), EntryFault>
-    ensures { Gives (λ x. (x.0, x.1.now)) result (key_at total bytes.now) }
+    ensures { Gives (λ x. (x.0, x.1.now)) result (value_at (format field.Key) total bytes.now) }
 {
-    let (key, rest) = counted_of(total, bytes)?;
+    let Some((key, rest)) = counted_in(bytes) else {
+        return Err(fault_at(total, bytes));
+    };
     match Key::read(alloc, key) {
         Ok(key) => Ok((key, rest)),
         Err(NameRefusal::NoMemory) => Err(EntryFault::NoMemory),
@@ -85,20 +58,21 @@ fn key_of(alloc: Global, total: usize, bytes: &[u8]) -> Result<(Key, &[u8]), Ent
     }
 }
 
-#[tactic(auto, unfolding(crate::specs::Reading::size_at))]
+#[tactic(auto, unfolding(crate::specs::Reading::value_at, crate::specs::Fields::format))]
 fn size_of(total: usize, bytes: &[u8]) -> Result<(Size, &[u8]), EntryFault>
-    ensures { Gives (λ x. (x.0, x.1.now)) result (size_at total bytes.now) }
+    ensures { Gives (λ x. (x.0, x.1.now)) result (value_at (format field.Size) total bytes.now) }
 {
-    let (number, rest) = u64_at(total, bytes)?;
+    let Some((number, rest)) = u64_in(bytes) else {
+        return Err(fault_at(total, bytes));
+    };
     match Size::of(number) {
         Ok(size) => Ok((size, rest)),
         Err(_) => Err(fault_at(total, bytes)),
     }
 }
 
-#[tactic(auto, unfolding(crate::specs::Reading::class_ranked))]
 fn class_of_rank(rank: u8) -> Option<Class>
-    ensures { result ≡ class_ranked rank }
+    ensures { result ≡ ranks.value rank }
 {
     match rank {
         0 => Some(Class::Standard),
@@ -111,40 +85,41 @@ fn class_of_rank(rank: u8) -> Option<Class>
     }
 }
 
-#[tactic(auto, unfolding(crate::specs::Reading::class_at))]
+#[tactic(auto, unfolding(crate::specs::Reading::value_at, crate::specs::Fields::format))]
 fn class_of(total: usize, bytes: &[u8]) -> Result<(Class, &[u8]), EntryFault>
-    ensures { Gives (λ x. (x.0, x.1.now)) result (class_at total bytes.now) }
+    ensures { Gives (λ x. (x.0, x.1.now)) result (value_at (format field.Rank) total bytes.now) }
 {
-    let [rank, rest @ ..] = bytes else {
+    let Some((rank, rest)) = u8_in(bytes) else {
         return Err(fault_at(total, bytes));
     };
-    match class_of_rank(*rank) {
+    match class_of_rank(rank) {
         Some(class) => Ok((class, rest)),
         None => Err(fault_at(total, bytes)),
     }
 }
 
-#[tactic(auto, unfolding(crate::specs::Reading::no_tags_at))]
-fn no_tags(total: usize, bytes: &[u8]) -> Result<&[u8], EntryFault>
-    ensures { Gives (λ x. x.now) result (no_tags_at total bytes.now) }
+#[tactic(auto, unfolding(crate::specs::Reading::value_at))]
+fn tags_of(alloc: Global, total: usize, bytes: &[u8]) -> Result<(Tags, &[u8]), EntryFault>
+    ensures { Gives (λ x. (x.0, x.1.now)) result (value_at (format field.Tags) total bytes.now) }
 {
-    match bytes {
-        [0, rest @ ..] => Ok(rest),
-        _ => Err(fault_at(total, bytes)),
+    match tags_in(alloc, bytes) {
+        Ok(Some(read)) => Ok(read),
+        Ok(None) => Err(fault_at(total, bytes)),
+        Err(_) => Err(EntryFault::NoMemory),
     }
 }
 
-#[tactic(auto, unfolding(crate::specs::Reading::create_bucket_at))]
+#[tactic(auto, unfolding(crate::specs::Reading::kind_at))]
 fn create_bucket(alloc: Global, total: usize, bytes: &[u8]) -> Result<(Command, &[u8]), EntryFault>
-    ensures { Gives (λ x. (x.0, x.1.now)) result (create_bucket_at total bytes.now) }
+    ensures { Gives (λ x. (x.0, x.1.now)) result (kind_at kind.CreateBucket total bytes.now) }
 {
     let (bucket, rest) = name_of(alloc, total, bytes)?;
     Ok((Command::CreateBucket { bucket }, rest))
 }
 
-#[tactic(auto, unfolding(crate::specs::Reading::put_at))]
+#[tactic(auto, unfolding(crate::specs::Reading::kind_at))]
 fn put(alloc: Global, total: usize, bytes: &[u8]) -> Result<(Command, &[u8]), EntryFault>
-    ensures { Gives (λ x. (x.0, x.1.now)) result (put_at total bytes.now) }
+    ensures { Gives (λ x. (x.0, x.1.now)) result (kind_at kind.Put total bytes.now) }
 {
     let (bucket, rest) = name_of(alloc, total, bytes)?;
     let (key, rest) = key_of(alloc, total, rest)?;
@@ -154,44 +129,41 @@ fn put(alloc: Global, total: usize, bytes: &[u8]) -> Result<(Command, &[u8]), En
         Err(e) => return Err(e),
     };
     let (class, rest) = class_of(total, rest)?;
-    let rest = no_tags(total, rest)?;
+    let (tags, rest) = tags_of(alloc, total, rest)?;
     let command = Command::Put {
         bucket,
         key,
         size,
         class,
+        tags,
     };
     Ok((command, rest))
 }
 
-#[tactic(auto, unfolding(crate::specs::Reading::kind_at))]
-fn kind_of(alloc: Global, total: usize, bytes: &[u8]) -> Result<(Command, &[u8]), EntryFault>
-    ensures { Gives (λ x. (x.0, x.1.now)) result (kind_at total bytes.now) }
-{
-    match bytes {
-        [1, rest @ ..] => create_bucket(alloc, total, rest),
-        [5, rest @ ..] => put(alloc, total, rest),
-        _ => Err(fault_at(total, bytes)),
-    }
-}
-
-#[tactic(auto, unfolding(crate::specs::Reading::command_at))]
+// A kind, and the fields that it has.
+#[tactic(auto, unfolding(crate::specs::Reading::command_at, crate::specs::Reading::value_at, crate::specs::Kinds::kind_format))]
 fn command_of(alloc: Global, total: usize, bytes: &[u8]) -> Result<Command, EntryFault>
     ensures { Gives (λ c. c) result (command_at total bytes.now) }
 {
-    let (command, rest) = kind_of(alloc, total, bytes)?;
+    let (command, rest) = match bytes {
+        [1, rest @ ..] => create_bucket(alloc, total, rest)?,
+        [5, rest @ ..] => put(alloc, total, rest)?,
+        _ => return Err(fault_at(total, bytes)),
+    };
     if !rest.is_empty() {
         return Err(fault_at(total, rest));
     }
     Ok(command)
 }
 
-#[tactic(auto, unfolding(crate::specs::Reading::entry_of, crate::specs::Reading::moment_at))]
+#[tactic(auto, unfolding(crate::specs::Reading::entry_of, crate::specs::Reading::value_at, crate::specs::Fields::moment_format))]
 fn whole_entry(alloc: Global, bytes: &[u8]) -> Result<Entry, EntryFault>
     ensures { Gives (λ e. e) result (entry_of bytes.now) }
 {
     let total = bytes.len();
-    let (ms, rest) = u64_at(total, bytes)?;
+    let Some((ms, rest)) = u64_in(bytes) else {
+        return Err(fault_at(total, bytes));
+    };
     let Ok(moment) = Moment::of(ms) else {
         return Err(fault_at(total, bytes));
     };
@@ -201,7 +173,7 @@ fn whole_entry(alloc: Global, bytes: &[u8]) -> Result<Entry, EntryFault>
 
 /// Reads the entry that the bytes spell, all of the bytes.
 ///
-/// Cost: one pass over the bytes, and memory for the name and the key.
+/// Cost: one pass over the bytes, and memory for the name, the key and the tags.
 ///
 /// # Errors
 ///

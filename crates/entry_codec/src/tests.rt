@@ -1,7 +1,7 @@
 use super::*;
 use class_rules::Class;
 use moments::Moment;
-use office_base::{BucketName, Key, Size};
+use office_base::{BucketName, Key, NoMemory, Size, Tags};
 use std::alloc::AllocError;
 use std::test::Fail;
 
@@ -17,6 +17,14 @@ const LOGS: [u8; 16] = [
 const A_PUT: [u8; 29] = [
     0x00, 0x00, 0x01, 0x8c, 0xc2, 0x51, 0xf4, 0x00, 0x05, 0x00, 0x04, 0x6c, 0x6f, 0x67, 0x73, 0x00,
     0x01, 0x61, 0x00, 0x00, 0x00, 0x00, 0x00, 0x00, 0x03, 0xe8, 0x00, 0x00, 0x00,
+];
+
+// The same with two tags, keep: no and kind: raw, in GLACIER, and one byte more.
+const TAGGED: [u8; 50] = [
+    0x00, 0x00, 0x01, 0x8c, 0xc2, 0x51, 0xf4, 0x00, 0x05, 0x00, 0x04, 0x6c, 0x6f, 0x67, 0x73, 0x00,
+    0x01, 0x61, 0x00, 0x00, 0x00, 0x00, 0x00, 0x00, 0x03, 0xe8, 0x04, 0x02, 0x00, 0x04, 0x6b, 0x65,
+    0x65, 0x70, 0x00, 0x02, 0x6e, 0x6f, 0x00, 0x04, 0x6b, 0x69, 0x6e, 0x64, 0x00, 0x03, 0x72, 0x61,
+    0x77, 0x00,
 ];
 
 fn bad(offset: u64) -> Option<EntryFault> {
@@ -69,6 +77,7 @@ fn a_put_is_written_and_read(rt: HostRuntime) -> Result<(), Fail> {
             key: Key::read(alloc, b"a")?,
             size: Size::of(1_000)?,
             class: Class::Standard,
+            tags: Tags::read(alloc, Vec::new(alloc))?,
         },
     };
     let spelled: &[u8] = &A_PUT[..28];
@@ -80,6 +89,7 @@ fn a_put_is_written_and_read(rt: HostRuntime) -> Result<(), Fail> {
         key,
         size,
         class,
+        tags,
     } = &again.command
     else {
         panic!(rt; "another command");
@@ -87,6 +97,120 @@ fn a_put_is_written_and_read(rt: HostRuntime) -> Result<(), Fail> {
     assert_eq!(rt; bucket.text(), "logs");
     assert_eq!(rt; key.bytes(), b"a".as_slice());
     assert_eq!(rt; (size.bytes(), *class), (1_000, Class::Standard));
+    assert!(rt; tags.pairs().is_empty());
+    Ok(())
+}
+
+#[test]
+fn tags_are_written_by_key(rt: HostRuntime) -> Result<(), Fail> {
+    let alloc = rt.alloc();
+    let mut pairs = Vec::new(alloc);
+    for (key, value) in [("kind", "raw"), ("keep", "no")] {
+        pairs.push((String::from_str(alloc, key)?, String::from_str(alloc, value)?))?;
+    }
+    let entry = Entry {
+        moment: Moment::of(NEW_YEAR)?,
+        command: Command::Put {
+            bucket: BucketName::read(alloc, "logs")?,
+            key: Key::read(alloc, b"a")?,
+            size: Size::of(1_000)?,
+            class: Class::Glacier,
+            tags: Tags::read(alloc, pairs)?,
+        },
+    };
+    let spelled: &[u8] = &TAGGED[..49];
+    assert_eq!(rt; encode(alloc, &entry)?.as_slice(), spelled);
+    let again = decode(alloc, spelled)?;
+    let Command::Put { tags, .. } = &again.command else {
+        panic!(rt; "another command");
+    };
+    let mut read = tags.pairs().iter();
+    for (key, value) in [("keep", "no"), ("kind", "raw")] {
+        let Some(pair) = read.next() else {
+            panic!(rt; "no tag {key}");
+        };
+        assert_eq!(rt; (pair.0.as_str(), pair.1.as_str()), (key, value));
+    }
+    assert!(rt; read.next().is_none());
+    Ok(())
+}
+
+#[test]
+fn tags_in_and_out_of_range(rt: HostRuntime) -> Result<(), Fail> {
+    // The bytes behind the class, and the fault.
+    let tags: [(&[u8], Option<EntryFault>); 15] = [
+        (&[], bad(27)),
+        (&[0], None),
+        (&[1], bad(27)),
+        (&[1, 0, 1, 0x61], bad(27)),
+        (&[1, 0, 1, 0x61, 0], bad(27)),
+        (&[1, 0, 1, 0x61, 0, 1], bad(27)),
+        (&[1, 0, 1, 0x61, 0, 0], None),
+        (&[1, 0, 0, 0, 0], bad(27)),
+        (&[1, 0, 1, 0xff, 0, 0], bad(27)),
+        (&[1, 0, 1, 0x61, 0, 1, 0xc3], bad(27)),
+        (&[1, 0, 1, 0x61, 0, 0, 0], bad(33)),
+        (&[2, 0, 1, 0x61, 0, 0, 0, 1, 0x61, 0, 0], bad(27)),
+        (&[2, 0, 1, 0x62, 0, 0, 0, 1, 0x61, 0, 0], bad(27)),
+        (&[2, 0, 1, 0x61, 0, 0, 0, 1, 0x62, 0, 0], None),
+        (&[2, 0, 1, 0x61, 0, 0, 0, 2, 0x61, 0x61, 0, 0], None),
+    ];
+    for (behind, fault) in tags {
+        let mut bytes = Vec::new(rt.alloc());
+        bytes.extend_from_slice(&A_PUT[..27])?;
+        bytes.extend_from_slice(behind)?;
+        assert_eq!(rt; decode(rt.alloc(), &bytes).err(), fault);
+    }
+    // So many tags with the keys `a`, `b` and so on.
+    for (count, fault) in [(10, None), (11, bad(27))] {
+        let mut bytes = Vec::new(rt.alloc());
+        bytes.extend_from_slice(&A_PUT[..27])?;
+        bytes.push(count)?;
+        for n in 0..count {
+            bytes.extend_from_slice(&[0, 1, 0x61 + n, 0, 0])?;
+        }
+        assert_eq!(rt; decode(rt.alloc(), &bytes).err(), fault, "{count} tags");
+    }
+    // A key and a value of so many bytes `k`.
+    let sizes: [([u8; 2], usize, [u8; 2], usize, Option<EntryFault>); 4] = [
+        ([0, 0x80], 128, [1, 0], 256, None),
+        ([0, 0x81], 129, [1, 0], 256, bad(27)),
+        ([0, 0x80], 128, [1, 1], 257, bad(27)),
+        ([0, 0x80], 128, [1, 1], 256, bad(27)),
+    ];
+    for (key, key_size, value, value_size, fault) in sizes {
+        let mut bytes = Vec::new(rt.alloc());
+        bytes.extend_from_slice(&A_PUT[..27])?;
+        bytes.push(1)?;
+        bytes.extend_from_slice(&key)?;
+        bytes.extend_from_slice(&vec![in rt.alloc(); 0x6b; key_size]?)?;
+        bytes.extend_from_slice(&value)?;
+        bytes.extend_from_slice(&vec![in rt.alloc(); 0x6b; value_size]?)?;
+        assert_eq!(rt; decode(rt.alloc(), &bytes).err(), fault, "{key_size} {value_size}");
+    }
+    Ok(())
+}
+
+#[test]
+fn other_kinds_have_no_entry_yet(rt: HostRuntime) -> Result<(), Fail> {
+    let alloc = rt.alloc();
+    let entry = Entry {
+        moment: Moment::of(NEW_YEAR)?,
+        command: Command::Act {
+            bucket: BucketName::read(alloc, "logs")?,
+        },
+    };
+    assert!(rt; matches!(encode(alloc, &entry), Err(NoMemory)));
+    for kind in 0..=255 {
+        let mut bytes = LOGS;
+        bytes[8] = kind;
+        let expected = match kind {
+            1 => None,
+            5 => bad(15),
+            _ => bad(8),
+        };
+        assert_eq!(rt; decode(alloc, &bytes[..15]).err(), expected, "kind {kind}");
+    }
     Ok(())
 }
 
@@ -135,6 +259,7 @@ fn a_fault_names_its_field(rt: HostRuntime) -> Result<(), Fail> {
         (26, 0xff, 28, 26),
         (0, 0x00, 27, 27),
         (27, 0x01, 28, 27),
+        (27, 0x0b, 28, 27),
         (0, 0x00, 29, 28),
     ];
     for (place, byte, end, offset) in put {
@@ -144,6 +269,26 @@ fn a_fault_names_its_field(rt: HostRuntime) -> Result<(), Fail> {
             "{place} {byte} {end}"
         );
     }
+    // The number of tags, the lengths, a key that then does not rise, the end, and a byte too many.
+    let tagged = [
+        (27, 0x01, 49, 38),
+        (27, 0x03, 49, 27),
+        (29, 0x05, 49, 27),
+        (35, 0x03, 49, 27),
+        (40, 0x61, 49, 27),
+        (0, 0x00, 28, 27),
+        (0, 0x00, 38, 27),
+        (0, 0x00, 48, 27),
+        (0, 0x00, 50, 49),
+    ];
+    for (place, byte, end, offset) in tagged {
+        assert_eq!(rt;
+            fault(&rt, &TAGGED, place, byte, end)?,
+            bad(offset),
+            "{place} {byte} {end}"
+        );
+    }
+    assert_eq!(rt; fault(&rt, &TAGGED, 0, 0x00, 49)?, None);
     assert_eq!(rt; fault(&rt, &LOGS, 0, 0x00, 15)?, None);
     assert_eq!(rt; fault(&rt, &A_PUT, 0, 0x00, 28)?, None);
     Ok(())

@@ -5,7 +5,7 @@ use Rattle.std.specs.Str.{bytes_eq}
 use Rattle.std.specs.List.{flat_map}
 use Rattle.std.proofs.lemmas.Bool.{cases_lt, cases_eq}
 use Rattle.std.proofs.lemmas.Slice.Eq.{bytes_eq-Decides}
-use Rattle.plain_office.specs.declared.command.Entry.{Entry}
+use Rattle.office_types.specs.declared.command.Entry.{Entry}
 use Rattle.entry_codec.specs.Spelling.{spelling}
 use Rattle.meter_journal.specs.History.{mark, header, framed, whole, HasHistory}
 use Rattle.meter_journal.specs.Reading.{IsNotMade, IsMade, IsForeign}

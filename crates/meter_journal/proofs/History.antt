@@ -5,7 +5,7 @@ use Rattle.std.specs.List.{AllByRecursion}
 use Rattle.std.proofs.lemmas.Bool.{cases_eq}
 use Rattle.std.proofs.lemmas.List.{take_at, drop_at, drop-drop}
 use Rattle.std.proofs.lemmas.List.{flat_map_more}
-use Rattle.plain_office.specs.declared.command.Entry.{Entry}
+use Rattle.office_types.specs.declared.command.Entry.{Entry}
 use Rattle.entry_codec.specs.Spelling.{Fits, spelling}
 use Rattle.disk_core.specs.Files.{File, State, IsImage, put, synced_file}
 use Rattle.disk_core.specs.Kept.{KeepsFront, KeepsJournal, IsButOne}

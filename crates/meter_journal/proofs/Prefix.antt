@@ -5,10 +5,10 @@ use Rattle.std.specs.Int.{w32, to_be_bytes}
 use Rattle.std.proofs.lemmas.Bool.{eqb-true, eqb-false, ltb-false, leb-false}
 use Rattle.std.proofs.lemmas.Nat.{be_bytes_4}
 use Rattle.std.proofs.lemmas.List.{length-take, length-drop, drop-drop, drop_more}
-use Rattle.plain_office.specs.declared.command.Entry.{Entry}
+use Rattle.office_types.specs.declared.command.Entry.{Entry}
 use Rattle.entry_codec.specs.Reading.{entry_of}
 use Rattle.entry_codec.specs.Spelling.{Fits, entry_limit, spelling}
-use Rattle.entry_codec.proofs.Fields.{IsBytes, IsBytes-drop, IsBytes-take}
+use Rattle.entry_codec.proofs.Bytes.{IsBytes, IsBytes-drop, IsBytes-take}
 use Rattle.entry_codec.proofs.Laws.{entry_takes}
 use Rattle.entry_codec.proofs.Sizes.{spelling_short}
 use Rattle.meter_journal.specs.History.{framed, whole, HasEntries, IsAtRest}

@@ -9,7 +9,7 @@ use crate::fault::OpenFault;
 use crate::gate::OPEN;
 use crate::head::judge;
 use entry_codec::{EntryFault, decode};
-use plain_office::Entry;
+use office_types::Entry;
 use std::alloc::Global;
 
 /// Tells whether these are the bytes of a made journal file. Takes no memory.

@@ -4,7 +4,7 @@ ghost use Rattle.office_base.specs.Faults.{Rose, HasCause};
 ghost use Rattle.disk_core.specs.Files.{synced_file};
 ghost use Rattle.disk_core.specs.Kept.{Narrower};
 ghost use Rattle.disk_core.specs.Moments.{KeepsTo, Untouched};
-ghost use Rattle.plain_office.specs.declared.command.Entry.{Entry};
+ghost use Rattle.office_types.specs.declared.command.Entry.{Entry};
 ghost use Rattle.entry_codec.specs.Spelling.{IsEntry, Fits, entry_limit, spelling};
 ghost use Rattle.meter_journal.specs.History.{IsAtRest, BeforeOrAfter};
 ghost use Rattle.meter_journal.specs.Reading.{frame_at, size_at, NextGives, HeadGives, IsMade, HasStoreCause, from_or_first, Advances};
@@ -16,7 +16,7 @@ use crate::gate::open_gate;
 use crate::head::look;
 use crate::reading::frame_of;
 use disk_core::{Disk, Failed};
-use plain_office::Entry;
+use office_types::Entry;
 use std::alloc::Global;
 use std::marker::Model;
 

@@ -1,6 +1,6 @@
 // What holds of every file.
 ghost use Rattle.std.specs.Prelude.{◌≡◌, ◌↔◌, ℕ, List};
-ghost use Rattle.plain_office.specs.declared.command.Entry.{Entry};
+ghost use Rattle.office_types.specs.declared.command.Entry.{Entry};
 ghost use Rattle.meter_journal.specs.History.{HasEntries};
 ghost use Rattle.meter_journal.specs.Reading.{IsMade, IsNotMade, IsForeign, HasPrefix, GoesOn};
 

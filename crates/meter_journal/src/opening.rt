@@ -11,7 +11,7 @@ ghost use Rattle.meter_journal.specs.declared.fault.OpenFault.TheVariants.{Store
 use crate::fault::OpenFault;
 use crate::journal::Journal;
 use disk_core::Disk;
-use plain_office::Entry;
+use office_types::Entry;
 use std::alloc::Global;
 use std::marker::Model;
 

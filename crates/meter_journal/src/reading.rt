@@ -11,7 +11,7 @@ use crate::fault::OpenFault;
 use crate::gate::OPEN;
 use disk_core::{Disk, Failed, FileNo};
 use entry_codec::ENTRY_LIMIT;
-use plain_office::Entry;
+use office_types::Entry;
 use std::alloc::Global;
 
 fn byte_at<D: Disk>(disk: &mut D, at: u64) -> Result<u8, Failed>

@@ -1,5 +1,5 @@
 ghost use Rattle.std.specs.Prelude.{◌≤◌, ◌^◌, ℕ, List, IsTrue, IfOk, OnOk};
-ghost use Rattle.plain_office.specs.declared.command.Entry.{Entry};
+ghost use Rattle.office_types.specs.declared.command.Entry.{Entry};
 ghost use Rattle.meter_journal.specs.History.{IsAtRest};
 
 use super::*;
@@ -7,7 +7,7 @@ use disk_core::{Disk, FileNo, MemoryDisk};
 use entry_codec::encode;
 use moments::Moment;
 use office_base::BucketName;
-use plain_office::{Command, Entry};
+use office_types::{Command, Entry};
 use std::alloc::Global;
 use std::test::Fail;
 

@@ -1,0 +1,189 @@
+-- Each field keeps the laws of a format.
+use Rattle.std.proofs.Common.{◌≡◌, ℕ, zero, suc, ◌+◌, ◌<◌, ◌≤◌, Bool, true, false, ◌&&◌, cond, eqb, if◌then◌else◌, List, [], ◌∷◌, Option, Some, None, Result, Ok, Err, refl, sym, ap, subst, ◌∙◌, arith, is_none}
+use Rattle.std.specs.Prelude.{option_and_then}
+use Rattle.std.specs.Result.{result_ok}
+use Rattle.std.specs.Str.{is_utf8, bytes_eq}
+use Rattle.std.specs.List.{list_all}
+use Rattle.std.proofs.lemmas.Bool.{eqb-true}
+use Rattle.std.proofs.lemmas.Slice.Eq.{bytes_eq-Decides}
+use Rattle.std.proofs.lemmas.Bool.Decides.{nat_tests}
+use Rattle.class_rules.specs.Classes.{rank_of}
+use Rattle.class_rules.specs.declared.class.Class.{Class}
+use Rattle.class_rules.specs.declared.class.Class.TheVariants.{Standard, StandardIa, OnezoneIa, GlacierIr, Glacier, DeepArchive}
+use Rattle.office_base.specs.declared.version_id.VersionId.{VersionId}
+use Rattle.office_base.specs.declared.version_id.VersionId.TheVariants as version
+use Rattle.entry_codec.specs.Fields.{ranks, statuses, ids, utf8_text, tag, are_kept, is_configuration, if_printed, texts, Field, Name, Key, Size, Rank, Tags, Rules, Status, Id, Number4, Number8, Price, Year, Month, format, moment_format}
+use Rattle.entry_codec.specs.Kinds.{Kind, kinds, kind_format, number_of, is_built}
+use Rattle.entry_codec.specs.Kinds as kind
+use Rattle.std.specs.Int.{w8, w16, w32, w64}
+use Rattle.std.specs.Prelude.{nat_lt, nat_le}
+use Rattle.moments.specs.Time.{end_of_time}
+use Rattle.office_base.specs.Names.{is_bucket_name}
+use Rattle.office_base.specs.Keys.{is_key}
+use Rattle.office_base.specs.Sizes.{largest_size}
+use Rattle.office_base.specs.Tags.{Tag}
+use Rattle.tariff.specs.Prices.{is_price}
+use Rattle.rules_core.specs.Conditions.{first_flaw}
+use Rattle.rules_core.specs.Configurations.{Configuration, has_name, has_midnights, has_texts, IsConfiguration}
+use Rattle.rules_json.specs.Printing.{printed}
+use Rattle.rules_json.specs.Reading.{rules_of}
+use Rattle.rules_json.specs.declared.fault.RulesFault.{RulesFault}
+use Rattle.entry_codec.specs.Formats.{Format, number, text, ◌such_that◌, pair, list, coded}
+use Rattle.entry_codec.proofs.Built.{each_built}
+use Rattle.entry_codec.proofs.FormatLaws.{some_is, if_some, both, and_true, IsFormat, IsCode, number-IsFormat, text-IsFormat, such_that-IsFormat, pair-IsFormat, list-IsFormat, coded-IsFormat, wide8, wide16, wide32, wide64}
+
+ranks-IsCode : IsCode ranks
+ranks-IsCode = record { again = again; back = back }
+  where
+    again : (class : Class) → ranks.has class ≡ true → ranks.value (rank_of class) ≡ Some class
+    again Standard has = refl
+    again StandardIa has = refl
+    again OnezoneIa has = refl
+    again GlacierIr has = refl
+    again Glacier has = refl
+    again DeepArchive has = refl
+
+    back : (rank : ℕ) (class : Class) → ranks.value rank ≡ Some class → (rank_of class ≡ rank) × (ranks.has class ≡ true)
+    back rank class e = (grind (arith, nat_tests), refl)
+
+statuses-IsCode : IsCode statuses
+statuses-IsCode = record { again = again; back = back }
+  where
+    again : (enabled : Bool) → statuses.has enabled ≡ true → statuses.value (statuses.code enabled) ≡ Some enabled
+    again true has = refl
+    again false has = refl
+
+    back : (n : ℕ) (enabled : Bool) → statuses.value n ≡ Some enabled → (statuses.code enabled ≡ n) × (statuses.has enabled ≡ true)
+    back n true e = (grind (arith, nat_tests), refl)
+    back n false e = (grind (arith, nat_tests), refl)
+
+id_again : (n : ℕ) → ids.has (version.Number n) ≡ true → ids.value n ≡ Some (version.Number n)
+id_again n has = let some : eqb n 0 ≡ false = grind (arith, nat_tests) in rw some refl
+
+id_back : (b : Bool) (n : ℕ) (id : VersionId) → eqb n 0 ≡ b → Some (cond b version.Null (version.Number n)) ≡ Some id → (ids.code id ≡ n) × (ids.has id ≡ true)
+id_back true n id test e = subst (λ (v : VersionId). (ids.code v ≡ n) × (ids.has v ≡ true)) (some_is version.Null id e) (sym (eqb-true _ _ test), refl)
+id_back false n id test e =
+    let above : ids.has (version.Number n) ≡ true = grind (arith, nat_tests) in
+    subst (λ (v : VersionId). (ids.code v ≡ n) × (ids.has v ≡ true)) (some_is (version.Number n) id e) (refl, above)
+
+ids-IsCode : IsCode ids
+ids-IsCode = record { again = again; back = λ n id e. id_back (eqb n 0) n id refl e }
+  where
+    again : (id : VersionId) → ids.has id ≡ true → ids.value (ids.code id) ≡ Some id
+    again version.Null has = refl
+    again (version.Number n) has = id_again n has
+
+kind_back : (make put : Bool) (n : ℕ) (k : Kind) → eqb 1 n ≡ make → eqb 5 n ≡ put → cond make (Some kind.CreateBucket) (cond put (Some kind.Put) None) ≡ Some k → (number_of k ≡ n) × (is_built k ≡ true)
+kind_back true put n k is_make is_put e = subst (λ (x : Kind). (number_of x ≡ n) × (is_built x ≡ true)) (some_is kind.CreateBucket k e) (eqb-true _ _ is_make, refl)
+kind_back false true n k is_make is_put e = subst (λ (x : Kind). (number_of x ≡ n) × (is_built x ≡ true)) (some_is kind.Put k e) (eqb-true _ _ is_put, refl)
+kind_back false false n k is_make is_put e = absurd cc
+
+kinds-IsCode : IsCode kinds
+kinds-IsCode = record {
+  again = each_built (λ k. kinds.value (number_of k) ≡ Some k) refl refl;
+  back = λ n k e. kind_back (eqb 1 n) (eqb 5 n) n k refl refl e;
+}
+
+-- ---- configurations
+
+-- each configuration is read again from its text
+abbrev pub RulesReadBack : Type 0
+RulesReadBack = (rules : Configuration) → IsConfiguration rules → rules_of (printed rules) ≡ Ok rules
+
+is_nothing : {A : Type 0} (o : Option A) → is_none o ≡ true → o ≡ None
+is_nothing None is = refl
+is_nothing (Some x) is = absurd cc
+
+pub kept : (rules : Configuration) → is_configuration rules ≡ true → IsConfiguration rules
+kept rules is =
+    let last = both (is_none (first_flaw rules.rules) && list_all has_name rules.rules && list_all has_midnights rules.rules) (list_all has_texts rules.rules) is in
+    let third = both (is_none (first_flaw rules.rules) && list_all has_name rules.rules) (list_all has_midnights rules.rules) last.0 in
+    let second = both (is_none (first_flaw rules.rules)) (list_all has_name rules.rules) third.0 in
+    record { flawless = is_nothing (first_flaw rules.rules) second.0; named = second.1; midnights = third.1; texts = last.1 }
+
+same_text : (t : List ℕ) → bytes_eq t t ≡ true
+same_text t = (bytes_eq-Decides t t).1 refl
+
+texts-IsCode : RulesReadBack → IsCode texts
+texts-IsCode law = record { again = again; back = back }
+  where
+    again : (rules : Configuration) → is_configuration rules ≡ true → texts.value (printed rules) ≡ Some rules
+    again rules has =
+        ap (λ (r : Result Configuration RulesFault). option_and_then (if_printed (printed rules)) (result_ok r)) (law rules (kept rules has))
+        ∙ ap (λ (b : Bool). if b then Some rules else None) (and_true _ _ has (same_text (printed rules)))
+
+    found : (t : List ℕ) (o : Option Configuration) (rules : Configuration) → option_and_then (if_printed t) o ≡ Some rules → (printed rules ≡ t) × (is_configuration rules ≡ true)
+    found t None rules e = absurd cc
+    found t (Some read) rules e =
+        let g = if_some (is_configuration read && bytes_eq t (printed read)) read rules e in
+        let parts = both _ _ g.0 in
+        subst (λ (r : Configuration). (printed r ≡ t) × (is_configuration r ≡ true)) g.1 (sym ((bytes_eq-Decides t (printed read)).0 parts.1), parts.0)
+
+    back : (t : List ℕ) (rules : Configuration) → texts.value t ≡ Some rules → (printed rules ≡ t) × (is_configuration rules ≡ true)
+    back t rules e = found t (result_ok (rules_of t)) rules e
+
+-- ---- fields
+
+two_bytes : IsFormat (number w16)
+two_bytes = number-IsFormat w16 wide16
+
+two_byte_text : IsFormat (text (number w16))
+two_byte_text = text-IsFormat (number w16) two_bytes
+
+pub name-IsFormat : IsFormat (format Name)
+unfolding format
+name-IsFormat = such_that-IsFormat (text (number w16)) is_bucket_name two_byte_text
+
+pub key-IsFormat : IsFormat (format Key)
+unfolding format
+key-IsFormat = such_that-IsFormat (text (number w16)) is_key two_byte_text
+
+pub size-IsFormat : IsFormat (format Size)
+unfolding format
+size-IsFormat = such_that-IsFormat (number w64) (λ size. nat_le size largest_size) (number-IsFormat w64 wide64)
+
+pub rank-IsFormat : IsFormat (format Rank)
+unfolding format
+rank-IsFormat = coded-IsFormat (number w8) ranks (number-IsFormat w8 wide8) ranks-IsCode
+
+abbrev few : Format ℕ
+few = number w8 such_that λ n. nat_le n 10
+
+utf8-IsFormat : IsFormat utf8_text
+unfolding utf8_text
+utf8-IsFormat = such_that-IsFormat (text (number w16)) is_utf8 two_byte_text
+
+tag-IsFormat : IsFormat tag
+unfolding tag
+tag-IsFormat = pair-IsFormat utf8_text utf8_text utf8-IsFormat utf8-IsFormat
+
+pub tags-IsFormat : IsFormat (format Tags)
+unfolding format
+tags-IsFormat =
+    let count = such_that-IsFormat (number w8) (λ n. nat_le n 10) (number-IsFormat w8 wide8) in
+    such_that-IsFormat (list few tag) are_kept (list-IsFormat few tag count tag-IsFormat)
+
+-- each field; configurations by the law of their texts
+pub format-IsFormat : RulesReadBack → (field : Field) → IsFormat (format field)
+unfolding format
+format-IsFormat law Name = name-IsFormat
+format-IsFormat law Key = key-IsFormat
+format-IsFormat law Size = size-IsFormat
+format-IsFormat law Rank = rank-IsFormat
+format-IsFormat law Tags = tags-IsFormat
+format-IsFormat law Rules = coded-IsFormat (text (number w32)) texts (text-IsFormat (number w32) (number-IsFormat w32 wide32)) (texts-IsCode law)
+format-IsFormat law Status = coded-IsFormat (number w8) statuses (number-IsFormat w8 wide8) statuses-IsCode
+format-IsFormat law Id = coded-IsFormat (number w64) ids (number-IsFormat w64 wide64) ids-IsCode
+format-IsFormat law Number4 = number-IsFormat w32 wide32
+format-IsFormat law Number8 = number-IsFormat w64 wide64
+format-IsFormat law Price = such_that-IsFormat (number w32) is_price (number-IsFormat w32 wide32)
+format-IsFormat law Year = such_that-IsFormat (number w16) (λ year. nat_le 1970 year && nat_le year 2099) two_bytes
+format-IsFormat law Month = such_that-IsFormat (number w8) (λ month. nat_le 1 month && nat_le month 12) (number-IsFormat w8 wide8)
+
+pub moment-IsFormat : IsFormat moment_format
+unfolding moment_format
+moment-IsFormat = such_that-IsFormat (number w64) (λ moment. nat_lt moment end_of_time) (number-IsFormat w64 wide64)
+
+pub kind-IsFormat : IsFormat kind_format
+unfolding kind_format
+kind-IsFormat = coded-IsFormat (number w8) kinds (number-IsFormat w8 wide8) kinds-IsCode

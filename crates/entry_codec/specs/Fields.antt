@@ -1,0 +1,119 @@
+-- The fields of entries, each with its format (own).
+use Rattle.std.specs.Prelude.{◌≡◌, ℕ, zero, suc, ◌-◌, Bool, true, false, ◌&&◌, nat_lt, nat_le, ◌==◌, List, [], ◌∷◌, ◌++◌, length, Option, Some, None, option_and_then, if◌then◌else◌, is_none}
+use Rattle.std.specs.Result.{result_ok}
+use Rattle.std.specs.Int.{w8, w16, w32, w64}
+use Rattle.std.specs.List.{find, list_all}
+use Rattle.std.specs.Str.{is_utf8, bytes_eq}
+use Rattle.moments.specs.Time.{end_of_time}
+use Rattle.office_base.specs.Names.{is_bucket_name}
+use Rattle.office_base.specs.Keys.{is_key}
+use Rattle.office_base.specs.Sizes.{largest_size}
+use Rattle.office_base.specs.Tags.{Tag, is_tag, keys_rise}
+use Rattle.office_base.specs.declared.version_id.VersionId.{VersionId}
+use Rattle.office_base.specs.declared.version_id.VersionId.TheVariants as version
+use Rattle.class_rules.specs.Classes.{all_classes, rank_of}
+use Rattle.class_rules.specs.declared.class.Class.{Class}
+use Rattle.rules_core.specs.Conditions.{first_flaw}
+use Rattle.rules_core.specs.Configurations.{Configuration, has_name, has_midnights, has_texts}
+use Rattle.rules_json.specs.Printing.{printed}
+use Rattle.rules_json.specs.Reading.{rules_of}
+use Rattle.tariff.specs.Prices.{is_price}
+use Rattle.entry_codec.specs.Formats.{Format, number, text, ◌such_that◌, pair, list, Code, coded}
+
+-- ---- values that are written as numbers, and configurations, which are written as their texts
+
+-- a class by its rank
+abbrev pub ranks : Code ℕ Class
+ranks = record { code = rank_of; has = λ class. true; value = λ rank. find (λ class. rank_of class == rank) all_classes }
+
+-- versioning that is set: 1 to enabled, 2 to suspended
+abbrev pub status_code : Bool → ℕ
+status_code true = 1
+status_code false = 2
+
+abbrev pub status_of : ℕ → Option Bool
+status_of status = if status == 1 then Some true else if status == 2 then Some false else None
+
+abbrev pub statuses : Code ℕ Bool
+statuses = record { code = status_code; has = λ enabled. true; value = status_of }
+
+-- the id of a version by its number, the null version by 0
+abbrev pub id_code : VersionId → ℕ
+id_code version.Null = 0
+id_code (version.Number n) = n
+
+abbrev pub is_id : VersionId → Bool
+is_id version.Null = true
+is_id (version.Number n) = nat_lt 0 n
+
+abbrev pub id_of : ℕ → Option VersionId
+id_of n = Some (if n == 0 then version.Null else version.Number n)
+
+abbrev pub ids : Code ℕ VersionId
+ids = record { code = id_code; has = is_id; value = id_of }
+
+-- a text in UTF-8 behind two bytes of length
+unfoldable pub utf8_text : Format (List ℕ)
+utf8_text = text (number w16) such_that is_utf8
+
+unfoldable pub tag : Format Tag
+tag = pair utf8_text utf8_text
+
+-- tags as an object keeps them, beside their number (S3 User Guide, "Categorizing your objects using tags"; the order is own)
+abbrev pub are_kept : List Tag → Bool
+are_kept tags = list_all is_tag tags && keys_rise tags
+
+-- a configuration as it is kept
+abbrev pub is_configuration : Configuration → Bool
+is_configuration configuration =
+    is_none (first_flaw configuration.rules) && list_all has_name configuration.rules
+    && list_all has_midnights configuration.rules && list_all has_texts configuration.rules
+
+-- a configuration by its one text
+abbrev pub if_printed : List ℕ → Configuration → Option Configuration
+if_printed t configuration = if is_configuration configuration && bytes_eq t (printed configuration) then Some configuration else None
+
+abbrev pub texts : Code (List ℕ) Configuration
+texts = record { code = printed; has = is_configuration; value = λ t. option_and_then (if_printed t) (result_ok (rules_of t)) }
+
+-- ---- fields
+
+-- the kinds of fields
+pub data Field : Type 0 where
+  Name Key Size Rank Tags Rules Status Id Number4 Number8 Price Year Month : Field
+
+-- what a field holds
+abbrev pub Holds : Field → Type 0
+Holds Name = List ℕ
+Holds Key = List ℕ
+Holds Size = ℕ
+Holds Rank = Class
+Holds Tags = List Tag
+Holds Rules = Configuration
+Holds Status = Bool
+Holds Id = VersionId
+Holds Number4 = ℕ
+Holds Number8 = ℕ
+Holds Price = ℕ
+Holds Year = ℕ
+Holds Month = ℕ
+
+-- how each field stands in bytes, and its range
+unfoldable pub format : (field : Field) → Format (Holds field)
+format Name = text (number w16) such_that is_bucket_name
+format Key = text (number w16) such_that is_key
+format Size = number w64 such_that λ size. nat_le size largest_size
+format Rank = coded (number w8) ranks
+format Tags = list (number w8 such_that λ n. nat_le n 10) tag such_that are_kept
+format Rules = coded (text (number w32)) texts
+format Status = coded (number w8) statuses
+format Id = coded (number w64) ids
+format Number4 = number w32
+format Number8 = number w64
+format Price = number w32 such_that is_price
+format Year = number w16 such_that λ year. nat_le 1970 year && nat_le year 2099
+format Month = number w8 such_that λ month. nat_le 1 month && nat_le month 12
+
+-- the moment at which an entry begins, in ms
+unfoldable pub moment_format : Format ℕ
+moment_format = number w64 such_that λ moment. nat_lt moment end_of_time

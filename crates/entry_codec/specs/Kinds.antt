@@ -1,0 +1,106 @@
+-- The kinds of entries. Each has a number and fields (own), and stands for one command.
+use Rattle.std.specs.Prelude.{ℕ, ◌==◌, Bool, true, false, ◌&&◌, List, [], ◌∷◌, ◌++◌, slice_index}
+use Rattle.std.specs.Int.{w8}
+use Rattle.std.specs.List.{find, repeat}
+use Rattle.moments.specs.Months.{year_of, month_of_year, month_number}
+use Rattle.office_types.specs.declared.command.Command.{Command}
+use Rattle.office_types.specs.declared.command.Command.TheVariants as command
+use Rattle.entry_codec.specs.Formats.{Format, number, Code, coded}
+use Rattle.entry_codec.specs.Fields.{Field, Name, Key, Size, Rank, Tags, Rules, Status, Id, Number4, Number8, Price, Year, Month, Holds}
+
+pub data Kind : Type 0 where
+  CreateBucket SetVersioning SetRules DropRules Put Delete DeleteVersion SetTags StartUpload PutPart Complete Abort Act SetTariff Close : Kind
+
+abbrev pub all_kinds : List Kind
+all_kinds =
+    CreateBucket ∷ SetVersioning ∷ SetRules ∷ DropRules ∷ Put ∷ Delete ∷ DeleteVersion ∷ SetTags ∷ StartUpload ∷ PutPart ∷ Complete ∷ Abort
+    ∷ Act ∷ SetTariff ∷ Close ∷ []
+
+-- the number of each kind, and its fields
+abbrev pub row : Kind → ℕ × List Field
+row CreateBucket = (0x01, Name ∷ [])
+row SetVersioning = (0x02, Name ∷ Status ∷ [])
+row SetRules = (0x03, Name ∷ Rules ∷ [])
+row DropRules = (0x04, Name ∷ [])
+row Put = (0x05, Name ∷ Key ∷ Size ∷ Rank ∷ Tags ∷ [])
+row Delete = (0x06, Name ∷ Key ∷ [])
+row DeleteVersion = (0x07, Name ∷ Key ∷ Id ∷ [])
+row SetTags = (0x08, Name ∷ Key ∷ Id ∷ Tags ∷ [])
+row StartUpload = (0x09, Name ∷ Key ∷ Rank ∷ Tags ∷ [])
+row PutPart = (0x0A, Name ∷ Number8 ∷ Number4 ∷ Number8 ∷ [])
+row Complete = (0x0B, Name ∷ Number8 ∷ [])
+row Abort = (0x0C, Name ∷ Number8 ∷ [])
+row Act = (0x0D, Name ∷ [])
+row SetTariff = (0x0E, repeat 11 (Price ∷ []))
+row Close = (0x0F, Year ∷ Month ∷ [])
+
+-- the kinds that entries have by now; the others are unknown
+abbrev pub is_built : Kind → Bool
+is_built CreateBucket = true
+is_built Put = true
+is_built kind = false
+
+abbrev pub number_of : Kind → ℕ
+number_of kind = (row kind).0
+
+abbrev pub fields_of : Kind → List Field
+fields_of kind = (row kind).1
+
+-- a kind by its number
+abbrev pub kinds : Code ℕ Kind
+kinds = record { code = number_of; has = is_built; value = λ n. find (λ kind. is_built kind && number_of kind == n) all_kinds }
+
+unfoldable pub kind_format : Format Kind
+kind_format = coded (number w8) kinds
+
+-- ---- commands
+
+-- a value for each field
+abbrev pub Values : List Field → Type 0
+Values [] = Unit {0}
+Values (field ∷ fields) = Holds field × Values fields
+
+-- a kind, and a value for each of its fields
+pub record Parts : Type 0 where
+  pub kind : Kind
+  pub values : Values (fields_of kind)
+
+-- the parts of a command, each value under its field
+abbrev pub parts_of : Command → Parts
+parts_of (command.CreateBucket bucket) = record { kind = CreateBucket; values = (bucket, tt) }
+parts_of (command.SetVersioning bucket enabled) = record { kind = SetVersioning; values = (bucket, (enabled, tt)) }
+parts_of (command.SetRules bucket rules) = record { kind = SetRules; values = (bucket, (rules, tt)) }
+parts_of (command.DropRules bucket) = record { kind = DropRules; values = (bucket, tt) }
+parts_of (command.Put bucket key size class tags) = record { kind = Put; values = (bucket, (key, (size, (class, (tags, tt))))) }
+parts_of (command.Delete bucket key) = record { kind = Delete; values = (bucket, (key, tt)) }
+parts_of (command.DeleteVersion bucket key id) = record { kind = DeleteVersion; values = (bucket, (key, (id, tt))) }
+parts_of (command.SetTags bucket key id tags) = record { kind = SetTags; values = (bucket, (key, (id, (tags, tt)))) }
+parts_of (command.StartUpload bucket key class tags) = record { kind = StartUpload; values = (bucket, (key, (class, (tags, tt)))) }
+parts_of (command.PutPart bucket upload part size) = record { kind = PutPart; values = (bucket, (upload, (part, (size, tt)))) }
+parts_of (command.Complete bucket upload) = record { kind = Complete; values = (bucket, (upload, tt)) }
+parts_of (command.Abort bucket upload) = record { kind = Abort; values = (bucket, (upload, tt)) }
+parts_of (command.Act bucket) = record { kind = Act; values = (bucket, tt) }
+parts_of (command.SetTariff tariff) =
+    let s = slice_index tariff.storage in
+    let t = slice_index tariff.transition in
+    record { kind = SetTariff; values = (s 0, (s 1, (s 2, (s 3, (s 4, (s 5, (t 0, (t 1, (t 2, (t 3, (t 4, tt))))))))))) }
+parts_of (command.Close month) = record { kind = Close; values = (year_of month, (month_of_year month, tt)) }
+
+-- the command of a kind with these values
+abbrev pub command_of : (kind : Kind) → Values (fields_of kind) → Command
+command_of CreateBucket (bucket, none) = command.CreateBucket bucket
+command_of SetVersioning (bucket, (enabled, none)) = command.SetVersioning bucket enabled
+command_of SetRules (bucket, (rules, none)) = command.SetRules bucket rules
+command_of DropRules (bucket, none) = command.DropRules bucket
+command_of Put (bucket, (key, (size, (class, (tags, none))))) = command.Put bucket key size class tags
+command_of Delete (bucket, (key, none)) = command.Delete bucket key
+command_of DeleteVersion (bucket, (key, (id, none))) = command.DeleteVersion bucket key id
+command_of SetTags (bucket, (key, (id, (tags, none)))) = command.SetTags bucket key id tags
+command_of StartUpload (bucket, (key, (class, (tags, none)))) = command.StartUpload bucket key class tags
+command_of PutPart (bucket, (upload, (part, (size, none)))) = command.PutPart bucket upload part size
+command_of Complete (bucket, (upload, none)) = command.Complete bucket upload
+command_of Abort (bucket, (upload, none)) = command.Abort bucket upload
+command_of Act (bucket, none) = command.Act bucket
+command_of SetTariff (a, (b, (c, (d, (e, (f, (g, (h, (i, (j, (k, none))))))))))) =
+    command.SetTariff (record { storage = a ∷ b ∷ c ∷ d ∷ e ∷ f ∷ []; transition = g ∷ h ∷ i ∷ j ∷ k ∷ [] })
+command_of Close (year, (month, none)) = command.Close (month_number year month)

@@ -1,0 +1,157 @@
+// Reading the parts of which fields consist. A reader takes its value from the front of the bytes, and gives what is left then;
+// it gives None where no such value stands there.
+ghost use Rattle.std.specs.Prelude.{◌≡◌, ◌+◌, ◌<◌, ◌≤◌, ◌^◌, ◌&&◌, List, length, option_map, IfOk};
+ghost use Rattle.std.specs.Int.{w8, w16, w64};
+ghost use Rattle.office_base.specs.Tags.{tag_of, tags_of, comes_before, keys_rise};
+ghost use Rattle.entry_codec.specs.Formats.{number, text, front_items};
+ghost use Rattle.entry_codec.specs.Fields as field;
+ghost use Rattle.entry_codec.specs.Fields.{utf8_text, tag, format};
+ghost use Rattle.entry_codec.specs.Reading.{Finds};
+
+use office_base::{NameRefusal, NoMemory, Tags};
+use std::alloc::{AllocError, Global};
+
+pub(crate) fn u8_in(bytes: &[u8]) -> Option<(u8, &[u8])>
+    ensures { option_map (λ x. (x.0, x.1.now)) result ≡ (number w8).front bytes.now }
+{
+    if bytes.is_empty() {
+        return None;
+    }
+    let (front, rest) = bytes.split_at(1);
+    Some((front[0], rest))
+}
+
+pub(crate) fn u16_in(bytes: &[u8]) -> Option<(u16, &[u8])>
+    ensures { option_map (λ x. (x.0, x.1.now)) result ≡ (number w16).front bytes.now }
+{
+    if bytes.len() < 2 {
+        return None;
+    }
+    let (front, rest) = bytes.split_at(2);
+    Some((u16::from_be_bytes([front[0], front[1]]), rest))
+}
+
+pub(crate) fn u64_in(bytes: &[u8]) -> Option<(u64, &[u8])>
+    ensures { option_map (λ x. (x.0, x.1.now)) result ≡ (number w64).front bytes.now }
+{
+    if bytes.len() < 8 {
+        return None;
+    }
+    let (front, rest) = bytes.split_at(8);
+    let number = u64::from_be_bytes([
+        front[0], front[1], front[2], front[3], front[4], front[5], front[6], front[7],
+    ]);
+    Some((number, rest))
+}
+
+// A length in two bytes, and so many bytes.
+pub(crate) fn counted_in(bytes: &[u8]) -> Option<(&[u8], &[u8])>
+    ensures { option_map (λ x. (x.0.now, x.1.now)) result ≡ (text (number w16)).front bytes.now }
+{
+    let (len, rest) = u16_in(bytes)?;
+    if rest.len() < len as usize {
+        return None;
+    }
+    Some(rest.split_at(len as usize))
+}
+
+// The same, in UTF-8.
+#[tactic(auto, using(office_base::proofs::Utf8::utf8_is, office_base::proofs::Utf8::utf8_is_not), unfolding(crate::specs::Fields::utf8_text))]
+fn text_in(bytes: &[u8]) -> Option<(&str, &[u8])>
+    ensures { option_map (λ x. (x.0.now, x.1.now)) result ≡ utf8_text.front bytes.now }
+{
+    let (text, rest) = counted_in(bytes)?;
+    match str::from_utf8(text) {
+        Ok(text) => Some((text, rest)),
+        Err(_) => None,
+    }
+}
+
+// A key and a value, each in UTF-8.
+#[tactic(auto, unfolding(crate::specs::Fields::tag))]
+fn tag_in(alloc: Global, bytes: &[u8]) -> Result<Option<((String, String), &[u8])>, NoMemory>
+    ensures { Finds (λ x. (tag_of x.0, x.1.now)) result (tag.front bytes.now) }
+{
+    let Some((key, rest)) = text_in(bytes) else {
+        return Ok(None);
+    };
+    let Some((value, rest)) = text_in(rest) else {
+        return Ok(None);
+    };
+    match pair_of(alloc, key, value) {
+        Ok(pair) => Ok(Some((pair, rest))),
+        Err(_) => Err(NoMemory),
+    }
+}
+
+fn pair_of(alloc: Global, key: &str, value: &str) -> Result<(String, String), AllocError>
+    ensures { IfOk result (λ pair. tag_of pair ≡ (key.now, value.now)) }
+{
+    Ok((String::from_str(alloc, key)?, String::from_str(alloc, value)?))
+}
+
+// So many of them.
+fn pairs_in(
+    alloc: Global,
+    count: u8,
+    bytes: &[u8],
+) -> Result<Option<(Vec<(String, String)>, &[u8])>, NoMemory>
+    ensures { Finds (λ x. (tags_of x.0.items, x.1.now)) result (front_items tag count bytes.now) }
+{
+    let mut pairs = Vec::new(alloc);
+    let mut rest = bytes;
+    for _ in 0..count {
+        let Some((pair, after)) = tag_in(alloc, rest)? else {
+            return Ok(None);
+        };
+        if pairs.push(pair).is_err() {
+            return Err(NoMemory);
+        }
+        rest = after;
+    }
+    Ok(Some((pairs, rest)))
+}
+
+fn is_before(first: &(String, String), second: &(String, String)) -> bool
+    ensures { result ≡ comes_before (tag_of first.now) (tag_of second.now) }
+{
+    first.0.as_str() < second.0.as_str()
+}
+
+// The keys rise.
+fn rise(pairs: &[(String, String)]) -> bool
+    ensures { result ≡ keys_rise (tags_of pairs.now) }
+{
+    match pairs {
+        [first, rest @ ..] => match rest {
+            [second, ..] => is_before(first, second) && rise(rest),
+            [] => true,
+        },
+        [] => true,
+    }
+}
+
+/// Tags: their number in a byte, at most 10, and the pairs, whose keys rise.
+pub(crate) fn tags_in(alloc: Global, bytes: &[u8]) -> Result<Option<(Tags, &[u8])>, NoMemory>
+    ensures { Finds (λ x. (x.0, x.1.now)) result ((format field.Tags).front bytes.now) }
+{
+    let Some((count, rest)) = u8_in(bytes) else {
+        return Ok(None);
+    };
+    if count > 10 {
+        return Ok(None);
+    }
+    let Some((pairs, rest)) = pairs_in(alloc, count, rest)? else {
+        return Ok(None);
+    };
+    if !rise(&pairs) {
+        return Ok(None);
+    }
+    match Tags::read(alloc, pairs) {
+        Ok(tags) => Ok(Some((tags, rest))),
+        Err(e) => match e {
+            NameRefusal::NoMemory => Err(NoMemory),
+            _ => Ok(None),
+        },
+    }
+}
