@@ -1,6 +1,6 @@
 -- What a refusal tells of a request.
 use Rattle.std.specs.Prelude.{◌≡◌, string_bytes, Result, Ok, Err, ⊤}
-use Rattle.plain_office.specs.declared.command.Ask.{Ask}
+use Rattle.office_types.specs.declared.command.Ask.{Ask}
 use Rattle.http_bodies.specs.declared.put.PutBody.{PutBody}
 use Rattle.http_bodies.specs.Flaws as flaws
 use Rattle.http_asks.specs.Meaning.{Refused, not_a_month, bad_bucket_name, bad_key, flawed, not_built, Meant, asks, refuses}

@@ -5,10 +5,10 @@ use Rattle.office_base.specs.Names.{is_bucket_name}
 use Rattle.office_base.specs.Tags.{Tag}
 use Rattle.moments.specs.Dates.{is_month, year_in, month_in}
 use Rattle.moments.specs.Months.{month_number}
-use Rattle.plain_office.specs.declared.command.Ask.{Ask}
-use Rattle.plain_office.specs.declared.command.Ask.TheVariants.{Command, Query}
-use Rattle.plain_office.specs.declared.command.Command.TheVariants.{CreateBucket, Put}
-use Rattle.plain_office.specs.declared.command.Query.TheVariants.{Bucket, Meters}
+use Rattle.office_types.specs.declared.command.Ask.{Ask}
+use Rattle.office_types.specs.declared.command.Ask.TheVariants.{Command, Query}
+use Rattle.office_types.specs.declared.command.Command.TheVariants.{CreateBucket, Put}
+use Rattle.office_types.specs.declared.command.Query.TheVariants.{Bucket, Meters}
 use Rattle.http_bodies.specs.declared.put.PutBody.{PutBody}
 use Rattle.http_bodies.specs.Flaws.{BodyFlaw}
 use Rattle.http_bodies.specs.Puts.{put_of}
@@ -58,7 +58,7 @@ if_untagged (tag ∷ tags) meant = refuses not_built
 
 -- an object is put under a key as its body says
 abbrev pub put_meant : List ℕ → List ℕ → Result PutBody BodyFlaw → Meant
-put_meant name key (Ok body) = if_untagged body.tags (asks (Command (Put name key body.size body.class)))
+put_meant name key (Ok body) = if_untagged body.tags (asks (Command (Put name key body.size body.class body.tags)))
 put_meant name key (Err flaw) = refuses (flawed flaw)
 
 -- an object is put, under the key that the target spells

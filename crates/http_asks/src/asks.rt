@@ -9,7 +9,7 @@ ghost use Rattle.http_asks.specs.Meaning.{Means, if_name, if_key, put_meant, buc
 use crate::bad::{Bad, Fault};
 use crate::parts::{bucket_name, month_of, object_key, put_body};
 use http_routes::{Route, Routes};
-use plain_office::{Ask, Command, Query};
+use office_types::{Ask, Command, Query};
 use std::alloc::Global;
 
 #[tactic(auto, unfolding(crate::specs::Meaning::bucket_meant))]
@@ -42,6 +42,7 @@ fn put_ask(alloc: Global, name: &str, key: &str, body: &[u8]) -> Result<Ask, Fau
         key,
         size: body.size,
         class: body.class,
+        tags: body.tags,
     }))
 }
 

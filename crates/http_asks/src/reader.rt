@@ -19,7 +19,7 @@ use crate::bad::{Bad, Fault};
 use http_routes::Routes;
 use http_wire::{Buffer, Message, MessageStop, Next, Source, read_message};
 use office_base::NoMemory;
-use plain_office::Ask;
+use office_types::Ask;
 use std::alloc::Global;
 use std::marker::Model;
 

@@ -1,8 +1,8 @@
 -- Replies computed on examples.
-use Rattle.std.specs.Prelude.{◌≡◌, ℕ, List, [], ◌∷◌, codes, refl, Some, None, Ok, Err}
+use Rattle.std.specs.Prelude.{◌≡◌, [], ◌∷◌, codes, refl, Some, None, Ok, Err}
 use Rattle.std.specs.Fmt.{digits}
 use Rattle.jiff_core.specs.Calendar.{days_of_months}
-use Rattle.csv.proofs.OnLiterals.{csv_on_literals}
+use Rattle.csv.specs.Writing.{escaped, fields_text, is_blank}
 use Rattle.serde_json.proofs.OnLiterals.{serde_json_on_literals}
 use Rattle.moments.specs.Months.{first_day, months_over}
 use Rattle.moments.specs.Texts.{moment_text}
@@ -18,7 +18,6 @@ use Rattle.office_types.specs.declared.reply.Reply.TheVariants.{Chosen, NothingD
 use Rattle.office_types.specs.declared.refusal.Refusal.TheVariants.{MonthNotOver, DueActions}
 use Rattle.http_text.specs.Reports.{report_csv}
 use Rattle.http_text.specs.Replies.{body_text, answer_text, head_text, reply_with}
-
 
 nothing_due : answer_text (Ok NothingDue) ≡ codes "HTTP/1.1 200 OK\r\ncontent-type: application/json\r\ncontent-length: 17\r\n\r\n{\"action\":\"none\"}"
 unfolding head_text reply_with digits serde_json_on_literals
@@ -49,10 +48,10 @@ due_actions = refl
 
 -- a delete marker above an object with a tag
 versions : body_text (Ok (StackShown (codes "a") (record {
-      changed = 1_704_067_200_000;
-      versions = (record { id = Number 2; kind = Marker; created = 1_704_067_200_000; ceased = 1_704_067_200_000 })
-        ∷ (record { id = Null; kind = Object 5 Standard ((codes "kind", codes "raw") ∷ []) 0; created = 0; ceased = 1_704_067_200_000 }) ∷ [];
-    })))
+  changed = 1_704_067_200_000;
+  versions = (record { id = Number 2; kind = Marker; created = 1_704_067_200_000; ceased = 1_704_067_200_000 })
+      ∷ (record { id = Null; kind = Object 5 Standard ((codes "kind", codes "raw") ∷ []) 0; created = 0; ceased = 1_704_067_200_000 }) ∷ [];
+})))
     ≡ codes "{\"changed\":\"2024-01-01T00:00:00.000Z\",\"key\":\"a\",\"versions\":[{\"created\":\"2024-01-01T00:00:00.000Z\",\"kind\":\"marker\",\"version\":\"2\"},{\"class\":\"STANDARD\",\"created\":\"1970-01-01T00:00:00.000Z\",\"entered\":\"1970-01-01T00:00:00.000Z\",\"kind\":\"object\",\"noncurrent_since\":\"2024-01-01T00:00:00.000Z\",\"size\":5,\"tags\":{\"kind\":\"raw\"},\"version\":\"null\"}]}"
 unfolding body_text serde_json_on_literals digits moment_text months_over first_day days_of_months
 versions = refl
@@ -74,13 +73,13 @@ rules configuration = refl
 
 -- one GiB in STANDARD for the whole of January 2024
 january_report : body_text (Ok (Report ((record {
-      bucket = codes "logs";
-      kind = Storage;
-      class = Standard;
-      quantity = 2_875_910_101_401_600_000;
-      price = 23_000;
-      charge = 23_000;
-    }) ∷ [])))
+  bucket = codes "logs";
+  kind = Storage;
+  class = Standard;
+  quantity = 2_875_910_101_401_600_000;
+  price = 23_000;
+  charge = 23_000;
+}) ∷ [])))
     ≡ codes "bucket,line,class,quantity,price,charge\nlogs,storage,STANDARD,2875910101401600000,23000,23000\n,total,,,,23000\n"
-unfolding body_text report_csv csv_on_literals digits
+unfolding body_text report_csv escaped fields_text is_blank digits
 january_report = refl

@@ -1,5 +1,5 @@
 -- How long the bodies are.
-use Rattle.std.proofs.Common.{◌≡◌, ℕ, ◌+◌, ◌*◌, ◌^◌, ◌<◌, ◌≤◌, true, List, [], ◌∷◌, ◌++◌, length, slice_index_or, codes, decimal, refl, ap, arith, length-append, Option, Some, None, Ok, Err}
+use Rattle.std.proofs.Common.{◌≡◌, ℕ, ◌+◌, ◌*◌, ◌^◌, ◌<◌, ◌≤◌, true, List, ◌++◌, length, slice_index_or, codes, decimal, refl, ap, arith, length-append, Option, Ok, Err}
 use Rattle.std.specs.Str.{is_utf8}
 use Rattle.std.proofs.lemmas.Fmt.{length-decimal-le, length-decimal-le_wide}
 use Rattle.std.proofs.lemmas.Str.{IsUtf8-from_is_utf8}
@@ -28,7 +28,7 @@ use Rattle.http_text.specs.Names.{month_text, versioning_name, action_name, what
 use Rattle.http_text.specs.Parts.{class_part, marker_part, target_part}
 use Rattle.http_text.specs.Refusals.{error_text}
 use Rattle.http_text.specs.Replies.{body_text}
-use Rattle.http_text.proofs.Texts.{text_object_is, number_object_is, stored_is, shown_is, meters_is, classes_by_place, usage_is, chosen_parts, chosen_is, error_is, not_over_is, earlier_is, due_is, full_is, end_is}
+use Rattle.http_text.proofs.Texts.{text_object_is, number_object_is, stored_is, shown_is, meters_is, classes_by_place, usage_is, chosen_is, error_is, not_over_is, earlier_is, due_is, full_is, end_is}
 
 -- ---- parts
 

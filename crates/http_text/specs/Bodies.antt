@@ -6,13 +6,11 @@ use Rattle.class_rules.specs.Classes.{all_classes, class_name}
 use Rattle.class_rules.specs.declared.class.Class.{Class}
 use Rattle.office_base.specs.declared.version_id.VersionId.{VersionId}
 use Rattle.rules_json.specs.Printing.{configuration_data}
-use Rattle.stacks.specs.Stacks.{StackRecord}
 use Rattle.stacks.specs.declared.version.Kind.{Kind}
 use Rattle.stacks.specs.declared.version.Kind.TheVariants.{Object, Marker}
 use Rattle.stacks.specs.declared.version.Version.{Version}
-use Rattle.uploads.specs.Uploads.{UploadRecord}
 use Rattle.uploads.specs.declared.part.Part.{Part}
-use Rattle.tariff.specs.Prices.{Prices, storage_price, move_price}
+use Rattle.tariff.specs.Prices.{storage_price, move_price}
 use Rattle.due_core.specs.declared.action.ActionKind.{ActionKind}
 use Rattle.due_core.specs.declared.action.ActionKind.TheVariants as action
 use Rattle.due_core.specs.declared.action.Target.{Target}
