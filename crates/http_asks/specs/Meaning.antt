@@ -1,4 +1,5 @@
--- What a request means, by its target, its method and its body. Methods are compared as they stand (RFC 9110, "Methods").
+-- What a request means, by its target, its method and its body. Methods are compared as they stand (RFC 9110,
+-- "Methods").
 use Rattle.std.specs.Prelude.{◌≡◌, ◌⊎◌, ℕ, Bool, List, [], ◌∷◌, codes, bytes_eq, Result, Ok, Err, if◌then◌else◌}
 use Rattle.office_base.specs.Keys.{is_key}
 use Rattle.office_base.specs.Names.{is_bucket_name}
@@ -71,7 +72,8 @@ object_meant method name part body =
 unfoldable pub meters_meant : List ℕ → List ℕ → List ℕ → Meant
 meters_meant method name month =
     if is_get method then if_name name (
-    if is_month month then asks (Query (Meters name (month_number (year_in month) (month_in month)))) else refuses not_a_month
+    if is_month month then asks (Query (Meters name (month_number (year_in month) (month_in month))))
+    else refuses not_a_month
     )
     else refuses not_built
 
@@ -81,8 +83,8 @@ meant_of (bucket name) method body = bucket_meant method name
 meant_of (object name part) method body = object_meant method name part body
 meant_of (meters name month) method body = meters_meant method name month
 
--- a request with this target, method and body means this: what it asks of the resource that the target names, or nothing
--- that is served where the target names none
+-- a request with this target, method and body means this: what it asks of the resource that the target names, or
+-- nothing that is served where the target names none
 abbrev pub Means : List ℕ → List ℕ → List ℕ → Meant → Type 0
 Means target method body meant =
     ((resource : Resource) × HasRoute target resource × (meant ≡ meant_of resource method body))

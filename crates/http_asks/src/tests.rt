@@ -39,7 +39,13 @@ fn put_ask(text: &mut String, ask: &Ask) -> Result<(), Fail> {
         }
         Ask::Query(Query::Bucket(bucket)) => write!(text, "Bucket {}", bucket.text())?,
         Ask::Query(Query::Meters(bucket, month)) => {
-            write!(text, "Meters {} {}/{}", bucket.text(), month.year(), month.month())?;
+            write!(
+                text,
+                "Meters {} {}/{}",
+                bucket.text(),
+                month.year(),
+                month.month()
+            )?;
         }
         _ => text.push_str("another ask")?,
     }
@@ -134,8 +140,8 @@ fn assert_request(
     assert_heard(rt, alloc, &stream, &wanted)
 }
 
-// The first line of a request, its body, and what it means. RFC 9112 for the messages, RFC 8259 for the bodies, the S3 User Guide for
-// names, keys, sizes, classes and tags.
+// The first line of a request, its body, and what it means. RFC 9112 for the messages, RFC 8259 for the bodies, the S3
+// User Guide for names, keys, sizes, classes and tags.
 type Row = (&'static str, &'static str, &'static str);
 
 fn assert_requests(rt: &impl Abort, alloc: Global, rows: &[Row]) -> Result<(), Fail> {

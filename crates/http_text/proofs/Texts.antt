@@ -84,6 +84,8 @@ pub closed_is : (m : ℕ) → text_object (codes "closed") (month_text m) ≡ bo
 unfolding text_object body_text
 closed_is m = refl
 
+pub ruleset reply_texts = (made_is, versioning_is, rules_is, marker_is, null_is, removed_is, tags_is, upload_is, part_is, aborted_is, nothing_is, tariff_is, closed_is)
+
 -- ---- the other replies
 
 pub stored_is : (m : ℕ) (v : VersionId)
@@ -228,6 +230,8 @@ no_tariff_is = refl
 pub no_memory_is : error_text (codes "NoMemory") 115 ≡ body_text (Err NoMemory)
 unfolding body_text error_text
 no_memory_is = refl
+
+pub ruleset refusal_texts = (exists_is, missing_is, no_rules_is, not_enabled_is, no_key_is, no_version_is, is_marker_is, no_upload_is, bad_part_is, no_parts_is, already_closed_is, no_tariff_is, no_memory_is)
 
 -- a list of six, by its places
 pub classes_by_place : (cs : List ClassMeters) (d : ClassMeters) → length cs ≡ 6

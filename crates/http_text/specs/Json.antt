@@ -3,8 +3,6 @@ use Rattle.std.specs.Prelude.{ℕ, List, [], ◌∷◌, decimal}
 use Rattle.serde_json.specs.Data.{Data, number, unsigned, string, array, object, Members, no_members, put}
 use Rattle.serde_json.specs.View.{items_of}
 use Rattle.serde_json.specs.Written.{compact_text}
-use Rattle.class_rules.specs.Classes.{class_name}
-use Rattle.class_rules.specs.declared.class.Class.{Class}
 use Rattle.moments.specs.Texts.{moment_text}
 use Rattle.office_base.specs.Tags.{Tag}
 use Rattle.office_base.specs.Versions.{id_text}
@@ -15,8 +13,8 @@ abbrev pub members : List (List ℕ × Data) → Members
 members [] = no_members
 members ((name, value) ∷ rest) = put name value (members rest)
 
-abbrev pub object_of : List (List ℕ × Data) → Data
-object_of fields = object (members fields)
+abbrev pub json_object : List (List ℕ × Data) → Data
+json_object fields = object (members fields)
 
 abbrev pub array_of : List Data → Data
 array_of values = array (items_of values)
@@ -38,21 +36,18 @@ moment_data m = string (moment_text m)
 abbrev pub id_data : VersionId → Data
 id_data id = string (id_text id)
 
-abbrev pub class_data : Class → Data
-class_data class = string (class_name class)
-
 -- an object with a member for each tag
-abbrev pub tag_fields : List Tag → List (List ℕ × Data)
-tag_fields [] = []
-tag_fields (tag ∷ tags) = (tag.0, string tag.1) ∷ tag_fields tags
+abbrev pub tag_members : List Tag → List (List ℕ × Data)
+tag_members [] = []
+tag_members (tag ∷ tags) = (tag.0, string tag.1) ∷ tag_members tags
 
 abbrev pub tags_data : List Tag → Data
-tags_data tags = object_of (tag_fields tags)
+tags_data tags = json_object (tag_members tags)
 
 -- ---- objects with one member
 
 unfoldable pub text_object : List ℕ → List ℕ → List ℕ
-text_object name text = compact_text (object_of ((name, string text) ∷ []))
+text_object name text = compact_text (json_object ((name, string text) ∷ []))
 
 unfoldable pub number_object : List ℕ → ℕ → List ℕ
-number_object name n = compact_text (object_of ((name, whole n) ∷ []))
+number_object name n = compact_text (json_object ((name, whole n) ∷ []))

@@ -11,7 +11,8 @@ use Rattle.office_types.specs.declared.refusal.What.TheVariants.{Buckets, Versio
 
 -- as 2024-01
 unfoldable pub month_text : ℕ → List ℕ
-month_text month = two_digits (year_of month / 100) ++ (two_digits (year_of month) ++ (codes "-" ++ two_digits (month_of_year month)))
+month_text month =
+    two_digits (year_of month / 100) ++ (two_digits (year_of month) ++ (codes "-" ++ two_digits (month_of_year month)))
 
 -- S3 User Guide, "How S3 Versioning works"
 abbrev pub versioning_name : Versioning → List ℕ

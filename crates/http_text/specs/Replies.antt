@@ -5,7 +5,11 @@ use Rattle.serde_json.specs.Written.{compact_text}
 use Rattle.office_types.specs.declared.reply.Reply.{Reply}
 use Rattle.office_types.specs.declared.reply.Reply.TheVariants.{BucketMade, Stored, UploadStarted}
 use Rattle.office_types.specs.declared.refusal.Refusal.{Refusal}
-use Rattle.office_types.specs.declared.refusal.Refusal.TheVariants.{BucketExists, NoSuchBucket, NoRules, NotEnabledBefore, NoSuchKey, NoSuchVersion, IsMarker, NoSuchUpload, BadPart, NoParts, MonthNotOver, AlreadyClosed, EarlierMonthOpen, NoTariff, DueActions, Full, ClockEnd, NoMemory}
+use Rattle.office_types.specs.declared.refusal.Refusal.TheVariants.{BucketExists, NoSuchBucket, NoRules}
+use Rattle.office_types.specs.declared.refusal.Refusal.TheVariants.{NotEnabledBefore, NoSuchKey, NoSuchVersion}
+use Rattle.office_types.specs.declared.refusal.Refusal.TheVariants.{IsMarker, NoSuchUpload, BadPart, NoParts}
+use Rattle.office_types.specs.declared.refusal.Refusal.TheVariants.{MonthNotOver, AlreadyClosed, EarlierMonthOpen}
+use Rattle.office_types.specs.declared.refusal.Refusal.TheVariants.{NoTariff, DueActions, Full, ClockEnd, NoMemory}
 pub use Rattle.http_text.specs.Json.{whole}
 pub use Rattle.http_text.specs.Refusals.{error_data, error_text}
 use Rattle.http_text.specs.Bodies.{Body, json, csv, reply_body}
@@ -68,7 +72,8 @@ crlf = 13 ∷ 10 ∷ []
 abbrev pub head_with : List ℕ → ℕ → ℕ → List ℕ
 head_with media status size =
     codes "HTTP/1.1 " ++ (decimal status ++ (codes " " ++ (unwrap_or (reason_phrase status) [] ++ (crlf
-    ++ (codes "content-type: " ++ (media ++ (crlf ++ (codes "content-length: " ++ (decimal size ++ (crlf ++ crlf))))))))))
+    ++ (codes "content-type: " ++ (media ++ (crlf
+    ++ (codes "content-length: " ++ (decimal size ++ (crlf ++ crlf))))))))))
 
 unfoldable pub head_text : ℕ → ℕ → List ℕ
 head_text status size = head_with (codes "application/json") status size

@@ -17,7 +17,8 @@ header_row = codes "bucket" ∷ codes "line" ∷ codes "class" ∷ codes "quanti
 
 abbrev pub line_row : ReportLine → List (List ℕ)
 line_row line =
-    line.bucket ∷ line_name line.kind ∷ class_name line.class ∷ decimal line.quantity ∷ decimal line.price ∷ decimal line.charge ∷ []
+    line.bucket ∷ line_name line.kind ∷ class_name line.class
+    ∷ decimal line.quantity ∷ decimal line.price ∷ decimal line.charge ∷ []
 
 -- the sum of the charges, in a row without a bucket
 abbrev pub total_row : List ReportLine → List (List ℕ)

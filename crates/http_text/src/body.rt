@@ -49,7 +49,8 @@ fn put_shown(
     versioning: Versioning,
     versions: u32,
 ) -> usize
-    ensures puts { Puts room.old at room.new result (body_text (Ok (BucketShown bucket.now rules uploads versioning versions))) }
+    ensures puts { Puts room.old at room.new result
+        (body_text (Ok (BucketShown bucket.now rules uploads versioning versions))) }
     ensures small { length (body_text (Ok (BucketShown bucket.now rules uploads versioning versions))) ≤ 16_000 }
 {
     let at = put_text(room, at, b"{\"bucket\":", bucket.text());
@@ -78,7 +79,7 @@ fn put_usage(
     put(room, at, b"}")
 }
 
-#[tactic(auto, using(crate::proofs::Texts::made_is, crate::proofs::Texts::versioning_is, crate::proofs::Texts::rules_is, crate::proofs::Texts::marker_is, crate::proofs::Texts::null_is, crate::proofs::Texts::removed_is, crate::proofs::Texts::tags_is, crate::proofs::Texts::upload_is, crate::proofs::Texts::part_is, crate::proofs::Texts::aborted_is, crate::proofs::Texts::nothing_is, crate::proofs::Texts::tariff_is, crate::proofs::Texts::closed_is))]
+#[tactic(auto, using(crate::proofs::Texts::reply_texts))]
 fn put_reply(room: &mut [u8], at: usize, reply: &Reply) -> usize
     requires { IsBuiltReply reply.now }
     ensures puts { Puts room.old at room.new result (body_text (Ok reply.now)) }

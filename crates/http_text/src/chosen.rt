@@ -73,7 +73,8 @@ pub(crate) fn put_chosen(
     marker: Option<VersionId>,
 ) -> usize
     requires { char_count rule.now ≤ 255 }
-    ensures puts { Puts room.old at room.new result (body_text (Ok (Chosen kind key.now target rule.now since marker))) }
+    ensures puts { Puts room.old at room.new result
+        (body_text (Ok (Chosen kind key.now target rule.now since marker))) }
     ensures small { length (body_text (Ok (Chosen kind key.now target rule.now since marker))) ≤ 16_000 }
 {
     let at = put_text(room, at, b"{\"action\":", action_name(kind));

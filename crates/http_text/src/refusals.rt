@@ -2,7 +2,8 @@
 ghost use Rattle.std.specs.Prelude.{◌≡◌, ◌≤◌, length, Err};
 ghost use Rattle.moments.specs.Time.{end_of_time};
 ghost use Rattle.office_types.specs.Built.{IsBuiltRefusal};
-ghost use Rattle.office_types.specs.declared.refusal.Refusal.TheVariants.{MonthNotOver, EarlierMonthOpen, DueActions, Full, ClockEnd};
+ghost use Rattle.office_types.specs.declared.refusal.Refusal.TheVariants.{MonthNotOver, EarlierMonthOpen};
+ghost use Rattle.office_types.specs.declared.refusal.Refusal.TheVariants.{DueActions, Full, ClockEnd};
 ghost use Rattle.http_text.specs.Names.{what_name};
 ghost use Rattle.http_text.specs.Refusals.{error_text};
 ghost use Rattle.http_text.specs.Replies.{body_text};
@@ -101,7 +102,7 @@ fn put_end(room: &mut [u8], at: usize, moment: u64) -> usize
 }
 
 /// Writes the body of a refusal.
-#[tactic(auto, using(crate::proofs::Texts::exists_is, crate::proofs::Texts::missing_is, crate::proofs::Texts::no_rules_is, crate::proofs::Texts::not_enabled_is, crate::proofs::Texts::no_key_is, crate::proofs::Texts::no_version_is, crate::proofs::Texts::is_marker_is, crate::proofs::Texts::no_upload_is, crate::proofs::Texts::bad_part_is, crate::proofs::Texts::no_parts_is, crate::proofs::Texts::already_closed_is, crate::proofs::Texts::no_tariff_is, crate::proofs::Texts::no_memory_is))]
+#[tactic(auto, using(crate::proofs::Texts::refusal_texts))]
 pub(crate) fn put_refusal(room: &mut [u8], at: usize, refusal: &Refusal) -> usize
     requires { IsBuiltRefusal refusal.now }
     ensures puts { Puts room.old at room.new result (body_text (Err refusal.now)) }
