@@ -6,9 +6,9 @@ use Rattle.office_base.specs.Names.{is_bucket_name}
 use Rattle.class_rules.specs.declared.class.Class.TheVariants.{Glacier}
 use Rattle.moments.specs.Dates.{is_month, begins_with_month}
 use Rattle.moments.specs.Months.{month_number}
-use Rattle.plain_office.specs.declared.command.Ask.TheVariants.{Command, Query}
-use Rattle.plain_office.specs.declared.command.Command.TheVariants.{CreateBucket, Put}
-use Rattle.plain_office.specs.declared.command.Query.TheVariants.{Bucket, Meters}
+use Rattle.office_types.specs.declared.command.Ask.TheVariants.{Command, Query}
+use Rattle.office_types.specs.declared.command.Command.TheVariants.{CreateBucket, Put}
+use Rattle.office_types.specs.declared.command.Query.TheVariants.{Bucket, Meters}
 use Rattle.http_bodies.specs.Flaws.{unsupported_class}
 use Rattle.http_bodies.specs.Puts.{put_of}
 use Rattle.http_routes.specs.Spelled.{key_of}
@@ -47,7 +47,7 @@ puts : (part body : List ℕ) → is_key (key_of part) ≡ true → meant_of (ob
 unfolding object_meant is_bucket_name
 puts part body is = ap (λ (b : Bool). if b then put_meant (codes "logs") (key_of part) (put_of body) else refuses bad_key) is
 
-whole_body : put_meant (codes "logs") (codes "a") (Ok (record { size = 5; class = Glacier; tags = [] })) ≡ asks (Command (Put (codes "logs") (codes "a") 5 Glacier))
+whole_body : put_meant (codes "logs") (codes "a") (Ok (record { size = 5; class = Glacier; tags = [] })) ≡ asks (Command (Put (codes "logs") (codes "a") 5 Glacier []))
 whole_body = refl
 
 some_tags : put_meant (codes "logs") (codes "a") (Ok (record { size = 5; class = Glacier; tags = (codes "k", codes "v") ∷ [] })) ≡ refuses not_built

@@ -1,11 +1,13 @@
 -- What a refusal tells of a request.
 use Rattle.std.specs.Prelude.{◌≡◌, string_bytes, Result, Ok, Err, ⊤}
-use Rattle.plain_office.specs.declared.command.Ask.{Ask}
+use Rattle.office_types.specs.declared.command.Ask.{Ask}
 use Rattle.http_bodies.specs.declared.put.PutBody.{PutBody}
 use Rattle.http_bodies.specs.Flaws as flaws
-use Rattle.http_asks.specs.Meaning.{Refused, not_a_month, bad_bucket_name, bad_key, flawed, not_built, Meant, asks, refuses}
+use Rattle.http_asks.specs.Meaning.{Refused, not_a_month, bad_bucket_name, bad_key, flawed, not_built}
+use Rattle.http_asks.specs.Meaning.{Meant, asks, refuses}
 use Rattle.http_asks.specs.declared.bad.Bad.{Bad}
-use Rattle.http_asks.specs.declared.bad.Bad.TheVariants.{NotAMonth, BadBucketName, BadKey, BadSize, UnsupportedClass, BadTags, BadBody, NotBuilt}
+use Rattle.http_asks.specs.declared.bad.Bad.TheVariants.{NotAMonth, BadBucketName, BadKey, BadSize}
+use Rattle.http_asks.specs.declared.bad.Bad.TheVariants.{UnsupportedClass, BadTags, BadBody, NotBuilt}
 use Rattle.http_asks.specs.declared.bad.Fault.{Fault}
 use Rattle.http_asks.specs.declared.bad.Fault.TheVariants as faults
 

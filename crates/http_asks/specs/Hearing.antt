@@ -1,7 +1,8 @@
 -- What is heard of a request.
 use Rattle.std.specs.Prelude.{◌≡◌, Bool, true}
 use Rattle.http_asks.specs.Faults.{refused_of}
-use Rattle.http_asks.specs.Meaning.{Refused, not_a_month, bad_bucket_name, bad_key, flawed, not_built, Meant, asks, refuses}
+use Rattle.http_asks.specs.Meaning.{Refused, not_a_month, bad_bucket_name, bad_key, flawed, not_built}
+use Rattle.http_asks.specs.Meaning.{Meant, asks, refuses}
 use Rattle.http_asks.specs.declared.reader.Heard.{Heard}
 use Rattle.http_asks.specs.declared.reader.Heard.TheVariants.{Asked, Bad, End}
 

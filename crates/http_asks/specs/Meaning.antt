@@ -1,14 +1,15 @@
--- What a request means, by its target, its method and its body. Methods are compared as they stand (RFC 9110, "Methods").
+-- What a request means, by its target, its method and its body. Methods are compared as they stand (RFC 9110,
+-- "Methods").
 use Rattle.std.specs.Prelude.{◌≡◌, ◌⊎◌, ℕ, Bool, List, [], ◌∷◌, codes, bytes_eq, Result, Ok, Err, if◌then◌else◌}
 use Rattle.office_base.specs.Keys.{is_key}
 use Rattle.office_base.specs.Names.{is_bucket_name}
 use Rattle.office_base.specs.Tags.{Tag}
 use Rattle.moments.specs.Dates.{is_month, year_in, month_in}
 use Rattle.moments.specs.Months.{month_number}
-use Rattle.plain_office.specs.declared.command.Ask.{Ask}
-use Rattle.plain_office.specs.declared.command.Ask.TheVariants.{Command, Query}
-use Rattle.plain_office.specs.declared.command.Command.TheVariants.{CreateBucket, Put}
-use Rattle.plain_office.specs.declared.command.Query.TheVariants.{Bucket, Meters}
+use Rattle.office_types.specs.declared.command.Ask.{Ask}
+use Rattle.office_types.specs.declared.command.Ask.TheVariants.{Command, Query}
+use Rattle.office_types.specs.declared.command.Command.TheVariants.{CreateBucket, Put}
+use Rattle.office_types.specs.declared.command.Query.TheVariants.{Bucket, Meters}
 use Rattle.http_bodies.specs.declared.put.PutBody.{PutBody}
 use Rattle.http_bodies.specs.Flaws.{BodyFlaw}
 use Rattle.http_bodies.specs.Puts.{put_of}
@@ -58,7 +59,7 @@ if_untagged (tag ∷ tags) meant = refuses not_built
 
 -- an object is put under a key as its body says
 abbrev pub put_meant : List ℕ → List ℕ → Result PutBody BodyFlaw → Meant
-put_meant name key (Ok body) = if_untagged body.tags (asks (Command (Put name key body.size body.class)))
+put_meant name key (Ok body) = if_untagged body.tags (asks (Command (Put name key body.size body.class body.tags)))
 put_meant name key (Err flaw) = refuses (flawed flaw)
 
 -- an object is put, under the key that the target spells
@@ -71,7 +72,8 @@ object_meant method name part body =
 unfoldable pub meters_meant : List ℕ → List ℕ → List ℕ → Meant
 meters_meant method name month =
     if is_get method then if_name name (
-    if is_month month then asks (Query (Meters name (month_number (year_in month) (month_in month)))) else refuses not_a_month
+    if is_month month then asks (Query (Meters name (month_number (year_in month) (month_in month))))
+    else refuses not_a_month
     )
     else refuses not_built
 
@@ -81,8 +83,8 @@ meant_of (bucket name) method body = bucket_meant method name
 meant_of (object name part) method body = object_meant method name part body
 meant_of (meters name month) method body = meters_meant method name month
 
--- a request with this target, method and body means this: what it asks of the resource that the target names, or nothing
--- that is served where the target names none
+-- a request with this target, method and body means this: what it asks of the resource that the target names, or
+-- nothing that is served where the target names none
 abbrev pub Means : List ℕ → List ℕ → List ℕ → Meant → Type 0
 Means target method body meant =
     ((resource : Resource) × HasRoute target resource × (meant ≡ meant_of resource method body))

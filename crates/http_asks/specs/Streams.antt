@@ -17,7 +17,8 @@ pub record IsUnbuilt (stream : List ℕ) : Type 0 where
   pub some : stream ≢ []
   pub other : (meant : Meant) (last : Bool) (rest : List ℕ) → ¬ (IsItem stream meant last rest)
 
--- What takes memory stands at the front of the bytes: a head whose body is longer than the room behind it, or a request.
+-- What takes memory stands at the front of the bytes: a head whose body is longer than the room behind it, or a
+-- request.
 abbrev pub WantsMemory : List ℕ → Type 0
 WantsMemory bytes = AwaitsLongBody bytes ⊎ ((found : Request) × (rest : List ℕ) × Stands bytes (request found) rest)
 
@@ -36,4 +37,5 @@ StandsUnbuilt (Some stream) = IsUnbuilt stream
 -- one item stands at the front of a stream, and one rest follows it
 abbrev pub HasOneItem : Type 0
 HasOneItem = (stream : List ℕ) (first second : Meant) (last other : Bool) (rest after : List ℕ)
-    → IsItem stream first last rest → IsItem stream second other after → (first ≡ second) × (last ≡ other) × (rest ≡ after)
+    → IsItem stream first last rest → IsItem stream second other after
+    → (first ≡ second) × (last ≡ other) × (rest ≡ after)

@@ -7,7 +7,8 @@ use Rattle.http_asks.specs.Streams.{StandsItem, StandsUnbuilt}
 use Rattle.http_asks.specs.declared.reader.Heard.{Heard}
 use Rattle.http_asks.specs.declared.reader.Heard.TheVariants.{Asked, Bad, End}
 
--- a refusal stands at the front of the stream, which is then the later one; or what stands there is not served, and the last
+-- a refusal stands at the front of the stream, which is then the later one; or what stands there is not served, and
+-- the last
 abbrev pub TellsRefused : Option (List ℕ) → Refused → Bool → Option (List ℕ) → Type 0
 TellsRefused before not_built last after = StandsUnbuilt before × (last ≡ true)
 TellsRefused before not_a_month last after = StandsItem before (refuses not_a_month) last after

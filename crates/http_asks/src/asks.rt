@@ -4,12 +4,13 @@ ghost use Rattle.http_routes.specs.Targets.{resource_of};
 ghost use Rattle.http_asks.specs.Faults.{OnMeant};
 ghost use Rattle.http_bodies.specs.Puts.{put_of};
 ghost use Rattle.http_routes.specs.Spelled.{key_of};
-ghost use Rattle.http_asks.specs.Meaning.{Means, if_name, if_key, put_meant, bucket_meant, object_meant, meters_meant, meant_of};
+ghost use Rattle.http_asks.specs.Meaning.{Means, if_name, if_key, put_meant};
+ghost use Rattle.http_asks.specs.Meaning.{bucket_meant, object_meant, meters_meant, meant_of};
 
 use crate::bad::{Bad, Fault};
 use crate::parts::{bucket_name, month_of, object_key, put_body};
 use http_routes::{Route, Routes};
-use plain_office::{Ask, Command, Query};
+use office_types::{Ask, Command, Query};
 use std::alloc::Global;
 
 #[tactic(auto, unfolding(crate::specs::Meaning::bucket_meant))]
@@ -29,7 +30,8 @@ fn bucket_ask(alloc: Global, method: &[u8], name: &str) -> Result<Ask, Fault>
 
 // The ask of a PUT of an object.
 fn put_ask(alloc: Global, name: &str, key: &str, body: &[u8]) -> Result<Ask, Fault>
-    ensures { OnMeant result (λ meant. meant ≡ if_name name.now (if_key (key_of key.now) (put_meant name.now (key_of key.now) (put_of body.now)))) }
+    ensures { OnMeant result (λ meant. meant
+        ≡ if_name name.now (if_key (key_of key.now) (put_meant name.now (key_of key.now) (put_of body.now)))) }
 {
     let bucket = bucket_name(alloc, name)?;
     let key = object_key(alloc, key)?;
@@ -42,6 +44,7 @@ fn put_ask(alloc: Global, name: &str, key: &str, body: &[u8]) -> Result<Ask, Fau
         key,
         size: body.size,
         class: body.class,
+        tags: body.tags,
     }))
 }
 

@@ -21,8 +21,8 @@ pub enum Bad {
     UnsupportedClass { name: String },
     /// There are more than 10 tags, a key has not 1 to 128 characters, or a value has more than 256.
     BadTags,
-    /// The field of the body is missing, has another kind of value or is not one of the body's; an empty name: the body is
-    /// no JSON object.
+    /// The field of the body is missing, has another kind of value or is not one of the body's; an empty name: the body
+    /// is no JSON object.
     BadBody { field: String },
     /// The message is none that is served. It is the last of its session.
     NotBuilt,

@@ -18,7 +18,8 @@ use std::alloc::Global;
 
 pub(crate) fn bucket_name(alloc: Global, part: &str) -> Result<BucketName, Fault>
     ensures ok { IfOk result (λ name. (name ≡ part.now) × (is_bucket_name part.now ≡ true)) }
-    ensures err { IfErr result (λ fault. OnBroken fault (λ broken. (broken ≡ bad_bucket_name) × (is_bucket_name part.now ≡ false))) }
+    ensures err { IfErr result (λ fault. OnBroken fault
+        (λ broken. (broken ≡ bad_bucket_name) × (is_bucket_name part.now ≡ false))) }
 {
     match BucketName::read(alloc, part) {
         Ok(name) => Ok(name),
@@ -29,7 +30,8 @@ pub(crate) fn bucket_name(alloc: Global, part: &str) -> Result<BucketName, Fault
 
 pub(crate) fn object_key(alloc: Global, part: &str) -> Result<Key, Fault>
     ensures ok { IfOk result (λ key. (key ≡ key_of part.now) × (is_key (key_of part.now) ≡ true)) }
-    ensures err { IfErr result (λ fault. OnBroken fault (λ broken. (broken ≡ bad_key) × (is_key (key_of part.now) ≡ false))) }
+    ensures err { IfErr result (λ fault. OnBroken fault
+        (λ broken. (broken ≡ bad_key) × (is_key (key_of part.now) ≡ false))) }
 {
     match read_key(alloc, part.as_bytes()) {
         Ok(key) => Ok(key),
@@ -50,8 +52,10 @@ pub(crate) fn put_body(alloc: Global, bytes: &[u8]) -> Result<PutBody, Fault>
 }
 
 pub(crate) fn month_of(part: &str) -> Result<Month, Fault>
-    ensures ok { IfOk result (λ m. (m ≡ month_number (year_in part.now) (month_in part.now)) × (is_month part.now ≡ true)) }
-    ensures err { IfErr result (λ fault. OnBroken fault (λ broken. (broken ≡ not_a_month) × (is_month part.now ≡ false))) }
+    ensures ok { IfOk result (λ m. (m ≡ month_number (year_in part.now) (month_in part.now))
+        × (is_month part.now ≡ true)) }
+    ensures err { IfErr result (λ fault. OnBroken fault
+        (λ broken. (broken ≡ not_a_month) × (is_month part.now ≡ false))) }
 {
     match read_month(part) {
         Ok(month) => Ok(month),

@@ -19,7 +19,7 @@ use crate::bad::{Bad, Fault};
 use http_routes::Routes;
 use http_wire::{Buffer, Message, MessageStop, Next, Source, read_message};
 use office_base::NoMemory;
-use plain_office::Ask;
+use office_types::Ask;
 use std::alloc::Global;
 use std::marker::Model;
 
@@ -112,8 +112,8 @@ impl Reader {
     fn read(&self, alloc: Global, message: &Message) -> Result<Heard, NoMemory>
         requires held { message.now.used ≤ length self.now.bytes }
         requires within { IsRequestWithin self.now.bytes self.now.spans message.now.head }
-        ensures { IfOk result (IsHeard (Means (span_bytes self.now.bytes message.now.head.path) (span_bytes self.now.bytes message.now.head.method)
-            (body_of message.now self.now.bytes)) message.now.last) }
+        ensures { IfOk result (IsHeard (Means (span_bytes self.now.bytes message.now.head.path)
+            (span_bytes self.now.bytes message.now.head.method) (body_of message.now self.now.bytes)) message.now.last) }
     {
         let head = message.head();
         let bytes = self.buffer.held();
@@ -138,20 +138,23 @@ impl Reader {
     ///
     /// # Errors
     ///
-    /// `Spent`: 2^40 = 1,099,511,627,776 bytes were taken and a further read is needed, also where it would find the end.
-    /// `ReadFault`: the source failed. `NoMemory`: memory ran out for a request whose head was read. Nothing was heard
+    /// `Spent`: 2^40 = 1,099,511,627,776 bytes were taken and a further read is needed, also where it would find the
+    /// end. `ReadFault`: the source failed. `NoMemory`: memory ran out for a request whose head was read. Nothing was heard
     /// then, and nothing is promised of a later call.
     pub fn next<R: Source>(&mut self, alloc: Global, source: &mut R) -> Result<Heard, Stop>
-        ensures tells { IfOk result (λ heard. Tells (prepend_known self.old.bytes (R.left source.old)) heard (prepend_known self.new.bytes (R.left source.new))) }
+        ensures tells { IfOk result (λ heard. Tells (prepend_known self.old.bytes (R.left source.old)) heard
+            (prepend_known self.new.bytes (R.left source.new))) }
         ensures given { Given self.old.taken self.new.taken (R.left source.old) (R.left source.new) }
         ensures limit { self.new.taken ≤ take_limit }
         // An item has at least one byte.
         ensures uses { OnItem result (self.old.taken + length self.new.bytes < self.new.taken + length self.old.bytes) }
         // The end is found by a read, so fewer bytes than the limit were taken.
         ensures at_end { result ≡ Ok Heard.End → (self.new.taken < take_limit) × IsAtEnd (R.left source.new) }
-        ensures spent { IsErrOf result Stop.Spent → (self.new.taken ≡ take_limit) × Gave self.old self.new (R.left source.old) (R.left source.new) IsUnsettled }
+        ensures spent { IsErrOf result Stop.Spent → (self.new.taken ≡ take_limit)
+            × Gave self.old self.new (R.left source.old) (R.left source.new) IsUnsettled }
         // Memory is wanted for a request whose head was read.
-        ensures no_memory { IsErrOf result Stop.NoMemory → Gave self.old self.new (R.left source.old) (R.left source.new) WantsMemory }
+        ensures no_memory { IsErrOf result Stop.NoMemory
+            → Gave self.old self.new (R.left source.old) (R.left source.new) WantsMemory }
         // A message whose bytes are held is heard without a read.
         ensures settled { (IsUnsettled self.old.bytes → ⊥) → source.new ≡ source.old }
         ensures stream { R.stream source.new ≡ R.stream source.old }

@@ -1,7 +1,7 @@
 use super::*;
 use http_wire::MemorySource;
 use office_base::Key;
-use plain_office::{Ask, Command, Query};
+use office_types::{Ask, Command, Query};
 use std::alloc::Global;
 use std::process::Abort;
 use std::test::Fail;
@@ -17,30 +17,37 @@ fn put_key(text: &mut String, key: &Key) -> Result<(), Fail> {
 }
 
 fn put_ask(text: &mut String, ask: &Ask) -> Result<(), Fail> {
-    let (word, bucket) = match ask {
-        Ask::Command(Command::CreateBucket { bucket }) => ("CreateBucket", bucket),
-        Ask::Command(Command::Put { bucket, .. }) => ("Put", bucket),
-        Ask::Query(Query::Bucket(bucket)) => ("Bucket", bucket),
-        Ask::Query(Query::Meters(bucket, _)) => ("Meters", bucket),
-    };
-    write!(text, "{word} {}", bucket.text())?;
     match ask {
+        Ask::Command(Command::CreateBucket { bucket }) => {
+            write!(text, "CreateBucket {}", bucket.text())?;
+        }
         Ask::Command(
             Command::Put {
+                bucket,
                 key,
                 size,
                 class,
-                ..
+                tags,
             },
         ) => {
-            text.push(' ')?;
+            write!(text, "Put {} ", bucket.text())?;
             put_key(text, key)?;
             write!(text, " {} {}", size.bytes(), class.name())?;
+            if !tags.pairs().is_empty() {
+                text.push_str(" tagged")?;
+            }
         }
-        Ask::Query(Query::Meters(_, month)) => {
-            write!(text, " {}/{}", month.year(), month.month())?;
+        Ask::Query(Query::Bucket(bucket)) => write!(text, "Bucket {}", bucket.text())?,
+        Ask::Query(Query::Meters(bucket, month)) => {
+            write!(
+                text,
+                "Meters {} {}/{}",
+                bucket.text(),
+                month.year(),
+                month.month()
+            )?;
         }
-        _ => {}
+        _ => text.push_str("another ask")?,
     }
     Ok(())
 }
@@ -133,8 +140,8 @@ fn assert_request(
     assert_heard(rt, alloc, &stream, &wanted)
 }
 
-// The first line of a request, its body, and what it means. RFC 9112 for the messages, RFC 8259 for the bodies, the S3 User Guide for
-// names, keys, sizes, classes and tags.
+// The first line of a request, its body, and what it means. RFC 9112 for the messages, RFC 8259 for the bodies, the S3
+// User Guide for names, keys, sizes, classes and tags.
 type Row = (&'static str, &'static str, &'static str);
 
 fn assert_requests(rt: &impl Abort, alloc: Global, rows: &[Row]) -> Result<(), Fail> {

@@ -1,5 +1,6 @@
 -- The JSON body of a request (RFC 8259) and the fields that it has.
-use Rattle.std.specs.Prelude.{ℕ, List, [], ◌∷◌, Bool, not, Option, Some, None, option_map, option_and_then, is_some, if◌then◌else◌}
+use Rattle.std.specs.Prelude.{ℕ, List, [], ◌∷◌, Bool, not, if◌then◌else◌}
+use Rattle.std.specs.Prelude.{Option, Some, None, option_map, option_and_then, is_some}
 use Rattle.std.specs.List.{find, list_any}
 use Rattle.std.specs.Str.{is_utf8, bytes_eq}
 use Rattle.serde_json.specs.Data.{Data, object, Members, no_members, member}
@@ -7,8 +8,8 @@ use Rattle.serde_json.specs.Read.{read}
 use Rattle.serde_json.specs.Find.{get, as_object, as_number, as_u64, as_str}
 use Rattle.office_base.specs.Tags.{Tag}
 
--- the value of a text in UTF-8 (RFC 8259, "Character Encoding"); an object has each name once, in the order of the names'
--- bytes, with the value that stands last (own; RFC 8259, "Objects", leaves the choice open)
+-- the value of a text in UTF-8 (RFC 8259, "Character Encoding"); an object has each name once, in the order of the
+-- names' bytes, with the value that stands last (own; RFC 8259, "Objects", leaves the choice open)
 unfoldable pub json_of : List ℕ → Option Data
 json_of text = if is_utf8 text then read text else None
 
@@ -32,7 +33,8 @@ is_among known name = list_any (bytes_eq name) known
 
 -- the first field, in the order of the names' bytes, that is none of these
 abbrev pub first_unknown : List (List ℕ) → Data → Option (List ℕ)
-first_unknown known body = option_and_then (λ ms. find (λ name. not (is_among known name)) (names_of ms)) (as_object body)
+first_unknown known body =
+    option_and_then (λ ms. find (λ name. not (is_among known name)) (names_of ms)) (as_object body)
 
 -- a whole number from 0 to 2^64 - 1, written as an integer (own: not as 1.0 or 1e3)
 abbrev pub whole_number : Data → Option ℕ
@@ -41,7 +43,8 @@ whole_number value = option_and_then as_u64 (as_number value)
 -- the pairs of an object whose values are texts
 abbrev pub text_members : Members → Option (List Tag)
 text_members no_members = Some []
-text_members (member name value ms) = option_and_then (λ text. option_map (λ pairs. (name, text) ∷ pairs) (text_members ms)) (as_str value)
+text_members (member name value ms) =
+    option_and_then (λ text. option_map (λ pairs. (name, text) ∷ pairs) (text_members ms)) (as_str value)
 
 abbrev pub text_pairs : Data → Option (List Tag)
 text_pairs value = option_and_then text_members (as_object value)

@@ -3,7 +3,8 @@ use Rattle.std.specs.Prelude.{◌≡◌, ℕ, List, Option, Some, None, Result, 
 use Rattle.serde_json.specs.Data.{Data}
 use Rattle.http_bodies.specs.Bodies.{first_unknown}
 use Rattle.http_bodies.specs.declared.fault.BodyFault.{BodyFault}
-use Rattle.http_bodies.specs.declared.fault.BodyFault.TheVariants.{BadBody, BadSize, UnsupportedClass, BadTags, NoMemory}
+use Rattle.http_bodies.specs.declared.fault.BodyFault.TheVariants.{BadBody, BadSize, UnsupportedClass}
+use Rattle.http_bodies.specs.declared.fault.BodyFault.TheVariants.{BadTags, NoMemory}
 
 -- the faults of a body, with their texts as bytes
 pub data BodyFlaw : Type 0 where

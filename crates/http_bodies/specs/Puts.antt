@@ -1,4 +1,5 @@
--- What the body of a PUT of an object says: its fields in their order, first their kinds and then their ranges (own order).
+-- What the body of a PUT of an object says: its fields in their order, first their kinds and then their ranges (own
+-- order).
 use Rattle.std.specs.Prelude.{ℕ, List, [], ◌∷◌, Option, Result, Ok, ok_or, codes}
 use Rattle.serde_json.specs.Find.{as_str}
 use Rattle.office_base.specs.Tags.{Tag}

@@ -22,7 +22,8 @@ abbrev pub class_in_range : Option (List ℕ) → Result Class BodyFlaw
 class_in_range None = Ok Standard
 class_in_range (Some name) = ok_or (class_with name) (unsupported_class name)
 
--- the tags in the order of their keys (S3 User Guide, "Categorizing your objects using tags"); none where they are missing (own)
+-- the tags in the order of their keys (S3 User Guide, "Categorizing your objects using tags"); none where they are
+-- missing (own)
 abbrev pub tags_in_range : Option (List Tag) → Result (List Tag) BodyFlaw
 tags_in_range None = Ok []
 tags_in_range (Some pairs) = if are_tags pairs then Ok (by_key pairs) else Err bad_tags

@@ -6,7 +6,8 @@ ghost use Rattle.std.specs.Map.{keys_of};
 ghost use Rattle.serde_json.specs.Find.{as_str};
 ghost use Rattle.serde_json.specs.View.{view, members_view};
 ghost use Rattle.office_base.specs.Tags.{tags_of};
-ghost use Rattle.http_bodies.specs.Bodies.{body_of, names_of, is_among, first_unknown, whole_number, text_members, text_pairs, held, if_held};
+ghost use Rattle.http_bodies.specs.Bodies.{body_of, names_of, is_among, first_unknown, whole_number};
+ghost use Rattle.http_bodies.specs.Bodies.{text_members, text_pairs, held, if_held};
 ghost use Rattle.http_bodies.specs.Flaws.{Gives, bad_body, with_fields};
 
 use crate::fault::{BodyFault, bad_field};
@@ -61,7 +62,8 @@ fn other_key<'m>(members: &'m Map<String, Value>, known: &[&str]) -> Option<&'m 
 #[tactic(auto, using(crate::proofs::Fields::find_names))]
 fn first_other<'m>(members: &'m Map<String, Value>, known: &[&str]) -> Option<&'m str>
     ensures { option_map (λ name. name.now) result
-        ≡ find (λ name. not (is_among (map (λ k. k.now) known.now) name)) (names_of (members_view members.now.entries)) }
+        ≡ find (λ name. not (is_among (map (λ k. k.now) known.now) name))
+        (names_of (members_view members.now.entries)) }
 {
     match other_key(members, known) {
         Some(name) => Some(name.as_str()),
@@ -125,7 +127,8 @@ fn text_members(
     alloc: Global,
     members: Map<String, Value>,
 ) -> Result<Option<Vec<(String, String)>>, AllocError>
-    ensures { IfOk result (λ found. option_map (λ pairs. tags_of pairs.items) found ≡ text_members (members_view members.entries)) }
+    ensures { IfOk result (λ found. option_map (λ pairs. tags_of pairs.items) found
+        ≡ text_members (members_view members.entries)) }
 {
     let mut pairs = Vec::with_capacity(alloc, members.len())?;
     for (name, value) in members {

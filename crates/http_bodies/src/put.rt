@@ -20,21 +20,22 @@ pub struct PutBody {
     pub tags: Tags,
 }
 
-/// Reads the body of a PUT of an object: a JSON object with `size`, a whole number of bytes, and, where they are wanted,
-/// `class`, the name of a storage class, and `tags`, an object of texts. An empty body counts as `{}`.
+/// Reads the body of a PUT of an object: a JSON object with `size`, a whole number of bytes, and, where they are
+/// wanted, `class`, the name of a storage class, and `tags`, an object of texts. An empty body counts as `{}`.
 ///
-/// Rule: RFC 8259; S3 User Guide, "Uploading objects" (sizes), "Understanding and managing Amazon S3 storage classes" and
-/// "Categorizing your objects using tags". Own rules: of a name that stands twice in an object the last value counts; a
-/// missing class is STANDARD; null is no missing value; a whole number is written as an integer, not as `1.0` or `1e3`.
+/// Rule: RFC 8259; S3 User Guide, "Uploading objects" (sizes), "Understanding and managing Amazon S3 storage classes"
+/// and "Categorizing your objects using tags". Own rules: of a name that stands twice in an object the last value
+/// counts; a missing class is STANDARD; null is no missing value; a whole number is written as an integer, not as
+/// `1.0` or `1e3`.
 /// Cost: one pass over the bytes, and memory for their values.
 ///
 /// # Errors
 ///
 /// The first of these that is so. `BadBody`, with an empty field: the bytes are no JSON object, or one that serde_json
-/// does not read (not UTF-8, more than 127 deep, a number too large for a float). `BadBody`, with the field: it is none of
-/// the three (of these the first in the order of their bytes); `size` is missing or no whole number from 0 to 2^64 - 1;
-/// `class` is no text; `tags` is no object of texts. `BadSize`, `UnsupportedClass`, `BadTags`: a value is out of range.
-/// `NoMemory`: memory ran out.
+/// does not read (not UTF-8, more than 127 deep, a number too large for a float). `BadBody`, with the field: it is none
+/// of the three (of these the first in the order of their bytes); `size` is missing or no whole number from 0 to
+/// 2^64 - 1; `class` is no text; `tags` is no object of texts. `BadSize`, `UnsupportedClass`, `BadTags`: a value is out
+/// of range. `NoMemory`: memory ran out.
 #[tactic(auto, unfolding(crate::specs::Puts::put_of, crate::specs::Puts::put_in_range))]
 pub fn read_put(alloc: Global, bytes: &[u8]) -> Result<PutBody, BodyFault>
     ensures exact { Gives (λ body. body) result (put_of bytes.now) }

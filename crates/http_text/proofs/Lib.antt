@@ -1,3 +1,4 @@
+mod Examples
 pub mod RoomLemmas
 pub mod Small
 pub mod Statuses

@@ -1,10 +1,11 @@
 // What a bucket used, as JSON.
 ghost use Rattle.std.specs.Prelude.{◌++◌, ◌≤◌, length, codes};
+ghost use Rattle.http_text.specs.Bodies.{meters_text, classes_text};
 ghost use Rattle.http_text.specs.Room.{Puts};
-ghost use Rattle.http_text.specs.Replies.{meters_text, classes_text};
 
-use crate::room::{put, put_digits, put_quoted, put_wide};
-use plain_office::ClassMeters;
+use crate::members::put_text;
+use crate::room::{put, put_digits, put_wide};
+use office_types::ClassMeters;
 
 fn put_meters(room: &mut [u8], at: usize, meters: &ClassMeters) -> usize
     ensures puts { Puts room.old at room.new result (meters_text meters.now) }
@@ -12,8 +13,7 @@ fn put_meters(room: &mut [u8], at: usize, meters: &ClassMeters) -> usize
 {
     let at = put(room, at, b"{\"byte_ms\":");
     let at = put_digits(room, at, meters.byte_ms);
-    let at = put(room, at, b",\"class\":");
-    let at = put_quoted(room, at, meters.class.name().as_bytes());
+    let at = put_text(room, at, b",\"class\":", meters.class.name());
     let at = put(room, at, b",\"early_byte_ms\":");
     let at = put_digits(room, at, meters.early_byte_ms);
     let at = put(room, at, b",\"moves\":");

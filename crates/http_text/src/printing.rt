@@ -1,20 +1,46 @@
 // Replies, printed without memory.
 ghost use Rattle.std.specs.Prelude.{◌≡◌, ◌≤◌, [], length, unwrap_or};
 ghost use Rattle.http.specs.StatusCode.{reason_phrase};
+ghost use Rattle.office_types.specs.Built.{IsBuiltAnswer};
+ghost use Rattle.http_text.specs.Replies.{answer_text, body_text, head_text, refusal_status, reply_status, status_of};
 ghost use Rattle.http_text.specs.Room.{Puts};
-ghost use Rattle.http_text.specs.Replies.{answer_text, body_text, head_text, refusal_status, status_of};
 
 use crate::body::put_body;
 use crate::room::{put, put_number};
 use http::StatusCode;
-use plain_office::{Refusal, Reply};
+use office_types::{Refusal, Reply};
 
-fn refusal_status(refusal: Refusal) -> StatusCode
-    ensures { result ≡ refusal_status refusal }
+fn reply_status(reply: &Reply) -> StatusCode
+    ensures { result ≡ reply_status reply.now }
+{
+    match reply {
+        Reply::BucketMade { .. } | Reply::Stored { .. } | Reply::UploadStarted { .. } => {
+            StatusCode::CREATED
+        }
+        _ => StatusCode::OK,
+    }
+}
+
+fn refusal_status(refusal: &Refusal) -> StatusCode
+    ensures { result ≡ refusal_status refusal.now }
 {
     match refusal {
-        Refusal::BucketExists | Refusal::ClockEnd { .. } => StatusCode::CONFLICT,
-        Refusal::NoSuchBucket => StatusCode::NOT_FOUND,
+        Refusal::NoSuchBucket
+        | Refusal::NoRules
+        | Refusal::NoSuchKey
+        | Refusal::NoSuchVersion
+        | Refusal::NoSuchUpload => StatusCode::NOT_FOUND,
+        Refusal::BucketExists
+        | Refusal::NotEnabledBefore
+        | Refusal::IsMarker
+        | Refusal::BadPart
+        | Refusal::NoParts
+        | Refusal::MonthNotOver { .. }
+        | Refusal::AlreadyClosed
+        | Refusal::EarlierMonthOpen { .. }
+        | Refusal::NoTariff
+        | Refusal::DueActions { .. }
+        | Refusal::ClockEnd { .. } => StatusCode::CONFLICT,
         Refusal::Full { .. } => StatusCode::INSUFFICIENT_STORAGE,
         Refusal::NoMemory => StatusCode::INTERNAL_SERVER_ERROR,
     }
@@ -24,9 +50,8 @@ fn status(answer: &Result<Reply, Refusal>) -> StatusCode
     ensures { result ≡ status_of answer.now }
 {
     match answer {
-        Ok(Reply::BucketMade { .. } | Reply::Stored { .. }) => StatusCode::CREATED,
-        Ok(Reply::BucketShown { .. } | Reply::MetersShown { .. }) => StatusCode::OK,
-        Err(refusal) => refusal_status(*refusal),
+        Ok(reply) => reply_status(reply),
+        Err(refusal) => refusal_status(refusal),
     }
 }
 
@@ -60,15 +85,19 @@ pub fn put_head(room: &mut [u8], at: usize, status: StatusCode, size: usize) -> 
 // The bytes of a body.
 #[tactic(auto, using(crate::proofs::Whole::counted))]
 fn size_of(answer: &Result<Reply, Refusal>) -> usize
+    requires { IsBuiltAnswer answer.now }
     ensures same { result ≡ length (body_text answer.now) }
-    ensures small { length (body_text answer.now) ≤ 10_000 }
+    ensures small { length (body_text answer.now) ≤ 16_000 }
 {
     put_body(&mut [], 0, answer)
 }
 
 /// Writes the reply to an answer at the front of a room, as far as the room goes, and answers how many bytes it has.
 /// Takes no memory; 16,384 bytes of room are always enough.
+///
+/// The answer is one that the program gives so far: the replies to queries that are long are not printed here.
 pub fn put_answer(room: &mut [u8], answer: &Result<Reply, Refusal>) -> usize
+    requires built { IsBuiltAnswer answer.now }
     ensures puts { Puts room.old 0 room.new result (answer_text answer.now) }
     ensures small { length (answer_text answer.now) ≤ 16384 }
 {

@@ -1,8 +1,14 @@
+ghost use Rattle.office_types.specs.Built.{IsBuiltAnswer, IsBuiltReply};
+ghost use Rattle.std.specs.Prelude.{IfOk};
+
 use super::*;
 use class_rules::Class;
+use due_core::{ActionKind, Target};
 use moments::{Moment, Month};
-use office_base::{BucketName, Nth, VersionId};
-use plain_office::{ClassMeters, Refusal, Reply, What};
+use office_base::{BucketName, Key, Nth, Text, VersionId};
+use office_types::{ClassMeters, Refusal, Reply, What};
+use stacks::Versioning;
+use std::alloc::Global;
 use std::test::Fail;
 
 const HEADERS: &str = "\r\ncontent-type: application/json\r\ncontent-length: ";
@@ -10,11 +16,13 @@ const HEADERS: &str = "\r\ncontent-type: application/json\r\ncontent-length: ";
 // What is printed into a room of 16,384 bytes.
 fn is_printed(
     rt: &impl std::process::Abort,
-    alloc: std::alloc::Global,
+    alloc: Global,
     answer: &Result<Reply, Refusal>,
     status: &str,
     body: &str,
-) -> Result<(), Fail> {
+) -> Result<(), Fail>
+    requires { IsBuiltAnswer answer.now }
+{
     let mut room = vec![in alloc; 0u8; 16384]?;
     let size = put_answer(&mut room, answer);
     let wanted = format!(in alloc; "HTTP/1.1 {status}{HEADERS}{}\r\n\r\n{body}", body.len())?;
@@ -24,111 +32,335 @@ fn is_printed(
     Ok(())
 }
 
+fn id(number: u64) -> Result<VersionId, Fail> {
+    Ok(VersionId::Number(Nth::of(number).ok_or("no such version")?))
+}
+
 #[test]
-fn refusals(rt: HostRuntime) -> Result<(), Fail> {
+fn short_refusals(rt: HostRuntime) -> Result<(), Fail> {
+    let alloc = rt.alloc();
+    let not_found = "404 Not Found";
+    let conflict = "409 Conflict";
+    let refusal = Err(Refusal::NoSuchKey);
+    is_printed(
+        &rt,
+        alloc,
+        &refusal,
+        not_found,
+        "{\"error\":\"NoSuchKey\",\"number\":50}",
+    )?;
+    let refusal = Err(Refusal::NoSuchVersion);
+    is_printed(
+        &rt,
+        alloc,
+        &refusal,
+        not_found,
+        "{\"error\":\"NoSuchVersion\",\"number\":51}",
+    )?;
+    let refusal = Err(Refusal::IsMarker);
+    is_printed(
+        &rt,
+        alloc,
+        &refusal,
+        conflict,
+        "{\"error\":\"IsMarker\",\"number\":52}",
+    )?;
+    let refusal = Err(Refusal::NoSuchUpload);
+    is_printed(
+        &rt,
+        alloc,
+        &refusal,
+        not_found,
+        "{\"error\":\"NoSuchUpload\",\"number\":60}",
+    )?;
+    let refusal = Err(Refusal::BadPart);
+    is_printed(
+        &rt,
+        alloc,
+        &refusal,
+        conflict,
+        "{\"error\":\"BadPart\",\"number\":61}",
+    )?;
+    let refusal = Err(Refusal::NoParts);
+    is_printed(
+        &rt,
+        alloc,
+        &refusal,
+        conflict,
+        "{\"error\":\"NoParts\",\"number\":62}",
+    )?;
+    let refusal = Err(Refusal::BucketExists);
+    is_printed(
+        &rt,
+        alloc,
+        &refusal,
+        conflict,
+        "{\"error\":\"BucketExists\",\"number\":80}",
+    )?;
+    let refusal = Err(Refusal::NoSuchBucket);
+    is_printed(
+        &rt,
+        alloc,
+        &refusal,
+        not_found,
+        "{\"error\":\"NoSuchBucket\",\"number\":81}",
+    )?;
+    let refusal = Err(Refusal::NoRules);
+    is_printed(
+        &rt,
+        alloc,
+        &refusal,
+        not_found,
+        "{\"error\":\"NoRules\",\"number\":82}",
+    )?;
+    let refusal = Err(Refusal::NotEnabledBefore);
+    is_printed(
+        &rt,
+        alloc,
+        &refusal,
+        conflict,
+        "{\"error\":\"NotEnabledBefore\",\"number\":83}",
+    )?;
+    let refusal = Err(Refusal::AlreadyClosed);
+    is_printed(
+        &rt,
+        alloc,
+        &refusal,
+        conflict,
+        "{\"error\":\"AlreadyClosed\",\"number\":86}",
+    )?;
+    let refusal = Err(Refusal::NoTariff);
+    is_printed(
+        &rt,
+        alloc,
+        &refusal,
+        conflict,
+        "{\"error\":\"NoTariff\",\"number\":88}",
+    )?;
+    let refusal = Err(Refusal::NoMemory);
+    is_printed(
+        &rt,
+        alloc,
+        &refusal,
+        "500 Internal Server Error",
+        "{\"error\":\"NoMemory\",\"number\":115}",
+    )
+}
+
+#[test]
+fn refusals_that_tell_more(rt: HostRuntime) -> Result<(), Fail> {
+    let alloc = rt.alloc();
+    let refusal = Err(Refusal::MonthNotOver {
+        end: 1_706_745_600_000,
+    });
+    let body = "{\"end\":\"2024-02-01T00:00:00.000Z\",\"error\":\"MonthNotOver\",\"number\":84}";
+    is_printed(&rt, alloc, &refusal, "409 Conflict", body)?;
+    let refusal = Err(Refusal::EarlierMonthOpen {
+        month: Month::of(2024, 2).ok_or("no February 2024")?,
+    });
+    let body = "{\"error\":\"EarlierMonthOpen\",\"month\":\"2024-02\",\"number\":87}";
+    is_printed(&rt, alloc, &refusal, "409 Conflict", body)?;
+    let refusal = Err(Refusal::DueActions {
+        bucket: BucketName::read(alloc, "logs")?,
+        key: Key::read(alloc, b"a\"b")?,
+        target: Target::Version(VersionId::Null),
+    });
+    let body =
+        "{\"bucket\":\"logs\",\"error\":\"DueActions\",\"key\":\"a\\\"b\",\"number\":85,\"version\":\"null\"}";
+    is_printed(&rt, alloc, &refusal, "409 Conflict", body)?;
+    let refusal = Err(Refusal::DueActions {
+        bucket: BucketName::read(alloc, "logs")?,
+        key: Key::read(alloc, b"a")?,
+        target: Target::Upload(7),
+    });
+    let body =
+        "{\"bucket\":\"logs\",\"error\":\"DueActions\",\"key\":\"a\",\"number\":85,\"upload\":7}";
+    is_printed(&rt, alloc, &refusal, "409 Conflict", body)?;
+    let refusal = Err(Refusal::ClockEnd {
+        moment: 4_102_444_800_000,
+    });
+    let body = "{\"error\":\"ClockEnd\",\"moment\":4102444800000,\"number\":91}";
+    is_printed(&rt, alloc, &refusal, "409 Conflict", body)
+}
+
+#[test]
+fn limits(rt: HostRuntime) -> Result<(), Fail> {
     let alloc = rt.alloc();
     let rows = [
-        (
-            Refusal::BucketExists,
-            "409 Conflict",
-            "{\"error\":\"BucketExists\",\"number\":80}",
-        ),
-        (
-            Refusal::NoSuchBucket,
-            "404 Not Found",
-            "{\"error\":\"NoSuchBucket\",\"number\":81}",
-        ),
-        (
-            Refusal::Full {
-                what: What::Buckets,
-                limit: 1000,
-            },
-            "507 Insufficient Storage",
-            "{\"error\":\"Full\",\"limit\":1000,\"number\":90,\"what\":\"Buckets\"}",
-        ),
-        (
-            Refusal::Full {
-                what: What::Names,
-                limit: 536_870_912,
-            },
-            "507 Insufficient Storage",
-            "{\"error\":\"Full\",\"limit\":536870912,\"number\":90,\"what\":\"Names\"}",
-        ),
-        (
-            Refusal::Full {
-                what: What::Versions,
-                limit: 200_000,
-            },
-            "507 Insufficient Storage",
-            "{\"error\":\"Full\",\"limit\":200000,\"number\":90,\"what\":\"Versions\"}",
-        ),
-        (
-            Refusal::ClockEnd {
-                moment: 4_102_444_800_000,
-            },
-            "409 Conflict",
-            "{\"error\":\"ClockEnd\",\"moment\":4102444800000,\"number\":91}",
-        ),
-        (
-            Refusal::NoMemory,
-            "500 Internal Server Error",
-            "{\"error\":\"NoMemory\",\"number\":115}",
-        ),
+        (What::Buckets, 1_000, "Buckets"),
+        (What::Versions, 200_000, "Versions"),
+        (What::Uploads, 20_000, "Uploads"),
+        (What::Parts, 500_000, "Parts"),
+        (What::Names, 536_870_912, "Names"),
+        (What::Rules, 67_108_864, "Rules"),
     ];
-    for (refusal, status, body) in rows {
-        is_printed(&rt, alloc, &Err(refusal), status, body)?;
+    for (what, limit, name) in rows {
+        let body = format!(in alloc;
+            "{{\"error\":\"Full\",\"limit\":{limit},\"number\":90,\"what\":\"{name}\"}}"
+        )?;
+        let refusal = Err(Refusal::Full { what, limit });
+        is_printed(&rt, alloc, &refusal, "507 Insufficient Storage", &body)?;
     }
     Ok(())
 }
 
 #[test]
-fn replies(rt: HostRuntime) -> Result<(), Fail> {
+fn replies_about_buckets(rt: HostRuntime) -> Result<(), Fail> {
     let alloc = rt.alloc();
-    let made = Reply::BucketMade {
+    let made = Ok(Reply::BucketMade {
         bucket: BucketName::read(alloc, "logs")?,
-    };
+    });
+    is_printed(&rt, alloc, &made, "201 Created", "{\"bucket\":\"logs\"}")?;
+    let enabled = Ok(Reply::VersioningSet {
+        versioning: Versioning::Enabled,
+    });
     is_printed(
         &rt,
         alloc,
-        &Ok(made),
-        "201 Created",
-        "{\"bucket\":\"logs\"}",
-    )?;
-    let shown = Reply::BucketShown {
-        bucket: BucketName::read(alloc, "logs")?,
-        versions: 1,
-    };
-    is_printed(
-        &rt,
-        alloc,
-        &Ok(shown),
+        &enabled,
         "200 OK",
-        "{\"bucket\":\"logs\",\"rules\":0,\"uploads\":0,\"versioning\":\"Unversioned\",\"versions\":1}",
+        "{\"versioning\":\"Enabled\"}",
     )?;
+    let suspended = Ok(Reply::VersioningSet {
+        versioning: Versioning::Suspended,
+    });
+    is_printed(
+        &rt,
+        alloc,
+        &suspended,
+        "200 OK",
+        "{\"versioning\":\"Suspended\"}",
+    )?;
+    let set = Ok(Reply::RulesSet { rules: 2 });
+    is_printed(&rt, alloc, &set, "200 OK", "{\"rules\":2}")?;
+    let dropped = Ok(Reply::RulesSet { rules: 0 });
+    is_printed(&rt, alloc, &dropped, "200 OK", "{\"rules\":0}")?;
+    let shown = Ok(Reply::BucketShown {
+        bucket: BucketName::read(alloc, "logs")?,
+        rules: 0,
+        uploads: 0,
+        versioning: Versioning::Unversioned,
+        versions: 1,
+    });
+    let body =
+        "{\"bucket\":\"logs\",\"rules\":0,\"uploads\":0,\"versioning\":\"Unversioned\",\"versions\":1}";
+    is_printed(&rt, alloc, &shown, "200 OK", body)?;
+    let set = Ok(Reply::TariffSet);
+    is_printed(&rt, alloc, &set, "200 OK", "{\"tariff\":\"set\"}")?;
+    let closed = Ok(Reply::Closed {
+        month: Month::of(2024, 1).ok_or("no January 2024")?,
+    });
+    is_printed(&rt, alloc, &closed, "200 OK", "{\"closed\":\"2024-01\"}")
+}
+
+#[test]
+fn replies_about_objects(rt: HostRuntime) -> Result<(), Fail> {
+    let alloc = rt.alloc();
     let moment = Moment::of(1_704_067_200_000)?;
-    let first = Reply::Stored {
+    let first = Ok(Reply::Stored {
         moment,
         version: VersionId::Null,
-    };
-    is_printed(
-        &rt,
-        alloc,
-        &Ok(first),
-        "201 Created",
-        "{\"moment\":\"2024-01-01T00:00:00.000Z\",\"version\":\"null\"}",
-    )?;
-    let third = Nth::of(3).ok_or("no third version")?;
-    let third = Reply::Stored {
+    });
+    let body = "{\"moment\":\"2024-01-01T00:00:00.000Z\",\"version\":\"null\"}";
+    is_printed(&rt, alloc, &first, "201 Created", body)?;
+    let third = Ok(Reply::Stored {
         moment,
-        version: VersionId::Number(third),
-    };
-    is_printed(
-        &rt,
+        version: id(3)?,
+    });
+    let body = "{\"moment\":\"2024-01-01T00:00:00.000Z\",\"version\":\"3\"}";
+    is_printed(&rt, alloc, &third, "201 Created", body)?;
+    let marked = Ok(Reply::Deleted {
+        marker: Some(id(4)?),
+    });
+    is_printed(&rt, alloc, &marked, "200 OK", "{\"marker\":\"4\"}")?;
+    let deleted = Ok(Reply::Deleted { marker: None });
+    is_printed(&rt, alloc, &deleted, "200 OK", "{\"removed\":\"null\"}")?;
+    let removed = Ok(Reply::VersionDeleted { removed: id(3)? });
+    is_printed(&rt, alloc, &removed, "200 OK", "{\"removed\":\"3\"}")?;
+    let tagged = Ok(Reply::TagsSet { tags: 2 });
+    is_printed(&rt, alloc, &tagged, "200 OK", "{\"tags\":2}")?;
+    let started = Ok(Reply::UploadStarted { upload: 1 });
+    is_printed(&rt, alloc, &started, "201 Created", "{\"upload\":1}")?;
+    let put = Ok(Reply::PartStored { part: 5 });
+    is_printed(&rt, alloc, &put, "200 OK", "{\"part\":5}")?;
+    let aborted = Ok(Reply::Aborted { upload: 1 });
+    is_printed(&rt, alloc, &aborted, "200 OK", "{\"aborted\":1}")
+}
+
+// An action by a rule, where its id is not too long.
+fn chosen(
+    alloc: Global,
+    kind: ActionKind,
+    key: &[u8],
+    target: Target,
+    rule: &str,
+    marker: Option<VersionId>,
+) -> Result<Reply, Fail>
+    ensures { IfOk result IsBuiltReply }
+{
+    let rule = Text::of(String::from_str(alloc, rule)?);
+    if rule.char_count() > 255 {
+        return Err("the id is too long")?;
+    }
+    Ok(Reply::Chosen {
+        kind,
+        key: Key::read(alloc, key)?,
+        target,
+        rule,
+        since: Moment::of(1_704_844_800_000)?,
+        marker,
+    })
+}
+
+#[test]
+fn actions(rt: HostRuntime) -> Result<(), Fail> {
+    let alloc = rt.alloc();
+    let null = Target::Version(VersionId::Null);
+    let removal = Ok(chosen(alloc, ActionKind::Remove, b"a", null, "r2", None)?);
+    let body =
+        "{\"action\":\"remove\",\"key\":\"a\",\"moment\":\"2024-01-10T00:00:00.000Z\",\"rule\":\"r2\",\"version\":\"null\"}";
+    is_printed(&rt, alloc, &removal, "200 OK", body)?;
+    let kind = ActionKind::Transition(Class::StandardIa);
+    let first = Target::Version(id(1)?);
+    let moved = Ok(chosen(alloc, kind, b"a", first, "r1", None)?);
+    let body =
+        "{\"action\":\"transition\",\"class\":\"STANDARD_IA\",\"key\":\"a\",\"moment\":\"2024-01-10T00:00:00.000Z\",\"rule\":\"r1\",\"version\":\"1\"}";
+    is_printed(&rt, alloc, &moved, "200 OK", body)?;
+    let marked = Ok(chosen(alloc, ActionKind::Marker, b"a", first, "r2", Some(id(2)?))?);
+    let body =
+        "{\"action\":\"marker\",\"key\":\"a\",\"marker\":\"2\",\"moment\":\"2024-01-10T00:00:00.000Z\",\"rule\":\"r2\",\"version\":\"1\"}";
+    is_printed(&rt, alloc, &marked, "200 OK", body)?;
+    let due = Ok(chosen(alloc, ActionKind::Marker, b"a", first, "r2", None)?);
+    let body =
+        "{\"action\":\"marker\",\"key\":\"a\",\"moment\":\"2024-01-10T00:00:00.000Z\",\"rule\":\"r2\",\"version\":\"1\"}";
+    is_printed(&rt, alloc, &due, "200 OK", body)?;
+    let abort = Ok(chosen(
         alloc,
-        &Ok(third),
-        "201 Created",
-        "{\"moment\":\"2024-01-01T00:00:00.000Z\",\"version\":\"3\"}",
-    )
+        ActionKind::Abort,
+        b"\t\x01",
+        Target::Upload(1),
+        "r",
+        None,
+    )?);
+    let body =
+        "{\"action\":\"abort\",\"key\":\"\\t\\u0001\",\"moment\":\"2024-01-10T00:00:00.000Z\",\"rule\":\"r\",\"upload\":1}";
+    is_printed(&rt, alloc, &abort, "200 OK", body)?;
+    let nothing = Ok(Reply::NothingDue);
+    is_printed(&rt, alloc, &nothing, "200 OK", "{\"action\":\"none\"}")
+}
+
+#[test]
+fn the_longest_action(rt: HostRuntime) -> Result<(), Fail> {
+    let alloc = rt.alloc();
+    let key = vec![in alloc; 1u8; 1024]?;
+    let rule = String::from_utf8(vec![in alloc; 2u8; 255]?)?;
+    let kind = ActionKind::Transition(Class::DeepArchive);
+    let target = Target::Version(id(18_446_744_073_709_551_615)?);
+    let answer = Ok(chosen(alloc, kind, &key, target, &rule, None)?);
+    let mut room = vec![in alloc; 0u8; 16384]?;
+    // 1,024 and 255 bytes of six characters each, and what stands between them.
+    assert_eq!(rt; put_answer(&mut room, &answer), 7_881);
+    Ok(())
 }
 
 fn used(class: Class, byte_ms: u128, early_byte_ms: u128, moves: u64) -> ClassMeters {
@@ -144,7 +376,7 @@ fn used(class: Class, byte_ms: u128, early_byte_ms: u128, moves: u64) -> ClassMe
 fn meters(rt: HostRuntime) -> Result<(), Fail> {
     let alloc = rt.alloc();
     let month = Month::of(2024, 1).ok_or("no January 2024")?;
-    let shown = Reply::MetersShown {
+    let shown = Ok(Reply::MetersShown {
         bucket: BucketName::read(alloc, "logs")?,
         month,
         classes: [
@@ -160,7 +392,7 @@ fn meters(rt: HostRuntime) -> Result<(), Fail> {
                 18_446_744_073_709_551_615,
             ),
         ],
-    };
+    });
     let nothing = "\"early_byte_ms\":\"0\",\"moves\":0}";
     let body = format!(in alloc;
         "{{\"bucket\":\"logs\",\"classes\":[{}{nothing},{},{}{nothing},{}{nothing},{}{nothing},{}],\"month\":\"2024-01\"}}",
@@ -171,7 +403,7 @@ fn meters(rt: HostRuntime) -> Result<(), Fail> {
         "{\"byte_ms\":\"0\",\"class\":\"GLACIER\",",
         "{\"byte_ms\":\"340282366920938463463374607431768211455\",\"class\":\"DEEP_ARCHIVE\",\"early_byte_ms\":\"0\",\"moves\":18446744073709551615}"
     )?;
-    is_printed(&rt, alloc, &Ok(shown), "200 OK", &body)
+    is_printed(&rt, alloc, &shown, "200 OK", &body)
 }
 
 #[test]

@@ -1,8 +1,8 @@
-use Rattle.std.proofs.Common.{codes}
+use Rattle.std.proofs.Common.{◌++◌, codes}
 use Rattle.json.specs.Print.{quoted}
-use Rattle.http_text.proofs.RoomLemmas.{puts_then, puts_same}
 use Rattle.moments.specs.Texts.{moment_text}
 use Rattle.office_base.specs.Versions.{id_text}
+use Rattle.http_text.proofs.RoomLemmas.{puts_then, puts_same}
 use Rattle.http_text.proofs.Texts.{stored_is}
 use Rattle.http_text.proofs.body.put_stored.Goals as goal
 
@@ -11,7 +11,5 @@ returns-clause-puts c =
     let m = c.args.moment in
     let v = c.args.version in
     puts_same _ _ (stored_is m v)
-    (puts_then (codes "{\"moment\":") _ c.put-at.ensures
-    (puts_then (quoted (moment_text m)) _ (rw (c.print_moment.ensures, c.ms.ensures.same) at c.put_quoted-at.ensures)
-    (puts_then (codes ",\"version\":") _ c.put-at-2.ensures
-    (puts_then (quoted (id_text v)) (codes "}") c.put_version-at.ensures c.put.ensures))))
+    (puts_then (codes "{\"moment\":" ++ quoted (moment_text m)) _ (rw c.ms.ensures.same at c.put_moment-at.ensures)
+    (puts_then (codes ",\"version\":" ++ quoted (id_text v)) (codes "}") c.put_id-at.ensures.puts c.put.ensures))

@@ -1,6 +1,6 @@
 use Rattle.std.proofs.Common.{codes}
 use Rattle.http_text.proofs.RoomLemmas.{puts_then}
-use Rattle.http_text.specs.Replies.{meters_text}
+use Rattle.http_text.specs.Bodies.{meters_text}
 use Rattle.http_text.proofs.meters.put_next.Goals as goal
 
 pub returns-clause-puts : goal.returns-clause-puts

@@ -1,0 +1,13 @@
+use Rattle.std.proofs.Common.{◌++◌, codes}
+use Rattle.json.specs.Print.{quoted}
+use Rattle.http_text.specs.Names.{month_text}
+use Rattle.http_text.proofs.RoomLemmas.{puts_then, puts_same}
+use Rattle.http_text.proofs.Texts.{text_object_is}
+use Rattle.http_text.proofs.members.put_month_object.Goals as goal
+
+pub returns-clause-puts : goal.returns-clause-puts
+returns-clause-puts c =
+    let name = c.args.name.now in
+    puts_same _ _ (text_object_is name (month_text c.args.month))
+    (puts_then (codes "{" ++ quoted name) _ c.put_text-at.ensures
+    (puts_then (codes ":" ++ quoted (month_text c.args.month)) (codes "}") c.put_month-at.ensures c.put.ensures))

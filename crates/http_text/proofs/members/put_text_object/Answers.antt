@@ -1,0 +1,12 @@
+use Rattle.std.proofs.Common.{◌++◌, codes}
+use Rattle.json.specs.Print.{quoted}
+use Rattle.http_text.proofs.RoomLemmas.{puts_then, puts_same}
+use Rattle.http_text.proofs.Texts.{text_object_is}
+use Rattle.http_text.proofs.members.put_text_object.Goals as goal
+
+pub returns-clause-puts : goal.returns-clause-puts
+returns-clause-puts c =
+    let name = c.args.name.now in
+    puts_same _ _ (text_object_is name c.args.text.now)
+    (puts_then (codes "{" ++ quoted name) _ c.put_text-at.ensures
+    (puts_then (codes ":" ++ quoted c.args.text.now) (codes "}") c.put_text-at-2.ensures c.put.ensures))

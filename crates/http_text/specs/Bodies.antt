@@ -1,0 +1,132 @@
+-- What the replies to commands and queries hold (own: the names of their fields).
+use Rattle.std.specs.Prelude.{ℕ, List, [], ◌∷◌, ◌++◌, map, drop, codes, Option, Some, None}
+use Rattle.serde_json.specs.Data.{Data, string}
+use Rattle.serde_json.specs.Written.{compact_text}
+use Rattle.class_rules.specs.Classes.{all_classes, class_name}
+use Rattle.class_rules.specs.declared.class.Class.{Class}
+use Rattle.office_base.specs.declared.version_id.VersionId.{VersionId}
+use Rattle.rules_json.specs.Printing.{class_data, configuration_data}
+use Rattle.stacks.specs.declared.version.Kind.{Kind}
+use Rattle.stacks.specs.declared.version.Kind.TheVariants.{Object, Marker}
+use Rattle.stacks.specs.declared.version.Version.{Version}
+use Rattle.uploads.specs.declared.part.Part.{Part}
+use Rattle.tariff.specs.Prices.{storage_price, move_price}
+use Rattle.due_core.specs.declared.action.ActionKind.{ActionKind}
+use Rattle.due_core.specs.declared.action.ActionKind.TheVariants as action
+use Rattle.due_core.specs.declared.action.Target.{Target}
+use Rattle.due_core.specs.declared.action.Target.TheVariants as target
+use Rattle.office_types.specs.declared.reply.ClassMeters.{ClassMeters}
+use Rattle.office_types.specs.declared.reply.Reply.{Reply}
+use Rattle.office_types.specs.declared.reply.Reply.TheVariants.{BucketMade, VersioningSet, RulesSet, Stored, Deleted}
+use Rattle.office_types.specs.declared.reply.Reply.TheVariants.{VersionDeleted, TagsSet, UploadStarted, PartStored}
+use Rattle.office_types.specs.declared.reply.Reply.TheVariants.{Aborted, Chosen, NothingDue, TariffSet, Closed}
+use Rattle.office_types.specs.declared.reply.Reply.TheVariants.{BucketShown, RulesShown, StackShown, UploadShown}
+use Rattle.office_types.specs.declared.reply.Reply.TheVariants.{MetersShown, TariffShown, Report}
+use Rattle.http_text.specs.Json.{json_object, array_of, whole, digits_of, moment_data, id_data, tags_data}
+use Rattle.http_text.specs.Names.{month_text, versioning_name, action_name}
+use Rattle.http_text.specs.Reports.{report_csv}
+
+-- a body: JSON, or the text of a report
+pub data Body : Type 0 where
+  json : Data → Body
+  csv : List ℕ → Body
+
+-- ---- a lifecycle action
+
+-- the class that an object moves to
+abbrev pub class_fields : ActionKind → List (List ℕ × Data)
+class_fields (action.Transition class) = (codes "class", class_data class) ∷ []
+class_fields other = []
+
+-- the delete marker that was made
+abbrev pub marker_fields : Option VersionId → List (List ℕ × Data)
+marker_fields None = []
+marker_fields (Some id) = (codes "marker", id_data id) ∷ []
+
+abbrev pub target_field : Target → List ℕ × Data
+target_field (target.Version id) = (codes "version", id_data id)
+target_field (target.Upload number) = (codes "upload", whole number)
+
+-- ---- versions, newest first: the first is the current one (S3 User Guide, "How S3 Versioning works")
+
+abbrev pub kind_fields : Kind → List (List ℕ × Data)
+kind_fields Marker = (codes "kind", string (codes "marker")) ∷ []
+kind_fields (Object size class tags entered) =
+    (codes "kind", string (codes "object")) ∷ (codes "size", whole size) ∷ (codes "class", class_data class)
+    ∷ (codes "tags", tags_data tags) ∷ (codes "entered", moment_data entered) ∷ []
+
+abbrev pub version_fields : Version → List (List ℕ × Data)
+version_fields version =
+    (codes "version", id_data version.id) ∷ (codes "created", moment_data version.created) ∷ kind_fields version.kind
+
+abbrev pub noncurrent_version : Version → Data
+noncurrent_version version =
+    json_object ((codes "noncurrent_since", moment_data version.ceased) ∷ version_fields version)
+
+abbrev pub versions_data : List Version → List Data
+versions_data [] = []
+versions_data (current ∷ noncurrent) = json_object (version_fields current) ∷ map noncurrent_version noncurrent
+
+-- ---- uploads, meters, prices
+
+abbrev pub part_data : ℕ × Part → Data
+part_data part = json_object ((codes "part", whole part.0) ∷ (codes "size", whole part.1.size) ∷ [])
+
+-- byte-milliseconds are texts of digits (own), since they may be larger than what a reader's numbers hold (RFC 8259,
+-- "Numbers")
+abbrev pub meters_data : ClassMeters → Data
+meters_data meters = json_object (
+    (codes "class", class_data meters.class) ∷ (codes "byte_ms", digits_of meters.byte_ms)
+    ∷ (codes "early_byte_ms", digits_of meters.early_byte_ms) ∷ (codes "moves", whole meters.moves) ∷ [])
+
+abbrev pub price_fields : (Class → ℕ) → List Class → List (List ℕ × Data)
+price_fields price classes = map (λ class. (class_name class, whole (price class))) classes
+
+-- these as they are written
+unfoldable pub meters_text : ClassMeters → List ℕ
+meters_text meters = compact_text (meters_data meters)
+
+unfoldable pub classes_text : List ClassMeters → List ℕ
+classes_text classes = compact_text (array_of (map meters_data classes))
+
+-- ---- the bodies
+
+abbrev pub reply_body : Reply → Body
+reply_body (BucketMade bucket) = json (json_object ((codes "bucket", string bucket) ∷ []))
+reply_body (VersioningSet versioning) =
+    json (json_object ((codes "versioning", string (versioning_name versioning)) ∷ []))
+reply_body (RulesSet rules) = json (json_object ((codes "rules", whole rules) ∷ []))
+reply_body (Stored moment version) =
+    json (json_object ((codes "moment", moment_data moment) ∷ (codes "version", id_data version) ∷ []))
+reply_body (Deleted (Some marker)) = json (json_object ((codes "marker", id_data marker) ∷ []))
+reply_body (Deleted None) = json (json_object ((codes "removed", string (codes "null")) ∷ []))
+reply_body (VersionDeleted removed) = json (json_object ((codes "removed", id_data removed) ∷ []))
+reply_body (TagsSet tags) = json (json_object ((codes "tags", whole tags) ∷ []))
+reply_body (UploadStarted upload) = json (json_object ((codes "upload", whole upload) ∷ []))
+reply_body (PartStored part) = json (json_object ((codes "part", whole part) ∷ []))
+reply_body (Aborted upload) = json (json_object ((codes "aborted", whole upload) ∷ []))
+reply_body (Chosen kind key target rule since marker) = json (json_object (
+    class_fields kind ++ (marker_fields marker ++ (
+    (codes "action", string (action_name kind)) ∷ (codes "key", string key) ∷ target_field target
+    ∷ (codes "rule", string rule) ∷ (codes "moment", moment_data since) ∷ []))))
+reply_body NothingDue = json (json_object ((codes "action", string (codes "none")) ∷ []))
+reply_body TariffSet = json (json_object ((codes "tariff", string (codes "set")) ∷ []))
+reply_body (Closed month) = json (json_object ((codes "closed", string (month_text month)) ∷ []))
+reply_body (BucketShown bucket rules uploads versioning versions) = json (json_object (
+    (codes "bucket", string bucket) ∷ (codes "versioning", string (versioning_name versioning))
+    ∷ (codes "rules", whole rules) ∷ (codes "versions", whole versions) ∷ (codes "uploads", whole uploads) ∷ []))
+reply_body (RulesShown rules) = json (configuration_data rules)
+reply_body (StackShown key stack) = json (json_object (
+    (codes "key", string key) ∷ (codes "changed", moment_data stack.changed)
+    ∷ (codes "versions", array_of (versions_data stack.versions)) ∷ []))
+reply_body (UploadShown number upload) = json (json_object (
+    (codes "upload", whole number) ∷ (codes "key", string upload.key) ∷ (codes "class", class_data upload.class)
+    ∷ (codes "tags", tags_data upload.tags) ∷ (codes "started", moment_data upload.started)
+    ∷ (codes "parts", array_of (map part_data upload.parts)) ∷ []))
+reply_body (MetersShown bucket month classes) = json (json_object (
+    (codes "bucket", string bucket) ∷ (codes "month", string (month_text month))
+    ∷ (codes "classes", array_of (map meters_data classes)) ∷ []))
+reply_body (TariffShown tariff) = json (json_object (
+    (codes "storage", json_object (price_fields (storage_price tariff) all_classes))
+    ∷ (codes "transition", json_object (price_fields (move_price tariff) (drop 1 all_classes))) ∷ []))
+reply_body (Report lines) = csv (report_csv lines)
