@@ -459,7 +459,7 @@ unfolding count_of
 empty_orderly = record {
   records = record {
     names = tt;
-    moments = record { accounts = refl; closed = refl; first_month = refl };
+    moments = record { accounts = refl; tariff = refl; closed = refl; first_month = refl };
     months = tt;
     nothing_due_in_closed_months = tt;
     versions = omega arith;

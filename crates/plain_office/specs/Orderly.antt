@@ -150,6 +150,7 @@ current_objects bucket = count_by (λ stack. current_is_object stack.1.versions)
 -- before the first accepted command there is nothing
 pub record IsBlank (office : Office) : Type 0 where
   pub accounts : office.accounts ≡ []
+  pub tariff : office.tariff ≡ None
   pub closed : office.closed ≡ []
   pub first_month : office.first_month ≡ None
 
