@@ -1,12 +1,12 @@
 -- Worked examples, computed.
-use Rattle.std.proofs.Common.{◌≡◌, ℕ, ◌-◌, ◌^◌, true, false, List, [], ◌∷◌, ◌++◌, take, drop, refl}
+use Rattle.std.proofs.Common.{◌≡◌, ℕ, ◌-◌, ◌^◌, false, List, [], ◌∷◌, ◌++◌, take, drop, refl}
 use Rattle.std.specs.Prelude.{Ok, Err, codes, ⊤}
 use Rattle.std.specs.List.{repeat}
 use Rattle.std.specs.Str.{is_utf8, chars}
 use Rattle.std.proofs.Math.Utf8.{encode}
 use Rattle.office_types.specs.declared.command.Command.TheVariants as command
 use Rattle.office_types.specs.declared.command.Entry.{Entry}
-use Rattle.class_rules.specs.declared.class.Class.TheVariants.{Standard, Glacier}
+use Rattle.class_rules.specs.declared.class.Class.TheVariants.{Glacier}
 use Rattle.office_base.specs.Names.{is_bucket_name}
 use Rattle.office_base.specs.Keys.{is_key}
 use Rattle.office_base.specs.Tags.{is_tag}

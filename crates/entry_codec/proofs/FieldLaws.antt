@@ -1,5 +1,5 @@
 -- Each field keeps the laws of a format.
-use Rattle.std.proofs.Common.{◌≡◌, ℕ, zero, suc, ◌+◌, ◌<◌, ◌≤◌, Bool, true, false, ◌&&◌, cond, eqb, if◌then◌else◌, List, [], ◌∷◌, Option, Some, None, Result, Ok, Err, refl, sym, ap, subst, ◌∙◌, arith, is_none}
+use Rattle.std.proofs.Common.{◌≡◌, ℕ, Bool, true, false, ◌&&◌, cond, eqb, if◌then◌else◌, List, Option, Some, None, Result, Ok, refl, sym, ap, subst, ◌∙◌, arith, is_none}
 use Rattle.std.specs.Prelude.{option_and_then}
 use Rattle.std.specs.Result.{result_ok}
 use Rattle.std.specs.Str.{is_utf8, bytes_eq}
@@ -21,14 +21,13 @@ use Rattle.moments.specs.Time.{end_of_time}
 use Rattle.office_base.specs.Names.{is_bucket_name}
 use Rattle.office_base.specs.Keys.{is_key}
 use Rattle.office_base.specs.Sizes.{largest_size}
-use Rattle.office_base.specs.Tags.{Tag}
 use Rattle.tariff.specs.Prices.{is_price}
 use Rattle.rules_core.specs.Conditions.{first_flaw}
 use Rattle.rules_core.specs.Configurations.{Configuration, has_name, has_midnights, has_texts, IsConfiguration}
 use Rattle.rules_json.specs.Printing.{printed}
 use Rattle.rules_json.specs.Reading.{rules_of}
 use Rattle.rules_json.specs.declared.fault.RulesFault.{RulesFault}
-use Rattle.entry_codec.specs.Formats.{Format, number, text, ◌such_that◌, pair, list, coded}
+use Rattle.entry_codec.specs.Formats.{Format, number, text, ◌such_that◌, list}
 use Rattle.entry_codec.proofs.Built.{each_built}
 use Rattle.entry_codec.proofs.FormatLaws.{some_is, if_some, both, and_true, IsFormat, IsCode, number-IsFormat, text-IsFormat, such_that-IsFormat, pair-IsFormat, list-IsFormat, coded-IsFormat, wide8, wide16, wide32, wide64}
 

@@ -1,12 +1,11 @@
 -- Values in range are values of their fields.
-use Rattle.std.proofs.Common.{◌≡◌, ℕ, ◌^◌, ◌<◌, ◌≤◌, Bool, true, ◌&&◌, List, [], ◌∷◌, length, refl, arith}
-use Rattle.std.specs.Prelude.{nat_le}
+use Rattle.std.proofs.Common.{◌≡◌, ℕ, ◌^◌, ◌≤◌, true, List, [], ◌∷◌, length, refl, arith}
 use Rattle.std.specs.List.{list_all}
 use Rattle.std.proofs.lemmas.Bool.{lt-ltb, le-leb}
 use Rattle.office_base.specs.Names.{IsBucketName}
 use Rattle.office_base.specs.Keys.{IsKey}
 use Rattle.office_base.specs.Sizes.{largest_size}
-use Rattle.office_base.specs.Tags.{Tag, is_tag, keys_rise, AreTags}
+use Rattle.office_base.specs.Tags.{Tag, is_tag, AreTags}
 use Rattle.office_base.proofs.Sizes.{name_small, key_small}
 use Rattle.class_rules.specs.declared.class.Class.{Class}
 use Rattle.class_rules.specs.declared.class.Class.TheVariants.{Standard, StandardIa, OnezoneIa, GlacierIr, Glacier, DeepArchive}

@@ -1,5 +1,5 @@
 -- What is written in a format is read again, and what is read was written so.
-use Rattle.std.proofs.Common.{◌≡◌, ℕ, zero, suc, ◌+◌, ◌^◌, ◌<◌, ◌≤◌, Bool, true, false, ◌&&◌, cond, if◌then◌else◌, ltb, List, [], ◌∷◌, ◌++◌, length, get_or, take, drop, Option, Some, None, refl, sym, ap, subst, ◌∙◌, append_assoc, arith, length-append, take-append-drop}
+use Rattle.std.proofs.Common.{◌≡◌, ℕ, zero, suc, ◌^◌, ◌<◌, ◌≤◌, Bool, true, false, ◌&&◌, cond, if◌then◌else◌, ltb, List, [], ◌∷◌, ◌++◌, length, take, drop, Option, Some, None, refl, sym, ap, subst, ◌∙◌, append_assoc, arith, length-append, take-append-drop}
 use Rattle.std.specs.List.{flat_map, list_all}
 use Rattle.std.specs.Int.{Width, w8, w16, w32, w64, byte_len, from_be_bytes, to_be_bytes}
 use Rattle.std.proofs.lemmas.Bool.{ltb-false, ltb-true, le-ltb, lt-ltb}
@@ -126,7 +126,7 @@ number-IsFormat w wide = record {
 pub text-IsFormat : (count : Format ℕ) → IsFormat count → IsFormat (text count)
 text-IsFormat count law = record {
   again = λ t rest has. ap (λ (b : List ℕ). count.front b >>= λ n. split n.0 n.1) (append_assoc (count.written (length t)) t rest)
-    ∙ ap (λ (o : Option (ℕ × List ℕ)). o >>= λ n. split n.0 n.1) (law.again (length t) (t ++ rest) has) ∙ split_again (length t) t rest refl;
+      ∙ ap (λ (o : Option (ℕ × List ℕ)). o >>= λ n. split n.0 n.1) (law.again (length t) (t ++ rest) has) ∙ split_again (length t) t rest refl;
   takes = takes;
 }
   where
@@ -141,7 +141,7 @@ text-IsFormat count law = record {
 pub such_that-IsFormat : {X : Type 0} (format : Format X) (test : X → Bool) → IsFormat format → IsFormat (format such_that test)
 such_that-IsFormat {X = X} format test law = record {
   again = λ x rest has. ap (λ (o : Option (X × List ℕ)). o >>= λ y. if test y.0 then Some y else None) (law.again x rest (both _ _ has).0)
-    ∙ ap (λ (b : Bool). if b then Some (x, rest) else None) (both _ _ has).1;
+      ∙ ap (λ (b : Bool). if b then Some (x, rest) else None) (both _ _ has).1;
   takes = takes;
 }
   where

@@ -1,5 +1,5 @@
 -- How long an entry is.
-use Rattle.std.proofs.Common.{◌≡◌, ℕ, ◌+◌, ◌*◌, ◌^◌, ◌<◌, ◌≤◌, Bool, true, ◌&&◌, List, [], ◌∷◌, ◌++◌, length, refl, ap, arith, length-append}
+use Rattle.std.proofs.Common.{◌≡◌, ℕ, ◌+◌, ◌*◌, ◌^◌, ◌<◌, ◌≤◌, true, ◌&&◌, List, [], ◌∷◌, ◌++◌, length, refl, ap, arith, length-append}
 use Rattle.std.specs.Prelude.{nat_le}
 use Rattle.std.specs.List.{list_all, flat_map}
 use Rattle.std.specs.Str.{is_utf8}
@@ -7,9 +7,11 @@ use Rattle.std.proofs.lemmas.Bool.Decides.{nat_tests}
 use Rattle.std.proofs.lemmas.Str.{IsUtf8-from_is_utf8}
 use Rattle.office_base.specs.Tags.{Tag, char_count, is_tag, keys_rise}
 use Rattle.office_base.proofs.Sizes.{name_small, key_small}
-use Rattle.office_types.specs.Built.{IsBuilt}
 use Rattle.office_types.specs.declared.command.Command.{Command}
+use Rattle.office_types.specs.declared.command.Command.TheVariants as command
 use Rattle.office_types.specs.declared.command.Entry.{Entry}
+use Rattle.rules_core.specs.Configurations.{Configuration}
+use Rattle.rules_json.specs.Printing.{printed}
 use Rattle.rules_json.proofs.Sizes.{text_small}
 use Rattle.rules_json.proofs.ShortTexts.{printed_small}
 use Rattle.std.specs.Int.{w8}
@@ -134,6 +136,40 @@ spelling_short e fits = omega (arith, spelling_small e fits)
 
 pub entry_small : (bytes : List ℕ) → IsEntry bytes → length bytes < 2 ^ 32
 entry_small bytes is = omega (arith, ap length is.2, spelling_small is.0 is.1)
+
+-- ---- entries of all kinds, built or not
+
+-- all fields but rules are short
+other_most : (k : Kind) → (k ≡ kind.SetRules → ⊥) → most_of (fields_of k) ≤ 16_501
+other_most kind.CreateBucket other = omega arith
+other_most kind.SetVersioning other = omega arith
+other_most kind.SetRules other = absurd (other refl)
+other_most kind.DropRules other = omega arith
+other_most kind.Put other = omega arith
+other_most kind.Delete other = omega arith
+other_most kind.DeleteVersion other = omega arith
+other_most kind.SetTags other = omega arith
+other_most kind.StartUpload other = omega arith
+other_most kind.PutPart other = omega arith
+other_most kind.Complete other = omega arith
+other_most kind.Abort other = omega arith
+other_most kind.Act other = omega arith
+other_most kind.SetTariff other = omega arith
+other_most kind.Close other = omega arith
+
+pub other_small : (e : Entry) → IsInRange e.command → ((parts_of e.command).kind ≡ kind.SetRules → ⊥) → length (spelling e) ≤ 16_510
+other_small e range other = omega (arith, by_fields e range, other_most (parts_of e.command).kind other)
+
+-- an entry that sets rules is longer than their text by the bucket's name and 15 bytes: below 2^32 + 78 bytes, as the text has
+-- fewer than 2^32
+pub length-set_rules : (moment : ℕ) (bucket : List ℕ) (rules : Configuration)
+    → length (spelling (entry_at moment (command.SetRules bucket rules))) ≡ 15 + length bucket + length (printed rules)
+unfolding spelling command_spelling moment_format kind_format format
+length-set_rules moment bucket rules = omega (arith, length-append bucket ((format Rules).written rules ++ []), length-append (printed rules) [])
+
+pub set_rules_small : (moment : ℕ) (bucket : List ℕ) (rules : Configuration) → IsInRange (command.SetRules bucket rules)
+    → length (spelling (entry_at moment (command.SetRules bucket rules))) < 2 ^ 32 + 78
+set_rules_small moment bucket rules range = omega (arith, by_fields (entry_at moment (command.SetRules bucket rules)) range)
 
 -- a moment and a kind
 pub spelling_long : (e : Entry) → 9 ≤ length (spelling e)

@@ -1,5 +1,5 @@
 -- The fields of entries, each with its format (own).
-use Rattle.std.specs.Prelude.{◌≡◌, ℕ, zero, suc, ◌-◌, Bool, true, false, ◌&&◌, nat_lt, nat_le, ◌==◌, List, [], ◌∷◌, ◌++◌, length, Option, Some, None, option_and_then, if◌then◌else◌, is_none}
+use Rattle.std.specs.Prelude.{ℕ, Bool, true, false, ◌&&◌, nat_lt, nat_le, ◌==◌, List, Option, Some, None, option_and_then, if◌then◌else◌, is_none}
 use Rattle.std.specs.Result.{result_ok}
 use Rattle.std.specs.Int.{w8, w16, w32, w64}
 use Rattle.std.specs.List.{find, list_all}
@@ -24,7 +24,11 @@ use Rattle.entry_codec.specs.Formats.{Format, number, text, ◌such_that◌, pai
 
 -- a class by its rank
 abbrev pub ranks : Code ℕ Class
-ranks = record { code = rank_of; has = λ class. true; value = λ rank. find (λ class. rank_of class == rank) all_classes }
+ranks = record {
+  code = rank_of;
+  has = λ class. true;
+  value = λ rank. find (λ class. rank_of class == rank) all_classes;
+}
 
 -- versioning that is set: 1 to enabled, 2 to suspended
 abbrev pub status_code : Bool → ℕ
@@ -59,7 +63,8 @@ utf8_text = text (number w16) such_that is_utf8
 unfoldable pub tag : Format Tag
 tag = pair utf8_text utf8_text
 
--- tags as an object keeps them, beside their number (S3 User Guide, "Categorizing your objects using tags"; the order is own)
+-- tags as an object keeps them, beside their number (S3 User Guide, "Categorizing your objects using tags"); the order
+-- is own
 abbrev pub are_kept : List Tag → Bool
 are_kept tags = list_all is_tag tags && keys_rise tags
 
@@ -71,10 +76,15 @@ is_configuration configuration =
 
 -- a configuration by its one text
 abbrev pub if_printed : List ℕ → Configuration → Option Configuration
-if_printed t configuration = if is_configuration configuration && bytes_eq t (printed configuration) then Some configuration else None
+if_printed t configuration =
+    if is_configuration configuration && bytes_eq t (printed configuration) then Some configuration else None
 
 abbrev pub texts : Code (List ℕ) Configuration
-texts = record { code = printed; has = is_configuration; value = λ t. option_and_then (if_printed t) (result_ok (rules_of t)) }
+texts = record {
+  code = printed;
+  has = is_configuration;
+  value = λ t. option_and_then (if_printed t) (result_ok (rules_of t));
+}
 
 -- ---- fields
 

@@ -3,8 +3,8 @@ use Rattle.std.specs.Prelude.{ℕ, zero, suc, ◌^◌, Bool, ◌&&◌, List, [],
 use Rattle.std.specs.List.{flat_map, list_all}
 use Rattle.std.specs.Int.{Width, byte_len, from_be_bytes, to_be_bytes}
 
--- what is written for a value, which values the format has, and the value with which bytes begin, with the bytes behind it; none
--- where no value of the format begins them
+-- what is written for a value, which values the format has, and the value with which bytes begin, with the bytes behind
+-- it; none where no value of the format begins them
 pub record Format (X : Type 0) : Type 0 where
   pub written : X → List ℕ
   pub has : X → Bool
@@ -56,7 +56,8 @@ pair first second = record {
 -- so many values, one behind the other
 unfoldable pub front_items : {X : Type 0} → Format X → ℕ → List ℕ → Option (List X × List ℕ)
 front_items format zero bytes = Some ([], bytes)
-front_items format (suc n) bytes = format.front bytes >>= λ x. front_items format n x.1 >>= λ xs. Some (x.0 ∷ xs.0, xs.1)
+front_items format (suc n) bytes =
+    format.front bytes >>= λ x. front_items format n x.1 >>= λ xs. Some (x.0 ∷ xs.0, xs.1)
 
 -- a list behind its length
 abbrev pub list : {X : Type 0} → Format ℕ → Format X → Format (List X)

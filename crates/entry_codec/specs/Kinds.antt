@@ -1,5 +1,5 @@
 -- The kinds of entries. Each has a number and fields (own), and stands for one command.
-use Rattle.std.specs.Prelude.{ℕ, ◌==◌, Bool, true, false, ◌&&◌, List, [], ◌∷◌, ◌++◌, slice_index}
+use Rattle.std.specs.Prelude.{ℕ, ◌==◌, Bool, true, false, ◌&&◌, List, [], ◌∷◌, slice_index}
 use Rattle.std.specs.Int.{w8}
 use Rattle.std.specs.List.{find, repeat}
 use Rattle.moments.specs.Months.{year_of, month_of_year, month_number}
@@ -9,12 +9,13 @@ use Rattle.entry_codec.specs.Formats.{Format, number, Code, coded}
 use Rattle.entry_codec.specs.Fields.{Field, Name, Key, Size, Rank, Tags, Rules, Status, Id, Number4, Number8, Price, Year, Month, Holds}
 
 pub data Kind : Type 0 where
-  CreateBucket SetVersioning SetRules DropRules Put Delete DeleteVersion SetTags StartUpload PutPart Complete Abort Act SetTariff Close : Kind
+  CreateBucket SetVersioning SetRules DropRules Put Delete DeleteVersion SetTags : Kind
+  StartUpload PutPart Complete Abort Act SetTariff Close : Kind
 
 abbrev pub all_kinds : List Kind
 all_kinds =
-    CreateBucket ∷ SetVersioning ∷ SetRules ∷ DropRules ∷ Put ∷ Delete ∷ DeleteVersion ∷ SetTags ∷ StartUpload ∷ PutPart ∷ Complete ∷ Abort
-    ∷ Act ∷ SetTariff ∷ Close ∷ []
+    CreateBucket ∷ SetVersioning ∷ SetRules ∷ DropRules ∷ Put ∷ Delete ∷ DeleteVersion ∷ SetTags
+    ∷ StartUpload ∷ PutPart ∷ Complete ∷ Abort ∷ Act ∷ SetTariff ∷ Close ∷ []
 
 -- the number of each kind, and its fields
 abbrev pub row : Kind → ℕ × List Field
@@ -48,7 +49,11 @@ fields_of kind = (row kind).1
 
 -- a kind by its number
 abbrev pub kinds : Code ℕ Kind
-kinds = record { code = number_of; has = is_built; value = λ n. find (λ kind. is_built kind && number_of kind == n) all_kinds }
+kinds = record {
+  code = number_of;
+  has = is_built;
+  value = λ n. find (λ kind. is_built kind && number_of kind == n) all_kinds;
+}
 
 unfoldable pub kind_format : Format Kind
 kind_format = coded (number w8) kinds
@@ -71,19 +76,25 @@ parts_of (command.CreateBucket bucket) = record { kind = CreateBucket; values = 
 parts_of (command.SetVersioning bucket enabled) = record { kind = SetVersioning; values = (bucket, (enabled, tt)) }
 parts_of (command.SetRules bucket rules) = record { kind = SetRules; values = (bucket, (rules, tt)) }
 parts_of (command.DropRules bucket) = record { kind = DropRules; values = (bucket, tt) }
-parts_of (command.Put bucket key size class tags) = record { kind = Put; values = (bucket, (key, (size, (class, (tags, tt))))) }
+parts_of (command.Put bucket key size class tags) =
+    record { kind = Put; values = (bucket, (key, (size, (class, (tags, tt))))) }
 parts_of (command.Delete bucket key) = record { kind = Delete; values = (bucket, (key, tt)) }
 parts_of (command.DeleteVersion bucket key id) = record { kind = DeleteVersion; values = (bucket, (key, (id, tt))) }
 parts_of (command.SetTags bucket key id tags) = record { kind = SetTags; values = (bucket, (key, (id, (tags, tt)))) }
-parts_of (command.StartUpload bucket key class tags) = record { kind = StartUpload; values = (bucket, (key, (class, (tags, tt)))) }
-parts_of (command.PutPart bucket upload part size) = record { kind = PutPart; values = (bucket, (upload, (part, (size, tt)))) }
+parts_of (command.StartUpload bucket key class tags) =
+    record { kind = StartUpload; values = (bucket, (key, (class, (tags, tt)))) }
+parts_of (command.PutPart bucket upload part size) =
+    record { kind = PutPart; values = (bucket, (upload, (part, (size, tt)))) }
 parts_of (command.Complete bucket upload) = record { kind = Complete; values = (bucket, (upload, tt)) }
 parts_of (command.Abort bucket upload) = record { kind = Abort; values = (bucket, (upload, tt)) }
 parts_of (command.Act bucket) = record { kind = Act; values = (bucket, tt) }
 parts_of (command.SetTariff tariff) =
     let s = slice_index tariff.storage in
     let t = slice_index tariff.transition in
-    record { kind = SetTariff; values = (s 0, (s 1, (s 2, (s 3, (s 4, (s 5, (t 0, (t 1, (t 2, (t 3, (t 4, tt))))))))))) }
+    record {
+      kind = SetTariff;
+      values = (s 0, (s 1, (s 2, (s 3, (s 4, (s 5, (t 0, (t 1, (t 2, (t 3, (t 4, tt)))))))))));
+    }
 parts_of (command.Close month) = record { kind = Close; values = (year_of month, (month_of_year month, tt)) }
 
 -- the command of a kind with these values

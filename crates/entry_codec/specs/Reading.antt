@@ -1,5 +1,6 @@
--- Reading bytes from left to right, by the fields of the kind. A fault is the place at which the first field that breaks the format
--- begins, in bytes from the first byte of the entry; bytes behind the last field break it where they begin (own).
+-- Reading bytes from left to right, by the fields of the kind. A fault is the place at which the first field begins
+-- that breaks the format, in bytes from the first byte of the entry; bytes behind the last field break it where they
+-- begin (own).
 use Rattle.std.specs.Prelude.{◌≡◌, ℕ, ◌-◌, List, [], ◌∷◌, length, Option, option_map, Result, Ok, Err, ok_or, ◌==◌, if◌then◌else◌}
 use Rattle.office_types.specs.declared.command.Command.{Command}
 use Rattle.office_types.specs.declared.command.Entry.{Entry}

@@ -18,7 +18,9 @@ written_values (field ∷ fields) (value, values) = (format field).written value
 
 -- a command: its kind, and its fields
 unfoldable pub command_spelling : Command → List ℕ
-command_spelling c = let parts = parts_of c in kind_format.written parts.kind ++ written_values (fields_of parts.kind) parts.values
+command_spelling c =
+    let parts = parts_of c in
+    kind_format.written parts.kind ++ written_values (fields_of parts.kind) parts.values
 
 -- an entry: its moment, and its command
 unfoldable pub spelling : Entry → List ℕ

@@ -1,5 +1,5 @@
-// Reading the parts of which fields consist. A reader takes its value from the front of the bytes, and gives what is left then;
-// it gives None where no such value stands there.
+// Reading the parts of which fields consist. A reader takes its value from the front of the bytes, and gives what is
+// left then; it gives None where no such value stands there.
 ghost use Rattle.std.specs.Prelude.{◌≡◌, ◌+◌, ◌<◌, ◌≤◌, ◌^◌, ◌&&◌, List, length, option_map, IfOk};
 ghost use Rattle.std.specs.Int.{w8, w16, w64};
 ghost use Rattle.office_base.specs.Tags.{tag_of, tags_of, comes_before, keys_rise};
@@ -87,7 +87,10 @@ fn tag_in(alloc: Global, bytes: &[u8]) -> Result<Option<((String, String), &[u8]
 fn pair_of(alloc: Global, key: &str, value: &str) -> Result<(String, String), AllocError>
     ensures { IfOk result (λ pair. tag_of pair ≡ (key.now, value.now)) }
 {
-    Ok((String::from_str(alloc, key)?, String::from_str(alloc, value)?))
+    Ok((
+        String::from_str(alloc, key)?,
+        String::from_str(alloc, value)?,
+    ))
 }
 
 // So many of them.

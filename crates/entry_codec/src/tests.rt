@@ -106,7 +106,10 @@ fn tags_are_written_by_key(rt: HostRuntime) -> Result<(), Fail> {
     let alloc = rt.alloc();
     let mut pairs = Vec::new(alloc);
     for (key, value) in [("kind", "raw"), ("keep", "no")] {
-        pairs.push((String::from_str(alloc, key)?, String::from_str(alloc, value)?))?;
+        pairs.push((
+            String::from_str(alloc, key)?,
+            String::from_str(alloc, value)?,
+        ))?;
     }
     let entry = Entry {
         moment: Moment::of(NEW_YEAR)?,
@@ -186,7 +189,11 @@ fn tags_in_and_out_of_range(rt: HostRuntime) -> Result<(), Fail> {
         bytes.extend_from_slice(&vec![in rt.alloc(); 0x6b; key_size]?)?;
         bytes.extend_from_slice(&value)?;
         bytes.extend_from_slice(&vec![in rt.alloc(); 0x6b; value_size]?)?;
-        assert_eq!(rt; decode(rt.alloc(), &bytes).err(), fault, "{key_size} {value_size}");
+        assert_eq!(rt;
+            decode(rt.alloc(), &bytes).err(),
+            fault,
+            "{key_size} {value_size}"
+        );
     }
     Ok(())
 }

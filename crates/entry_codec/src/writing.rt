@@ -21,8 +21,8 @@ use office_base::{BucketName, Key, NoMemory, Size, Tags};
 use office_types::{Command, Entry};
 use std::alloc::{AllocError, Global};
 
-/// The most bytes of an entry's spelling: 2 MiB. Own rule: it has room for a command that carries a whole request body of 1 MiB,
-/// and a reader can refuse what is longer before it takes memory for it.
+/// The most bytes of an entry's spelling: 2 MiB. Own rule: it has room for a command that carries a whole request body
+/// of 1 MiB, and a reader can refuse what is longer before it takes memory for it.
 pub const ENTRY_LIMIT: u64 = 2_097_152;
 
 fn put_text(out: &mut Vec<u8>, bytes: &[u8]) -> Result<(), AllocError>
@@ -54,7 +54,6 @@ fn put_tags(out: &mut Vec<u8>, tags: &Tags) -> Result<(), AllocError>
     Ok(())
 }
 
-
 // ---- commands: their kind, and their fields
 
 #[tactic(auto, using(crate::proofs::Fitting::create_bucket_fits), unfolding(crate::specs::Spelling::command_spelling, crate::specs::Kinds::kind_format, crate::specs::Fields::format))]
@@ -75,8 +74,9 @@ fn put_object(
     size: Size,
     class: Class,
 ) -> Result<(), AllocError>
-    ensures bytes { OnOk result (out.new.items ≡ out.old.items ++ (kind_format.written kind.Put ++ (format field.Name).written bucket.now
-        ++ (format field.Key).written key.now ++ (format field.Size).written size ++ (format field.Rank).written class)) }
+    ensures bytes { OnOk result (out.new.items ≡ out.old.items
+        ++ (kind_format.written kind.Put ++ (format field.Name).written bucket.now ++ (format field.Key).written key.now
+        ++ (format field.Size).written size ++ (format field.Rank).written class)) }
     ensures in_range { OnOk result (IsBucketName bucket.now × IsKey key.now × (size ≤ largest_size)) }
 {
     out.push(5)?;
@@ -95,7 +95,8 @@ fn put_put(
     class: Class,
     tags: &Tags,
 ) -> Result<(), AllocError>
-    ensures bytes { OnOk result (out.new.items ≡ out.old.items ++ command_spelling (command.Put bucket.now key.now size class tags.now)) }
+    ensures bytes { OnOk result (out.new.items
+        ≡ out.old.items ++ command_spelling (command.Put bucket.now key.now size class tags.now)) }
     ensures fits { OnOk result (CommandFits (command.Put bucket.now key.now size class tags.now)) }
 {
     put_object(out, bucket, key, size, class)?;
@@ -139,7 +140,8 @@ fn written(alloc: Global, moment: Moment, command: &Command) -> Result<Vec<u8>, 
 /// Writes the one spelling of the entry that a command has at a moment.
 ///
 /// Own rule: the moment in ms in eight bytes, the kind of the command in one, then its fields, most significant byte
-/// first; so an entry can be found again from its bytes alone. Cost: one pass over the fields, and memory for the bytes.
+/// first; so an entry can be found again from its bytes alone. Cost: one pass over the fields, and memory for the
+/// bytes.
 ///
 /// # Errors
 ///

@@ -1,5 +1,5 @@
-use Rattle.std.proofs.Common.{◌≡◌, ◌&&◌, sym, ap, ◌∙◌}
-use Rattle.office_base.specs.Tags.{tag_of, tags_of, keys_rise}
+use Rattle.std.proofs.Common.{◌&&◌, sym, ap, ◌∙◌}
+use Rattle.office_base.specs.Tags.{tags_of, keys_rise}
 use Rattle.office_base.proofs.InOrder.{others}
 use Rattle.entry_codec.proofs.Rising.{rise_first}
 use Rattle.entry_codec.proofs.fields.+rise.Goals as goal

@@ -1,7 +1,6 @@
-use Rattle.std.proofs.Common.{◌≡◌, ◌≤◌, not, true, false, None, Some, option_map, sym, ap, ◌∙◌, inl, inr, rules}
-use Rattle.std.specs.Int.{w8}
+use Rattle.std.proofs.Common.{◌≡◌, true, false, None, Some, option_map, sym, ap, ◌∙◌, inl, inr, rules}
 use Rattle.office_base.specs.Tags.{are_tags, keys_rise, tags_of}
-use Rattle.entry_codec.specs.Formats.{number, front_items}
+use Rattle.entry_codec.specs.Formats.{front_items}
 use Rattle.entry_codec.specs.Fields.{tag}
 use Rattle.entry_codec.proofs.TagLemmas.{no_count, large_count, no_pairs, not_rising, rising, out_of_range}
 use Rattle.entry_codec.proofs.fields.tags_in.Goals as goal

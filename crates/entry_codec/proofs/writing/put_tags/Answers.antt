@@ -1,6 +1,6 @@
-use Rattle.std.proofs.Common.{◌≡◌, ◌++◌, true, sym, ap, ◌∙◌, subst, List}
+use Rattle.std.proofs.Common.{◌≡◌, ◌++◌, true, ap, ◌∙◌}
 use Rattle.std.specs.List.{list_all}
-use Rattle.office_base.specs.Tags.{Tag, is_tag, tags_of}
+use Rattle.office_base.specs.Tags.{is_tag, tags_of}
 use Rattle.entry_codec.proofs.TagLemmas.{tag_at, all_written}
 use Rattle.entry_codec.proofs.writing.put_tags.Goals as goal
 
