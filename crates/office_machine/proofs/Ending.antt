@@ -1,6 +1,6 @@
 -- The books after a version's open stay ended, as meters book it.
 use Rattle.std.proofs.Common.{◌≡◌, ℕ, ◌+◌, ◌-◌, ◌*◌, List, [], ◌∷◌, ◌++◌, map, refl, ap, sym, ◌∙◌, subst, Bool, true, false, cond}
-use Rattle.std.specs.Prelude.{Some, nat_lt}
+use Rattle.std.specs.Prelude.{nat_lt}
 use Rattle.std.proofs.lemmas.List.{map-append}
 use Rattle.office_base.specs.Tags.{Tag}
 use Rattle.class_rules.specs.Classes.{least_stay}
@@ -12,7 +12,7 @@ use Rattle.stacks.specs.declared.version.Kind.TheVariants.{Object, Marker}
 use Rattle.stacks.specs.declared.version.Version.{Version}
 use Rattle.accrual.specs.Books.{Book, Stay, Early, open_stay, ended_stay, with_stay, with_early}
 use Rattle.accrual.specs.Totals.{Totals, StandsFor, HasOpenStay, with_early_of}
-use Rattle.plain_office.specs.Office.{Books, Booked, of_version, book_of, stay_in}
+use Rattle.plain_office.specs.Office.{Books, of_version, book_of, stay_in}
 use Rattle.plain_office.specs.Books as plain
 use Rattle.plain_office.specs.Books.{lines_of_kind, with_end}
 use Rattle.plain_office.specs.Orderly.{lines_since, stay_of_version}

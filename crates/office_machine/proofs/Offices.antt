@@ -1,6 +1,6 @@
 -- What the office in memory stands for after each command, and the replies to queries.
-use Rattle.std.proofs.Common.{◌≡◌, ◌⊎◌, inl, inr, ℕ, ◌+◌, ◌≤◌, ◌<◌, List, [], ◌∷◌, length, map, refl, ap, sym, ◌∙◌, Bool, true, false, subst, arith}
-use Rattle.std.specs.Prelude.{Option, Some, None, Result, Ok, Err, is_some, unwrap_or}
+use Rattle.std.proofs.Common.{◌≡◌, inl, inr, ℕ, ◌+◌, ◌≤◌, List, [], ◌∷◌, length, map, refl, ap, sym, ◌∙◌, Bool, true, false, subst, arith}
+use Rattle.std.specs.Prelude.{Option, Some, None, Ok, Err, is_some, unwrap_or}
 use Rattle.std.specs.List.{AllByRecursion}
 use Rattle.std.specs.Map.{set_value}
 use Rattle.std.specs.BTreeMap.{is_at}
@@ -11,11 +11,11 @@ use Rattle.accrual.specs.Books.{IsBookedBy}
 use Rattle.tariff.specs.Prices.{Prices}
 use Rattle.due_core.specs.Buckets.{BucketRecord}
 use Rattle.plain_office.specs.Office.{Office, Account, empty_office, book_of}
-use Rattle.plain_office.specs.Counts.{count_of, limit_of, first_full, version_count}
+use Rattle.plain_office.specs.Counts.{count_of, limit_of, version_count}
 use Rattle.plain_office.specs.Orderly.{IsOrderly, SizeFits}
 use Rattle.plain_office.specs.Run.{is_not_before}
 use Rattle.plain_office.specs.Step.{Change, step, accepted, new_account}
-use Rattle.plain_office.specs.Answers.{answer, class_meters, rule_count, bucket_shown}
+use Rattle.plain_office.specs.Answers.{answer, class_meters, rule_count}
 use Rattle.office_types.specs.declared.command.Command.{Command}
 use Rattle.office_types.specs.declared.command.Command.TheVariants as command
 use Rattle.office_types.specs.declared.command.Query.TheVariants as query

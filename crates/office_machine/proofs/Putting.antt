@@ -1,6 +1,6 @@
 -- A bucket after an object was put.
-use Rattle.std.proofs.Common.{◌≡◌, ◌⊎◌, inl, inr, ℕ, zero, ◌+◌, ◌-◌, ◌*◌, ◌^◌, ◌≤◌, ◌<◌, List, [], ◌∷◌, length, refl, ap, sym, ◌∙◌, subst, Bool, true, false, cond, arith}
-use Rattle.std.specs.Prelude.{Option, Some, None, Result, Ok, Err, is_some, unwrap_or, option_map, option_to_list, sum_by}
+use Rattle.std.proofs.Common.{◌≡◌, ◌⊎◌, inl, inr, ℕ, ◌+◌, ◌≤◌, ◌<◌, List, [], ◌∷◌, length, refl, ap, sym, ◌∙◌, subst, Bool, true, false, cond, arith}
+use Rattle.std.specs.Prelude.{Option, Some, None, Result, Ok, Err, is_some, unwrap_or, option_map, sum_by}
 use Rattle.std.specs.List.{AllByRecursion, list_all, filter}
 use Rattle.std.proofs.lemmas.Bool.{and_parts}
 use Rattle.std.proofs.lemmas.List.Sums.{sum_by-cons}
@@ -9,21 +9,19 @@ use Rattle.office_base.specs.Tags.{Tag}
 use Rattle.office_base.specs.declared.version_id.VersionId.{VersionId}
 use Rattle.office_base.specs.declared.version_id.VersionId.TheVariants.{Null}
 use Rattle.class_rules.specs.declared.class.Class.{Class}
-use Rattle.stacks.specs.Stacks.{StackRecord, new_stack, version_at, without, covered, ids_differ, new_id, new_version, replaced, IsFree, has_moments_until}
+use Rattle.stacks.specs.Stacks.{StackRecord, new_stack, version_at, without, covered, ids_differ, new_id, replaced, IsFree, has_moments_until}
 use Rattle.stacks.specs.declared.version.Versioning.{Versioning}
 use Rattle.stacks.specs.declared.version.Versioning.TheVariants.{Unversioned, Enabled, Suspended}
-use Rattle.stacks.specs.declared.version.Kind.{Kind}
-use Rattle.stacks.specs.declared.version.Kind.TheVariants.{Object, Marker}
+use Rattle.stacks.specs.declared.version.Kind.TheVariants.{Object}
 use Rattle.stacks.specs.declared.version.Version.{Version}
 use Rattle.accrual.specs.Totals.{Totals, StandsFor}
 use Rattle.due_core.specs.Buckets.{BucketRecord}
-use Rattle.plain_office.specs.Office.{Account, Books, Booked, book_of, of_version}
+use Rattle.plain_office.specs.Office.{Account, Books, book_of, of_version}
 use Rattle.plain_office.specs.Books.{is_open_stay}
-use Rattle.plain_office.specs.Changes.{versions_of, add_version, next_id, number_after}
-use Rattle.plain_office.specs.Counts.{tag_bytes, tag_bytes_of, version_count, name_bytes}
-use Rattle.plain_office.specs.Orderly.{IsNumberBelow, stay_of_version, HasOpenStays}
+use Rattle.plain_office.specs.Changes.{add_version, next_id, number_after}
+use Rattle.plain_office.specs.Counts.{tag_bytes_of, name_bytes}
+use Rattle.plain_office.specs.Orderly.{IsNumberBelow, stay_of_version}
 use Rattle.plain_office.specs.Step.{put_object}
-use Rattle.office_types.specs.declared.reply.Reply.{Reply}
 use Rattle.office_types.specs.declared.reply.Reply.TheVariants.{Stored}
 use Rattle.office_types.specs.declared.refusal.Refusal.{Refusal}
 use Rattle.office_types.specs.declared.refusal.Refusal.TheVariants.{NoMemory}
@@ -35,8 +33,7 @@ use Rattle.office_laws.proofs.Versions.{found_id, replaced_is}
 use Rattle.office_machine.specs.declared.change.Done.{Done}
 use Rattle.office_machine.specs.declared.counts.Counts.{Counts}
 use Rattle.office_machine.specs.declared.incoming.Incoming.{Incoming}
-use Rattle.office_machine.specs.declared.incoming.Leaving.{Leaving}
-use Rattle.office_machine.specs.Booking.{leaving_of, MayHaveStay, HasStay, version_of, stack_put, books_put, gone_versions, gone_bytes, counts_put, stack_under, gone_of, new_bytes, counts_after, IsReady, HaveRoom}
+use Rattle.office_machine.specs.Booking.{leaving_of, MayHaveStay, version_of, stack_put, books_put, gone_versions, gone_bytes, stack_under, gone_of, new_bytes, counts_after, IsReady, HaveRoom}
 use Rattle.office_machine.specs.Changing.{IsOrderlyAccount, IsFullAfter, DoesTold}
 use Rattle.office_machine.specs.Counting.{AccountRecord, account_of, AreCountsOver, HaveMoved, first_over, IsFullOf}
 use Rattle.office_machine.specs.Standing.{StandsForAccount}

@@ -1,5 +1,5 @@
 -- Which version a put replaces, and what its going takes away.
-use Rattle.std.proofs.Common.{◌≡◌, ℕ, zero, ◌+◌, ◌≤◌, ◌<◌, List, [], ◌∷◌, length, refl, ap, sym, ◌∙◌, subst, Bool, true, false, not, ◌&&◌, ◌||◌, cond, filter, arith}
+use Rattle.std.proofs.Common.{◌≡◌, ℕ, ◌+◌, ◌≤◌, ◌<◌, List, [], ◌∷◌, length, refl, ap, sym, subst, Bool, true, false, not, ◌&&◌, cond, arith}
 use Rattle.std.specs.Prelude.{Option, Some, None, sum_by, nat_le, ◌==◌, IsTrue}
 use Rattle.std.specs.List.{AllByRecursion, list_any, list_all, find}
 use Rattle.std.proofs.lemmas.Bool.{and_parts, or_parts, not-true, leb-true}
@@ -12,7 +12,7 @@ use Rattle.stacks.specs.declared.version.Versioning.TheVariants.{Unversioned, En
 use Rattle.stacks.specs.declared.version.Kind.{Kind}
 use Rattle.stacks.specs.declared.version.Kind.TheVariants.{Object, Marker}
 use Rattle.stacks.specs.declared.version.Version.{Version}
-use Rattle.stacks.specs.Stacks.{same_id, has_id, version_at, without, ids_differ, covered, new_id, replaced, IsFree, has_moments_until, is_entered_until, is_stack}
+use Rattle.stacks.specs.Stacks.{same_id, has_id, version_at, without, ids_differ, covered, replaced, IsFree, has_moments_until, is_entered_until, is_stack}
 use Rattle.plain_office.specs.Orderly.{IsNumberBelow, lines_since}
 use Rattle.office_laws.proofs.Versions.{id_same}
 use Rattle.accrual.specs.Totals.{Totals}

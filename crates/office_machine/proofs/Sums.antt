@@ -1,9 +1,8 @@
 -- The running counts and the plain office's.
-use Rattle.std.proofs.Common.{◌≡◌, ℕ, ◌+◌, ◌*◌, ◌≤◌, List, [], ◌∷◌, length, refl, ap, sym, ◌∙◌, Bool, true, false, cond, arith}
-use Rattle.std.specs.Prelude.{Option, Some, None, sum_by, nat_lt}
+use Rattle.std.proofs.Common.{◌≡◌, ℕ, ◌+◌, ◌*◌, ◌≤◌, List, [], ◌∷◌, length, refl, ap, sym, ◌∙◌, arith}
+use Rattle.std.specs.Prelude.{Some, sum_by}
 use Rattle.std.proofs.lemmas.List.Sums.{sum_by-cons, sum_by-append}
-use Rattle.office_base.specs.Maps.{at_name, with_name, bytes_cmp, Rises}
-use Rattle.due_core.specs.Buckets.{BucketRecord}
+use Rattle.office_base.specs.Maps.{at_name}
 use Rattle.plain_office.specs.Office.{Office, Account}
 use Rattle.plain_office.specs.Counts.{limit_of, count_of, first_full, version_count}
 use Rattle.plain_office.specs.Orderly.{IsOrderlyRecords, current_objects}

@@ -1,5 +1,5 @@
 -- How many bytes tags have.
-use Rattle.std.proofs.Common.{◌≡◌, ℕ, ◌+◌, ◌-◌, ◌*◌, ◌≤◌, List, [], ◌∷◌, length, take, drop, sym, subst, Bool, true, ◌&&◌, arith, length-append}
+use Rattle.std.proofs.Common.{◌≡◌, ℕ, ◌+◌, ◌-◌, ◌*◌, ◌≤◌, List, [], ◌∷◌, length, take, drop, sym, subst, true, ◌&&◌, arith, length-append}
 use Rattle.std.proofs.lemmas.List.{length-map, length-take, length-drop}
 use Rattle.std.specs.Prelude.{nat_le, get_or, String, string_bytes, IsTrue}
 use Rattle.std.specs.declared.alloc.Global.{Global}

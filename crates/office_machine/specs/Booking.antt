@@ -1,5 +1,5 @@
 -- How a version's coming and going is booked, in meters that stand for a bucket's books.
-use Rattle.std.specs.Prelude.{◌≡◌, ℕ, ◌+◌, ◌-◌, ◌≤◌, List, [], ◌∷◌, Bool, true, false, ◌^◌, Option, Some, None, is_some, unwrap_or, option_map, length, if◌then◌else◌}
+use Rattle.std.specs.Prelude.{◌≡◌, ℕ, ◌+◌, ◌-◌, ◌≤◌, List, [], ◌∷◌, ◌^◌, Option, Some, None, is_some, unwrap_or, option_map, length, if◌then◌else◌}
 use Rattle.std.specs.List.{filter}
 use Rattle.office_base.specs.Maps.{at_name}
 use Rattle.office_base.specs.Tags.{Tag}

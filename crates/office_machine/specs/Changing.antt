@@ -1,12 +1,11 @@
 -- What a command does to its bucket in memory, against what the plain office tells of it.
-use Rattle.std.specs.Prelude.{◌≡◌, ◌⊎◌, ℕ, List, [], ◌∷◌, Option, Some, None, Result, Ok, Err}
+use Rattle.std.specs.Prelude.{◌≡◌, ◌⊎◌, ℕ, List, [], ◌∷◌, None, Result, Ok, Err}
 use Rattle.due_core.specs.Buckets.{BucketRecord}
 use Rattle.plain_office.specs.Office.{Account}
 use Rattle.plain_office.specs.Orderly.{HasOpenStays, IsOrderlyBucket}
 use Rattle.plain_office.specs.Step.{Change, put_object}
 use Rattle.office_types.specs.declared.command.Command.{Command}
 use Rattle.office_types.specs.declared.command.Command.TheVariants as command
-use Rattle.office_types.specs.declared.reply.Reply.{Reply}
 use Rattle.office_types.specs.declared.refusal.Refusal.{Refusal}
 use Rattle.office_types.specs.declared.refusal.Refusal.TheVariants.{NoMemory}
 use Rattle.office_types.specs.declared.refusal.What.{What}
@@ -43,14 +42,15 @@ pub record IsFullAfter (whats : List What) (before after : BucketRecord) (counts
   pub follow : HaveMoved before after counts moved
   pub full : IsFullOf whats moved refusal
 
--- What is told is done: the bucket stands for the account told and the counts have moved with it, within their limits. Or
--- it is refused as told, for a count, or for want of memory, and the bucket stands for the account before.
+-- What is told is done: the bucket stands for the account told and the counts have moved with it, within their limits.
+-- Or it is refused as told, for a count, or for want of memory, and the bucket stands for the account before.
 abbrev pub DoesTold : List What → Change → Account → Counts → AccountRecord → Result Done Refusal → Type 0
 DoesTold whats (Ok told) before counts after (Ok done) =
     (done.reply ≡ told.1) × StandsForAccount after told.0 × HaveMoved before.bucket told.0.bucket counts done.counts
     × (first_over whats done.counts ≡ None)
 DoesTold whats (Ok told) before counts after (Err refusal) =
-    ((refusal ≡ NoMemory) ⊎ IsFullAfter whats before.bucket told.0.bucket counts refusal) × StandsForAccount after before
+    ((refusal ≡ NoMemory) ⊎ IsFullAfter whats before.bucket told.0.bucket counts refusal)
+    × StandsForAccount after before
 DoesTold whats (Err refused) before counts after (Ok done) = ⊥
 DoesTold whats (Err refused) before counts after (Err refusal) =
     ((refusal ≡ NoMemory) ⊎ (refusal ≡ refused)) × StandsForAccount after before

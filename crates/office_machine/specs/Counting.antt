@@ -38,7 +38,8 @@ in_bucket Rules bucket = rules_bytes bucket.rules
 
 -- the counts include this bucket, and are not above twice their limits
 abbrev pub AreCountsOver : BucketRecord → Counts → Type 0
-AreCountsOver bucket counts = (what : What) → (in_bucket what bucket ≤ amount what counts) × (amount what counts ≤ 2 * limit_of what)
+AreCountsOver bucket counts =
+    (what : What) → (in_bucket what bucket ≤ amount what counts) × (amount what counts ≤ 2 * limit_of what)
 
 -- the counts have moved as one bucket did
 abbrev pub HaveMoved : BucketRecord → BucketRecord → Counts → Counts → Type 0
@@ -51,10 +52,11 @@ first_over whats counts = find (λ what. nat_lt (limit_of what) (amount what cou
 
 -- refused for the counts: this is the first of them above its limit
 abbrev pub IsFullOf : List What → Counts → Refusal → Type 0
-IsFullOf whats counts refusal = (what : What) × (first_over whats counts ≡ Some what) × (refusal ≡ Full what (limit_of what))
+IsFullOf whats counts refusal =
+    (what : What) × (first_over whats counts ≡ Some what) × (refusal ≡ Full what (limit_of what))
 
--- after so many accepted commands: a command books at most three times in a bucket's meters and gives at most one number of
--- each kind, and an office that is restored begins within these
+-- after so many accepted commands: a command books at most three times in a bucket's meters and gives at most one number
+-- of each kind, and an office that is restored begins within 2 ^ 20 and 2 ^ 62 (own)
 pub record HasRoom (accepted : ℕ) (account : AccountRecord) : Type 0 where
   pub booked : account.meters.booked ≤ 2 ^ 20 + 3 * accepted
   pub next_version : account.bucket.next_version ≤ 2 ^ 62 + accepted

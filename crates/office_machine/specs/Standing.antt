@@ -1,9 +1,8 @@
 -- What the office in memory stands for: it keeps records, totals and counts, where the plain office has lists.
-use Rattle.std.specs.Prelude.{◌≡◌, ◌⊎◌, ℕ, ◌+◌, ◌^◌, List, [], ◌∷◌, Option, Result, Ok, Err, if◌then◌else◌}
+use Rattle.std.specs.Prelude.{◌≡◌, ◌⊎◌, ℕ, ◌+◌, ◌^◌, List, [], ◌∷◌, Option, Result, Err, if◌then◌else◌}
 use Rattle.std.specs.List.{AllByRecursion}
-use Rattle.accrual.specs.Totals.{Totals, StandsFor}
+use Rattle.accrual.specs.Totals.{StandsFor}
 use Rattle.tariff.specs.Prices.{Prices}
-use Rattle.due_core.specs.Buckets.{BucketRecord}
 use Rattle.plain_office.specs.Office.{Office, Account, book_of}
 use Rattle.plain_office.specs.Counts.{count_of}
 use Rattle.plain_office.specs.Orderly.{IsOrderly}
@@ -48,8 +47,8 @@ StandForAccounts (records ∷ others) [] = ⊥
 StandForAccounts (records ∷ others) (account ∷ accounts) =
     StandsForEntry records account × StandForAccounts others accounts
 
--- the office in memory stands for the plain office, which is orderly: the same records, meters that stand for the books,
--- and running counts that are the counts
+-- the office in memory stands for the plain office, which is orderly: the same records, meters that stand for the
+-- books, and running counts that are the counts
 pub record StandsForOffice (records : Records) (office : Office) : Type 0 where
   pub orderly : IsOrderly office
   pub last : records.last ≡ office.last
@@ -69,7 +68,8 @@ pub record IsKept (records : Records) : Type 0 where
 -- stands for the one before
 abbrev pub Does : Office × Result Reply Refusal → Office → Records → Result Reply Refusal → Type 0
 Does expected before after result =
-    ((result ≡ expected.1) × StandsForOffice after expected.0) ⊎ ((result ≡ Err NoMemory) × StandsForOffice after before)
+    ((result ≡ expected.1) × StandsForOffice after expected.0)
+    ⊎ ((result ≡ Err NoMemory) × StandsForOffice after before)
 
 -- the number of accepted commands after an answer
 abbrev pub accepted_after : Result Reply Refusal → ℕ → ℕ

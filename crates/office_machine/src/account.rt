@@ -79,7 +79,14 @@ impl Account {
         ensures room { OnOk result (HasGrownBy 3 1 self.old self.new) }
         ensures room_kept { OnErr result (HasGrownBy 0 0 self.old self.new) }
     {
-        let done = change(&mut self.bucket, &mut self.meters, alloc, t, command, counts)?;
+        let done = change(
+            &mut self.bucket,
+            &mut self.meters,
+            alloc,
+            t,
+            command,
+            counts,
+        )?;
         self.versions = self.versions + done.counts.versions - counts.versions;
         Ok(done)
     }

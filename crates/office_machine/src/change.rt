@@ -37,9 +37,10 @@ pub(crate) fn change(
     ensures done { (account : plain.Account) → StandsForAccount (account_of bucket.old meters.old) account
         → IsOrderlyAccount t account
         → DoesTold (limits_of command.now) (change_of t command.now account) account counts
-            (account_of bucket.new meters.new) result }
+        (account_of bucket.new meters.new) result }
     ensures room { OnOk result (HasGrownBy 3 1 (account_of bucket.old meters.old) (account_of bucket.new meters.new)) }
-    ensures room_kept { OnErr result (HasGrownBy 0 0 (account_of bucket.old meters.old) (account_of bucket.new meters.new)) }
+    ensures room_kept { OnErr result (HasGrownBy 0 0 (account_of bucket.old meters.old)
+        (account_of bucket.new meters.new)) }
     ensures few { IfOk result (λ done. done.counts.versions ≤ counts.versions + 1) }
 {
     match command {

@@ -39,9 +39,7 @@ fn pair_bytes(pairs: &[(String, String)]) -> u64
 {
     match pairs {
         [] => 0,
-        [first, rest @ ..] => {
-            first.0.len() as u64 + first.1.len() as u64 + pair_bytes(rest)
-        }
+        [first, rest @ ..] => { first.0.len() as u64 + first.1.len() as u64 + pair_bytes(rest) }
     }
 }
 

@@ -47,23 +47,23 @@ impl Model for Office {
     ghost Value = { Records };
 
     ghost view = { λ o. record {
-        last = o.last;
-        tariff = o.tariff;
-        first_month = o.first_month;
-        closed = o.closed.items;
-        accounts = o.accounts.entries;
-        counts = o.counts;
-        accepted = o.accepted;
+      last = o.last;
+      tariff = o.tariff;
+      first_month = o.first_month;
+      closed = o.closed.items;
+      accounts = o.accounts.entries;
+      counts = o.counts;
+      accepted = o.accepted;
     } };
 
     ghost invariant = { λ o. IsKept (record {
-        last = o.last;
-        tariff = o.tariff;
-        first_month = o.first_month;
-        closed = o.closed.items;
-        accounts = o.accounts.entries;
-        counts = o.counts;
-        accepted = o.accepted;
+      last = o.last;
+      tariff = o.tariff;
+      first_month = o.first_month;
+      closed = o.closed.items;
+      accounts = o.accounts.entries;
+      counts = o.counts;
+      accepted = o.accepted;
     }) };
 }
 
@@ -94,16 +94,16 @@ impl Office {
 
     /// Does a command at a moment, and answers it. `t` is not before the moment of the last accepted command.
     ///
-    /// Cost: one search of the buckets and one of the bucket's keys, two where the key is new; where the null version is
-    /// replaced two passes over the key's versions. Memory for copies of names, keys and tags, and for the months since
-    /// the version that is replaced came. Nothing is counted again.
+    /// Cost: one search of the buckets and one of the bucket's keys, two where the key is new; where the null version
+    /// is replaced two passes over the key's versions. Memory for copies of names, keys and tags, and for the months
+    /// since the version that is replaced came. Nothing is counted again.
     ///
     /// # Errors
     ///
     /// `BucketExists`: there is a bucket of the name of `CreateBucket` (S3 User Guide, "Creating a general purpose
-    /// bucket"). `NoSuchBucket`: there is none of the name of another command. `Full`: there would be more of a kind than
-    /// its limit, the first in the order of `What`: 1,000 buckets, 200,000 versions, 536,870,912 bytes of keys and tags.
-    /// `NoMemory`: memory ran out, or the command is not built. The office then stands for what it stood for.
+    /// bucket"). `NoSuchBucket`: there is none of the name of another command. `Full`: there would be more of a kind
+    /// than its limit, the first in the order of `What`: 1,000 buckets, 200,000 versions, 536,870,912 bytes of keys and
+    /// tags. `NoMemory`: memory ran out, or the command is not built. The office then stands for what it stood for.
     pub fn apply(&mut self, t: Moment, command: &Command) -> Result<Reply, Refusal>
         requires later { IsTrue (is_not_before self.old.last t) }
         requires few { self.old.accepted < most_commands }

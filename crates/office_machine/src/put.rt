@@ -187,7 +187,8 @@ fn put_version(
     requires ready { IsReady object.now (stack_under key.now stacks.old.entries) }
     requires free { IsFree object.now.versioning object.now.number [] }
     requires few { meters.old.booked + 2 ≤ most_bookings }
-    requires room { HaveRoom counts (gone_bytes (option_map leaving_of (gone_of key.now object.now stacks.old.entries))) }
+    requires room { HaveRoom counts
+        (gone_bytes (option_map leaving_of (gone_of key.now object.now stacks.old.entries))) }
     requires open { (books : Books) × StandsFor meters.old (book_of books)
         × MayHaveStay key.now (gone_of key.now object.now stacks.old.entries) books }
     ensures stacks { OnOk result (stacks.new.entries ≡ with_name key.now

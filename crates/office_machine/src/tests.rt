@@ -29,7 +29,7 @@ enum Wish<'a> {
     Meters(&'a str, u16, u8),
 }
 
-// What was used of STANDARD and STANDARD_IA in byte-milliseconds, and the early quantity of the latter; nothing else was.
+// What was used of STANDARD and STANDARD_IA in byte-milliseconds, and the early quantity of the latter; nothing else.
 #[derive(Clone, Copy, Debug, PartialEq, Eq)]
 struct Used {
     standard: u128,

@@ -1,7 +1,7 @@
-use Rattle.std.proofs.Common.{◌≡◌, ℕ, sym, arith}
+use Rattle.std.proofs.Common.{arith}
 use Rattle.moments.specs.Months.{month_at}
 use Rattle.class_rules.specs.Lines.{lines_of}
-use Rattle.plain_office.specs.Office.{Books, book_of}
+use Rattle.plain_office.specs.Office.{book_of}
 use Rattle.plain_office.specs.Orderly.{lines_since}
 use Rattle.accrual.proofs.Windows.{month_at_order}
 use Rattle.office_machine.proofs.Ending.{opened, object_gone, marker_gone}

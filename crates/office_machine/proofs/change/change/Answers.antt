@@ -1,4 +1,4 @@
-use Rattle.std.proofs.Common.{◌≡◌, ℕ, sym, subst}
+use Rattle.std.proofs.Common.{sym, subst}
 use Rattle.office_types.specs.declared.command.Command.{Command}
 use Rattle.office_machine.specs.Changing.{change_of, limits_of, DoesTold}
 use Rattle.office_machine.specs.Counting.{account_of}

@@ -1,4 +1,4 @@
-use Rattle.std.proofs.Common.{◌≡◌, ◌≤◌, ◌+◌, ◌*◌, ℕ, List, ◌∷◌, length, true, arith}
+use Rattle.std.proofs.Common.{arith}
 use Rattle.office_machine.proofs.TagSizes.{first_most, rest_length}
 use Rattle.office_machine.proofs.incoming.+pair_bytes.Goals as goal
 

@@ -1,4 +1,4 @@
-use Rattle.std.proofs.Common.{ℕ, length}
+use Rattle.std.proofs.Common.{length}
 use Rattle.office_machine.proofs.incoming.+pair_bytes.Given as goal
 
 abbrev pub decreases-pair_bytes : goal.decreases-pair_bytes

@@ -1,4 +1,4 @@
-use Rattle.std.proofs.Common.{◌≡◌, ◌≤◌, ℕ, sym, subst, arith}
+use Rattle.std.proofs.Common.{◌≤◌, ℕ, sym, subst, arith}
 use Rattle.moments.specs.Months.{month_at}
 use Rattle.stacks.specs.Stacks.{replaced}
 use Rattle.accrual.proofs.Windows.{month_at_order}

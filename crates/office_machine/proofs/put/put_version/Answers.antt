@@ -1,5 +1,5 @@
-use Rattle.std.proofs.Common.{◌≡◌, ℕ, List, sym, ap, ◌∙◌}
-use Rattle.std.specs.Prelude.{Option, Some, unwrap_or}
+use Rattle.std.proofs.Common.{ℕ, List, sym, ap, ◌∙◌}
+use Rattle.std.specs.Prelude.{Option, unwrap_or}
 use Rattle.std.specs.Map.{set_value}
 use Rattle.std.specs.BTreeMap.{is_at}
 use Rattle.std.proofs.lemmas.Map.Steps.{set_value_same}

@@ -1,4 +1,4 @@
-use Rattle.std.proofs.Common.{◌≡◌, ℕ, ◌+◌, List, [], ◌∷◌, sym, ap, subst, ◌∙◌, Bool, true, false}
+use Rattle.std.proofs.Common.{◌≡◌, ℕ, ◌+◌, List, [], ◌∷◌, sym, ap, subst, ◌∙◌, true, false}
 use Rattle.std.specs.Prelude.{Result, Ok, Err, OnOk, Some, None, is_err}
 use Rattle.std.specs.List.{AllByRecursion}
 use Rattle.office_base.specs.Maps.{with_name}

@@ -1,7 +1,6 @@
-use Rattle.std.proofs.Common.{◌≡◌, ℕ, refl}
+use Rattle.std.proofs.Common.{◌≡◌, refl}
 use Rattle.office_types.specs.declared.refusal.What.{What}
 use Rattle.office_types.specs.declared.refusal.What.TheVariants.{Buckets, Versions, Uploads, Parts, Names, Rules}
-use Rattle.plain_office.specs.Office.{empty_office}
 use Rattle.office_machine.specs.declared.counts.Counts.{Counts}
 use Rattle.office_machine.specs.Counting.{amount}
 use Rattle.office_machine.proofs.Offices.{empty_stands, empty_kept}

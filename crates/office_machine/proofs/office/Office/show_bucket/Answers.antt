@@ -1,9 +1,4 @@
-use Rattle.std.proofs.Common.{◌≡◌, inl, ℕ, sym, subst}
-use Rattle.std.specs.Prelude.{Ok}
-use Rattle.plain_office.specs.Answers.{answer, rule_count}
-use Rattle.plain_office.specs.Counts.{version_count}
-use Rattle.office_types.specs.declared.command.Query.TheVariants as query
-use Rattle.office_types.specs.declared.reply.Reply.TheVariants.{BucketShown}
+use Rattle.std.proofs.Common.{inl, sym, subst}
 use Rattle.office_machine.specs.Standing.{Records, StandsForOffice}
 use Rattle.office_machine.proofs.Offices.{shows_none, few_versions, few_uploads, shows}
 use Rattle.office_machine.proofs.office.Office.show_bucket.Goals as goal

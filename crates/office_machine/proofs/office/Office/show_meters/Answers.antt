@@ -1,4 +1,4 @@
-use Rattle.std.proofs.Common.{◌≡◌, inl, ℕ, sym, subst, true}
+use Rattle.std.proofs.Common.{◌≡◌, inl, sym, subst, true}
 use Rattle.accrual.specs.Books.{Book}
 use Rattle.plain_office.specs.Office.{book_of}
 use Rattle.plain_office.specs.Run.{is_not_before}
