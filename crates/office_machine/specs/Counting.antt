@@ -57,7 +57,7 @@ IsFullOf whats counts refusal =
 
 -- after so many accepted commands: a command books at most three times in a bucket's meters and gives at most one number
 -- of each kind, and an office that is restored begins within 2 ^ 20 and 2 ^ 62 (own)
-pub record HasRoom (accepted : ℕ) (account : AccountRecord) : Type 0 where
+pub record IsWithinBy (accepted : ℕ) (account : AccountRecord) : Type 0 where
   pub booked : account.meters.booked ≤ 2 ^ 20 + 3 * accepted
   pub next_version : account.bucket.next_version ≤ 2 ^ 62 + accepted
   pub next_upload : account.bucket.next_upload ≤ 2 ^ 62 + accepted
