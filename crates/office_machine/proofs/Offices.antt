@@ -32,7 +32,7 @@ use Rattle.office_laws.proofs.Steps.{step_orderly, empty_orderly}
 use Rattle.office_machine.specs.declared.change.Done.{Done}
 use Rattle.office_machine.specs.declared.counts.Counts.{Counts}
 use Rattle.office_machine.specs.Changing.{change_of, limits_of, IsOnBucket, IsOrderlyAccount, DoesTold}
-use Rattle.office_machine.specs.Counting.{AccountRecord, HasRoom, AreCountsOver, amount, in_bucket, HaveMoved, first_over}
+use Rattle.office_machine.specs.Counting.{AccountRecord, IsWithinBy, AreCountsOver, amount, in_bucket, HaveMoved, first_over}
 use Rattle.office_machine.specs.Standing.{Records, StandsForAccount, StandForAccounts, StandsForOffice, IsKept, Does}
 use Rattle.office_machine.proofs.Accounts.{StandsForOption, stand_at, stand_with, stand_set, stand_one}
 use Rattle.office_machine.proofs.Sums.{AreCountsOf, full_is, moved_is, added_is, counts_over}
@@ -313,7 +313,7 @@ pub stands_on : (expected : Office × Answer) (before : Office) (after : Records
 stands_on expected before after result (inl done) = (expected.0, done.1)
 stands_on expected before after result (inr wanting) = (before, wanting.1)
 
-pub kept_on : (expected : Office × Answer) (before : Office) (after : Records) (result : Answer) → Does expected before after result → AllByRecursion (λ account. HasRoom after.accepted account.1) after.accounts → IsKept after
+pub kept_on : (expected : Office × Answer) (before : Office) (after : Records) (result : Answer) → Does expected before after result → AllByRecursion (λ account. IsWithinBy after.accepted account.1) after.accounts → IsKept after
 kept_on expected before after result does_it room =
     let stands = stands_on expected before after result does_it in
     record { office = stands.0; stands = stands.1; room = room }
@@ -323,7 +323,7 @@ pub empty_kept : (closed : List (ℕ × Prices)) (accounts : List (List ℕ × A
 empty_kept closed accounts counts number no_month no_account none = record {
   office = empty_office;
   stands = empty_stands closed accounts counts number no_month no_account none;
-  room = subst (λ (l : List (List ℕ × AccountRecord)). AllByRecursion (λ account. HasRoom number account.1) l) (sym no_account) tt;
+  room = subst (λ (l : List (List ℕ × AccountRecord)). AllByRecursion (λ account. IsWithinBy number account.1) l) (sym no_account) tt;
 }
 
 -- ---- with what the calls give

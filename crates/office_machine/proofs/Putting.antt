@@ -33,7 +33,7 @@ use Rattle.office_laws.proofs.Versions.{found_id, replaced_is}
 use Rattle.office_machine.specs.declared.change.Done.{Done}
 use Rattle.office_machine.specs.declared.counts.Counts.{Counts}
 use Rattle.office_machine.specs.declared.incoming.Incoming.{Incoming}
-use Rattle.office_machine.specs.Booking.{leaving_of, MayHaveStay, version_of, stack_put, books_put, gone_versions, gone_bytes, stack_under, gone_of, new_bytes, counts_after, IsReady, HaveRoom}
+use Rattle.office_machine.specs.Booking.{leaving_of, MayHaveStay, version_of, stack_put, books_put, gone_versions, gone_bytes, stack_under, gone_of, new_bytes, counts_after, IsReady, AreMovable}
 use Rattle.office_machine.specs.Changing.{IsOrderlyAccount, IsFullAfter, DoesTold}
 use Rattle.office_machine.specs.Counting.{AccountRecord, account_of, AreCountsOver, HaveMoved, first_over, IsFullOf}
 use Rattle.office_machine.specs.Standing.{StandsForAccount}
@@ -185,7 +185,7 @@ module _ (b : BucketRecord) (books : Books) (key : List ℕ) (size : ℕ) (class
       omega (arith, sum, weight, below, most)
 
   module _ (counts : Counts) (over : AreCountsOver b counts) where
-    pub has_room : HaveRoom counts (gone_bytes (option_map leaving_of gone))
+    pub has_room : AreMovable counts (gone_bytes (option_map leaving_of gone))
     has_room =
         let v = over Versions in
         let n = over Names in
@@ -263,8 +263,8 @@ module _ (b : BucketRecord) (of : Account) (same : b ≡ of.bucket) (key : List 
   stay_for = subst (λ (o : Incoming). MayHaveStay key (gone_of key o b.stacks) of.books) put_is (has_stay b of.books key put.size put.class tags put.at here)
 
   module _ (counts : Counts) (over : AreCountsOver b counts) where
-    pub room_for : HaveRoom counts (gone_bytes (option_map leaving_of (gone_of key put b.stacks)))
-    room_for = subst (λ (o : Incoming). HaveRoom counts (gone_bytes (option_map leaving_of (gone_of key o b.stacks)))) put_is (has_room b of.books key put.size put.class tags put.at here counts over)
+    pub room_for : AreMovable counts (gone_bytes (option_map leaving_of (gone_of key put b.stacks)))
+    room_for = subst (λ (o : Incoming). AreMovable counts (gone_bytes (option_map leaving_of (gone_of key o b.stacks)))) put_is (has_room b of.books key put.size put.class tags put.at here counts over)
 
     abbrev Told : Incoming → AccountRecord → Result Done Refusal → Type 0
     Told o after result = DoesTold (Versions ∷ Names ∷ []) (put_object o.at key o.size o.class tags of) of counts after result

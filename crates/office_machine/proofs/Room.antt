@@ -10,18 +10,18 @@ use Rattle.std.specs.BTreeMap.{is_at}
 use Rattle.office_base.specs.Maps.{bytes_cmp, at_name, with_name}
 use Rattle.office_laws.proofs.Lists.{every_weaker}
 use Rattle.office_laws.proofs.Maps.{by_name, found_every}
-use Rattle.office_machine.specs.Counting.{AccountRecord, HasRoom, HasGrownBy}
+use Rattle.office_machine.specs.Counting.{AccountRecord, IsWithinBy, HasGrownBy}
 
 abbrev pub Entry : Type 0
 Entry = List ℕ × AccountRecord
 
 abbrev pub IsRoomy : ℕ → Entry → Type 0
-IsRoomy accepted entry = HasRoom accepted entry.1
+IsRoomy accepted entry = IsWithinBy accepted entry.1
 
-pub room_at : (accepted : ℕ) (name : List ℕ) (account : AccountRecord) (accounts : List Entry) → AllByRecursion (IsRoomy accepted) accounts → at_name name accounts ≡ Some account → HasRoom accepted account
+pub room_at : (accepted : ℕ) (name : List ℕ) (account : AccountRecord) (accounts : List Entry) → AllByRecursion (IsRoomy accepted) accounts → at_name name accounts ≡ Some account → IsWithinBy accepted account
 room_at accepted name account accounts h is = found_every by_name (IsRoomy accepted) name account accounts h is
 
-one_more : (accepted : ℕ) (account : AccountRecord) → HasRoom accepted account → HasRoom (accepted + 1) account
+one_more : (accepted : ℕ) (account : AccountRecord) → IsWithinBy accepted account → IsWithinBy (accepted + 1) account
 one_more accepted account h =
     let booked = h.booked in
     let version = h.next_version in
@@ -32,7 +32,7 @@ pub room_more : (accepted : ℕ) (accounts : List Entry) → AllByRecursion (IsR
 room_more accepted accounts h = every_weaker (IsRoomy accepted) (IsRoomy (accepted + 1)) (λ entry is. one_more accepted entry.1 is) accounts h
 
 -- after an accepted command on it, and after one that was not accepted
-pub room_grown : (accepted : ℕ) (old new : AccountRecord) → HasRoom accepted old → HasGrownBy 3 1 old new → HasRoom (accepted + 1) new
+pub room_grown : (accepted : ℕ) (old new : AccountRecord) → IsWithinBy accepted old → HasGrownBy 3 1 old new → IsWithinBy (accepted + 1) new
 room_grown accepted old new h g =
     let booked = h.booked in
     let version = h.next_version in
@@ -42,7 +42,7 @@ room_grown accepted old new h g =
     let uploads = g.next_upload in
     record { booked = omega (arith, booked, more); next_version = omega (arith, version, versions); next_upload = omega (arith, upload, uploads) }
 
-pub room_kept : (accepted : ℕ) (old new : AccountRecord) → HasRoom accepted old → HasGrownBy 0 0 old new → HasRoom accepted new
+pub room_kept : (accepted : ℕ) (old new : AccountRecord) → IsWithinBy accepted old → HasGrownBy 0 0 old new → IsWithinBy accepted new
 room_kept accepted old new h g =
     let booked = h.booked in
     let version = h.next_version in
@@ -52,7 +52,7 @@ room_kept accepted old new h g =
     let uploads = g.next_upload in
     record { booked = omega (arith, booked, more); next_version = omega (arith, version, versions); next_upload = omega (arith, upload, uploads) }
 
-module _ (accepted : ℕ) (name : List ℕ) (account : AccountRecord) (room : HasRoom accepted account) where
+module _ (accepted : ℕ) (name : List ℕ) (account : AccountRecord) (room : IsWithinBy accepted account) where
   set_pick : (here : Bool) (first : Entry) (accounts rest : List Entry) → AllByRecursion (IsRoomy accepted) (first ∷ accounts) → AllByRecursion (IsRoomy accepted) rest
       → AllByRecursion (IsRoomy accepted) (cond here ((first.0, account) ∷ accounts) (first ∷ rest))
   set_pick true first accounts rest h more = (room, h.1)

@@ -111,7 +111,7 @@ pub record IsReady (object : Incoming) (stack : StackRecord) : Type 0 where
   pub since : IsSinceBy object.at (replaced object.versioning stack.versions)
 
 -- counts that can be moved by a put that takes so many bytes of tags away
-pub record HaveRoom (counts : Counts) (bytes : ℕ) : Type 0 where
+pub record AreMovable (counts : Counts) (bytes : ℕ) : Type 0 where
   pub versions : counts.versions ≤ 400_000
   pub names : counts.names ≤ 2 ^ 32
   pub gone : bytes ≤ counts.names

@@ -55,9 +55,9 @@ abbrev pub IsFullOf : List What → Counts → Refusal → Type 0
 IsFullOf whats counts refusal =
     (what : What) × (first_over whats counts ≡ Some what) × (refusal ≡ Full what (limit_of what))
 
--- after so many accepted commands: a command books at most three times in a bucket's meters and gives at most one number
--- of each kind, and an office that is restored begins within 2 ^ 20 and 2 ^ 62 (own)
-pub record HasRoom (accepted : ℕ) (account : AccountRecord) : Type 0 where
+-- after so many accepted commands: a command books at most three times in a bucket's meters and gives at most one
+-- number of each kind, and an office that is restored begins within 2 ^ 20 and 2 ^ 62 (own)
+pub record IsWithinBy (accepted : ℕ) (account : AccountRecord) : Type 0 where
   pub booked : account.meters.booked ≤ 2 ^ 20 + 3 * accepted
   pub next_version : account.bucket.next_version ≤ 2 ^ 62 + accepted
   pub next_upload : account.bucket.next_upload ≤ 2 ^ 62 + accepted

@@ -12,7 +12,7 @@ use Rattle.office_types.specs.declared.refusal.Refusal.{Refusal}
 use Rattle.office_types.specs.declared.refusal.Refusal.TheVariants.{NoMemory}
 use Rattle.office_types.specs.declared.refusal.What.{What}
 use Rattle.office_machine.specs.declared.counts.Counts.{Counts}
-use Rattle.office_machine.specs.Counting.{amount, AccountRecord, HasRoom}
+use Rattle.office_machine.specs.Counting.{amount, AccountRecord, IsWithinBy}
 
 -- what contracts see of an office: the moment of the last accepted command, the tariff, the month of the first accepted
 -- command, the closed months, its buckets in byte order of their names, the running counts, and how many commands were
@@ -62,7 +62,7 @@ pub record StandsForOffice (records : Records) (office : Office) : Type 0 where
 pub record IsKept (records : Records) : Type 0 where
   pub office : Office
   pub stands : StandsForOffice records office
-  pub room : AllByRecursion (λ account. HasRoom records.accepted account.1) records.accounts
+  pub room : AllByRecursion (λ account. IsWithinBy records.accepted account.1) records.accounts
 
 -- the answer is the expected one, and the office in memory stands for the office expected; or memory is wanting, and it
 -- stands for the one before

@@ -7,7 +7,7 @@ ghost use Rattle.plain_office.specs.Step.{new_account};
 ghost use Rattle.plain_office.specs.Counts.{version_count};
 ghost use Rattle.plain_office.specs.Answers.{class_meters, rule_count};
 ghost use Rattle.office_machine.specs.Changing.{change_of, limits_of, IsOrderlyAccount, DoesTold};
-ghost use Rattle.office_machine.specs.Counting.{AreCountsOver, HasRoom, HasGrownBy};
+ghost use Rattle.office_machine.specs.Counting.{AreCountsOver, IsWithinBy, HasGrownBy};
 ghost use Rattle.office_machine.specs.Standing.{StandsForAccount, most_commands};
 
 use crate::change::{Done, change};
@@ -46,7 +46,7 @@ impl Account {
     /// Gives the account of a bucket that is made at this moment. Takes no memory.
     pub(crate) fn new(alloc: Global, at: Moment) -> Account
         ensures stands { StandsForAccount result (new_account at) }
-        ensures room { (accepted : ℕ) → HasRoom accepted result }
+        ensures room { (accepted : ℕ) → IsWithinBy accepted result }
     {
         Account {
             bucket: Bucket {
@@ -72,7 +72,7 @@ impl Account {
         counts: Counts,
     ) -> Result<Done, Refusal>
         requires account { (account : plain.Account) × StandsForAccount self.old account × IsOrderlyAccount t account }
-        requires room { (accepted : ℕ) × (accepted < most_commands) × HasRoom accepted self.old }
+        requires room { (accepted : ℕ) × (accepted < most_commands) × IsWithinBy accepted self.old }
         requires counts { AreCountsOver self.old.bucket counts }
         ensures done { (account : plain.Account) → StandsForAccount self.old account → IsOrderlyAccount t account
             → DoesTold (limits_of command.now) (change_of t command.now account) account counts self.new result }

@@ -2,7 +2,7 @@
 ghost use Rattle.std.specs.Prelude.{◌+◌, ◌<◌, ◌≤◌, ℕ, OnOk, OnErr, IfOk};
 ghost use Rattle.plain_office.specs.Office as plain;
 ghost use Rattle.office_machine.specs.Changing.{change_of, limits_of, IsOrderlyAccount, DoesTold};
-ghost use Rattle.office_machine.specs.Counting.{account_of, AreCountsOver, HasRoom, HasGrownBy};
+ghost use Rattle.office_machine.specs.Counting.{account_of, AreCountsOver, IsWithinBy, HasGrownBy};
 ghost use Rattle.office_machine.specs.Standing.{StandsForAccount, most_commands};
 
 use crate::counts::Counts;
@@ -32,7 +32,8 @@ pub(crate) fn change(
 ) -> Result<Done, Refusal>
     requires account { (account : plain.Account) × StandsForAccount (account_of bucket.old meters.old) account
         × IsOrderlyAccount t account }
-    requires room { (accepted : ℕ) × (accepted < most_commands) × HasRoom accepted (account_of bucket.old meters.old) }
+    requires room { (accepted : ℕ) × (accepted < most_commands)
+        × IsWithinBy accepted (account_of bucket.old meters.old) }
     requires counts { AreCountsOver bucket.old counts }
     ensures done { (account : plain.Account) → StandsForAccount (account_of bucket.old meters.old) account
         → IsOrderlyAccount t account

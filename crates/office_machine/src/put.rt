@@ -9,9 +9,9 @@ ghost use Rattle.plain_office.specs.Changes.{number_after};
 ghost use Rattle.plain_office.specs.Counts.{tag_bytes};
 ghost use Rattle.plain_office.specs.Step.{put_object};
 ghost use Rattle.office_types.specs.declared.refusal.What.TheVariants.{Versions, Names};
-ghost use Rattle.office_machine.specs.Booking.{leaving_of, stack_under, stack_put, gone_of, since_option, books_put, counts_put, counts_after, gone_bytes, MayHaveStay, IsReady, HaveRoom};
+ghost use Rattle.office_machine.specs.Booking.{leaving_of, stack_under, stack_put, gone_of, since_option, books_put, counts_put, counts_after, gone_bytes, MayHaveStay, IsReady, AreMovable};
 ghost use Rattle.office_machine.specs.Changing.{IsOrderlyAccount, DoesTold};
-ghost use Rattle.office_machine.specs.Counting.{account_of, AreCountsOver, HasRoom, HasGrownBy, first_over, IsFullOf};
+ghost use Rattle.office_machine.specs.Counting.{account_of, AreCountsOver, IsWithinBy, HasGrownBy, first_over, IsFullOf};
 ghost use Rattle.office_machine.specs.Standing.{StandsForAccount, most_commands};
 
 use crate::booking::{end_replaced, object_billed, reserve};
@@ -61,7 +61,7 @@ fn counted(
     gone: &Option<Leaving>,
 ) -> Result<Counts, Refusal>
     requires key { key_bytes ≤ 1_024 }
-    requires room { HaveRoom counts (gone_bytes gone.now) }
+    requires room { AreMovable counts (gone_bytes gone.now) }
     ensures ok { IfOk result (λ after. (after ≡ counts_put key_bytes tags.now gone.now counts)
         × (first_over (Versions ∷ Names ∷ []) after ≡ None)) }
     ensures full { IfErr result (IsFullOf (Versions ∷ Names ∷ []) (counts_put key_bytes tags.now gone.now counts)) }
@@ -187,7 +187,7 @@ fn put_version(
     requires ready { IsReady object.now (stack_under key.now stacks.old.entries) }
     requires free { IsFree object.now.versioning object.now.number [] }
     requires few { meters.old.booked + 2 ≤ most_bookings }
-    requires room { HaveRoom counts
+    requires room { AreMovable counts
         (gone_bytes (option_map leaving_of (gone_of key.now object.now stacks.old.entries))) }
     requires open { (books : Books) × StandsFor meters.old (book_of books)
         × MayHaveStay key.now (gone_of key.now object.now stacks.old.entries) books }
@@ -235,7 +235,7 @@ pub(crate) fn put(
         × IsOrderlyAccount object.now.at account }
     requires next { (object.now.versioning ≡ bucket.old.versioning) × (object.now.number ≡ bucket.old.next_version) }
     requires room { (accepted : ℕ) × (accepted < most_commands)
-        × HasRoom accepted (account_of bucket.old meters.old) }
+        × IsWithinBy accepted (account_of bucket.old meters.old) }
     requires counts { AreCountsOver bucket.old counts }
     ensures done { (account : Account) → StandsForAccount (account_of bucket.old meters.old) account
         → IsOrderlyAccount object.now.at account → DoesTold (Versions ∷ Names ∷ [])
