@@ -68,7 +68,7 @@ unfoldable pub body_at : ℕ → List ℕ → Frame
 body_at gate file =
     if nat_lt (length file) (gate + 5) then Broken
     else (if nat_lt (length file) (gate + 6 + size_at gate file) || nat_lt (2 ^ 45) (gate + 6 + size_at gate file)
-        then Broken
+    then Broken
     else entry_at gate (size_at gate file) file)
 
 -- what stands at the gate at this place; past the end of the file stands nothing
@@ -126,4 +126,4 @@ abbrev pub GoesOn : List Entry → List Entry → ℕ → List ℕ → Type 0
 GoesOn front entries gate file =
     ((front ≡ entries) × (frame_at gate file ≡ Ended))
     ⊎ ((e : Entry) × (more : List Entry) × (entries ≡ front ++ e ∷ more)
-        × (frame_at gate file ≡ Whole e (gate + 5 + length (spelling e))))
+    × (frame_at gate file ≡ Whole e (gate + 5 + length (spelling e))))

@@ -20,7 +20,7 @@ pub(crate) fn write_frame<D: Disk>(disk: &mut D, gate: u64, entry: &[u8]) -> Res
 
     ensures done { IsTrue D.honest → OnOk result ((D.state disk.new).journal
         ≡ synced_file (put (gate + 1) (to_be_bytes w32 (length entry.now) ++ entry.now ++ 0 ∷ [])
-            (D.state disk.old).journal.seen)) }
+        (D.state disk.old).journal.seen)) }
 
     ensures cause { HasCause (D.fault_count disk.old) (D.fault_count disk.new) result }
 {

@@ -191,7 +191,7 @@ impl<D: Disk> Journal<D> {
             → entry.now ≡ spelling e
             → IsAtRest head (D.state self.old.disk) self.old.gate entries
             → KeepsTo D.state D.moment D.had_since self.old.disk self.new.disk
-                (BeforeOrAfter head entries e (D.state self.old.disk)) }
+            (BeforeOrAfter head entries e (D.state self.old.disk)) }
 
         // After `Ok` it is the latter.
         ensures acknowledged { IsTrue D.honest → (head : List ℕ) (entries : List Entry) (e : Entry) → Fits e
