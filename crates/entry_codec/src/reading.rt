@@ -1,11 +1,9 @@
 // Reading an entry.
-ghost use Rattle.std.specs.Prelude.{ℕ, true, ◌++◌, slice_index, ◌≡◌, ◌+◌, ◌<◌, ◌≤◌, ◌^◌, List, length, IfOk, Ok};
-ghost use Rattle.std.specs.Int.{w16};
+ghost use Rattle.std.specs.Prelude.{◌≡◌, ◌<◌, ◌++◌, ℕ, true, List, slice_index, IfOk, Ok};
 ghost use Rattle.office_types.specs.declared.command.Entry.{Entry};
 ghost use Rattle.entry_codec.specs.declared.fault.EntryFault.TheVariants.{BadEntry};
-ghost use Rattle.entry_codec.specs.Formats.{number, text};
 ghost use Rattle.entry_codec.specs.Fields as field;
-ghost use Rattle.entry_codec.specs.Fields.{ranks, format, moment_format};
+ghost use Rattle.entry_codec.specs.Fields.{ranks, format};
 ghost use Rattle.entry_codec.specs.Kinds as kind;
 ghost use Rattle.entry_codec.specs.Kinds.{Kind, Values, fields_of, parts_of, command_of};
 ghost use Rattle.entry_codec.specs.Spelling.{Fits, written_values, are_values, spelling};
