@@ -59,7 +59,7 @@ abbrev pub AreFormats : List Field → Type 0
 AreFormats [] = Unit {0}
 AreFormats (field ∷ fields) = IsFormat (format field) × AreFormats fields
 
-values_take : (fields : List Field) → AreFormats fields → (total : ℕ) (bytes : List ℕ) (x : Values fields × List ℕ) → IsBytes bytes → values_at fields total bytes ≡ Ok x
+pub values_take : (fields : List Field) → AreFormats fields → (total : ℕ) (bytes : List ℕ) (x : Values fields × List ℕ) → IsBytes bytes → values_at fields total bytes ≡ Ok x
     → (bytes ≡ written_values fields x.0 ++ x.1) × (are_values fields x.0 ≡ true)
 values_take [] laws total bytes x fits e = (ap (λ (y : Values [] × List ℕ). y.1) (ok_is (tt, bytes) x e), refl)
 values_take (field ∷ fields) laws total bytes x fits e =
@@ -72,7 +72,7 @@ values_take (field ∷ fields) laws total bytes x fits e =
     subst (λ (y : Values (field ∷ fields) × List ℕ). (bytes ≡ written_values (field ∷ fields) y.0 ++ y.1) × (are_values (field ∷ fields) y.0 ≡ true))
     (ok_is ((a.0.0, b.0.0), b.0.1) x b.2) (whole, and_true _ _ t.1 u.1)
 
-values_again : (fields : List Field) → AreFormats fields → (total : ℕ) (values : Values fields) (rest : List ℕ) → are_values fields values ≡ true
+pub values_again : (fields : List Field) → AreFormats fields → (total : ℕ) (values : Values fields) (rest : List ℕ) → are_values fields values ≡ true
     → values_at fields total (written_values fields values ++ rest) ≡ Ok (values, rest)
 values_again [] laws total values rest has = refl
 values_again (field ∷ fields) laws total values rest has =

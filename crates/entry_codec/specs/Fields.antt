@@ -30,7 +30,7 @@ ranks = record {
   value = λ rank. find (λ class. rank_of class == rank) all_classes;
 }
 
--- versioning that is set: 1 to enabled, 2 to suspended
+-- versioning that is set (S3 User Guide, "Using versioning in S3 buckets"): 1 to enabled, 2 to suspended
 abbrev pub status_code : Bool → ℕ
 status_code true = 1
 status_code false = 2
@@ -41,7 +41,7 @@ status_of status = if status == 1 then Some true else if status == 2 then Some f
 abbrev pub statuses : Code ℕ Bool
 statuses = record { code = status_code; has = λ enabled. true; value = status_of }
 
--- the id of a version by its number, the null version by 0
+-- the id of a version by its number, the null version (S3 User Guide, "How S3 Versioning works") by 0
 abbrev pub id_code : VersionId → ℕ
 id_code version.Null = 0
 id_code (version.Number n) = n
@@ -60,6 +60,7 @@ ids = record { code = id_code; has = is_id; value = id_of }
 unfoldable pub utf8_text : Format (List ℕ)
 utf8_text = text (number w16) such_that is_utf8
 
+-- a tag: its key and its value
 unfoldable pub tag : Format Tag
 tag = pair utf8_text utf8_text
 
@@ -74,11 +75,12 @@ is_configuration configuration =
     is_none (first_flaw configuration.rules) && list_all has_name configuration.rules
     && list_all has_midnights configuration.rules && list_all has_texts configuration.rules
 
--- a configuration by its one text
+-- the configuration, if this is its one text
 abbrev pub if_printed : List ℕ → Configuration → Option Configuration
 if_printed t configuration =
     if is_configuration configuration && bytes_eq t (printed configuration) then Some configuration else None
 
+-- configurations by their texts
 abbrev pub texts : Code (List ℕ) Configuration
 texts = record {
   code = printed;
@@ -88,7 +90,7 @@ texts = record {
 
 -- ---- fields
 
--- the kinds of fields
+-- what stands in an entry behind its kind; the numbers have four and eight bytes
 pub data Field : Type 0 where
   Name Key Size Rank Tags Rules Status Id Number4 Number8 Price Year Month : Field
 

@@ -67,12 +67,13 @@ list count format = record {
   front = λ bytes. count.front bytes >>= λ n. front_items format n.0 n.1;
 }
 
--- values that are written as others: what each is written as, which there are, and which one a value is written for
+-- values that are written as others: what each is written as, which there are, and the one that a value is written for
 pub record Code (X Y : Type 0) : Type 0 where
   pub code : Y → X
   pub has : Y → Bool
   pub value : X → Option Y
 
+-- values that are written as those of a format
 abbrev pub coded : {X Y : Type 0} → Format X → Code X Y → Format Y
 coded format as_code = record {
   written = λ y. format.written (as_code.code y);

@@ -8,10 +8,12 @@ use Rattle.office_types.specs.declared.command.Command.TheVariants as command
 use Rattle.entry_codec.specs.Formats.{Format, number, Code, coded}
 use Rattle.entry_codec.specs.Fields.{Field, Name, Key, Size, Rank, Tags, Rules, Status, Id, Number4, Number8, Price, Year, Month, Holds}
 
+-- a kind for each command
 pub data Kind : Type 0 where
   CreateBucket SetVersioning SetRules DropRules Put Delete DeleteVersion SetTags : Kind
   StartUpload PutPart Complete Abort Act SetTariff Close : Kind
 
+-- all of them
 abbrev pub all_kinds : List Kind
 all_kinds =
     CreateBucket ∷ SetVersioning ∷ SetRules ∷ DropRules ∷ Put ∷ Delete ∷ DeleteVersion ∷ SetTags
@@ -41,6 +43,7 @@ is_built CreateBucket = true
 is_built Put = true
 is_built kind = false
 
+-- the columns of the table
 abbrev pub number_of : Kind → ℕ
 number_of kind = (row kind).0
 
@@ -55,6 +58,7 @@ kinds = record {
   value = λ n. find (λ kind. is_built kind && number_of kind == n) all_kinds;
 }
 
+-- the kind of an entry
 unfoldable pub kind_format : Format Kind
 kind_format = coded (number w8) kinds
 

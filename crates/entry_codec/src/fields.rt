@@ -1,6 +1,6 @@
 // Reading the parts of which fields consist. A reader takes its value from the front of the bytes, and gives what is
 // left then; it gives None where no such value stands there.
-ghost use Rattle.std.specs.Prelude.{◌≡◌, ◌+◌, ◌<◌, ◌≤◌, ◌^◌, ◌&&◌, List, length, option_map, IfOk};
+ghost use Rattle.std.specs.Prelude.{◌≡◌, option_map, IfOk};
 ghost use Rattle.std.specs.Int.{w8, w16, w64};
 ghost use Rattle.office_base.specs.Tags.{tag_of, tags_of, comes_before, keys_rise};
 ghost use Rattle.entry_codec.specs.Formats.{number, text, front_items};

@@ -10,5 +10,5 @@ mod writing;
 
 pub use fault::EntryFault;
 pub use office_types::{Command, Entry};
-pub use reading::{decode, one_spelling};
+pub use reading::{decode, each_row_reads_back, one_spelling};
 pub use writing::{ENTRY_LIMIT, encode, encode_command, short_spelling};

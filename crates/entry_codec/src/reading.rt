@@ -1,14 +1,13 @@
 // Reading an entry.
-ghost use Rattle.std.specs.Prelude.{◌≡◌, ◌+◌, ◌<◌, ◌≤◌, ◌^◌, List, length, IfOk, Ok};
-ghost use Rattle.std.specs.Int.{w16};
+ghost use Rattle.std.specs.Prelude.{◌≡◌, ◌<◌, ◌++◌, ℕ, true, List, slice_index, IfOk, Ok};
 ghost use Rattle.office_types.specs.declared.command.Entry.{Entry};
 ghost use Rattle.entry_codec.specs.declared.fault.EntryFault.TheVariants.{BadEntry};
-ghost use Rattle.entry_codec.specs.Formats.{number, text};
 ghost use Rattle.entry_codec.specs.Fields as field;
-ghost use Rattle.entry_codec.specs.Fields.{ranks, format, moment_format};
+ghost use Rattle.entry_codec.specs.Fields.{ranks, format};
 ghost use Rattle.entry_codec.specs.Kinds as kind;
-ghost use Rattle.entry_codec.specs.Spelling.{Fits, spelling};
-ghost use Rattle.entry_codec.specs.Reading.{Gives, place, value_at, kind_at, command_at, entry_of};
+ghost use Rattle.entry_codec.specs.Kinds.{Kind, Values, fields_of, parts_of, command_of};
+ghost use Rattle.entry_codec.specs.Spelling.{Fits, written_values, are_values, spelling};
+ghost use Rattle.entry_codec.specs.Reading.{Gives, place, value_at, values_at, kind_at, command_at, entry_of};
 
 use crate::fault::EntryFault;
 use crate::fields::{counted_in, tags_in, u8_in, u64_in};
@@ -16,6 +15,7 @@ use class_rules::Class;
 use moments::Moment;
 use office_base::{BucketName, Key, NameRefusal, Size, Tags};
 use office_types::{Command, Entry};
+use rules_json::printed_rules_read_back;
 use std::alloc::Global;
 
 // The fault of the field with which the bytes begin that are left of an entry of `total` bytes.
@@ -195,3 +195,18 @@ pub fn decode(alloc: Global, bytes: &[u8]) -> Result<Entry, EntryFault>
 pub fn one_spelling()
     ensures same { (a b : Entry) → Fits a → Fits b → spelling a ≡ spelling b → a ≡ b }
 {}
+
+/// States of each row of the table, also where its kind is not built, that the values of its fields are read again from
+/// what is written of them, that nothing else is read, and that they are those of the row's command.
+pub fn each_row_reads_back()
+    ensures again { (kind : Kind) (values : Values (fields_of kind)) (total : ℕ) (rest : List ℕ)
+        → are_values (fields_of kind) values ≡ true
+        → values_at (fields_of kind) total (written_values (fields_of kind) values ++ rest) ≡ Ok (values, rest) }
+    ensures only { (kind : Kind) (read : Values (fields_of kind) × List ℕ) (total : ℕ) (bytes : List ℕ)
+        → ((i : ℕ) → slice_index bytes i < 256) → values_at (fields_of kind) total bytes ≡ Ok read
+        → (bytes ≡ written_values (fields_of kind) read.0 ++ read.1) × (are_values (fields_of kind) read.0 ≡ true) }
+    ensures parts { (kind : Kind) (values : Values (fields_of kind)) → are_values (fields_of kind) values ≡ true
+        → parts_of (command_of kind values) ≡ record { kind = kind; values = values } }
+{
+    printed_rules_read_back();
+}

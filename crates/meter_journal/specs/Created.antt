@@ -22,6 +22,7 @@ pub record Bounded (m k : ℕ) (front : List ℕ) (first s : State) : Type 0 whe
 
 -- each image of the journal file is one from before, or not made, or made and empty; the other files are as they were
 pub record BeforeOrEmpty (first s : State) : Type 0 where
-  pub journal : (image : List ℕ) → IsImage s.journal image → IsImage first.journal image ⊎ (IsNotMade image ⊎ HasHistory [] image)
+  pub journal : (image : List ℕ) → IsImage s.journal image → IsImage first.journal image
+      ⊎ (IsNotMade image ⊎ HasHistory [] image)
   pub slot0 : s.slot0 ≡ first.slot0
   pub slot1 : s.slot1 ≡ first.slot1

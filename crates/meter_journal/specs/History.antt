@@ -41,7 +41,8 @@ pub record HasEntries (head : List ℕ) (entries : List Entry) (file : List ℕ)
 abbrev pub HasHistory : List Entry → List ℕ → Type 0
 HasHistory entries file = HasEntries header entries file
 
--- the journal file is its only image, with these entries and its end gate there; what stands in its head is not looked at
+-- the journal file is its only image, with these entries and its end gate there; what stands in its head is not
+-- looked at
 pub record IsAtRest (head : List ℕ) (s : State) (gate : ℕ) (entries : List Entry) : Type 0 where
   pub bytes : List ℕ
   pub on_disk : s.journal ≡ synced_file bytes
@@ -50,6 +51,7 @@ pub record IsAtRest (head : List ℕ) (s : State) (gate : ℕ) (entries : List E
 
 -- each image of the journal file has these entries, with one more or without; the other files are as they were
 pub record BeforeOrAfter (head : List ℕ) (entries : List Entry) (entry : Entry) (first s : State) : Type 0 where
-  pub journal : (image : List ℕ) → IsImage s.journal image → HasEntries head entries image ⊎ HasEntries head (entries ++ entry ∷ []) image
+  pub journal : (image : List ℕ) → IsImage s.journal image → HasEntries head entries image
+      ⊎ HasEntries head (entries ++ entry ∷ []) image
   pub slot0 : s.slot0 ≡ first.slot0
   pub slot1 : s.slot1 ≡ first.slot1

@@ -1,7 +1,8 @@
 -- What a journal and a reading of one are to their callers.
 use Rattle.std.specs.Prelude.{ℕ}
 
--- a journal: its disk, the place of the next gate, which is its end gate once it was read, and the limit of its length, in bytes
+-- a journal: its disk, the place of the next gate, which is its end gate once it was read, and the limit of its
+-- length, in bytes
 pub record Placed (D : Type 0) : Type 0 where
   pub disk : D
   pub gate : ℕ

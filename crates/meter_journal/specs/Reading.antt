@@ -20,7 +20,8 @@ IsMade file = (11 ≤ length file) × (get_or file 0 0 ≡ 0xA5) × (take 9 (dro
 
 -- the file is longer and its head is closed, or its head is open and the mark is another
 abbrev pub IsForeign : List ℕ → Type 0
-IsForeign file = ((11 < length file) × (get_or file 0 0 ≢ 0xA5)) ⊎ ((11 ≤ length file) × (get_or file 0 0 ≡ 0xA5) × (take 9 (drop 1 file) ≢ mark))
+IsForeign file = ((11 < length file) × (get_or file 0 0 ≢ 0xA5))
+    ⊎ ((11 ≤ length file) × (get_or file 0 0 ≡ 0xA5) × (take 9 (drop 1 file) ≢ mark))
 
 -- what opening answers over these bytes
 abbrev pub HeadGives : {T : Type 0} → Result T OpenFault → List ℕ → Type 0
@@ -66,12 +67,15 @@ size_at gate file = from_be_bytes w32 (take 4 (drop (gate + 1) file))
 unfoldable pub body_at : ℕ → List ℕ → Frame
 body_at gate file =
     if nat_lt (length file) (gate + 5) then Broken
-    else (if nat_lt (length file) (gate + 6 + size_at gate file) || nat_lt (2 ^ 45) (gate + 6 + size_at gate file) then Broken
+    else (if nat_lt (length file) (gate + 6 + size_at gate file) || nat_lt (2 ^ 45) (gate + 6 + size_at gate file)
+    then Broken
     else entry_at gate (size_at gate file) file)
 
 -- what stands at the gate at this place; past the end of the file stands nothing
 unfoldable pub frame_at : ℕ → List ℕ → Frame
-frame_at gate file = if nat_le (length file) gate then Broken else (if get_or file gate 0 == 0xA5 then body_at gate file else Ended)
+frame_at gate file =
+    if nat_le (length file) gate then Broken
+    else (if get_or file gate 0 == 0xA5 then body_at gate file else Ended)
 
 -- what a function that reads at a gate answers where it fails
 abbrev pub Fails : OpenFault → ℕ → Frame → Type 0
@@ -98,7 +102,8 @@ NextGives (Ok (Some e)) old new frame = frame ≡ Whole e new
 NextGives (Ok None) old new frame = (new ≡ old) × (frame ≡ Ended)
 NextGives (Err e) old new frame = (new ≡ old) × Fails e old frame
 
--- what reading the next entry answers on every disk: an entry in range, whose frame is passed over; else the place stays
+-- what reading the next entry answers on every disk: an entry in range, whose frame is passed over; else the place
+-- stays
 abbrev pub Advances : Result (Option Entry) OpenFault → ℕ → ℕ → Type 0
 Advances (Ok (Some e)) old new = Fits e × (new ≡ old + 5 + length (spelling e))
 Advances (Ok None) old new = new ≡ old
@@ -120,4 +125,5 @@ pub record HasPrefix (head : List ℕ) (entries : List Entry) (gate : ℕ) (file
 abbrev pub GoesOn : List Entry → List Entry → ℕ → List ℕ → Type 0
 GoesOn front entries gate file =
     ((front ≡ entries) × (frame_at gate file ≡ Ended))
-    ⊎ ((e : Entry) × (more : List Entry) × (entries ≡ front ++ e ∷ more) × (frame_at gate file ≡ Whole e (gate + 5 + length (spelling e))))
+    ⊎ ((e : Entry) × (more : List Entry) × (entries ≡ front ++ e ∷ more)
+    × (frame_at gate file ≡ Whole e (gate + 5 + length (spelling e))))

@@ -14,11 +14,13 @@ pub(crate) fn write_frame<D: Disk>(disk: &mut D, gate: u64, entry: &[u8]) -> Res
     requires place { gate < 2 ^ 46 }
     requires inside { IsTrue D.honest → gate + 1 ≤ length (D.state disk.old).journal.seen }
 
-    ensures any_moment { IsTrue D.honest → (front : List ℕ) → KeepsJournal (gate + 1) front (D.state disk.old) (D.state disk.old)
+    ensures any_moment { IsTrue D.honest → (front : List ℕ)
+        → KeepsJournal (gate + 1) front (D.state disk.old) (D.state disk.old)
         → KeepsTo D.state D.moment D.had_since disk.old disk.new (KeepsJournal (gate + 1) front (D.state disk.old)) }
 
     ensures done { IsTrue D.honest → OnOk result ((D.state disk.new).journal
-        ≡ synced_file (put (gate + 1) (to_be_bytes w32 (length entry.now) ++ entry.now ++ 0 ∷ []) (D.state disk.old).journal.seen)) }
+        ≡ synced_file (put (gate + 1) (to_be_bytes w32 (length entry.now) ++ entry.now ++ 0 ∷ [])
+        (D.state disk.old).journal.seen)) }
 
     ensures cause { HasCause (D.fault_count disk.old) (D.fault_count disk.new) result }
 {

@@ -14,10 +14,12 @@ pub(crate) const OPEN: u8 = 0xA5;
 pub(crate) fn open_gate<D: Disk>(disk: &mut D, gate: u64) -> Result<(), Failed>
     requires { IsTrue D.honest → gate < length (D.state disk.old).journal.seen }
 
-    ensures any_moment { IsTrue D.honest → (bytes : List ℕ) → gate < length bytes → (D.state disk.old).journal ≡ synced_file bytes
+    ensures any_moment { IsTrue D.honest → (bytes : List ℕ) → gate < length bytes
+        → (D.state disk.old).journal ≡ synced_file bytes
         → KeepsTo D.state D.moment D.had_since disk.old disk.new (IsButOne gate bytes (D.state disk.old)) }
 
-    ensures done { IsTrue D.honest → OnOk result ((D.state disk.new).journal ≡ synced_file (put gate (0xA5 ∷ []) (D.state disk.old).journal.seen)) }
+    ensures done { IsTrue D.honest → OnOk result ((D.state disk.new).journal
+        ≡ synced_file (put gate (0xA5 ∷ []) (D.state disk.old).journal.seen)) }
 
     ensures cause { HasCause (D.fault_count disk.old) (D.fault_count disk.new) result }
 {

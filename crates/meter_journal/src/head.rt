@@ -37,8 +37,10 @@ pub(crate) fn judge(front: &[u8; 10], end: u64) -> Result<(), OpenFault>
 
 // Syncs the journal file.
 pub(crate) fn sync_journal<D: Disk>(disk: &mut D) -> Result<(), Failed>
-    ensures any_moment { IsTrue D.honest → KeepsTo D.state D.moment D.had_since disk.old disk.new (Narrower (D.state disk.old)) }
-    ensures done { IsTrue D.honest → OnOk result ((D.state disk.new).journal ≡ synced_file (D.state disk.old).journal.seen) }
+    ensures any_moment { IsTrue D.honest → KeepsTo D.state D.moment D.had_since disk.old disk.new
+        (Narrower (D.state disk.old)) }
+    ensures done { IsTrue D.honest → OnOk result ((D.state disk.new).journal
+        ≡ synced_file (D.state disk.old).journal.seen) }
     ensures cause { HasCause (D.fault_count disk.old) (D.fault_count disk.new) result }
 {
     disk.sync(FileNo::Journal)
@@ -65,8 +67,10 @@ fn check_head<D: Disk>(disk: &mut D, end: u64) -> Result<(), OpenFault>
 pub(crate) fn look<D: Disk>(disk: &mut D) -> Result<u64, OpenFault>
     ensures exact { IsTrue D.honest → HeadGives result (D.state disk.old).journal.seen }
     ensures size { IsTrue D.honest → IfOk result (λ n. n ≡ length (D.state disk.old).journal.seen) }
-    ensures any_moment { IsTrue D.honest → KeepsTo D.state D.moment D.had_since disk.old disk.new (Narrower (D.state disk.old)) }
-    ensures done { IsTrue D.honest → (IsErrOf result OpenFault.StoreFault → ⊥) → (D.state disk.new).journal ≡ synced_file (D.state disk.old).journal.seen }
+    ensures any_moment { IsTrue D.honest → KeepsTo D.state D.moment D.had_since disk.old disk.new
+        (Narrower (D.state disk.old)) }
+    ensures done { IsTrue D.honest → (IsErrOf result OpenFault.StoreFault → ⊥)
+        → (D.state disk.new).journal ≡ synced_file (D.state disk.old).journal.seen }
     ensures cause { HasStoreCause (D.fault_count disk.old) (D.fault_count disk.new) result }
 {
     if sync_journal(disk).is_err() {

@@ -51,13 +51,16 @@ impl<D: Disk> Model for Journal<D> {
 fn commit<D: Disk>(disk: &mut D, gate: u64, entry: &[u8]) -> Result<(), Failed>
     requires size { length entry.now < 2 ^ 32 }
     requires fits { gate + 6 + length entry.now ≤ 2 ^ 45 }
-    requires at_rest { IsTrue D.honest → (head : List ℕ) × (entries : List Entry) × IsAtRest head (D.state disk.old) gate entries }
+    requires at_rest { IsTrue D.honest → (head : List ℕ) × (entries : List Entry)
+        × IsAtRest head (D.state disk.old) gate entries }
 
-    ensures any_moment { IsTrue D.honest → (head : List ℕ) (entries : List Entry) (e : Entry) → Fits e → entry.now ≡ spelling e
+    ensures any_moment { IsTrue D.honest → (head : List ℕ) (entries : List Entry) (e : Entry) → Fits e
+        → entry.now ≡ spelling e
         → IsAtRest head (D.state disk.old) gate entries
         → KeepsTo D.state D.moment D.had_since disk.old disk.new (BeforeOrAfter head entries e (D.state disk.old)) }
 
-    ensures acknowledged { IsTrue D.honest → (head : List ℕ) (entries : List Entry) (e : Entry) → Fits e → entry.now ≡ spelling e
+    ensures acknowledged { IsTrue D.honest → (head : List ℕ) (entries : List Entry) (e : Entry) → Fits e
+        → entry.now ≡ spelling e
         → IsAtRest head (D.state disk.old) gate entries
         → OnOk result (IsAtRest head (D.state disk.new) (gate + 5 + length entry.now) (entries ++ e ∷ [])) }
 
@@ -101,12 +104,15 @@ impl<D: Disk> Journal<D> {
             × (end ≡ length (D.state self.new.disk).journal.seen)
             × ((D.state self.new.disk).journal ≡ synced_file (D.state self.old.disk).journal.seen)) }
         ensures start { OnOk result (self.new.gate ≡ from_or_first from) }
-        ensures err { IsTrue D.honest → IfErr result (λ e. HeadGives {T = ℕ} (Err e) (D.state self.old.disk).journal.seen) }
+        ensures err { IsTrue D.honest → IfErr result (λ e. HeadGives {T = ℕ} (Err e)
+            (D.state self.old.disk).journal.seen) }
 
         // A refused file is as it was, and on the disk.
-        ensures refused { IsTrue D.honest → IfErr result (λ e. (e ≡ StoreFault → ⊥) → (D.state self.new.disk).journal ≡ synced_file (D.state self.old.disk).journal.seen) }
+        ensures refused { IsTrue D.honest → IfErr result (λ e. (e ≡ StoreFault → ⊥)
+            → (D.state self.new.disk).journal ≡ synced_file (D.state self.old.disk).journal.seen) }
 
-        ensures any_moment { IsTrue D.honest → KeepsTo D.state D.moment D.had_since self.old.disk self.new.disk (Narrower (D.state self.old.disk)) }
+        ensures any_moment { IsTrue D.honest → KeepsTo D.state D.moment D.had_since self.old.disk self.new.disk
+            (Narrower (D.state self.old.disk)) }
         ensures limit { self.new.limit ≡ self.old.limit }
         ensures cause { HasStoreCause (D.fault_count self.old.disk) (D.fault_count self.new.disk) result }
     {
@@ -132,12 +138,15 @@ impl<D: Disk> Journal<D> {
     /// frame holds no entry. `StoreFault`: the disk did not do a call. `NoMemory`: memory for the entry ran out.
     pub fn next(&mut self, alloc: Global, end: u64) -> Result<Option<Entry>, OpenFault>
         requires known { IsTrue D.honest → end ≡ length (D.state self.old.disk).journal.seen }
-        ensures exact { IsTrue D.honest → NextGives result self.old.gate self.new.gate (frame_at self.old.gate (D.state self.old.disk).journal.seen) }
+        ensures exact { IsTrue D.honest → NextGives result self.old.gate self.new.gate
+            (frame_at self.old.gate (D.state self.old.disk).journal.seen) }
         ensures untouched { IsTrue D.honest → Untouched D.state D.moment D.had_since self.old.disk self.new.disk }
         ensures cause { HasStoreCause (D.fault_count self.old.disk) (D.fault_count self.new.disk) result }
-        ensures rises { IfOk result (λ read. IfSome read (λ e. (self.old.gate < self.new.gate) × (self.new.gate ≤ 2 ^ 45))) }
+        ensures rises { IfOk result (λ read. IfSome read (λ e. (self.old.gate < self.new.gate)
+            × (self.new.gate ≤ 2 ^ 45))) }
         // Memory is wanting only for a frame that claims no more than an entry may have.
-        ensures memory { IsTrue D.honest → IsErrOf result OpenFault.NoMemory → size_at self.old.gate (D.state self.old.disk).journal.seen ≤ entry_limit }
+        ensures memory { IsTrue D.honest → IsErrOf result OpenFault.NoMemory
+            → size_at self.old.gate (D.state self.old.disk).journal.seen ≤ entry_limit }
         // On every disk: what is read is an entry in range, and its frame is passed over.
         ensures advances { Advances result self.old.gate self.new.gate }
         ensures limit { self.new.limit ≡ self.old.limit }
@@ -173,25 +182,32 @@ impl<D: Disk> Journal<D> {
     /// do a call; the entry may be there or not, and the journal has to be opened again.
     pub fn append(&mut self, entry: &[u8]) -> Result<u64, AppendFault>
         requires entry { IsEntry entry.now }
-        requires at_rest { IsTrue D.honest → (head : List ℕ) × (entries : List Entry) × IsAtRest head (D.state self.old.disk) self.old.gate entries }
+        requires at_rest { IsTrue D.honest → (head : List ℕ) × (entries : List Entry)
+            × IsAtRest head (D.state self.old.disk) self.old.gate entries }
 
         // At every moment of the call every image of the journal file has the entries from before, or those and the
         // new one.
-        ensures any_moment { IsTrue D.honest → (head : List ℕ) (entries : List Entry) (e : Entry) → Fits e → entry.now ≡ spelling e
+        ensures any_moment { IsTrue D.honest → (head : List ℕ) (entries : List Entry) (e : Entry) → Fits e
+            → entry.now ≡ spelling e
             → IsAtRest head (D.state self.old.disk) self.old.gate entries
-            → KeepsTo D.state D.moment D.had_since self.old.disk self.new.disk (BeforeOrAfter head entries e (D.state self.old.disk)) }
+            → KeepsTo D.state D.moment D.had_since self.old.disk self.new.disk
+            (BeforeOrAfter head entries e (D.state self.old.disk)) }
 
         // After `Ok` it is the latter.
-        ensures acknowledged { IsTrue D.honest → (head : List ℕ) (entries : List Entry) (e : Entry) → Fits e → entry.now ≡ spelling e
+        ensures acknowledged { IsTrue D.honest → (head : List ℕ) (entries : List Entry) (e : Entry) → Fits e
+            → entry.now ≡ spelling e
             → IsAtRest head (D.state self.old.disk) self.old.gate entries
             → OnOk result (IsAtRest head (D.state self.new.disk) self.new.gate (entries ++ e ∷ [])) }
 
-        ensures place { IfOk result (λ place. (place ≡ self.new.gate) × (place ≡ self.old.gate + 5 + length entry.now)) }
+        ensures place { IfOk result (λ place. (place ≡ self.new.gate)
+            × (place ≡ self.old.gate + 5 + length entry.now)) }
         ensures limit { self.new.limit ≡ self.old.limit }
-        ensures full { IsErrOf result AppendFault.JournalFull ↔ (self.old.limit < self.old.gate + 6 + length entry.now) }
+        ensures full { IsErrOf result AppendFault.JournalFull
+            ↔ (self.old.limit < self.old.gate + 6 + length entry.now) }
         ensures unchanged { IsErrOf result AppendFault.JournalFull → self.new ≡ self.old }
         ensures later { D.fault_count self.old.disk ≤ D.fault_count self.new.disk }
-        ensures fault { IsErrOf result AppendFault.StoreFault → Rose (D.fault_count self.old.disk) (D.fault_count self.new.disk) }
+        ensures fault { IsErrOf result AppendFault.StoreFault
+            → Rose (D.fault_count self.old.disk) (D.fault_count self.new.disk) }
     {
         let size = entry.len() as u64;
         if self.gate.saturating_add(size).saturating_add(6) > self.limit {

@@ -12,11 +12,13 @@ pub fn one_head()
 
 /// States that a file holds one list of entries, behind any head. It does nothing.
 pub fn one_history()
-    ensures { (head : List ℕ) (a b : List Entry) (file : List ℕ) → HasEntries head a file → HasEntries head b file → a ≡ b }
+    ensures { (head : List ℕ) (a b : List Entry) (file : List ℕ) → HasEntries head a file → HasEntries head b file
+        → a ≡ b }
 {}
 
 /// States that a file which holds entries is read without damage, entry by entry, up to its end. It does nothing.
 pub fn reads_all()
-    ensures { (head : List ℕ) (front entries : List Entry) (gate : ℕ) (file : List ℕ) → HasEntries head entries file → HasPrefix head front gate file
+    ensures { (head : List ℕ) (front entries : List Entry) (gate : ℕ) (file : List ℕ) → HasEntries head entries file
+        → HasPrefix head front gate file
         → GoesOn front entries gate file }
 {}

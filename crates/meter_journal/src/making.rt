@@ -17,10 +17,12 @@ use disk_core::{Disk, Failed, FileNo};
 fn put_synced<D: Disk>(disk: &mut D, at: u64, bytes: &[u8]) -> Result<(), Failed>
     requires inside { IsTrue D.honest → at ≤ length (D.state disk.old).journal.seen }
 
-    ensures any_moment { IsTrue D.honest → (m k : ℕ) (front : List ℕ) → k ≤ at → at + length bytes.now ≤ m → Bounded m k front (D.state disk.old) (D.state disk.old)
+    ensures any_moment { IsTrue D.honest → (m k : ℕ) (front : List ℕ) → k ≤ at → at + length bytes.now ≤ m
+        → Bounded m k front (D.state disk.old) (D.state disk.old)
         → KeepsTo D.state D.moment D.had_since disk.old disk.new (Bounded m k front (D.state disk.old)) }
 
-    ensures done { IsTrue D.honest → OnOk result ((D.state disk.new).journal ≡ synced_file (put at bytes.now (D.state disk.old).journal.seen)) }
+    ensures done { IsTrue D.honest → OnOk result ((D.state disk.new).journal
+        ≡ synced_file (put at bytes.now (D.state disk.old).journal.seen)) }
 
     ensures cause { HasCause (D.fault_count disk.old) (D.fault_count disk.new) result }
 {
@@ -30,7 +32,8 @@ fn put_synced<D: Disk>(disk: &mut D, at: u64, bytes: &[u8]) -> Result<(), Failed
 
 // Cuts the file to nothing, and syncs it.
 fn empty_file<D: Disk>(disk: &mut D) -> Result<(), Failed>
-    ensures any_moment { IsTrue D.honest → (bytes : List ℕ) → (D.state disk.old).journal ≡ synced_file bytes → IsNotMade bytes
+    ensures any_moment { IsTrue D.honest → (bytes : List ℕ) → (D.state disk.old).journal ≡ synced_file bytes
+        → IsNotMade bytes
         → KeepsTo D.state D.moment D.had_since disk.old disk.new (NoneOrEmpty (D.state disk.old)) }
 
     ensures done { IsTrue D.honest → OnOk result ((D.state disk.new).journal ≡ synced_file []) }
@@ -43,7 +46,8 @@ fn empty_file<D: Disk>(disk: &mut D) -> Result<(), Failed>
 
 // A closed head, then the mark and a closed gate, then the open head.
 fn make<D: Disk>(disk: &mut D) -> Result<(), Failed>
-    ensures any_moment { IsTrue D.honest → (bytes : List ℕ) → (D.state disk.old).journal ≡ synced_file bytes → IsNotMade bytes
+    ensures any_moment { IsTrue D.honest → (bytes : List ℕ) → (D.state disk.old).journal ≡ synced_file bytes
+        → IsNotMade bytes
         → KeepsTo D.state D.moment D.had_since disk.old disk.new (NoneOrEmpty (D.state disk.old)) }
 
     ensures made { IsTrue D.honest → OnOk result (IsAtRest header (D.state disk.new) 10 []) }
@@ -82,17 +86,20 @@ pub enum Made {
 pub fn create<D: Disk>(disk: &mut D) -> Result<Made, OpenFault>
     ensures before { IsTrue D.honest → IfOk result (λ m. m ≡ Made.Before → IsMade (D.state disk.old).journal.seen
         × ((D.state disk.new).journal ≡ synced_file (D.state disk.old).journal.seen)) }
-    ensures now { IsTrue D.honest → IfOk result (λ m. m ≡ Made.Now → IsNotMade (D.state disk.old).journal.seen × IsAtRest header (D.state disk.new) 10 []) }
+    ensures now { IsTrue D.honest → IfOk result (λ m. m ≡ Made.Now
+        → IsNotMade (D.state disk.old).journal.seen × IsAtRest header (D.state disk.new) 10 []) }
     ensures fails { IsTrue D.honest → IfErr result (λ e. CreateFails e (D.state disk.old).journal.seen) }
 
-    ensures foreign { IsTrue D.honest → IsErrOf result OpenFault.Foreign → (D.state disk.new).journal ≡ synced_file (D.state disk.old).journal.seen }
+    ensures foreign { IsTrue D.honest → IsErrOf result OpenFault.Foreign
+        → (D.state disk.new).journal ≡ synced_file (D.state disk.old).journal.seen }
 
     // Of one that is made or foreign each image is one from before.
     ensures unchanged { IsTrue D.honest → (IsNotMade (D.state disk.old).journal.seen → ⊥)
         → KeepsTo D.state D.moment D.had_since disk.old disk.new (Narrower (D.state disk.old)) }
 
     // Of any other it is one from before, or not made, or made and without entries.
-    ensures any_moment { IsTrue D.honest → KeepsTo D.state D.moment D.had_since disk.old disk.new (BeforeOrEmpty (D.state disk.old)) }
+    ensures any_moment { IsTrue D.honest → KeepsTo D.state D.moment D.had_since disk.old disk.new
+        (BeforeOrEmpty (D.state disk.old)) }
 
     ensures cause { HasStoreCause (D.fault_count disk.old) (D.fault_count disk.new) result }
 {

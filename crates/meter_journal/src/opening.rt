@@ -52,13 +52,17 @@ impl<D: Disk> Opening<D> {
         ensures err { IsTrue D.honest → IfErr result (λ e. HeadGives {T = ℕ} (Err e.0) (D.state disk).journal.seen) }
 
         // A refused file is as it was, and on the disk.
-        ensures refused { IsTrue D.honest → IfErr result (λ e. (e.0 ≡ StoreFault → ⊥) → (D.state e.1).journal ≡ synced_file (D.state disk).journal.seen) }
+        ensures refused { IsTrue D.honest → IfErr result (λ e. (e.0 ≡ StoreFault → ⊥)
+            → (D.state e.1).journal ≡ synced_file (D.state disk).journal.seen) }
 
-        ensures any_moment { IsTrue D.honest → IfOk result (λ o. KeepsTo D.state D.moment D.had_since disk o.disk (Narrower (D.state disk))) }
-        ensures any_moment_err { IsTrue D.honest → IfErr result (λ e. KeepsTo D.state D.moment D.had_since disk e.1 (Narrower (D.state disk))) }
+        ensures any_moment { IsTrue D.honest → IfOk result (λ o. KeepsTo D.state D.moment D.had_since disk o.disk
+            (Narrower (D.state disk))) }
+        ensures any_moment_err { IsTrue D.honest → IfErr result
+            (λ e. KeepsTo D.state D.moment D.had_since disk e.1 (Narrower (D.state disk))) }
 
         ensures later { IfOk result (λ o. D.fault_count disk ≤ D.fault_count o.disk) }
-        ensures fault { IfErr result (λ e. (D.fault_count disk ≤ D.fault_count e.1) × (e.0 ≡ StoreFault → Rose (D.fault_count disk) (D.fault_count e.1))) }
+        ensures fault { IfErr result (λ e. (D.fault_count disk ≤ D.fault_count e.1)
+            × (e.0 ≡ StoreFault → Rose (D.fault_count disk) (D.fault_count e.1))) }
     {
         let mut journal = Journal::over(disk, limit);
         match journal.open(from) {
@@ -79,12 +83,15 @@ impl<D: Disk> Opening<D> {
     /// frame holds no entry. `StoreFault`: the disk did not do a call. `NoMemory`: memory for the entry ran out.
     pub fn next(&mut self, alloc: Global) -> Result<Option<Entry>, OpenFault>
         requires known { IsTrue D.honest → self.old.length ≡ length (D.state self.old.disk).journal.seen }
-        ensures exact { IsTrue D.honest → NextGives result self.old.gate self.new.gate (frame_at self.old.gate (D.state self.old.disk).journal.seen) }
+        ensures exact { IsTrue D.honest → NextGives result self.old.gate self.new.gate
+            (frame_at self.old.gate (D.state self.old.disk).journal.seen) }
         ensures untouched { IsTrue D.honest → Untouched D.state D.moment D.had_since self.old.disk self.new.disk }
         ensures cause { HasStoreCause (D.fault_count self.old.disk) (D.fault_count self.new.disk) result }
-        ensures rises { IfOk result (λ read. IfSome read (λ e. (self.old.gate < self.new.gate) × (self.new.gate ≤ 2 ^ 45))) }
+        ensures rises { IfOk result (λ read. IfSome read (λ e. (self.old.gate < self.new.gate)
+            × (self.new.gate ≤ 2 ^ 45))) }
         // Memory is wanting only for a frame that claims no more than an entry may have.
-        ensures memory { IsTrue D.honest → IsErrOf result OpenFault.NoMemory → size_at self.old.gate (D.state self.old.disk).journal.seen ≤ entry_limit }
+        ensures memory { IsTrue D.honest → IsErrOf result OpenFault.NoMemory
+            → size_at self.old.gate (D.state self.old.disk).journal.seen ≤ entry_limit }
         // On every disk: what is read is an entry in range, and its frame is passed over.
         ensures advances { Advances result self.old.gate self.new.gate }
         ensures length { self.new.length ≡ self.old.length }

@@ -78,7 +78,8 @@ fn body_of<D: Disk>(
     ensures exact { IsTrue D.honest → BodyGives result gate (body_at gate (D.state disk.old).journal.seen) }
     ensures rises { IfOk result (λ x. (gate < x.1) × (x.1 ≤ 2 ^ 45)) }
     ensures spelled { IfOk result (λ x. Fits x.0 × (x.1 ≡ gate + 5 + length (spelling x.0))) }
-    ensures memory { IsTrue D.honest → IsErrOf result OpenFault.NoMemory → size_at gate (D.state disk.old).journal.seen ≤ entry_limit }
+    ensures memory { IsTrue D.honest → IsErrOf result OpenFault.NoMemory
+        → size_at gate (D.state disk.old).journal.seen ≤ entry_limit }
     ensures untouched { IsTrue D.honest → Untouched D.state D.moment D.had_since disk.old disk.new }
     ensures cause { HasStoreCause (D.fault_count disk.old) (D.fault_count disk.new) result }
 {
@@ -110,7 +111,8 @@ pub(crate) fn frame_of<D: Disk>(
     ensures exact { IsTrue D.honest → FrameGives result gate (frame_at gate (D.state disk.old).journal.seen) }
     ensures rises { IfOk result (λ read. IfSome read (λ x. (gate < x.1) × (x.1 ≤ 2 ^ 45))) }
     ensures spelled { IfOk result (λ read. IfSome read (λ x. Fits x.0 × (x.1 ≡ gate + 5 + length (spelling x.0)))) }
-    ensures memory { IsTrue D.honest → IsErrOf result OpenFault.NoMemory → size_at gate (D.state disk.old).journal.seen ≤ entry_limit }
+    ensures memory { IsTrue D.honest → IsErrOf result OpenFault.NoMemory
+        → size_at gate (D.state disk.old).journal.seen ≤ entry_limit }
     ensures untouched { IsTrue D.honest → Untouched D.state D.moment D.had_since disk.old disk.new }
     ensures cause { HasStoreCause (D.fault_count disk.old) (D.fault_count disk.new) result }
 {

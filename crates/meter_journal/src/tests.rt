@@ -55,7 +55,8 @@ fn empty_journal<D: Disk + Drop>(
     limit: u64,
 ) -> Result<Journal<D>, OpenFault>
     requires { limit ≤ 2 ^ 45 }
-    ensures { IsTrue D.honest → IfOk result (λ j. (head : List ℕ) × (entries : List Entry) × IsAtRest head (D.state j.disk) j.gate entries) }
+    ensures { IsTrue D.honest → IfOk result (λ j. (head : List ℕ) × (entries : List Entry)
+        × IsAtRest head (D.state j.disk) j.gate entries) }
 {
     let mut opening = match Opening::begin(disk, limit, None) {
         Ok(opening) => opening,
@@ -73,7 +74,8 @@ fn empty_journal<D: Disk + Drop>(
 
 // Opens a journal of at most one entry again, and reads it up to its end gate.
 fn read_again<D: Disk>(alloc: Global, journal: &mut Journal<D>) -> Result<Option<Entry>, OpenFault>
-    ensures { IsTrue D.honest → OnOk result ((head : List ℕ) × (entries : List Entry) × IsAtRest head (D.state journal.new.disk) journal.new.gate entries) }
+    ensures { IsTrue D.honest → OnOk result ((head : List ℕ) × (entries : List Entry)
+        × IsAtRest head (D.state journal.new.disk) journal.new.gate entries) }
 {
     let end = match journal.open(None) {
         Ok(end) => end,
