@@ -9,7 +9,7 @@ use Rattle.disk_core.proofs.Time.{joined}
 use Rattle.meter_journal.specs.History.{header}
 use Rattle.meter_journal.proofs.Unique.{entries_unique}
 use Rattle.plain_office.specs.Office.{empty_office}
-use Rattle.plain_office.specs.declared.command.Entry.{Entry}
+use Rattle.office_types.specs.declared.command.Entry.{Entry}
 use Rattle.plain_office.proofs.Runs.{run_none}
 use Rattle.desk_core.specs.declared.clock.Clock as clocks
 use Rattle.desk_core.specs.Answers.{Call}

@@ -4,8 +4,7 @@ ghost use Rattle.office_base.specs.Faults.{Rose};
 ghost use Rattle.disk_core.specs.Files.{synced_file};
 ghost use Rattle.disk_core.specs.Kept.{Narrower};
 ghost use Rattle.disk_core.specs.Moments.{KeepsTo, Untouched};
-ghost use Rattle.plain_office.specs.declared.command.Entry.{Entry};
-ghost use Rattle.plain_office.specs.Orderly.{SizeFits};
+ghost use Rattle.office_types.specs.declared.command.Entry.{Entry};
 ghost use Rattle.plain_office.specs.Run.{accept, is_not_before};
 ghost use Rattle.office_machine.specs.Standing.{most_commands};
 ghost use Rattle.meter_journal.specs.Reading.{IsMade, HasStoreCause};
@@ -20,7 +19,7 @@ use disk_core::Disk;
 use meter_journal::{Journal, OpenFault};
 use moments::Moment;
 use office_machine::Office;
-use plain_office::{Entry, Refusal};
+use office_types::{Entry, Refusal, Reply};
 use std::alloc::Global;
 
 fn is_in_order(last: Option<Moment>, at: Moment) -> bool
@@ -46,8 +45,6 @@ fn refused(refusal: Refusal, gate: u64) -> OpenFault
 // Makes the change of an entry again. Where the office does not accept it, the journal is damaged at its gate.
 fn take(office: &mut Office, entry: &Entry, gate: u64) -> Result<(), OpenFault>
     requires few { office.old.accepted < most_commands }
-    requires stands { (history : List Entry) × StandsAfter history office.old }
-    requires fits { SizeFits entry.now.command }
     ensures ok { OnOk result ((history : List Entry) → StandsAfter history office.old → StandsAfter (history ++ entry.now ∷ []) office.new) }
     ensures damaged { IfErr result (λ e. (e ≡ OpenFault.NoMemory) ⊎ ((e ≡ OpenFault.Damaged gate)
         × ((history : List Entry) (is : StandsAfter history office.old) → accept is.plain entry.now ≡ None))) }
@@ -55,10 +52,13 @@ fn take(office: &mut Office, entry: &Entry, gate: u64) -> Result<(), OpenFault>
     if !is_in_order(office.last(), entry.moment) {
         return Err(OpenFault::Damaged { offset: gate });
     }
-    let Err(refusal) = office.apply(entry.moment, &entry.command) else {
-        return Ok(());
-    };
-    Err(refused(refusal, gate))
+    match office.apply(entry.moment, &entry.command) {
+        Ok(reply) => match reply {
+            Reply::NothingDue => Err(OpenFault::Damaged { offset: gate }),
+            _ => Ok(()),
+        },
+        Err(refusal) => Err(refused(refusal, gate)),
+    }
 }
 
 // Reads all entries behind the first gate of a journal file of this length, and makes their changes again.

@@ -6,7 +6,7 @@ use Rattle.disk_core.specs.Files.{State, IsImage}
 use Rattle.disk_core.specs.Kept.{Narrower}
 use Rattle.disk_core.specs.Moments.{KeepsTo}
 use Rattle.disk_core.proofs.Time.{weakened, joined}
-use Rattle.plain_office.specs.declared.command.Entry.{Entry}
+use Rattle.office_types.specs.declared.command.Entry.{Entry}
 use Rattle.meter_journal.specs.Reading.{IsNotMade, IsForeign}
 use Rattle.meter_journal.proofs.Heads.{history_made, made_not_none, made_not_foreign}
 use Rattle.desk_core.specs.declared.clock.Clock as clocks

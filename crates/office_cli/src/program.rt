@@ -4,7 +4,7 @@ ghost use Rattle.http_wire.specs.Held.{take_limit};
 ghost use Rattle.http_front.specs.Counts.{Gave};
 ghost use Rattle.office_base.specs.Faults.{Rose};
 ghost use Rattle.disk_core.specs.Moments.{KeepsTo};
-ghost use Rattle.plain_office.specs.declared.command.Entry.{Entry};
+ghost use Rattle.office_types.specs.declared.command.Entry.{Entry};
 ghost use Rattle.desk_core.specs.Histories.{HasAcceptedHistory, IsSound};
 ghost use Rattle.meter_journal.specs.Reading.{IsForeign};
 ghost use Rattle.command_line.specs.Lines.{asked, Line, init as init_line, run as run_line, serve as serve_line};

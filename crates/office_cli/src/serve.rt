@@ -1,7 +1,7 @@
 // Answering the messages of connections.
 ghost use Rattle.std.specs.Prelude.{◌≡◌, ◌≤◌, ◌⊎◌, ◌<◌, ℕ, List, false, IsTrue};
 ghost use Rattle.office_base.specs.Faults.{Rose};
-ghost use Rattle.plain_office.specs.declared.command.Entry.{Entry};
+ghost use Rattle.office_types.specs.declared.command.Entry.{Entry};
 ghost use Rattle.desk_core.specs.Histories.{HasAcceptedHistory};
 ghost use Rattle.desk_core.specs.Opening.{Opens};
 ghost use Rattle.office_cli.specs.Lines.{workers_status, workers_note, IsWorkersStatus, IsServeStatus};
