@@ -6,6 +6,7 @@ use Rattle.plain_office.specs.Office.{Office, empty_office}
 use Rattle.plain_office.specs.Step.{step}
 use Rattle.plain_office.specs.Run.{run, run_from, accept, is_not_before}
 use Rattle.office_types.specs.declared.command.Entry.{Entry}
+use Rattle.office_types.specs.declared.reply.Reply.{Reply}
 use Rattle.office_types.specs.declared.reply.Reply.TheVariants.{NothingDue}
 use Rattle.office_types.specs.declared.refusal.Refusal.{Refusal}
 use Rattle.office_types.specs.declared.refusal.Refusal.TheVariants as refusals
@@ -48,8 +49,10 @@ not_taken old new e refusal fault gate does memory damaged = ⊎_elim
     (λ lacks. inl (memory lacks))
     (λ other. inr (damaged other, λ history is. refused is.plain e new refusal other (does is.plain is.stands))) (lacks_or_not refusal)
 
-pub nothing_due : (old new : Records) (e : Entry) (gate : ℕ) → ((p : Office) → StandsForOffice old p → Does (step e.moment e.command p) p new (Ok NothingDue)) → IsNotTaken old e (faults.Damaged gate) gate
-nothing_due old new e gate does = inr (refl, λ history is. nothing_taken is.plain e new (does is.plain is.stands))
+pub nothing_due : (old new : Records) (e : Entry) (reply : Reply) (fault : OpenFault) (gate : ℕ) → ((p : Office) → StandsForOffice old p → Does (step e.moment e.command p) p new (Ok reply))
+    → fault ≡ faults.Damaged gate → reply ≡ NothingDue → IsNotTaken old e fault gate
+nothing_due old new e reply fault gate does at nothing =
+    inr (at, λ history is. nothing_taken is.plain e new (subst (λ (r : Reply). Does (step e.moment e.command is.plain) is.plain new (Ok r)) nothing (does is.plain is.stands)))
 
 pub not_in_order : (old : Records) (e : Entry) → is_not_before old.last e.moment ≡ false → (history : List Entry) (is : StandsAfter history old) → accept is.plain e ≡ None
 not_in_order old e early history is = early_refused is.plain e (subst (λ (last : Option ℕ). is_not_before last e.moment ≡ false) is.stands.last early)

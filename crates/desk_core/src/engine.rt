@@ -150,9 +150,7 @@ impl<D: Disk + Drop, C: Clock + Drop> Engine<D, C> {
     {
         match self.office.apply(moment, command) {
             Ok(reply) => match reply {
-                Reply::NothingDue => {
-                    Ok(self.answer(moment.ms(), told, Ok(Reply::NothingDue)))
-                }
+                Reply::NothingDue => { Ok(self.answer(moment.ms(), told, Ok(Reply::NothingDue))) }
                 done => self.add(moment, told, done, bytes),
             },
             Err(refusal) => match refusal {

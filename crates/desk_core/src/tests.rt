@@ -3,7 +3,7 @@ use class_rules::Class;
 use disk_core::{Disk, FileNo, MemoryDisk};
 use meter_journal::{OpenFault, read_all};
 use moments::Month;
-use office_base::{BucketName, Key, Size, VersionId};
+use office_base::{BucketName, Key, Size, Tags, VersionId};
 use office_types::{Ask, Command, Query, Refusal, Reply};
 use std::alloc::Global;
 use std::io;
@@ -82,6 +82,7 @@ fn asked(alloc: Global, wish: Wish) -> Result<Ask, Fail> {
             key: Key::read(alloc, b"a")?,
             size: Size::of(size)?,
             class: Class::Standard,
+            tags: Tags::read(alloc, Vec::new(alloc))?,
         }),
         Wish::January(_) => {
             let Some(month) = Month::of(2024, 1) else {
@@ -346,11 +347,7 @@ const QUERIES: [Row; 1] = [(
     &[
         NEW,
         EMPTY_SHOWN,
-        (
-            Wish::Show("data"),
-            Ok((Heard::Missing, 30)),
-            false,
-        ),
+        (Wish::Show("data"), Ok((Heard::Missing, 30)), false),
         (PUT, LOST, true),
     ],
 )];
