@@ -8,8 +8,8 @@ use Rattle.disk_core.specs.Moments.{KeepsTo}
 use Rattle.disk_core.proofs.Time.{joined, weakened}
 use Rattle.plain_office.specs.Office.{Office}
 use Rattle.plain_office.specs.Run.{run}
-use Rattle.plain_office.specs.declared.command.Ask.{Ask}
-use Rattle.plain_office.specs.declared.command.Entry.{Entry}
+use Rattle.office_types.specs.declared.command.Ask.{Ask}
+use Rattle.office_types.specs.declared.command.Entry.{Entry}
 use Rattle.meter_journal.specs.declared.fault.OpenFault.{OpenFault}
 use Rattle.meter_journal.specs.declared.fault.OpenFault.TheVariants as opens
 use Rattle.desk_core.specs.declared.fault.DeskFault.{DeskFault}

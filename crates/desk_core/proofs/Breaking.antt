@@ -3,12 +3,13 @@ use Rattle.std.proofs.Common.{◌≡◌, ◌⊎◌, ℕ, ◌+◌, ◌<◌, ◌�
 use Rattle.std.specs.Prelude.{IsTrue, IsSome, option_and_then}
 use Rattle.disk_core.specs.Files.{State, File, synced_file}
 use Rattle.plain_office.specs.Office.{Office, empty_office}
-use Rattle.plain_office.specs.Orderly.{IsOrderly}
 use Rattle.plain_office.specs.Step.{step}
 use Rattle.plain_office.specs.Run.{run, run_from, accept, is_not_before}
-use Rattle.plain_office.specs.declared.command.Entry.{Entry}
-use Rattle.plain_office.specs.declared.reply.Refusal.{Refusal}
-use Rattle.plain_office.specs.declared.reply.Refusal.TheVariants as refusals
+use Rattle.office_types.specs.declared.command.Entry.{Entry}
+use Rattle.office_types.specs.declared.reply.Reply.{Reply}
+use Rattle.office_types.specs.declared.reply.Reply.TheVariants.{NothingDue}
+use Rattle.office_types.specs.declared.refusal.Refusal.{Refusal}
+use Rattle.office_types.specs.declared.refusal.Refusal.TheVariants as refusals
 use Rattle.plain_office.proofs.Runs.{early_refused}
 use Rattle.office_machine.specs.Standing.{Records, StandsForOffice, Does, most_commands}
 use Rattle.meter_journal.specs.declared.fault.OpenFault.{OpenFault}
@@ -23,8 +24,7 @@ use Rattle.desk_core.specs.Histories.{HasAcceptedHistory}
 use Rattle.desk_core.specs.Breaking.{IsDamagedAt, OpenFails, ReplayFails, HasReplayed}
 use Rattle.desk_core.specs.Offices.{StandsAfter}
 use Rattle.desk_core.proofs.Adding.{end_more}
-use Rattle.desk_core.proofs.Offices.{few}
-use Rattle.desk_core.proofs.Offices.{not_taken as refused}
+use Rattle.desk_core.proofs.Offices.{few, nothing_taken, not_taken as refused}
 
 -- the entries up to this gate were read, on every disk; on an honest one they are those of its journal file
 pub record HasRead {D : Type 0} (honest : Bool) (state : D → State) (disk : D) (gate : ℕ) (office : Records) : Type 0 where
@@ -35,18 +35,24 @@ pub record HasRead {D : Type 0} (honest : Bool) (state : D → State) (disk : D)
   pub prefix : IsTrue honest → (file : List ℕ) → (state disk).journal ≡ synced_file file → IsMade file → HasPrefix header history gate file
 
 -- why an entry is not taken
-pub not_taken : (old new : Records) (e : Entry) (refusal : Refusal) (fault : OpenFault) (gate : ℕ) → ((p : Office) → StandsForOffice old p → IsOrderly p → Does (step e.moment e.command p) p new (Err refusal))
-    → (refusal ≡ refusals.NoMemory → fault ≡ faults.NoMemory) → ((refusal ≡ refusals.NoMemory → ⊥) → fault ≡ faults.Damaged gate)
-    → (fault ≡ faults.NoMemory) ⊎ ((fault ≡ faults.Damaged gate) × ((history : List Entry) (is : StandsAfter history old) → accept is.plain e ≡ None))
-not_taken old new e refusals.NoMemory fault gate does memory damaged = inl (memory refl)
-not_taken old new e refusals.BucketExists fault gate does memory damaged =
-    inr (damaged (λ e. cc), λ history is. refused is.plain e new refusals.BucketExists (λ e. cc) (does is.plain is.stands is.orderly))
-not_taken old new e refusals.NoSuchBucket fault gate does memory damaged =
-    inr (damaged (λ e. cc), λ history is. refused is.plain e new refusals.NoSuchBucket (λ e. cc) (does is.plain is.stands is.orderly))
-not_taken old new e (refusals.Full what limit) fault gate does memory damaged =
-    inr (damaged (λ e. cc), λ history is. refused is.plain e new (refusals.Full what limit) (λ e. cc) (does is.plain is.stands is.orderly))
-not_taken old new e (refusals.ClockEnd moment) fault gate does memory damaged =
-    inr (damaged (λ e. cc), λ history is. refused is.plain e new (refusals.ClockEnd moment) (λ e. cc) (does is.plain is.stands is.orderly))
+abbrev pub IsNotTaken : Records → Entry → OpenFault → ℕ → Type 0
+IsNotTaken old e fault gate =
+    (fault ≡ faults.NoMemory) ⊎ ((fault ≡ faults.Damaged gate) × ((history : List Entry) (is : StandsAfter history old) → accept is.plain e ≡ None))
+
+lacks_or_not : (refusal : Refusal) → (refusal ≡ refusals.NoMemory) ⊎ (refusal ≡ refusals.NoMemory → ⊥)
+lacks_or_not refusals.NoMemory = inl refl
+lacks_or_not refusal = inr (λ e. absurd cc)
+
+pub not_taken : (old new : Records) (e : Entry) (refusal : Refusal) (fault : OpenFault) (gate : ℕ) → ((p : Office) → StandsForOffice old p → Does (step e.moment e.command p) p new (Err refusal))
+    → (refusal ≡ refusals.NoMemory → fault ≡ faults.NoMemory) → ((refusal ≡ refusals.NoMemory → ⊥) → fault ≡ faults.Damaged gate) → IsNotTaken old e fault gate
+not_taken old new e refusal fault gate does memory damaged = ⊎_elim
+    (λ lacks. inl (memory lacks))
+    (λ other. inr (damaged other, λ history is. refused is.plain e new refusal other (does is.plain is.stands))) (lacks_or_not refusal)
+
+pub nothing_due : (old new : Records) (e : Entry) (reply : Reply) (fault : OpenFault) (gate : ℕ) → ((p : Office) → StandsForOffice old p → Does (step e.moment e.command p) p new (Ok reply))
+    → fault ≡ faults.Damaged gate → reply ≡ NothingDue → IsNotTaken old e fault gate
+nothing_due old new e reply fault gate does at nothing =
+    inr (at, λ history is. nothing_taken is.plain e new (subst (λ (r : Reply). Does (step e.moment e.command is.plain) is.plain new (Ok r)) nothing (does is.plain is.stands)))
 
 pub not_in_order : (old : Records) (e : Entry) → is_not_before old.last e.moment ≡ false → (history : List Entry) (is : StandsAfter history old) → accept is.plain e ≡ None
 not_in_order old e early history is = early_refused is.plain e (subst (λ (last : Option ℕ). is_not_before last e.moment ≡ false) is.stands.last early)

@@ -9,7 +9,7 @@ use Rattle.disk_core.specs.declared.disk.Disk as disks
 use Rattle.disk_core.specs.Files.{State}
 use Rattle.disk_core.specs.Moments.{KeepsTo}
 use Rattle.disk_core.proofs.Time.{started, joined}
-use Rattle.plain_office.specs.declared.command.Ask.{Ask}
+use Rattle.office_types.specs.declared.command.Ask.{Ask}
 use Rattle.desk_core.specs.declared.clock.Clock as clocks
 use Rattle.desk_core.specs.Answers.{Answer, Call}
 use Rattle.desk_core.specs.Asking.{Submits}

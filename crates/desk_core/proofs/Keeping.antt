@@ -7,7 +7,7 @@ use Rattle.disk_core.specs.Moments.{KeepsTo}
 use Rattle.disk_core.proofs.Time.{started, weakened}
 use Rattle.plain_office.specs.Office.{Office}
 use Rattle.plain_office.specs.Run.{run}
-use Rattle.plain_office.specs.declared.command.Entry.{Entry}
+use Rattle.office_types.specs.declared.command.Entry.{Entry}
 use Rattle.meter_journal.specs.History.{header, HasEntries, IsAtRest, BeforeOrAfter}
 use Rattle.meter_journal.proofs.History.{each_image}
 use Rattle.meter_journal.proofs.Unique.{entries_unique}

@@ -1,6 +1,6 @@
 -- A journal that was opened, and the desk over it.
 use Rattle.std.proofs.Common.{◌≡◌, ℕ, ◌≤◌, ◌^◌, Bool, false, length, Result, Ok, Err, refl, sym, ap, ◌∙◌, subst, arith}
-use Rattle.std.specs.Prelude.{IsTrue, OnOk}
+use Rattle.std.specs.Prelude.{IsTrue, OnOk, IfErr}
 use Rattle.disk_core.specs.Files.{State, File, IsImage, synced_file}
 use Rattle.disk_core.specs.Kept.{Narrower}
 use Rattle.disk_core.specs.Moments.{KeepsTo, Untouched}
@@ -21,6 +21,10 @@ use Rattle.desk_core.proofs.Standing.{view_of, same_parts, still_true}
 pub on_done : {P Q : Type 0} (r : Result Unit OpenFault) → (P → Q) → OnOk r P → OnOk r Q
 on_done (Ok x) f p = f p
 on_done (Err e) f p = p
+
+pub on_fault : {P Q : OpenFault → Type 0} (r : Result Unit OpenFault) → ((e : OpenFault) → P e → Q e) → IfErr r P → IfErr r Q
+on_fault (Ok x) f p = p
+on_fault (Err e) f p = f e p
 
 module _ {D : Type 0} {C : Type 0} (honest : Bool) (state : D → State) (moment : D → ℕ) (had_since : D → ℕ → State → Type 0) (fault_count : D → ℕ)
     (only_now : (disk : D) (s : State) → had_since disk (moment disk) s → s ≡ state disk)

@@ -1,5 +1,5 @@
 -- What an office did from its opening to its closing, whose calls its desk followed.
-use Rattle.std.proofs.Common.{◌≡◌, ℕ, ◌≤◌, Bool, true, false, List, [], Option, take, refl, ap, ◌∙◌, sym, subst, arith}
+use Rattle.std.proofs.Common.{◌≡◌, ℕ, ◌≤◌, Bool, true, false, List, [], take, refl, ap, ◌∙◌, subst, arith}
 use Rattle.std.specs.Prelude.{IsTrue}
 use Rattle.std.specs.Io.KnownBytes.{Appends}
 use Rattle.disk_core.specs.declared.disk.Disk as disks
@@ -9,7 +9,7 @@ use Rattle.disk_core.proofs.Time.{joined}
 use Rattle.meter_journal.specs.History.{header}
 use Rattle.meter_journal.proofs.Unique.{entries_unique}
 use Rattle.plain_office.specs.Office.{empty_office}
-use Rattle.plain_office.specs.declared.command.Entry.{Entry}
+use Rattle.office_types.specs.declared.command.Entry.{Entry}
 use Rattle.plain_office.proofs.Runs.{run_none}
 use Rattle.desk_core.specs.declared.clock.Clock as clocks
 use Rattle.desk_core.specs.Answers.{Call}

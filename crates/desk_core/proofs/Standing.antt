@@ -9,11 +9,11 @@ use Rattle.disk_core.proofs.Time.{started, weakened}
 use Rattle.plain_office.specs.Office.{Office}
 use Rattle.plain_office.specs.Step.{step, is_accepted}
 use Rattle.plain_office.specs.Run.{entry_at}
-use Rattle.plain_office.specs.declared.command.Ask.{Ask}
-use Rattle.plain_office.specs.declared.command.Ask.TheVariants as ask
-use Rattle.plain_office.specs.declared.command.Command.{Command}
-use Rattle.plain_office.specs.declared.command.Entry.{Entry}
-use Rattle.plain_office.specs.declared.reply.Refusal.TheVariants.{ClockEnd}
+use Rattle.office_types.specs.declared.command.Ask.{Ask}
+use Rattle.office_types.specs.declared.command.Ask.TheVariants as ask
+use Rattle.office_types.specs.declared.command.Command.{Command}
+use Rattle.office_types.specs.declared.command.Entry.{Entry}
+use Rattle.office_types.specs.declared.refusal.Refusal.TheVariants.{ClockEnd}
 use Rattle.plain_office.proofs.Runs.{run_more}
 use Rattle.entry_codec.specs.Spelling.{spelling}
 use Rattle.entry_codec.proofs.Sizes.{same_length}
@@ -194,7 +194,7 @@ module _ {D : Type 0} {C : Type 0} (honest : Bool) (state : D → State) (moment
               let call = asked (ask.Command command) (Err (faults.StoreFault (Some number) count)) in
               let rose : Rose last count = subst (λ (k : ℕ). Rose last k) (sym is) (rose_from last (fault_count old.disk) (fault_count new.disk) (last_below opened.faults (fault_count old.disk) calls s.faults.0 s.faults.1) fails.rose) in
               let rule : (b : Bool) → Legal b opened.limit last (call ∷ []) s.history s.history = λ b. one_legal b opened.limit last call s.history s.history plain held.office.is_run (tt, rose, λ _. inl refl) in
-              let accepted : IsTrue (is_accepted (step t command plain).1) = fails.accepted plain held.office.stands held.office.orderly in
+              let accepted : IsTrue (is_accepted (step t command plain).1) = fails.accepted plain held.office.stands in
               let there : IsKeptAt (moment_after number plain.last) (ask.Command command) plain s.history (s.history ++ e ∷ []) =
               subst (λ (m : ℕ). (m < end_of_time) × IsTrue (is_accepted (step m command plain).1) × (s.history ++ e ∷ [] ≡ s.history ++ entry_at m command ∷ [])) at_plain (lt, accepted, refl) in
               let kept = one_legal true opened.limit last call s.history (s.history ++ e ∷ []) plain held.office.is_run (tt, rose, λ _. inr there) in

@@ -1,20 +1,13 @@
 -- The calls by which a desk is reached are legal, and one turn adds one call.
-use Rattle.std.proofs.Common.{◌≡◌, ℕ, ◌≤◌, Bool, true, false, Option, List, [], ◌∷◌, ◌++◌, map, Result, refl, sym, subst, arith}
+use Rattle.std.proofs.Common.{ℕ, Bool, Option, List, [], ◌∷◌, ◌++◌, Result, refl, sym, subst}
 use Rattle.std.proofs.lemmas.List.{map-append}
-use Rattle.std.specs.Prelude.{IsTrue}
-use Rattle.disk_core.specs.Files.{State, IsImage, file_in, seen_in}
-use Rattle.disk_core.specs.declared.disk.FileNo.{FileNo}
-use Rattle.disk_core.specs.declared.disk.FileNo.TheVariants.{Journal}
-use Rattle.plain_office.specs.declared.command.Ask.{Ask}
-use Rattle.plain_office.specs.declared.command.Entry.{Entry}
+use Rattle.disk_core.specs.Files.{State}
+use Rattle.office_types.specs.declared.command.Ask.{Ask}
 use Rattle.desk_core.specs.Answers.{Answer, Call}
 use Rattle.desk_core.specs.Asking.{Submits}
-use Rattle.desk_core.specs.Calls.{Legal}
-use Rattle.desk_core.specs.Desk.{DeskView, StandsFor}
-use Rattle.desk_core.specs.Serving.{Opened}
-use Rattle.desk_core.specs.Turns.{Moves, calls_from, Reaches, LegalSince}
+use Rattle.desk_core.specs.Desk.{DeskView}
+use Rattle.desk_core.specs.Turns.{Moves, calls_from, Reaches}
 use Rattle.desk_core.specs.declared.fault.DeskFault.{DeskFault}
-use Rattle.desk_core.proofs.Again.{by_honesty, honest_legal}
 
 -- one call more
 pub moves_on : {T : Type 0} (moves : T → Ask → Result Answer DeskFault → T → Type 0) (first old new : T) (calls : List Call) (call : Call)

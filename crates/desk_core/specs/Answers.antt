@@ -1,8 +1,8 @@
 -- What a call of the desk asks, and what it is told.
 use Rattle.std.specs.Prelude.{ℕ, Result}
-use Rattle.plain_office.specs.declared.command.Ask.{Ask}
-use Rattle.plain_office.specs.declared.reply.Reply.{Reply}
-use Rattle.plain_office.specs.declared.reply.Refusal.{Refusal}
+use Rattle.office_types.specs.declared.command.Ask.{Ask}
+use Rattle.office_types.specs.declared.reply.Reply.{Reply}
+use Rattle.office_types.specs.declared.refusal.Refusal.{Refusal}
 use Rattle.desk_core.specs.declared.fault.DeskFault.{DeskFault}
 
 -- what contracts see of an answer: the moment of its call, the number that the clock told for it, the reply, the

@@ -6,13 +6,12 @@ use Rattle.disk_core.specs.Kept.{Narrower}
 use Rattle.disk_core.specs.Moments.{KeepsTo}
 use Rattle.moments.specs.Time.{end_of_time}
 use Rattle.plain_office.specs.Office.{Office}
-use Rattle.plain_office.specs.Orderly.{IsOrderly}
 use Rattle.plain_office.specs.Step.{step, is_accepted}
 use Rattle.plain_office.specs.Run.{entry_at}
-use Rattle.plain_office.specs.declared.command.Ask.{Ask}
-use Rattle.plain_office.specs.declared.command.Ask.TheVariants as ask
-use Rattle.plain_office.specs.declared.command.Entry.{Entry}
-use Rattle.plain_office.specs.declared.reply.Refusal.TheVariants.{ClockEnd}
+use Rattle.office_types.specs.declared.command.Ask.{Ask}
+use Rattle.office_types.specs.declared.command.Ask.TheVariants as ask
+use Rattle.office_types.specs.declared.command.Entry.{Entry}
+use Rattle.office_types.specs.declared.refusal.Refusal.TheVariants.{ClockEnd}
 use Rattle.office_machine.specs.Standing.{Records, StandsForOffice}
 use Rattle.entry_codec.specs.Spelling.{spelling}
 use Rattle.meter_journal.specs.declared.fault.OpenFault.{OpenFault}
@@ -39,7 +38,7 @@ LeavesDisk (Err faults.NoMemory) question before after = after ≡ before
 -- before the end of time the plain office accepts this command, whichever of those it is that the records stand for
 abbrev pub IsAcceptedAt : ℕ → Ask → Records → Type 0
 IsAcceptedAt t (ask.Command command) records =
-    (t < end_of_time) × ((office : Office) → StandsForOffice records office → IsOrderly office → IsTrue (is_accepted (step t command office).1))
+    (t < end_of_time) × ((office : Office) → StandsForOffice records office → IsTrue (is_accepted (step t command office).1))
 IsAcceptedAt t (ask.Query query) records = ⊥
 
 -- a fault of the store comes only where the disk failed in the call, and only for a command that the office accepts;

@@ -2,12 +2,12 @@
 use Rattle.std.specs.Prelude.{◌≡◌, ◌⊎◌, ℕ, ◌+◌, ◌<◌, ◌≤◌, max, Bool, false, List, [], ◌∷◌, ◌++◌, length, Option, Some, None, Result, Ok, Err, IsTrue, IsSomeAnd, unwrap_or}
 use Rattle.office_base.specs.Faults.{Rose}
 use Rattle.moments.specs.Time.{end_of_time}
-use Rattle.plain_office.specs.declared.command.Ask.{Ask}
-use Rattle.plain_office.specs.declared.command.Ask.TheVariants as ask
-use Rattle.plain_office.specs.declared.command.Entry.{Entry}
-use Rattle.plain_office.specs.declared.reply.Reply.{Reply}
-use Rattle.plain_office.specs.declared.reply.Refusal.{Refusal}
-use Rattle.plain_office.specs.declared.reply.Refusal.TheVariants.{ClockEnd}
+use Rattle.office_types.specs.declared.command.Ask.{Ask}
+use Rattle.office_types.specs.declared.command.Ask.TheVariants as ask
+use Rattle.office_types.specs.declared.command.Entry.{Entry}
+use Rattle.office_types.specs.declared.reply.Reply.{Reply}
+use Rattle.office_types.specs.declared.refusal.Refusal.{Refusal}
+use Rattle.office_types.specs.declared.refusal.Refusal.TheVariants.{ClockEnd}
 use Rattle.plain_office.specs.Answers.{answer}
 use Rattle.plain_office.specs.Office.{Office}
 use Rattle.plain_office.specs.Step.{step, is_accepted}

@@ -5,7 +5,7 @@ use Rattle.office_base.specs.Faults.{Rose}
 use Rattle.disk_core.specs.Files.{State}
 use Rattle.disk_core.specs.Moments.{KeepsTo}
 use Rattle.plain_office.specs.Run.{run}
-use Rattle.plain_office.specs.declared.command.Entry.{Entry}
+use Rattle.office_types.specs.declared.command.Entry.{Entry}
 use Rattle.office_machine.specs.Standing.{Records}
 use Rattle.meter_journal.specs.History.{header, end_gate, IsAtRest}
 use Rattle.desk_core.specs.Answers.{Answer, Call}

@@ -1,7 +1,7 @@
 -- What an image of the journal file stands for.
 use Rattle.std.specs.Prelude.{◌≡◌, ◌⊎◌, ℕ, List, ◌++◌, ◌∷◌, [], IsSome}
 use Rattle.disk_core.specs.Files.{State, IsImage}
-use Rattle.plain_office.specs.declared.command.Entry.{Entry}
+use Rattle.office_types.specs.declared.command.Entry.{Entry}
 use Rattle.plain_office.specs.Run.{run}
 use Rattle.meter_journal.specs.History.{header, HasEntries}
 

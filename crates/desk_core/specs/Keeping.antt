@@ -6,15 +6,14 @@ use Rattle.disk_core.specs.Files.{State}
 use Rattle.disk_core.specs.Moments.{KeepsTo}
 use Rattle.plain_office.specs.Answers.{answer}
 use Rattle.plain_office.specs.Office.{Office}
-use Rattle.plain_office.specs.Orderly.{IsOrderly}
 use Rattle.plain_office.specs.Step.{step, is_accepted}
 use Rattle.plain_office.specs.Run.{accept, entry_at}
-use Rattle.plain_office.specs.declared.command.Ask.{Ask}
-use Rattle.plain_office.specs.declared.command.Ask.TheVariants as ask
-use Rattle.plain_office.specs.declared.command.Entry.{Entry}
-use Rattle.plain_office.specs.declared.reply.Reply.{Reply}
-use Rattle.plain_office.specs.declared.reply.Refusal.{Refusal}
-use Rattle.plain_office.specs.declared.reply.Refusal.TheVariants.{ClockEnd}
+use Rattle.office_types.specs.declared.command.Ask.{Ask}
+use Rattle.office_types.specs.declared.command.Ask.TheVariants as ask
+use Rattle.office_types.specs.declared.command.Entry.{Entry}
+use Rattle.office_types.specs.declared.reply.Reply.{Reply}
+use Rattle.office_types.specs.declared.refusal.Refusal.{Refusal}
+use Rattle.office_types.specs.declared.refusal.Refusal.TheVariants.{ClockEnd}
 use Rattle.office_machine.specs.Standing.{StandsForOffice}
 use Rattle.entry_codec.specs.Spelling.{spelling}
 use Rattle.meter_journal.specs.History.{header, end_gate, IsAtRest, BeforeOrAfter}
@@ -45,7 +44,7 @@ module _ {D C : Type 0} (honest : Bool) (state : D → State) (moment : D → �
 
   -- the disk failed while the entry was added
   pub record Fails (office : Office) (before : List Entry) (entry : Entry) (old new : Parts D C) : Type 0 where
-    pub accepted : (plain : Office) → StandsForOffice old.office plain → IsOrderly plain → IsTrue (is_accepted (step entry.moment entry.command plain).1)
+    pub accepted : (plain : Office) → StandsForOffice old.office plain → IsTrue (is_accepted (step entry.moment entry.command plain).1)
     pub next : (after : Office) × (accept office entry ≡ Some after)
     pub run : IsTrue honest → KeepsTo state moment had_since old.disk new.disk (BeforeOrAfter header before entry (state old.disk))
     pub rose : Rose (fault_count old.disk) (fault_count new.disk)

@@ -3,7 +3,7 @@ use Rattle.std.specs.Prelude.{◌≡◌, ℕ, ◌≤◌, Bool, false, List, [], 
 use Rattle.disk_core.specs.Files.{State}
 use Rattle.disk_core.specs.Kept.{Narrower}
 use Rattle.disk_core.specs.Moments.{KeepsTo}
-use Rattle.plain_office.specs.declared.command.Entry.{Entry}
+use Rattle.office_types.specs.declared.command.Entry.{Entry}
 use Rattle.desk_core.specs.Histories.{HasAcceptedHistory}
 use Rattle.desk_core.specs.Serving.{Opened}
 use Rattle.desk_core.specs.Desk.{DeskView, StandsFor}

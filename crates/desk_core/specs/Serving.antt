@@ -1,7 +1,7 @@
 -- What a disk owes to the calls of a desk: what a crash at any moment since its opening leaves of them.
 use Rattle.std.specs.Prelude.{◌≡◌, ℕ, zero, suc, ◌<◌, ◌≤◌, true, List, [], ◌∷◌, take, length, Ok, Err, Result}
 use Rattle.disk_core.specs.Files.{State, IsImage}
-use Rattle.plain_office.specs.declared.command.Entry.{Entry}
+use Rattle.office_types.specs.declared.command.Entry.{Entry}
 use Rattle.meter_journal.specs.History.{header, end_gate}
 use Rattle.desk_core.specs.Answers.{Answer, Call}
 use Rattle.desk_core.specs.Calls.{Legal}

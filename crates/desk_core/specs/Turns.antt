@@ -1,8 +1,8 @@
 -- Calls of a desk, one after another, as threads make them in turns.
 use Rattle.std.specs.Prelude.{◌≡◌, ℕ, Bool, Option, List, [], ◌∷◌, map, Result}
 use Rattle.disk_core.specs.Files.{State}
-use Rattle.plain_office.specs.declared.command.Ask.{Ask}
-use Rattle.plain_office.specs.declared.command.Entry.{Entry}
+use Rattle.office_types.specs.declared.command.Ask.{Ask}
+use Rattle.office_types.specs.declared.command.Entry.{Entry}
 use Rattle.desk_core.specs.Answers.{Answer, Call}
 use Rattle.desk_core.specs.Asking.{Submits}
 use Rattle.desk_core.specs.Calls.{Legal}

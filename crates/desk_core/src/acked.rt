@@ -1,8 +1,9 @@
 // An answer of the office whose effect is durable.
 ghost use Rattle.std.specs.Prelude.{◌≡◌, Err};
-ghost use Rattle.plain_office.specs.declared.reply.Refusal.TheVariants.{NoMemory};
+ghost use Rattle.office_types.specs.Built.{IsBuiltAnswer};
+ghost use Rattle.office_types.specs.declared.refusal.Refusal.TheVariants.{NoMemory};
 
-use plain_office::{Refusal, Reply};
+use office_types::{Refusal, Reply};
 use std::marker::Model;
 use std::snapshot::Snapshot;
 
@@ -20,15 +21,16 @@ pub struct Acked {
 
 impl Model for Acked {
     ghost use Rattle.std.specs.Prelude.{◌≡◌, Err};
-    ghost use Rattle.plain_office.specs.declared.reply.Refusal.TheVariants.{NoMemory};
+    ghost use Rattle.office_types.specs.Built.{IsBuiltAnswer};
+    ghost use Rattle.office_types.specs.declared.refusal.Refusal.TheVariants.{NoMemory};
     ghost use Rattle.desk_core.specs.Answers.{Answer};
 
     ghost Value = { Answer };
 
     ghost view = { λ a. record { moment = a.moment; told = a.told; reply = a.reply; position = a.position; disk_moment = a.at.value } };
 
-    // Want of memory is no answer of the office.
-    ghost invariant = { λ a. a.reply ≡ Err NoMemory → ⊥ };
+    // Want of memory is no answer of the office, and each answer is one that can be printed.
+    ghost invariant = { λ a. (a.reply ≡ Err NoMemory → ⊥) × IsBuiltAnswer a.reply };
 }
 
 impl Acked {
@@ -39,7 +41,8 @@ impl Acked {
         position: u64,
         at: Snapshot<u64>,
     ) -> Acked
-        requires { reply ≡ Err NoMemory → ⊥ }
+        requires enough { reply ≡ Err NoMemory → ⊥ }
+        requires built { IsBuiltAnswer reply }
         ensures { result ≡ record { moment = moment; told = told; reply = reply; position = position; disk_moment = at.value } }
     {
         Acked {
@@ -53,7 +56,8 @@ impl Acked {
 
     /// Reads the office's answer.
     pub fn reply(&self) -> &Result<Reply, Refusal>
-        ensures { result.now ≡ self.now.reply }
+        ensures value { result.now ≡ self.now.reply }
+        ensures built { IsBuiltAnswer result.now }
     {
         &self.reply
     }

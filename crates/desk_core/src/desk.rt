@@ -3,7 +3,7 @@ ghost use Rattle.std.specs.Prelude.{◌≡◌, ◌⊎◌, ◌<◌, ◌≤◌, �
 ghost use Rattle.office_base.specs.Faults.{Rose};
 ghost use Rattle.disk_core.specs.Kept.{Narrower};
 ghost use Rattle.disk_core.specs.Moments.{KeepsTo};
-ghost use Rattle.plain_office.specs.declared.command.Entry.{Entry};
+ghost use Rattle.office_types.specs.declared.command.Entry.{Entry};
 ghost use Rattle.desk_core.specs.Answers.{Call};
 ghost use Rattle.desk_core.specs.Asking.{IsOffice, HasCauses, Unopened};
 ghost use Rattle.desk_core.specs.Breaking.{OpenFails};
@@ -18,7 +18,7 @@ use crate::engine::Engine;
 use crate::fault::{DeskFault, SaveFault};
 use disk_core::Disk;
 use meter_journal::OpenFault;
-use plain_office::Ask;
+use office_types::Ask;
 use std::alloc::Global;
 use std::marker::Model;
 

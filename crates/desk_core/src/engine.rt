@@ -2,9 +2,10 @@
 ghost use Rattle.std.specs.Prelude.{min, ◌≡◌, ◌⊎◌, ◌+◌, ◌-◌, ◌<◌, ◌≤◌, ◌^◌, ◌++◌, ◌∷◌, [], ℕ, List, length, true, false, IsTrue, Some, None, Ok, Err, IfOk, IfErr, OnOk, IsErrOf};
 ghost use Rattle.office_base.specs.Faults.{Rose};
 ghost use Rattle.moments.specs.Time.{end_of_time};
-ghost use Rattle.plain_office.specs.declared.command.Entry.{Entry};
-ghost use Rattle.plain_office.specs.declared.command.Ask.TheVariants as ask_of;
-ghost use Rattle.plain_office.specs.declared.reply.Refusal.TheVariants.{NoMemory};
+ghost use Rattle.office_types.specs.declared.command.Entry.{Entry};
+ghost use Rattle.office_types.specs.declared.command.Ask.TheVariants as ask_of;
+ghost use Rattle.office_types.specs.declared.refusal.Refusal.TheVariants.{NoMemory};
+ghost use Rattle.office_types.specs.Built.{IsBuiltReply, IsBuiltAnswer};
 ghost use Rattle.plain_office.specs.Run.{is_not_before, entry_at};
 ghost use Rattle.entry_codec.specs.Spelling.{Fits, IsEntry, spelling};
 ghost use Rattle.meter_journal.specs.History.{header, end_gate, IsAtRest};
@@ -22,7 +23,7 @@ use entry_codec::encode_command;
 use meter_journal::{AppendFault, Journal};
 use moments::Moment;
 use office_machine::Office;
-use plain_office::{Ask, Command, Query, Refusal, Reply};
+use office_types::{Ask, Command, Query, Refusal, Reply};
 use std::alloc::Global;
 use std::marker::Model;
 
@@ -81,7 +82,8 @@ impl<D: Disk + Drop, C: Clock + Drop> Engine<D, C> {
     }
 
     fn answer(&self, moment: u64, told: u64, reply: Result<Reply, Refusal>) -> Acked
-        requires { reply ≡ Err NoMemory → ⊥ }
+        requires enough { reply ≡ Err NoMemory → ⊥ }
+        requires built { IsBuiltAnswer reply }
         ensures { result ≡ record { moment = moment; told = told; reply = reply; position = self.now.gate; disk_moment = D.moment self.now.disk } }
     {
         Acked::new(
@@ -101,6 +103,7 @@ impl<D: Disk + Drop, C: Clock + Drop> Engine<D, C> {
         reply: Reply,
         bytes: &[u8],
     ) -> Result<Acked, DeskFault>
+        requires built { IsBuiltReply reply }
         requires entry { IsEntry bytes.now }
         requires fits { self.old.gate + 6 + length bytes.now ≤ self.old.limit }
         requires at_rest { IsTrue D.honest → (before : List Entry) × IsAtRest header (D.state self.old.disk) self.old.gate before }
@@ -146,7 +149,10 @@ impl<D: Disk + Drop, C: Clock + Drop> Engine<D, C> {
         ensures later { D.fault_count self.old.disk ≤ D.fault_count self.new.disk }
     {
         match self.office.apply(moment, command) {
-            Ok(reply) => self.add(moment, told, reply, bytes),
+            Ok(reply) => match reply {
+                Reply::NothingDue => { Ok(self.answer(moment.ms(), told, Ok(Reply::NothingDue))) }
+                done => self.add(moment, told, done, bytes),
+            },
             Err(refusal) => match refusal {
                 Refusal::NoMemory => Err(DeskFault::NoMemory),
                 other => Ok(self.answer(moment.ms(), told, Err(other))),

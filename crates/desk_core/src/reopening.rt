@@ -1,12 +1,13 @@
 // Opening a journal again.
-ghost use Rattle.std.specs.Prelude.{◌≡◌, ◌⊎◌, ◌+◌, ◌<◌, ◌≤◌, ◌^◌, ◌++◌, ◌∷◌, [], ℕ, List, length, IsTrue, Some, None, Err, IfErr, IfOk, OnOk, IsErrOf};
+ghost use Rattle.std.specs.Prelude.{◌≡◌, ◌⊎◌, ◌+◌, ◌<◌, ◌≤◌, ◌^◌, ◌++◌, ◌∷◌, [], ℕ, List, length, true, IsTrue, Some, None, Ok, Err, IfErr, IfOk, OnOk, IsErrOf};
 ghost use Rattle.office_base.specs.Faults.{Rose};
 ghost use Rattle.disk_core.specs.Files.{synced_file};
 ghost use Rattle.disk_core.specs.Kept.{Narrower};
 ghost use Rattle.disk_core.specs.Moments.{KeepsTo, Untouched};
-ghost use Rattle.plain_office.specs.declared.command.Entry.{Entry};
-ghost use Rattle.plain_office.specs.Orderly.{SizeFits};
+ghost use Rattle.office_types.specs.declared.command.Entry.{Entry};
+ghost use Rattle.office_types.specs.declared.reply.Reply.TheVariants.{NothingDue};
 ghost use Rattle.plain_office.specs.Run.{accept, is_not_before};
+ghost use Rattle.plain_office.specs.Step.{is_accepted};
 ghost use Rattle.office_machine.specs.Standing.{most_commands};
 ghost use Rattle.meter_journal.specs.Reading.{IsMade, HasStoreCause};
 ghost use Rattle.desk_core.specs.Asking.{Reopens, IsOffice, Unopened};
@@ -20,7 +21,7 @@ use disk_core::Disk;
 use meter_journal::{Journal, OpenFault};
 use moments::Moment;
 use office_machine::Office;
-use plain_office::{Entry, Refusal};
+use office_types::{Entry, Refusal, Reply};
 use std::alloc::Global;
 
 fn is_in_order(last: Option<Moment>, at: Moment) -> bool
@@ -43,22 +44,31 @@ fn refused(refusal: Refusal, gate: u64) -> OpenFault
     }
 }
 
+// What the entry at this gate comes to that the office answers so: an act that finds nothing due is no entry.
+fn taken(reply: &Reply, gate: u64) -> Result<(), OpenFault>
+    ensures ok { OnOk result (is_accepted (Ok reply.now) ≡ true) }
+    ensures damaged { IfErr result (λ e. (e ≡ OpenFault.Damaged gate) × (reply.now ≡ NothingDue)) }
+{
+    match reply {
+        Reply::NothingDue => Err(OpenFault::Damaged { offset: gate }),
+        _ => Ok(()),
+    }
+}
+
 // Makes the change of an entry again. Where the office does not accept it, the journal is damaged at its gate.
-fn take(office: &mut Office, entry: &Entry, gate: u64) -> Result<(), OpenFault>
+fn take(office: &mut Office, entry: Entry, gate: u64) -> Result<(), OpenFault>
     requires few { office.old.accepted < most_commands }
-    requires stands { (history : List Entry) × StandsAfter history office.old }
-    requires fits { SizeFits entry.now.command }
-    ensures ok { OnOk result ((history : List Entry) → StandsAfter history office.old → StandsAfter (history ++ entry.now ∷ []) office.new) }
+    ensures ok { OnOk result ((history : List Entry) → StandsAfter history office.old → StandsAfter (history ++ entry ∷ []) office.new) }
     ensures damaged { IfErr result (λ e. (e ≡ OpenFault.NoMemory) ⊎ ((e ≡ OpenFault.Damaged gate)
-        × ((history : List Entry) (is : StandsAfter history office.old) → accept is.plain entry.now ≡ None))) }
+        × ((history : List Entry) (is : StandsAfter history office.old) → accept is.plain entry ≡ None))) }
 {
     if !is_in_order(office.last(), entry.moment) {
         return Err(OpenFault::Damaged { offset: gate });
     }
-    let Err(refusal) = office.apply(entry.moment, &entry.command) else {
-        return Ok(());
-    };
-    Err(refused(refusal, gate))
+    match office.apply(entry.moment, &entry.command) {
+        Ok(reply) => taken(&reply, gate),
+        Err(refusal) => Err(refused(refusal, gate)),
+    }
 }
 
 // Reads all entries behind the first gate of a journal file of this length, and makes their changes again.
@@ -86,7 +96,7 @@ fn replay<D: Disk>(
         };
         match read {
             None => return Ok(()),
-            Some(entry) => match take(office, &entry, gate) {
+            Some(entry) => match take(office, entry, gate) {
                 Ok(()) => {}
                 Err(fault) => return Err(fault),
             },

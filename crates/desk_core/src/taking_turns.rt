@@ -4,7 +4,7 @@ use crate::clock::Clock;
 use crate::desk::Desk;
 use crate::fault::DeskFault;
 use disk_core::Disk;
-use plain_office::Ask;
+use office_types::Ask;
 use turn_core::Turned;
 
 impl<D: Disk + Drop, C: Clock + Drop> Turned for Desk<D, C> {

@@ -3,8 +3,8 @@ use class_rules::Class;
 use disk_core::{Disk, FileNo, MemoryDisk};
 use meter_journal::{OpenFault, read_all};
 use moments::Month;
-use office_base::{BucketName, Key, Size, VersionId};
-use plain_office::{Ask, Command, Query, Refusal, Reply};
+use office_base::{BucketName, Key, Size, Tags, VersionId};
+use office_types::{Ask, Command, Query, Refusal, Reply};
 use std::alloc::Global;
 use std::io;
 use std::process::Abort;
@@ -82,6 +82,7 @@ fn asked(alloc: Global, wish: Wish) -> Result<Ask, Fail> {
             key: Key::read(alloc, b"a")?,
             size: Size::of(size)?,
             class: Class::Standard,
+            tags: Tags::read(alloc, Vec::new(alloc))?,
         }),
         Wish::January(_) => {
             let Some(month) = Month::of(2024, 1) else {
@@ -103,7 +104,12 @@ enum Heard {
     Shown(u32),
     // The byte-milliseconds in STANDARD.
     Standard(u128),
-    Refused(Refusal),
+    // The bucket is there.
+    There,
+    // There is no such bucket.
+    Missing,
+    // The moment that is not below the end of time.
+    Ended(u64),
     Other,
 }
 
@@ -122,7 +128,10 @@ fn reply_of(reply: &Result<Reply, Refusal>) -> Heard {
         Ok(Reply::Stored { .. }) => Heard::Other,
         Ok(Reply::BucketShown { versions, .. }) => Heard::Shown(*versions),
         Ok(Reply::MetersShown { classes, .. }) => Heard::Standard(classes[0].byte_ms),
-        Err(refusal) => Heard::Refused(*refusal),
+        Err(Refusal::BucketExists) => Heard::There,
+        Err(Refusal::NoSuchBucket) => Heard::Missing,
+        Err(Refusal::ClockEnd { moment }) => Heard::Ended(*moment),
+        _ => Heard::Other,
     }
 }
 
@@ -168,10 +177,10 @@ const SHOW: Wish = Wish::Show("logs");
 // What is said of the bucket logs, behind whose entry the journal ends at 30.
 const MADE: Said = Ok((Heard::Made, 30));
 
-const THERE: Said = Ok((Heard::Refused(Refusal::BucketExists), 30));
+const THERE: Said = Ok((Heard::There, 30));
 
 // The clock is at its end; and the store failed in the first command.
-const ENDED: Heard = Heard::Refused(Refusal::ClockEnd { moment: END });
+const ENDED: Heard = Heard::Ended(END);
 
 const LOST: Said = Err(DeskFault::StoreFault {
     told: Some(J0),
@@ -183,7 +192,7 @@ fn a_bucket_is_made_once_and_within_the_limit(rt: HostRuntime) -> Result<(), Fai
     let alloc = rt.alloc();
     let full: Said = Err(DeskFault::JournalFull);
     let ended: Said = Ok((ENDED, 10));
-    let past: Said = Ok((Heard::Refused(Refusal::ClockEnd { moment: u64::MAX }), 10));
+    let past: Said = Ok((Heard::Ended(u64::MAX), 10));
     // The clock's number, the limit, what is told twice, and the bytes of the file then.
     for (number, limit, first, second, file) in [
         (J0, 30, full, full, &EMPTY[..]),
@@ -215,7 +224,7 @@ fn a_journal_is_opened_where_the_office_accepts_it(rt: HostRuntime) -> Result<()
     let cut = logs_and(alloc, &DATA_FRAME[..19])?;
     let both = logs_and(alloc, &DATA_FRAME)?;
     let damaged = Some(OpenFault::Damaged { offset: 30 });
-    let there = Heard::Refused(Refusal::BucketExists);
+    let there = Heard::There;
     for (file, fault, data) in [
         (&[][..], Some(OpenFault::NotMade), there),
         (b"METERJRN1 is its mark", Some(OpenFault::Foreign), there),
@@ -338,11 +347,7 @@ const QUERIES: [Row; 1] = [(
     &[
         NEW,
         EMPTY_SHOWN,
-        (
-            Wish::Show("data"),
-            Ok((Heard::Refused(Refusal::NoSuchBucket), 30)),
-            false,
-        ),
+        (Wish::Show("data"), Ok((Heard::Missing, 30)), false),
         (PUT, LOST, true),
     ],
 )];

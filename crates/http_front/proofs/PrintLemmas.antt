@@ -92,7 +92,7 @@ damaged_is offset = refl
 decimal_small : (n : ℕ) → n < 2 ^ 64 → length (decimal n) ≤ 20
 decimal_small n fits = length-decimal-le 20 n (omega arith) (omega (arith, fits)) fits
 
-pub damaged_small : (offset : ℕ) → offset < 2 ^ 64 → length (damaged_text offset) ≤ 10_000
+pub damaged_small : (offset : ℕ) → offset < 2 ^ 64 → length (damaged_text offset) ≤ 16_000
 damaged_small offset fits =
     let last = decimal offset ++ codes "}" in
     omega (

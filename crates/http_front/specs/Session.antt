@@ -1,7 +1,7 @@
 -- What a session does: its exchanges are the messages of the stream in order, and what was said are their texts.
 use Rattle.std.specs.Prelude.{◌≡◌, ◌⊎◌, ℕ, Bool, true, false, List, [], ◌∷◌, ◌++◌, take, length, All, Option, Result, Err, option_map}
 use Rattle.std.specs.Io.KnownBytes.{Appends, IsAtEnd}
-use Rattle.plain_office.specs.declared.command.Ask.{Ask}
+use Rattle.office_types.specs.declared.command.Ask.{Ask}
 use Rattle.desk_core.specs.Answers.{Answer, Call}
 use Rattle.desk_core.specs.Turns.{Moves}
 use Rattle.desk_core.specs.declared.fault.DeskFault.{DeskFault}

@@ -1,7 +1,7 @@
 -- Parts of a session: messages that were answered, and the end of a session that may have begun before.
 use Rattle.std.specs.Prelude.{◌≡◌, ◌⊎◌, ℕ, Bool, false, List, take, Option, Result, Ok, Err}
 use Rattle.std.specs.Io.KnownBytes.{Appends}
-use Rattle.plain_office.specs.declared.command.Ask.{Ask}
+use Rattle.office_types.specs.declared.command.Ask.{Ask}
 use Rattle.desk_core.specs.Answers.{Answer}
 use Rattle.desk_core.specs.Turns.{Moves}
 use Rattle.desk_core.specs.declared.fault.DeskFault.{DeskFault}

@@ -4,3 +4,7 @@ use Rattle.http_front.specs.declared.replies.WriterReplies.{WriterReplies}
 -- the writer that takes replies and other texts
 abbrev pub out_of : {W N : Type 0} → WriterReplies W N → W
 out_of r = r.out
+
+-- the writer that takes notes
+abbrev pub notes_of : {W N : Type 0} → WriterReplies W N → N
+notes_of r = r.notes

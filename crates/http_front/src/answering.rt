@@ -20,7 +20,7 @@ use crate::texts::no_memory;
 use desk_core::{Acked, DeskFault};
 use http_asks::{Heard, Reader, Stop};
 use http_wire::Source;
-use plain_office::Ask;
+use office_types::Ask;
 use std::alloc::Global;
 
 /// How a session ended.

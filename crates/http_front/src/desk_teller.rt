@@ -2,7 +2,7 @@
 use crate::teller::Teller;
 use desk_core::{Acked, Clock, Desk, DeskFault};
 use disk_core::Disk;
-use plain_office::Ask;
+use office_types::Ask;
 
 impl<D: Disk + Drop, C: Clock + Drop> Teller for Desk<D, C> {
     ghost use Rattle.desk_core.specs.Asking.{Submits};

@@ -38,7 +38,7 @@ fn fault_status(fault: &DeskFault) -> StatusCode
 #[tactic(auto, using(crate::proofs::PrintLemmas::damaged_small))]
 fn put_damaged(room: &mut [u8], at: usize, offset: u64) -> usize
     ensures puts { Puts room.old at room.new result (damaged_text offset) }
-    ensures small { length (damaged_text offset) ≤ 10_000 }
+    ensures small { length (damaged_text offset) ≤ 16_000 }
 {
     let at = put(room, at, b"{\"error\":\"Damaged\",\"number\":");
     let at = put_number(room, at, 112);
@@ -49,7 +49,7 @@ fn put_damaged(room: &mut [u8], at: usize, offset: u64) -> usize
 
 fn put_open(room: &mut [u8], at: usize, fault: OpenFault) -> usize
     ensures puts { Puts room.old at room.new result (open_body fault) }
-    ensures small { length (open_body fault) ≤ 10_000 }
+    ensures small { length (open_body fault) ≤ 16_000 }
 {
     match fault {
         OpenFault::NotMade => put_error(room, at, "NotMade", 110),
@@ -62,7 +62,7 @@ fn put_open(room: &mut [u8], at: usize, fault: OpenFault) -> usize
 
 fn put_fault_body(room: &mut [u8], at: usize, fault: &DeskFault) -> usize
     ensures puts { Puts room.old at room.new result (fault_body fault.now) }
-    ensures small { length (fault_body fault.now) ≤ 10_000 }
+    ensures small { length (fault_body fault.now) ≤ 16_000 }
 {
     match fault {
         DeskFault::StoreFault { .. } => put_error(room, at, "StoreFault", 114),
@@ -76,7 +76,7 @@ fn put_fault_body(room: &mut [u8], at: usize, fault: &DeskFault) -> usize
 #[tactic(auto, using(http_text::proofs::Whole::counted))]
 fn body_size(fault: &DeskFault) -> usize
     ensures same { result ≡ length (fault_body fault.now) }
-    ensures small { length (fault_body fault.now) ≤ 10_000 }
+    ensures small { length (fault_body fault.now) ≤ 16_000 }
 {
     put_fault_body(&mut [], 0, fault)
 }

@@ -4,7 +4,7 @@ ghost use Rattle.std.specs.Io.KnownBytes.{Appends};
 ghost use Rattle.office_base.specs.Faults.{HasCause, Rose};
 ghost use Rattle.http_text.specs.Replies.{answer_text};
 ghost use Rattle.http_front.specs.Texts.{bad_text_of};
-ghost use Rattle.http_front.specs.Writers.{out_of};
+ghost use Rattle.http_front.specs.Writers.{notes_of, out_of};
 
 use crate::bad::Bad;
 use desk_core::Acked;
@@ -95,6 +95,7 @@ impl<W: Write + Drop, N: Write + Drop> WriterReplies<W, N> {
         ensures texts { ⟦<WriterReplies<W, N> as Replies>⟧.texts result ≡ None }
         ensures noted { ⟦<WriterReplies<W, N> as Replies>⟧.noted result ≡ N.contents notes }
         ensures faults { ⟦<WriterReplies<W, N> as Replies>⟧.faults result ≡ 0 }
+        ensures unwritten { (out_of result ≡ out) × (notes_of result ≡ notes) }
     {
         WriterReplies {
             out,
@@ -191,7 +192,15 @@ impl<W: Write + Drop, N: Write + Drop> Replies for WriterReplies<W, N> {
         self.put(bytes)
     }
 
-    fn note(&mut self, bytes: &[u8]) {
+    fn note(&mut self, bytes: &[u8])
+        ensures unwritten { out_of self.new ≡ out_of self.old }
+        ensures said { ⟦<WriterReplies<W, N> as Replies>⟧.said self.new ≡ ⟦<WriterReplies<W, N> as Replies>⟧.said self.old }
+        ensures moments { ⟦<WriterReplies<W, N> as Replies>⟧.moments self.new ≡ ⟦<WriterReplies<W, N> as Replies>⟧.moments self.old }
+        ensures texts { ⟦<WriterReplies<W, N> as Replies>⟧.texts self.new ≡ ⟦<WriterReplies<W, N> as Replies>⟧.texts self.old }
+        ensures noted { Appends (⟦<WriterReplies<W, N> as Replies>⟧.noted self.old) (⟦<WriterReplies<W, N> as Replies>⟧.noted self.new) bytes.now
+            ⊎ Rose (⟦<WriterReplies<W, N> as Replies>⟧.faults self.old) (⟦<WriterReplies<W, N> as Replies>⟧.faults self.new) }
+        ensures later { ⟦<WriterReplies<W, N> as Replies>⟧.faults self.old ≤ ⟦<WriterReplies<W, N> as Replies>⟧.faults self.new }
+    {
         match put_all(&mut self.notes, bytes) {
             Ok(()) => {}
             Err(_) => self.faults = self.faults.saturating_add(1),

@@ -1,11 +1,11 @@
 // Who answers asks.
 ghost use Rattle.std.specs.Prelude.{Result};
-ghost use Rattle.plain_office.specs.declared.command.Ask.{Ask};
+ghost use Rattle.office_types.specs.declared.command.Ask.{Ask};
 ghost use Rattle.desk_core.specs.Answers.{Answer};
 ghost use Rattle.desk_core.specs.declared.fault.DeskFault.{DeskFault};
 
 use desk_core::{Acked, DeskFault};
-use plain_office::Ask;
+use office_types::Ask;
 
 /// Answers the asks of a session.
 pub trait Teller {

@@ -4,7 +4,7 @@ use disk_core::{Disk, FileNo, MemoryDisk};
 use http_text::put_answer;
 use meter_journal::OpenFault;
 use office_base::BucketName;
-use plain_office::{Ask, Command, Refusal, Reply};
+use office_types::{Ask, Command, Refusal, Reply};
 use std::alloc::Global;
 use std::process::Abort;
 use std::test::Fail;

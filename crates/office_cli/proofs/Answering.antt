@@ -1,5 +1,5 @@
 -- What a command did whose office was opened.
-use Rattle.std.proofs.Common.{◌≡◌, inl, inr, ⊎_elim, ℕ, ◌≤◌, Bool, true, false, List, Option, refl, ap, ◌∙◌, sym, subst, arith}
+use Rattle.std.proofs.Common.{◌≡◌, inl, inr, ⊎_elim, ℕ, ◌≤◌, Bool, true, false, List, [], Option, refl, ap, ◌∙◌, sym, subst, arith}
 use Rattle.std.specs.Prelude.{IsTrue}
 use Rattle.std.specs.Io.KnownBytes.{Appends}
 use Rattle.office_base.specs.Faults.{Rose}
@@ -10,7 +10,7 @@ use Rattle.desk_core.specs.Answers.{Call}
 use Rattle.desk_core.specs.Desk.{DeskView}
 use Rattle.desk_core.specs.Opening.{Opens}
 use Rattle.desk_core.specs.Runs.{stale_by}
-use Rattle.desk_core.proofs.Following.{rose_later, Step, Path, stale_rose}
+use Rattle.desk_core.proofs.Following.{Step, Path, stale_rose}
 use Rattle.desk_core.proofs.Runs.{answers_calls, ends_stale}
 use Rattle.desk_core.proofs.Standing.{still_true}
 use Rattle.http_front.specs.declared.replies.Replies as sinks
@@ -20,13 +20,17 @@ use Rattle.http_front.specs.declared.answering.SessionEnd.{SessionEnd}
 use Rattle.http_front.specs.declared.answering.SessionEnd.TheVariants as ends
 use Rattle.serving.specs.declared.worker.WorkerEnd.{WorkerEnd}
 use Rattle.serving.specs.declared.worker.WorkerEnd.TheVariants as workers
-use Rattle.office_cli.specs.Lines.{status_of, workers_status, end_note}
+use Rattle.office_cli.specs.Lines.{status_of, workers_status, end_note, workers_note}
 use Rattle.office_cli.specs.Running.{journal_limit, around, IsNoted, IsSilent, AnswersStream}
 
--- a line that was noted after a session, which noted nothing
-noted_so : {W : Type 0} (w : sinks.Ghosts W) (a b c : W) (text : List ℕ) → w.noted b ≡ w.noted a → w.faults a ≤ w.faults b → IsNoted w b c text → IsNoted w a c text
-noted_so w a b c text same later (inl is) = inl (subst (λ (x : Option (List ℕ)). Appends x (w.noted c) text) same is)
-noted_so w a b c text same later (inr rose) = inr (rose_later (w.faults a) (w.faults b) (w.faults c) later rose)
+four_lost : (end : SessionEnd) (stale : Bool) (status : ℕ) → status ≡ status_of end stale → status ≡ 4 → end ≡ ends.WriteFault
+four_lost ends.WriteFault stale status is four = refl
+four_lost ends.ReadFault stale status is four = absurd (omega (arith, is, four))
+four_lost ends.Spent stale status is four = absurd (omega (arith, is, four))
+four_lost ends.NoMemory true status is four = absurd (omega (arith, is, four))
+four_lost ends.NoMemory false status is four = absurd (omega (arith, is, four))
+four_lost ends.Ended true status is four = absurd (omega (arith, is, four))
+four_lost ends.Ended false status is four = absurd (omega (arith, is, four))
 
 module _ {D C W : Type 0} (d : disks.Ghosts D) (k : clocks.Ghosts C) (w : sinks.Ghosts W)
     (counts_now : (disk : D) (t : ℕ) → t ≤ d.moment disk → d.had_since disk t (d.state disk))
@@ -35,10 +39,10 @@ module _ {D C W : Type 0} (d : disks.Ghosts D) (k : clocks.Ghosts C) (w : sinks.
   pub stream_answered : (disk : D) (clock : C) (old new : DeskView D C) (out_old out_mid out_new : W) (stream : Option (List ℕ)) (end : SessionEnd) (stale : Bool) (status : ℕ)
       → Opens d.honest d.state d.moment d.had_since d.fault_count disk clock journal_limit old
       → Session (Step d k) old new (w.said out_old) (w.said out_mid) (w.moments out_old) (w.moments out_mid) stream end
-      → IsSilent w out_mid out_new → w.texts out_mid ≡ w.texts out_old → w.noted out_mid ≡ w.noted out_old → w.faults out_old ≤ w.faults out_mid
+      → IsSilent w out_mid out_new → w.texts out_mid ≡ w.texts out_old → w.noted out_mid ≡ w.noted out_old → (end ≡ ends.WriteFault → Rose (w.faults out_old) (w.faults out_mid))
       → IsNoted w out_mid out_new (end_note end stale) → stale ≡ new.stale → status ≡ status_of end stale
       → AnswersStream d k w stream (around disk clock out_old) (around new.disk new.clock out_new) status
-  stream_answered disk clock old new out_old out_mid out_new stream end stale status opens s silent same_texts same_noted later note stale_new is =
+  stream_answered disk clock old new out_old out_mid out_new stream end stale status opens s silent same_texts same_noted lost note stale_new is =
       let calls = calls_of s.exchanges in
       let stale_end : stale ≡ stale_by false calls = stale_new ∙ ends_stale d k counts_now only_now own disk clock journal_limit old new calls opens s.moved in
       record {
@@ -56,9 +60,35 @@ module _ {D C W : Type 0} (d : disks.Ghosts D) (k : clocks.Ghosts C) (w : sinks.
         lacked = s.lacked;
         no_text = silent.2 ∙ same_texts;
         status_is = subst (λ (b : Bool). status ≡ status_of end b) stale_end is;
-        note = noted_so w out_old out_mid out_new (end_note end (stale_by false calls)) same_noted later
-            (subst (λ (b : Bool). IsNoted w out_mid out_new (end_note end b)) stale_end note);
+        note = record {
+          behind = out_mid;
+          unnoted = same_noted;
+          lost = λ four. lost (four_lost end stale status is four);
+          silent = silent;
+          note = subst (λ (b : Bool). IsNoted w out_mid out_new (end_note end b)) stale_end note;
+        };
       }
+
+-- ---- notes
+
+-- nothing is noted where all was done
+pub zero_unnoted : (end : SessionEnd) (stale : Bool) (status : ℕ) → status ≡ status_of end stale → status ≡ 0 → end_note end stale ≡ []
+unfolding end_note
+zero_unnoted ends.Ended false status is zero = refl
+zero_unnoted ends.Ended true status is zero = absurd (omega (arith, is, zero))
+zero_unnoted ends.ReadFault stale status is zero = absurd (omega (arith, is, zero))
+zero_unnoted ends.WriteFault stale status is zero = absurd (omega (arith, is, zero))
+zero_unnoted ends.Spent stale status is zero = absurd (omega (arith, is, zero))
+zero_unnoted ends.NoMemory true status is zero = absurd (omega (arith, is, zero))
+zero_unnoted ends.NoMemory false status is zero = absurd (omega (arith, is, zero))
+
+pub zero_unnoted_workers : (end : WorkerEnd) (stale : Bool) (status : ℕ) → status ≡ workers_status end stale → status ≡ 0 → workers_note end stale ≡ []
+unfolding workers_note
+zero_unnoted_workers workers.Done false status is zero = refl
+zero_unnoted_workers workers.Done true status is zero = absurd (omega (arith, is, zero))
+zero_unnoted_workers workers.PortFault stale status is zero = absurd (omega (arith, is, zero))
+zero_unnoted_workers workers.NoMemory true status is zero = absurd (omega (arith, is, zero))
+zero_unnoted_workers workers.NoMemory false status is zero = absurd (omega (arith, is, zero))
 
 -- ---- causes
 

@@ -1,6 +1,8 @@
 -- A command that met no fault is done.
-use Rattle.std.proofs.Common.{◌≡◌, ◌∙◌, sym, inl, inr, ℕ, List, Option, Some, Bool, true, false}
+use Rattle.std.proofs.Common.{◌≡◌, ◌∙◌, refl, sym, inl, inr, ℕ, List, Option, Some, None, Bool, true, false}
 use Rattle.command_line.specs.Lines.{Line, init, run, serve}
+use Rattle.command_line.specs.declared.line.LineFault.{LineFault}
+use Rattle.command_line.specs.declared.line.LineFault.TheVariants as refusals
 use Rattle.meter_journal.specs.declared.fault.OpenFault.{OpenFault}
 use Rattle.meter_journal.specs.declared.fault.OpenFault.TheVariants as faults
 use Rattle.http_front.specs.declared.answering.SessionEnd.{SessionEnd}
@@ -56,3 +58,11 @@ init_not_run line first second = init_is_not_run (sym first ∙ second)
 
 pub init_not_serve : (line : Option Line) (listen : List ℕ) (count connections : ℕ) → line ≡ Some init → line ≡ Some (serve listen count connections) → ⊥
 init_not_serve line listen count connections first second = init_is_not_serve listen count connections (sym first ∙ second)
+
+-- words that are refused and ask for something were not read, for want of memory
+pub refused_line : (fault : LineFault) (line : Option Line) (asked : Line) (P : Type 0) → (fault ≡ refusals.NotALine → line ≡ None) → (fault ≡ refusals.NoMemory → P) → line ≡ Some asked → P
+refused_line refusals.NotALine line asked P none unread is = absurd (none_asks (sym (none refl) ∙ is))
+  where
+    none_asks : None ≡ Some asked → ⊥
+    none_asks is = absurd cc
+refused_line refusals.NoMemory line asked P none unread is = unread refl

@@ -6,7 +6,7 @@ use Rattle.disk_core.specs.Files.{State, IsImage}
 use Rattle.disk_core.specs.Kept.{Narrower}
 use Rattle.disk_core.specs.Moments.{KeepsTo}
 use Rattle.disk_core.proofs.Time.{weakened, joined}
-use Rattle.plain_office.specs.declared.command.Entry.{Entry}
+use Rattle.office_types.specs.declared.command.Entry.{Entry}
 use Rattle.meter_journal.specs.Reading.{IsNotMade, IsForeign}
 use Rattle.meter_journal.proofs.Heads.{history_made, made_not_none, made_not_foreign}
 use Rattle.desk_core.specs.declared.clock.Clock as clocks
@@ -45,15 +45,15 @@ module _ {D C W : Type 0} (d : disks.Ghosts D) (k : clocks.Ghosts C) (w : sinks.
       weakened d.state d.moment d.had_since old.disk new.disk (Narrower (d.state old.disk)) IsSound (λ s narrow. narrow_sound (d.state old.disk) s sound narrow) (r.any_moment tells)
 
   -- also where nothing is touched
-  pub starts_sound : (answers : Surroundings D C W → Surroundings D C W → ℕ → Type 0)
+  pub starts_sound : (left_alone : Type 0) (answers : Surroundings D C W → Surroundings D C W → ℕ → Type 0)
       → ((old new : Surroundings D C W) (status : ℕ) → answers old new status → (calls : List Call) × AnswersCalls d k journal_limit (under old) (under new) calls)
-      → (old new : Surroundings D C W) (status : ℕ) → IsSound (d.state old.disk) → StaysSound old.disk old.disk → Starts d k w answers old new status → StaysSound old.disk new.disk
-  starts_sound answers calls_of old new status sound still starts =
+      → (old new : Surroundings D C W) (status : ℕ) → IsSound (d.state old.disk) → StaysSound old.disk old.disk → Starts d k w left_alone answers old new status → StaysSound old.disk new.disk
+  starts_sound left_alone answers calls_of old new status sound still starts =
       let first : Surroundings D C W = record { disk = old.disk; clock = starts.clock; out = old.out } in
       ⊎_elim
       (λ does. ⊎_elim
       (λ answered. let c = calls_of first new status answered in calls_sound journal_limit (under first) (under new) c.0 sound c.1)
-      (λ refused. refused_sound first new status sound refused) does.1)
+      (λ refused. refused_sound first new status sound refused.0) does.1)
       (λ ends. subst (λ (disk : D). StaysSound old.disk disk) (sym ends.1.untouched) still) starts.does
 
 module _ {D W : Type 0} (d : disks.Ghosts D) (w : sinks.Ghosts W) (tells : IsTrue d.honest) where

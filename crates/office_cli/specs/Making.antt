@@ -15,7 +15,7 @@ use Rattle.desk_core.specs.Histories.{HasAcceptedHistory}
 use Rattle.http_front.specs.declared.replies.Replies as sinks
 use Rattle.http_front.specs.declared.answering.SessionEnd.TheVariants.{WriteFault}
 use Rattle.office_cli.specs.Lines.{made_line, fault_status, fault_note, end_note}
-use Rattle.office_cli.specs.Running.{IsNoted}
+use Rattle.office_cli.specs.Running.{IsNoted, EndsWithNote}
 
 -- a journal that was not made is made and empty, in each image; one that was made stays as it was read
 abbrev pub IsMadeSo : Made → State → State → Type 0
@@ -27,7 +27,7 @@ module _ {W : Type 0} (w : sinks.Ghosts W) where
   abbrev pub IsPutOut : Made → W → W → ℕ → Type 0
   IsPutOut made old new status =
       ((status ≡ 0) × Appends (w.texts old) (w.texts new) (made_line made) × (w.noted new ≡ w.noted old))
-      ⊎ ((status ≡ 4) × ((n : ℕ) × Appends (w.texts old) (w.texts new) (take n (made_line made))) × IsNoted w old new (end_note WriteFault false))
+      ⊎ ((status ≡ 4) × ((n : ℕ) × Appends (w.texts old) (w.texts new) (take n (made_line made))) × EndsWithNote w old new status (end_note WriteFault false))
 
 module _ {D W : Type 0} (d : disks.Ghosts D) (w : sinks.Ghosts W) where
   -- it is there, and this was put out

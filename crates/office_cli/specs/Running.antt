@@ -40,13 +40,24 @@ module _ {D C W : Type 0} where
   under s = outside s.disk s.clock
 
 module _ {W : Type 0} (w : sinks.Ghosts W) where
-  -- the line was noted, or a sink failed
+  -- the line was noted, or it was lost, as the count of faults tells; where it is empty, no call was made
   abbrev pub IsNoted : W → W → List ℕ → Type 0
-  IsNoted old new text = Appends (w.noted old) (w.noted new) text ⊎ Rose (w.faults old) (w.faults new)
+  IsNoted old new text =
+      (text ≡ [] → new ≡ old) × (Appends (w.noted old) (w.noted new) text ⊎ Rose (w.faults old) (w.faults new))
 
   -- no reply was said, and no other text
   abbrev pub IsSilent : W → W → Type 0
   IsSilent old new = (w.said new ≡ w.said old) × (w.moments new ≡ w.moments old) × (w.texts new ≡ w.texts old)
+
+  -- The line comes behind all that was said: nothing was noted before it, and where a text was lost (status 4) the count of faults
+  -- rose before it, so that it tells of the line alone.
+  pub record EndsWithNote (old new : W) (status : ℕ) (text : List ℕ) : Type 0 where
+    -- the sink in which all was said
+    pub behind : W
+    pub unnoted : w.noted behind ≡ w.noted old
+    pub lost : status ≡ 4 → Rose (w.faults old) (w.faults behind)
+    pub silent : IsSilent behind new
+    pub note : IsNoted behind new text
 
 module _ {D C W : Type 0} (w : sinks.Ghosts W) where
   -- Memory ran out before the words were read: disk and clock were not touched, and nothing was said.
@@ -76,7 +87,7 @@ module _ {D C W : Type 0} (d : disks.Ghosts D) (k : clocks.Ghosts C) (w : sinks.
     pub lacked : LacksBy end exchanges
     pub no_text : w.texts new.out ≡ w.texts old.out
     pub status_is : status ≡ status_of end (stale_by false (calls_of exchanges))
-    pub note : IsNoted w old.out new.out (end_note end (stale_by false (calls_of exchanges)))
+    pub note : EndsWithNote w old.out new.out status (end_note end (stale_by false (calls_of exchanges)))
 
   -- ---- serve
 
@@ -111,23 +122,24 @@ module _ {D C W : Type 0} (d : disks.Ghosts D) (k : clocks.Ghosts C) (w : sinks.
     pub note : IsNoted w old.out new.out clock_note
 
   -- The clock tells a number before the disk is touched. Where that is below the end of time the office is opened and answers, or
-  -- it is not opened.
-  pub record Starts (answers : Surroundings D C W → Surroundings D C W → ℕ → Type 0) (old new : Surroundings D C W) (status : ℕ) : Type 0 where
+  -- it is not opened. Where it is not opened, and where the clock is at its end, what the asks come from is left alone.
+  pub record Starts (left_alone : Type 0) (answers : Surroundings D C W → Surroundings D C W → ℕ → Type 0) (old new : Surroundings D C W) (status : ℕ) : Type 0 where
     pub first : ℕ
     pub clock : C
     pub once : k.count clock ≡ min (k.count old.clock + 1) (2 ^ 64 - 1)
     pub is_last : k.last clock ≡ first
     pub told_first : k.count clock < 2 ^ 64 - 1 → Appends (k.told old.clock) (k.told clock) (first ∷ [])
-    pub does : ((first < end_of_time) × (answers (around old.disk clock old.out) new status ⊎ Refuses (around old.disk clock old.out) new status))
-        ⊎ ((end_of_time ≤ first) × Ends (around old.disk clock old.out) new status)
+    pub does : ((first < end_of_time)
+        × (answers (around old.disk clock old.out) new status ⊎ (Refuses (around old.disk clock old.out) new status × left_alone)))
+        ⊎ ((end_of_time ≤ first) × Ends (around old.disk clock old.out) new status × left_alone)
 
-  -- what `run` does with the messages of a stream
-  abbrev pub Runs : Option (List ℕ) → Surroundings D C W → Surroundings D C W → ℕ → Type 0
-  Runs stream = Starts (AnswersStream stream)
+  -- what `run` does with the messages of a stream, or leaves its source alone
+  abbrev pub Runs : Type 0 → Option (List ℕ) → Surroundings D C W → Surroundings D C W → ℕ → Type 0
+  Runs left_alone stream = Starts left_alone (AnswersStream stream)
 
-  -- what `serve` does with connections of a port
-  abbrev pub Serves : (WorkerEnd → Log → Type 0) → Surroundings D C W → Surroundings D C W → ℕ → Type 0
-  Serves connected = Starts (AnswersWorkers connected)
+  -- what `serve` does with connections of a port, or leaves it alone
+  abbrev pub Serves : Type 0 → (WorkerEnd → Log → Type 0) → Surroundings D C W → Surroundings D C W → ℕ → Type 0
+  Serves left_alone connected = Starts left_alone (AnswersWorkers connected)
 
 module _ {P Source Replies : Type 0} (p : ports.Ghosts P Source Replies) where
   -- The port gave and ended as many connections as the workers served, all where all was done; and where it tells them they are

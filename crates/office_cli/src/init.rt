@@ -16,6 +16,7 @@ fn say_made<W: Replies>(out: &mut W, made: Made) -> u8
     ensures unsaid { (W.said out.new ≡ W.said out.old) × (W.moments out.new ≡ W.moments out.old) }
     ensures later { W.faults out.old ≤ W.faults out.new }
     ensures write_fault { result ≡ 4 → Rose (W.faults out.old) (W.faults out.new) }
+    ensures unnoted { result ≡ 0 → W.noted out.new ≡ W.noted out.old }
 {
     match out.text(made_text(made)) {
         Ok(()) => 0,
@@ -37,6 +38,7 @@ pub(crate) fn init<W: Replies, D: Disk>(out: &mut W, disk: &mut D) -> u8
     ensures not_spent { result ≡ 9 → ⊥ }
     ensures disk_fault { result ≡ 2 → Rose (D.fault_count disk.old) (D.fault_count disk.new) }
     ensures write_fault { result ≡ 4 → Rose (W.faults out.old) (W.faults out.new) }
+    ensures unnoted { result ≡ 0 → W.noted out.new ≡ W.noted out.old }
 {
     match create(disk) {
         Ok(made) => say_made(out, made),

@@ -50,7 +50,8 @@ pub(crate) fn served_status(end: WorkerEnd, stale: bool) -> u8
 }
 
 pub(crate) fn open_status(fault: OpenFault) -> u8
-    ensures { result ≡ fault_status fault }
+    ensures status { result ≡ fault_status fault }
+    ensures some { result ≡ 0 → ⊥ }
 {
     match fault {
         OpenFault::NotMade => 5,
@@ -161,7 +162,7 @@ fn note_damage<W: Replies>(out: &mut W, offset: u64)
 {
     let mut room = [0; 48];
     let size = put_damage(&mut room, offset);
-    out.note(&room[..size]);
+    note_line(out, &room[..size]);
 }
 
 // Notes why a journal was not opened, or not made.

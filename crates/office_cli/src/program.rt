@@ -4,7 +4,7 @@ ghost use Rattle.http_wire.specs.Held.{take_limit};
 ghost use Rattle.http_front.specs.Counts.{Gave};
 ghost use Rattle.office_base.specs.Faults.{Rose};
 ghost use Rattle.disk_core.specs.Moments.{KeepsTo};
-ghost use Rattle.plain_office.specs.declared.command.Entry.{Entry};
+ghost use Rattle.office_types.specs.declared.command.Entry.{Entry};
 ghost use Rattle.desk_core.specs.Histories.{HasAcceptedHistory, IsSound};
 ghost use Rattle.meter_journal.specs.Reading.{IsForeign};
 ghost use Rattle.command_line.specs.Lines.{asked, Line, init as init_line, run as run_line, serve as serve_line};
@@ -105,7 +105,7 @@ where
 
     // What run does.
     ensures run { asked (map string_bytes words.now) ≡ Some run_line
-        → Runs D.Disk C.Clock W.Replies (S.left input.old) (around disk clock out.old)
+        → Runs D.Disk C.Clock W.Replies (input.new ≡ input.old) (S.left input.old) (around disk clock out.old)
         (around result.disk result.clock out.new) result.status
         ⊎ (IsUnread W.Replies (around disk clock out.old) (around result.disk result.clock out.new) result.status
         × (input.new ≡ input.old) × (port.new ≡ port.old)) }
@@ -113,7 +113,8 @@ where
     // What serve does.
     ensures serve { (listen : List ℕ) (workers connections : ℕ)
         → asked (map string_bytes words.now) ≡ Some (serve_line listen workers connections)
-        → Serves D.Disk C.Clock W.Replies (Connects P.Port workers connections port.old port.new)
+        → Serves D.Disk C.Clock W.Replies (port.new ≡ port.old)
+        (Connects P.Port workers connections port.old port.new)
         (around disk clock out.old) (around result.disk result.clock out.new) result.status
         ⊎ (IsUnread W.Replies (around disk clock out.old) (around result.disk result.clock out.new) result.status
         × (input.new ≡ input.old) × (port.new ≡ port.old)) }
@@ -136,6 +137,9 @@ where
     ensures unsaid { (asked (map string_bytes words.now) ≡ Some run_line → ⊥) → (W.said out.new ≡ W.said out.old)
         × (W.moments out.new ≡ W.moments out.old) }
     ensures no_text { (asked (map string_bytes words.now) ≡ Some init_line → ⊥) → W.texts out.new ≡ W.texts out.old }
+
+    // Nothing is noted where all was done.
+    ensures unnoted { result.status ≡ 0 → W.noted out.new ≡ W.noted out.old }
 
     // The input is read only by a run, and the port is used only by serve, and by none that ends with status 5 or 8.
     ensures unread { (asked (map string_bytes words.now) ≡ Some run_line → ⊥) → input.new ≡ input.old }

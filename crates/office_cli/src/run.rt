@@ -4,7 +4,7 @@ ghost use Rattle.std.specs.Io.KnownBytes.{Appends};
 ghost use Rattle.moments.specs.Time.{end_of_time};
 ghost use Rattle.office_base.specs.Faults.{Rose};
 ghost use Rattle.http_wire.specs.Held.{take_limit};
-ghost use Rattle.plain_office.specs.declared.command.Entry.{Entry};
+ghost use Rattle.office_types.specs.declared.command.Entry.{Entry};
 ghost use Rattle.desk_core.specs.Histories.{HasAcceptedHistory};
 ghost use Rattle.desk_core.specs.Opening.{Opens};
 ghost use Rattle.http_front.specs.Counts.{Gave};
@@ -50,6 +50,7 @@ fn answer<S: Source, W: Replies, D: Disk + Drop, C: Clock + Drop>(
     ensures read_fault { result.status ≡ 3 → Rose (S.faults input.old) (S.faults input.new) }
     ensures spent { result.status ≡ 9 → Gave (S.left input.old) (S.left input.new) take_limit }
     ensures write_fault { result.status ≡ 4 → Rose (W.faults out.old) (W.faults out.new) }
+    ensures unnoted { result.status ≡ 0 → W.noted out.new ≡ W.noted out.old }
 {
     let end = session(alloc, input, out, &mut desk);
     let stale = desk.stale();
@@ -71,6 +72,7 @@ pub(crate) fn refuse<W: Replies, D: Disk + Drop, C: Clock + Drop>(
     clock: C,
 ) -> End<D, C>
     ensures status { result.status ≡ fault_status fault }
+    ensures some { result.status ≡ 0 → ⊥ }
     ensures disk { result.disk ≡ disk }
     ensures clock { result.clock ≡ clock }
     ensures silent { IsSilent W.Replies out.old out.new }
@@ -95,8 +97,8 @@ fn work<S: Source, W: Replies, D: Disk + Drop, C: Clock + Drop>(
 ) -> End<D, C>
     ensures works { AnswersStream D.Disk C.Clock W.Replies (S.left input.old) (around disk clock out.old)
         (around result.disk result.clock out.new) result.status
-        ⊎ Refuses D.Disk C.Clock W.Replies (around disk clock out.old) (around result.disk result.clock out.new)
-        result.status }
+        ⊎ (Refuses D.Disk C.Clock W.Replies (around disk clock out.old) (around result.disk result.clock out.new)
+        result.status × (input.new ≡ input.old)) }
     ensures sound { IsTrue D.honest → (history : List Entry)
         → HasAcceptedHistory history (D.state disk).journal.seen → result.status ≡ 5 → ⊥ }
     ensures no_text { W.texts out.new ≡ W.texts out.old }
@@ -108,6 +110,7 @@ fn work<S: Source, W: Replies, D: Disk + Drop, C: Clock + Drop>(
     ensures read_fault { result.status ≡ 3 → Rose (S.faults input.old) (S.faults input.new) }
     ensures spent { result.status ≡ 9 → Gave (S.left input.old) (S.left input.new) take_limit }
     ensures write_fault { result.status ≡ 4 → Rose (W.faults out.old) (W.faults out.new) }
+    ensures unnoted { result.status ≡ 0 → W.noted out.new ≡ W.noted out.old }
 {
     match Desk::open(alloc, disk, clock, JOURNAL_LIMIT) {
         Ok(desk) => answer(alloc, input, out, desk),
@@ -152,8 +155,8 @@ pub(crate) fn run<S: Source, W: Replies, D: Disk + Drop, C: Clock + Drop>(
     disk: D,
     mut clock: C,
 ) -> End<D, C>
-    ensures runs { Runs D.Disk C.Clock W.Replies (S.left input.old) (around disk clock out.old)
-        (around result.disk result.clock out.new) result.status }
+    ensures runs { Runs D.Disk C.Clock W.Replies (input.new ≡ input.old) (S.left input.old)
+        (around disk clock out.old) (around result.disk result.clock out.new) result.status }
     ensures sound { IsTrue D.honest → (history : List Entry)
         → HasAcceptedHistory history (D.state disk).journal.seen → result.status ≡ 5 → ⊥ }
     ensures no_text { W.texts out.new ≡ W.texts out.old }
@@ -165,6 +168,7 @@ pub(crate) fn run<S: Source, W: Replies, D: Disk + Drop, C: Clock + Drop>(
     ensures read_fault { result.status ≡ 3 → Rose (S.faults input.old) (S.faults input.new) }
     ensures spent { result.status ≡ 9 → Gave (S.left input.old) (S.left input.new) take_limit }
     ensures write_fault { result.status ≡ 4 → Rose (W.faults out.old) (W.faults out.new) }
+    ensures unnoted { result.status ≡ 0 → W.noted out.new ≡ W.noted out.old }
 {
     if !has_begun(&mut clock) {
         return end_at_clock(out, disk, clock);

@@ -1,7 +1,7 @@
 // Answering the messages of connections.
 ghost use Rattle.std.specs.Prelude.{◌≡◌, ◌≤◌, ◌⊎◌, ◌<◌, ℕ, List, false, IsTrue};
 ghost use Rattle.office_base.specs.Faults.{Rose};
-ghost use Rattle.plain_office.specs.declared.command.Entry.{Entry};
+ghost use Rattle.office_types.specs.declared.command.Entry.{Entry};
 ghost use Rattle.desk_core.specs.Histories.{HasAcceptedHistory};
 ghost use Rattle.desk_core.specs.Opening.{Opens};
 ghost use Rattle.office_cli.specs.Lines.{workers_status, workers_note, IsWorkersStatus, IsServeStatus};
@@ -28,6 +28,7 @@ fn close<W: Replies, D: Disk + Drop, C: Clock + Drop>(
     ensures clock { result.clock ≡ closed.clock }
     ensures silent { IsSilent W.Replies out.old out.new }
     ensures noted { IsNoted W.Replies out.old out.new (workers_note closed.end closed.stale) }
+    ensures unnoted { result.status ≡ 0 → W.noted out.new ≡ W.noted out.old }
     ensures later { W.faults out.old ≤ W.faults out.new }
 {
     note_line(out, served_line(closed.end, closed.stale));
@@ -72,6 +73,7 @@ where
     ensures port_fault { result.status ≡ 7 → Rose (P.faults port.old) (P.faults port.new) }
     ensures port_done { result.status ≡ 0 → P.faults port.new ≤ P.faults port.old }
     ensures balanced { IsBalanced P.Port port.old port.new }
+    ensures unnoted { result.status ≡ 0 → W.noted out.new ≡ W.noted out.old }
 {
     let closed = serve_office(rt, alloc, desk, port, address, gate, workers, connections);
     close(out, closed)
@@ -103,8 +105,8 @@ where
 
     ensures works { AnswersWorkers D.Disk C.Clock W.Replies (Connects P.Port workers connections port.old port.new)
         (around disk clock out.old) (around result.disk result.clock out.new) result.status
-        ⊎ Refuses D.Disk C.Clock W.Replies (around disk clock out.old) (around result.disk result.clock out.new)
-        result.status }
+        ⊎ (Refuses D.Disk C.Clock W.Replies (around disk clock out.old) (around result.disk result.clock out.new)
+        result.status × (port.new ≡ port.old)) }
     ensures sound { IsTrue D.honest → (history : List Entry)
         → HasAcceptedHistory history (D.state disk).journal.seen → result.status ≡ 5 → ⊥ }
     ensures unopened { result.status ≡ 5 → port.new ≡ port.old }
@@ -114,6 +116,7 @@ where
     ensures port_fault { result.status ≡ 7 → Rose (P.faults port.old) (P.faults port.new) }
     ensures port_done { result.status ≡ 0 → P.faults port.new ≤ P.faults port.old }
     ensures balanced { IsBalanced P.Port port.old port.new }
+    ensures unnoted { result.status ≡ 0 → W.noted out.new ≡ W.noted out.old }
 {
     match Desk::open(alloc, disk, clock, JOURNAL_LIMIT) {
         Ok(desk) => answer(
@@ -155,7 +158,8 @@ where
     P::Replies: Send,
     requires few { (0 < workers) × (workers ≤ 64) }
 
-    ensures serves { Serves D.Disk C.Clock W.Replies (Connects P.Port workers connections port.old port.new)
+    ensures serves { Serves D.Disk C.Clock W.Replies (port.new ≡ port.old)
+        (Connects P.Port workers connections port.old port.new)
         (around disk clock out.old) (around result.disk result.clock out.new) result.status }
     ensures sound { IsTrue D.honest → (history : List Entry)
         → HasAcceptedHistory history (D.state disk).journal.seen → result.status ≡ 5 → ⊥ }
@@ -166,6 +170,7 @@ where
     ensures port_fault { result.status ≡ 7 → Rose (P.faults port.old) (P.faults port.new) }
     ensures port_done { result.status ≡ 0 → P.faults port.new ≤ P.faults port.old }
     ensures balanced { IsBalanced P.Port port.old port.new }
+    ensures unnoted { result.status ≡ 0 → W.noted out.new ≡ W.noted out.old }
 {
     if !has_begun(&mut clock) {
         return end_at_clock(out, disk, clock);

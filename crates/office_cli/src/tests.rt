@@ -5,7 +5,7 @@ use http_front::MemoryReplies;
 use http_wire::MemorySource;
 use meter_journal::read_all;
 use office_base::BucketName;
-use plain_office::{Ask, Query, Reply};
+use office_types::{Ask, Query, Reply};
 use serving::{MemoryPort, OpenGate};
 use std::alloc::Global;
 use std::process::Abort;

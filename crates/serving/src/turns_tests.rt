@@ -5,7 +5,7 @@ ghost use Rattle.turn_core.specs.Passes.{IsPassOf, view};
 use desk_core::{Acked, Desk, DeskFault, ListClock};
 use disk_core::{Disk, FileNo, MemoryDisk};
 use office_base::BucketName;
-use plain_office::{Ask, Command, Query, Refusal, Reply};
+use office_types::{Ask, Command, Query, Refusal, Reply};
 use std::alloc::Global;
 use std::sync::Wait;
 use std::test::Fail;

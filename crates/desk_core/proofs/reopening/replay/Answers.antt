@@ -15,18 +15,6 @@ reading-init g c = record {
   later = omega arith;
 }
 
-pub reading-preserved-in-Ok-take : goal.reading-preserved-in-Ok-take
-reading-preserved-in-Ok-take g c =
-    let d = g.D.Disk in
-    record {
-      known = search rules;
-      untouched = λ told. untouched_then d.state d.moment d.had_since c.args.journal.now.disk c.reading.journal.disk c.next.new.self.disk (c.reading.invariant.untouched told) (c.next.ensures.untouched told);
-      read = one_read d.honest d.state c.args.journal.now.disk c.reading.journal.disk c.reading.journal.gate c.next.new.self.gate c.reading.office c.take.new.office c.in-Ok.read c.in-Some.entry c.reading.invariant.read
-          (λ told. (c.reading.invariant.untouched told).now) (λ told. g.met.D.Disk.holds_bytes told c.args.journal.now.disk Journal) c.in-Some.is c.in-Ok.ensures.exact c.in-Ok.ensures.advances (search rules) c.in-Ok-take.ensures.ok;
-      limit = search rules;
-      later = omega (arith, c.reading.invariant.later, c.next.ensures.cause.later);
-    }
-
 pub reading-preserved : goal.reading-preserved
 reading-preserved g c =
     let d = g.D.Disk in
@@ -61,7 +49,7 @@ returns-in-Err-take-clause-fails g c told file on_disk made =
     (subst (λ (k : ℕ). (c.in-Err-take.fault ≡ NoMemory) ⊎ ((c.in-Err-take.fault ≡ Damaged k) × (accept so_far.office_is.plain c.in-Some.entry ≡ None))) c.end-gate.ensures
     (⊎_elim (λ want. inl want) (λ x. inr (x.0, x.1 so_far.history so_far.office_is)) c.in-Err-take.ensures.damaged))
 
-pub take-requires-clause-few : goal.take-requires-clause-few
-take-requires-clause-few g c =
+pub take-requires : goal.take-requires
+take-requires g c =
     let d = g.D.Disk in
-    few_read d.honest d.state c.args.journal.now.disk c.reading.journal.gate c.reading.office c.reading.invariant.read
+    record { few = few_read d.honest d.state c.args.journal.now.disk c.reading.journal.gate c.reading.office c.reading.invariant.read }

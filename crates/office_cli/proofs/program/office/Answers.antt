@@ -1,11 +1,11 @@
-use Rattle.std.proofs.Common.{⊎_elim, map, string_bytes, Some, ap, ◌∙◌}
+use Rattle.std.proofs.Common.{◌≡◌, ⊎_elim, inr, refl, Err, map, string_bytes, Some, ap, ◌∙◌}
 use Rattle.command_line.specs.Lines.{line_of}
 use Rattle.command_line.specs.declared.line.CommandLine.{CommandLine}
 use Rattle.command_line.proofs.Ranges.{serve_in_range}
 use Rattle.http_front.specs.Exchanges.{calls_of}
 use Rattle.serving.specs.Serving.{log_calls}
 use Rattle.office_cli.specs.Running.{around, AnswersStream, AnswersWorkers, Connects}
-use Rattle.office_cli.proofs.Done.{run_done, serve_done, init_not_run, init_not_serve}
+use Rattle.office_cli.proofs.Done.{run_done, serve_done, init_not_run, init_not_serve, refused_line}
 use Rattle.office_cli.proofs.Soundness.{not_foreign_there, init_sound, starts_sound}
 use Rattle.office_cli.proofs.program.office.Goals as goal
 
@@ -38,7 +38,7 @@ returns-in-Ok-Run-clause-sound g c tells sound =
     let d = g.D.Disk in
     let k = g.C.Clock in
     let w = g.W.Replies in
-    starts_sound d k w tells (AnswersStream d k w (g.S.Source.left c.args.input.now)) (λ old new status a. (calls_of a.exchanges, a.answers))
+    starts_sound d k w tells (c.run.new.input ≡ c.args.input.now) (AnswersStream d k w (g.S.Source.left c.args.input.now)) (λ old new status a. (calls_of a.exchanges, a.answers))
     (around c.args.disk c.args.clock c.args.out.now) (around c.run.result.disk c.run.result.clock c.run.new.out) c.run.result.status sound (c.sound_now.ensures.still tells sound) c.run.ensures.runs
 
 pub returns-in-Ok-Run-clause-complete : goal.returns-in-Ok-Run-clause-complete
@@ -55,7 +55,7 @@ returns-in-Ok-Serve-clause-sound g c tells sound =
     let d = g.D.Disk in
     let k = g.C.Clock in
     let w = g.W.Replies in
-    starts_sound d k w tells (AnswersWorkers d k w (Connects g.P.Port c.in-Ok-Serve.workers c.in-Ok-Serve.connections c.args.port.now c.serve.new.port)) (λ old new status a. (log_calls a.log, a.answers))
+    starts_sound d k w tells (c.serve.new.port ≡ c.args.port.now) (AnswersWorkers d k w (Connects g.P.Port c.in-Ok-Serve.workers c.in-Ok-Serve.connections c.args.port.now c.serve.new.port)) (λ old new status a. (log_calls a.log, a.answers))
     (around c.args.disk c.args.clock c.args.out.now) (around c.serve.result.disk c.serve.result.clock c.serve.new.out) c.serve.result.status sound (c.sound_now.ensures.still tells sound) c.serve.ensures.serves
 
 pub returns-in-Ok-Serve-clause-complete : goal.returns-in-Ok-Serve-clause-complete
@@ -66,3 +66,12 @@ returns-in-Ok-Serve-clause-complete g c tells some good store input output port 
     (λ sound. let has = c.sound_now.ensures.reads tells sound in e.sound tells has.0 has.1 five)
     (λ other. init_not_serve _ _ _ _ other.0 (c.in-Ok-Serve.ensures.read ∙ ap (λ (l : CommandLine). Some (line_of l)) c.in-Ok-Serve.field-0-is)) good)
     (λ seven. port (e.port_fault seven)) (⊎_elim (λ is. absurd (eight is)) (λ is. is) e.statuses)
+
+pub returns-in-Err-clause-init : goal.returns-in-Err-clause-init
+returns-in-Err-clause-init g c asks =
+    let refused = c.refuse_line-status.ensures in
+    inr (refused_line c.in-Err.fault _ _ _ (λ is. c.in-Err.ensures.refused (ap Err is)) (λ is. let unread = refused.memory is in (
+      record { status_is = unread.0; untouched = (refl, refl); silent = refused.silent; note = unread.1 },
+      refl,
+      refl,
+    )) asks)

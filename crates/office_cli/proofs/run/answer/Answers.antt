@@ -1,4 +1,4 @@
-use Rattle.std.proofs.Common.{◌≡◌, ◌≤◌, ◌∙◌, ℕ, List, sym, subst, arith}
+use Rattle.std.proofs.Common.{◌≡◌, ◌≤◌, ◌∙◌, ℕ, List, sym, ap, subst, arith}
 use Rattle.std.specs.Prelude.{IsTrue}
 use Rattle.office_base.specs.Faults.{Rose}
 use Rattle.disk_core.specs.Files.{IsImage}
@@ -6,7 +6,7 @@ use Rattle.disk_core.specs.declared.disk.FileNo.TheVariants.{Journal}
 use Rattle.desk_core.proofs.Following.{disk_later}
 use Rattle.http_front.specs.Exchanges.{calls_of}
 use Rattle.office_cli.specs.Running.{around, AnswersStream, IsNoted}
-use Rattle.office_cli.proofs.Answering.{stream_answered, store_rose}
+use Rattle.office_cli.proofs.Answering.{stream_answered, store_rose, zero_unnoted}
 use Rattle.office_cli.proofs.run.answer.Goals as goal
 
 pub returns-clause-answers : goal.returns-clause-answers
@@ -22,7 +22,7 @@ returns-clause-answers g c disk clock opens =
     let desk = c.session-end.new.teller in
     let note = subst (λ (t : List ℕ). IsNoted w mid new t) c.end_line.ensures c.note_line.ensures.noted in
     let answers = stream_answered d k w m.counts_now m.only_now own disk clock c.args.desk desk c.args.out.now mid new (g.S.Source.left c.args.input.now) end c.store_failed-store.result c.end_status.result
-    opens c.session-end.ensures.session c.note_line.ensures.silent c.session-end.ensures.texts c.session-end.ensures.noted c.session-end.ensures.write_later note (c.store_failed-store.ensures c.finish-disk.ensures.saved ∙ c.stale-stale.ensures) c.end_status.ensures in
+    opens c.session-end.ensures.session c.note_line.ensures.silent c.session-end.ensures.texts c.session-end.ensures.noted c.session-end.ensures.write_fault note (c.store_failed-store.ensures c.finish-disk.ensures.saved ∙ c.stale-stale.ensures) c.end_status.ensures in
     subst (λ (x : g.row.D.Denot). AnswersStream d k w (g.S.Source.left c.args.input.now) (around disk clock c.args.out.now) (around x c.finish-disk.result.1 new) c.end_status.result) (sym c.finish-disk.ensures.disk)
     (subst (λ (x : g.row.C.Denot). AnswersStream d k w (g.S.Source.left c.args.input.now) (around disk clock c.args.out.now) (around desk.disk x new) c.end_status.result) (sym c.finish-disk.ensures.clock) answers)
 
@@ -43,3 +43,8 @@ returns-clause-disk_fault g c two =
     subst (λ (x : g.row.D.Denot). Rose (d.fault_count c.args.desk.disk) (d.fault_count x)) (sym c.finish-disk.ensures.disk)
     (store_rose d g.C.Clock c.args.desk c.session-end.new.teller c.session-end.result c.store_failed-store.result c.end_status.result (calls_of s.exchanges) c.requires.fresh
     (c.store_failed-store.ensures c.finish-disk.ensures.saved ∙ c.stale-stale.ensures) c.end_status.ensures two s.moved)
+
+pub returns-clause-unnoted : goal.returns-clause-unnoted
+returns-clause-unnoted g c zero =
+    ap g.W.Replies.noted (c.note_line.ensures.noted.0 (c.end_line.ensures ∙ zero_unnoted c.session-end.result c.store_failed-store.result c.end_status.result c.end_status.ensures zero))
+    ∙ c.session-end.ensures.noted

@@ -1,6 +1,6 @@
 use Rattle.std.proofs.Common.{◌≡◌, ◌⊎◌, ℕ, ◌+◌, ◌<◌, ◌-◌, ◌^◌, min, List, [], ◌∷◌, Option, Err, refl, sym, ap, ◌∙◌, subst}
 use Rattle.std.specs.Io.KnownBytes.{Appends}
-use Rattle.plain_office.specs.declared.command.Entry.{Entry}
+use Rattle.office_types.specs.declared.command.Entry.{Entry}
 use Rattle.desk_core.specs.declared.fault.DeskFault.TheVariants.{JournalFull, NoMemory}
 use Rattle.desk_core.specs.Asking.{PassesLimit}
 use Rattle.desk_core.specs.Calls.{moment_after}

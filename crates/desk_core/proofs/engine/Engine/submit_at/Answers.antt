@@ -1,6 +1,6 @@
 use Rattle.std.proofs.Common.{ℕ, inl, sym, subst}
-use Rattle.plain_office.specs.declared.command.Ask.{Ask}
-use Rattle.plain_office.specs.declared.command.Ask.TheVariants.{Command, Query}
+use Rattle.office_types.specs.declared.command.Ask.{Ask}
+use Rattle.office_types.specs.declared.command.Ask.TheVariants.{Command, Query}
 use Rattle.desk_core.specs.Keeping.{Keeps}
 use Rattle.desk_core.proofs.engine.Engine.submit_at.Goals as goal
 
