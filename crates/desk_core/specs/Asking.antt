@@ -38,7 +38,8 @@ LeavesDisk (Err faults.NoMemory) question before after = after ≡ before
 -- before the end of time the plain office accepts this command, whichever of those it is that the records stand for
 abbrev pub IsAcceptedAt : ℕ → Ask → Records → Type 0
 IsAcceptedAt t (ask.Command command) records =
-    (t < end_of_time) × ((office : Office) → StandsForOffice records office → IsTrue (is_accepted (step t command office).1))
+    (t < end_of_time)
+    × ((office : Office) → StandsForOffice records office → IsTrue (is_accepted (step t command office).1))
 IsAcceptedAt t (ask.Query query) records = ⊥
 
 -- a fault of the store comes only where the disk failed in the call, and only for a command that the office accepts;

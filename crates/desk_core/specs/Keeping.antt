@@ -44,7 +44,8 @@ module _ {D C : Type 0} (honest : Bool) (state : D → State) (moment : D → �
 
   -- the disk failed while the entry was added
   pub record Fails (office : Office) (before : List Entry) (entry : Entry) (old new : Parts D C) : Type 0 where
-    pub accepted : (plain : Office) → StandsForOffice old.office plain → IsTrue (is_accepted (step entry.moment entry.command plain).1)
+    pub accepted : (plain : Office) → StandsForOffice old.office plain
+        → IsTrue (is_accepted (step entry.moment entry.command plain).1)
     pub next : (after : Office) × (accept office entry ≡ Some after)
     pub run : IsTrue honest → KeepsTo state moment had_since old.disk new.disk (BeforeOrAfter header before entry (state old.disk))
     pub rose : Rose (fault_count old.disk) (fault_count new.disk)

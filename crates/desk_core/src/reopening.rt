@@ -58,7 +58,8 @@ fn taken(reply: &Reply, gate: u64) -> Result<(), OpenFault>
 // Makes the change of an entry again. Where the office does not accept it, the journal is damaged at its gate.
 fn take(office: &mut Office, entry: Entry, gate: u64) -> Result<(), OpenFault>
     requires few { office.old.accepted < most_commands }
-    ensures ok { OnOk result ((history : List Entry) → StandsAfter history office.old → StandsAfter (history ++ entry ∷ []) office.new) }
+    ensures ok { OnOk result ((history : List Entry) → StandsAfter history office.old
+        → StandsAfter (history ++ entry ∷ []) office.new) }
     ensures damaged { IfErr result (λ e. (e ≡ OpenFault.NoMemory) ⊎ ((e ≡ OpenFault.Damaged gate)
         × ((history : List Entry) (is : StandsAfter history office.old) → accept is.plain entry ≡ None))) }
 {

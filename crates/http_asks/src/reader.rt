@@ -114,7 +114,8 @@ impl Reader {
         requires within { IsRequestWithin self.now.bytes self.now.spans message.now.head }
         ensures short { length self.now.bytes ≤ head_room }
         ensures heard { IfOk result (IsHeard (Means (span_bytes self.now.bytes message.now.head.path)
-            (span_bytes self.now.bytes message.now.head.method) (body_of message.now self.now.bytes)) message.now.last) }
+            (span_bytes self.now.bytes message.now.head.method) (body_of message.now self.now.bytes))
+            message.now.last) }
     {
         let head = message.head();
         let bytes = self.buffer.held();

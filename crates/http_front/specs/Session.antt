@@ -50,14 +50,16 @@ abbrev pub IsWritten : Option ℕ → SessionEnd → List Exchange → List Exch
 IsWritten total ends.Ended exchanges whole rest closed written =
     (whole ≡ exchanges) × (
     ((closed ≡ true) × (written ≡ texts exchanges))
-    ⊎ ((closed ≡ false) × ((IsAtEnd rest × IsUnder total × (written ≡ texts exchanges)) ⊎ (StandsUnbuilt rest × IsUnspent total rest × (written ≡ texts exchanges ++ not_built_text))))
+    ⊎ ((closed ≡ false) × ((IsAtEnd rest × IsUnder total × (written ≡ texts exchanges))
+    ⊎ (StandsUnbuilt rest × IsUnspent total rest × (written ≡ texts exchanges ++ not_built_text))))
     )
 IsWritten total ends.ReadFault exchanges whole rest closed written = (whole ≡ exchanges) × (closed ≡ false) × (written ≡ texts exchanges)
 IsWritten total ends.Spent exchanges whole rest closed written = (whole ≡ exchanges) × (closed ≡ false) × IsSpent total rest × (written ≡ texts exchanges)
 IsWritten total ends.WriteFault exchanges whole rest closed written =
     IsCut exchanges whole written
     ⊎ ((whole ≡ exchanges) × (closed ≡ false) × (
-    ((n : ℕ) × StandsUnbuilt rest × IsUnspent total rest × (written ≡ texts exchanges ++ take n not_built_text)) ⊎ ((n : ℕ) × (written ≡ texts exchanges ++ take n no_memory_text))
+    ((n : ℕ) × StandsUnbuilt rest × IsUnspent total rest × (written ≡ texts exchanges ++ take n not_built_text))
+    ⊎ ((n : ℕ) × (written ≡ texts exchanges ++ take n no_memory_text))
     ))
 IsWritten total ends.NoMemory exchanges whole rest closed written =
     (whole ≡ exchanges) × (
@@ -68,9 +70,10 @@ IsWritten total ends.NoMemory exchanges whole rest closed written =
 -- ---- a session
 
 module _ {T : Type 0} (moves : T → Ask → Result Answer DeskFault → T → Type 0) where
-  -- A session over what was read: the messages that it heard, each with what the teller answered or as a refusal, whether
-  -- the last one closed it, and what was said, with the disk's moments of the answers that were said whole.
-  pub record Session (old new : T) (said_old said_new moments_old moments_new : Option (List ℕ)) (read : Reading) (end : SessionEnd) : Type 0 where
+  -- A session over what was read: the messages that it heard, each with what the teller answered or as a refusal,
+  -- whether the last one closed it, and what was said, with the disk's moments of the answers that were said whole.
+  pub record Session (old new : T) (said_old said_new moments_old moments_new : Option (List ℕ)) (read : Reading)
+      (end : SessionEnd) : Type 0 where
     pub exchanges : List Exchange
     pub moved : Moves moves old (calls_of exchanges) new
     pub rest : Option (List ℕ)

@@ -55,7 +55,8 @@ module _ {T : Type 0} (moves : T → Ask → Result Answer DeskFault → T → T
     pub enough : NoneLacks (calls_of exchanges)
 
   -- The same up to the end of the session, whose source has so many bytes in all.
-  pub record Closed (old new : T) (said_old said_new moments_old moments_new : Option (List ℕ)) (read : Reading) (total : Option ℕ) (end : SessionEnd) : Type 0 where
+  pub record Closed (old new : T) (said_old said_new moments_old moments_new : Option (List ℕ)) (read : Reading)
+      (total : Option ℕ) (end : SessionEnd) : Type 0 where
     pub exchanges : List Exchange
     pub moved : Moves moves old (calls_of exchanges) new
     pub rest : Option (List ℕ)
@@ -70,6 +71,9 @@ module _ {T : Type 0} (moves : T → Ask → Result Answer DeskFault → T → T
     pub behind : closed ≡ true → IsHeldBack rest read.left
 
   -- how a message went: the session goes on, or it ends
-  abbrev pub Went : T → T → Option (List ℕ) → Option (List ℕ) → Option (List ℕ) → Option (List ℕ) → Reading → Option (List ℕ) → Option ℕ → Result Unit SessionEnd → Type 0
-  Went old new said_old said_new moments_old moments_new read rest total (Ok x) = Talked old new said_old said_new moments_old moments_new read.stream rest
-  Went old new said_old said_new moments_old moments_new read rest total (Err end) = Closed old new said_old said_new moments_old moments_new read total end
+  abbrev pub Went : T → T → Option (List ℕ) → Option (List ℕ) → Option (List ℕ) → Option (List ℕ) → Reading
+      → Option (List ℕ) → Option ℕ → Result Unit SessionEnd → Type 0
+  Went old new said_old said_new moments_old moments_new read rest total (Ok x) =
+      Talked old new said_old said_new moments_old moments_new read.stream rest
+  Went old new said_old said_new moments_old moments_new read rest total (Err end) =
+      Closed old new said_old said_new moments_old moments_new read total end

@@ -189,8 +189,10 @@ fn answer_heard<W: Replies, T: Teller>(
 ) -> Result<(), SessionEnd>
     requires room { 16384 ≤ length room.old }
     ensures went { (stream rest left : Option (List ℕ)) (total : Option ℕ) → Tells stream heard rest
-        → (heard ≡ Heard.End → IsUnder total) → IsUnspent total stream → OnItem {E = Stop} (Ok heard) (IsHeldBack rest left)
-        → Went T.moves teller.old teller.new (W.said out.old) (W.said out.new) (W.moments out.old) (W.moments out.new) (reading stream left) rest total result }
+        → (heard ≡ Heard.End → IsUnder total) → IsUnspent total stream
+        → OnItem {E = Stop} (Ok heard) (IsHeldBack rest left)
+        → Went T.moves teller.old teller.new (W.said out.old) (W.said out.new) (W.moments out.old) (W.moments out.new)
+        (reading stream left) rest total result }
     ensures item { (stream rest : Option (List ℕ)) (few many : ℕ) → Tells stream heard rest → OnItem {E = Stop} (Ok heard) (few < many) → OnOk result (few < many) }
     ensures room { 16384 ≤ length room.new }
     ensures texts { W.texts out.new ≡ W.texts out.old }
@@ -226,7 +228,8 @@ pub(crate) fn answer_one<R: Source, W: Replies, T: Teller>(
     ensures goes_on { OnOk result (Talked T.moves teller.old teller.new (W.said out.old) (W.said out.new) (W.moments out.old) (W.moments out.new)
         (prepend_known reader.old.bytes (R.left source.old)) (prepend_known reader.new.bytes (R.left source.new))) }
     ensures closed { IfErr result (λ end. Closed T.moves teller.old teller.new (W.said out.old) (W.said out.new) (W.moments out.old) (W.moments out.new)
-        (reading (prepend_known reader.old.bytes (R.left source.old)) (R.left source.new)) (total_of reader.old.taken (R.left source.old)) end) }
+        (reading (prepend_known reader.old.bytes (R.left source.old)) (R.left source.new))
+        (total_of reader.old.taken (R.left source.old)) end) }
     ensures room { 16384 ≤ length room.new }
     ensures given { Given reader.old.taken reader.new.taken (R.left source.old) (R.left source.new) }
     ensures limit { reader.new.taken ≤ take_limit }

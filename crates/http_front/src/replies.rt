@@ -194,12 +194,18 @@ impl<W: Write + Drop, N: Write + Drop> Replies for WriterReplies<W, N> {
 
     fn note(&mut self, bytes: &[u8])
         ensures unwritten { out_of self.new ≡ out_of self.old }
-        ensures said { ⟦<WriterReplies<W, N> as Replies>⟧.said self.new ≡ ⟦<WriterReplies<W, N> as Replies>⟧.said self.old }
-        ensures moments { ⟦<WriterReplies<W, N> as Replies>⟧.moments self.new ≡ ⟦<WriterReplies<W, N> as Replies>⟧.moments self.old }
-        ensures texts { ⟦<WriterReplies<W, N> as Replies>⟧.texts self.new ≡ ⟦<WriterReplies<W, N> as Replies>⟧.texts self.old }
-        ensures noted { Appends (⟦<WriterReplies<W, N> as Replies>⟧.noted self.old) (⟦<WriterReplies<W, N> as Replies>⟧.noted self.new) bytes.now
-            ⊎ Rose (⟦<WriterReplies<W, N> as Replies>⟧.faults self.old) (⟦<WriterReplies<W, N> as Replies>⟧.faults self.new) }
-        ensures later { ⟦<WriterReplies<W, N> as Replies>⟧.faults self.old ≤ ⟦<WriterReplies<W, N> as Replies>⟧.faults self.new }
+        ensures said { ⟦<WriterReplies<W, N> as Replies>⟧.said self.new
+            ≡ ⟦<WriterReplies<W, N> as Replies>⟧.said self.old }
+        ensures moments { ⟦<WriterReplies<W, N> as Replies>⟧.moments self.new
+            ≡ ⟦<WriterReplies<W, N> as Replies>⟧.moments self.old }
+        ensures texts { ⟦<WriterReplies<W, N> as Replies>⟧.texts self.new
+            ≡ ⟦<WriterReplies<W, N> as Replies>⟧.texts self.old }
+        ensures noted { Appends (⟦<WriterReplies<W, N> as Replies>⟧.noted self.old)
+            (⟦<WriterReplies<W, N> as Replies>⟧.noted self.new) bytes.now
+            ⊎ Rose (⟦<WriterReplies<W, N> as Replies>⟧.faults self.old)
+            (⟦<WriterReplies<W, N> as Replies>⟧.faults self.new) }
+        ensures later { ⟦<WriterReplies<W, N> as Replies>⟧.faults self.old
+            ≤ ⟦<WriterReplies<W, N> as Replies>⟧.faults self.new }
     {
         match put_all(&mut self.notes, bytes) {
             Ok(()) => {}

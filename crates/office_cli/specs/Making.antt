@@ -27,7 +27,8 @@ module _ {W : Type 0} (w : sinks.Ghosts W) where
   abbrev pub IsPutOut : Made → W → W → ℕ → Type 0
   IsPutOut made old new status =
       ((status ≡ 0) × Appends (w.texts old) (w.texts new) (made_line made) × (w.noted new ≡ w.noted old))
-      ⊎ ((status ≡ 4) × ((n : ℕ) × Appends (w.texts old) (w.texts new) (take n (made_line made))) × EndsWithNote w old new status (end_note WriteFault false))
+      ⊎ ((status ≡ 4) × ((n : ℕ) × Appends (w.texts old) (w.texts new) (take n (made_line made)))
+      × EndsWithNote w old new status (end_note WriteFault false))
 
 module _ {D W : Type 0} (d : disks.Ghosts D) (w : sinks.Ghosts W) where
   -- it is there, and this was put out

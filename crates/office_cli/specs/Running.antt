@@ -50,8 +50,8 @@ module _ {W : Type 0} (w : sinks.Ghosts W) where
   abbrev pub IsSilent : W → W → Type 0
   IsSilent old new = (w.said new ≡ w.said old) × (w.moments new ≡ w.moments old) × (w.texts new ≡ w.texts old)
 
-  -- The line comes behind all that was said: nothing was noted before it, and where a text was lost (status 4) the count of faults
-  -- rose before it, so that it tells of the line alone.
+  -- The line comes behind all that was said: nothing was noted before it, and where a text was lost (status 4) the count
+  -- of faults rose before it, so that it tells of the line alone.
   pub record EndsWithNote (old new : W) (status : ℕ) (text : List ℕ) : Type 0 where
     -- the sink in which all was said
     pub behind : W
@@ -125,14 +125,15 @@ module _ {D C W : Type 0} (d : disks.Ghosts D) (k : clocks.Ghosts C) (w : sinks.
 
   -- The clock tells a number before the disk is touched. Where that is below the end of time the office is opened and answers, or
   -- it is not opened. Where it is not opened, and where the clock is at its end, what the asks come from is left alone.
-  pub record Starts (left_alone : Type 0) (answers : Surroundings D C W → Surroundings D C W → ℕ → Type 0) (old new : Surroundings D C W) (status : ℕ) : Type 0 where
+  pub record Starts (left_alone : Type 0) (answers : Surroundings D C W → Surroundings D C W → ℕ → Type 0)
+      (old new : Surroundings D C W) (status : ℕ) : Type 0 where
     pub first : ℕ
     pub clock : C
     pub once : k.count clock ≡ min (k.count old.clock + 1) (2 ^ 64 - 1)
     pub is_last : k.last clock ≡ first
     pub told_first : k.count clock < 2 ^ 64 - 1 → Appends (k.told old.clock) (k.told clock) (first ∷ [])
-    pub does : ((first < end_of_time)
-        × (answers (around old.disk clock old.out) new status ⊎ (Refuses (around old.disk clock old.out) new status × left_alone)))
+    pub does : ((first < end_of_time) × (answers (around old.disk clock old.out) new status
+        ⊎ (Refuses (around old.disk clock old.out) new status × left_alone)))
         ⊎ ((end_of_time ≤ first) × Ends (around old.disk clock old.out) new status × left_alone)
 
   -- what `run` does with the messages of a stream that it reads, or leaves alone

@@ -41,7 +41,8 @@ fn answer<S: Source, W: Replies, D: Disk + Drop, C: Clock + Drop>(
 
     ensures answers { (disk : D) (clock : C)
         → Opens D.honest D.state D.moment D.had_since D.fault_count disk clock journal_limit desk
-        → AnswersStream D.Disk C.Clock W.Replies (reading (S.left input.old) (S.left input.new)) (around disk clock out.old)
+        → AnswersStream D.Disk C.Clock W.Replies (reading (S.left input.old) (S.left input.new))
+        (around disk clock out.old)
         (around result.disk result.clock out.new) result.status }
     ensures later { (S.faults input.old ≤ S.faults input.new) × (W.faults out.old ≤ W.faults out.new)
         × (D.fault_count desk.disk ≤ D.fault_count result.disk) }
@@ -95,7 +96,8 @@ fn work<S: Source, W: Replies, D: Disk + Drop, C: Clock + Drop>(
     disk: D,
     clock: C,
 ) -> End<D, C>
-    ensures works { AnswersStream D.Disk C.Clock W.Replies (reading (S.left input.old) (S.left input.new)) (around disk clock out.old)
+    ensures works { AnswersStream D.Disk C.Clock W.Replies (reading (S.left input.old) (S.left input.new))
+        (around disk clock out.old)
         (around result.disk result.clock out.new) result.status
         ⊎ (Refuses D.Disk C.Clock W.Replies (around disk clock out.old) (around result.disk result.clock out.new)
         result.status × (input.new ≡ input.old)) }
@@ -156,7 +158,8 @@ pub(crate) fn run<S: Source, W: Replies, D: Disk + Drop, C: Clock + Drop>(
     mut clock: C,
 ) -> End<D, C>
     ensures runs { Runs D.Disk C.Clock W.Replies (input.new ≡ input.old)
-        (reading (S.left input.old) (S.left input.new)) (around disk clock out.old) (around result.disk result.clock out.new) result.status }
+        (reading (S.left input.old) (S.left input.new)) (around disk clock out.old)
+        (around result.disk result.clock out.new) result.status }
     ensures sound { IsTrue D.honest → (history : List Entry)
         → HasAcceptedHistory history (D.state disk).journal.seen → result.status ≡ 5 → ⊥ }
     ensures no_text { W.texts out.new ≡ W.texts out.old }
