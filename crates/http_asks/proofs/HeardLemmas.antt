@@ -1,12 +1,12 @@
 -- What is heard at the front of a stream.
 use Rattle.std.proofs.Common.{◌≡◌, ◌≢◌, ℕ, Bool, List, [], ◌∷◌, ◌++◌, length, drop, refl, sym, ap, ◌∙◌, subst, arith, length-append, append_assoc, append-nil, inl, inr, Option, Some, None, Result, Ok, Err}
-use Rattle.std.specs.Prelude.{IsErrOf}
+use Rattle.std.specs.Prelude.{◌<◌, IsErrOf}
 use Rattle.std.specs.Io.KnownBytes.{prepend_known, IsAtEnd}
 use Rattle.httparse.specs.Spans.{span_bytes}
 use Rattle.http_routes.specs.Targets.{Resource}
 use Rattle.http_routes.proofs.Leads.{one_route}
 use Rattle.http_wire.specs.Answers.{Gave, Answers, Refuses, AwaitsLongBody, OnRequest, OnRefused}
-use Rattle.http_wire.specs.Held.{Held}
+use Rattle.http_wire.specs.Held.{Held, take_limit}
 use Rattle.http_wire.specs.Messages.{Framed, Request, request, refused, Stands, IsCutShort, IsUnsettled}
 use Rattle.http_wire.specs.Parts.{Parts, body_of}
 use Rattle.http_wire.specs.declared.framing.FramingRefusal.{FramingRefusal}
@@ -16,12 +16,12 @@ use Rattle.http_wire.specs.declared.message.Next.TheVariants as next
 use Rattle.http_wire.specs.declared.message.MessageStop.{MessageStop}
 use Rattle.http_wire.specs.declared.message.MessageStop.TheVariants as message_stops
 use Rattle.http_wire.proofs.Unique.{stands_unique, stands_rest, stands_more, nothing_stands}
-use Rattle.http_asks.specs.Counts.{Given}
+use Rattle.http_asks.specs.Counts.{Given, AreEnough}
 use Rattle.http_asks.specs.Faults.{refused_of}
 use Rattle.http_asks.specs.Hearing.{IsHeard, last_of}
 use Rattle.http_asks.specs.Meaning.{Refused, not_a_month, bad_bucket_name, bad_key, flawed, not_built, Meant, asks, refuses, meant_of, Means, IsMeant}
 use Rattle.http_asks.specs.Streams.{IsItem, IsUnbuilt, StandsUnbuilt, WantsMemory}
-use Rattle.http_asks.specs.Tells.{Tells, TellsRefused}
+use Rattle.http_asks.specs.Tells.{Tells, TellsRefused, IfServed, OnItem}
 use Rattle.http_asks.specs.declared.reader.Heard.{Heard}
 use Rattle.http_asks.specs.declared.reader.Heard.TheVariants as heards
 use Rattle.http_asks.specs.declared.reader.Stop.{Stop}
@@ -186,6 +186,46 @@ end_told a b (Some xs) (Some ys) gave end =
 
 pub unsettled_same : (a b : Held) → a ≡ b → (IsUnsettled a.bytes → ⊥) → IsUnsettled b.bytes → ⊥
 unsettled_same a b same settled none = settled (subst (λ (h : Held). IsUnsettled h.bytes) (sym same) none)
+
+-- ---- the bytes are enough
+
+pub request_enough : (a b c : Held) (la lb : Option (List ℕ)) (m : Parts) → Gave a b la lb (λ (bytes : List ℕ). Answers bytes b m) → c.taken ≡ b.taken → Gave a c la lb (AreEnough c.taken lb)
+request_enough a b c la lb m gave same = record {
+  given = gave.given;
+  counted = same ∙ gave.counted;
+  left = gave.left;
+  so = inl (λ none. none (request gave.so.found) (drop m.used b.bytes) gave.so.stands);
+}
+
+stands_enough : (bytes : List ℕ) (lb : Option (List ℕ)) (taken : ℕ) (bad : FramingRefusal) → (bad ≡ CutShort → taken < take_limit) → Refuses lb bad bytes → AreEnough taken lb bytes
+stands_enough bytes lb taken BadHead few is = inl (λ none. none (refused BadHead) [] is)
+stands_enough bytes lb taken BodyTooLarge few is = inl (λ none. none (refused BodyTooLarge) [] is)
+stands_enough bytes lb taken ChunkedBody few is = inl (λ none. none (refused ChunkedBody) [] is)
+stands_enough bytes lb taken HeadTooLarge few is = inl (λ none. none (refused HeadTooLarge) [] is)
+stands_enough bytes lb taken CutShort few is = inr (few refl, is.1)
+
+pub refused_enough : (a b : Held) (la lb : Option (List ℕ)) (bad : FramingRefusal) → (bad ≡ CutShort → b.taken < take_limit) → Gave a b la lb (Refuses lb bad) → Gave a b la lb (AreEnough b.taken lb)
+refused_enough a b la lb bad few gave = record {
+  given = gave.given;
+  counted = gave.counted;
+  left = gave.left;
+  so = stands_enough (a.bytes ++ gave.given) lb b.taken bad few gave.so;
+}
+
+pub end_enough : (a b : Held) (la lb : Option (List ℕ)) → b.taken < take_limit → Gave a b la lb (λ (bytes : List ℕ). bytes ≡ []) → IsAtEnd lb → Gave a b la lb (AreEnough b.taken lb)
+end_enough a b la lb few gave end = record { given = gave.given; counted = gave.counted; left = gave.left; so = inr (few, end) }
+
+served_if : (broken : Refused) (P : Type 0) → P → IfServed broken P
+served_if not_built P p = tt
+served_if not_a_month P p = p
+served_if bad_bucket_name P p = p
+served_if bad_key P p = p
+served_if (flawed flaw) P p = p
+
+pub on_item : (heard : Heard) (P : Type 0) → P → OnItem {E = Stop} (Ok heard) P
+on_item (heards.Asked ask last) P p = p
+on_item (heards.Bad bad last) P p = served_if (refused_of bad) P p
+on_item heards.End P p = tt
 
 -- ---- memory is wanting
 

@@ -4,9 +4,9 @@ ghost use Rattle.std.specs.Io.KnownBytes.{IsAtEnd, prepend_known};
 ghost use Rattle.office_base.specs.Faults.{Rose};
 ghost use Rattle.httparse.specs.Spans.{IsRequestWithin, span_bytes};
 ghost use Rattle.http_wire.specs.Answers.{Gave};
-ghost use Rattle.http_wire.specs.Held.{take_limit};
+ghost use Rattle.http_wire.specs.Held.{head_room, take_limit};
 ghost use Rattle.http_wire.specs.Messages.{IsUnsettled};
-ghost use Rattle.http_asks.specs.Counts.{Given};
+ghost use Rattle.http_asks.specs.Counts.{Given, AreEnough};
 ghost use Rattle.http_wire.specs.Parts.{body_of};
 ghost use Rattle.http_asks.specs.Faults.{refused_of};
 ghost use Rattle.http_asks.specs.Hearing.{IsHeard, last_of};
@@ -112,7 +112,8 @@ impl Reader {
     fn read(&self, alloc: Global, message: &Message) -> Result<Heard, NoMemory>
         requires held { message.now.used ≤ length self.now.bytes }
         requires within { IsRequestWithin self.now.bytes self.now.spans message.now.head }
-        ensures { IfOk result (IsHeard (Means (span_bytes self.now.bytes message.now.head.path)
+        ensures short { length self.now.bytes ≤ head_room }
+        ensures heard { IfOk result (IsHeard (Means (span_bytes self.now.bytes message.now.head.path)
             (span_bytes self.now.bytes message.now.head.method) (body_of message.now self.now.bytes)) message.now.last) }
     {
         let head = message.head();
@@ -148,6 +149,11 @@ impl Reader {
         ensures limit { self.new.taken ≤ take_limit }
         // An item has at least one byte.
         ensures uses { OnItem result (self.old.taken + length self.new.bytes < self.new.taken + length self.old.bytes) }
+        // At most so many bytes are held behind it.
+        ensures short { OnItem result (length self.new.bytes ≤ head_room) }
+        // What is heard is settled by the bytes that were taken, or they are all, and fewer than the limit.
+        ensures enough { IfOk result (λ _. Gave self.old self.new (R.left source.old) (R.left source.new)
+            (AreEnough self.new.taken (R.left source.new))) }
         // The end is found by a read, so fewer bytes than the limit were taken.
         ensures at_end { result ≡ Ok Heard.End → (self.new.taken < take_limit) × IsAtEnd (R.left source.new) }
         ensures spent { IsErrOf result Stop.Spent → (self.new.taken ≡ take_limit)

@@ -1,7 +1,8 @@
 -- A session goes on.
-use Rattle.std.proofs.Common.{◌≡◌, ℕ, ◌+◌, ◌<◌, ◌≤◌, Bool, true, false, List, [], ◌∷◌, ◌++◌, take, length, refl, sym, ap, ◌∙◌, subst, arith, append_assoc, append-nil, length-append, Option, Some, None, Result, Ok, Err, inl, inr, OnOk, IfErr}
+use Rattle.std.proofs.Common.{◌≡◌, ℕ, ◌+◌, ◌-◌, ◌<◌, ◌≤◌, Bool, true, false, List, [], ◌∷◌, ◌++◌, take, length, refl, sym, ap, ◌∙◌, subst, arith, append_assoc, append-nil, length-append, Option, Some, None, Result, Ok, Err, inl, inr, ⊎_elim, OnOk, IfErr}
 use Rattle.std.specs.Prelude.{◌⊎◌, option_map, IsOk}
 use Rattle.std.specs.Io.KnownBytes.{Appends, Consumes, IsAtEnd, prepend_known}
+use Rattle.std.proofs.Math.Seq.{take-append-add, take-append_seam}
 use Rattle.std.proofs.lemmas.Grind.{flat_map-append}
 use Rattle.std.proofs.lemmas.List.Elements.{All-nil, All-cons, All-append}
 use Rattle.office_types.specs.declared.command.Ask.{Ask}
@@ -9,17 +10,21 @@ use Rattle.desk_core.specs.Answers.{Answer, Call}
 use Rattle.desk_core.specs.declared.fault.DeskFault.{DeskFault}
 use Rattle.desk_core.specs.declared.fault.DeskFault.TheVariants as faults
 use Rattle.http_wire.specs.Answers.{Gave as GaveTo}
-use Rattle.http_wire.specs.Held.{Held, take_limit}
+use Rattle.http_wire.specs.Held.{Held, head_room, take_limit}
 use Rattle.http_wire.specs.Messages.{IsUnsettled}
-use Rattle.http_asks.specs.Counts.{Given}
+use Rattle.http_wire.proofs.Unique.{stands_more}
+use Rattle.http_asks.specs.Counts.{Given, AreEnough}
 use Rattle.http_asks.specs.Meaning.{Refused, not_a_month, bad_bucket_name, bad_key, flawed, not_built, asks, refuses}
 use Rattle.http_asks.specs.Streams.{IsItem, StandsItem, StandsUnbuilt}
-use Rattle.http_asks.specs.Tells.{TellsRefused, IfServed}
+use Rattle.http_asks.specs.Faults.{refused_of}
+use Rattle.http_asks.specs.Tells.{TellsRefused, IfServed, OnItem}
+use Rattle.http_asks.specs.declared.reader.Heard.{Heard}
+use Rattle.http_asks.specs.declared.reader.Heard.TheVariants as heards
 use Rattle.http_asks.specs.declared.reader.Stop.{Stop}
 use Rattle.http_asks.specs.declared.reader.Stop.TheVariants as stops
 use Rattle.http_front.specs.declared.answering.SessionEnd.{SessionEnd}
 use Rattle.http_front.specs.declared.answering.SessionEnd.TheVariants as ends
-use Rattle.http_front.specs.Counts.{Gave, total_of, IsUnder, IsSpent}
+use Rattle.http_front.specs.Counts.{Gave, total_of, IsUnder, IsSpent, IsUnspent, Spends, reading, IsHeldBack}
 use Rattle.http_front.specs.Exchanges.{Exchange, answered, refused, meant_of, calls_of, exchange_moment, moments_of, Goes, Hears}
 use Rattle.desk_core.specs.Turns.{Moves}
 use Rattle.http_front.specs.Session.{IsCut, IsWritten, NoneLacks, LastLacks, LacksBy, Session}
@@ -134,6 +139,7 @@ lacked_then ends.Spent first second x y = enough_then first second x y
 record Totals (whole later : Option ℕ) : Type 0 where
   under : IsUnder later → IsUnder whole
   spent : (rest : Option (List ℕ)) → IsSpent later rest → IsSpent whole rest
+  unspent : (rest : Option (List ℕ)) → IsUnspent later rest → IsUnspent whole rest
 
 -- all were said whole
 all_then : (first second whole : List Exchange) → whole ≡ second → first ++ whole ≡ first ++ second
@@ -145,12 +151,12 @@ written_then total later totals ends.Ended first second whole rest closed w enou
 written_then total later totals ends.Ended first second whole rest closed w enough (all, inr (going, inl x)) =
     (all_then first second whole all, inr (going, inl (x.0, totals.under x.1, all_behind first second w x.2)))
 written_then total later totals ends.Ended first second whole rest closed w enough (all, inr (going, inr x)) =
-    (all_then first second whole all, inr (going, inr (x.0, behind first second not_built_text w x.1)))
+    (all_then first second whole all, inr (going, inr (x.0, totals.unspent rest x.1, behind first second not_built_text w x.2)))
 written_then total later totals ends.ReadFault first second whole rest closed w enough x = (all_then first second whole x.0, x.1, all_behind first second w x.2)
 written_then total later totals ends.Spent first second whole rest closed w enough x = (all_then first second whole x.0, x.1, totals.spent rest x.2, all_behind first second w x.3)
 written_then total later totals ends.WriteFault first second whole rest closed w enough (inl x) = inl (cut_then first second whole w x)
 written_then total later totals ends.WriteFault first second whole rest closed w enough (inr (all, going, inl x)) =
-    inr (all_then first second whole all, going, inl (x.0, x.1, behind first second (take x.0 not_built_text) w x.2))
+    inr (all_then first second whole all, going, inl (x.0, x.1, totals.unspent rest x.2, behind first second (take x.0 not_built_text) w x.3))
 written_then total later totals ends.WriteFault first second whole rest closed w enough (inr (all, going, inr x)) =
     inr (all_then first second whole all, going, inr (x.0, behind first second (take x.0 no_memory_text) w x.1))
 written_then total later totals ends.NoMemory first second whole rest closed w enough (all, inl x) =
@@ -191,12 +197,13 @@ pub gave_all : (a b : ℕ) (la lb : Option (List ℕ)) → Given a b la lb → a
 gave_all a b la lb given none all = (given.given, omega (arith, given.counted, none, all), given.left)
 
 no_totals : (later : Option ℕ) → Totals None later
-no_totals later = record { under = λ x. tt; spent = λ rest x. tt }
+no_totals later = record { under = λ x. tt; spent = λ rest x. tt; unspent = λ rest x. tt }
 
 same_totals : (whole later : ℕ) → whole ≡ later → Totals (Some whole) (Some later)
 same_totals whole later same = record {
   under = λ x. omega (arith, x, same);
   spent = λ rest x. subst (λ (n : ℕ). IsSpent (Some n) rest) (sym same) x;
+  unspent = λ rest x. subst (λ (n : ℕ). IsUnspent (Some n) rest) (sym same) x;
 }
 
 -- the total of what was taken and what is left stays the same
@@ -221,6 +228,30 @@ spent_here old new (Some xs) (Some ys) gave all = record {
   limit = omega (arith, all, gave.counted, ap length gave.left, length-append gave.given ys);
   unsettled = gave.so;
 }
+
+unsettled_front : (front more : List ℕ) → IsUnsettled (front ++ more) → IsUnsettled front
+unsettled_front front more none found rest stands = none found (rest ++ more) (stands_more front more found rest stands)
+
+-- the first of two equal texts of two parts goes on where its first part is the longer one
+longer : (a b c d : List ℕ) → a ++ b ≡ c ++ d → length d ≤ length b → (n : ℕ) × (c ≡ a ++ take n b)
+longer a b c d same le =
+    let all : length a + length b ≡ length c + length d = omega (arith, ap length same, length-append a b, length-append c d) in
+    let n = length c - length a in
+    (n, sym (take-append_seam c d) ∙ ap (take (length c)) (sym same) ∙ ap (λ (k : ℕ). take k (a ++ b)) (omega (arith, all, le)) ∙ take-append-add a b n)
+
+-- the bytes that were taken are enough, so the limit did not stop before
+pub unspent_here : (old new : Held) (la lb : Option (List ℕ)) → GaveTo old new la lb (AreEnough new.taken lb) → new.taken ≤ take_limit → IsUnspent (total_of old.taken la) (prepend_known old.bytes la)
+unspent_here old new None lb gave few = tt
+unspent_here old new (Some xs) None gave few = absurd gave.left
+unspent_here old new (Some xs) (Some ys) gave few = λ spends.
+    let whole : (old.bytes ++ gave.given) ++ ys ≡ spends.front ++ spends.more = append_assoc old.bytes gave.given ys ∙ ap (λ (t : List ℕ). old.bytes ++ t) (sym gave.left) ∙ spends.are in
+    let size : length xs ≡ length gave.given + length ys = omega (arith, ap length gave.left, length-append gave.given ys) in
+    ⊎_elim
+    (λ settled.
+    let more = longer (old.bytes ++ gave.given) ys spends.front spends.more whole (omega (arith, size, spends.limit, gave.counted, few)) in
+    settled (unsettled_front (old.bytes ++ gave.given) (take more.0 ys) (subst IsUnsettled more.1 spends.unsettled)))
+    (λ end. absurd (omega (arith, size, spends.limit, gave.counted, end.0, ap length end.1)))
+    gave.so
 
 -- the source ended before
 pub under_limit : (a b : ℕ) (la lb : Option (List ℕ)) → Given a b la lb → b < take_limit → IsAtEnd lb → IsUnder (total_of a la)
@@ -258,299 +289,319 @@ module _ {T : Type 0} (moves : T → Ask → Result Answer DeskFault → T → T
     enough = enough_then first.exchanges second.exchanges first.enough second.enough;
   }
 
-  closed_on : (total later : Option ℕ) → Totals total later → (old mid new : T) (sa sb sc ma mb mc a b : Option (List ℕ)) (end : SessionEnd)
-      → Talked moves old mid sa sb ma mb a b → Closed moves mid new sb sc mb mc b later end → Closed moves old new sa sc ma mc a total end
-  closed_on total later totals old mid new sa sb sc ma mb mc a b end first second = record {
-    exchanges = first.exchanges ++ second.exchanges;
-    moved = moved_then first.exchanges second.exchanges old mid new first.moved second.moved;
-    rest = second.rest;
-    closed = second.closed;
-    heard = hears_then first.exchanges second.exchanges a b second.rest second.closed first.heard second.heard;
-    whole = first.exchanges ++ second.whole;
-    written = texts first.exchanges ++ second.written;
-    said = appends_then sa sb sc (texts first.exchanges) second.written first.said second.said;
-    stamped = stamped_then ma mb mc first.exchanges second.whole first.stamped second.stamped;
-    is_written = written_then total later totals end first.exchanges second.exchanges second.whole second.rest second.closed second.written first.enough second.is_written;
-    lacked = lacked_then end first.exchanges second.exchanges first.enough second.lacked;
-  }
+  module _ (remains : Option (List ℕ)) where
+    closed_on : (total later : Option ℕ) → Totals total later → (old mid new : T) (sa sb sc ma mb mc a b : Option (List ℕ)) (end : SessionEnd)
+        → Talked moves old mid sa sb ma mb a b → Closed moves mid new sb sc mb mc (reading b remains) later end → Closed moves old new sa sc ma mc (reading a remains) total end
+    closed_on total later totals old mid new sa sb sc ma mb mc a b end first second = record {
+      exchanges = first.exchanges ++ second.exchanges;
+      moved = moved_then first.exchanges second.exchanges old mid new first.moved second.moved;
+      rest = second.rest;
+      closed = second.closed;
+      heard = hears_then first.exchanges second.exchanges a b second.rest second.closed first.heard second.heard;
+      whole = first.exchanges ++ second.whole;
+      written = texts first.exchanges ++ second.written;
+      said = appends_then sa sb sc (texts first.exchanges) second.written first.said second.said;
+      stamped = stamped_then ma mb mc first.exchanges second.whole first.stamped second.stamped;
+      is_written = written_then total later totals end first.exchanges second.exchanges second.whole second.rest second.closed second.written first.enough second.is_written;
+      lacked = lacked_then end first.exchanges second.exchanges first.enough second.lacked;
+      behind = second.behind;
+    }
 
-  pub closed_then : (ta tb : ℕ) (la lb : Option (List ℕ)) → Given ta tb la lb → (old mid new : T) (sa sb sc ma mb mc a b : Option (List ℕ)) (end : SessionEnd)
-      → Talked moves old mid sa sb ma mb a b → Closed moves mid new sb sc mb mc b (total_of tb lb) end → Closed moves old new sa sc ma mc a (total_of ta la) end
-  closed_then ta tb la lb given old mid new sa sb sc ma mb mc a b end first second =
-      closed_on (total_of ta la) (total_of tb lb) (totals ta tb la lb given) old mid new sa sb sc ma mb mc a b end first second
+    pub closed_then : (ta tb : ℕ) (la lb : Option (List ℕ)) → Given ta tb la lb → (old mid new : T) (sa sb sc ma mb mc a b : Option (List ℕ)) (end : SessionEnd)
+        → Talked moves old mid sa sb ma mb a b → Closed moves mid new sb sc mb mc (reading b remains) (total_of tb lb) end → Closed moves old new sa sc ma mc (reading a remains) (total_of ta la) end
+    closed_then ta tb la lb given old mid new sa sb sc ma mb mc a b end first second =
+        closed_on (total_of ta la) (total_of tb lb) (totals ta tb la lb given) old mid new sa sb sc ma mb mc a b end first second
 
-  -- the end of a session from its beginning
-  whole_session : (old new : T) (sa sb ma mb left : Option (List ℕ)) (end : SessionEnd) → Closed moves old new sa sb ma mb left (option_map length left) end → Session moves old new sa sb ma mb left end
-  whole_session old new sa sb ma mb left end all = record {
-    exchanges = all.exchanges;
-    moved = all.moved;
-    rest = all.rest;
-    closed = all.closed;
-    heard = all.heard;
-    whole = all.whole;
-    written = all.written;
-    said = all.said;
-    stamped = all.stamped;
-    is_written = all.is_written;
-    lacked = all.lacked;
-  }
+    -- the end of a session from its beginning
+    whole_session : (old new : T) (sa sb ma mb left : Option (List ℕ)) (end : SessionEnd) → Closed moves old new sa sb ma mb (reading left remains) (option_map length left) end → Session moves old new sa sb ma mb (reading left remains) end
+    whole_session old new sa sb ma mb left end all = record {
+      exchanges = all.exchanges;
+      moved = all.moved;
+      rest = all.rest;
+      closed = all.closed;
+      heard = all.heard;
+      whole = all.whole;
+      written = all.written;
+      said = all.said;
+      stamped = all.stamped;
+      is_written = all.is_written;
+      lacked = all.lacked;
+      behind = all.behind;
+    }
 
-  -- a session that began with nothing taken
-  pub session_of : (taken : ℕ) (held : List ℕ) (old new : T) (sa sb ma mb left : Option (List ℕ)) (end : SessionEnd) → taken ≡ 0 → held ≡ []
-      → Closed moves old new sa sb ma mb (prepend_known held left) (total_of taken left) end → Session moves old new sa sb ma mb left end
-  session_of taken held old new sa sb ma mb left end none empty closed =
-      whole_session old new sa sb ma mb left end (
-      closed_on (option_map length left) (total_of taken left) (total_from taken left none) old old new sa sa sb ma ma mb left left end (talked_none old sa ma left)
-      (subst (λ (s : Option (List ℕ)). Closed moves old new sa sb ma mb s (total_of taken left) end) (from_start held left empty) closed)
-      )
+    -- a session that began with nothing taken
+    pub session_of : (taken : ℕ) (held : List ℕ) (old new : T) (sa sb ma mb left : Option (List ℕ)) (end : SessionEnd) → taken ≡ 0 → held ≡ []
+        → Closed moves old new sa sb ma mb (reading (prepend_known held left) remains) (total_of taken left) end → Session moves old new sa sb ma mb (reading left remains) end
+    session_of taken held old new sa sb ma mb left end none empty closed =
+        whole_session old new sa sb ma mb left end (
+        closed_on (option_map length left) (total_of taken left) (total_from taken left none) old old new sa sa sb ma ma mb left left end (talked_none old sa ma left)
+        (subst (λ (s : Option (List ℕ)). Closed moves old new sa sb ma mb (reading s remains) (total_of taken left) end) (from_start held left empty) closed)
+        )
 
-  -- ---- one message that was asked
+    -- ---- one message that was asked
 
-  abbrev one_call : Ask → Result Answer DeskFault → List Exchange
-  one_call ask said = answered (record { ask = ask; said = said }) ∷ []
+    abbrev one_call : Ask → Result Answer DeskFault → List Exchange
+    one_call ask said = answered (record { ask = ask; said = said }) ∷ []
 
-  one_enough : (ask : Ask) (said : Result Answer DeskFault) → (said ≡ Err faults.NoMemory → ⊥) → NoneLacks (calls_of (one_call ask said))
-  one_enough ask said no_lack = All-cons IsNoLack (record { ask = ask; said = said }) [] no_lack (All-nil IsNoLack)
+    one_enough : (ask : Ask) (said : Result Answer DeskFault) → (said ≡ Err faults.NoMemory → ⊥) → NoneLacks (calls_of (one_call ask said))
+    one_enough ask said no_lack = All-cons IsNoLack (record { ask = ask; said = said }) [] no_lack (All-nil IsNoLack)
 
-  one_lacks : (ask : Ask) (said : Result Answer DeskFault) → said ≡ Err faults.NoMemory → LastLacks (one_call ask said)
-  one_lacks ask said is = record { most = []; last = record { ask = ask; said = said }; are = refl; before = All-nil IsNoLack; is = is }
+    one_lacks : (ask : Ask) (said : Result Answer DeskFault) → said ≡ Err faults.NoMemory → LastLacks (one_call ask said)
+    one_lacks ask said is = record { most = []; last = record { ask = ask; said = said }; are = refl; before = All-nil IsNoLack; is = is }
 
-  one_either : (ask : Ask) (said : Result Answer DeskFault) → SomeLacks (one_call ask said)
-  one_either ask (Ok answer) = inl (one_enough ask (Ok answer) (λ is. absurd cc))
-  one_either ask (Err (faults.StoreFault told count)) = inl (one_enough ask (Err (faults.StoreFault told count)) (λ is. absurd cc))
-  one_either ask (Err faults.JournalFull) = inl (one_enough ask (Err faults.JournalFull) (λ is. absurd cc))
-  one_either ask (Err (faults.Broken fault)) = inl (one_enough ask (Err (faults.Broken fault)) (λ is. absurd cc))
-  one_either ask (Err faults.NoMemory) = inr (one_lacks ask (Err faults.NoMemory) refl)
+    one_either : (ask : Ask) (said : Result Answer DeskFault) → SomeLacks (one_call ask said)
+    one_either ask (Ok answer) = inl (one_enough ask (Ok answer) (λ is. absurd cc))
+    one_either ask (Err (faults.StoreFault told count)) = inl (one_enough ask (Err (faults.StoreFault told count)) (λ is. absurd cc))
+    one_either ask (Err faults.JournalFull) = inl (one_enough ask (Err faults.JournalFull) (λ is. absurd cc))
+    one_either ask (Err (faults.Broken fault)) = inl (one_enough ask (Err (faults.Broken fault)) (λ is. absurd cc))
+    one_either ask (Err faults.NoMemory) = inr (one_lacks ask (Err faults.NoMemory) refl)
 
-  one_text : (sa sb : Option (List ℕ)) (exchange : Exchange) → Appends sa sb (exchange_text exchange) → Appends sa sb (texts (exchange ∷ []))
-  one_text sa sb exchange wrote = subst (Appends sa sb) (sym (append-nil (exchange_text exchange))) wrote
+    one_text : (sa sb : Option (List ℕ)) (exchange : Exchange) → Appends sa sb (exchange_text exchange) → Appends sa sb (texts (exchange ∷ []))
+    one_text sa sb exchange wrote = subst (Appends sa sb) (sym (append-nil (exchange_text exchange))) wrote
 
-  one_moment : (ma mb : Option (List ℕ)) (exchange : Exchange) → Appends ma mb (exchange_moment exchange) → Appends ma mb (moments_of (exchange ∷ []))
-  one_moment ma mb exchange wrote = subst (Appends ma mb) (sym (append-nil (exchange_moment exchange))) wrote
+    one_moment : (ma mb : Option (List ℕ)) (exchange : Exchange) → Appends ma mb (exchange_moment exchange) → Appends ma mb (moments_of (exchange ∷ []))
+    one_moment ma mb exchange wrote = subst (Appends ma mb) (sym (append-nil (exchange_moment exchange))) wrote
 
-  -- want of memory has no moment
-  lack_moment : (ma mb : Option (List ℕ)) (ask : Ask) (told : Result Answer DeskFault) → mb ≡ ma → told ≡ Err faults.NoMemory → Appends ma mb (moments_of (one_call ask told))
-  lack_moment ma mb ask told same is =
-      subst (λ (t : Result Answer DeskFault). Appends ma mb (moments_of (one_call ask t))) (sym is) (subst (λ (m : Option (List ℕ)). Appends ma m []) (sym same) (appends_none ma))
+    -- want of memory has no moment
+    lack_moment : (ma mb : Option (List ℕ)) (ask : Ask) (told : Result Answer DeskFault) → mb ≡ ma → told ≡ Err faults.NoMemory → Appends ma mb (moments_of (one_call ask told))
+    lack_moment ma mb ask told same is =
+        subst (λ (t : Result Answer DeskFault). Appends ma mb (moments_of (one_call ask t))) (sym is) (subst (λ (m : Option (List ℕ)). Appends ma m []) (sym same) (appends_none ma))
 
-  closed_one : (old new : T) (sa sb ma mb a b : Option (List ℕ)) (total : Option ℕ) (ask : Ask) (last : Bool) (said : Result Answer DeskFault) (end : SessionEnd) (whole : List Exchange) (written : List ℕ)
-      → moves old ask said new → StandsItem a (asks ask) last b → Appends sa sb written → Appends ma mb (moments_of whole) → IsWritten total end (one_call ask said) whole b last written
-      → LacksBy end (one_call ask said) → Closed moves old new sa sb ma mb a total end
-  closed_one old new sa sb ma mb a b total ask last said end whole written moved heard wrote stamped is lacked = record {
-    exchanges = one_call ask said;
-    moved = (new, moved, refl);
-    rest = b;
-    closed = last;
-    heard = hears_one a b (answered (record { ask = ask; said = said })) last heard;
-    whole = whole;
-    written = written;
-    said = wrote;
-    stamped = stamped;
-    is_written = is;
-    lacked = lacked;
-  }
+    closed_one : (old new : T) (sa sb ma mb a b : Option (List ℕ)) (total : Option ℕ) (ask : Ask) (last : Bool) (said : Result Answer DeskFault) (end : SessionEnd) (whole : List Exchange) (written : List ℕ)
+        → moves old ask said new → StandsItem a (asks ask) last b → IsHeldBack b remains → Appends sa sb written → Appends ma mb (moments_of whole) → IsWritten total end (one_call ask said) whole b last written
+        → LacksBy end (one_call ask said) → Closed moves old new sa sb ma mb (reading a remains) total end
+    closed_one old new sa sb ma mb a b total ask last said end whole written moved heard held wrote stamped is lacked = record {
+      exchanges = one_call ask said;
+      moved = (new, moved, refl);
+      rest = b;
+      closed = last;
+      heard = hears_one a b (answered (record { ask = ask; said = said })) last heard;
+      whole = whole;
+      written = written;
+      said = wrote;
+      stamped = stamped;
+      is_written = is;
+      lacked = lacked;
+      behind = λ is. held;
+    }
 
-  -- it was answered, and the session goes on unless it was the last
-  pub asked_on : (old new : T) (sa sb ma mb a b : Option (List ℕ)) (total : Option ℕ) (ask : Ask) (last : Bool) (done result : Result Unit SessionEnd) → IsOk done
-      → Answers moves old new sa sb ma mb ask done → StandsItem a (asks ask) last b → (last ≡ false → IsOk result) → (last ≡ true → result ≡ Err ends.Ended)
-      → Went moves old new sa sb ma mb a b total result
-  asked_on old new sa sb ma mb a b total ask last (Err e) result ok told heard goes stops = absurd cc
-  asked_on old new sa sb ma mb a b total ask true (Ok x) result ok told heard goes stops =
-      let exchange = answered (record { ask = ask; said = told.told }) in
-      subst (Went moves old new sa sb ma mb a b total) (sym (stops refl))
-      (closed_one old new sa sb ma mb a b total ask true told.told ends.Ended (one_call ask told.told) (texts (one_call ask told.told)) told.moved heard (one_text sa sb exchange told.said.0)
-      (one_moment ma mb exchange told.said.1) (refl, inl (refl, refl)) (one_enough ask told.told told.said.2))
-  asked_on old new sa sb ma mb a b total ask false (Ok x) (Err e) ok told heard goes stops = absurd (let e = goes refl in cc)
-  asked_on old new sa sb ma mb a b total ask false (Ok x) (Ok y) ok told heard goes stops = record {
-    exchanges = one_call ask told.told;
-    moved = (new, told.moved, refl);
-    heard = hears_one a b (answered (record { ask = ask; said = told.told })) false heard;
-    said = one_text sa sb (answered (record { ask = ask; said = told.told })) told.said.0;
-    stamped = one_moment ma mb (answered (record { ask = ask; said = told.told })) told.said.1;
-    enough = one_enough ask told.told told.said.2;
-  }
+    -- it was answered, and the session goes on unless it was the last
+    pub asked_on : (old new : T) (sa sb ma mb a b : Option (List ℕ)) (total : Option ℕ) (ask : Ask) (last : Bool) (done result : Result Unit SessionEnd) → IsOk done
+        → Answers moves old new sa sb ma mb ask done → StandsItem a (asks ask) last b → IsHeldBack b remains → (last ≡ false → IsOk result) → (last ≡ true → result ≡ Err ends.Ended)
+        → Went moves old new sa sb ma mb (reading a remains) b total result
+    asked_on old new sa sb ma mb a b total ask last (Err e) result ok told heard held goes stops = absurd cc
+    asked_on old new sa sb ma mb a b total ask true (Ok x) result ok told heard held goes stops =
+        let exchange = answered (record { ask = ask; said = told.told }) in
+        subst (Went moves old new sa sb ma mb (reading a remains) b total) (sym (stops refl))
+        (closed_one old new sa sb ma mb a b total ask true told.told ends.Ended (one_call ask told.told) (texts (one_call ask told.told)) told.moved heard held (one_text sa sb exchange told.said.0)
+        (one_moment ma mb exchange told.said.1) (refl, inl (refl, refl)) (one_enough ask told.told told.said.2))
+    asked_on old new sa sb ma mb a b total ask false (Ok x) (Err e) ok told heard held goes stops = absurd (let e = goes refl in cc)
+    asked_on old new sa sb ma mb a b total ask false (Ok x) (Ok y) ok told heard held goes stops = record {
+      exchanges = one_call ask told.told;
+      moved = (new, told.moved, refl);
+      heard = hears_one a b (answered (record { ask = ask; said = told.told })) false heard;
+      said = one_text sa sb (answered (record { ask = ask; said = told.told })) told.said.0;
+      stamped = one_moment ma mb (answered (record { ask = ask; said = told.told })) told.said.1;
+      enough = one_enough ask told.told told.said.2;
+    }
 
-  -- it was answered, or not in full, and this ended the session
-  pub asked_end : (old new : T) (sa sb ma mb a b : Option (List ℕ)) (total : Option ℕ) (ask : Ask) (last : Bool) (end : SessionEnd) → Answers moves old new sa sb ma mb ask (Err end)
-      → StandsItem a (asks ask) last b → Closed moves old new sa sb ma mb a total end
-  asked_end old new sa sb ma mb a b total ask last ends.WriteFault done heard =
-      closed_one old new sa sb ma mb a b total ask last done.told ends.WriteFault [] (take done.said.0.0 (text_of done.told)) done.moved heard done.said.0.1
-      (subst (λ (m : Option (List ℕ)). Appends ma m []) (sym done.said.1) (appends_none ma))
-      (inl (record { last = answered (record { ask = ask; said = done.told }); n = done.said.0.0; are = refl; is = refl })) (one_either ask done.told)
-  asked_end old new sa sb ma mb a b total ask last ends.NoMemory done heard =
-      closed_one old new sa sb ma mb a b total ask last done.told ends.NoMemory (one_call ask done.told) (texts (one_call ask done.told)) done.moved heard
-      (one_text sa sb (answered (record { ask = ask; said = done.told })) done.said.0) (lack_moment ma mb ask done.told done.said.1 done.said.2)
-      (refl, inl (one_lacks ask done.told done.said.2, refl)) (inr (one_lacks ask done.told done.said.2))
-  asked_end old new sa sb ma mb a b total ask last ends.Ended done heard = absurd done.said
-  asked_end old new sa sb ma mb a b total ask last ends.ReadFault done heard = absurd done.said
-  asked_end old new sa sb ma mb a b total ask last ends.Spent done heard = absurd done.said
+    -- it was answered, or not in full, and this ended the session
+    pub asked_end : (old new : T) (sa sb ma mb a b : Option (List ℕ)) (total : Option ℕ) (ask : Ask) (last : Bool) (end : SessionEnd) → Answers moves old new sa sb ma mb ask (Err end)
+        → StandsItem a (asks ask) last b → IsHeldBack b remains → Closed moves old new sa sb ma mb (reading a remains) total end
+    asked_end old new sa sb ma mb a b total ask last ends.WriteFault done heard held =
+        closed_one old new sa sb ma mb a b total ask last done.told ends.WriteFault [] (take done.said.0.0 (text_of done.told)) done.moved heard held done.said.0.1
+        (subst (λ (m : Option (List ℕ)). Appends ma m []) (sym done.said.1) (appends_none ma))
+        (inl (record { last = answered (record { ask = ask; said = done.told }); n = done.said.0.0; are = refl; is = refl })) (one_either ask done.told)
+    asked_end old new sa sb ma mb a b total ask last ends.NoMemory done heard held =
+        closed_one old new sa sb ma mb a b total ask last done.told ends.NoMemory (one_call ask done.told) (texts (one_call ask done.told)) done.moved heard held
+        (one_text sa sb (answered (record { ask = ask; said = done.told })) done.said.0) (lack_moment ma mb ask done.told done.said.1 done.said.2)
+        (refl, inl (one_lacks ask done.told done.said.2, refl)) (inr (one_lacks ask done.told done.said.2))
+    asked_end old new sa sb ma mb a b total ask last ends.Ended done heard held = absurd done.said
+    asked_end old new sa sb ma mb a b total ask last ends.ReadFault done heard held = absurd done.said
+    asked_end old new sa sb ma mb a b total ask last ends.Spent done heard held = absurd done.said
 
-  -- ---- one message that was refused
+    -- ---- one message that was refused
 
-  abbrev one_refusal : Refused → List Exchange
-  one_refusal broken = refused broken ∷ []
+    abbrev one_refusal : Refused → List Exchange
+    one_refusal broken = refused broken ∷ []
 
-  closed_refusal : (old : T) (sa sb m a b : Option (List ℕ)) (total : Option ℕ) (broken : Refused) (last : Bool) (end : SessionEnd) (whole : List Exchange) (written : List ℕ)
-      → StandsItem a (refuses broken) last b → Appends sa sb written → Appends m m (moments_of whole) → IsWritten total end (one_refusal broken) whole b last written → LacksBy end (one_refusal broken)
-      → Closed moves old old sa sb m m a total end
-  closed_refusal old sa sb m a b total broken last end whole written heard wrote stamped is lacked = record {
-    exchanges = one_refusal broken;
-    moved = refl;
-    rest = b;
-    closed = last;
-    heard = hears_one a b (refused broken) last heard;
-    whole = whole;
-    written = written;
-    said = wrote;
-    stamped = stamped;
-    is_written = is;
-    lacked = lacked;
-  }
+    closed_refusal : (old : T) (sa sb m a b : Option (List ℕ)) (total : Option ℕ) (broken : Refused) (last : Bool) (end : SessionEnd) (whole : List Exchange) (written : List ℕ)
+        → StandsItem a (refuses broken) last b → IsHeldBack b remains → Appends sa sb written → Appends m m (moments_of whole) → IsWritten total end (one_refusal broken) whole b last written → LacksBy end (one_refusal broken)
+        → Closed moves old old sa sb m m (reading a remains) total end
+    closed_refusal old sa sb m a b total broken last end whole written heard held wrote stamped is lacked = record {
+      exchanges = one_refusal broken;
+      moved = refl;
+      rest = b;
+      closed = last;
+      heard = hears_one a b (refused broken) last heard;
+      whole = whole;
+      written = written;
+      said = wrote;
+      stamped = stamped;
+      is_written = is;
+      lacked = lacked;
+      behind = λ is. held;
+    }
 
-  -- it was answered, and the session goes on unless it was the last
-  refused_on : (old : T) (sa sb m a b : Option (List ℕ)) (total : Option ℕ) (broken : Refused) (last : Bool) (done result : Result Unit SessionEnd) → IsOk done → IsRefusedBy sa sb broken done
-      → StandsItem a (refuses broken) last b → (last ≡ false → IsOk result) → (last ≡ true → result ≡ Err ends.Ended) → Went moves old old sa sb m m a b total result
-  refused_on old sa sb m a b total broken last (Err e) result ok told heard goes stops = absurd cc
-  refused_on old sa sb m a b total broken true (Ok x) result ok told heard goes stops =
-      subst (Went moves old old sa sb m m a b total) (sym (stops refl))
-      (closed_refusal old sa sb m a b total broken true ends.Ended (one_refusal broken) (texts (one_refusal broken)) heard (one_text sa sb (refused broken) told) (appends_none m)
-      (refl, inl (refl, refl)) (All-nil IsNoLack))
-  refused_on old sa sb m a b total broken false (Ok x) (Err e) ok told heard goes stops = absurd (let e = goes refl in cc)
-  refused_on old sa sb m a b total broken false (Ok x) (Ok y) ok told heard goes stops = record {
-    exchanges = one_refusal broken;
-    moved = refl;
-    heard = hears_one a b (refused broken) false heard;
-    said = one_text sa sb (refused broken) told;
-    stamped = appends_none m;
-    enough = All-nil IsNoLack;
-  }
+    -- it was answered, and the session goes on unless it was the last
+    refused_on : (old : T) (sa sb m a b : Option (List ℕ)) (total : Option ℕ) (broken : Refused) (last : Bool) (done result : Result Unit SessionEnd) → IsOk done → IsRefusedBy sa sb broken done
+        → StandsItem a (refuses broken) last b → IsHeldBack b remains → (last ≡ false → IsOk result) → (last ≡ true → result ≡ Err ends.Ended) → Went moves old old sa sb m m (reading a remains) b total result
+    refused_on old sa sb m a b total broken last (Err e) result ok told heard held goes stops = absurd cc
+    refused_on old sa sb m a b total broken true (Ok x) result ok told heard held goes stops =
+        subst (Went moves old old sa sb m m (reading a remains) b total) (sym (stops refl))
+        (closed_refusal old sa sb m a b total broken true ends.Ended (one_refusal broken) (texts (one_refusal broken)) heard held (one_text sa sb (refused broken) told) (appends_none m)
+        (refl, inl (refl, refl)) (All-nil IsNoLack))
+    refused_on old sa sb m a b total broken false (Ok x) (Err e) ok told heard held goes stops = absurd (let e = goes refl in cc)
+    refused_on old sa sb m a b total broken false (Ok x) (Ok y) ok told heard held goes stops = record {
+      exchanges = one_refusal broken;
+      moved = refl;
+      heard = hears_one a b (refused broken) false heard;
+      said = one_text sa sb (refused broken) told;
+      stamped = appends_none m;
+      enough = All-nil IsNoLack;
+    }
 
-  -- nothing was answered
-  pub closed_here : (old : T) (sa sb m a : Option (List ℕ)) (total : Option ℕ) (end : SessionEnd) (written : List ℕ) → Appends sa sb written → IsWritten total end [] [] a false written
-      → LacksBy end [] → Closed moves old old sa sb m m a total end
-  closed_here old sa sb m a total end written wrote is lacked = record {
-    exchanges = [];
-    moved = refl;
-    rest = a;
-    closed = false;
-    heard = hears_none a;
-    whole = [];
-    written = written;
-    said = wrote;
-    stamped = appends_none m;
-    is_written = is;
-    lacked = lacked;
-  }
+    -- nothing was answered
+    pub closed_here : (old : T) (sa sb m a : Option (List ℕ)) (total : Option ℕ) (end : SessionEnd) (written : List ℕ) → Appends sa sb written → IsWritten total end [] [] a false written
+        → LacksBy end [] → Closed moves old old sa sb m m (reading a remains) total end
+    closed_here old sa sb m a total end written wrote is lacked = record {
+      exchanges = [];
+      moved = refl;
+      rest = a;
+      closed = false;
+      heard = hears_none a;
+      whole = [];
+      written = written;
+      said = wrote;
+      stamped = appends_none m;
+      is_written = is;
+      lacked = lacked;
+      behind = λ is. absurd (let e : false ≡ true = is in cc);
+    }
 
-  -- its text was cut, or there was no memory for it
-  refused_end : (old : T) (sa sb m a b : Option (List ℕ)) (total : Option ℕ) (broken : Refused) (last : Bool) (end : SessionEnd) → IsRefusedBy sa sb broken (Err end)
-      → StandsItem a (refuses broken) last b → Closed moves old old sa sb m m a total end
-  refused_end old sa sb m a b total broken last ends.WriteFault (inl x) heard =
-      closed_refusal old sa sb m a b total broken last ends.WriteFault [] (take x.0 (bad_text broken)) heard x.1 (appends_none m)
-      (inl (record { last = refused broken; n = x.0; are = refl; is = refl })) (inl (All-nil IsNoLack))
-  refused_end old sa sb m a b total broken last ends.WriteFault (inr x) heard =
-      closed_here old sa sb m a total ends.WriteFault (take x.0 no_memory_text) x.1 (inr (refl, refl, inr (x.0, refl))) (inl (All-nil IsNoLack))
-  refused_end old sa sb m a b total broken last ends.NoMemory said heard =
-      closed_here old sa sb m a total ends.NoMemory no_memory_text said (refl, inr (refl, All-nil IsNoLack, refl)) (inl (All-nil IsNoLack))
-  refused_end old sa sb m a b total broken last ends.Ended said heard = absurd said
-  refused_end old sa sb m a b total broken last ends.ReadFault said heard = absurd said
-  refused_end old sa sb m a b total broken last ends.Spent said heard = absurd said
+    -- its text was cut, or there was no memory for it
+    refused_end : (old : T) (sa sb m a b : Option (List ℕ)) (total : Option ℕ) (broken : Refused) (last : Bool) (end : SessionEnd) → IsRefusedBy sa sb broken (Err end)
+        → StandsItem a (refuses broken) last b → IsHeldBack b remains → Closed moves old old sa sb m m (reading a remains) total end
+    refused_end old sa sb m a b total broken last ends.WriteFault (inl x) heard held =
+        closed_refusal old sa sb m a b total broken last ends.WriteFault [] (take x.0 (bad_text broken)) heard held x.1 (appends_none m)
+        (inl (record { last = refused broken; n = x.0; are = refl; is = refl })) (inl (All-nil IsNoLack))
+    refused_end old sa sb m a b total broken last ends.WriteFault (inr x) heard held =
+        closed_here old sa sb m a total ends.WriteFault (take x.0 no_memory_text) x.1 (inr (refl, refl, inr (x.0, refl))) (inl (All-nil IsNoLack))
+    refused_end old sa sb m a b total broken last ends.NoMemory said heard held =
+        closed_here old sa sb m a total ends.NoMemory no_memory_text said (refl, inr (refl, All-nil IsNoLack, refl)) (inl (All-nil IsNoLack))
+    refused_end old sa sb m a b total broken last ends.Ended said heard held = absurd said
+    refused_end old sa sb m a b total broken last ends.ReadFault said heard held = absurd said
+    refused_end old sa sb m a b total broken last ends.Spent said heard held = absurd said
 
-  -- ---- the end of a session
+    -- ---- the end of a session
 
-  -- what stands there is not served, and it was answered
-  unbuilt_on : (old : T) (sa sb m a b : Option (List ℕ)) (total : Option ℕ) (last : Bool) (done result : Result Unit SessionEnd) → IsOk done → IsRefusedBy sa sb not_built done
-      → StandsUnbuilt a × (last ≡ true) → (last ≡ true → result ≡ Err ends.Ended) → Went moves old old sa sb m m a b total result
-  unbuilt_on old sa sb m a b total last (Err e) result ok said stands stops = absurd cc
-  unbuilt_on old sa sb m a b total last (Ok x) result ok said stands stops =
-      subst (Went moves old old sa sb m m a b total) (sym (stops stands.1))
-      (closed_here old sa sb m a total ends.Ended not_built_text said (refl, inr (refl, inr (stands.0, refl))) (All-nil IsNoLack))
+    -- what stands there is not served, and it was answered
+    unbuilt_on : (old : T) (sa sb m a b : Option (List ℕ)) (total : Option ℕ) (last : Bool) (done result : Result Unit SessionEnd) → IsOk done → IsRefusedBy sa sb not_built done
+        → StandsUnbuilt a × (last ≡ true) → IsUnspent total a → (last ≡ true → result ≡ Err ends.Ended) → Went moves old old sa sb m m (reading a remains) b total result
+    unbuilt_on old sa sb m a b total last (Err e) result ok said stands within stops = absurd cc
+    unbuilt_on old sa sb m a b total last (Ok x) result ok said stands within stops =
+        subst (Went moves old old sa sb m m (reading a remains) b total) (sym (stops stands.1))
+        (closed_here old sa sb m a total ends.Ended not_built_text said (refl, inr (refl, inr (stands.0, within, refl))) (All-nil IsNoLack))
 
-  unbuilt_end : (old : T) (sa sb m a : Option (List ℕ)) (total : Option ℕ) (end : SessionEnd) → IsRefusedBy sa sb not_built (Err end) → StandsUnbuilt a → Closed moves old old sa sb m m a total end
-  unbuilt_end old sa sb m a total ends.WriteFault (inl x) stands =
-      closed_here old sa sb m a total ends.WriteFault (take x.0 not_built_text) x.1 (inr (refl, refl, inl (x.0, stands, refl))) (inl (All-nil IsNoLack))
-  unbuilt_end old sa sb m a total ends.WriteFault (inr x) stands =
-      closed_here old sa sb m a total ends.WriteFault (take x.0 no_memory_text) x.1 (inr (refl, refl, inr (x.0, refl))) (inl (All-nil IsNoLack))
-  unbuilt_end old sa sb m a total ends.NoMemory said stands =
-      closed_here old sa sb m a total ends.NoMemory no_memory_text said (refl, inr (refl, All-nil IsNoLack, refl)) (inl (All-nil IsNoLack))
-  unbuilt_end old sa sb m a total ends.Ended said stands = absurd said
-  unbuilt_end old sa sb m a total ends.ReadFault said stands = absurd said
-  unbuilt_end old sa sb m a total ends.Spent said stands = absurd said
+    unbuilt_end : (old : T) (sa sb m a : Option (List ℕ)) (total : Option ℕ) (end : SessionEnd) → IsRefusedBy sa sb not_built (Err end) → StandsUnbuilt a → IsUnspent total a → Closed moves old old sa sb m m (reading a remains) total end
+    unbuilt_end old sa sb m a total ends.WriteFault (inl x) stands within =
+        closed_here old sa sb m a total ends.WriteFault (take x.0 not_built_text) x.1 (inr (refl, refl, inl (x.0, stands, within, refl))) (inl (All-nil IsNoLack))
+    unbuilt_end old sa sb m a total ends.WriteFault (inr x) stands within =
+        closed_here old sa sb m a total ends.WriteFault (take x.0 no_memory_text) x.1 (inr (refl, refl, inr (x.0, refl))) (inl (All-nil IsNoLack))
+    unbuilt_end old sa sb m a total ends.NoMemory said stands within =
+        closed_here old sa sb m a total ends.NoMemory no_memory_text said (refl, inr (refl, All-nil IsNoLack, refl)) (inl (All-nil IsNoLack))
+    unbuilt_end old sa sb m a total ends.Ended said stands within = absurd said
+    unbuilt_end old sa sb m a total ends.ReadFault said stands within = absurd said
+    unbuilt_end old sa sb m a total ends.Spent said stands within = absurd said
 
-  -- a message that asks nothing was answered
-  some_bad_on : (old : T) (sa sb m a b : Option (List ℕ)) (total : Option ℕ) (broken : Refused) (last : Bool) (done result : Result Unit SessionEnd) → IsOk done → IsRefusedBy sa sb broken done
-      → TellsRefused a broken last b → (last ≡ false → IsOk result) → (last ≡ true → result ≡ Err ends.Ended) → Went moves old old sa sb m m a b total result
-  some_bad_on old sa sb m a b total not_built last done result ok said tells goes stops = unbuilt_on old sa sb m a b total last done result ok said tells stops
-  some_bad_on old sa sb m a b total not_a_month last done result ok said tells goes stops = refused_on old sa sb m a b total not_a_month last done result ok said tells goes stops
-  some_bad_on old sa sb m a b total bad_bucket_name last done result ok said tells goes stops = refused_on old sa sb m a b total bad_bucket_name last done result ok said tells goes stops
-  some_bad_on old sa sb m a b total bad_key last done result ok said tells goes stops = refused_on old sa sb m a b total bad_key last done result ok said tells goes stops
-  some_bad_on old sa sb m a b total (flawed flaw) last done result ok said tells goes stops = refused_on old sa sb m a b total (flawed flaw) last done result ok said tells goes stops
+    -- a message that asks nothing was answered
+    some_bad_on : (old : T) (sa sb m a b : Option (List ℕ)) (total : Option ℕ) (broken : Refused) (last : Bool) (done result : Result Unit SessionEnd) → IsOk done → IsRefusedBy sa sb broken done
+        → TellsRefused a broken last b → IsUnspent total a → IfServed broken (IsHeldBack b remains) → (last ≡ false → IsOk result) → (last ≡ true → result ≡ Err ends.Ended) → Went moves old old sa sb m m (reading a remains) b total result
+    some_bad_on old sa sb m a b total not_built last done result ok said tells within held goes stops = unbuilt_on old sa sb m a b total last done result ok said tells within stops
+    some_bad_on old sa sb m a b total not_a_month last done result ok said tells within held goes stops = refused_on old sa sb m a b total not_a_month last done result ok said tells held goes stops
+    some_bad_on old sa sb m a b total bad_bucket_name last done result ok said tells within held goes stops = refused_on old sa sb m a b total bad_bucket_name last done result ok said tells held goes stops
+    some_bad_on old sa sb m a b total bad_key last done result ok said tells within held goes stops = refused_on old sa sb m a b total bad_key last done result ok said tells held goes stops
+    some_bad_on old sa sb m a b total (flawed flaw) last done result ok said tells within held goes stops = refused_on old sa sb m a b total (flawed flaw) last done result ok said tells held goes stops
 
-  some_bad_end : (old : T) (sa sb m a b : Option (List ℕ)) (total : Option ℕ) (broken : Refused) (last : Bool) (end : SessionEnd) → IsRefusedBy sa sb broken (Err end)
-      → TellsRefused a broken last b → Closed moves old old sa sb m m a total end
-  some_bad_end old sa sb m a b total not_built last end said tells = unbuilt_end old sa sb m a total end said tells.0
-  some_bad_end old sa sb m a b total not_a_month last end said tells = refused_end old sa sb m a b total not_a_month last end said tells
-  some_bad_end old sa sb m a b total bad_bucket_name last end said tells = refused_end old sa sb m a b total bad_bucket_name last end said tells
-  some_bad_end old sa sb m a b total bad_key last end said tells = refused_end old sa sb m a b total bad_key last end said tells
-  some_bad_end old sa sb m a b total (flawed flaw) last end said tells = refused_end old sa sb m a b total (flawed flaw) last end said tells
+    some_bad_end : (old : T) (sa sb m a b : Option (List ℕ)) (total : Option ℕ) (broken : Refused) (last : Bool) (end : SessionEnd) → IsRefusedBy sa sb broken (Err end)
+        → TellsRefused a broken last b → IsUnspent total a → IfServed broken (IsHeldBack b remains) → Closed moves old old sa sb m m (reading a remains) total end
+    some_bad_end old sa sb m a b total not_built last end said tells within held = unbuilt_end old sa sb m a total end said tells.0 within
+    some_bad_end old sa sb m a b total not_a_month last end said tells within held = refused_end old sa sb m a b total not_a_month last end said tells held
+    some_bad_end old sa sb m a b total bad_bucket_name last end said tells within held = refused_end old sa sb m a b total bad_bucket_name last end said tells held
+    some_bad_end old sa sb m a b total bad_key last end said tells within held = refused_end old sa sb m a b total bad_key last end said tells held
+    some_bad_end old sa sb m a b total (flawed flaw) last end said tells within held = refused_end old sa sb m a b total (flawed flaw) last end said tells held
 
-  pub bad_on : (old : T) (sa sb ma mb a b : Option (List ℕ)) (total : Option ℕ) (broken : Refused) (last : Bool) (done result : Result Unit SessionEnd) → mb ≡ ma → IsOk done → IsRefusedBy sa sb broken done
-      → TellsRefused a broken last b → (last ≡ false → IsOk result) → (last ≡ true → result ≡ Err ends.Ended) → Went moves old old sa sb ma mb a b total result
-  bad_on old sa sb ma mb a b total broken last done result same ok said tells goes stops =
-      subst (λ (m : Option (List ℕ)). Went moves old old sa sb ma m a b total result) (sym same) (some_bad_on old sa sb ma a b total broken last done result ok said tells goes stops)
+    pub bad_on : (old : T) (sa sb ma mb a b : Option (List ℕ)) (total : Option ℕ) (broken : Refused) (last : Bool) (done result : Result Unit SessionEnd) → mb ≡ ma → IsOk done → IsRefusedBy sa sb broken done
+        → TellsRefused a broken last b → IsUnspent total a → IfServed broken (IsHeldBack b remains) → (last ≡ false → IsOk result) → (last ≡ true → result ≡ Err ends.Ended) → Went moves old old sa sb ma mb (reading a remains) b total result
+    bad_on old sa sb ma mb a b total broken last done result same ok said tells within held goes stops =
+        subst (λ (m : Option (List ℕ)). Went moves old old sa sb ma m (reading a remains) b total result) (sym same) (some_bad_on old sa sb ma a b total broken last done result ok said tells within held goes stops)
 
-  pub bad_end : (old : T) (sa sb ma mb a b : Option (List ℕ)) (total : Option ℕ) (broken : Refused) (last : Bool) (end : SessionEnd) → mb ≡ ma → IsRefusedBy sa sb broken (Err end)
-      → TellsRefused a broken last b → Closed moves old old sa sb ma mb a total end
-  bad_end old sa sb ma mb a b total broken last end same said tells =
-      subst (λ (m : Option (List ℕ)). Closed moves old old sa sb ma m a total end) (sym same) (some_bad_end old sa sb ma a b total broken last end said tells)
+    pub bad_end : (old : T) (sa sb ma mb a b : Option (List ℕ)) (total : Option ℕ) (broken : Refused) (last : Bool) (end : SessionEnd) → mb ≡ ma → IsRefusedBy sa sb broken (Err end)
+        → TellsRefused a broken last b → IsUnspent total a → IfServed broken (IsHeldBack b remains) → Closed moves old old sa sb ma mb (reading a remains) total end
+    bad_end old sa sb ma mb a b total broken last end same said tells within held =
+        subst (λ (m : Option (List ℕ)). Closed moves old old sa sb ma m (reading a remains) total end) (sym same) (some_bad_end old sa sb ma a b total broken last end said tells within held)
 
-  last_words : (old : T) (sa sb m a : Option (List ℕ)) (total : Option ℕ) (end : SessionEnd)
-      → ((end ≡ ends.NoMemory) × Appends sa sb no_memory_text) ⊎ ((end ≡ ends.WriteFault) × ((n : ℕ) × Appends sa sb (take n no_memory_text))) → Closed moves old old sa sb m m a total end
-  last_words old sa sb m a total end (inl x) =
-      subst (λ (e : SessionEnd). Closed moves old old sa sb m m a total e) (sym x.0)
-      (closed_here old sa sb m a total ends.NoMemory no_memory_text x.1 (refl, inr (refl, All-nil IsNoLack, refl)) (inl (All-nil IsNoLack)))
-  last_words old sa sb m a total end (inr x) =
-      subst (λ (e : SessionEnd). Closed moves old old sa sb m m a total e) (sym x.0)
-      (closed_here old sa sb m a total ends.WriteFault (take x.1.0 no_memory_text) x.1.1 (inr (refl, refl, inr (x.1.0, refl))) (inl (All-nil IsNoLack)))
+    last_words : (old : T) (sa sb m a : Option (List ℕ)) (total : Option ℕ) (end : SessionEnd)
+        → ((end ≡ ends.NoMemory) × Appends sa sb no_memory_text) ⊎ ((end ≡ ends.WriteFault) × ((n : ℕ) × Appends sa sb (take n no_memory_text))) → Closed moves old old sa sb m m (reading a remains) total end
+    last_words old sa sb m a total end (inl x) =
+        subst (λ (e : SessionEnd). Closed moves old old sa sb m m (reading a remains) total e) (sym x.0)
+        (closed_here old sa sb m a total ends.NoMemory no_memory_text x.1 (refl, inr (refl, All-nil IsNoLack, refl)) (inl (All-nil IsNoLack)))
+    last_words old sa sb m a total end (inr x) =
+        subst (λ (e : SessionEnd). Closed moves old old sa sb m m (reading a remains) total e) (sym x.0)
+        (closed_here old sa sb m a total ends.WriteFault (take x.1.0 no_memory_text) x.1.1 (inr (refl, refl, inr (x.1.0, refl))) (inl (All-nil IsNoLack)))
 
-  silent : (old : T) (sa sb m a : Option (List ℕ)) (total : Option ℕ) (end kind : SessionEnd) → (end ≡ kind) × (sb ≡ sa) → IsWritten total kind [] [] a false [] → LacksBy kind []
-      → Closed moves old old sa sb m m a total end
-  silent old sa sb m a total end kind x is lacked =
-      subst (λ (e : SessionEnd). Closed moves old old sa sb m m a total e) (sym x.0)
-      (closed_here old sa sb m a total kind [] (subst (λ (s : Option (List ℕ)). Appends sa s []) (sym x.1) (appends_none sa)) is lacked)
+    silent : (old : T) (sa sb m a : Option (List ℕ)) (total : Option ℕ) (end kind : SessionEnd) → (end ≡ kind) × (sb ≡ sa) → IsWritten total kind [] [] a false [] → LacksBy kind []
+        → Closed moves old old sa sb m m (reading a remains) total end
+    silent old sa sb m a total end kind x is lacked =
+        subst (λ (e : SessionEnd). Closed moves old old sa sb m m (reading a remains) total e) (sym x.0)
+        (closed_here old sa sb m a total kind [] (subst (λ (s : Option (List ℕ)). Appends sa s []) (sym x.1) (appends_none sa)) is lacked)
 
-  some_stop : (old : T) (sa sb m a : Option (List ℕ)) (total : Option ℕ) (stop : Stop) (end : SessionEnd)
-      → (stop ≡ stops.NoMemory → ((end ≡ ends.NoMemory) × Appends sa sb no_memory_text) ⊎ ((end ≡ ends.WriteFault) × ((n : ℕ) × Appends sa sb (take n no_memory_text))))
-      → (stop ≡ stops.ReadFault → (end ≡ ends.ReadFault) × (sb ≡ sa)) → (stop ≡ stops.Spent → (end ≡ ends.Spent) × (sb ≡ sa)) → (stop ≡ stops.Spent → IsSpent total a)
-      → Closed moves old old sa sb m m a total end
-  some_stop old sa sb m a total stops.NoMemory end said read spent unsettled = last_words old sa sb m a total end (said refl)
-  some_stop old sa sb m a total stops.ReadFault end said read spent unsettled = silent old sa sb m a total end ends.ReadFault (read refl) (refl, refl, refl) (All-nil IsNoLack)
-  some_stop old sa sb m a total stops.Spent end said read spent unsettled = silent old sa sb m a total end ends.Spent (spent refl) (refl, refl, unsettled refl, refl) (All-nil IsNoLack)
+    some_stop : (old : T) (sa sb m a : Option (List ℕ)) (total : Option ℕ) (stop : Stop) (end : SessionEnd)
+        → (stop ≡ stops.NoMemory → ((end ≡ ends.NoMemory) × Appends sa sb no_memory_text) ⊎ ((end ≡ ends.WriteFault) × ((n : ℕ) × Appends sa sb (take n no_memory_text))))
+        → (stop ≡ stops.ReadFault → (end ≡ ends.ReadFault) × (sb ≡ sa)) → (stop ≡ stops.Spent → (end ≡ ends.Spent) × (sb ≡ sa)) → (stop ≡ stops.Spent → IsSpent total a)
+        → Closed moves old old sa sb m m (reading a remains) total end
+    some_stop old sa sb m a total stops.NoMemory end said read spent unsettled = last_words old sa sb m a total end (said refl)
+    some_stop old sa sb m a total stops.ReadFault end said read spent unsettled = silent old sa sb m a total end ends.ReadFault (read refl) (refl, refl, refl) (All-nil IsNoLack)
+    some_stop old sa sb m a total stops.Spent end said read spent unsettled = silent old sa sb m a total end ends.Spent (spent refl) (refl, refl, unsettled refl, refl) (All-nil IsNoLack)
 
-  pub last_stop : (old : T) (sa sb ma mb a : Option (List ℕ)) (total : Option ℕ) (stop : Stop) (end : SessionEnd) → mb ≡ ma
-      → (stop ≡ stops.NoMemory → ((end ≡ ends.NoMemory) × Appends sa sb no_memory_text) ⊎ ((end ≡ ends.WriteFault) × ((n : ℕ) × Appends sa sb (take n no_memory_text))))
-      → (stop ≡ stops.ReadFault → (end ≡ ends.ReadFault) × (sb ≡ sa)) → (stop ≡ stops.Spent → (end ≡ ends.Spent) × (sb ≡ sa)) → (stop ≡ stops.Spent → IsSpent total a)
-      → Closed moves old old sa sb ma mb a total end
-  last_stop old sa sb ma mb a total stop end same said read spent unsettled =
-      subst (λ (m : Option (List ℕ)). Closed moves old old sa sb ma m a total end) (sym same) (some_stop old sa sb ma a total stop end said read spent unsettled)
+    pub last_stop : (old : T) (sa sb ma mb a : Option (List ℕ)) (total : Option ℕ) (stop : Stop) (end : SessionEnd) → mb ≡ ma
+        → (stop ≡ stops.NoMemory → ((end ≡ ends.NoMemory) × Appends sa sb no_memory_text) ⊎ ((end ≡ ends.WriteFault) × ((n : ℕ) × Appends sa sb (take n no_memory_text))))
+        → (stop ≡ stops.ReadFault → (end ≡ ends.ReadFault) × (sb ≡ sa)) → (stop ≡ stops.Spent → (end ≡ ends.Spent) × (sb ≡ sa)) → (stop ≡ stops.Spent → IsSpent total a)
+        → Closed moves old old sa sb ma mb (reading a remains) total end
+    last_stop old sa sb ma mb a total stop end same said read spent unsettled =
+        subst (λ (m : Option (List ℕ)). Closed moves old old sa sb ma m (reading a remains) total end) (sym same) (some_stop old sa sb ma a total stop end said read spent unsettled)
 
-  -- a session that had no memory to begin with
-  pub session_lacks : (old : T) (sa sb ma mb left : Option (List ℕ)) (end : SessionEnd) → mb ≡ ma
-      → ((end ≡ ends.NoMemory) × Appends sa sb no_memory_text) ⊎ ((end ≡ ends.WriteFault) × ((n : ℕ) × Appends sa sb (take n no_memory_text))) → Session moves old old sa sb ma mb left end
-  session_lacks old sa sb ma mb left end same said =
-      subst (λ (m : Option (List ℕ)). Session moves old old sa sb ma m left end) (sym same) (whole_session old old sa sb ma ma left end (last_words old sa sb ma left (option_map length left) end said))
+    -- a session that had no memory to begin with
+    pub session_lacks : (old : T) (sa sb ma mb left : Option (List ℕ)) (end : SessionEnd) → mb ≡ ma
+        → ((end ≡ ends.NoMemory) × Appends sa sb no_memory_text) ⊎ ((end ≡ ends.WriteFault) × ((n : ℕ) × Appends sa sb (take n no_memory_text))) → Session moves old old sa sb ma mb (reading left remains) end
+    session_lacks old sa sb ma mb left end same said =
+        subst (λ (m : Option (List ℕ)). Session moves old old sa sb ma m (reading left remains) end) (sym same) (whole_session old old sa sb ma ma left end (last_words old sa sb ma left (option_map length left) end said))
 
-  -- ---- how a message went
+    -- ---- how a message went
 
-  pub went_on : (old new : T) (sa sb ma mb a b : Option (List ℕ)) (total : Option ℕ) (result : Result Unit SessionEnd) → Went moves old new sa sb ma mb a b total result
-      → OnOk result (Talked moves old new sa sb ma mb a b)
-  went_on old new sa sb ma mb a b total (Ok x) went = went
-  went_on old new sa sb ma mb a b total (Err end) went = tt
+    pub went_on : (old new : T) (sa sb ma mb a b : Option (List ℕ)) (total : Option ℕ) (result : Result Unit SessionEnd) → Went moves old new sa sb ma mb (reading a remains) b total result
+        → OnOk result (Talked moves old new sa sb ma mb a b)
+    went_on old new sa sb ma mb a b total (Ok x) went = went
+    went_on old new sa sb ma mb a b total (Err end) went = tt
 
-  pub went_end : (old new : T) (sa sb ma mb a b : Option (List ℕ)) (total : Option ℕ) (result : Result Unit SessionEnd) → Went moves old new sa sb ma mb a b total result
-      → IfErr result (λ end. Closed moves old new sa sb ma mb a total end)
-  went_end old new sa sb ma mb a b total (Ok x) went = tt
-  went_end old new sa sb ma mb a b total (Err end) went = went
+    pub went_end : (old new : T) (sa sb ma mb a b : Option (List ℕ)) (total : Option ℕ) (result : Result Unit SessionEnd) → Went moves old new sa sb ma mb (reading a remains) b total result
+        → IfErr result (λ end. Closed moves old new sa sb ma mb (reading a remains) total end)
+    went_end old new sa sb ma mb a b total (Ok x) went = tt
+    went_end old new sa sb ma mb a b total (Err end) went = went
+
+held_if : (broken : Refused) (P Q : Type 0) → (P → Q) → IfServed broken P → IfServed broken Q
+held_if not_built P Q f p = tt
+held_if not_a_month P Q f p = f p
+held_if bad_bucket_name P Q f p = f p
+held_if bad_key P Q f p = f p
+held_if (flawed flaw) P Q f p = f p
+
+-- what is held behind an item
+pub held_back : (heard : Heard) (now : Held) (left : Option (List ℕ)) → OnItem {E = Stop} (Ok heard) (length now.bytes ≤ head_room)
+    → OnItem {E = Stop} (Ok heard) (IsHeldBack (prepend_known now.bytes left) left)
+held_back (heards.Asked ask last) now left short = (now.bytes, short, refl)
+held_back (heards.Bad bad last) now left short = held_if (refused_of bad) (length now.bytes ≤ head_room) (IsHeldBack (prepend_known now.bytes left) left) (λ few. (now.bytes, few, refl)) short
+held_back heards.End now left short = tt
 
 -- a refusal after which the session goes on was an item
 pub item_refused : (a b : Option (List ℕ)) (broken : Refused) (last : Bool) (result : Result Unit SessionEnd) (P : Type 0) → TellsRefused a broken last b → IfServed broken P

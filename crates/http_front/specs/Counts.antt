@@ -1,7 +1,7 @@
 -- How many bytes a source gives in all.
-use Rattle.std.specs.Prelude.{◌≡◌, ℕ, ◌+◌, ◌<◌, List, ◌++◌, length, Option, Some, None, option_map, ⊤}
-use Rattle.std.specs.Io.KnownBytes.{Consumes}
-use Rattle.http_wire.specs.Held.{take_limit}
+use Rattle.std.specs.Prelude.{◌≡◌, ℕ, ◌+◌, ◌<◌, ◌≤◌, List, ◌++◌, length, Option, Some, None, option_map, ⊤}
+use Rattle.std.specs.Io.KnownBytes.{Consumes, prepend_known}
+use Rattle.http_wire.specs.Held.{head_room, take_limit}
 use Rattle.http_wire.specs.Messages.{IsUnsettled}
 
 -- the source gave so many bytes
@@ -31,3 +31,23 @@ abbrev pub IsSpent : Option ℕ → Option (List ℕ) → Type 0
 IsSpent None rest = ⊤
 IsSpent (Some total) None = ⊥
 IsSpent (Some total) (Some rest) = Spends total rest
+
+-- it is not so that as many bytes as the limit were taken, and their front settles nothing
+abbrev pub IsUnspent : Option ℕ → Option (List ℕ) → Type 0
+IsUnspent None rest = ⊤
+IsUnspent (Some total) None = ⊤
+IsUnspent (Some total) (Some rest) = ¬ (Spends total rest)
+
+-- ---- what is left of a source
+
+-- what a source has left at the start of a session, and at its end, where it tells
+pub record Reading : Type 0 where
+  pub stream : Option (List ℕ)
+  pub left : Option (List ℕ)
+
+abbrev pub reading : Option (List ℕ) → Option (List ℕ) → Reading
+reading stream left = record { stream = stream; left = left }
+
+-- of this rest of a stream no more than a head's room was taken
+abbrev pub IsHeldBack : Option (List ℕ) → Option (List ℕ) → Type 0
+IsHeldBack rest left = (held : List ℕ) × (length held ≤ head_room) × (rest ≡ prepend_known held left)

@@ -9,7 +9,7 @@ use Rattle.desk_core.specs.declared.fault.DeskFault.TheVariants.{NoMemory}
 use Rattle.http_asks.specs.Streams.{StandsUnbuilt}
 use Rattle.http_front.specs.declared.answering.SessionEnd.{SessionEnd}
 use Rattle.http_front.specs.declared.answering.SessionEnd.TheVariants as ends
-use Rattle.http_front.specs.Counts.{IsUnder, IsSpent}
+use Rattle.http_front.specs.Counts.{IsUnder, IsSpent, IsUnspent, Reading, IsHeldBack}
 use Rattle.http_front.specs.Exchanges.{Exchange, answered, calls_of, moments_of, Hears}
 use Rattle.http_front.specs.Texts.{exchange_text, texts, not_built_text, no_memory_text}
 
@@ -50,14 +50,14 @@ abbrev pub IsWritten : Option ℕ → SessionEnd → List Exchange → List Exch
 IsWritten total ends.Ended exchanges whole rest closed written =
     (whole ≡ exchanges) × (
     ((closed ≡ true) × (written ≡ texts exchanges))
-    ⊎ ((closed ≡ false) × ((IsAtEnd rest × IsUnder total × (written ≡ texts exchanges)) ⊎ (StandsUnbuilt rest × (written ≡ texts exchanges ++ not_built_text))))
+    ⊎ ((closed ≡ false) × ((IsAtEnd rest × IsUnder total × (written ≡ texts exchanges)) ⊎ (StandsUnbuilt rest × IsUnspent total rest × (written ≡ texts exchanges ++ not_built_text))))
     )
 IsWritten total ends.ReadFault exchanges whole rest closed written = (whole ≡ exchanges) × (closed ≡ false) × (written ≡ texts exchanges)
 IsWritten total ends.Spent exchanges whole rest closed written = (whole ≡ exchanges) × (closed ≡ false) × IsSpent total rest × (written ≡ texts exchanges)
 IsWritten total ends.WriteFault exchanges whole rest closed written =
     IsCut exchanges whole written
     ⊎ ((whole ≡ exchanges) × (closed ≡ false) × (
-    ((n : ℕ) × StandsUnbuilt rest × (written ≡ texts exchanges ++ take n not_built_text)) ⊎ ((n : ℕ) × (written ≡ texts exchanges ++ take n no_memory_text))
+    ((n : ℕ) × StandsUnbuilt rest × IsUnspent total rest × (written ≡ texts exchanges ++ take n not_built_text)) ⊎ ((n : ℕ) × (written ≡ texts exchanges ++ take n no_memory_text))
     ))
 IsWritten total ends.NoMemory exchanges whole rest closed written =
     (whole ≡ exchanges) × (
@@ -68,17 +68,19 @@ IsWritten total ends.NoMemory exchanges whole rest closed written =
 -- ---- a session
 
 module _ {T : Type 0} (moves : T → Ask → Result Answer DeskFault → T → Type 0) where
-  -- A session over this stream: the messages that it heard, each with what the teller answered or as a refusal, whether
+  -- A session over what was read: the messages that it heard, each with what the teller answered or as a refusal, whether
   -- the last one closed it, and what was said, with the disk's moments of the answers that were said whole.
-  pub record Session (old new : T) (said_old said_new moments_old moments_new stream : Option (List ℕ)) (end : SessionEnd) : Type 0 where
+  pub record Session (old new : T) (said_old said_new moments_old moments_new : Option (List ℕ)) (read : Reading) (end : SessionEnd) : Type 0 where
     pub exchanges : List Exchange
     pub moved : Moves moves old (calls_of exchanges) new
     pub rest : Option (List ℕ)
     pub closed : Bool
-    pub heard : Hears stream exchanges rest closed
+    pub heard : Hears read.stream exchanges rest closed
     pub whole : List Exchange
     pub written : List ℕ
     pub said : Appends said_old said_new written
     pub stamped : Appends moments_old moments_new (moments_of whole)
-    pub is_written : IsWritten (option_map length stream) end exchanges whole rest closed written
+    pub is_written : IsWritten (option_map length read.stream) end exchanges whole rest closed written
     pub lacked : LacksBy end exchanges
+    -- behind a message that closes it nothing is read but what was held with it
+    pub behind : closed ≡ true → IsHeldBack rest read.left

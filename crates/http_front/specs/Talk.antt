@@ -1,5 +1,5 @@
 -- Parts of a session: messages that were answered, and the end of a session that may have begun before.
-use Rattle.std.specs.Prelude.{◌≡◌, ◌⊎◌, ℕ, Bool, false, List, take, Option, Result, Ok, Err}
+use Rattle.std.specs.Prelude.{◌≡◌, ◌⊎◌, ℕ, Bool, true, false, List, take, Option, Result, Ok, Err}
 use Rattle.std.specs.Io.KnownBytes.{Appends}
 use Rattle.office_types.specs.declared.command.Ask.{Ask}
 use Rattle.desk_core.specs.Answers.{Answer}
@@ -9,6 +9,7 @@ use Rattle.desk_core.specs.declared.fault.DeskFault.TheVariants as faults
 use Rattle.http_asks.specs.Meaning.{Refused}
 use Rattle.http_front.specs.declared.answering.SessionEnd.{SessionEnd}
 use Rattle.http_front.specs.declared.answering.SessionEnd.TheVariants as ends
+use Rattle.http_front.specs.Counts.{Reading, reading, IsHeldBack}
 use Rattle.http_front.specs.Exchanges.{Exchange, calls_of, moment_of, moments_of, Hears}
 use Rattle.http_front.specs.Session.{IsWritten, NoneLacks, LacksBy}
 use Rattle.http_front.specs.Texts.{text_of, bad_text, no_memory_text, texts}
@@ -54,20 +55,21 @@ module _ {T : Type 0} (moves : T → Ask → Result Answer DeskFault → T → T
     pub enough : NoneLacks (calls_of exchanges)
 
   -- The same up to the end of the session, whose source has so many bytes in all.
-  pub record Closed (old new : T) (said_old said_new moments_old moments_new stream : Option (List ℕ)) (total : Option ℕ) (end : SessionEnd) : Type 0 where
+  pub record Closed (old new : T) (said_old said_new moments_old moments_new : Option (List ℕ)) (read : Reading) (total : Option ℕ) (end : SessionEnd) : Type 0 where
     pub exchanges : List Exchange
     pub moved : Moves moves old (calls_of exchanges) new
     pub rest : Option (List ℕ)
     pub closed : Bool
-    pub heard : Hears stream exchanges rest closed
+    pub heard : Hears read.stream exchanges rest closed
     pub whole : List Exchange
     pub written : List ℕ
     pub said : Appends said_old said_new written
     pub stamped : Appends moments_old moments_new (moments_of whole)
     pub is_written : IsWritten total end exchanges whole rest closed written
     pub lacked : LacksBy end exchanges
+    pub behind : closed ≡ true → IsHeldBack rest read.left
 
   -- how a message went: the session goes on, or it ends
-  abbrev pub Went : T → T → Option (List ℕ) → Option (List ℕ) → Option (List ℕ) → Option (List ℕ) → Option (List ℕ) → Option (List ℕ) → Option ℕ → Result Unit SessionEnd → Type 0
-  Went old new said_old said_new moments_old moments_new stream rest total (Ok x) = Talked old new said_old said_new moments_old moments_new stream rest
-  Went old new said_old said_new moments_old moments_new stream rest total (Err end) = Closed old new said_old said_new moments_old moments_new stream total end
+  abbrev pub Went : T → T → Option (List ℕ) → Option (List ℕ) → Option (List ℕ) → Option (List ℕ) → Reading → Option (List ℕ) → Option ℕ → Result Unit SessionEnd → Type 0
+  Went old new said_old said_new moments_old moments_new read rest total (Ok x) = Talked old new said_old said_new moments_old moments_new read.stream rest
+  Went old new said_old said_new moments_old moments_new read rest total (Err end) = Closed old new said_old said_new moments_old moments_new read total end

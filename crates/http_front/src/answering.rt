@@ -7,7 +7,7 @@ ghost use Rattle.http_wire.specs.Held.{take_limit};
 ghost use Rattle.http_asks.specs.Counts.{Given};
 ghost use Rattle.http_asks.specs.Faults.{refused_of};
 ghost use Rattle.http_asks.specs.Tells.{Tells, OnItem};
-ghost use Rattle.http_front.specs.Counts.{IsUnder, total_of};
+ghost use Rattle.http_front.specs.Counts.{IsUnder, IsUnspent, IsHeldBack, reading, total_of};
 ghost use Rattle.http_front.specs.Talk.{IsSaid, IsRefusedBy, Answers, Talked, Closed, Went};
 ghost use Rattle.http_front.specs.Texts.{bad_text_of, no_memory_text};
 
@@ -188,8 +188,9 @@ fn answer_heard<W: Replies, T: Teller>(
     teller: &mut T,
 ) -> Result<(), SessionEnd>
     requires room { 16384 ≤ length room.old }
-    ensures went { (stream rest : Option (List ℕ)) (total : Option ℕ) → Tells stream heard rest → (heard ≡ Heard.End → IsUnder total)
-        → Went T.moves teller.old teller.new (W.said out.old) (W.said out.new) (W.moments out.old) (W.moments out.new) stream rest total result }
+    ensures went { (stream rest left : Option (List ℕ)) (total : Option ℕ) → Tells stream heard rest
+        → (heard ≡ Heard.End → IsUnder total) → IsUnspent total stream → OnItem {E = Stop} (Ok heard) (IsHeldBack rest left)
+        → Went T.moves teller.old teller.new (W.said out.old) (W.said out.new) (W.moments out.old) (W.moments out.new) (reading stream left) rest total result }
     ensures item { (stream rest : Option (List ℕ)) (few many : ℕ) → Tells stream heard rest → OnItem {E = Stop} (Ok heard) (few < many) → OnOk result (few < many) }
     ensures room { 16384 ≤ length room.new }
     ensures texts { W.texts out.new ≡ W.texts out.old }
@@ -225,7 +226,7 @@ pub(crate) fn answer_one<R: Source, W: Replies, T: Teller>(
     ensures goes_on { OnOk result (Talked T.moves teller.old teller.new (W.said out.old) (W.said out.new) (W.moments out.old) (W.moments out.new)
         (prepend_known reader.old.bytes (R.left source.old)) (prepend_known reader.new.bytes (R.left source.new))) }
     ensures closed { IfErr result (λ end. Closed T.moves teller.old teller.new (W.said out.old) (W.said out.new) (W.moments out.old) (W.moments out.new)
-        (prepend_known reader.old.bytes (R.left source.old)) (total_of reader.old.taken (R.left source.old)) end) }
+        (reading (prepend_known reader.old.bytes (R.left source.old)) (R.left source.new)) (total_of reader.old.taken (R.left source.old)) end) }
     ensures room { 16384 ≤ length room.new }
     ensures given { Given reader.old.taken reader.new.taken (R.left source.old) (R.left source.new) }
     ensures limit { reader.new.taken ≤ take_limit }

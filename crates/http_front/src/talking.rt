@@ -4,7 +4,7 @@ ghost use Rattle.std.specs.Io.KnownBytes.{prepend_known};
 ghost use Rattle.office_base.specs.Faults.{Rose};
 ghost use Rattle.http_wire.specs.Held.{take_limit};
 ghost use Rattle.http_asks.specs.Counts.{Given};
-ghost use Rattle.http_front.specs.Counts.{Gave, total_of};
+ghost use Rattle.http_front.specs.Counts.{Gave, reading, total_of};
 ghost use Rattle.http_front.specs.Session.{Session};
 ghost use Rattle.http_front.specs.Talk.{Closed};
 
@@ -29,7 +29,7 @@ fn go_on<R: Source, W: Replies, T: Teller>(
     requires room { 16384 ≤ length room.old }
     requires limit { reader.old.taken ≤ take_limit }
     ensures closed { Closed T.moves teller.old teller.new (W.said out.old) (W.said out.new) (W.moments out.old) (W.moments out.new)
-        (prepend_known reader.old.bytes (R.left source.old)) (total_of reader.old.taken (R.left source.old)) result }
+        (reading (prepend_known reader.old.bytes (R.left source.old)) (R.left source.new)) (total_of reader.old.taken (R.left source.old)) result }
     ensures given { Given reader.old.taken reader.new.taken (R.left source.old) (R.left source.new) }
     ensures limit { reader.new.taken ≤ take_limit }
     ensures texts { W.texts out.new ≡ W.texts out.old }
@@ -61,7 +61,8 @@ pub fn session<R: Source, W: Replies, T: Teller>(
     out: &mut W,
     teller: &mut T,
 ) -> SessionEnd
-    ensures session { Session T.moves teller.old teller.new (W.said out.old) (W.said out.new) (W.moments out.old) (W.moments out.new) (R.left source.old) result }
+    ensures session { Session T.moves teller.old teller.new (W.said out.old) (W.said out.new) (W.moments out.old) (W.moments out.new)
+        (reading (R.left source.old) (R.left source.new)) result }
     ensures taken { (n : ℕ) × (n ≤ take_limit) × Gave (R.left source.old) (R.left source.new) n }
     ensures texts { W.texts out.new ≡ W.texts out.old }
     ensures noted { W.noted out.new ≡ W.noted out.old }

@@ -14,6 +14,7 @@ use Rattle.desk_core.proofs.Following.{Step, Path, stale_rose}
 use Rattle.desk_core.proofs.Runs.{answers_calls, ends_stale}
 use Rattle.desk_core.proofs.Standing.{still_true}
 use Rattle.http_front.specs.declared.replies.Replies as sinks
+use Rattle.http_front.specs.Counts.{Reading}
 use Rattle.http_front.specs.Exchanges.{calls_of, moments_of}
 use Rattle.http_front.specs.Session.{Session}
 use Rattle.http_front.specs.declared.answering.SessionEnd.{SessionEnd}
@@ -36,13 +37,13 @@ module _ {D C W : Type 0} (d : disks.Ghosts D) (k : clocks.Ghosts C) (w : sinks.
     (counts_now : (disk : D) (t : ℕ) → t ≤ d.moment disk → d.had_since disk t (d.state disk))
     (only_now : (disk : D) (s : State) → d.had_since disk (d.moment disk) s → s ≡ d.state disk)
     (own : IsTrue d.honest → (disk : D) → IsImage (d.state disk).journal (d.state disk).journal.seen) where
-  pub stream_answered : (disk : D) (clock : C) (old new : DeskView D C) (out_old out_mid out_new : W) (stream : Option (List ℕ)) (end : SessionEnd) (stale : Bool) (status : ℕ)
+  pub stream_answered : (disk : D) (clock : C) (old new : DeskView D C) (out_old out_mid out_new : W) (read : Reading) (end : SessionEnd) (stale : Bool) (status : ℕ)
       → Opens d.honest d.state d.moment d.had_since d.fault_count disk clock journal_limit old
-      → Session (Step d k) old new (w.said out_old) (w.said out_mid) (w.moments out_old) (w.moments out_mid) stream end
+      → Session (Step d k) old new (w.said out_old) (w.said out_mid) (w.moments out_old) (w.moments out_mid) read end
       → IsSilent w out_mid out_new → w.texts out_mid ≡ w.texts out_old → w.noted out_mid ≡ w.noted out_old → (end ≡ ends.WriteFault → Rose (w.faults out_old) (w.faults out_mid))
       → IsNoted w out_mid out_new (end_note end stale) → stale ≡ new.stale → status ≡ status_of end stale
-      → AnswersStream d k w stream (around disk clock out_old) (around new.disk new.clock out_new) status
-  stream_answered disk clock old new out_old out_mid out_new stream end stale status opens s silent same_texts same_noted lost note stale_new is =
+      → AnswersStream d k w read (around disk clock out_old) (around new.disk new.clock out_new) status
+  stream_answered disk clock old new out_old out_mid out_new read end stale status opens s silent same_texts same_noted lost note stale_new is =
       let calls = calls_of s.exchanges in
       let stale_end : stale ≡ stale_by false calls = stale_new ∙ ends_stale d k counts_now only_now own disk clock journal_limit old new calls opens s.moved in
       record {
@@ -58,6 +59,7 @@ module _ {D C W : Type 0} (d : disks.Ghosts D) (k : clocks.Ghosts C) (w : sinks.
         stamped = subst (λ (x : Option (List ℕ)). Appends (w.moments out_old) x (moments_of s.whole)) (sym silent.1) s.stamped;
         is_written = s.is_written;
         lacked = s.lacked;
+        behind = s.behind;
         no_text = silent.2 ∙ same_texts;
         status_is = subst (λ (b : Bool). status ≡ status_of end b) stale_end is;
         note = record {

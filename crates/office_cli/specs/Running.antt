@@ -1,5 +1,5 @@
 -- What the commands of the program do.
-use Rattle.std.specs.Prelude.{◌≡◌, ◌⊎◌, ℕ, ◌-◌, ◌^◌, ◌<◌, ◌≤◌, ◌+◌, ◌*◌, min, Bool, false, List, [], ◌∷◌, length, Option, option_map, IsTrue}
+use Rattle.std.specs.Prelude.{◌≡◌, ◌⊎◌, ℕ, ◌-◌, ◌^◌, ◌<◌, ◌≤◌, ◌+◌, ◌*◌, min, Bool, true, false, List, [], ◌∷◌, length, Option, option_map, IsTrue}
 use Rattle.std.specs.Io.KnownBytes.{Appends}
 use Rattle.moments.specs.Time.{end_of_time}
 use Rattle.office_base.specs.Faults.{Rose}
@@ -11,6 +11,7 @@ use Rattle.desk_core.specs.declared.clock.Clock as clocks
 use Rattle.desk_core.specs.Breaking.{OpenFails}
 use Rattle.desk_core.specs.Runs.{Outside, outside, AnswersCalls, stale_by}
 use Rattle.http_front.specs.declared.replies.Replies as sinks
+use Rattle.http_front.specs.Counts.{Reading, IsHeldBack}
 use Rattle.http_front.specs.Exchanges.{Exchange, calls_of, moments_of, Hears}
 use Rattle.http_front.specs.Session.{IsWritten, LacksBy}
 use Rattle.http_front.specs.declared.answering.SessionEnd.{SessionEnd}
@@ -72,19 +73,20 @@ module _ {D C W : Type 0} (d : disks.Ghosts D) (k : clocks.Ghosts C) (w : sinks.
 
   -- The office was opened: the messages of the stream, in order, were asked or refused; the office answered the calls that asked
   -- them, and what was said are their texts, with the disk's moments of the answers that were said whole.
-  pub record AnswersStream (stream : Option (List ℕ)) (old new : Surroundings D C W) (status : ℕ) : Type 0 where
+  pub record AnswersStream (read : Reading) (old new : Surroundings D C W) (status : ℕ) : Type 0 where
     pub exchanges : List Exchange
     pub answers : AnswersCalls d k journal_limit (under old) (under new) (calls_of exchanges)
     pub rest : Option (List ℕ)
     pub closed : Bool
-    pub heard : Hears stream exchanges rest closed
+    pub heard : Hears read.stream exchanges rest closed
     pub end : SessionEnd
     pub whole : List Exchange
     pub written : List ℕ
     pub said_all : Appends (w.said old.out) (w.said new.out) written
     pub stamped : Appends (w.moments old.out) (w.moments new.out) (moments_of whole)
-    pub is_written : IsWritten (option_map length stream) end exchanges whole rest closed written
+    pub is_written : IsWritten (option_map length read.stream) end exchanges whole rest closed written
     pub lacked : LacksBy end exchanges
+    pub behind : closed ≡ true → IsHeldBack rest read.left
     pub no_text : w.texts new.out ≡ w.texts old.out
     pub status_is : status ≡ status_of end (stale_by false (calls_of exchanges))
     pub note : EndsWithNote w old.out new.out status (end_note end (stale_by false (calls_of exchanges)))
@@ -133,9 +135,9 @@ module _ {D C W : Type 0} (d : disks.Ghosts D) (k : clocks.Ghosts C) (w : sinks.
         × (answers (around old.disk clock old.out) new status ⊎ (Refuses (around old.disk clock old.out) new status × left_alone)))
         ⊎ ((end_of_time ≤ first) × Ends (around old.disk clock old.out) new status × left_alone)
 
-  -- what `run` does with the messages of a stream, or leaves its source alone
-  abbrev pub Runs : Type 0 → Option (List ℕ) → Surroundings D C W → Surroundings D C W → ℕ → Type 0
-  Runs left_alone stream = Starts left_alone (AnswersStream stream)
+  -- what `run` does with the messages of a stream that it reads, or leaves alone
+  abbrev pub Runs : Type 0 → Reading → Surroundings D C W → Surroundings D C W → ℕ → Type 0
+  Runs left_alone read = Starts left_alone (AnswersStream read)
 
   -- what `serve` does with connections of a port, or leaves it alone
   abbrev pub Serves : Type 0 → (WorkerEnd → Log → Type 0) → Surroundings D C W → Surroundings D C W → ℕ → Type 0

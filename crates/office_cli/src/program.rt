@@ -1,7 +1,7 @@
 // The program over any source, replies, disk, clock and port.
 ghost use Rattle.std.specs.Prelude.{◌≡◌, ◌≤◌, ◌⊎◌, ℕ, List, Some, None, false, IsSome, IsTrue, map, string_bytes};
 ghost use Rattle.http_wire.specs.Held.{take_limit};
-ghost use Rattle.http_front.specs.Counts.{Gave};
+ghost use Rattle.http_front.specs.Counts.{Gave, reading};
 ghost use Rattle.office_base.specs.Faults.{Rose};
 ghost use Rattle.disk_core.specs.Moments.{KeepsTo};
 ghost use Rattle.office_types.specs.declared.command.Entry.{Entry};
@@ -105,7 +105,8 @@ where
 
     // What run does.
     ensures run { asked (map string_bytes words.now) ≡ Some run_line
-        → Runs D.Disk C.Clock W.Replies (input.new ≡ input.old) (S.left input.old) (around disk clock out.old)
+        → Runs D.Disk C.Clock W.Replies (input.new ≡ input.old)
+        (reading (S.left input.old) (S.left input.new)) (around disk clock out.old)
         (around result.disk result.clock out.new) result.status
         ⊎ (IsUnread W.Replies (around disk clock out.old) (around result.disk result.clock out.new) result.status
         × (input.new ≡ input.old) × (port.new ≡ port.old)) }

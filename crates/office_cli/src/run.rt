@@ -7,7 +7,7 @@ ghost use Rattle.http_wire.specs.Held.{take_limit};
 ghost use Rattle.office_types.specs.declared.command.Entry.{Entry};
 ghost use Rattle.desk_core.specs.Histories.{HasAcceptedHistory};
 ghost use Rattle.desk_core.specs.Opening.{Opens};
-ghost use Rattle.http_front.specs.Counts.{Gave};
+ghost use Rattle.http_front.specs.Counts.{Gave, reading};
 ghost use Rattle.office_cli.specs.Lines.{fault_status, fault_note, IsSessionStatus, IsRunStatus};
 ghost use Rattle.office_cli.specs.Running.{journal_limit, around, IsNoted, IsSilent, AnswersStream, Refuses, Ends, Runs};
 
@@ -41,7 +41,7 @@ fn answer<S: Source, W: Replies, D: Disk + Drop, C: Clock + Drop>(
 
     ensures answers { (disk : D) (clock : C)
         → Opens D.honest D.state D.moment D.had_since D.fault_count disk clock journal_limit desk
-        → AnswersStream D.Disk C.Clock W.Replies (S.left input.old) (around disk clock out.old)
+        → AnswersStream D.Disk C.Clock W.Replies (reading (S.left input.old) (S.left input.new)) (around disk clock out.old)
         (around result.disk result.clock out.new) result.status }
     ensures later { (S.faults input.old ≤ S.faults input.new) × (W.faults out.old ≤ W.faults out.new)
         × (D.fault_count desk.disk ≤ D.fault_count result.disk) }
@@ -95,7 +95,7 @@ fn work<S: Source, W: Replies, D: Disk + Drop, C: Clock + Drop>(
     disk: D,
     clock: C,
 ) -> End<D, C>
-    ensures works { AnswersStream D.Disk C.Clock W.Replies (S.left input.old) (around disk clock out.old)
+    ensures works { AnswersStream D.Disk C.Clock W.Replies (reading (S.left input.old) (S.left input.new)) (around disk clock out.old)
         (around result.disk result.clock out.new) result.status
         ⊎ (Refuses D.Disk C.Clock W.Replies (around disk clock out.old) (around result.disk result.clock out.new)
         result.status × (input.new ≡ input.old)) }
@@ -155,8 +155,8 @@ pub(crate) fn run<S: Source, W: Replies, D: Disk + Drop, C: Clock + Drop>(
     disk: D,
     mut clock: C,
 ) -> End<D, C>
-    ensures runs { Runs D.Disk C.Clock W.Replies (input.new ≡ input.old) (S.left input.old)
-        (around disk clock out.old) (around result.disk result.clock out.new) result.status }
+    ensures runs { Runs D.Disk C.Clock W.Replies (input.new ≡ input.old)
+        (reading (S.left input.old) (S.left input.new)) (around disk clock out.old) (around result.disk result.clock out.new) result.status }
     ensures sound { IsTrue D.honest → (history : List Entry)
         → HasAcceptedHistory history (D.state disk).journal.seen → result.status ≡ 5 → ⊥ }
     ensures no_text { W.texts out.new ≡ W.texts out.old }

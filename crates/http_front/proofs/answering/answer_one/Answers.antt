@@ -1,7 +1,7 @@
 use Rattle.std.proofs.Common.{◌+◌, length, ap, Ok, Err}
 use Rattle.std.specs.Io.KnownBytes.{prepend_known}
 use Rattle.http_front.specs.Counts.{total_of}
-use Rattle.http_front.proofs.TalkLemmas.{last_stop, under_limit, spent_here, went_on, went_end}
+use Rattle.http_front.proofs.TalkLemmas.{last_stop, under_limit, unspent_here, held_back, spent_here, went_on, went_end}
 use Rattle.http_front.proofs.answering.answer_one.Goals as goal
 
 pub returns-in-Ok-clause-goes_on : goal.returns-in-Ok-clause-goes_on
@@ -12,10 +12,12 @@ returns-in-Ok-clause-goes_on g c =
     let before = prepend_known c.args.reader.now.bytes (left c.args.source.now) in
     let after = prepend_known c.next.new.self.bytes (left c.next.new.source) in
     let total = total_of c.args.reader.now.taken (left c.args.source.now) in
-    went_on g.T.Teller.moves c.args.teller.now c.answer_heard.new.teller (said c.args.out.now) (said c.answer_heard.new.out) (moments c.args.out.now) (moments c.answer_heard.new.out) before after total c.answer_heard.result
-    (c.answer_heard.ensures.went before after total c.in-Ok.ensures.tells (λ is.
+    went_on g.T.Teller.moves (left c.next.new.source) c.args.teller.now c.answer_heard.new.teller (said c.args.out.now) (said c.answer_heard.new.out) (moments c.args.out.now) (moments c.answer_heard.new.out) before after total c.answer_heard.result
+    (c.answer_heard.ensures.went before after (left c.next.new.source) total c.in-Ok.ensures.tells (λ is.
     let end = c.in-Ok.ensures.at_end (ap Ok is) in
-    under_limit c.args.reader.now.taken c.next.new.self.taken (left c.args.source.now) (left c.next.new.source) c.in-Ok.ensures.given end.0 end.1))
+    under_limit c.args.reader.now.taken c.next.new.self.taken (left c.args.source.now) (left c.next.new.source) c.in-Ok.ensures.given end.0 end.1)
+    (unspent_here c.args.reader.now c.next.new.self (left c.args.source.now) (left c.next.new.source) c.in-Ok.ensures.enough c.next.ensures.limit)
+    (held_back c.in-Ok.heard c.next.new.self (left c.next.new.source) c.in-Ok.ensures.short))
 
 pub returns-in-Ok-clause-closed : goal.returns-in-Ok-clause-closed
 returns-in-Ok-clause-closed g c =
@@ -25,15 +27,17 @@ returns-in-Ok-clause-closed g c =
     let before = prepend_known c.args.reader.now.bytes (left c.args.source.now) in
     let after = prepend_known c.next.new.self.bytes (left c.next.new.source) in
     let total = total_of c.args.reader.now.taken (left c.args.source.now) in
-    went_end g.T.Teller.moves c.args.teller.now c.answer_heard.new.teller (said c.args.out.now) (said c.answer_heard.new.out) (moments c.args.out.now) (moments c.answer_heard.new.out) before after total c.answer_heard.result
-    (c.answer_heard.ensures.went before after total c.in-Ok.ensures.tells (λ is.
+    went_end g.T.Teller.moves (left c.next.new.source) c.args.teller.now c.answer_heard.new.teller (said c.args.out.now) (said c.answer_heard.new.out) (moments c.args.out.now) (moments c.answer_heard.new.out) before after total c.answer_heard.result
+    (c.answer_heard.ensures.went before after (left c.next.new.source) total c.in-Ok.ensures.tells (λ is.
     let end = c.in-Ok.ensures.at_end (ap Ok is) in
-    under_limit c.args.reader.now.taken c.next.new.self.taken (left c.args.source.now) (left c.next.new.source) c.in-Ok.ensures.given end.0 end.1))
+    under_limit c.args.reader.now.taken c.next.new.self.taken (left c.args.source.now) (left c.next.new.source) c.in-Ok.ensures.given end.0 end.1)
+    (unspent_here c.args.reader.now c.next.new.self (left c.args.source.now) (left c.next.new.source) c.in-Ok.ensures.enough c.next.ensures.limit)
+    (held_back c.in-Ok.heard c.next.new.self (left c.next.new.source) c.in-Ok.ensures.short))
 
 pub returns-in-Err-clause-closed : goal.returns-in-Err-clause-closed
 returns-in-Err-clause-closed g c =
     let left = g.R.Source.left in
-    last_stop g.T.Teller.moves c.args.teller.now (g.W.Replies.said c.args.out.now) (g.W.Replies.said c.say_stop.new.out) (g.W.Replies.moments c.args.out.now) (g.W.Replies.moments c.say_stop.new.out)
+    last_stop g.T.Teller.moves (left c.next.new.source) c.args.teller.now (g.W.Replies.said c.args.out.now) (g.W.Replies.said c.say_stop.new.out) (g.W.Replies.moments c.args.out.now) (g.W.Replies.moments c.say_stop.new.out)
     (prepend_known c.args.reader.now.bytes (left c.args.source.now)) (total_of c.args.reader.now.taken (left c.args.source.now)) c.in-Err.stop c.say_stop.result
     c.say_stop.ensures.moments c.say_stop.ensures.said c.say_stop.ensures.read_fault c.say_stop.ensures.spent
     (λ is.

@@ -41,7 +41,7 @@ returns-in-Err-clause-closed g c =
     let said = g.W.Replies.said in
     let moments = g.W.Replies.moments in
     let left = g.R.Source.left in
-    closed_then g.T.Teller.moves c.args.reader.now.taken c.talking.reader.taken (left c.args.source.now) (left c.talking.source) c.talking.invariant.given
+    closed_then g.T.Teller.moves (left c.answer_one.new.source) c.args.reader.now.taken c.talking.reader.taken (left c.args.source.now) (left c.talking.source) c.talking.invariant.given
     c.args.teller.now c.talking.teller c.answer_one.new.teller (said c.args.out.now) (said c.talking.out) (said c.answer_one.new.out) (moments c.args.out.now) (moments c.talking.out) (moments c.answer_one.new.out)
     (prepend_known c.args.reader.now.bytes (left c.args.source.now)) (prepend_known c.talking.reader.bytes (left c.talking.source)) c.in-Err.end
     c.talking.invariant.talked c.in-Err.ensures.closed

@@ -2,6 +2,7 @@ use Rattle.std.proofs.Common.{◌≡◌, ⊎_elim, inr, refl, Err, map, string_b
 use Rattle.command_line.specs.Lines.{line_of}
 use Rattle.command_line.specs.declared.line.CommandLine.{CommandLine}
 use Rattle.command_line.proofs.Ranges.{serve_in_range}
+use Rattle.http_front.specs.Counts.{reading}
 use Rattle.http_front.specs.Exchanges.{calls_of}
 use Rattle.serving.specs.Serving.{log_calls}
 use Rattle.office_cli.specs.Running.{around, AnswersStream, AnswersWorkers, Connects}
@@ -38,7 +39,7 @@ returns-in-Ok-Run-clause-sound g c tells sound =
     let d = g.D.Disk in
     let k = g.C.Clock in
     let w = g.W.Replies in
-    starts_sound d k w tells (c.run.new.input ≡ c.args.input.now) (AnswersStream d k w (g.S.Source.left c.args.input.now)) (λ old new status a. (calls_of a.exchanges, a.answers))
+    starts_sound d k w tells (c.run.new.input ≡ c.args.input.now) (AnswersStream d k w (reading (g.S.Source.left c.args.input.now) (g.S.Source.left c.run.new.input))) (λ old new status a. (calls_of a.exchanges, a.answers))
     (around c.args.disk c.args.clock c.args.out.now) (around c.run.result.disk c.run.result.clock c.run.new.out) c.run.result.status sound (c.sound_now.ensures.still tells sound) c.run.ensures.runs
 
 pub returns-in-Ok-Run-clause-complete : goal.returns-in-Ok-Run-clause-complete

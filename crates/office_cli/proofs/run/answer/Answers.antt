@@ -4,6 +4,7 @@ use Rattle.office_base.specs.Faults.{Rose}
 use Rattle.disk_core.specs.Files.{IsImage}
 use Rattle.disk_core.specs.declared.disk.FileNo.TheVariants.{Journal}
 use Rattle.desk_core.proofs.Following.{disk_later}
+use Rattle.http_front.specs.Counts.{reading}
 use Rattle.http_front.specs.Exchanges.{calls_of}
 use Rattle.office_cli.specs.Running.{around, AnswersStream, IsNoted}
 use Rattle.office_cli.proofs.Answering.{stream_answered, store_rose, zero_unnoted}
@@ -20,11 +21,12 @@ returns-clause-answers g c disk clock opens =
     let mid = c.session-end.new.out in
     let new = c.note_line.new.out in
     let desk = c.session-end.new.teller in
+    let read = reading (g.S.Source.left c.args.input.now) (g.S.Source.left c.session-end.new.source) in
     let note = subst (λ (t : List ℕ). IsNoted w mid new t) c.end_line.ensures c.note_line.ensures.noted in
-    let answers = stream_answered d k w m.counts_now m.only_now own disk clock c.args.desk desk c.args.out.now mid new (g.S.Source.left c.args.input.now) end c.store_failed-store.result c.end_status.result
+    let answers = stream_answered d k w m.counts_now m.only_now own disk clock c.args.desk desk c.args.out.now mid new read end c.store_failed-store.result c.end_status.result
     opens c.session-end.ensures.session c.note_line.ensures.silent c.session-end.ensures.texts c.session-end.ensures.noted c.session-end.ensures.write_fault note (c.store_failed-store.ensures c.finish-disk.ensures.saved ∙ c.stale-stale.ensures) c.end_status.ensures in
-    subst (λ (x : g.row.D.Denot). AnswersStream d k w (g.S.Source.left c.args.input.now) (around disk clock c.args.out.now) (around x c.finish-disk.result.1 new) c.end_status.result) (sym c.finish-disk.ensures.disk)
-    (subst (λ (x : g.row.C.Denot). AnswersStream d k w (g.S.Source.left c.args.input.now) (around disk clock c.args.out.now) (around desk.disk x new) c.end_status.result) (sym c.finish-disk.ensures.clock) answers)
+    subst (λ (x : g.row.D.Denot). AnswersStream d k w read (around disk clock c.args.out.now) (around x c.finish-disk.result.1 new) c.end_status.result) (sym c.finish-disk.ensures.disk)
+    (subst (λ (x : g.row.C.Denot). AnswersStream d k w read (around disk clock c.args.out.now) (around desk.disk x new) c.end_status.result) (sym c.finish-disk.ensures.clock) answers)
 
 pub returns-clause-later : goal.returns-clause-later
 returns-clause-later g c =
