@@ -11,6 +11,9 @@ ghost use Rattle.entry_codec.specs.Reading.{Finds};
 use office_base::{NameRefusal, NoMemory, Tags};
 use std::alloc::{AllocError, Global};
 
+// An object has no more tags.
+const MOST_TAGS: u8 = 10;
+
 pub(crate) fn u8_in(bytes: &[u8]) -> Option<(u8, &[u8])>
     ensures { option_map (λ x. (x.0, x.1.now)) result ≡ (number w8).front bytes.now }
 {
@@ -134,14 +137,14 @@ fn rise(pairs: &[(String, String)]) -> bool
     }
 }
 
-/// Tags: their number in a byte, at most 10, and the pairs, whose keys rise.
+// Tags: their number in a byte, and the pairs, whose keys rise.
 pub(crate) fn tags_in(alloc: Global, bytes: &[u8]) -> Result<Option<(Tags, &[u8])>, NoMemory>
     ensures { Finds (λ x. (x.0, x.1.now)) result ((format field.Tags).front bytes.now) }
 {
     let Some((count, rest)) = u8_in(bytes) else {
         return Ok(None);
     };
-    if count > 10 {
+    if count > MOST_TAGS {
         return Ok(None);
     }
     let Some((pairs, rest)) = pairs_in(alloc, count, rest)? else {

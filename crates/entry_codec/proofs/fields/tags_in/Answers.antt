@@ -8,27 +8,27 @@ use Rattle.entry_codec.proofs.fields.tags_in.Goals as goal
 pub returns-in_default : goal.returns-in_default
 returns-in_default c = no_count c.args.bytes.now (sym c.u8_in.ensures ∙ ap (option_map (λ x. (x.0, x.1.now))) c.in_default.is)
 
-pub returns-then-count-gt10 : goal.returns-then-count-gt10
-returns-then-count-gt10 c = large_count c.args.bytes.now c.in-Some.count c.in-Some.rest.now (sym c.in-Some.ensures) c.if-count-gt10.true
+pub returns-then-count-gt-MOST_TAGS : goal.returns-then-count-gt-MOST_TAGS
+returns-then-count-gt-MOST_TAGS c = large_count c.args.bytes.now c.in-Some.count c.in-Some.rest.now (sym c.in-Some.ensures) c.if-count-gt-MOST_TAGS.true
 
 pub returns-in_default-2 : goal.returns-in_default-2
 returns-in_default-2 c =
     let none : front_items tag c.in-Some.count c.in-Some.rest.now ≡ None = c.in_ok-pairs.ensures ∙ ap (option_map (λ x. (tags_of x.0.items, x.1.now))) c.in_default-2.is in
-    no_pairs c.args.bytes.now c.in-Some.count c.in-Some.rest.now (sym c.in-Some.ensures) c.if-count-gt10.false none
+    no_pairs c.args.bytes.now c.in-Some.count c.in-Some.rest.now (sym c.in-Some.ensures) c.if-count-gt-MOST_TAGS.false none
 
 pub returns-then-not-rise : goal.returns-then-not-rise
 returns-then-not-rise c =
     let some : front_items tag c.in-Some.count c.in-Some.rest.now ≡ Some (tags_of c.in-Some-2.pairs.items, c.in-Some-2.rest.now) =
     c.in_ok-pairs.ensures ∙ ap (option_map (λ x. (tags_of x.0.items, x.1.now))) c.in-Some-2.is in
     let falls : keys_rise (tags_of c.in-Some-2.pairs.items) ≡ false = search rules in
-    not_rising c.args.bytes.now c.in-Some.count c.in-Some.rest.now (tags_of c.in-Some-2.pairs.items) c.in-Some-2.rest.now (sym c.in-Some.ensures) c.if-count-gt10.false some falls
+    not_rising c.args.bytes.now c.in-Some.count c.in-Some.rest.now (tags_of c.in-Some-2.pairs.items) c.in-Some-2.rest.now (sym c.in-Some.ensures) c.if-count-gt-MOST_TAGS.false some falls
 
 pub returns-in-Ok : goal.returns-in-Ok
 returns-in-Ok c =
     let some : front_items tag c.in-Some.count c.in-Some.rest.now ≡ Some (tags_of c.in-Some-2.pairs.items, c.in-Some-2.rest.now) =
     c.in_ok-pairs.ensures ∙ ap (option_map (λ x. (tags_of x.0.items, x.1.now))) c.in-Some-2.is in
     let rise : keys_rise (tags_of c.in-Some-2.pairs.items) ≡ true = search rules in
-    rising c.args.bytes.now c.in-Some.count c.in-Some.rest.now (tags_of c.in-Some-2.pairs.items) c.in-Ok.tags c.in-Some-2.rest.now (sym c.in-Some.ensures) c.if-count-gt10.false some rise
+    rising c.args.bytes.now c.in-Some.count c.in-Some.rest.now (tags_of c.in-Some-2.pairs.items) c.in-Ok.tags c.in-Some-2.rest.now (sym c.in-Some.ensures) c.if-count-gt-MOST_TAGS.false some rise
     c.in-Ok.ensures.ok.0 c.in-Ok.ensures.ok.1
 
 pub returns-in_default-e : goal.returns-in_default-e
@@ -41,4 +41,4 @@ returns-in_default-e c =
       | inl bad ↦ c.in-Err.ensures.bad.0 cc
       | inr memory ↦ absurd (c.in_default-e.not-NoMemory memory)
     ] in
-    out_of_range c.args.bytes.now c.in-Some.count c.in-Some.rest.now (tags_of c.in-Some-2.pairs.items) c.in-Some-2.rest.now (sym c.in-Some.ensures) c.if-count-gt10.false some rise out
+    out_of_range c.args.bytes.now c.in-Some.count c.in-Some.rest.now (tags_of c.in-Some-2.pairs.items) c.in-Some-2.rest.now (sym c.in-Some.ensures) c.if-count-gt-MOST_TAGS.false some rise out
