@@ -1,4 +1,4 @@
-use Rattle.std.proofs.Common.{refl, sym, subst, List, Option}
+use Rattle.std.proofs.Common.{inl, refl, sym, subst, arith, List, Option}
 use Rattle.desk_core.specs.Asking.{Submits}
 use Rattle.serving.specs.Connections.{Connection}
 use Rattle.serving.specs.Serving.{Serves}
@@ -12,3 +12,12 @@ returns-in-Err-clause-serves g c =
     let told = g.P.Port.connections c.args.port.now in
     subst (λ (after : Option (List Connection)). Serves (Submits d.honest d.state d.moment d.had_since d.fault_count k.count k.last k.told) c.args.workers c.args.desk c.args.desk told after) (sym c.listen.ensures.connections)
     (none_serve (Submits d.honest d.state d.moment d.had_since d.fault_count k.count k.last k.told) c.args.workers c.args.desk c.args.desk told refl)
+
+pub returns-in-Err-clause-counts : goal.returns-in-Err-clause-counts
+returns-in-Err-clause-counts g c = record {
+  count = 0;
+  given = inl (refl, c.listen.ensures.given);
+  ended = inl (refl, c.listen.ensures.ended);
+  within = omega arith;
+  done = λ is. absurd (c.end_of.ensures.ended is);
+}
