@@ -1,8 +1,8 @@
 use super::*;
 use class_rules::Class;
 use moments::Moment;
-use office_base::{BucketName, Key, NoMemory, Size, Tags};
-use std::alloc::AllocError;
+use office_base::{BucketName, Key, Size, Tags};
+use std::alloc::{AllocError, Global};
 use std::test::Fail;
 
 // 2024-01-01 00:00 UTC.
@@ -31,6 +31,58 @@ fn bad(offset: u64) -> Option<EntryFault> {
     Some(EntryFault::BadEntry { offset })
 }
 
+// The fault of these bytes; none where they are an entry.
+fn fault_of(alloc: Global, bytes: &[u8]) -> Option<EntryFault> {
+    decode(alloc, bytes).err()
+}
+
+// The bytes of an entry at NEW_YEAR.
+fn written(alloc: Global, command: Command) -> Result<Vec<u8>, Fail> {
+    let moment = Moment::of(NEW_YEAR)?;
+    let entry = Entry { moment, command };
+    Ok(encode(alloc, &entry)?)
+}
+
+// Whether an act on the bucket `logs` is written.
+fn is_act_written(alloc: Global) -> Result<bool, Fail> {
+    let bucket = BucketName::read(alloc, "logs")?;
+    let moment = Moment::of(NEW_YEAR)?;
+    let command = Command::Act { bucket };
+    let entry = Entry { moment, command };
+    Ok(encode(alloc, &entry).is_ok())
+}
+
+// The bytes that are written of what was read from these.
+fn again(alloc: Global, bytes: &[u8]) -> Result<Vec<u8>, Fail> {
+    let entry = decode(alloc, bytes)?;
+    Ok(encode(alloc, &entry)?)
+}
+
+// A put of 1,000 bytes under the key `a` of the bucket `logs`.
+fn put_of(alloc: Global, class: Class, tags: Tags) -> Result<Command, Fail> {
+    let size = Size::of(1_000)?;
+    let bucket = BucketName::read(alloc, "logs")?;
+    let key = Key::read(alloc, b"a")?;
+    Ok(Command::Put {
+        bucket,
+        key,
+        size,
+        class,
+        tags,
+    })
+}
+
+fn pairs_of(alloc: Global) -> Result<Vec<(String, String)>, AllocError> {
+    let mut pairs = Vec::new(alloc);
+    for (key, value) in [("kind", "raw"), ("keep", "no")] {
+        pairs.push((
+            String::from_str(alloc, key)?,
+            String::from_str(alloc, value)?,
+        ))?;
+    }
+    Ok(pairs)
+}
+
 // The fault of an entry's bytes, with one of them changed and all behind an end cut off.
 fn fault(
     rt: &HostRuntime,
@@ -44,97 +96,41 @@ fn fault(
         *there = byte;
     }
     let shown = bytes.as_slice();
-    Ok(decode(rt.alloc(), shown.get(..end).unwrap_or(shown)).err())
+    Ok(fault_of(rt.alloc(), shown.get(..end).unwrap_or(shown)))
 }
 
 #[test]
-fn an_entry_is_written_and_read(rt: HostRuntime) -> Result<(), Fail> {
+fn a_bucket_is_written_and_read(rt: HostRuntime) -> Result<(), Fail> {
     let alloc = rt.alloc();
-    let entry = Entry {
-        moment: Moment::of(NEW_YEAR)?,
-        command: Command::CreateBucket {
-            bucket: BucketName::read(alloc, "logs")?,
-        },
-    };
+    let bucket = BucketName::read(alloc, "logs")?;
     let spelled: &[u8] = &LOGS[..15];
-    assert_eq!(rt; encode(alloc, &entry)?.as_slice(), spelled);
-    let again = decode(alloc, spelled)?;
-    assert_eq!(rt; again.moment.ms(), NEW_YEAR);
-    let Command::CreateBucket { bucket } = &again.command else {
-        panic!(rt; "another command");
-    };
-    assert_eq!(rt; bucket.text(), "logs");
+    assert_eq!(rt;
+        written(alloc, Command::CreateBucket { bucket })?.as_slice(),
+        spelled
+    );
+    assert_eq!(rt; again(alloc, spelled)?.as_slice(), spelled);
     Ok(())
 }
 
 #[test]
 fn a_put_is_written_and_read(rt: HostRuntime) -> Result<(), Fail> {
     let alloc = rt.alloc();
-    let entry = Entry {
-        moment: Moment::of(NEW_YEAR)?,
-        command: Command::Put {
-            bucket: BucketName::read(alloc, "logs")?,
-            key: Key::read(alloc, b"a")?,
-            size: Size::of(1_000)?,
-            class: Class::Standard,
-            tags: Tags::read(alloc, Vec::new(alloc))?,
-        },
-    };
+    let tags = Tags::read(alloc, Vec::new(alloc))?;
+    let command = put_of(alloc, Class::Standard, tags)?;
     let spelled: &[u8] = &A_PUT[..28];
-    assert_eq!(rt; encode(alloc, &entry)?.as_slice(), spelled);
-    let again = decode(alloc, spelled)?;
-    assert_eq!(rt; again.moment.ms(), NEW_YEAR);
-    let Command::Put {
-        bucket,
-        key,
-        size,
-        class,
-        tags,
-    } = &again.command
-    else {
-        panic!(rt; "another command");
-    };
-    assert_eq!(rt; bucket.text(), "logs");
-    assert_eq!(rt; key.bytes(), b"a".as_slice());
-    assert_eq!(rt; (size.bytes(), *class), (1_000, Class::Standard));
-    assert!(rt; tags.pairs().is_empty());
+    assert_eq!(rt; written(alloc, command)?.as_slice(), spelled);
+    assert_eq!(rt; again(alloc, spelled)?.as_slice(), spelled);
     Ok(())
 }
 
 #[test]
 fn tags_are_written_by_key(rt: HostRuntime) -> Result<(), Fail> {
     let alloc = rt.alloc();
-    let mut pairs = Vec::new(alloc);
-    for (key, value) in [("kind", "raw"), ("keep", "no")] {
-        pairs.push((
-            String::from_str(alloc, key)?,
-            String::from_str(alloc, value)?,
-        ))?;
-    }
-    let entry = Entry {
-        moment: Moment::of(NEW_YEAR)?,
-        command: Command::Put {
-            bucket: BucketName::read(alloc, "logs")?,
-            key: Key::read(alloc, b"a")?,
-            size: Size::of(1_000)?,
-            class: Class::Glacier,
-            tags: Tags::read(alloc, pairs)?,
-        },
-    };
+    let tags = Tags::read(alloc, pairs_of(alloc)?)?;
+    let command = put_of(alloc, Class::Glacier, tags)?;
     let spelled: &[u8] = &TAGGED[..49];
-    assert_eq!(rt; encode(alloc, &entry)?.as_slice(), spelled);
-    let again = decode(alloc, spelled)?;
-    let Command::Put { tags, .. } = &again.command else {
-        panic!(rt; "another command");
-    };
-    let mut read = tags.pairs().iter();
-    for (key, value) in [("keep", "no"), ("kind", "raw")] {
-        let Some(pair) = read.next() else {
-            panic!(rt; "no tag {key}");
-        };
-        assert_eq!(rt; (pair.0.as_str(), pair.1.as_str()), (key, value));
-    }
-    assert!(rt; read.next().is_none());
+    assert_eq!(rt; written(alloc, command)?.as_slice(), spelled);
+    assert_eq!(rt; again(alloc, spelled)?.as_slice(), spelled);
     Ok(())
 }
 
@@ -162,18 +158,29 @@ fn tags_in_and_out_of_range(rt: HostRuntime) -> Result<(), Fail> {
         let mut bytes = Vec::new(rt.alloc());
         bytes.extend_from_slice(&A_PUT[..27])?;
         bytes.extend_from_slice(behind)?;
-        assert_eq!(rt; decode(rt.alloc(), &bytes).err(), fault);
+        assert_eq!(rt; fault_of(rt.alloc(), &bytes), fault);
     }
+    Ok(())
+}
+
+#[test]
+fn ten_tags_at_most(rt: HostRuntime) -> Result<(), Fail> {
     // So many tags with the keys `a`, `b` and so on.
+    let names = b"abcdefghijk";
     for (count, fault) in [(10, None), (11, bad(27))] {
         let mut bytes = Vec::new(rt.alloc());
         bytes.extend_from_slice(&A_PUT[..27])?;
         bytes.push(count)?;
-        for n in 0..count {
-            bytes.extend_from_slice(&[0, 1, 0x61 + n, 0, 0])?;
+        for name in names.iter().take(count as usize) {
+            bytes.extend_from_slice(&[0, 1, *name, 0, 0])?;
         }
-        assert_eq!(rt; decode(rt.alloc(), &bytes).err(), fault, "{count} tags");
+        assert_eq!(rt; fault_of(rt.alloc(), &bytes), fault, "{count} tags");
     }
+    Ok(())
+}
+
+#[test]
+fn lengths_of_tags(rt: HostRuntime) -> Result<(), Fail> {
     // A key and a value of so many bytes `k`.
     let sizes: [([u8; 2], usize, [u8; 2], usize, Option<EntryFault>); 4] = [
         ([0, 0x80], 128, [1, 0], 256, None),
@@ -190,7 +197,7 @@ fn tags_in_and_out_of_range(rt: HostRuntime) -> Result<(), Fail> {
         bytes.extend_from_slice(&value)?;
         bytes.extend_from_slice(&vec![in rt.alloc(); 0x6b; value_size]?)?;
         assert_eq!(rt;
-            decode(rt.alloc(), &bytes).err(),
+            fault_of(rt.alloc(), &bytes),
             fault,
             "{key_size} {value_size}"
         );
@@ -201,13 +208,7 @@ fn tags_in_and_out_of_range(rt: HostRuntime) -> Result<(), Fail> {
 #[test]
 fn other_kinds_have_no_entry_yet(rt: HostRuntime) -> Result<(), Fail> {
     let alloc = rt.alloc();
-    let entry = Entry {
-        moment: Moment::of(NEW_YEAR)?,
-        command: Command::Act {
-            bucket: BucketName::read(alloc, "logs")?,
-        },
-    };
-    assert!(rt; matches!(encode(alloc, &entry), Err(NoMemory)));
+    assert_eq!(rt; is_act_written(alloc)?, false);
     for kind in 0..=255 {
         let mut bytes = LOGS;
         bytes[8] = kind;
@@ -216,7 +217,7 @@ fn other_kinds_have_no_entry_yet(rt: HostRuntime) -> Result<(), Fail> {
             5 => bad(15),
             _ => bad(8),
         };
-        assert_eq!(rt; decode(alloc, &bytes[..15]).err(), expected, "kind {kind}");
+        assert_eq!(rt; fault_of(alloc, &bytes[..15]), expected, "kind {kind}");
     }
     Ok(())
 }
@@ -312,15 +313,13 @@ fn every_class_by_its_rank(rt: HostRuntime) -> Result<(), Fail> {
         (4, Class::Glacier),
         (5, Class::DeepArchive),
     ];
-    for (place, class) in classes {
+    for (rank, class) in classes {
         let mut bytes = A_PUT;
-        bytes[26] = place;
-        let entry = decode(alloc, &bytes[..28])?;
-        let Command::Put { class: read, .. } = &entry.command else {
-            panic!(rt; "another command");
-        };
-        assert_eq!(rt; *read, class);
-        assert_eq!(rt; encode(alloc, &entry)?.as_slice(), &bytes[..28]);
+        bytes[26] = rank;
+        let tags = Tags::read(alloc, Vec::new(alloc))?;
+        let command = put_of(alloc, class, tags)?;
+        assert_eq!(rt; written(alloc, command)?.as_slice(), &bytes[..28]);
+        assert_eq!(rt; again(alloc, &bytes[..28])?.as_slice(), &bytes[..28]);
     }
     Ok(())
 }
@@ -339,7 +338,7 @@ fn sizes_up_to_the_largest(rt: HostRuntime) -> Result<(), Fail> {
         bytes.extend_from_slice(&A_PUT[..18])?;
         bytes.extend_from_slice(&size.to_be_bytes())?;
         bytes.extend_from_slice(&[0x00, 0x00])?;
-        assert_eq!(rt; decode(rt.alloc(), &bytes).err(), fault, "{size}");
+        assert_eq!(rt; fault_of(rt.alloc(), &bytes), fault, "{size}");
     }
     Ok(())
 }
@@ -361,11 +360,7 @@ fn keys_in_and_out_of_range(rt: HostRuntime) -> Result<(), Fail> {
         bytes.extend_from_slice(&len)?;
         bytes.extend_from_slice(&vec![in rt.alloc(); byte; count]?)?;
         bytes.extend_from_slice(&A_PUT[18..28])?;
-        assert_eq!(rt;
-            decode(rt.alloc(), &bytes).err(),
-            fault,
-            "{count} of {byte}"
-        );
+        assert_eq!(rt; fault_of(rt.alloc(), &bytes), fault, "{count} of {byte}");
     }
     Ok(())
 }

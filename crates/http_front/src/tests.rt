@@ -1,19 +1,15 @@
 use super::*;
 use desk_core::{Acked, Desk, DeskFault, ListClock};
 use disk_core::{Disk, FileNo, MemoryDisk};
-use http_text::put_answer;
 use meter_journal::OpenFault;
 use office_base::BucketName;
-use office_types::{Ask, Command, Refusal, Reply};
+use office_types::{Ask, Command};
 use std::alloc::Global;
 use std::process::Abort;
 use std::test::Fail;
 
 const MADE: &[u8] =
     b"HTTP/1.1 201 Created\r\ncontent-type: application/json\r\ncontent-length: 17\r\n\r\n{\"bucket\":\"logs\"}";
-
-const EXISTS: &[u8] =
-    b"HTTP/1.1 409 Conflict\r\ncontent-type: application/json\r\ncontent-length: 36\r\n\r\n{\"error\":\"BucketExists\",\"number\":80}";
 
 const FULL: &[u8] =
     b"HTTP/1.1 507 Insufficient Storage\r\ncontent-type: application/json\r\ncontent-length: 36\r\n\r\n{\"error\":\"JournalFull\",\"number\":113}";
@@ -111,21 +107,6 @@ const BAD: &[u8] =
 const GAP: &[u8] = b"\r\n\r\n";
 
 const ENDED: SessionEnd = SessionEnd::Ended;
-
-#[test]
-fn replies_are_printed_exactly(rt: HostRuntime) -> Result<(), Fail> {
-    let alloc = rt.alloc();
-    let bucket = BucketName::read(alloc, "logs")?;
-    for (reply, wanted) in [
-        (Ok(Reply::BucketMade { bucket }), MADE),
-        (Err(Refusal::BucketExists), EXISTS),
-    ] {
-        let mut room = [0u8; 200];
-        assert!(rt; put_answer(&mut room, &reply) == wanted.len());
-        assert!(rt; room.starts_with(wanted));
-    }
-    Ok(())
-}
 
 const ERROR: &[u8] = b"500 Internal Server Error";
 

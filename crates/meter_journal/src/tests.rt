@@ -1,4 +1,5 @@
 ghost use Rattle.std.specs.Prelude.{◌≤◌, ◌^◌, ℕ, List, IsTrue, IfOk, OnOk};
+ghost use Rattle.entry_codec.specs.Spelling.{IsEntry};
 ghost use Rattle.office_types.specs.declared.command.Entry.{Entry};
 ghost use Rattle.meter_journal.specs.History.{IsAtRest};
 
@@ -98,59 +99,111 @@ fn read_again<D: Disk>(alloc: Global, journal: &mut Journal<D>) -> Result<Option
     }
 }
 
+// The bytes of the entry that makes the bucket logs at 2024-01-01 00:00 UTC.
+fn entry_bytes(alloc: Global) -> Result<Vec<u8>, Fail>
+    ensures { IfOk result (λ bytes. IsEntry bytes.items) }
+{
+    let bucket = BucketName::read(alloc, "logs")?;
+    let entry = Entry {
+        moment: Moment::of(1_704_067_200_000)?,
+        command: Command::CreateBucket { bucket },
+    };
+    Ok(encode(alloc, &entry)?)
+}
+
+// Whether the journal, opened again, has an entry.
+fn has_entry<D: Disk>(alloc: Global, journal: &mut Journal<D>) -> Result<bool, OpenFault>
+    ensures { IsTrue D.honest → OnOk result ((head : List ℕ) × (entries : List Entry)
+        × IsAtRest head (D.state journal.new.disk) journal.new.gate entries) }
+{
+    match read_again(alloc, journal) {
+        Ok(read) => Ok(read.is_some()),
+        Err(fault) => Err(fault),
+    }
+}
+
 fn file_of(alloc: Global, bytes: &[u8]) -> Result<MemoryDisk, Fail> {
     let mut disk = MemoryDisk::new(alloc, Vec::new(alloc));
     disk.write_at(FileNo::Journal, 0, bytes)?;
     Ok(disk)
 }
 
+// Adds the entry to an empty journal with a limit, and tells the answer and the file.
+fn added(alloc: Global, limit: u64) -> Result<(Result<u64, AppendFault>, Vec<u8>), Fail>
+    requires { limit ≤ 2 ^ 45 }
+{
+    let bytes = entry_bytes(alloc)?;
+    let mut disk = MemoryDisk::new(alloc, Vec::new(alloc));
+    create(&mut disk)?;
+    let mut journal = empty_journal(alloc, disk, limit)?;
+    let answer = journal.append(&bytes);
+    let mut disk = journal.give_back();
+    let kept = read_all(alloc, &mut disk)?;
+    Ok((answer, kept))
+}
+
 #[test]
 fn an_entry_is_added_within_the_limit(rt: HostRuntime) -> Result<(), Fail> {
     let alloc = rt.alloc();
-    let bucket = BucketName::read(alloc, "logs")?;
-    let entry = Entry {
-        moment: Moment::of(1_704_067_200_000)?,
-        command: Command::CreateBucket { bucket },
-    };
-    let bytes = encode(alloc, &entry)?;
-    for (limit, answer, file) in [
-        (30, Err(AppendFault::JournalFull), &EMPTY[..]),
-        (31, Ok(30), &ONE[..]),
-    ] {
-        let mut disk = MemoryDisk::new(alloc, Vec::new(alloc));
-        assert_eq!(rt; create(&mut disk)?, Made::Now);
-        let mut journal = empty_journal(alloc, disk, limit)?;
-        assert_eq!(rt; journal.append(&bytes), answer, "limit {limit}");
-        let mut disk = journal.give_back();
-        let kept = read_all(alloc, &mut disk)?;
-        assert!(rt; kept.as_slice() == file, "limit {limit}");
-    }
+    let (answer, file) = added(alloc, 30)?;
+    assert_eq!(rt; answer, Err(AppendFault::JournalFull));
+    assert!(rt; file.as_slice() == &EMPTY[..]);
+    let (answer, file) = added(alloc, 31)?;
+    assert_eq!(rt; answer, Ok(30));
+    assert!(rt; file.as_slice() == &ONE[..]);
     Ok(())
+}
+
+// Adds the entry on a disk that fails at a call, opens the journal again, and adds the entry once more. Tells whether the
+// first one was there, the answer to the second, and the file.
+fn added_again(
+    alloc: Global,
+    failing: u64,
+) -> Result<(bool, Result<u64, AppendFault>, Vec<u8>), Fail> {
+    let bytes = entry_bytes(alloc)?;
+    let mut disk = MemoryDisk::new(alloc, vec![in alloc; failing]?);
+    create(&mut disk)?;
+    let mut journal = empty_journal(alloc, disk, 51)?;
+    if journal.append(&bytes).is_ok() {
+        return Err(Fail::from(OpenFault::StoreFault));
+    }
+    let found = has_entry(alloc, &mut journal)?;
+    let answer = journal.append(&bytes);
+    let mut disk = journal.give_back();
+    let kept = read_all(alloc, &mut disk)?;
+    Ok((found, answer, kept))
 }
 
 #[test]
 fn a_journal_is_opened_again_after_a_fault(rt: HostRuntime) -> Result<(), Fail> {
     let alloc = rt.alloc();
-    let bucket = BucketName::read(alloc, "logs")?;
-    let entry = Entry {
-        moment: Moment::of(1_704_067_200_000)?,
-        command: Command::CreateBucket { bucket },
-    };
-    let bytes = encode(alloc, &entry)?;
     // Of the calls of the disk, 18 is the first sync of the entry and 20 the second, with the gate open between them.
-    for (failing, found, place, file) in [(18, false, 30, &ONE[..]), (20, true, 50, &TWO[..])] {
-        let mut disk = MemoryDisk::new(alloc, vec![in alloc; failing]?);
-        assert_eq!(rt; create(&mut disk)?, Made::Now);
-        let mut journal = empty_journal(alloc, disk, 51)?;
-        assert_eq!(rt; journal.append(&bytes), Err(AppendFault::StoreFault));
-        let read = read_again(alloc, &mut journal)?;
-        assert_eq!(rt; read.is_some(), found, "call {failing}");
-        assert_eq!(rt; journal.append(&bytes), Ok(place), "call {failing}");
-        let mut disk = journal.give_back();
-        let kept = read_all(alloc, &mut disk)?;
-        assert!(rt; kept.as_slice() == file, "call {failing}");
-    }
+    let (found, answer, file) = added_again(alloc, 18)?;
+    assert_eq!(rt; found, false);
+    assert_eq!(rt; answer, Ok(30));
+    assert!(rt; file.as_slice() == &ONE[..]);
+    let (found, answer, file) = added_again(alloc, 20)?;
+    assert_eq!(rt; found, true);
+    assert_eq!(rt; answer, Ok(50));
+    assert!(rt; file.as_slice() == &TWO[..]);
     Ok(())
+}
+
+fn is_logs(command: &Command) -> bool {
+    match command {
+        Command::CreateBucket { bucket } => bucket.text() == "logs",
+        _ => false,
+    }
+}
+
+// What the frame at a gate says: its moment, whether it makes the bucket logs, and the next gate; none where the gate is
+// closed.
+fn told_at(alloc: Global, file: &[u8], gate: u64) -> Result<Option<(u64, bool, u64)>, OpenFault> {
+    match frame(alloc, file, gate) {
+        Ok(Some((entry, next))) => Ok(Some((entry.moment.ms(), is_logs(&entry.command), next))),
+        Ok(None) => Ok(None),
+        Err(fault) => Err(fault),
+    }
 }
 
 #[test]
@@ -164,22 +217,23 @@ fn a_file_is_what_its_bytes_say(rt: HostRuntime) -> Result<(), Fail> {
     ] {
         assert_eq!(rt; made(file), head);
     }
-    let Some((entry, next)) = frame(alloc, &ONE, 10)? else {
-        panic!(rt; "no entry");
-    };
-    assert_eq!(rt; entry.moment.ms(), 1_704_067_200_000);
-    let Command::CreateBucket { bucket } = &entry.command else {
-        panic!(rt; "no bucket");
-    };
-    assert_eq!(rt; bucket.text(), "logs");
-    assert_eq!(rt; next, 30);
-    assert!(rt; frame(alloc, &ONE, 30)?.is_none());
+    assert_eq!(rt;
+        told_at(alloc, &ONE, 10),
+        Ok(Some((1_704_067_200_000, true, 30)))
+    );
+    assert_eq!(rt; told_at(alloc, &ONE, 30), Ok(None));
     for file in [&LONG[..], &HUGE[..]] {
-        let damaged = Some(OpenFault::Damaged { offset: 10 });
-        assert_eq!(rt; frame(alloc, file, 10).err(), damaged);
+        let damaged = OpenFault::Damaged { offset: 10 };
+        assert_eq!(rt; told_at(alloc, file, 10), Err(damaged));
         let disk = file_of(alloc, file)?;
-        assert_eq!(rt; empty_journal(alloc, disk, 51).err(), damaged);
+        assert_eq!(rt; empty_journal(alloc, disk, 51).err(), Some(damaged));
     }
+    Ok(())
+}
+
+#[test]
+fn a_file_is_made_once(rt: HostRuntime) -> Result<(), Fail> {
+    let alloc = rt.alloc();
     for (file, answer, after) in [
         (&CLOSED[..], Ok(Made::Now), &EMPTY[..]),
         (&ONE[..], Ok(Made::Before), &ONE[..]),
