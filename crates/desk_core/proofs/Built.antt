@@ -4,7 +4,7 @@ use Rattle.std.specs.Prelude.{◌⊎◌, is_some}
 use Rattle.std.specs.Option.{ok_or}
 use Rattle.class_rules.specs.Classes.{all_classes}
 use Rattle.office_base.specs.Maps.{at_name, with_name}
-use Rattle.office_types.specs.Built.{IsBuilt, IsBuiltQuery, IsBuiltReply, IsBuiltRefusal, IsBuiltAnswer}
+use Rattle.office_types.specs.Fits.{IsBuilt, IsBuiltQuery, ReplyFits, RefusalFits, AnswerFits}
 use Rattle.office_types.specs.declared.command.Command.{Command}
 use Rattle.office_types.specs.declared.command.Command.TheVariants as command
 use Rattle.office_types.specs.declared.command.Query.{Query}
@@ -27,7 +27,7 @@ Answer = Result Reply Refusal
 -- the bucket is there, or it is said that it is not
 abbrev IsBuiltAccount : Result Account Refusal → Type 0
 IsBuiltAccount (Ok account) = Unit {0}
-IsBuiltAccount (Err refusal) = IsBuiltRefusal refusal
+IsBuiltAccount (Err refusal) = RefusalFits refusal
 
 account_built : (found : Option Account) → IsBuiltAccount (ok_or found NoSuchBucket)
 account_built None = tt
@@ -36,15 +36,15 @@ account_built (Some account) = tt
 -- ---- commands
 
 abbrev IsBuiltOutcome : Outcome → Type 0
-IsBuiltOutcome (Ok done) = IsBuiltReply done.1
-IsBuiltOutcome (Err refusal) = IsBuiltRefusal refusal
+IsBuiltOutcome (Ok done) = ReplyFits done.1
+IsBuiltOutcome (Err refusal) = RefusalFits refusal
 
-settled_built : (t : ℕ) (p : Office) (outcome : Outcome) → IsBuiltOutcome outcome → IsBuiltAnswer (settled t p outcome).1
+settled_built : (t : ℕ) (p : Office) (outcome : Outcome) → IsBuiltOutcome outcome → AnswerFits (settled t p outcome).1
 settled_built t p (Err refusal) built = built
 settled_built t p (Ok (after, NothingDue)) built = built
 settled_built t p (Ok (after, reply)) built = built
 
-full_built : (full : Option What) (done : Office × Reply) → IsBuiltReply done.1 → IsBuiltOutcome (unless_full full done)
+full_built : (full : Option What) (done : Office × Reply) → ReplyFits done.1 → IsBuiltOutcome (unless_full full done)
 full_built None done built = built
 full_built (Some what) done built = tt
 
@@ -52,7 +52,7 @@ limits_built : (whats : List What) (outcome : Outcome) → IsBuiltOutcome outcom
 limits_built whats (Ok done) built = full_built (first_full whats done.0) done built
 limits_built whats (Err refusal) built = built
 
-refused_built : (test : Bool) (done : Office × Reply) → IsBuiltReply done.1 → IsBuiltOutcome (refuse_if test BucketExists done)
+refused_built : (test : Bool) (done : Office × Reply) → ReplyFits done.1 → IsBuiltOutcome (refuse_if test BucketExists done)
 refused_built true done built = tt
 refused_built false done built = built
 
@@ -60,7 +60,7 @@ change_built : (account : Result Account Refusal) (change : Account → Outcome)
 change_built (Ok account) change there built = built account
 change_built (Err refusal) change there built = there
 
-step_built : (t : ℕ) (c : Command) (p : Office) → IsBuilt c → IsBuiltAnswer (step t c p).1
+step_built : (t : ℕ) (c : Command) (p : Office) → IsBuilt c → AnswerFits (step t c p).1
 unfolding step outcome
 step_built t (command.CreateBucket name) p built =
     settled_built t p (within_limits (Buckets ∷ []) (create_bucket t name p))
@@ -74,17 +74,17 @@ step_built t (command.Put name key size class tags) p built =
     (account_built (at_name name p.accounts)) (λ account. tt)))
 step_built t c p built = absurd built
 
-pub done_built : (t : ℕ) (c : Command) (p : Office) (new : Records) (told : Answer) → IsBuilt c → Does (step t c p) p new told → IsBuiltAnswer told
-done_built t c p new told built (inl same) = subst IsBuiltAnswer (sym same.0) (step_built t c p built)
-done_built t c p new told built (inr wanting) = subst IsBuiltAnswer (sym wanting.0) tt
+pub done_built : (t : ℕ) (c : Command) (p : Office) (new : Records) (told : Answer) → IsBuilt c → Does (step t c p) p new told → AnswerFits told
+done_built t c p new told built (inl same) = subst AnswerFits (sym same.0) (step_built t c p built)
+done_built t c p new told built (inr wanting) = subst AnswerFits (sym wanting.0) tt
 
 -- ---- queries
 
-reply_built : (account : Result Account Refusal) (shown : Account → Reply) → IsBuiltAccount account → ((x : Account) → IsBuiltReply (shown x)) → IsBuiltAnswer (account >>= λ x. Ok (shown x))
+reply_built : (account : Result Account Refusal) (shown : Account → Reply) → IsBuiltAccount account → ((x : Account) → ReplyFits (shown x)) → AnswerFits (account >>= λ x. Ok (shown x))
 reply_built (Ok account) shown there built = built account
 reply_built (Err refusal) shown there built = there
 
-answer_built : (t : ℕ) (q : Query) (p : Office) → IsBuiltQuery q → IsBuiltAnswer (answer t q p)
+answer_built : (t : ℕ) (q : Query) (p : Office) → IsBuiltQuery q → AnswerFits (answer t q p)
 unfolding answer
 answer_built t (query.Bucket name) p built = reply_built (account_at name p) (λ account. bucket_shown name account) (account_built (at_name name p.accounts)) (λ account. tt)
 answer_built t (query.Meters name month) p built =
@@ -96,7 +96,7 @@ query_or_not (query.Bucket name) = inl tt
 query_or_not (query.Meters name month) = inl tt
 query_or_not q = inr (λ built. built)
 
-pub told_built : (t : ℕ) (q : Query) (p : Office) (told : Answer) → (told ≡ answer t q p) ⊎ (told ≡ Err NoMemory) → ((IsBuiltQuery q → ⊥) → told ≡ Err NoMemory) → IsBuiltAnswer told
+pub told_built : (t : ℕ) (q : Query) (p : Office) (told : Answer) → (told ≡ answer t q p) ⊎ (told ≡ Err NoMemory) → ((IsBuiltQuery q → ⊥) → told ≡ Err NoMemory) → AnswerFits told
 told_built t q p told is unbuilt = ⊎_elim
-    (λ built. ⊎_elim (λ same. subst IsBuiltAnswer (sym same) (answer_built t q p built)) (λ wanting. subst IsBuiltAnswer (sym wanting) tt) is)
-    (λ other. subst IsBuiltAnswer (sym (unbuilt other)) tt) (query_or_not q)
+    (λ built. ⊎_elim (λ same. subst AnswerFits (sym same) (answer_built t q p built)) (λ wanting. subst AnswerFits (sym wanting) tt) is)
+    (λ other. subst AnswerFits (sym (unbuilt other)) tt) (query_or_not q)

@@ -1,6 +1,6 @@
 // An answer of the office whose effect is durable.
 ghost use Rattle.std.specs.Prelude.{◌≡◌, Err};
-ghost use Rattle.office_types.specs.Built.{IsBuiltAnswer};
+ghost use Rattle.office_types.specs.Fits.{AnswerFits};
 ghost use Rattle.office_types.specs.declared.refusal.Refusal.TheVariants.{NoMemory};
 
 use office_types::{Refusal, Reply};
@@ -21,7 +21,7 @@ pub struct Acked {
 
 impl Model for Acked {
     ghost use Rattle.std.specs.Prelude.{◌≡◌, Err};
-    ghost use Rattle.office_types.specs.Built.{IsBuiltAnswer};
+    ghost use Rattle.office_types.specs.Fits.{AnswerFits};
     ghost use Rattle.office_types.specs.declared.refusal.Refusal.TheVariants.{NoMemory};
     ghost use Rattle.desk_core.specs.Answers.{Answer};
 
@@ -30,7 +30,7 @@ impl Model for Acked {
     ghost view = { λ a. record { moment = a.moment; told = a.told; reply = a.reply; position = a.position; disk_moment = a.at.value } };
 
     // Want of memory is no answer of the office, and each answer is one that can be printed.
-    ghost invariant = { λ a. (a.reply ≡ Err NoMemory → ⊥) × IsBuiltAnswer a.reply };
+    ghost invariant = { λ a. (a.reply ≡ Err NoMemory → ⊥) × AnswerFits a.reply };
 }
 
 impl Acked {
@@ -42,7 +42,7 @@ impl Acked {
         at: Snapshot<u64>,
     ) -> Acked
         requires enough { reply ≡ Err NoMemory → ⊥ }
-        requires built { IsBuiltAnswer reply }
+        requires built { AnswerFits reply }
         ensures { result ≡ record { moment = moment; told = told; reply = reply; position = position; disk_moment = at.value } }
     {
         Acked {
@@ -57,7 +57,7 @@ impl Acked {
     /// Reads the office's answer.
     pub fn reply(&self) -> &Result<Reply, Refusal>
         ensures value { result.now ≡ self.now.reply }
-        ensures built { IsBuiltAnswer result.now }
+        ensures built { AnswerFits result.now }
     {
         &self.reply
     }

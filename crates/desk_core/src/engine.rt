@@ -5,7 +5,7 @@ ghost use Rattle.moments.specs.Time.{end_of_time};
 ghost use Rattle.office_types.specs.declared.command.Entry.{Entry};
 ghost use Rattle.office_types.specs.declared.command.Ask.TheVariants as ask_of;
 ghost use Rattle.office_types.specs.declared.refusal.Refusal.TheVariants.{NoMemory};
-ghost use Rattle.office_types.specs.Built.{IsBuiltReply, IsBuiltAnswer};
+ghost use Rattle.office_types.specs.Fits.{ReplyFits, AnswerFits};
 ghost use Rattle.plain_office.specs.Run.{is_not_before, entry_at};
 ghost use Rattle.entry_codec.specs.Spelling.{Fits, IsEntry, spelling};
 ghost use Rattle.meter_journal.specs.History.{header, end_gate, IsAtRest};
@@ -83,7 +83,7 @@ impl<D: Disk + Drop, C: Clock + Drop> Engine<D, C> {
 
     fn answer(&self, moment: u64, told: u64, reply: Result<Reply, Refusal>) -> Acked
         requires enough { reply ≡ Err NoMemory → ⊥ }
-        requires built { IsBuiltAnswer reply }
+        requires built { AnswerFits reply }
         ensures { result ≡ record { moment = moment; told = told; reply = reply; position = self.now.gate; disk_moment = D.moment self.now.disk } }
     {
         Acked::new(
@@ -103,7 +103,7 @@ impl<D: Disk + Drop, C: Clock + Drop> Engine<D, C> {
         reply: Reply,
         bytes: &[u8],
     ) -> Result<Acked, DeskFault>
-        requires built { IsBuiltReply reply }
+        requires built { ReplyFits reply }
         requires entry { IsEntry bytes.now }
         requires fits { self.old.gate + 6 + length bytes.now ≤ self.old.limit }
         requires at_rest { IsTrue D.honest → (before : List Entry) × IsAtRest header (D.state self.old.disk) self.old.gate before }

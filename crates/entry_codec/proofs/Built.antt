@@ -2,7 +2,7 @@
 use Rattle.std.proofs.Common.{◌≡◌, ℕ, true, List, refl}
 use Rattle.class_rules.specs.declared.class.Class.{Class}
 use Rattle.office_base.specs.Tags.{Tag}
-use Rattle.office_types.specs.Built.{IsBuilt}
+use Rattle.office_types.specs.Fits.{IsBuilt}
 use Rattle.office_types.specs.declared.command.Command.{Command}
 use Rattle.office_types.specs.declared.command.Command.TheVariants as command
 use Rattle.entry_codec.specs.Kinds.{Kind, CreateBucket, SetVersioning, SetRules, DropRules, Put, Delete, DeleteVersion, SetTags, StartUpload, PutPart, Complete, Abort, Act, SetTariff, Close, is_built, parts_of}

@@ -6,7 +6,7 @@ use Rattle.std.proofs.lemmas.Bool.Decides.{nat_tests}
 use Rattle.std.proofs.lemmas.List.{append-nil, nil_from_length}
 use Rattle.moments.specs.Time.{end_of_time}
 use Rattle.moments.specs.Months.{year_of, month_of_year, month_number}
-use Rattle.office_types.specs.Built.{IsBuilt}
+use Rattle.office_types.specs.Fits.{IsBuilt}
 use Rattle.office_types.specs.declared.command.Command.{Command}
 use Rattle.office_types.specs.declared.command.Command.TheVariants as command
 use Rattle.office_types.specs.declared.command.Entry.{Entry}

@@ -1,7 +1,7 @@
 -- The one spelling of each entry (own).
 use Rattle.std.specs.Prelude.{◌≡◌, ℕ, ◌<◌, Bool, true, ◌&&◌, List, [], ◌∷◌, ◌++◌}
 use Rattle.moments.specs.Time.{end_of_time}
-use Rattle.office_types.specs.Built.{IsBuilt}
+use Rattle.office_types.specs.Fits.{IsBuilt}
 use Rattle.office_types.specs.declared.command.Command.{Command}
 use Rattle.office_types.specs.declared.command.Entry.{Entry}
 use Rattle.entry_codec.specs.Fields.{Field, format, moment_format}

@@ -5,7 +5,7 @@ ghost use Rattle.office_base.specs.Names.{IsBucketName};
 ghost use Rattle.office_base.specs.Keys.{IsKey};
 ghost use Rattle.office_base.specs.Sizes.{largest_size};
 ghost use Rattle.office_base.specs.Tags.{is_tag, tag_of, AreTags};
-ghost use Rattle.office_types.specs.Built.{IsBuilt};
+ghost use Rattle.office_types.specs.Fits.{IsBuilt};
 ghost use Rattle.office_types.specs.declared.command.Command.TheVariants as command;
 ghost use Rattle.office_types.specs.declared.command.Entry.{Entry};
 ghost use Rattle.entry_codec.specs.Formats.{number, text};

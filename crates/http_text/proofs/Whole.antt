@@ -3,7 +3,7 @@ use Rattle.std.proofs.Common.{◌≡◌, ℕ, ◌<◌, ◌≤◌, List, [], ◌+
 use Rattle.std.proofs.lemmas.Fmt.{length-decimal-le}
 use Rattle.http.specs.StatusCode.{reason_phrase}
 use Rattle.http_text.specs.Room.{Holds, Puts}
-use Rattle.office_types.specs.Built.{IsBuiltAnswer}
+use Rattle.office_types.specs.Fits.{AnswerFits}
 use Rattle.office_types.specs.declared.reply.Reply.{Reply}
 use Rattle.office_types.specs.declared.reply.Reply.TheVariants.{Deleted, Report}
 use Rattle.office_types.specs.declared.refusal.Refusal.{Refusal}
@@ -58,13 +58,13 @@ json_reply : (status : ℕ) (body : Body) → IsJson body → reply_with status 
 json_reply status (json value) is = refl
 json_reply status (csv text) is = absurd is
 
-json_built : (a : Result Reply Refusal) → IsBuiltAnswer a → IsJson (answer_body a)
+json_built : (a : Result Reply Refusal) → AnswerFits a → IsJson (answer_body a)
 json_built (Ok (Report lines)) built = absurd built
 json_built (Ok (Deleted None)) built = tt
 json_built (Ok (Deleted (Some marker))) built = tt
 json_built (Ok other) built = tt
 json_built (Err refusal) built = tt
 
-pub answer_is : (a : Result Reply Refusal) → IsBuiltAnswer a → reply_with (status_of a) (body_text a) ≡ answer_text a
+pub answer_is : (a : Result Reply Refusal) → AnswerFits a → reply_with (status_of a) (body_text a) ≡ answer_text a
 unfolding body_text
 answer_is a built = json_reply (status_of a) (answer_body a) (json_built a built)

@@ -1,6 +1,6 @@
 // The JSON body of what the office answered.
 ghost use Rattle.std.specs.Prelude.{◌≡◌, ◌≤◌, length, Ok};
-ghost use Rattle.office_types.specs.Built.{IsBuiltAnswer, IsBuiltReply};
+ghost use Rattle.office_types.specs.Fits.{AnswerFits, ReplyFits};
 ghost use Rattle.office_types.specs.declared.reply.Reply.TheVariants.{Stored, BucketShown, MetersShown};
 ghost use Rattle.http_text.specs.Names.{versioning_name};
 ghost use Rattle.http_text.specs.Replies.{body_text};
@@ -81,7 +81,7 @@ fn put_usage(
 
 #[tactic(auto, using(crate::proofs::Texts::reply_texts))]
 fn put_reply(room: &mut [u8], at: usize, reply: &Reply) -> usize
-    requires { IsBuiltReply reply.now }
+    requires { ReplyFits reply.now }
     ensures puts { Puts room.old at room.new result (body_text (Ok reply.now)) }
     ensures small { length (body_text (Ok reply.now)) ≤ 16_000 }
 {
@@ -135,7 +135,7 @@ fn put_reply(room: &mut [u8], at: usize, reply: &Reply) -> usize
 
 /// Writes the body of an answer at an index, and answers the index after it.
 pub(crate) fn put_body(room: &mut [u8], at: usize, answer: &Result<Reply, Refusal>) -> usize
-    requires { IsBuiltAnswer answer.now }
+    requires { AnswerFits answer.now }
     ensures puts { Puts room.old at room.new result (body_text answer.now) }
     ensures small { length (body_text answer.now) ≤ 16_000 }
 {

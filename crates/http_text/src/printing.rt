@@ -1,7 +1,7 @@
 // Replies, printed without memory.
 ghost use Rattle.std.specs.Prelude.{◌≡◌, ◌≤◌, [], length, unwrap_or};
 ghost use Rattle.http.specs.StatusCode.{reason_phrase};
-ghost use Rattle.office_types.specs.Built.{IsBuiltAnswer};
+ghost use Rattle.office_types.specs.Fits.{AnswerFits};
 ghost use Rattle.http_text.specs.Replies.{answer_text, body_text, head_text, refusal_status, reply_status, status_of};
 ghost use Rattle.http_text.specs.Room.{Puts};
 
@@ -85,7 +85,7 @@ pub fn put_head(room: &mut [u8], at: usize, status: StatusCode, size: usize) -> 
 // The bytes of a body.
 #[tactic(auto, using(crate::proofs::Whole::counted))]
 fn size_of(answer: &Result<Reply, Refusal>) -> usize
-    requires { IsBuiltAnswer answer.now }
+    requires { AnswerFits answer.now }
     ensures same { result ≡ length (body_text answer.now) }
     ensures small { length (body_text answer.now) ≤ 16_000 }
 {
@@ -97,7 +97,7 @@ fn size_of(answer: &Result<Reply, Refusal>) -> usize
 ///
 /// The answer is one that the program gives so far: the replies to queries that are long are not printed here.
 pub fn put_answer(room: &mut [u8], answer: &Result<Reply, Refusal>) -> usize
-    requires built { IsBuiltAnswer answer.now }
+    requires built { AnswerFits answer.now }
     ensures puts { Puts room.old 0 room.new result (answer_text answer.now) }
     ensures small { length (answer_text answer.now) ≤ 16384 }
 {

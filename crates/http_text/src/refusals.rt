@@ -1,7 +1,7 @@
 // The JSON bodies of refusals.
 ghost use Rattle.std.specs.Prelude.{◌≡◌, ◌≤◌, length, Err};
 ghost use Rattle.moments.specs.Time.{end_of_time};
-ghost use Rattle.office_types.specs.Built.{IsBuiltRefusal};
+ghost use Rattle.office_types.specs.Fits.{RefusalFits};
 ghost use Rattle.office_types.specs.declared.refusal.Refusal.TheVariants.{MonthNotOver, EarlierMonthOpen};
 ghost use Rattle.office_types.specs.declared.refusal.Refusal.TheVariants.{DueActions, Full, ClockEnd};
 ghost use Rattle.http_text.specs.Names.{what_name};
@@ -104,7 +104,7 @@ fn put_end(room: &mut [u8], at: usize, moment: u64) -> usize
 /// Writes the body of a refusal.
 #[tactic(auto, using(crate::proofs::Texts::refusal_texts))]
 pub(crate) fn put_refusal(room: &mut [u8], at: usize, refusal: &Refusal) -> usize
-    requires { IsBuiltRefusal refusal.now }
+    requires { RefusalFits refusal.now }
     ensures puts { Puts room.old at room.new result (body_text (Err refusal.now)) }
     ensures small { length (body_text (Err refusal.now)) ≤ 16_000 }
 {

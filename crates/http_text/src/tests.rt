@@ -1,4 +1,4 @@
-ghost use Rattle.office_types.specs.Built.{IsBuiltAnswer, IsBuiltReply};
+ghost use Rattle.office_types.specs.Fits.{AnswerFits, ReplyFits};
 ghost use Rattle.std.specs.Prelude.{IfOk};
 
 use super::*;
@@ -21,7 +21,7 @@ fn is_printed(
     status: &str,
     body: &str,
 ) -> Result<(), Fail>
-    requires { IsBuiltAnswer answer.now }
+    requires { AnswerFits answer.now }
 {
     let mut room = vec![in alloc; 0u8; 16384]?;
     let size = put_answer(&mut room, answer);
@@ -296,7 +296,7 @@ fn chosen(
     rule: &str,
     marker: Option<VersionId>,
 ) -> Result<Reply, Fail>
-    ensures { IfOk result IsBuiltReply }
+    ensures { IfOk result ReplyFits }
 {
     let rule = Text::of(String::from_str(alloc, rule)?);
     if rule.char_count() > 255 {

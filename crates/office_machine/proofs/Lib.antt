@@ -1,11 +1,6 @@
 pub mod Accounts
 pub mod Doing
-pub mod Ending
 pub mod Offices
-pub mod Putting
-pub mod Replacing
 pub mod Room
-pub mod Rules
 pub mod Steps
 pub mod Sums
-pub mod TagSizes

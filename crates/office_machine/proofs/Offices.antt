@@ -29,11 +29,12 @@ use Rattle.office_laws.proofs.Lists.{Added, Replaced}
 use Rattle.office_laws.proofs.Maps.{by_name, added, replaced}
 use Rattle.office_laws.proofs.Offices.{kept_now}
 use Rattle.office_laws.proofs.Steps.{step_orderly, empty_orderly}
-use Rattle.office_machine.specs.declared.change.Done.{Done}
-use Rattle.office_machine.specs.declared.counts.Counts.{Counts}
-use Rattle.office_machine.specs.Changing.{change_of, limits_of, IsOnBucket, IsOrderlyAccount, DoesTold}
-use Rattle.office_machine.specs.Counting.{AccountRecord, IsWithinBy, AreCountsOver, amount, in_bucket, HaveMoved, first_over}
-use Rattle.office_machine.specs.Standing.{Records, StandsForAccount, StandForAccounts, StandsForOffice, IsKept, Does}
+use Rattle.bucket_account.specs.declared.change.Done.{Done}
+use Rattle.bucket_account.specs.declared.counts.Counts.{Counts}
+use Rattle.bucket_account.specs.Changing.{change_of, limits_of, IsOnBucket, IsOrderlyAccount, DoesTold}
+use Rattle.bucket_account.specs.Counting.{AccountRecord, IsWithinBy, AreCountsOver, amount, in_bucket, HaveMoved, first_over}
+use Rattle.office_machine.specs.Standing.{Records, StandForAccounts, StandsForOffice, IsKept, Does}
+use Rattle.bucket_account.specs.Standing.{StandsForAccount}
 use Rattle.office_machine.proofs.Accounts.{StandsForOption, stand_at, stand_with, stand_set, stand_one}
 use Rattle.office_machine.proofs.Sums.{AreCountsOf, full_is, moved_is, added_is, counts_over}
 use Rattle.office_machine.proofs.Steps.{Answer, step_missing, step_refused, step_full, step_done, placed, made, create_exists, create_full, create_made}

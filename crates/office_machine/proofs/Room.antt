@@ -10,7 +10,7 @@ use Rattle.std.specs.BTreeMap.{is_at}
 use Rattle.office_base.specs.Maps.{bytes_cmp, at_name, with_name}
 use Rattle.office_laws.proofs.Lists.{every_weaker}
 use Rattle.office_laws.proofs.Maps.{by_name, found_every}
-use Rattle.office_machine.specs.Counting.{AccountRecord, IsWithinBy, HasGrownBy}
+use Rattle.bucket_account.specs.Counting.{AccountRecord, IsWithinBy, HasGrownBy}
 
 abbrev pub Entry : Type 0
 Entry = List ℕ × AccountRecord

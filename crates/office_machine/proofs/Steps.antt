@@ -13,7 +13,7 @@ use Rattle.office_types.specs.declared.refusal.Refusal.{Refusal}
 use Rattle.office_types.specs.declared.refusal.Refusal.TheVariants.{NoSuchBucket, BucketExists, Full}
 use Rattle.office_types.specs.declared.refusal.What.{What}
 use Rattle.office_types.specs.declared.refusal.What.TheVariants.{Buckets}
-use Rattle.office_machine.specs.Changing.{change_of, limits_of, IsOnBucket}
+use Rattle.bucket_account.specs.Changing.{change_of, limits_of, IsOnBucket}
 
 abbrev pub Answer : Type 0
 Answer = Result Reply Refusal

@@ -10,8 +10,8 @@ use Rattle.office_types.specs.declared.refusal.What.{What}
 use Rattle.office_types.specs.declared.refusal.What.TheVariants.{Buckets, Versions, Uploads, Parts, Names, Rules}
 use Rattle.office_laws.proofs.Lists.{Held, Added, Replaced, added_sum, replaced_sum, sum_most}
 use Rattle.office_laws.proofs.Maps.{by_name, found}
-use Rattle.office_machine.specs.declared.counts.Counts.{Counts}
-use Rattle.office_machine.specs.Counting.{amount, in_bucket, AreCountsOver, HaveMoved, first_over}
+use Rattle.bucket_account.specs.declared.counts.Counts.{Counts}
+use Rattle.bucket_account.specs.Counting.{amount, in_bucket, AreCountsOver, HaveMoved, first_over}
 
 abbrev pub Entry : Type 0
 Entry = List ℕ × Account

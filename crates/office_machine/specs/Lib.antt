@@ -1,4 +1,1 @@
-pub mod Booking
-pub mod Changing
-pub mod Counting
 pub mod Standing

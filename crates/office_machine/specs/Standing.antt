@@ -1,9 +1,8 @@
 -- What the office in memory stands for: it keeps records, totals and counts, where the plain office has lists.
 use Rattle.std.specs.Prelude.{◌≡◌, ◌⊎◌, ℕ, ◌+◌, ◌^◌, List, [], ◌∷◌, Option, Result, Err, if◌then◌else◌}
 use Rattle.std.specs.List.{AllByRecursion}
-use Rattle.accrual.specs.Totals.{StandsFor}
 use Rattle.tariff.specs.Prices.{Prices}
-use Rattle.plain_office.specs.Office.{Office, Account, book_of}
+use Rattle.plain_office.specs.Office.{Office, Account}
 use Rattle.plain_office.specs.Counts.{count_of}
 use Rattle.plain_office.specs.Orderly.{IsOrderly}
 use Rattle.plain_office.specs.Step.{is_accepted}
@@ -11,8 +10,9 @@ use Rattle.office_types.specs.declared.reply.Reply.{Reply}
 use Rattle.office_types.specs.declared.refusal.Refusal.{Refusal}
 use Rattle.office_types.specs.declared.refusal.Refusal.TheVariants.{NoMemory}
 use Rattle.office_types.specs.declared.refusal.What.{What}
-use Rattle.office_machine.specs.declared.counts.Counts.{Counts}
-use Rattle.office_machine.specs.Counting.{amount, AccountRecord, IsWithinBy}
+use Rattle.bucket_account.specs.declared.counts.Counts.{Counts}
+use Rattle.bucket_account.specs.Counting.{amount, AccountRecord, IsWithinBy}
+use Rattle.bucket_account.specs.Standing.{StandsForAccount}
 
 -- what contracts see of an office: the moment of the last accepted command, the tariff, the month of the first accepted
 -- command, the closed months, its buckets in byte order of their names, the running counts, and how many commands were
@@ -25,15 +25,6 @@ pub record Records : Type 0 where
   pub accounts : List (List ℕ × AccountRecord)
   pub counts : Counts
   pub accepted : ℕ
-
--- fewer commands than this are accepted, which keeps every sum of the meters below 2^121
-abbrev pub most_commands : ℕ
-most_commands = 2 ^ 42
-
--- the bucket has these records, and its meters stand for its book
-pub record StandsForAccount (records : AccountRecord) (account : Account) : Type 0 where
-  pub bucket : records.bucket ≡ account.bucket
-  pub meters : StandsFor records.meters (book_of account.books)
 
 -- under the same name
 pub record StandsForEntry (records : List ℕ × AccountRecord) (entry : List ℕ × Account) : Type 0 where

@@ -1,13 +1,7 @@
-//! The office in memory: its buckets, their records and their meters, changed by commands.
+//! The office in memory: its buckets, its tariff and its closed months, changed by commands.
 #![tactic(auto)]
 
-mod account;
-mod booking;
-mod change;
-mod counts;
-mod incoming;
 mod office;
-mod put;
 #[cfg(test)]
 mod tests;
 

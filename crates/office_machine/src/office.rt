@@ -6,15 +6,15 @@ ghost use Rattle.plain_office.specs.Step.{step};
 ghost use Rattle.plain_office.specs.Answers.{answer};
 ghost use Rattle.plain_office.specs.Orderly.{SizeFits};
 ghost use Rattle.plain_office.specs.Run.{is_not_before};
-ghost use Rattle.office_types.specs.Built.{IsBuilt, IsBuiltQuery};
+ghost use Rattle.office_types.specs.Fits.{AnswerFits};
 ghost use Rattle.office_types.specs.declared.command.Command.TheVariants as command;
 ghost use Rattle.office_types.specs.declared.command.Query.TheVariants as query;
 ghost use Rattle.moments.specs.Months.{month_at};
-ghost use Rattle.office_machine.specs.Changing.{IsOnBucket};
-ghost use Rattle.office_machine.specs.Standing.{StandsForOffice, Does, accepted_after, most_commands};
+ghost use Rattle.bucket_account.specs.Changing.{IsOnBucket};
+ghost use Rattle.office_machine.specs.Standing.{StandsForOffice, Does, accepted_after};
+ghost use Rattle.bucket_account.specs.Standing.{most_commands};
 
-use crate::account::Account;
-use crate::counts::{Counts, NOTHING};
+use bucket_account::{Account, Counts, NOTHING};
 use class_rules::Class;
 use moments::{Moment, Month, month_of};
 use office_base::BucketName;
@@ -109,7 +109,7 @@ impl Office {
         requires few { self.old.accepted < most_commands }
         ensures step { (p : plain.Office) → StandsForOffice self.old p → Does (step t command.now p) p self.new result }
         ensures accepted { self.new.accepted ≡ accepted_after result self.old.accepted }
-        ensures unbuilt { (IsBuilt command.now → ⊥) → result ≡ Err Refusal.NoMemory }
+        ensures fits { AnswerFits result }
     {
         match command {
             Command::CreateBucket { bucket } => self.create_bucket(t, bucket),
@@ -188,7 +188,7 @@ impl Office {
         requires later { IsTrue (is_not_before self.now.last t) }
         ensures reply { (p : plain.Office) → StandsForOffice self.now p
             → (result ≡ answer t query.now p) ⊎ (result ≡ Err Refusal.NoMemory) }
-        ensures unbuilt { (IsBuiltQuery query.now → ⊥) → result ≡ Err Refusal.NoMemory }
+        ensures fits { AnswerFits result }
     {
         match query {
             Query::Bucket(name) => self.show_bucket(name),

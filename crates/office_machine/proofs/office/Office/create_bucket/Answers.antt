@@ -12,10 +12,10 @@ use Rattle.office_types.specs.declared.refusal.Refusal.{Refusal}
 use Rattle.office_types.specs.declared.refusal.Refusal.TheVariants.{BucketExists}
 use Rattle.office_types.specs.declared.refusal.What.{What}
 use Rattle.office_types.specs.declared.refusal.What.TheVariants.{Buckets}
-use Rattle.office_machine.specs.declared.counts.Counts.{Counts}
-use Rattle.office_machine.specs.Counting.{amount, in_bucket, first_over}
+use Rattle.bucket_account.specs.declared.counts.Counts.{Counts}
+use Rattle.bucket_account.specs.Counting.{amount, in_bucket, first_over}
 use Rattle.office_machine.specs.Standing.{Records, StandsForOffice, IsKept, Does}
-use Rattle.office_machine.proofs.Doing.{err_of}
+use Rattle.bucket_account.proofs.Handed.{err_of}
 use Rattle.office_machine.proofs.Offices.{does_exist, does_fill, does_make, one_more, accepted_records, with_month, kept_on}
 use Rattle.office_machine.proofs.Room.{IsRoomy, room_more, room_with}
 use Rattle.office_machine.proofs.office.Office.create_bucket.Goals as goal

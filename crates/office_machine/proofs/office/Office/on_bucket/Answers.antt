@@ -8,10 +8,12 @@ use Rattle.plain_office.specs.Step.{step, is_accepted}
 use Rattle.office_types.specs.declared.reply.Reply.{Reply}
 use Rattle.office_types.specs.declared.refusal.Refusal.{Refusal}
 use Rattle.office_types.specs.declared.refusal.Refusal.TheVariants.{NoSuchBucket}
-use Rattle.office_machine.specs.Changing.{limits_of}
-use Rattle.office_machine.specs.Counting.{AccountRecord}
-use Rattle.office_machine.specs.Standing.{Records, StandsForOffice, IsKept, Does, most_commands}
-use Rattle.office_machine.proofs.Doing.{err_of, done_accepted}
+use Rattle.bucket_account.specs.Changing.{limits_of}
+use Rattle.bucket_account.specs.Counting.{AccountRecord}
+use Rattle.office_machine.specs.Standing.{Records, StandsForOffice, IsKept, Does}
+use Rattle.bucket_account.specs.Standing.{most_commands}
+use Rattle.bucket_account.proofs.Handed.{err_of}
+use Rattle.office_machine.proofs.Doing.{done_accepted}
 use Rattle.office_machine.proofs.Offices.{does_miss, does_done, does_refuse, for_account, for_counts, accepted_records, with_accounts, with_month, kept_on}
 use Rattle.office_machine.proofs.Room.{IsRoomy, room_at, room_more, room_grown, room_kept, room_set}
 use Rattle.office_machine.proofs.office.Office.on_bucket.Goals as goal

@@ -1,0 +1,117 @@
+-- How a version's coming and going is booked, in meters that stand for a bucket's books.
+use Rattle.std.specs.Prelude.{◌≡◌, ℕ, ◌+◌, ◌-◌, ◌≤◌, List, [], ◌∷◌, ◌^◌, Option, Some, None, is_some, unwrap_or, option_map, length, if◌then◌else◌}
+use Rattle.std.specs.List.{filter}
+use Rattle.office_base.specs.Maps.{at_name}
+use Rattle.office_base.specs.Tags.{Tag}
+use Rattle.moments.specs.Months.{month_at}
+use Rattle.stacks.specs.declared.version.Kind.{Kind}
+use Rattle.stacks.specs.declared.version.Kind.TheVariants.{Object}
+use Rattle.stacks.specs.declared.version.Version.{Version}
+use Rattle.stacks.specs.Stacks.{StackRecord, new_stack, new_id, new_version, replaced, after_adding, IsFree}
+use Rattle.accrual.specs.Totals.{Totals, HasRow}
+use Rattle.plain_office.specs.Office.{Books, of_version}
+use Rattle.plain_office.specs.Books.{is_open_stay, with_version, without_option}
+use Rattle.plain_office.specs.Counts.{tag_bytes, tag_bytes_of}
+use Rattle.plain_office.specs.Orderly.{stay_of_version, lines_since}
+use Rattle.bucket_account.specs.declared.counts.Counts.{Counts}
+use Rattle.bucket_account.specs.declared.incoming.Incoming.{Incoming}
+use Rattle.bucket_account.specs.declared.incoming.Leaving.{Leaving}
+
+-- ---- what is known before a version goes
+
+abbrev pub leaving_of : Version → Leaving
+leaving_of version = record { since = lines_since version; tag_bytes = tag_bytes_of version }
+
+-- since when it has its lines, or the moment where nothing goes
+abbrev pub leaving_since : ℕ → Option Leaving → ℕ
+leaving_since at None = at
+leaving_since at (Some leaving) = leaving.since
+
+abbrev pub since_option : ℕ → Option Version → ℕ
+since_option at None = at
+since_option at (Some version) = lines_since version
+
+-- the version's open stay is the one that its record asks for
+abbrev pub HasStay : List ℕ → Version → Books → Type 0
+HasStay key version books =
+    filter (is_open_stay key (of_version version.id)) books.stays ≡ stay_of_version key version ∷ []
+
+-- rows for all months from the one moment's to the other's
+abbrev pub HasRowsFrom : ℕ → ℕ → Totals → Type 0
+HasRowsFrom from to meters = (month : ℕ) → month_at from ≤ month → month ≤ month_at to → HasRow meters month
+
+-- the same of a version that may not be there
+abbrev pub MayHaveStay : List ℕ → Option Version → Books → Type 0
+MayHaveStay key None books = Unit {0}
+MayHaveStay key (Some version) books = HasStay key version books
+
+abbrev pub MayHaveRows : Option Version → ℕ → Totals → Type 0
+MayHaveRows None at meters = Unit {0}
+MayHaveRows (Some version) at meters = HasRowsFrom (lines_since version) at meters
+
+-- it has its lines since a moment that is not after this one
+abbrev pub IsSinceBy : ℕ → Option Version → Type 0
+IsSinceBy at None = Unit {0}
+IsSinceBy at (Some version) = lines_since version ≤ at
+
+-- ---- an object that is put
+
+abbrev pub kind_of : Incoming → List Tag → Kind
+kind_of object tags = Object object.size object.class tags object.at
+
+abbrev pub version_of : Incoming → List Tag → Version
+version_of object tags = new_version (new_id object.versioning object.number) (kind_of object tags) object.at
+
+-- the stack after it came
+abbrev pub stack_put : Incoming → List Tag → StackRecord → StackRecord
+stack_put object tags stack =
+    after_adding (new_id object.versioning object.number) (kind_of object tags) object.at stack
+
+-- the books after it came in the place of one that may have been there
+abbrev pub books_put : List ℕ → Incoming → List Tag → Option Version → Books → Books
+books_put key object tags gone books =
+    with_version key (version_of object tags) object.at (without_option key gone object.at books)
+
+-- the counts after it came with so many bytes of a new key
+abbrev pub gone_versions : Option Leaving → ℕ
+gone_versions None = 0
+gone_versions (Some leaving) = 1
+
+abbrev pub gone_bytes : Option Leaving → ℕ
+gone_bytes None = 0
+gone_bytes (Some leaving) = leaving.tag_bytes
+
+abbrev pub counts_put : ℕ → List Tag → Option Leaving → Counts → Counts
+counts_put key_bytes tags gone counts = record counts {
+  versions = counts.versions + 1 - gone_versions gone;
+  names = counts.names + key_bytes + tag_bytes tags - gone_bytes gone;
+}
+
+-- ---- an object that is put under a key of these stacks
+
+-- what it is put on: the key's stack, or one without versions
+abbrev pub stack_under : List ℕ → List (List ℕ × StackRecord) → StackRecord
+stack_under key stacks = unwrap_or (at_name key stacks) (new_stack 0)
+
+abbrev pub gone_of : List ℕ → Incoming → List (List ℕ × StackRecord) → Option Version
+gone_of key object stacks = replaced object.versioning (stack_under key stacks).versions
+
+-- the bytes of a new key
+abbrev pub new_bytes : List ℕ → List (List ℕ × StackRecord) → ℕ
+new_bytes key stacks = if is_some (at_name key stacks) then 0 else length key
+
+abbrev pub counts_after : List ℕ → Incoming → List Tag → List (List ℕ × StackRecord) → Counts → Counts
+counts_after key object tags stacks counts =
+    counts_put (new_bytes key stacks) tags (option_map leaving_of (gone_of key object stacks)) counts
+
+-- it may be put on this stack, and what goes has its lines since a moment that is not later
+pub record IsReady (object : Incoming) (stack : StackRecord) : Type 0 where
+  pub later : stack.changed ≤ object.at
+  pub free : IsFree object.versioning object.number stack.versions
+  pub since : IsSinceBy object.at (replaced object.versioning stack.versions)
+
+-- counts that can be moved by a put that takes so many bytes of tags away
+pub record AreMovable (counts : Counts) (bytes : ℕ) : Type 0 where
+  pub versions : counts.versions ≤ 400_000
+  pub names : counts.names ≤ 2 ^ 32
+  pub gone : bytes ≤ counts.names

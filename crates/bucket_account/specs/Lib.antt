@@ -1,0 +1,5 @@
+pub mod Booking
+pub mod Changing
+pub mod Counting
+pub mod Effects
+pub mod Standing

@@ -1,0 +1,14 @@
+-- What a bucket in memory stands for: it keeps records and totals, where the plain office has lists.
+use Rattle.std.specs.Prelude.{◌≡◌, ℕ, ◌^◌}
+use Rattle.accrual.specs.Totals.{StandsFor}
+use Rattle.plain_office.specs.Office.{Account, book_of}
+use Rattle.bucket_account.specs.Counting.{AccountRecord}
+
+-- fewer commands than this are accepted, which keeps every sum of the meters below 2^121
+abbrev pub most_commands : ℕ
+most_commands = 2 ^ 42
+
+-- the bucket has these records, and its meters stand for its book
+pub record StandsForAccount (records : AccountRecord) (account : Account) : Type 0 where
+  pub bucket : records.bucket ≡ account.bucket
+  pub meters : StandsFor records.meters (book_of account.books)

@@ -1,0 +1,154 @@
+// A bucket in memory: its records, its meters and its running count of versions.
+ghost use Rattle.std.specs.Prelude.{◌≡◌, ◌+◌, ◌*◌, ◌<◌, ◌≤◌, ℕ, length, OnOk, OnErr, IfOk};
+ghost use Rattle.accrual.specs.Books.{Book, IsBookedBy};
+ghost use Rattle.accrual.specs.Totals.{StandsFor};
+ghost use Rattle.plain_office.specs.Office as plain;
+ghost use Rattle.plain_office.specs.Step.{new_account};
+ghost use Rattle.plain_office.specs.Counts.{version_count};
+ghost use Rattle.plain_office.specs.Answers.{class_meters, rule_count};
+ghost use Rattle.office_types.specs.Fits.{ReplyFits};
+ghost use Rattle.bucket_account.specs.Changing.{change_of, limits_of, IsOrderlyAccount, DoesTold};
+ghost use Rattle.bucket_account.specs.Counting.{AreCountsOver, IsWithinBy, HasGrownBy};
+ghost use Rattle.bucket_account.specs.Standing.{StandsForAccount, most_commands};
+
+use crate::change::{Done, change};
+use crate::counts::Counts;
+use accrual::Meters;
+use class_rules::Class;
+use due_core::Bucket;
+use moments::{Moment, Month};
+use office_types::{ClassMeters, Command, Refusal};
+use stacks::Versioning;
+use std::alloc::Global;
+use std::collections::BTreeMap;
+use std::marker::Model;
+
+/// A bucket in memory: its records and its meters.
+#[derive(Drop)]
+pub struct Account {
+    bucket: Bucket,
+    meters: Meters,
+    // How many versions the bucket has.
+    versions: u64,
+    // The bytes of its printed configuration.
+    text_bytes: u64,
+}
+
+impl Model for Account {
+    ghost use Rattle.std.specs.Prelude.{◌≡◌};
+    ghost use Rattle.plain_office.specs.Counts.{version_count, rules_bytes};
+    ghost use Rattle.bucket_account.specs.Counting.{AccountRecord};
+
+    ghost Value = { AccountRecord };
+
+    ghost view = { λ a. record { bucket = a.bucket; meters = a.meters } };
+
+    ghost invariant = { λ a. (a.versions ≡ version_count a.bucket) × (a.text_bytes ≡ rules_bytes a.bucket.rules) };
+}
+
+impl Account {
+    /// Gives the account of a bucket that is made at this moment. Takes no memory.
+    pub fn new(alloc: Global, at: Moment) -> Account
+        ensures stands { StandsForAccount result (new_account at) }
+        ensures room { (accepted : ℕ) → IsWithinBy accepted result }
+    {
+        Account {
+            bucket: Bucket {
+                versioning: Versioning::Unversioned,
+                rules: None,
+                rules_since: at,
+                stacks: BTreeMap::new(alloc),
+                uploads: BTreeMap::new(alloc),
+                next_version: 1,
+                next_upload: 1,
+            },
+            meters: Meters::new(alloc),
+            versions: 0,
+            text_bytes: 0,
+        }
+    }
+
+    /// Does a command on the bucket, and gives the counts after it and the reply.
+    pub fn apply(
+        &mut self,
+        alloc: Global,
+        t: Moment,
+        command: &Command,
+        counts: Counts,
+    ) -> Result<Done, Refusal>
+        requires account { (account : plain.Account) × StandsForAccount self.old account × IsOrderlyAccount t account }
+        requires room { (accepted : ℕ) × (accepted < most_commands) × IsWithinBy accepted self.old }
+        requires counts { AreCountsOver self.old.bucket counts }
+        ensures done { (account : plain.Account) → StandsForAccount self.old account → IsOrderlyAccount t account
+            → DoesTold (limits_of command.now self.old.bucket) (change_of t command.now account) account counts self.new result }
+        ensures fits { IfOk result (λ done. ReplyFits done.reply) }
+        ensures room { OnOk result (HasGrownBy 3 1 self.old self.new) }
+        ensures room_kept { OnErr result (HasGrownBy 0 0 self.old self.new) }
+    {
+        let done = change(
+            &mut self.bucket,
+            &mut self.meters,
+            alloc,
+            t,
+            command,
+            counts,
+            self.text_bytes,
+        )?;
+        self.versions = self.versions + done.counts.versions - counts.versions;
+        self.text_bytes = self.text_bytes + done.counts.rules - counts.rules;
+        Ok(done)
+    }
+
+    /// Reads the bucket's records.
+    pub fn bucket(&self) -> &Bucket
+        ensures { result.now ≡ self.now.bucket }
+    {
+        &self.bucket
+    }
+
+    /// Counts the versions.
+    pub fn versions(&self) -> u32
+        requires few { version_count self.now.bucket ≤ 400_000 }
+        ensures { result ≡ version_count self.now.bucket }
+    {
+        self.versions as u32
+    }
+
+    /// Counts the rules.
+    #[tactic(auto, using(crate::proofs::Rules::few_rules))]
+    pub fn rules(&self) -> u32
+        ensures { result ≡ rule_count self.now.bucket.rules }
+    {
+        match &self.bucket.rules {
+            Some(rules) => rules.rules().len() as u32,
+            None => 0,
+        }
+    }
+
+    /// Counts the unfinished uploads.
+    pub fn uploads(&self) -> u32
+        requires few { length self.now.bucket.uploads ≤ 40_000 }
+        ensures { result ≡ length self.now.bucket.uploads }
+    {
+        self.bucket.uploads.len() as u32
+    }
+
+    pub fn versioning(&self) -> Versioning
+        ensures { result ≡ self.now.bucket.versioning }
+    {
+        self.bucket.versioning
+    }
+
+    /// Reads what was used of a class in a month, as seen at a moment.
+    pub fn used(&self, month: Month, class: Class, t: Moment) -> ClassMeters
+        ensures { (book : Book) → StandsFor self.now.meters book → IsBookedBy t book
+            → result ≡ class_meters month t book class }
+    {
+        ClassMeters {
+            class,
+            byte_ms: self.meters.reading(month, class, t),
+            early_byte_ms: self.meters.early_of(month, class),
+            moves: self.meters.moves_of(month, class),
+        }
+    }
+}

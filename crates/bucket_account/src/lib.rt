@@ -1,0 +1,19 @@
+//! A bucket in memory: its records, its meters and its running counts, changed by the commands on it.
+#![tactic(auto)]
+
+mod account;
+mod act;
+mod booking;
+mod change;
+mod counts;
+mod delete;
+mod incoming;
+mod put;
+mod rules;
+mod tags;
+mod uploads;
+mod versioning;
+
+pub use account::Account;
+pub use change::Done;
+pub use counts::{Counts, NOTHING};

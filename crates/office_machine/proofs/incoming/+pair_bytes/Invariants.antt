@@ -1,5 +1,0 @@
-use Rattle.std.proofs.Common.{length}
-use Rattle.office_machine.proofs.incoming.+pair_bytes.Given as goal
-
-abbrev pub decreases-pair_bytes : goal.decreases-pair_bytes
-decreases-pair_bytes l = length l.pairs.now
