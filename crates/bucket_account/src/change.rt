@@ -1,5 +1,5 @@
 // What a command does to its bucket.
-ghost use Rattle.std.specs.Prelude.{◌+◌, ◌<◌, ◌≤◌, ℕ, OnOk, OnErr, IfOk};
+ghost use Rattle.std.specs.Prelude.{◌≡◌, ◌+◌, ◌<◌, ◌≤◌, ℕ, OnOk, OnErr, IfOk};
 ghost use Rattle.plain_office.specs.Office as plain;
 ghost use Rattle.office_types.specs.Fits.{ReplyFits};
 ghost use Rattle.bucket_account.specs.Changing.{change_of, limits_of, IsOrderlyAccount, DoesTold};
@@ -7,13 +7,13 @@ ghost use Rattle.plain_office.specs.Counts.{rules_bytes};
 ghost use Rattle.bucket_account.specs.Counting.{account_of, IsFewMore, AreCountsOver, IsWithinBy, HasGrownBy};
 ghost use Rattle.bucket_account.specs.Standing.{StandsForAccount, most_commands};
 
-use crate::counts::Counts;
 use crate::act::act;
+use crate::counts::Counts;
 use crate::delete::{delete, delete_version};
+use crate::lifecycle::{drop_rules, set_rules};
 use crate::put::put;
-use crate::rules::{drop_rules, set_rules};
 use crate::tags::set_tags;
-use crate::uploads::{abort, complete, put_part, start_upload};
+use crate::upload::{abort, complete, put_part, start_upload};
 use crate::versioning::set_versioning;
 use accrual::Meters;
 use due_core::Bucket;
@@ -75,10 +75,16 @@ pub(crate) fn change(
             set_tags(bucket, meters, t, key, *id, tags, counts)
         }
         Command::StartUpload {
-            key, class, tags, ..
-        } => start_upload(bucket, meters, t, key, *class, tags, counts),
+            key,
+            class,
+            tags,
+            ..
+        } => start_upload(bucket, meters, alloc, t, key, *class, tags, counts),
         Command::PutPart {
-            upload, part, size, ..
+            upload,
+            part,
+            size,
+            ..
         } => put_part(bucket, meters, t, *upload, *part, *size, counts),
         Command::Complete { upload, .. } => complete(bucket, meters, alloc, t, *upload, counts),
         Command::Abort { upload, .. } => abort(bucket, meters, t, *upload, counts),

@@ -8,10 +8,10 @@ mod change;
 mod counts;
 mod delete;
 mod incoming;
+mod lifecycle;
 mod put;
-mod rules;
 mod tags;
-mod uploads;
+mod upload;
 mod versioning;
 
 pub use account::Account;

@@ -4,14 +4,16 @@ ghost use Rattle.office_base.specs.Maps.{bytes_cmp, at_name, with_name, Rises};
 ghost use Rattle.stacks.specs.Stacks.{IsFree, new_id, new_stack, replaced};
 ghost use Rattle.accrual.specs.Books.{Book};
 ghost use Rattle.accrual.specs.Totals.{StandsFor, most_bookings};
+ghost use Rattle.plain_office.specs.Office as plain;
 ghost use Rattle.plain_office.specs.Office.{Books, Account, book_of};
+ghost use Rattle.office_types.specs.Fits.{ReplyFits};
 ghost use Rattle.plain_office.specs.Changes.{number_after};
 ghost use Rattle.plain_office.specs.Counts.{tag_bytes};
 ghost use Rattle.plain_office.specs.Step.{put_object};
 ghost use Rattle.office_types.specs.declared.refusal.What.TheVariants.{Versions, Names};
 ghost use Rattle.bucket_account.specs.Booking.{leaving_of, stack_under, stack_put, gone_of, since_option, books_put, counts_put, counts_after, gone_bytes, MayHaveStay, IsReady, AreMovable};
 ghost use Rattle.bucket_account.specs.Changing.{IsOrderlyAccount, DoesTold};
-ghost use Rattle.bucket_account.specs.Counting.{account_of, AreCountsOver, IsWithinBy, HasGrownBy, first_over, IsFullOf};
+ghost use Rattle.bucket_account.specs.Counting.{account_of, AreCountsOver, IsWithinBy, HasGrownBy, IsFewMore, first_over, IsFullOf};
 ghost use Rattle.bucket_account.specs.Standing.{StandsForAccount, most_commands};
 
 use crate::booking::{end_replaced, object_billed, reserve};
@@ -19,9 +21,10 @@ use crate::change::Done;
 use crate::counts::Counts;
 use crate::incoming::{Incoming, Leaving, replaced, since_of, tag_bytes};
 use accrual::Meters;
+use class_rules::Class;
 use due_core::Bucket;
 use moments::Moment;
-use office_base::{Key, NoMemory, Nth, Tags, VersionId};
+use office_base::{Key, NoMemory, Nth, Size, Tags, VersionId};
 use office_types::{Refusal, Reply, What};
 use stacks::{Stack, Version, Versioning};
 use std::alloc::Global;
@@ -221,8 +224,8 @@ fn put_version(
     }
 }
 
-/// Puts an object in a bucket.
-pub(crate) fn put(
+/// Puts an object in a bucket, as its versioning and its next number say.
+fn put_incoming(
     bucket: &mut Bucket,
     meters: &mut Meters,
     alloc: Global,
@@ -244,7 +247,8 @@ pub(crate) fn put(
     ensures room { OnOk result (HasGrownBy 3 1 (account_of bucket.old meters.old) (account_of bucket.new meters.new)) }
     ensures room_kept { OnErr result (HasGrownBy 0 0 (account_of bucket.old meters.old)
         (account_of bucket.new meters.new)) }
-    ensures few { IfOk result (λ done. done.counts.versions ≤ counts.versions + 1) }
+    ensures few { IfOk result (IsFewMore counts) }
+    ensures fits { IfOk result (λ done. ReplyFits done.reply) }
 {
     let counts = put_version(&mut bucket.stacks, meters, alloc, key, object, tags, counts)?;
     bucket.next_version = next_number(object.versioning, object.number);
@@ -255,4 +259,40 @@ pub(crate) fn put(
             version: id_of(object.versioning, object.number),
         },
     })
+}
+
+/// Puts an object in a bucket.
+pub(crate) fn put(
+    bucket: &mut Bucket,
+    meters: &mut Meters,
+    alloc: Global,
+    t: Moment,
+    key: &Key,
+    size: Size,
+    class: Class,
+    tags: &Tags,
+    counts: Counts,
+) -> Result<Done, Refusal>
+    requires account { (account : plain.Account) × StandsForAccount (account_of bucket.old meters.old) account
+        × IsOrderlyAccount t account }
+    requires room { (accepted : ℕ) × (accepted < most_commands)
+        × IsWithinBy accepted (account_of bucket.old meters.old) }
+    requires counts { AreCountsOver bucket.old counts }
+    ensures done { (account : plain.Account) → StandsForAccount (account_of bucket.old meters.old) account
+        → IsOrderlyAccount t account
+        → DoesTold (Versions ∷ Names ∷ []) (put_object t key.now size class tags.now account) account counts (account_of bucket.new meters.new) result }
+    ensures room { OnOk result (HasGrownBy 3 1 (account_of bucket.old meters.old) (account_of bucket.new meters.new)) }
+    ensures room_kept { OnErr result (HasGrownBy 0 0 (account_of bucket.old meters.old)
+        (account_of bucket.new meters.new)) }
+    ensures few { IfOk result (IsFewMore counts) }
+    ensures fits { IfOk result (λ done. ReplyFits done.reply) }
+{
+    let object = Incoming {
+        versioning: bucket.versioning,
+        number: bucket.next_version,
+        size,
+        class,
+        at: t,
+    };
+    put_incoming(bucket, meters, alloc, key, &object, tags, counts)
 }

@@ -12,7 +12,7 @@ use Rattle.bucket_account.specs.Changing.{DoesTold}
 use Rattle.bucket_account.specs.Counting.{AccountRecord, AreCountsOver, account_of}
 use Rattle.bucket_account.proofs.Handed.{err_of}
 use Rattle.bucket_account.proofs.Putting.{ready_for, stay_for, room_for, done_for, refused_for}
-use Rattle.bucket_account.proofs.put.put.Goals as goal
+use Rattle.bucket_account.proofs.put.put_incoming.Goals as goal
 
 pub put_version-requires-clause-ready : goal.put_version-requires-clause-ready
 put_version-requires-clause-ready c =
