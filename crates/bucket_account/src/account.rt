@@ -1,5 +1,5 @@
 // A bucket in memory: its records, its meters and its running count of versions.
-ghost use Rattle.std.specs.Prelude.{◌≡◌, ◌+◌, ◌*◌, ◌<◌, ◌≤◌, ℕ, length, OnOk, OnErr, IfOk};
+ghost use Rattle.std.specs.Prelude.{◌≡◌, ◌+◌, ◌*◌, ◌^◌, ◌<◌, ◌≤◌, ℕ, length, OnOk, OnErr, IfOk};
 ghost use Rattle.accrual.specs.Books.{Book, IsBookedBy};
 ghost use Rattle.accrual.specs.Totals.{StandsFor};
 ghost use Rattle.plain_office.specs.Office as plain;
@@ -44,6 +44,15 @@ impl Model for Account {
     ghost view = { λ a. record { bucket = a.bucket; meters = a.meters } };
 
     ghost invariant = { λ a. (a.versions ≡ version_count a.bucket) × (a.text_bytes ≡ rules_bytes a.bucket.rules) };
+}
+
+// Moves a bucket's own share as the count moved, of which it is one.
+fn moved(own: u64, before: u64, after: u64) -> u64
+    requires some { before ≤ own + after }
+    requires few { own + after < 2 ^ 64 }
+    ensures { result + before ≡ own + after }
+{
+    own + after - before
 }
 
 impl Account {
@@ -94,8 +103,8 @@ impl Account {
             counts,
             self.text_bytes,
         )?;
-        self.versions = self.versions + done.counts.versions - counts.versions;
-        self.text_bytes = self.text_bytes + done.counts.rules - counts.rules;
+        self.versions = moved(self.versions, counts.versions, done.counts.versions);
+        self.text_bytes = moved(self.text_bytes, counts.rules, done.counts.rules);
         Ok(done)
     }
 

@@ -4,7 +4,74 @@ use Rattle.bucket_account.specs.Changing.{change_of, limits_of, DoesTold}
 use Rattle.bucket_account.specs.Counting.{account_of}
 use Rattle.bucket_account.proofs.change.change.Goals as goal
 
+pub returns-in-SetVersioning-clause-done : goal.returns-in-SetVersioning-clause-done
+returns-in-SetVersioning-clause-done c = λ account stands orderly.
+    subst (λ (asked : Command). DoesTold (limits_of asked c.args.bucket.now) (change_of c.args.t asked account) account c.args.counts (account_of c.set_versioning.new.bucket c.set_versioning.new.meters) c.set_versioning.result)
+    (sym c.in-SetVersioning.is)
+    (c.set_versioning.ensures.done account stands orderly)
+
+pub returns-in-SetRules-clause-done : goal.returns-in-SetRules-clause-done
+returns-in-SetRules-clause-done c = λ account stands orderly.
+    subst (λ (asked : Command). DoesTold (limits_of asked c.args.bucket.now) (change_of c.args.t asked account) account c.args.counts (account_of c.set_rules.new.bucket c.set_rules.new.meters) c.set_rules.result)
+    (sym c.in-SetRules.is)
+    (c.set_rules.ensures.done account stands orderly)
+
+pub returns-in-DropRules-clause-done : goal.returns-in-DropRules-clause-done
+returns-in-DropRules-clause-done c = λ account stands orderly.
+    subst (λ (asked : Command). DoesTold (limits_of asked c.args.bucket.now) (change_of c.args.t asked account) account c.args.counts (account_of c.drop_rules.new.bucket c.drop_rules.new.meters) c.drop_rules.result)
+    (sym c.in-DropRules.is)
+    (c.drop_rules.ensures.done account stands orderly)
+
 pub returns-in-Put-clause-done : goal.returns-in-Put-clause-done
 returns-in-Put-clause-done c = λ account stands orderly.
-    subst (λ (asked : Command). DoesTold (limits_of asked) (change_of c.args.t asked account) account c.args.counts (account_of c.put.new.bucket c.put.new.meters) c.put.result) (sym c.in-Put.is)
+    subst (λ (asked : Command). DoesTold (limits_of asked c.args.bucket.now) (change_of c.args.t asked account) account c.args.counts (account_of c.put.new.bucket c.put.new.meters) c.put.result)
+    (sym c.in-Put.is)
     (c.put.ensures.done account stands orderly)
+
+pub returns-in-Delete-clause-done : goal.returns-in-Delete-clause-done
+returns-in-Delete-clause-done c = λ account stands orderly.
+    subst (λ (asked : Command). DoesTold (limits_of asked c.args.bucket.now) (change_of c.args.t asked account) account c.args.counts (account_of c.delete.new.bucket c.delete.new.meters) c.delete.result)
+    (sym c.in-Delete.is)
+    (c.delete.ensures.done account stands orderly)
+
+pub returns-in-DeleteVersion-clause-done : goal.returns-in-DeleteVersion-clause-done
+returns-in-DeleteVersion-clause-done c = λ account stands orderly.
+    subst (λ (asked : Command). DoesTold (limits_of asked c.args.bucket.now) (change_of c.args.t asked account) account c.args.counts (account_of c.delete_version.new.bucket c.delete_version.new.meters) c.delete_version.result)
+    (sym c.in-DeleteVersion.is)
+    (c.delete_version.ensures.done account stands orderly)
+
+pub returns-in-SetTags-clause-done : goal.returns-in-SetTags-clause-done
+returns-in-SetTags-clause-done c = λ account stands orderly.
+    subst (λ (asked : Command). DoesTold (limits_of asked c.args.bucket.now) (change_of c.args.t asked account) account c.args.counts (account_of c.set_tags.new.bucket c.set_tags.new.meters) c.set_tags.result)
+    (sym c.in-SetTags.is)
+    (c.set_tags.ensures.done account stands orderly)
+
+pub returns-in-StartUpload-clause-done : goal.returns-in-StartUpload-clause-done
+returns-in-StartUpload-clause-done c = λ account stands orderly.
+    subst (λ (asked : Command). DoesTold (limits_of asked c.args.bucket.now) (change_of c.args.t asked account) account c.args.counts (account_of c.start_upload.new.bucket c.start_upload.new.meters) c.start_upload.result)
+    (sym c.in-StartUpload.is)
+    (c.start_upload.ensures.done account stands orderly)
+
+pub returns-in-PutPart-clause-done : goal.returns-in-PutPart-clause-done
+returns-in-PutPart-clause-done c = λ account stands orderly.
+    subst (λ (asked : Command). DoesTold (limits_of asked c.args.bucket.now) (change_of c.args.t asked account) account c.args.counts (account_of c.put_part.new.bucket c.put_part.new.meters) c.put_part.result)
+    (sym c.in-PutPart.is)
+    (c.put_part.ensures.done account stands orderly)
+
+pub returns-in-Complete-clause-done : goal.returns-in-Complete-clause-done
+returns-in-Complete-clause-done c = λ account stands orderly.
+    subst (λ (asked : Command). DoesTold (limits_of asked c.args.bucket.now) (change_of c.args.t asked account) account c.args.counts (account_of c.complete.new.bucket c.complete.new.meters) c.complete.result)
+    (sym c.in-Complete.is)
+    (c.complete.ensures.done account stands orderly)
+
+pub returns-in-Abort-clause-done : goal.returns-in-Abort-clause-done
+returns-in-Abort-clause-done c = λ account stands orderly.
+    subst (λ (asked : Command). DoesTold (limits_of asked c.args.bucket.now) (change_of c.args.t asked account) account c.args.counts (account_of c.abort.new.bucket c.abort.new.meters) c.abort.result)
+    (sym c.in-Abort.is)
+    (c.abort.ensures.done account stands orderly)
+
+pub returns-in-Act-clause-done : goal.returns-in-Act-clause-done
+returns-in-Act-clause-done c = λ account stands orderly.
+    subst (λ (asked : Command). DoesTold (limits_of asked c.args.bucket.now) (change_of c.args.t asked account) account c.args.counts (account_of c.act.new.bucket c.act.new.meters) c.act.result)
+    (sym c.in-Act.is)
+    (c.act.ensures.done account stands orderly)
