@@ -5,7 +5,9 @@ use Rattle.office_base.specs.Maps.{at_name}
 use Rattle.office_base.specs.Tags.{Tag}
 use Rattle.moments.specs.Months.{month_at}
 use Rattle.stacks.specs.declared.version.Kind.{Kind}
-use Rattle.stacks.specs.declared.version.Kind.TheVariants.{Object}
+use Rattle.stacks.specs.declared.version.Kind.TheVariants.{Object, Marker}
+use Rattle.stacks.specs.declared.version.Versioning.{Versioning}
+use Rattle.stacks.specs.declared.version.Versioning.TheVariants.{Unversioned}
 use Rattle.stacks.specs.declared.version.Version.{Version}
 use Rattle.stacks.specs.Stacks.{StackRecord, new_stack, new_id, new_version, replaced, after_adding, IsFree}
 use Rattle.accrual.specs.Totals.{Totals, HasRow}
@@ -54,7 +56,13 @@ abbrev pub IsSinceBy : ℕ → Option Version → Type 0
 IsSinceBy at None = Unit {0}
 IsSinceBy at (Some version) = lines_since version ≤ at
 
--- ---- an object that is put
+-- ---- a version that comes
+
+-- an object enters its class at the moment (own); a delete marker comes only where versions are kept (S3 User Guide,
+-- "Working with delete markers")
+abbrev pub MayCome : Versioning → ℕ → Kind → Type 0
+MayCome versioning at (Object size class tags entered) = entered ≡ at
+MayCome versioning at Marker = versioning ≡ Unversioned → ⊥
 
 abbrev pub kind_of : Incoming → List Tag → Kind
 kind_of object tags = Object object.size object.class tags object.at
