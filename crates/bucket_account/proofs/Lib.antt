@@ -1,3 +1,4 @@
+pub mod Doing
 pub mod Ending
 pub mod Handed
 pub mod Putting
