@@ -1,5 +1,7 @@
+pub mod Gone
 pub mod Ending
 pub mod Handed
+pub mod Parting
 pub mod Putting
 pub mod Replacing
 pub mod Rules
