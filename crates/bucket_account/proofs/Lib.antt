@@ -1,5 +1,6 @@
-pub mod Gone
+pub mod Doing
 pub mod Ending
+pub mod Gone
 pub mod Handed
 pub mod Parting
 pub mod Putting

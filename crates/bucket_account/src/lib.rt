@@ -3,6 +3,7 @@
 
 mod account;
 mod act;
+mod adding;
 mod booking;
 mod change;
 mod counts;
@@ -11,6 +12,7 @@ mod dropping;
 mod incoming;
 mod lifecycle;
 mod put;
+mod removing;
 mod tags;
 mod upload;
 mod versioning;
