@@ -2,11 +2,12 @@
 use Rattle.std.proofs.Common.{◌≡◌, ◌⊎◌, inl, inr, ℕ, ◌+◌, ◌≤◌, List, [], ◌∷◌, length, refl, ap, sym, ◌∙◌, subst, Bool, true, false, ◌&&◌, arith}
 use Rattle.std.specs.Prelude.{Option, Some, None, Result, Ok, Err, IfSome, nat_le, sum_by}
 use Rattle.std.specs.List.{AllByRecursion, list_all}
+use Rattle.std.specs.Ordering.{nat_cmp}
 use Rattle.std.proofs.lemmas.Bool.{and_parts, leb-true}
 use Rattle.accrual.specs.Totals.{Totals, StandsFor}
 use Rattle.accrual.proofs.Windows.{month_at_order}
 use Rattle.moments.specs.Months.{month_at}
-use Rattle.office_base.specs.Maps.{at_number, without_number}
+use Rattle.office_base.specs.Maps.{at_number, without_number, Rises}
 use Rattle.uploads.specs.declared.part.Part.{Part}
 use Rattle.uploads.specs.Uploads.{UploadRecord, IsUpload, is_part, is_part_until, total_size}
 use Rattle.office_base.specs.Sizes.{largest_size}
@@ -15,7 +16,7 @@ use Rattle.plain_office.specs.Office.{Account, Books, of_part, book_of}
 use Rattle.plain_office.specs.Books.{is_open_stay}
 use Rattle.plain_office.specs.Changes.{remove_upload, remove_upload_at}
 use Rattle.plain_office.specs.Counts.{tag_bytes, name_bytes, part_count}
-use Rattle.plain_office.specs.Orderly.{IsOrderlyBucket, HasOpenStays, stay_of_part}
+use Rattle.plain_office.specs.Orderly.{IsOrderlyUpload, IsOrderlyBucket, HasOpenStays, stay_of_part}
 use Rattle.office_types.specs.declared.refusal.Refusal.{Refusal}
 use Rattle.office_types.specs.declared.refusal.Refusal.TheVariants.{NoMemory}
 use Rattle.office_types.specs.declared.refusal.What.{What}
@@ -27,7 +28,7 @@ use Rattle.office_laws.proofs.Uploads.{upload_orderly}
 use Rattle.bucket_account.specs.declared.counts.Counts.{Counts}
 use Rattle.bucket_account.specs.Booking.{HasRowsFrom}
 use Rattle.bucket_account.specs.Counting.{AccountRecord, account_of, AreCountsOver, HaveMoved, first_over}
-use Rattle.bucket_account.specs.Effects.{DoesEffect}
+use Rattle.bucket_account.specs.Effects.{IsUploadReadyAt, DoesEffect}
 use Rattle.bucket_account.specs.Standing.{StandsForAccount}
 use Rattle.bucket_account.specs.Uploading.{HavePartStays, AreEndableAt, parts_ended, counts_without}
 
@@ -110,3 +111,46 @@ module _ (account : Account) (last number : ℕ) (upload : UploadRecord) (orderl
     gone_done at uploads meters is stands =
         subst (λ (after : Account). StandsForAccount (account_of (record account.bucket { uploads = uploads }) meters) after × HaveMoved account.bucket after.bucket counts (counts_without upload counts) × (first_over [] (counts_without upload counts) ≡ None)) (sym (at_is at))
         (record { bucket = ap (λ (l : List (ℕ × UploadRecord)). record account.bucket { uploads = l }) is; meters = stands }, moved_without, refl)
+
+-- ---- of any account that the bucket stands for
+
+held_of : (number at : ℕ) (o : Option UploadRecord) (upload : UploadRecord) → o ≡ Some upload → IfSome o (λ u. u.changed ≤ at) → upload.changed ≤ at
+held_of number at o upload is h = subst (λ (x : Option UploadRecord). IfSome x (λ u. u.changed ≤ at)) is h
+
+module _ (b : BucketRecord) (account : Account) (same : b ≡ account.bucket) (number at : ℕ) (upload : UploadRecord) (found : at_number number b.uploads ≡ Some upload) (ready : IsUploadReadyAt number at account) where
+  abbrev there : at_number number account.bucket.uploads ≡ Some upload
+  there = subst (λ (x : BucketRecord). at_number number x.uploads ≡ Some upload) same found
+
+  abbrev orderly : IsOrderlyUpload ready.last upload
+  orderly = (upload_orderly ready.last account.bucket ready.bucket number upload there).1
+
+  pub rises_for : Rises nat_cmp upload.parts
+  rises_for = orderly.parts
+
+  pub stays_for : HavePartStays number upload upload.parts account.books
+  stays_for = stays_of_parts account ready.last number upload ready.bucket there ready.stays
+
+  pub endable_for : (first : ℕ) (meters : Totals) → HasRowsFrom first at meters → AllByRecursion (λ (part : ℕ × Part). first ≤ part.1.put) upload.parts → AreEndableAt at meters upload.parts
+  endable_for first meters rows since =
+      are_endable upload at first meters orderly.ranges_and_moments (held_of number at (at_number number account.bucket.uploads) upload there ready.changed) rows since
+
+  module _ (counts : Counts) (over : AreCountsOver b counts) where
+    abbrev over_it : AreCountsOver account.bucket counts
+    over_it = subst (λ (x : BucketRecord). AreCountsOver x counts) same over
+
+    pub uploads_for : 1 ≤ counts.uploads
+    uploads_for = some_uploads account ready.last number upload ready.bucket there counts over_it
+
+    pub parts_for : length upload.parts ≤ counts.parts
+    parts_for = some_parts account ready.last number upload ready.bucket there counts over_it
+
+    pub names_for : length upload.key + tag_bytes upload.tags ≤ counts.names
+    names_for = some_names account ready.last number upload ready.bucket there counts over_it
+
+    pub gone_for : (uploads : List (ℕ × UploadRecord)) → uploads ≡ without_number number b.uploads → (meters : Totals) → StandsFor meters (book_of (parts_ended upload.key number at upload.parts account.books))
+        → (moved : Counts) → moved ≡ counts_without upload counts
+        → DoesEffect [] (remove_upload_at number at) account counts (account_of (record b { uploads = uploads }) meters) (Ok moved)
+    gone_for uploads is meters stands moved are =
+        subst (λ (m : Counts). DoesEffect [] (remove_upload_at number at) account counts (account_of (record b { uploads = uploads }) meters) (Ok m)) (sym are)
+        (subst (λ (x : BucketRecord). DoesEffect [] (remove_upload_at number at) account counts (account_of (record x { uploads = uploads }) meters) (Ok (counts_without upload counts))) (sym same)
+        (gone_done account ready.last number upload ready.bucket there counts over_it at uploads meters (is ∙ ap (λ (x : BucketRecord). without_number number x.uploads) same) stands))
