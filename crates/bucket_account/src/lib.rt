@@ -8,6 +8,7 @@ mod booking;
 mod change;
 mod counts;
 mod delete;
+mod dropping;
 mod incoming;
 mod lifecycle;
 mod put;
