@@ -1,3 +1,4 @@
+pub mod Accepted
 pub mod Ending
 pub mod Handed
 pub mod Putting
