@@ -1,5 +1,4 @@
 pub mod Accounts
-pub mod Doing
 pub mod Offices
 pub mod Room
 pub mod Steps

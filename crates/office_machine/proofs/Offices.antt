@@ -1,6 +1,6 @@
 -- What the office in memory stands for after each command, and the replies to queries.
-use Rattle.std.proofs.Common.{◌≡◌, inl, inr, ℕ, ◌+◌, ◌≤◌, List, [], ◌∷◌, length, map, refl, ap, sym, ◌∙◌, Bool, true, false, subst, arith}
-use Rattle.std.specs.Prelude.{Option, Some, None, Ok, Err, is_some, unwrap_or}
+use Rattle.std.proofs.Common.{◌≡◌, ◌⊎◌, inl, inr, ℕ, ◌+◌, ◌≤◌, List, [], ◌∷◌, length, map, refl, ap, sym, ◌∙◌, Bool, true, false, subst, arith}
+use Rattle.std.specs.Prelude.{Result, Option, Some, None, Ok, Err, is_some, unwrap_or}
 use Rattle.std.specs.List.{AllByRecursion}
 use Rattle.std.specs.Map.{set_value}
 use Rattle.std.specs.BTreeMap.{is_at}
@@ -14,13 +14,13 @@ use Rattle.plain_office.specs.Office.{Office, Account, empty_office, book_of}
 use Rattle.plain_office.specs.Counts.{count_of, limit_of, version_count}
 use Rattle.plain_office.specs.Orderly.{IsOrderly, SizeFits}
 use Rattle.plain_office.specs.Run.{is_not_before}
-use Rattle.plain_office.specs.Step.{Change, step, accepted, new_account}
+use Rattle.plain_office.specs.Step.{Change, step, accepted, is_accepted, new_account}
 use Rattle.plain_office.specs.Answers.{answer, class_meters, rule_count}
 use Rattle.office_types.specs.declared.command.Command.{Command}
 use Rattle.office_types.specs.declared.command.Command.TheVariants as command
 use Rattle.office_types.specs.declared.command.Query.TheVariants as query
 use Rattle.office_types.specs.declared.reply.Reply.{Reply}
-use Rattle.office_types.specs.declared.reply.Reply.TheVariants.{BucketMade, BucketShown, MetersShown}
+use Rattle.office_types.specs.declared.reply.Reply.TheVariants.{BucketMade, NothingDue, TariffSet, BucketShown, MetersShown}
 use Rattle.office_types.specs.declared.refusal.Refusal.{Refusal}
 use Rattle.office_types.specs.declared.refusal.Refusal.TheVariants.{BucketExists, NoSuchBucket, Full, NoMemory}
 use Rattle.office_types.specs.declared.refusal.What.{What}
@@ -35,9 +35,11 @@ use Rattle.bucket_account.specs.Changing.{change_of, limits_of, IsOnBucket, IsOr
 use Rattle.bucket_account.specs.Counting.{AccountRecord, IsWithinBy, AreCountsOver, amount, in_bucket, HaveMoved, first_over}
 use Rattle.office_machine.specs.Standing.{Records, StandForAccounts, StandsForOffice, IsKept, Does}
 use Rattle.bucket_account.specs.Standing.{StandsForAccount}
+use Rattle.bucket_account.proofs.Accepted.{told_is, FindsNothing, told_or_nothing, something_by, refusal_fits}
+use Rattle.office_types.specs.Fits.{RefusalFits}
 use Rattle.office_machine.proofs.Accounts.{StandsForOption, stand_at, stand_with, stand_set, stand_one}
-use Rattle.office_machine.proofs.Sums.{AreCountsOf, full_is, moved_is, added_is, counts_over}
-use Rattle.office_machine.proofs.Steps.{Answer, step_missing, step_refused, step_full, step_done, placed, made, create_exists, create_full, create_made}
+use Rattle.office_machine.proofs.Sums.{AreCountsOf, full_is, moved_is, added_is, counts_over, same_counts}
+use Rattle.office_machine.proofs.Steps.{Answer, step_missing, step_refused, step_full, step_done, step_nothing, placed, made, create_exists, create_full, create_made, priced, tariff_told}
 
 -- ---- an answer that is the step's
 
@@ -48,6 +50,11 @@ does expected before q after result is stands =
 -- want of memory
 pub wants : (expected : Office × Answer) (before : Office) (after : Records) → StandsForOffice after before → Does expected before after (Err NoMemory)
 wants expected before after stands = inr (refl, stands)
+
+-- the reply that is not accepted
+pub nothing_of : (r : Reply) → is_accepted (Ok r) ≡ false → r ≡ NothingDue
+nothing_of NothingDue is = refl
+nothing_of other is = absurd cc
 
 -- ---- the buckets on both sides
 
@@ -114,6 +121,26 @@ module _ (records : Records) (p : Office) (stands : StandsForOffice records p) w
       accounts = same;
       counts = are;
     }
+
+    -- an accepted command that changed the prices or the closed months alone
+    office_on : (q : Office) (tariff : Option Prices) (closed : List (ℕ × Prices)) (number : ℕ) → tariff ≡ q.tariff → q.first_month ≡ p.first_month → closed ≡ q.closed → q.accounts ≡ p.accounts → IsOrderly (accepted t q)
+        → StandsForOffice (accepted_records t (record records { tariff = tariff; closed = closed }) records.accounts records.counts number) (accepted t q)
+    office_on q tariff closed number priced first months same orderly = record {
+      orderly = orderly;
+      last = refl;
+      tariff = priced;
+      first_month = ap (λ (month : Option ℕ). Some (unwrap_or month (month_at t))) (stands.first_month ∙ sym first);
+      closed = months;
+      accounts = subst (λ (l : List (List ℕ × Account)). StandForAccounts records.accounts l) (sym same) stands.accounts;
+      counts = λ what. stands.counts what ∙ same_counts what p (accepted t q) (sym same);
+    }
+
+    pub does_price : (tariff : Prices) (number : ℕ) → Does (step t (command.SetTariff tariff) p) p (accepted_records t (record records { tariff = Some tariff }) records.accounts records.counts number) (Ok TariffSet)
+    does_price tariff number =
+        let told = tariff_told t p tariff in
+        does (step t (command.SetTariff tariff) p) p (accepted t (priced t p tariff)) (accepted_records t (record records { tariff = Some tariff }) records.accounts records.counts number) (Ok TariffSet) told
+        (office_on (priced t p tariff) (Some tariff) records.closed number refl refl stands.closed refl
+        (subst IsOrderly (ap (λ (x : Office × Answer). x.0) told) (step_orderly t (command.SetTariff tariff) p tt stands.orderly later_plain)))
 
   module _ (name : List ℕ) where
     side_by_side : StandsForOption (at_name name records.accounts) (at_name name p.accounts)
@@ -187,7 +214,18 @@ module _ (records : Records) (p : Office) (stands : StandsForOffice records p) w
 
         module _ (written : AccountRecord) (accounts : List (List ℕ × AccountRecord)) (set : accounts ≡ set_value (is_at (bytes_cmp name)) records.accounts written) where
           abbrev whats : List What
-          whats = limits_of asked
+          whats = limits_of asked account.bucket
+
+          -- what the call tells, whatever it stands for
+          abbrev Told : Result Done Refusal → Type 0
+          Told result =
+              (account : Account) → StandsForAccount held account → IsOrderlyAccount t account
+              → DoesTold (limits_of asked held.bucket) (change_of t asked account) account records.counts written result
+
+          told_of : (result : Result Done Refusal) → Told result → DoesTold whats (change_of t asked account) account records.counts written result
+          told_of result told =
+              subst (λ (bucket : BucketRecord). DoesTold (limits_of asked bucket) (change_of t asked account) account records.counts written result) holds.bucket
+              (told account holds orderly_account)
 
           set_standing : (after : Account) → StandsForAccount written after → StandForAccounts accounts (with_name name after p.accounts)
           set_standing after same =
@@ -197,31 +235,45 @@ module _ (records : Records) (p : Office) (stands : StandsForOffice records p) w
           one_after : (after : Account) → Replaced (name, account) (name, after) p.accounts (with_name name after p.accounts)
           one_after after = replaced by_name name after account p.accounts stands.orderly.records.names there
 
-          counts_are : (after : Account) (moved : Counts) → HaveMoved account.bucket after.bucket records.counts moved → AreCountsOf (placed t p name asked on after) moved
-          counts_are after moved follow = moved_is p (placed t p name asked on after) name account after (one_after after) records.counts moved stands.counts follow
+          counts_are : (after : Account) (moved : Counts) → HaveMoved account.bucket after.bucket records.counts moved → AreCountsOf (placed t p name after) moved
+          counts_are after moved follow = moved_is p (placed t p name after) name account after (one_after after) records.counts moved stands.counts follow
 
-          done_by : (told : Change) (done : Done) (number : ℕ) → change_of t asked account ≡ told → SizeFits asked → DoesTold whats told account records.counts written (Ok done)
+          done_by : (told : Change) (done : Done) (number : ℕ) → change_of t asked account ≡ told → SizeFits asked → is_accepted (Ok done.reply) ≡ true → DoesTold whats told account records.counts written (Ok done)
               → Does (step t asked p) p (accepted_records t records accounts done.counts number) (Ok done.reply)
-          done_by (Err refusal) done number is fits h = absurd h
-          done_by (Ok (after, reply)) done number is fits h =
-              let free = full_is whats (placed t p name asked on after) done.counts (counts_are after done.counts h.2) ∙ h.3 in
-              let stepped = step_done t p name asked on account there after reply is free in
-              does (step t asked p) p (accepted t (placed t p name asked on after)) (accepted_records t records accounts done.counts number) (Ok done.reply)
-              (stepped ∙ ap (λ (r : Reply). (accepted t (placed t p name asked on after), Ok r)) (sym h.0))
-              (moved_on t later (placed t p name asked on after) accounts done.counts number refl refl refl (set_standing after h.1)
-              (moved_is p (accepted t (placed t p name asked on after)) name account after (one_after after) records.counts done.counts stands.counts h.2)
+          done_by (Err refusal) done number is fits accepts h = absurd h
+          done_by (Ok (after, reply)) done number is fits accepts h =
+              let free = full_is whats (placed t p name after) done.counts (counts_are after done.counts h.2) ∙ h.3 in
+              let stepped = step_done t p name asked on account there after reply is free (ap (λ (r : Reply). is_accepted (Ok r)) (sym h.0) ∙ accepts) in
+              does (step t asked p) p (accepted t (placed t p name after)) (accepted_records t records accounts done.counts number) (Ok done.reply)
+              (stepped ∙ ap (λ (r : Reply). (accepted t (placed t p name after), Ok r)) (sym h.0))
+              (moved_on t later (placed t p name after) accounts done.counts number refl refl refl (set_standing after h.1)
+              (moved_is p (accepted t (placed t p name after)) name account after (one_after after) records.counts done.counts stands.counts h.2)
               (subst IsOrderly (ap (λ (x : Office × Answer). x.0) stepped) (step_orderly t asked p fits stands.orderly (later_plain t later))))
 
           -- a change that was done
-          pub does_done : (done : Done) (number : ℕ) → SizeFits asked → ((account : Account) → StandsForAccount held account → IsOrderlyAccount t account → DoesTold whats (change_of t asked account) account records.counts written (Ok done))
+          pub does_done : (done : Done) (number : ℕ) → SizeFits asked → is_accepted (Ok done.reply) ≡ true → Told (Ok done)
               → Does (step t asked p) p (accepted_records t records accounts done.counts number) (Ok done.reply)
-          does_done done number fits does_told = done_by (change_of t asked account) done number refl fits (does_told account holds orderly_account)
+          does_done done number fits accepts told = done_by (change_of t asked account) done number refl fits accepts (told_of (Ok done) told)
 
           kept : (written_for : StandsForAccount written account) → StandsForOffice (with_accounts records accounts) p
           kept written_for =
               still accounts
               (subst (λ (l : List (List ℕ × AccountRecord)). StandForAccounts l p.accounts) (sym set)
               (stand_one name written account written_for records.accounts p.accounts stands.accounts stands.orderly.records.names there))
+
+          nothing_by : (done : Done) → done.reply ≡ NothingDue → (told_is (change_of t asked account) ≡ true) ⊎ FindsNothing account (change_of t asked account)
+              → DoesTold whats (change_of t asked account) account records.counts written (Ok done) → Does (step t asked p) p (with_accounts records accounts) (Ok done.reply)
+          nothing_by done nothing (inl told) h =
+              something_by whats account records.counts written (change_of t asked account) told (Ok done) h (Does (step t asked p) p (with_accounts records accounts) (Ok done.reply)) nothing
+          nothing_by done nothing (inr is) h =
+              let same = subst (λ (told : Change). DoesTold whats told account records.counts written (Ok done)) is h in
+              let free = full_is whats (placed t p name account) done.counts (counts_are account done.counts same.2) ∙ same.3 in
+              does (step t asked p) p p (with_accounts records accounts) (Ok done.reply)
+              (step_nothing t p name asked on account there account is free ∙ ap (λ (r : Reply). (p, Ok r)) (sym nothing)) (kept same.1)
+
+          -- an act that found nothing due
+          pub does_nothing : (done : Done) → is_accepted (Ok done.reply) ≡ false → Told (Ok done) → Does (step t asked p) p (with_accounts records accounts) (Ok done.reply)
+          does_nothing done refused told = nothing_by done (nothing_of done.reply refused) (told_or_nothing t account asked) (told_of (Ok done) told)
 
           refused_by : (told : Change) (refusal : Refusal) → change_of t asked account ≡ told → DoesTold whats told account records.counts written (Err refusal)
               → Does (step t asked p) p (with_accounts records accounts) (Err refusal)
@@ -232,14 +284,16 @@ module _ (records : Records) (p : Office) (stands : StandsForOffice records p) w
           refused_by (Ok (after, reply)) refusal is (inl wanting, same) = inr (ap (λ (r : Refusal). Err r) wanting, kept same)
           refused_by (Ok (after, reply)) refusal is (inr after_all, same) =
               let full = after_all.full in
-              let first = full_is whats (placed t p name asked on after) after_all.moved (counts_are after after_all.moved after_all.follow) ∙ full.1 in
+              let first = full_is whats (placed t p name after) after_all.moved (counts_are after after_all.moved after_all.follow) ∙ full.1 in
               does (step t asked p) p p (with_accounts records accounts) (Err refusal)
               (step_full t p name asked on account there after reply full.0 is first ∙ ap (λ (r : Refusal). (p, Err r)) (sym full.2)) (kept same)
 
           -- a change that was refused
-          pub does_refuse : (refusal : Refusal) → ((account : Account) → StandsForAccount held account → IsOrderlyAccount t account → DoesTold whats (change_of t asked account) account records.counts written (Err refusal))
-              → Does (step t asked p) p (with_accounts records accounts) (Err refusal)
-          does_refuse refusal does_told = refused_by (change_of t asked account) refusal refl (does_told account holds orderly_account)
+          pub does_refuse : (refusal : Refusal) → Told (Err refusal) → Does (step t asked p) p (with_accounts records accounts) (Err refusal)
+          does_refuse refusal told = refused_by (change_of t asked account) refusal refl (told_of (Err refusal) told)
+
+          pub refuses_fitly : (refusal : Refusal) → Told (Err refusal) → RefusalFits refusal
+          refuses_fitly refusal told = refusal_fits whats account records.counts written (change_of t asked account) refusal (told_or_nothing t account asked) (told_of (Err refusal) told)
 
     -- ---- queries
 

@@ -40,6 +40,10 @@ count_is Parts p = refl
 count_is Names p = refl
 count_is Rules p = refl
 
+-- it goes by the accounts alone
+pub same_counts : (what : What) (p q : Office) → p.accounts ≡ q.accounts → count_of what p ≡ count_of what q
+same_counts what p q same = count_is what p ∙ ap (λ (l : List Entry). sum_by (in_entry what) l) same ∙ sym (count_is what q)
+
 -- the first that is full
 pub full_is : (whats : List What) (p : Office) (counts : Counts) → AreCountsOf p counts → first_full whats p ≡ first_over whats counts
 full_is [] p counts same = refl

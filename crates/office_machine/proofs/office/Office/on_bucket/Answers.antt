@@ -8,13 +8,12 @@ use Rattle.plain_office.specs.Step.{step, is_accepted}
 use Rattle.office_types.specs.declared.reply.Reply.{Reply}
 use Rattle.office_types.specs.declared.refusal.Refusal.{Refusal}
 use Rattle.office_types.specs.declared.refusal.Refusal.TheVariants.{NoSuchBucket}
-use Rattle.bucket_account.specs.Changing.{limits_of}
+use Rattle.office_types.specs.Fits.{AnswerFits}
 use Rattle.bucket_account.specs.Counting.{AccountRecord}
 use Rattle.office_machine.specs.Standing.{Records, StandsForOffice, IsKept, Does}
 use Rattle.bucket_account.specs.Standing.{most_commands}
 use Rattle.bucket_account.proofs.Handed.{err_of}
-use Rattle.office_machine.proofs.Doing.{done_accepted}
-use Rattle.office_machine.proofs.Offices.{does_miss, does_done, does_refuse, for_account, for_counts, accepted_records, with_accounts, with_month, kept_on}
+use Rattle.office_machine.proofs.Offices.{does_miss, does_done, does_nothing, nothing_of, does_refuse, refuses_fitly, for_account, for_counts, accepted_records, with_accounts, with_month, kept_on}
 use Rattle.office_machine.proofs.Room.{IsRoomy, room_at, room_more, room_grown, room_kept, room_set}
 use Rattle.office_machine.proofs.office.Office.on_bucket.Goals as goal
 
@@ -76,6 +75,51 @@ returns-in_err-done-clause-step c = λ p stands.
     subst (λ (r : Result Reply Refusal). Does (step c.args.t c.args.command.now p) p (with_accounts inside accounts) r) (err_of c.from_residual.result c.in_err-done.field-0.0 c.from_residual.ensures.1)
     (does_refuse inside p stood c.args.name.now c.args.t later c.args.command.now c.requires.named held found written accounts set c.in_err-done.field-0.0 c.in_err-done.ensures.done)
 
+pub returns-in_err-done-clause-fits : goal.returns-in_err-done-clause-fits
+returns-in_err-done-clause-fits c =
+    let inside : Records =
+    record { last = c.self.inside.last; tariff = c.self.inside.tariff; first_month = c.self.inside.first_month; closed = c.self.inside.closed.items; accounts = c.self.inside.accounts.entries; counts = c.self.inside.counts; accepted = c.self.inside.accepted } in
+    let later : is_not_before inside.last c.args.t ≡ true = subst (λ (r : Records). is_not_before r.last c.args.t ≡ true) (sym c.self.view_is) c.requires.later in
+    let found = sym c.in-Some.ensures.value in
+    let held : AccountRecord = c.in-Some.account.now in
+    let written : AccountRecord = c.apply.new.self in
+    let accounts : List (List ℕ × AccountRecord) = (c.get_mut.follows.lender c.apply.new.self).entries in
+    let set = (c.get_mut.follows.holds c.apply.new.self).0 in
+    subst AnswerFits (err_of c.from_residual.result c.in_err-done.field-0.0 c.from_residual.ensures.1)
+    (refuses_fitly inside c.self.invariant.office c.self.invariant.stands c.args.name.now c.args.t later c.args.command.now c.requires.named held found written accounts set c.in_err-done.field-0.0 c.in_err-done.ensures.done)
+
+pub invariant_of-self-then-not-is_accepted : goal.invariant_of-self-then-not-is_accepted
+invariant_of-self-then-not-is_accepted c =
+    let inside : Records =
+    record { last = c.self.inside.last; tariff = c.self.inside.tariff; first_month = c.self.inside.first_month; closed = c.self.inside.closed.items; accounts = c.self.inside.accounts.entries; counts = c.self.inside.counts; accepted = c.self.inside.accepted } in
+    let later : is_not_before inside.last c.args.t ≡ true = subst (λ (r : Records). is_not_before r.last c.args.t ≡ true) (sym c.self.view_is) c.requires.later in
+    let found = sym c.in-Some.ensures.value in
+    let held : AccountRecord = c.in-Some.account.now in
+    let written : AccountRecord = c.apply.new.self in
+    let accounts : List (List ℕ × AccountRecord) = (c.get_mut.follows.lender c.apply.new.self).entries in
+    let set = (c.get_mut.follows.holds c.apply.new.self).0 in
+    let p : Office = c.self.invariant.office in
+    let unaccepted = sym c.is_accepted.ensures ∙ c.if-not-is_accepted.true in
+    kept_on (step c.args.t c.args.command.now p) p (with_accounts inside accounts) (Ok c.in_ok-done.done.reply)
+    (does_nothing inside p c.self.invariant.stands c.args.name.now c.args.t later c.args.command.now c.requires.named held found written accounts set c.in_ok-done.done unaccepted c.in_ok-done.ensures.done)
+    (subst (AllByRecursion (IsRoomy inside.accepted)) (sym set)
+    (room_set inside.accepted c.args.name.now written
+    (room_kept inside.accepted held written (room_at inside.accepted c.args.name.now held inside.accounts c.self.invariant.room found) (c.in_ok-done.ensures.nothing (nothing_of c.in_ok-done.done.reply unaccepted))) inside.accounts c.self.invariant.room))
+
+pub returns-then-not-is_accepted-clause-step : goal.returns-then-not-is_accepted-clause-step
+returns-then-not-is_accepted-clause-step c = λ p stands.
+    let inside : Records =
+    record { last = c.self.inside.last; tariff = c.self.inside.tariff; first_month = c.self.inside.first_month; closed = c.self.inside.closed.items; accounts = c.self.inside.accounts.entries; counts = c.self.inside.counts; accepted = c.self.inside.accepted } in
+    let later : is_not_before inside.last c.args.t ≡ true = subst (λ (r : Records). is_not_before r.last c.args.t ≡ true) (sym c.self.view_is) c.requires.later in
+    let stood : StandsForOffice inside p = subst (λ (r : Records). StandsForOffice r p) (sym c.self.view_is) stands in
+    let found = sym c.in-Some.ensures.value in
+    let held : AccountRecord = c.in-Some.account.now in
+    let written : AccountRecord = c.apply.new.self in
+    let accounts : List (List ℕ × AccountRecord) = (c.get_mut.follows.lender c.apply.new.self).entries in
+    let set = (c.get_mut.follows.holds c.apply.new.self).0 in
+    let unaccepted = sym c.is_accepted.ensures ∙ c.if-not-is_accepted.true in
+    does_nothing inside p stood c.args.name.now c.args.t later c.args.command.now c.requires.named held found written accounts set c.in_ok-done.done unaccepted c.in_ok-done.ensures.done
+
 pub invariant_of-self-2 : goal.invariant_of-self-2
 invariant_of-self-2 c =
     let inside : Records =
@@ -87,9 +131,10 @@ invariant_of-self-2 c =
     let accounts : List (List ℕ × AccountRecord) = (c.get_mut.follows.lender c.apply.new.self).entries in
     let set = (c.get_mut.follows.holds c.apply.new.self).0 in
     let p : Office = c.self.invariant.office in
+    let accepts = sym c.is_accepted.ensures ∙ c.if-not-is_accepted.false in
     with_month c.args.t inside accounts c.in_ok-done.done.counts (inside.accepted + 1) c.first_of.result c.first_of.ensures IsKept
     (kept_on (step c.args.t c.args.command.now p) p (accepted_records c.args.t inside accounts c.in_ok-done.done.counts (inside.accepted + 1)) (Ok c.in_ok-done.done.reply)
-    (does_done inside p c.self.invariant.stands c.args.name.now c.args.t later c.args.command.now c.requires.named held found written accounts set c.in_ok-done.done (inside.accepted + 1) c.requires.fits c.in_ok-done.ensures.done)
+    (does_done inside p c.self.invariant.stands c.args.name.now c.args.t later c.args.command.now c.requires.named held found written accounts set c.in_ok-done.done (inside.accepted + 1) c.requires.size accepts c.in_ok-done.ensures.done)
     (subst (AllByRecursion (IsRoomy (inside.accepted + 1))) (sym set)
     (room_set (inside.accepted + 1) c.args.name.now written
     (room_grown inside.accepted held written (room_at inside.accepted c.args.name.now held inside.accounts c.self.invariant.room found) c.in_ok-done.ensures.room) inside.accounts
@@ -106,21 +151,7 @@ returns-clause-step c = λ p stands.
     let written : AccountRecord = c.apply.new.self in
     let accounts : List (List ℕ × AccountRecord) = (c.get_mut.follows.lender c.apply.new.self).entries in
     let set = (c.get_mut.follows.holds c.apply.new.self).0 in
+    let accepts = sym c.is_accepted.ensures ∙ c.if-not-is_accepted.false in
     with_month c.args.t inside accounts c.in_ok-done.done.counts (inside.accepted + 1) c.first_of.result c.first_of.ensures
     (λ (r : Records). Does (step c.args.t c.args.command.now p) p r (Ok c.in_ok-done.done.reply))
-    (does_done inside p stood c.args.name.now c.args.t later c.args.command.now c.requires.named held found written accounts set c.in_ok-done.done (inside.accepted + 1) c.requires.fits c.in_ok-done.ensures.done)
-
-pub returns-clause-accepted : goal.returns-clause-accepted
-returns-clause-accepted c =
-    let inside : Records =
-    record { last = c.self.inside.last; tariff = c.self.inside.tariff; first_month = c.self.inside.first_month; closed = c.self.inside.closed.items; accounts = c.self.inside.accounts.entries; counts = c.self.inside.counts; accepted = c.self.inside.accepted } in
-    let later : is_not_before inside.last c.args.t ≡ true = subst (λ (r : Records). is_not_before r.last c.args.t ≡ true) (sym c.self.view_is) c.requires.later in
-    let found = sym c.in-Some.ensures.value in
-    let held : AccountRecord = c.in-Some.account.now in
-    let written : AccountRecord = c.apply.new.self in
-    let accounts : List (List ℕ × AccountRecord) = (c.get_mut.follows.lender c.apply.new.self).entries in
-    let set = (c.get_mut.follows.holds c.apply.new.self).0 in
-    let account = for_account inside c.self.invariant.office c.self.invariant.stands c.args.name.now c.args.t later c.args.command.now c.requires.named held found in
-    let is : is_accepted (Ok c.in_ok-done.done.reply) ≡ true =
-    done_accepted (limits_of c.args.command.now) account.0 inside.counts written c.in_ok-done.done c.args.t c.args.name.now c.args.command.now c.requires.named (c.in_ok-done.ensures.done account.0 account.1 account.2) in
-    ap (λ (r : Records). r.accepted + 1) c.self.view_is ∙ sym (ap (λ (b : Bool). cond b (c.args.self.now.accepted + 1) c.args.self.now.accepted) is)
+    (does_done inside p stood c.args.name.now c.args.t later c.args.command.now c.requires.named held found written accounts set c.in_ok-done.done (inside.accepted + 1) c.requires.size accepts c.in_ok-done.ensures.done)

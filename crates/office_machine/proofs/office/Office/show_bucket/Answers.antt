@@ -7,6 +7,7 @@ pub returns-in_default : goal.returns-in_default
 returns-in_default c = record {
   reply = λ t p stands.
       inl (sym (shows_none _ p (subst (λ (r : Records). StandsForOffice r p) (sym c.self.view_is) stands) c.args.name.now t (sym c.in_default.ensures.value)));
+  fits = tt;
 }
 
 pub uploads-requires : goal.uploads-requires
@@ -20,4 +21,5 @@ returns c = record {
   reply = λ t p stands.
       let is = shows _ p (subst (λ (r : Records). StandsForOffice r p) (sym c.self.view_is) stands) c.args.name.now c.in-Some.account.now (sym c.in-Some.ensures.value) t in
       inl (rw (c.in_ok-copy_of.ensures.ok, c.rules.ensures, c.uploads.ensures, c.versioning.ensures, c.versions.ensures) (sym is));
+  fits = tt;
 }

@@ -10,6 +10,7 @@ pub returns-in_default : goal.returns-in_default
 returns-in_default c = record {
   reply = λ p stands.
       inl (sym (meters_none _ p (subst (λ (r : Records). StandsForOffice r p) (sym c.self.view_is) stands) c.args.name.now c.args.t c.args.month (sym c.in_default.ensures.value)));
+  fits = tt;
 }
 
 pub returns : goal.returns
@@ -28,4 +29,5 @@ returns c = record {
       let used5 = c.used-5.ensures book meters booked in
       let used6 = c.used-6.ensures book meters booked in
       inl (rw (c.in_ok-bucket.ensures.ok, used1, used2, used3, used4, used5, used6) (sym is));
+  fits = tt;
 }
