@@ -1,3 +1,6 @@
 pub mod Examples
 pub mod Later
+pub mod Loops
+pub mod Pass
 pub mod Precedence
+pub mod RuleCount
