@@ -13,16 +13,12 @@ use Rattle.due_core.specs.Buckets.{BucketRecord}
 use Rattle.due_core.specs.RuleActions.{DueAction, Placed, placed_from, matches_version, version_actions, upload_actions}
 use Rattle.due_core.specs.Candidates.{timely, stack_candidates, upload_candidates, eligible_by, eligible, candidates}
 use Rattle.due_core.specs.Choice.{comes_before, least, choice}
-use Rattle.due_core.specs.Search.{Aim, with_come, first_come, with_due, first_due, aimed, asked_of_version, version_candidates, key_candidates, asked_of_upload, number_candidates}
+use Rattle.due_core.specs.Search.{Aim, with_come, first_come, with_due, first_due, aimed, setting_of, asked_of_version, version_candidates, key_candidates, asked_of_upload, number_candidates}
 use Rattle.due_core.specs.declared.action.Candidate.{Candidate}
 use Rattle.due_core.specs.declared.action.Target.TheVariants as target
-use Rattle.due_core.specs.declared.asked.Setting.{Setting}
 use Rattle.due_core.proofs.Loops.{picked_twice, same_flat}
 
 -- ---- what one rule asks of one target
-
-timely_of : Aim → List DueAction → List Candidate
-timely_of aim asked = timely aim.key aim.target aim.rule aim.age aim.not_before asked
 
 due_by : (aim : Aim) (best : Option Candidate) (due : DueAction) (asked : List DueAction) (b : Bool)
     → ((o : Option Candidate) → first_due aim o asked ≡ first_come aim.t o (timely aim.key aim.target aim.rule aim.age aim.not_before asked))
@@ -37,9 +33,6 @@ due_come aim best [] = refl
 due_come aim best (due ∷ asked) = due_by aim best due asked (nat_lt due.1 end_of_time) (λ o. due_come aim o asked)
 
 -- ---- the candidates of the search are the eligible ones
-
-abbrev setting_of : BucketRecord → Configuration → ℕ → Setting
-setting_of bucket rules t = record { versioning = bucket.versioning; mode = rules.mode; rules_since = bucket.rules_since; t = t }
 
 module _ (bucket : BucketRecord) (rules : Configuration) (t : ℕ) where
   same_versions : (entry : List ℕ × StackRecord) → key_candidates (setting_of bucket rules t) rules.rules entry ≡ stack_candidates bucket rules entry

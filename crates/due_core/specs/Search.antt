@@ -3,9 +3,11 @@ use Rattle.std.specs.Prelude.{ℕ, max, List, [], fold, flat_map, nat_lt, nat_le
 use Rattle.std.specs.List.{enumerate_from}
 use Rattle.moments.specs.Time.{end_of_time}
 use Rattle.rules_core.specs.Matching.{matches_upload}
+use Rattle.rules_core.specs.Configurations.{Configuration}
 use Rattle.rules_core.specs.declared.rule.Rule.{Rule}
 use Rattle.stacks.specs.Stacks.{StackRecord}
 use Rattle.uploads.specs.Uploads.{UploadRecord}
+use Rattle.due_core.specs.Buckets.{BucketRecord}
 use Rattle.due_core.specs.Candidates.{timely}
 use Rattle.due_core.specs.Choice.{comes_before}
 use Rattle.due_core.specs.RuleActions.{DueAction, Placed, placed_from, version_actions, matches_version, upload_actions}
@@ -57,6 +59,11 @@ abbrev pub first_due : Aim → Option Candidate → List DueAction → Option Ca
 first_due aim best asked = fold (with_due aim) best asked
 
 -- ---- the candidates in the order of the search: each version or upload, and each rule with its place from 1
+
+-- what of a bucket and its configuration bears on a search at this moment
+abbrev pub setting_of : BucketRecord → Configuration → ℕ → Setting
+setting_of bucket rules t =
+    record { versioning = bucket.versioning; mode = rules.mode; rules_since = bucket.rules_since; t = t }
 
 -- what an enabled rule asks of a version that it matches, in a stack that changed last at this moment
 abbrev pub asked_of_version : Setting → List ℕ → ℕ → Placed → ℕ × Rule → List Candidate

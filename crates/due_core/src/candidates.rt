@@ -3,7 +3,7 @@ ghost use Rattle.std.specs.Prelude.{◌≡◌, ◌≤◌, length, max, flat_map,
 ghost use Rattle.std.specs.List.{enumerate_from};
 ghost use Rattle.due_core.specs.Choice.{choice};
 ghost use Rattle.due_core.specs.RuleActions.{matches_version, placed_from};
-ghost use Rattle.due_core.specs.Search.{first_come, asked_of_version, asked_of_upload, version_candidates, key_candidates, number_candidates};
+ghost use Rattle.due_core.specs.Search.{first_come, setting_of, asked_of_version, asked_of_upload, version_candidates, key_candidates, number_candidates};
 
 use crate::asked::{Aim, Placed, Setting};
 use crate::found::Found;
@@ -181,18 +181,24 @@ fn uploads<'a>(
     first
 }
 
-// Finds the first of the actions that have come.
-#[tactic(auto, using(crate::proofs::RuleCount::few_rules, crate::proofs::Pass::is_choice))]
-fn first<'a>(bucket: &'a Bucket, rules: &RuleSet, t: Moment) -> Option<Found<'a>>
-    requires own { bucket.now.rules ≡ Some rules.now }
-    ensures { option_map (λ found. found.action) result ≡ choice bucket.now t }
+fn setting_of(bucket: &Bucket, rules: &RuleSet, t: Moment) -> Setting
+    ensures { result ≡ setting_of bucket.now rules.now t }
 {
-    let setting = Setting {
+    Setting {
         versioning: bucket.versioning,
         mode: rules.mode(),
         rules_since: bucket.rules_since,
         t,
-    };
+    }
+}
+
+// Finds the first of the actions that have come.
+#[tactic(auto, using(crate::proofs::RuleCount::few_rules))]
+fn first<'a>(bucket: &'a Bucket, rules: &RuleSet, t: Moment) -> Option<Found<'a>>
+    requires own { bucket.now.rules ≡ Some rules.now }
+    ensures { option_map (λ found. found.action) result ≡ choice bucket.now t }
+{
+    let setting = setting_of(bucket, rules, t);
     let first = stacks(bucket, &setting, rules.rules());
     uploads(first, bucket, &setting, rules.rules())
 }
