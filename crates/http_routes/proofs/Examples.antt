@@ -56,29 +56,6 @@ a_query : (resource : Resource) → HasRoute (codes "/buckets/a?b") resource →
 a_query resource has = false≢true (sym has.no_query)
 
 -- nor without a slash in front
-no_slash : (resource : Resource) → HasRoute (codes "buckets/a") resource → ⊥
-no_slash (bucket name) has = absurd (omega (arith, ap (λ (t : List ℕ). get_or t 0 0) has.spelled.0))
-no_slash (object name key) has = absurd (omega (arith, ap (λ (t : List ℕ). get_or t 0 0) has.spelled.0))
-no_slash (meters name month) has = absurd (omega (arith, ap (λ (t : List ℕ). get_or t 0 0) has.spelled.0))
-
--- nor with another word
-another_word : (resource : Resource) → HasRoute (codes "/bucket/x") resource → ⊥
-another_word (bucket name) has = absurd (omega (arith, ap (λ (t : List ℕ). get_or t 7 0) has.spelled.0))
-another_word (object name key) has = absurd (omega (arith, ap (λ (t : List ℕ). get_or t 7 0) has.spelled.0))
-another_word (meters name month) has = absurd (omega (arith, ap (λ (t : List ℕ). get_or t 7 0) has.spelled.0))
-
--- nor with an empty key
-no_key : (resource : Resource) → HasRoute (codes "/buckets/a/objects/") resource → ⊥
-no_key (bucket name) has =
-    let e : codes "a/objects/" ≡ name = ap (λ (t : List ℕ). drop 9 t) has.spelled.0 in
-    false≢true (sym has.spelled.1.plain ∙ sym (ap (λ (t : List ℕ). has_byte 47 t) e))
-no_key (object name key) has =
-    let same = part_unique (codes "a") (codes "/objects/") name (codes "/objects/" ++ key) refl (segment_of_part name has.spelled.1).plain refl refl (ap (λ (t : List ℕ). drop 9 t) has.spelled.0) in
-    absurd (omega (arith, has.spelled.2, ap length same.1))
-no_key (meters name month) has =
-    let same = part_unique (codes "a") (codes "/objects/") name (codes "/meters/" ++ month) refl (segment_of_part name has.spelled.1).plain refl refl (ap (λ (t : List ℕ). drop 9 t) has.spelled.0) in
-    absurd (omega (arith, ap (λ (t : List ℕ). get_or t 1 0) same.1))
-
 -- ---- keys
 
 decoded : key_of (codes "b%2Fc") ≡ codes "b/c"

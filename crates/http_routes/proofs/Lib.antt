@@ -1,4 +1,4 @@
-mod Closed
+mod Pieces
 mod Complete
 mod Examples
 mod Found
