@@ -9,8 +9,6 @@ use Rattle.percent_encoding.specs.Percent.{percent_decode}
 use Rattle.office_base.specs.Keys.{is_key}
 use Rattle.http_routes.specs.Targets.{Resource, bucket, object, meters, has_byte, HasRoute}
 use Rattle.http_routes.specs.Spelled.{key_of}
-use Rattle.http_routes.proofs.Closed.{segment_of_part}
-use Rattle.http_routes.proofs.Unique.{part_unique}
 
 -- ---- targets
 

@@ -126,9 +126,9 @@ past_word (b ∷ text) tokens path parts small t =
 past_segment : (tokens path : List ℕ) (parts : List (List ℕ)) → Takes (param_token ∷ tokens) path parts
     → (rest : List ℕ) × IsPart (first_of parts) × (path ≡ first_of parts ++ rest) × Takes tokens rest (after_first parts)
 past_segment tokens path parts (inl t) = absurd (omega (arith, t.0))
-past_segment tokens path parts (inr (inl (is, one, rest, later, segment, e, q, t))) = (
+past_segment tokens path parts (inr (inl (is, one, rest, later, whole, e, q, t))) = (
   rest,
-  subst (λ (p : List (List ℕ)). IsPart (first_of p)) (sym q) (part_of_segment one segment),
+  subst (λ (p : List (List ℕ)). IsPart (first_of p)) (sym q) (part_of_segment one whole),
   e ∙ ap (λ (p : List (List ℕ)). first_of p ++ rest) (sym q),
   subst (λ (p : List (List ℕ)). Takes tokens rest (after_first p)) (sym q) t,
 )
@@ -158,11 +158,11 @@ spells (segment text ∷ pieces) path parts fine t =
     let slash = past_byte 47 (param_token ∷ tokens_of pieces) path parts (omega arith) t in
     let first = past_segment (tokens_of pieces) slash.0 parts slash.2 in
     let later = spells pieces first.0 (after_first parts) fine first.3 in
-    (slash.1 ∙ ap (λ (y : List ℕ). 47 ∷ y) (first.2 ∙ ap (λ (y : List ℕ). first_of parts ++ y) later.0), first.1, later.1)
+    (slash.1 ∙ ap (λ (y : List ℕ). 47 ∷ y) (first.2 ∙ ap (λ (y : List ℕ). first_of parts ++ y) later.0), (first.1, later.1))
 spells (remainder text ∷ []) path parts fine t =
     let slash = past_byte 47 (catch_all_token ∷ []) path parts (omega arith) t in
     let first = past_rest slash.0 parts slash.2 in
-    (slash.1 ∙ ap (λ (y : List ℕ). 47 ∷ y) first.1, first.0, tt)
+    (slash.1 ∙ ap (λ (y : List ℕ). 47 ∷ y) first.1, (first.0, tt))
 spells (remainder text ∷ piece ∷ pieces) path parts fine t = absurd (false≢true fine)
 
 -- ---- from the path to the pattern

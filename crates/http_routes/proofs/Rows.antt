@@ -1,7 +1,8 @@
 -- The rows of the router.
-use Rattle.std.proofs.Common.{◌≡◌, ℕ, zero, suc, ◌<◌, ◌++◌, get_or, take, map, append-nil, append_assoc, arith, Bool, true, false, cond, ◌==◌, ◌&&◌, not, List, [], ◌∷◌, length, nat_eq, refl, sym, ap, ◌∙◌, subst, inl, inr, Result, Ok, Err, Some, None}
+use Rattle.std.proofs.Common.{◌≡◌, ℕ, zero, suc, ◌+◌, ◌<◌, ◌++◌, get_or, take, map, append-nil, append_assoc, arith, Bool, true, false, cond, ◌==◌, ◌&&◌, not, List, [], ◌∷◌, length, nat_eq, refl, sym, ap, ◌∙◌, subst, inl, inr, Result, Ok, Err, Some, None}
 use Rattle.std.specs.Prelude.{◌⊎◌}
 use Rattle.std.proofs.lemmas.Bool.{eqb-true, false≢true, and_parts}
+use Rattle.std.proofs.lemmas.List.{map_more}
 use Rattle.matchit.specs.Rows.{RowsOf, comes_before}
 use Rattle.matchit.specs.Router.{RouteOf, route_from, InsertsRead, nearest, nearest_from, nearer}
 use Rattle.matchit.specs.Conflict.{conflicts}
@@ -148,19 +149,28 @@ pub free : (kinds : List Kind) (kind : Kind) (rows : RowsOf (RouteOf Kind)) → 
 free kinds kind rows holds clear = none_near kind kinds rows clear holds.only
 
 -- a row of a table that can stand reads as its kind, and conflicts with none before it
-pub stands_at : (before : List Kind) (table : List (List ℕ × Kind)) (i : ℕ) (d : List ℕ × Kind) → i < length table → can_stand before table ≡ true
-    → (reads_as (parse_route (get_or table i d).0) (get_or table i d).1 ≡ true)
-    × (is_clear (get_or table i d).1 (before ++ map (λ row. row.1) (take i table)) ≡ true)
-stands_at before [] i d within stands = absurd (omega (arith, within))
-stands_at before ((text, kind) ∷ table) zero d within stands =
-    let both = and_parts (reads_as (parse_route text) kind) (is_clear kind before && can_stand (before ++ kind ∷ []) table) stands in
-    let clear = (and_parts (is_clear kind before) (can_stand (before ++ kind ∷ []) table) both.1).0 in
-    (both.0, ap (λ (kinds : List Kind). is_clear kind kinds) (append-nil before) ∙ clear)
-stands_at before ((text, kind) ∷ table) (suc i) d within stands =
-    let both = and_parts (reads_as (parse_route text) kind) (is_clear kind before && can_stand (before ++ kind ∷ []) table) stands in
-    let rest = (and_parts (is_clear kind before) (can_stand (before ++ kind ∷ []) table) both.1).1 in
-    let later = stands_at (before ++ kind ∷ []) table i d (omega (arith, within)) rest in
-    (later.0, ap (λ (kinds : List Kind). is_clear (get_or table i d).1 kinds) (sym (append_assoc before (kind ∷ []) (map (λ row. row.1) (take i table)))) ∙ later.1)
+pub stands_at : {X : Type 0} (text : X → List ℕ) (kind : X → Kind) (before : List Kind) (table : List X) (i : ℕ) (d : X) → i < length table
+    → can_stand before (map (λ row. (text row, kind row)) table) ≡ true
+    → (reads_as (parse_route (text (get_or table i d))) (kind (get_or table i d)) ≡ true)
+    × (is_clear (kind (get_or table i d)) (before ++ map kind (take i table)) ≡ true)
+stands_at text kind before [] i d within stands = absurd (omega (arith, within))
+stands_at text kind before (row ∷ table) zero d within stands =
+    let later = can_stand (before ++ kind row ∷ []) (map (λ r. (text r, kind r)) table) in
+    let both = and_parts (reads_as (parse_route (text row)) (kind row)) (is_clear (kind row) before && later) stands in
+    let clear = (and_parts (is_clear (kind row) before) later both.1).0 in
+    (both.0, ap (λ (kinds : List Kind). is_clear (kind row) kinds) (append-nil before) ∙ clear)
+stands_at text kind before (row ∷ table) (suc i) d within stands =
+    let later = can_stand (before ++ kind row ∷ []) (map (λ r. (text r, kind r)) table) in
+    let both = and_parts (reads_as (parse_route (text row)) (kind row)) (is_clear (kind row) before && later) stands in
+    let rest = (and_parts (is_clear (kind row) before) later both.1).1 in
+    let at = stands_at text kind (before ++ kind row ∷ []) table i d (omega (arith, within)) rest in
+    (at.0, ap (λ (kinds : List Kind). is_clear (kind (get_or table i d)) kinds) (sym (append_assoc before (kind row ∷ []) (map kind (take i table)))) ∙ at.1)
+
+-- one more row of a table
+pub holds_row : {X : Type 0} (kind : X → Kind) (table : List X) (i : ℕ) (d : X) (old new : RowsOf (RouteOf Kind)) → i < length table
+    → Holds (map kind (take i table)) old → AddsKind (kind (get_or table i d)) old new → Holds (map kind (take (i + 1) table)) new
+holds_row kind table i d old new within holds adds =
+    subst (λ (kinds : List Kind). Holds kinds new) (sym (map_more kind table i d within)) (holds_more (map kind (take i table)) (kind (get_or table i d)) old new holds adds)
 
 have_at : (kinds : List Kind) (rows : RowsOf (RouteOf Kind)) (n : ℕ) → n < length kinds → HaveRows kinds rows → HasKind rows (get_or kinds n Bucket)
 have_at [] rows n within have = absurd (omega (arith, within))
