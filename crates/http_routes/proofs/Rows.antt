@@ -16,7 +16,7 @@ use Rattle.http_routes.specs.Table.{pattern_of, part_count, reads_as, is_clear, 
 use Rattle.http_routes.specs.declared.routes.Kind.TheVariants.{Bucket}
 use Rattle.http_routes.proofs.Leads.{all_kinds, place_of}
 
-same_is : (a b : List ℕ) → same_text a b ≡ true → a ≡ b
+pub same_is : (a b : List ℕ) → same_text a b ≡ true → a ≡ b
 same_is [] [] e = refl
 same_is [] (y ∷ b) e = absurd (false≢true e)
 same_is (x ∷ a) [] e = absurd (false≢true e)
