@@ -8,6 +8,8 @@ use Rattle.matchit.specs.Order.{placed}
 use Rattle.matchit.specs.Conflict.{conflicts}
 use Rattle.matchit.specs.Route.{Scan, parse_route}
 use Rattle.matchit.specs.declared.error.InsertError.{InsertError}
+use Rattle.matchit.specs.declared.params.Params.{Params}
+use Rattle.matchit.specs.Params.{walk}
 use Rattle.http_routes.specs.Targets.{Resource, bucket, versioning, lifecycle, object, version, tags, uploads, upload, part, act, due, meters, tariff, close, report, Piece, word, segment, remainder, pieces_of}
 use Rattle.http_routes.specs.declared.routes.Kind.{Kind}
 use Rattle.http_routes.specs.declared.routes.Kind.TheVariants.{Bucket, Versioning, Lifecycle, Object, Version, Tags, Uploads, Upload, Part, Act, Due, Meters, Tariff, Close, Report}
@@ -45,8 +47,8 @@ named Tariff parts = tariff
 named Close parts = close (first_of parts)
 named Report parts = report (first_of parts)
 
--- the pattern of some pieces, whatever their parts are: a byte of a word stands for itself, and the two tokens for a segment
--- and for what is left
+-- the pattern of some pieces, whatever their parts are: a byte of a word stands for itself, and the two tokens for a
+-- segment and for what is left
 abbrev pub tokens_of : List Piece → List ℕ
 tokens_of [] = []
 tokens_of (word text ∷ pieces) = 47 ∷ (text ++ tokens_of pieces)
@@ -141,3 +143,6 @@ AreTexts (one ∷ parts) = IsUtf8 one × AreTexts parts
 abbrev pub taken : List (List ℕ × List ℕ) → List (List ℕ)
 taken [] = []
 taken (pair ∷ pairs) = pair.1 ∷ taken pairs
+
+abbrev pub taken_by : Params → List (List ℕ)
+taken_by params = taken (walk params.pattern.now params.text.now params.path.now params.names.now 0 0)

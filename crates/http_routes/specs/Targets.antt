@@ -15,8 +15,8 @@
 --     /tariff                                  the tariff
 --     /months/{month}/close                    the close of a month
 --     /months/{month}/report                   the report of a month
--- {name} stands for a segment that is not empty, and {*key} for all that is left, if anything is. Parts are the bytes of
--- the target: nothing is percent-decoded.
+-- {name} stands for a segment that is not empty, and {*key} for all that is left, if anything is. Parts are the bytes
+-- of the target: nothing is percent-decoded.
 use Rattle.std.specs.Prelude.{◌≡◌, ℕ, ◌<◌, Bool, false, ◌==◌, List, [], ◌∷◌, ◌++◌, length, codes, IsTrue}
 use Rattle.std.specs.List.{list_any}
 use Rattle.std.specs.Str.{is_utf8}

@@ -1,9 +1,8 @@
 // The routes of targets.
 ghost use Rattle.std.specs.Prelude.{◌≡◌, true, [], map, None, OnOk, IfSome, MatchOption};
-ghost use Rattle.matchit.specs.Params.{walk};
 ghost use Rattle.matchit.specs.Route.{parse_route};
 ghost use Rattle.http_routes.specs.Targets.{Resource, HasRoute, resource_of};
-ghost use Rattle.http_routes.specs.Table.{AddsKind, IsFree, Holds, can_stand, AreTexts, taken, first_of, second_of, third_of, named, reads_as};
+ghost use Rattle.http_routes.specs.Table.{AddsKind, IsFree, Holds, can_stand, AreTexts, taken_by, first_of, second_of, third_of, named, reads_as};
 
 use crate::route::Route;
 use matchit::{InsertError, Params, Router};
@@ -96,8 +95,9 @@ fn add_all(router: &mut Router<Kind>, table: &[(&str, Kind)]) -> Result<(), NoMe
 
 // What the first three parameters of a match took, and nothing where there are fewer.
 fn parts_of<'t>(params: &Params<'_, 't>) -> (&'t str, &'t str, &'t str)
-    ensures { let parts = taken (walk params.now.pattern.now params.now.text.now params.now.path.now params.now.names.now 0 0) in
-        AreTexts parts → (result.0.now ≡ first_of parts) × (result.1.now ≡ second_of parts) × (result.2.now ≡ third_of parts) }
+    ensures first { AreTexts (taken_by params.now) → result.0.now ≡ first_of (taken_by params.now) }
+    ensures second { AreTexts (taken_by params.now) → result.1.now ≡ second_of (taken_by params.now) }
+    ensures third { AreTexts (taken_by params.now) → result.2.now ≡ third_of (taken_by params.now) }
 {
     let mut parts = params.iter();
     let Some((_, first)) = parts.next() else {
@@ -114,8 +114,7 @@ fn parts_of<'t>(params: &Params<'_, 't>) -> (&'t str, &'t str, &'t str)
 
 // The route of this kind, with what the parameters took.
 fn route_of<'t>(kind: Kind, params: &Params<'_, 't>) -> Route<'t>
-    ensures { let parts = taken (walk params.now.pattern.now params.now.text.now params.now.path.now params.now.names.now 0 0) in
-        AreTexts parts → resource_of result ≡ named kind parts }
+    ensures { AreTexts (taken_by params.now) → resource_of result ≡ named kind (taken_by params.now) }
 {
     let (first, second, third) = parts_of(params);
     match kind {
