@@ -1,5 +1,5 @@
 -- Worked examples of targets and keys.
-use Rattle.std.proofs.Common.{◌≡◌, ℕ, false, [], ◌∷◌, codes, refl, sym}
+use Rattle.std.proofs.Common.{◌≡◌, false, [], ◌∷◌, codes, refl, sym}
 use Rattle.std.proofs.lemmas.Bool.{false≢true}
 use Rattle.percent_encoding.specs.Percent.{percent_decode}
 use Rattle.office_base.specs.Keys.{is_key}

@@ -1,6 +1,5 @@
 -- The rows of the router.
 use Rattle.std.proofs.Common.{◌≡◌, ℕ, zero, suc, ◌+◌, ◌<◌, ◌++◌, get_or, take, map, append-nil, append_assoc, arith, Bool, true, false, cond, ◌==◌, ◌&&◌, not, List, [], ◌∷◌, length, nat_eq, refl, sym, ap, ◌∙◌, subst, inl, inr, Result, Ok, Err, Some, None}
-use Rattle.std.specs.Prelude.{◌⊎◌}
 use Rattle.std.proofs.lemmas.Bool.{eqb-true, false≢true, and_parts}
 use Rattle.std.proofs.lemmas.List.{map_more}
 use Rattle.matchit.specs.Rows.{RowsOf, comes_before}
