@@ -1,12 +1,13 @@
 -- What a refusal tells of a request.
-use Rattle.std.specs.Prelude.{◌≡◌, string_bytes, Result, Ok, Err, ⊤}
+use Rattle.std.specs.Prelude.{◌≡◌, string_bytes, Option, Some, None, Result, Ok, Err, ⊤}
+use Rattle.rules_core.specs.Configurations.{Configuration}
+use Rattle.rules_json.specs.declared.fault.RulesFault.{RulesFault}
 use Rattle.office_types.specs.declared.command.Ask.{Ask}
-use Rattle.http_bodies.specs.declared.put.PutBody.{PutBody}
 use Rattle.http_bodies.specs.Flaws as flaws
 use Rattle.http_asks.specs.Meaning.{Refused, not_a_date, not_midnight, not_a_month, bad_bucket_name, bad_key}
 use Rattle.http_asks.specs.Meaning.{flaw_in, not_json, unknown_field, wrong_shape}
 use Rattle.http_asks.specs.Meaning.{no_such_version, no_such_upload, bad_part, flawed, not_built}
-use Rattle.http_asks.specs.Meaning.{Meant, asks, refuses}
+use Rattle.http_asks.specs.Meaning.{broken_by, Meant, asks, refuses}
 use Rattle.http_asks.specs.declared.bad.Bad.{Bad}
 use Rattle.http_asks.specs.declared.bad.Bad.TheVariants.{NotADate, NotMidnight, NotAMonth, BadBucketName, BadKey}
 use Rattle.http_asks.specs.declared.bad.Bad.TheVariants.{BadTags, BadSize, Flaw, NotJson, UnknownField, WrongShape}
@@ -41,9 +42,24 @@ OnBroken (faults.Bad bad) P = P (refused_of bad)
 OnBroken faults.NoMemory P = ⊤
 
 -- reading a body gives this flaw
-abbrev pub HasFlaw : Result PutBody flaws.BodyFlaw → Refused → Type 0
-HasFlaw (Ok body) broken = ⊥
+abbrev pub HasFlaw : {T : Type 0} → Result T flaws.BodyFlaw → Refused → Type 0
+HasFlaw (Ok said) broken = ⊥
 HasFlaw (Err flaw) broken = broken ≡ flawed flaw
+
+-- an answer is what a body says, or its flaw
+abbrev pub IsSaid : {T : Type 0} → Result T flaws.BodyFlaw → Result T Fault → Type 0
+IsSaid said (Ok value) = said ≡ Ok value
+IsSaid said (Err fault) = OnBroken fault (HasFlaw said)
+
+-- reading a lifecycle configuration breaks this rule
+abbrev pub HasFault : Result Configuration RulesFault → Refused → Type 0
+HasFault (Ok rules) broken = ⊥
+HasFault (Err fault) broken = broken ≡ broken_by fault
+
+-- an answer is what a part of the path is read as, or this refusal
+abbrev pub IsPart : {T : Type 0} → Option T → Refused → Result T Fault → Type 0
+IsPart part refused (Ok value) = part ≡ Some value
+IsPart part refused (Err fault) = OnBroken fault (λ broken. (broken ≡ refused) × (part ≡ None))
 
 -- P of what was read, where memory did not run out
 abbrev pub OnMeant : Result Ask Fault → (Meant → Type 0) → Type 0

@@ -2,10 +2,12 @@
 ghost use Rattle.std.specs.Prelude.{◌≡◌, Some, option_map};
 ghost use Rattle.http_bodies.specs.Flaws.{flaw_of};
 ghost use Rattle.http_asks.specs.Faults.{OnBroken};
-ghost use Rattle.http_asks.specs.Meaning.{flawed};
+ghost use Rattle.http_asks.specs.Meaning.{flawed, broken_by};
+ghost use Rattle.rules_json.specs.Faults.{told_of};
 
 use http_bodies::BodyFault;
 use rules_core::RuleFlaw;
+use rules_json::RulesFault;
 
 /// Refusals that a message's own text decides.
 #[derive(PartialEq, Debug, Drop)]
@@ -71,5 +73,26 @@ pub(crate) fn fault_of(fault: BodyFault) -> Fault
         BodyFault::UnsupportedClass { name } => Fault::Bad(Bad::UnsupportedClass { name }),
         BodyFault::BadTags => Fault::Bad(Bad::BadTags),
         BodyFault::NoMemory => Fault::NoMemory,
+    }
+}
+
+pub(crate) fn rules_fault(fault: RulesFault) -> Fault
+    ensures { OnBroken result (λ broken. option_map broken_by (told_of fault) ≡ Some broken) }
+{
+    match fault {
+        RulesFault::NotADate => Fault::Bad(Bad::NotADate),
+        RulesFault::NotMidnight => Fault::Bad(Bad::NotMidnight),
+        RulesFault::NotJson => Fault::Bad(Bad::NotJson),
+        RulesFault::UnknownField { name } => Fault::Bad(Bad::UnknownField {
+            name: name.into_string(),
+        }),
+        RulesFault::WrongShape { field } => Fault::Bad(Bad::WrongShape {
+            field: field.into_string(),
+        }),
+        RulesFault::UnsupportedClass { name } => Fault::Bad(Bad::UnsupportedClass {
+            name: name.into_string(),
+        }),
+        RulesFault::Flaw { flaw, rule } => Fault::Bad(Bad::Flaw { flaw, rule }),
+        RulesFault::NoMemory => Fault::NoMemory,
     }
 }
