@@ -2,8 +2,10 @@ pub mod Doing
 pub mod Ending
 pub mod Handed
 pub mod Putting
+pub mod Removals
 pub mod Replacing
 pub mod Rules
 pub mod SetAt
 pub mod TagSizes
 pub mod Told
+pub mod Under
