@@ -7,5 +7,6 @@ pub mod Putting
 pub mod Replacing
 pub mod Rules
 pub mod SetAt
+pub mod Started
 pub mod TagSizes
 pub mod Told
