@@ -9,6 +9,7 @@ pub mod Removals
 pub mod Replacing
 pub mod Rules
 pub mod SetAt
+pub mod Started
 pub mod TagSizes
 pub mod Told
 pub mod Under

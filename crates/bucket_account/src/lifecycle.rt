@@ -72,7 +72,8 @@ pub(crate) fn set_rules(
     requires text { text_bytes ≡ rules_bytes bucket.old.rules }
     ensures done { (account : plain.Account) → StandsForAccount (account_of bucket.old meters.old) account
         → IsOrderlyAccount t account
-        → DoesTold (Rules ∷ []) (set_rules t rules.now account) account counts (account_of bucket.new meters.new) result }
+        → DoesTold (Rules ∷ []) (set_rules t rules.now account) account counts
+        (account_of bucket.new meters.new) result }
     ensures room { OnOk result (HasGrownBy 3 1 (account_of bucket.old meters.old) (account_of bucket.new meters.new)) }
     ensures room_kept { OnErr result (HasGrownBy 0 0 (account_of bucket.old meters.old)
         (account_of bucket.new meters.new)) }
@@ -112,7 +113,8 @@ pub(crate) fn drop_rules(
     requires text { text_bytes ≡ rules_bytes bucket.old.rules }
     ensures done { (account : plain.Account) → StandsForAccount (account_of bucket.old meters.old) account
         → IsOrderlyAccount t account
-        → DoesTold ([]) (drop_rules t account) account counts (account_of bucket.new meters.new) result }
+        → DoesTold ([]) (drop_rules t account) account counts
+        (account_of bucket.new meters.new) result }
     ensures room { OnOk result (HasGrownBy 3 1 (account_of bucket.old meters.old) (account_of bucket.new meters.new)) }
     ensures room_kept { OnErr result (HasGrownBy 0 0 (account_of bucket.old meters.old)
         (account_of bucket.new meters.new)) }

@@ -53,7 +53,8 @@ pub(crate) fn set_versioning(
     requires counts { AreCountsOver bucket.old counts }
     ensures done { (account : plain.Account) → StandsForAccount (account_of bucket.old meters.old) account
         → IsOrderlyAccount t account
-        → DoesTold ([]) (set_versioning t enabled account) account counts (account_of bucket.new meters.new) result }
+        → DoesTold ([]) (set_versioning t enabled account) account counts
+        (account_of bucket.new meters.new) result }
     ensures room { OnOk result (HasGrownBy 3 1 (account_of bucket.old meters.old) (account_of bucket.new meters.new)) }
     ensures room_kept { OnErr result (HasGrownBy 0 0 (account_of bucket.old meters.old)
         (account_of bucket.new meters.new)) }
