@@ -1,4 +1,5 @@
 pub mod Accounts
+pub mod Months
 pub mod Offices
 pub mod Room
 pub mod Steps

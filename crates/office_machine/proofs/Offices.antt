@@ -1,10 +1,10 @@
 -- What the office in memory stands for after each command, and the replies to queries.
-use Rattle.std.proofs.Common.{◌≡◌, ◌⊎◌, inl, inr, ℕ, ◌+◌, ◌≤◌, List, [], ◌∷◌, length, map, refl, ap, sym, ◌∙◌, Bool, true, false, subst, arith}
+use Rattle.std.proofs.Common.{◌≡◌, ◌⊎◌, inl, inr, ℕ, ◌+◌, ◌≤◌, List, [], ◌∷◌, ◌++◌, length, map, refl, ap, sym, ◌∙◌, Bool, true, false, subst, arith}
 use Rattle.std.specs.Prelude.{Result, Option, Some, None, Ok, Err, is_some, unwrap_or}
 use Rattle.std.specs.List.{AllByRecursion}
 use Rattle.std.specs.Map.{set_value}
 use Rattle.std.specs.BTreeMap.{is_at}
-use Rattle.moments.specs.Months.{month_at}
+use Rattle.moments.specs.Months.{month_at, month_end}
 use Rattle.class_rules.specs.Classes.{all_classes}
 use Rattle.office_base.specs.Maps.{bytes_cmp, at_name, with_name}
 use Rattle.accrual.specs.Books.{IsBookedBy}
@@ -14,13 +14,13 @@ use Rattle.plain_office.specs.Office.{Office, Account, empty_office, book_of}
 use Rattle.plain_office.specs.Counts.{count_of, limit_of, version_count}
 use Rattle.plain_office.specs.Orderly.{IsOrderly, SizeFits}
 use Rattle.plain_office.specs.Run.{is_not_before}
-use Rattle.plain_office.specs.Step.{Change, step, accepted, is_accepted, new_account}
+use Rattle.plain_office.specs.Step.{Change, close, step, accepted, is_accepted, new_account}
 use Rattle.plain_office.specs.Answers.{answer, class_meters, rule_count}
 use Rattle.office_types.specs.declared.command.Command.{Command}
 use Rattle.office_types.specs.declared.command.Command.TheVariants as command
 use Rattle.office_types.specs.declared.command.Query.TheVariants as query
 use Rattle.office_types.specs.declared.reply.Reply.{Reply}
-use Rattle.office_types.specs.declared.reply.Reply.TheVariants.{BucketMade, NothingDue, TariffSet, BucketShown, MetersShown}
+use Rattle.office_types.specs.declared.reply.Reply.TheVariants.{BucketMade, NothingDue, TariffSet, Closed, BucketShown, MetersShown}
 use Rattle.office_types.specs.declared.refusal.Refusal.{Refusal}
 use Rattle.office_types.specs.declared.refusal.Refusal.TheVariants.{BucketExists, NoSuchBucket, Full, NoMemory}
 use Rattle.office_types.specs.declared.refusal.What.{What}
@@ -39,6 +39,8 @@ use Rattle.bucket_account.proofs.Accepted.{told_is, FindsNothing, told_or_nothin
 use Rattle.office_types.specs.Fits.{RefusalFits}
 use Rattle.office_machine.proofs.Accounts.{StandsForOption, stand_at, stand_with, stand_set, stand_one}
 use Rattle.office_machine.proofs.Sums.{AreCountsOf, full_is, moved_is, added_is, counts_over, same_counts}
+use Rattle.office_machine.specs.Closing.{closing_with, first_due, due_refusal}
+use Rattle.office_machine.proofs.Months.{closed_office, close_refused, close_due, close_done, due_same, due_of, none_due}
 use Rattle.office_machine.proofs.Steps.{Answer, step_missing, step_refused, step_full, step_done, step_nothing, placed, made, create_exists, create_full, create_made, priced, tariff_told}
 
 -- ---- an answer that is the step's
@@ -141,6 +143,29 @@ module _ (records : Records) (p : Office) (stands : StandsForOffice records p) w
         does (step t (command.SetTariff tariff) p) p (accepted t (priced t p tariff)) (accepted_records t (record records { tariff = Some tariff }) records.accounts records.counts number) (Ok TariffSet) told
         (office_on (priced t p tariff) (Some tariff) records.closed number refl refl stands.closed refl
         (subst IsOrderly (ap (λ (x : Office × Answer). x.0) told) (step_orderly t (command.SetTariff tariff) p tt stands.orderly later_plain)))
+
+    -- ---- a month is closed
+
+    module _ (month : ℕ) where
+      pub does_stay_open : (refusal : Refusal) → close t month p ≡ closing_with t month p (Err refusal) → Does (step t (command.Close month) p) p records (Err refusal)
+      does_stay_open refusal is = does (step t (command.Close month) p) p p records (Err refusal) (close_refused t month p refusal is) stands
+
+      module _ (tariff : Prices) (is : close t month p ≡ closing_with t month p (Ok tariff)) where
+        pub does_wait : (refusal : Refusal) → due_refusal (first_due t (month_end month) records.accounts) ≡ Some refusal → Does (step t (command.Close month) p) p records (Err refusal)
+        does_wait refusal due =
+            let first = due_of (first_due t (month_end month) records.accounts) refusal due in
+            does (step t (command.Close month) p) p p records (Err refusal)
+            (close_due t month p tariff is first.0 (sym (due_same t (month_end month) records.accounts p.accounts stands.accounts) ∙ first.1)
+            ∙ ap (λ (r : Refusal). (p, Err r)) first.2) stands
+
+        pub does_close : due_refusal (first_due t (month_end month) records.accounts) ≡ None → (closed : List (ℕ × Prices)) → closed ≡ records.closed ++ (month, tariff) ∷ [] → (number : ℕ)
+            → Does (step t (command.Close month) p) p (accepted_records t (record records { closed = closed }) records.accounts records.counts number) (Ok (Closed month))
+        does_close none closed pushed number =
+            let told =
+            close_done t month p tariff is (sym (due_same t (month_end month) records.accounts p.accounts stands.accounts) ∙ none_due (first_due t (month_end month) records.accounts) none) in
+            does (step t (command.Close month) p) p (accepted t (closed_office t month p tariff)) (accepted_records t (record records { closed = closed }) records.accounts records.counts number) (Ok (Closed month)) told
+            (office_on (closed_office t month p tariff) records.tariff closed number stands.tariff refl (pushed ∙ ap (λ (l : List (ℕ × Prices)). l ++ (month, tariff) ∷ []) stands.closed) refl
+            (subst IsOrderly (ap (λ (x : Office × Answer). x.0) told) (step_orderly t (command.Close month) p tt stands.orderly later_plain)))
 
   module _ (name : List ℕ) where
     side_by_side : StandsForOption (at_name name records.accounts) (at_name name p.accounts)

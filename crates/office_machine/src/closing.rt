@@ -1,19 +1,31 @@
 // A month is closed.
-ghost use Rattle.std.specs.Prelude.{◌≡◌, ◌<◌, IsTrue};
+ghost use Rattle.std.specs.Prelude.{◌≡◌, ◌<◌, IfOk, IfErr, IsTrue};
+ghost use Rattle.due_core.specs.Choice.{choice};
 ghost use Rattle.plain_office.specs.Office as plain;
-ghost use Rattle.plain_office.specs.Step.{step};
+ghost use Rattle.plain_office.specs.Step.{step, close};
 ghost use Rattle.plain_office.specs.Run.{is_not_before};
-ghost use Rattle.office_types.specs.Fits.{AnswerFits};
+ghost use Rattle.office_types.specs.Fits.{AnswerFits, RefusalFits};
 ghost use Rattle.office_types.specs.declared.command.Command.TheVariants as command;
 ghost use Rattle.bucket_account.specs.Standing.{most_commands};
+ghost use Rattle.office_machine.specs.Closing.{closing_with, first_due, due_refusal};
 ghost use Rattle.office_machine.specs.Standing.{StandsForOffice, Does, accepted_after};
 
+use crate::calendar::{month_numbered, number_of};
+use crate::commands::{copy_of, first_of};
 use crate::office::Office;
-use moments::{Moment, Month};
+use crate::stand_in::chosen;
+use bucket_account::Account;
+use due_core::{Action, Bucket};
+use moments::{Moment, Month, month_window};
+use office_base::BucketName;
 use office_types::{Refusal, Reply};
+use std::collections::BTreeMap;
+use tariff::Tariff;
 
 impl Office {
-    /// Closes a month.
+    /// Closes a month, and keeps the prices of now for it.
+    ///
+    /// Own rule: months are closed in order, once they are over and all that is due in them is done.
     pub(crate) fn close(&mut self, t: Moment, month: Month) -> Result<Reply, Refusal>
         requires later { IsTrue (is_not_before self.old.last t) }
         requires few { self.old.accepted < most_commands }
@@ -22,6 +34,76 @@ impl Office {
         ensures accepted { self.new.accepted ≡ accepted_after result self.old.accepted }
         ensures fits { AnswerFits result }
     {
-        Err(Refusal::NoMemory)
+        let tariff = self.closing_tariff(t, month)?;
+        let (_, end) = month_window(month);
+        if let Some(refusal) = due_before(&self.accounts, t, end)? {
+            return Err(refusal);
+        }
+        if self.closed.push((month, tariff)).is_err() {
+            return Err(Refusal::NoMemory);
+        }
+        self.last = Some(t);
+        self.first_month = Some(first_of(self.first_month, t));
+        self.accepted += 1;
+        Ok(Reply::Closed { month })
+    }
+
+    /// Gives the prices with which a month may be closed: it is over, it is the first that is open, and prices are set.
+    fn closing_tariff(&self, t: Moment, month: Month) -> Result<Tariff, Refusal>
+        ensures tests { (p : plain.Office) → StandsForOffice self.now p → close t month p ≡ closing_with t month p result }
+        ensures fits { IfErr result RefusalFits }
+    {
+        let number = number_of(month);
+        let (_, end) = month_window(month);
+        if t.ms() < end {
+            return Err(Refusal::MonthNotOver { end });
+        }
+        let open = number_of(first_of(self.first_month, t)) + self.closed.len() as u64;
+        if number < open {
+            return Err(Refusal::AlreadyClosed);
+        }
+        if open < number {
+            return Err(Refusal::EarlierMonthOpen {
+                month: month_numbered(open),
+            });
+        }
+        match self.tariff {
+            Some(tariff) => Ok(tariff),
+            None => Err(Refusal::NoTariff),
+        }
+    }
+}
+
+/// Tells what closing a month is refused for where a bucket's choice stands before the month's end: the first such.
+fn due_before(
+    accounts: &BTreeMap<BucketName, Account>,
+    t: Moment,
+    end: u64,
+) -> Result<Option<Refusal>, Refusal>
+    ensures exact { IfOk result (λ refusal. refusal ≡ due_refusal (first_due t end accounts.now.entries)) }
+    ensures refusal { IfErr result (λ refusal. refusal ≡ Refusal.NoMemory) }
+{
+    for (name, account) in accounts.iter() {
+        if let Some(action) = choice_of(account.bucket(), t)? {
+            if action.since.ms() < end {
+                return Ok(Some(Refusal::DueActions {
+                    bucket: copy_of(name)?,
+                    key: action.key,
+                    target: action.target,
+                }));
+            }
+        }
+    }
+    Ok(None)
+}
+
+/// Gives the lifecycle action of a bucket that is due first.
+pub(crate) fn choice_of(bucket: &Bucket, t: Moment) -> Result<Option<Action>, Refusal>
+    ensures exact { IfOk result (λ action. action ≡ choice bucket.now t) }
+    ensures refusal { IfErr result (λ refusal. refusal ≡ Refusal.NoMemory) }
+{
+    match chosen(bucket, t) {
+        Ok(action) => Ok(action),
+        Err(_) => Err(Refusal::NoMemory),
     }
 }

@@ -1,10 +1,12 @@
 //! The office in memory: its buckets, its tariff and its closed months, changed by commands.
 #![tactic(auto)]
 
+mod calendar;
 mod closing;
 mod commands;
 mod office;
 mod queries;
+mod stand_in;
 #[cfg(test)]
 mod tests;
 
