@@ -1,5 +1,8 @@
+pub mod Doing
 pub mod Ending
+pub mod Gone
 pub mod Handed
+pub mod Parting
 pub mod Putting
 pub mod Replacing
 pub mod Rules

@@ -3,13 +3,16 @@
 
 mod account;
 mod act;
+mod adding;
 mod booking;
 mod change;
 mod counts;
 mod delete;
+mod dropping;
 mod incoming;
 mod lifecycle;
 mod put;
+mod removing;
 mod tags;
 mod upload;
 mod versioning;
