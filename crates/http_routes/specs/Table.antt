@@ -1,5 +1,5 @@
 -- What the router of the routes holds, in matchit's words.
-use Rattle.std.specs.Prelude.{◌≡◌, ◌⊎◌, ℕ, ◌+◌, Bool, true, false, not, ◌&&◌, ◌==◌, ltb, cond, List, [], ◌∷◌, ◌++◌, length, Result, Ok, Err, None}
+use Rattle.std.specs.Prelude.{◌≡◌, ◌⊎◌, ℕ, ◌+◌, Bool, true, false, not, ◌&&◌, ◌==◌, ltb, cond, List, [], ◌∷◌, ◌++◌, length, flat_map, Result, Ok, Err, None}
 use Rattle.matchit.specs.Rows.{RowsOf, param_token, catch_all_token}
 use Rattle.std.specs.Str.{IsUtf8}
 use Rattle.matchit.specs.Seek.{same_text}
@@ -49,11 +49,13 @@ named Report parts = report (first_of parts)
 
 -- the pattern of some pieces, whatever their parts are: a byte of a word stands for itself, and the two tokens for a
 -- segment and for what is left
+abbrev pub tokens_in : Piece → List ℕ
+tokens_in (word text) = text
+tokens_in (segment text) = param_token ∷ []
+tokens_in (remainder text) = catch_all_token ∷ []
+
 abbrev pub tokens_of : List Piece → List ℕ
-tokens_of [] = []
-tokens_of (word text ∷ pieces) = 47 ∷ (text ++ tokens_of pieces)
-tokens_of (segment text ∷ pieces) = 47 ∷ param_token ∷ tokens_of pieces
-tokens_of (remainder text ∷ pieces) = 47 ∷ catch_all_token ∷ tokens_of pieces
+tokens_of pieces = flat_map (λ piece. 47 ∷ tokens_in piece) pieces
 
 -- the pattern of a kind of route
 unfoldable pub pattern_of : Kind → List ℕ

@@ -17,7 +17,7 @@
 --     /months/{month}/report                   the report of a month
 -- {name} stands for a segment that is not empty, and {*key} for all that is left, if anything is. Parts are the bytes
 -- of the target: nothing is percent-decoded.
-use Rattle.std.specs.Prelude.{◌≡◌, ℕ, ◌<◌, Bool, false, ◌==◌, List, [], ◌∷◌, ◌++◌, length, codes, IsTrue}
+use Rattle.std.specs.Prelude.{◌≡◌, ℕ, ◌<◌, Bool, false, ◌==◌, List, [], ◌∷◌, length, flat_map, codes, IsTrue}
 use Rattle.std.specs.List.{list_any}
 use Rattle.std.specs.Str.{is_utf8}
 use Rattle.http_routes.specs.declared.route.Route.{Route}
@@ -79,11 +79,13 @@ pub record IsPart (part : List ℕ) : Type 0 where
   pub plain : has_byte 47 part ≡ false
 
 -- the pieces one after another, with a slash before each
+abbrev pub text_of : Piece → List ℕ
+text_of (word text) = text
+text_of (segment text) = text
+text_of (remainder text) = text
+
 abbrev pub path_of : List Piece → List ℕ
-path_of [] = []
-path_of (word text ∷ pieces) = 47 ∷ (text ++ path_of pieces)
-path_of (segment text ∷ pieces) = 47 ∷ (text ++ path_of pieces)
-path_of (remainder text ∷ pieces) = 47 ∷ (text ++ path_of pieces)
+path_of pieces = flat_map (λ piece. 47 ∷ text_of piece) pieces
 
 -- segments are not empty and have no slash, and what is left is not empty
 abbrev pub AreInRange : List Piece → Type 0
