@@ -1,3 +1,3 @@
 pub mod AskLemmas
-mod Examples
 pub mod HeardLemmas
+pub mod NumberLemmas

@@ -1,27 +1,47 @@
 -- What a request means, by its target, its method and its body. Methods are compared as they stand (RFC 9110,
 -- "Methods").
-use Rattle.std.specs.Prelude.{◌≡◌, ◌⊎◌, ℕ, Bool, List, [], ◌∷◌, codes, bytes_eq, Result, Ok, Err, if◌then◌else◌}
+use Rattle.std.specs.Prelude.{◌≡◌, ◌⊎◌, ℕ, Bool, List, codes, bytes_eq, if◌then◌else◌}
+use Rattle.std.specs.Prelude.{Option, Some, None, Result, Ok, Err}
 use Rattle.office_base.specs.Keys.{is_key}
 use Rattle.office_base.specs.Names.{is_bucket_name}
-use Rattle.office_base.specs.Tags.{Tag}
 use Rattle.moments.specs.Dates.{is_month, year_in, month_in}
 use Rattle.moments.specs.Months.{month_number}
+use Rattle.rules_core.specs.Configurations.{Configuration}
+use Rattle.rules_core.specs.declared.flaw.RuleFlaw.{RuleFlaw}
+use Rattle.rules_json.specs.Reading.{rules_of}
+use Rattle.rules_json.specs.declared.fault.RulesFault.{RulesFault}
+use Rattle.rules_json.specs.declared.fault.RulesFault.TheVariants as faults
 use Rattle.office_types.specs.declared.command.Ask.{Ask}
 use Rattle.office_types.specs.declared.command.Ask.TheVariants.{Command, Query}
-use Rattle.office_types.specs.declared.command.Command.TheVariants.{CreateBucket, Put}
-use Rattle.office_types.specs.declared.command.Query.TheVariants.{Bucket, Meters}
+use Rattle.office_types.specs.declared.command.Command.TheVariants.{CreateBucket, SetVersioning, SetRules, DropRules}
+use Rattle.office_types.specs.declared.command.Command.TheVariants.{Put, Delete, DeleteVersion, SetTags}
+use Rattle.office_types.specs.declared.command.Command.TheVariants.{StartUpload, PutPart, Complete, Abort, Act}
+use Rattle.office_types.specs.declared.command.Query.TheVariants.{Bucket, Rules, Stack, Upload, Due, Meters}
 use Rattle.http_bodies.specs.declared.put.PutBody.{PutBody}
-use Rattle.http_bodies.specs.Flaws.{BodyFlaw}
+use Rattle.http_bodies.specs.declared.multipart.UploadBody.{UploadBody}
+use Rattle.http_bodies.specs.Flaws.{BodyFlaw, unsupported_class}
+use Rattle.http_bodies.specs.Multipart.{upload_of, part_of}
 use Rattle.http_bodies.specs.Puts.{put_of}
+use Rattle.http_bodies.specs.Settings.{status_of, tagging_of}
 use Rattle.http_routes.specs.Spelled.{key_of}
 use Rattle.http_routes.specs.Targets.{Resource, bucket, object, meters, HasRoute}
 use Rattle.http_wire.specs.Messages.{Request}
+use Rattle.http_asks.specs.Numbers.{number_in, version_in, part_in}
 
 -- the rule that a request breaks; not_built: it asks what is not served (own)
 pub data Refused : Type 0 where
+  not_a_date : Refused
+  not_midnight : Refused
   not_a_month : Refused
   bad_bucket_name : Refused
   bad_key : Refused
+  flaw_in : RuleFlaw → ℕ → Refused
+  not_json : Refused
+  unknown_field : List ℕ → Refused
+  wrong_shape : List ℕ → Refused
+  no_such_version : Refused
+  no_such_upload : Refused
+  bad_part : Refused
   flawed : BodyFlaw → Refused
   not_built : Refused
 
@@ -30,12 +50,20 @@ pub data Meant : Type 0 where
   asks : Ask → Meant
   refuses : Refused → Meant
 
--- the methods that are served (RFC 9110, "GET" and "PUT")
+-- ---- methods, parts of the path and bodies
+
+-- the methods that are served (RFC 9110, "GET", "PUT", "POST" and "DELETE")
 abbrev pub is_get : List ℕ → Bool
 is_get method = bytes_eq method (codes "GET")
 
 abbrev pub is_put : List ℕ → Bool
 is_put method = bytes_eq method (codes "PUT")
+
+abbrev pub is_post : List ℕ → Bool
+is_post method = bytes_eq method (codes "POST")
+
+abbrev pub is_delete : List ℕ → Bool
+is_delete method = bytes_eq method (codes "DELETE")
 
 -- this, where the bucket has a name
 abbrev pub if_name : List ℕ → Meant → Meant
@@ -45,6 +73,34 @@ if_name name meant = if is_bucket_name name then meant else refuses bad_bucket_n
 abbrev pub if_key : List ℕ → Meant → Meant
 if_key key meant = if is_key key then meant else refuses bad_key
 
+-- this of what a part of the path is read as, or this refusal
+abbrev pub by_part : {T : Type 0} → Option T → Refused → (T → Meant) → Meant
+by_part None refused meant = refuses refused
+by_part (Some part) refused meant = meant part
+
+-- this of what a body says, or its flaw
+abbrev pub by_body : {T : Type 0} → Result T BodyFlaw → (T → Meant) → Meant
+by_body (Ok said) meant = meant said
+by_body (Err flaw) meant = refuses (flawed flaw)
+
+-- the rule that the text of a lifecycle configuration breaks; no text gives the last fault
+abbrev pub broken_by : RulesFault → Refused
+broken_by faults.NotADate = not_a_date
+broken_by faults.NotMidnight = not_midnight
+broken_by faults.NotJson = not_json
+broken_by (faults.UnknownField name) = unknown_field name
+broken_by (faults.WrongShape field) = wrong_shape field
+broken_by (faults.UnsupportedClass name) = flawed (unsupported_class name)
+broken_by (faults.Flaw flaw rule) = flaw_in flaw rule
+broken_by faults.NoMemory = not_json
+
+-- this of a lifecycle configuration, or what its text breaks
+abbrev pub by_rules : Result Configuration RulesFault → (Configuration → Meant) → Meant
+by_rules (Ok rules) meant = meant rules
+by_rules (Err fault) meant = refuses (broken_by fault)
+
+-- ---- the routes: the method, then the parts of the path from left to right, then the body
+
 -- a bucket is made or asked for
 unfoldable pub bucket_meant : List ℕ → List ℕ → Meant
 bucket_meant method name =
@@ -52,21 +108,93 @@ bucket_meant method name =
     else if is_get method then if_name name (asks (Query (Bucket name)))
     else refuses not_built
 
--- an object without tags is put; tags are not served yet (own)
-abbrev pub if_untagged : List Tag → Meant → Meant
-if_untagged [] meant = meant
-if_untagged (tag ∷ tags) meant = refuses not_built
+-- the versioning of a bucket is set
+unfoldable pub versioning_meant : List ℕ → List ℕ → List ℕ → Meant
+versioning_meant method name body =
+    if is_put method
+    then if_name name (by_body (status_of body) (λ enabled. asks (Command (SetVersioning name enabled))))
+    else refuses not_built
+
+-- the lifecycle configuration of a bucket is set, asked for or dropped
+unfoldable pub lifecycle_meant : List ℕ → List ℕ → List ℕ → Meant
+lifecycle_meant method name body =
+    if is_put method then if_name name (by_rules (rules_of body) (λ rules. asks (Command (SetRules name rules))))
+    else if is_get method then if_name name (asks (Query (Rules name)))
+    else if is_delete method then if_name name (asks (Command (DropRules name)))
+    else refuses not_built
 
 -- an object is put under a key as its body says
-abbrev pub put_meant : List ℕ → List ℕ → Result PutBody BodyFlaw → Meant
-put_meant name key (Ok body) = if_untagged body.tags (asks (Command (Put name key body.size body.class body.tags)))
-put_meant name key (Err flaw) = refuses (flawed flaw)
+abbrev pub put_meant : List ℕ → List ℕ → PutBody → Meant
+put_meant name key body = asks (Command (Put name key body.size body.class body.tags))
 
--- an object is put, under the key that the target spells
+-- an object is put, its versions are asked for, or it is deleted, under the key that the target spells
 unfoldable pub object_meant : List ℕ → List ℕ → List ℕ → List ℕ → Meant
 object_meant method name part body =
-    if is_put method then if_name name (if_key (key_of part) (put_meant name (key_of part) (put_of body)))
+    if is_put method then if_name name (if_key (key_of part) (by_body (put_of body) (put_meant name (key_of part))))
+    else if is_get method then if_name name (if_key (key_of part) (asks (Query (Stack name (key_of part)))))
+    else if is_delete method then if_name name (if_key (key_of part) (asks (Command (Delete name (key_of part)))))
     else refuses not_built
+
+-- a version is removed
+unfoldable pub version_meant : List ℕ → List ℕ → List ℕ → List ℕ → Meant
+version_meant method name id part =
+    if is_delete method then if_name name (
+    by_part (version_in id) no_such_version (λ version.
+    if_key (key_of part) (asks (Command (DeleteVersion name (key_of part) version))))
+    )
+    else refuses not_built
+
+-- the tags of a version are set
+unfoldable pub tags_meant : List ℕ → List ℕ → List ℕ → List ℕ → List ℕ → Meant
+tags_meant method name id part body =
+    if is_put method then if_name name (
+    by_part (version_in id) no_such_version (λ version.
+    if_key (key_of part) (
+    by_body (tagging_of body) (λ new. asks (Command (SetTags name (key_of part) version new)))))
+    )
+    else refuses not_built
+
+-- an upload is started under a key as its body says
+abbrev pub start_meant : List ℕ → List ℕ → UploadBody → Meant
+start_meant name key body = asks (Command (StartUpload name key body.class body.tags))
+
+unfoldable pub uploads_meant : List ℕ → List ℕ → List ℕ → List ℕ → Meant
+uploads_meant method name part body =
+    if is_post method
+    then if_name name (if_key (key_of part) (by_body (upload_of body) (start_meant name (key_of part))))
+    else refuses not_built
+
+-- this, of the number of an upload
+abbrev pub by_upload : List ℕ → (ℕ → Meant) → Meant
+by_upload id meant = by_part (number_in id) no_such_upload meant
+
+-- an upload is asked for, completed or aborted
+unfoldable pub upload_meant : List ℕ → List ℕ → List ℕ → Meant
+upload_meant method name id =
+    if is_get method then if_name name (by_upload id (λ number. asks (Query (Upload name number))))
+    else if is_post method then if_name name (by_upload id (λ number. asks (Command (Complete name number))))
+    else if is_delete method then if_name name (by_upload id (λ number. asks (Command (Abort name number))))
+    else refuses not_built
+
+-- a part of an upload is put
+unfoldable pub part_meant : List ℕ → List ℕ → List ℕ → List ℕ → List ℕ → Meant
+part_meant method name id part body =
+    if is_put method then if_name name (
+    by_upload id (λ upload.
+    by_part (part_in part) bad_part (λ number.
+    by_body (part_of body) (λ size. asks (Command (PutPart name upload number size)))))
+    )
+    else refuses not_built
+
+-- the next lifecycle action of a bucket is taken
+unfoldable pub act_meant : List ℕ → List ℕ → Meant
+act_meant method name =
+    if is_post method then if_name name (asks (Command (Act name))) else refuses not_built
+
+-- the next lifecycle action of a bucket is asked for
+unfoldable pub due_meant : List ℕ → List ℕ → Meant
+due_meant method name =
+    if is_get method then if_name name (asks (Query (Due name))) else refuses not_built
 
 -- the meters of a month are asked for
 unfoldable pub meters_meant : List ℕ → List ℕ → List ℕ → Meant
