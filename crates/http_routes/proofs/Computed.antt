@@ -2,7 +2,7 @@
 use Rattle.std.proofs.Common.{◌≡◌, ℕ, Bool, true, false, cond, not, ◌==◌, ◌&&◌, ◌||◌, List, [], ◌∷◌, ◌++◌, length, ltb, refl, sym, ap, ◌∙◌, subst, arith, inl, inr}
 use Rattle.std.specs.List.{list_all}
 use Rattle.std.specs.Str.{IsAscii}
-use Rattle.std.proofs.lemmas.Bool.{false≢true, and_parts, and_from, ltb-true, lt-ltb, eq-eqb, ne_eqb}
+use Rattle.std.proofs.lemmas.Bool.{not-true, false≢true, and_parts, and_from, ltb-true, lt-ltb, eq-eqb, ne_eqb}
 use Rattle.std.proofs.lemmas.List.Folds.{list_all_at}
 use Rattle.std.proofs.lemmas.Str.{IsUtf8-from_ascii, is_utf8-from_IsUtf8}
 use Rattle.std.proofs.lemmas.Str.Ascii.{IsAscii-nil, IsAscii-cons}
@@ -18,10 +18,6 @@ use Rattle.http_routes.proofs.Unique.{rest_ends}
 use Rattle.http_routes.proofs.Pieces.{parts_of}
 use Rattle.http_routes.proofs.Rows.{same_is}
 use Rattle.http_routes.proofs.Leads.{all_kinds, place_of, kind_of, has_pattern, plain}
-
-not_true : (v : Bool) → not v ≡ true → v ≡ false
-not_true true e = absurd (false≢true e)
-not_true false e = refl
 
 -- ---- that a target leads there
 
@@ -45,7 +41,7 @@ are_in_range (remainder text ∷ pieces) = ltb 0 (length text) && are_in_range p
 part : (text : List ℕ) → is_part text ≡ true → IsPart text
 part text e =
     let both = and_parts (ltb 0 (length text)) (not (has_byte 47 text)) e in
-    record { some = ltb-true 0 (length text) both.0; plain = not_true (has_byte 47 text) both.1 }
+    record { some = ltb-true 0 (length text) both.0; plain = not-true (has_byte 47 text) both.1 }
 
 in_range : (pieces : List Piece) → are_in_range pieces ≡ true → AreInRange pieces
 in_range [] e = tt
@@ -69,7 +65,7 @@ there target resource e =
     let three = and_parts spells (are_in_range (pieces_of resource)) two.1 in
     record {
       text = is_utf8-from_IsUtf8 target (IsUtf8-from_ascii target (ascii target one.0));
-      no_query = not_true (has_byte 63 target) two.0;
+      no_query = not-true (has_byte 63 target) two.0;
       spelled = (same_is target (path_of (pieces_of resource)) three.0, in_range (pieces_of resource) three.1);
     }
 

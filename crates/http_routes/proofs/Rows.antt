@@ -1,6 +1,6 @@
 -- The rows of the router.
 use Rattle.std.proofs.Common.{◌≡◌, ℕ, zero, suc, ◌+◌, ◌<◌, ◌++◌, get_or, take, map, append-nil, append_assoc, arith, Bool, true, false, cond, ◌==◌, ◌&&◌, not, List, [], ◌∷◌, length, nat_eq, refl, sym, ap, ◌∙◌, subst, inl, inr, Result, Ok, Err, Some, None}
-use Rattle.std.proofs.lemmas.Bool.{eqb-true, false≢true, and_parts}
+use Rattle.std.proofs.lemmas.Bool.{not-true, eqb-true, false≢true, and_parts}
 use Rattle.std.proofs.lemmas.List.{map_more}
 use Rattle.matchit.specs.Rows.{RowsOf, comes_before}
 use Rattle.matchit.specs.Router.{RouteOf, route_from, InsertsRead, nearest, nearest_from, nearer}
@@ -128,11 +128,7 @@ no_conflict : (kind : Kind) (kinds : List Kind) (pattern : List ℕ) → is_clea
 no_conflict kind [] pattern clear is = absurd is
 no_conflict kind (other ∷ kinds) pattern clear (inl is) =
     ap (λ (p : List ℕ). conflicts (pattern_of kind) p) is
-    ∙ not_true (conflicts (pattern_of kind) (pattern_of other)) (and_parts (not (conflicts (pattern_of kind) (pattern_of other))) (is_clear kind kinds) clear).0
-  where
-    not_true : (v : Bool) → not v ≡ true → v ≡ false
-    not_true true e = absurd (false≢true e)
-    not_true false e = refl
+    ∙ not-true (conflicts (pattern_of kind) (pattern_of other)) (and_parts (not (conflicts (pattern_of kind) (pattern_of other))) (is_clear kind kinds) clear).0
 no_conflict kind (other ∷ kinds) pattern clear (inr is) =
     no_conflict kind kinds pattern (and_parts (not (conflicts (pattern_of kind) (pattern_of other))) (is_clear kind kinds) clear).1 is
 
