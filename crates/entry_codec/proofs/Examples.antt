@@ -14,7 +14,7 @@ use Rattle.office_base.specs.declared.version_id.VersionId.TheVariants.{Null, Nu
 use Rattle.entry_codec.specs.Formats.{front_items}
 use Rattle.entry_codec.specs.Fields.{format, moment_format, utf8_text, tag}
 use Rattle.entry_codec.specs.Kinds.{kind_format, fields_of}
-use Rattle.entry_codec.specs.Kinds as kind
+use Rattle.entry_codec.specs.declared.kinds.Kind.TheVariants as kind
 use Rattle.entry_codec.specs.Spelling.{command_spelling, spelling}
 use Rattle.entry_codec.specs.Reading.{value_at, values_at, kind_at, command_at, entry_of}
 
@@ -83,11 +83,6 @@ no_kind = refl
 kind_00 : entry_of (moment_bytes ++ 0x00 ∷ name_bytes) ≡ Err 8
 unfolding to_compute
 kind_00 = refl
-
--- a kind that is not built is unknown
-kind_04 : entry_of (moment_bytes ++ 0x04 ∷ name_bytes) ≡ Err 8
-unfolding to_compute
-kind_04 = refl
 
 kind_10 : entry_of (moment_bytes ++ 0x10 ∷ name_bytes) ≡ Err 8
 unfolding to_compute
@@ -196,7 +191,7 @@ zeros = repeat 32 (0x00 ∷ [])
 abbrev all_ones : List ℕ
 all_ones = repeat 8 (0xFF ∷ [])
 
--- ---- the rows of kinds that are not built, each in an entry of that moment
+-- ---- the other kinds, each in an entry of that moment
 
 suspended : command_spelling (command.SetVersioning (codes "logs") false) ≡ 0x02 ∷ name_bytes ++ 0x02 ∷ []
 unfolding to_compute

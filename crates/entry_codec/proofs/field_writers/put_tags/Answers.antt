@@ -2,7 +2,7 @@ use Rattle.std.proofs.Common.{◌≡◌, ◌++◌, true, ap, ◌∙◌}
 use Rattle.std.specs.List.{list_all}
 use Rattle.office_base.specs.Tags.{is_tag, tags_of}
 use Rattle.entry_codec.proofs.TagLemmas.{tag_at, all_written}
-use Rattle.entry_codec.proofs.writing.put_tags.Goals as goal
+use Rattle.entry_codec.proofs.field_writers.put_tags.Goals as goal
 
 pub put_tag-requires : goal.put_tag-requires
 put_tag-requires c =
