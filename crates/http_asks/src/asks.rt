@@ -5,8 +5,11 @@ ghost use Rattle.http_asks.specs.Faults.{OnMeant};
 ghost use Rattle.http_asks.specs.Meaning.{Means, meant_of};
 
 use crate::bad::{Bad, Fault};
-use crate::bucket_asks::{bucket_ask, meters_ask};
-use crate::object_asks::object_ask;
+use crate::bucket_asks::{
+    act_ask, bucket_ask, due_ask, lifecycle_ask, meters_ask, versioning_ask,
+};
+use crate::object_asks::{object_ask, tags_ask, version_ask};
+use crate::upload_asks::{part_ask, upload_ask, uploads_ask};
 use http_routes::{Route, Routes};
 use office_types::Ask;
 use std::alloc::Global;
@@ -17,8 +20,20 @@ fn route_ask(alloc: Global, route: Route<'_>, method: &[u8], body: &[u8]) -> Res
 {
     match route {
         Route::Bucket { bucket } => bucket_ask(alloc, method, bucket),
+        Route::Versioning { bucket } => versioning_ask(alloc, method, bucket, body),
+        Route::Lifecycle { bucket } => lifecycle_ask(alloc, method, bucket, body),
         Route::Object { bucket, key } => object_ask(alloc, method, bucket, key, body),
+        Route::Version { bucket, id, key } => version_ask(alloc, method, bucket, id, key),
+        Route::Tags { bucket, id, key } => tags_ask(alloc, method, bucket, id, key, body),
+        Route::Uploads { bucket, key } => uploads_ask(alloc, method, bucket, key, body),
+        Route::Upload { bucket, id } => upload_ask(alloc, method, bucket, id),
+        Route::Part { bucket, id, part } => part_ask(alloc, method, bucket, id, part, body),
+        Route::Act { bucket } => act_ask(alloc, method, bucket),
+        Route::Due { bucket } => due_ask(alloc, method, bucket),
         Route::Meters { bucket, month } => meters_ask(alloc, method, bucket, month),
+        Route::Tariff | Route::Close { .. } | Route::Report { .. } => {
+            Err(Fault::Bad(Bad::NotBuilt))
+        }
     }
 }
 

@@ -1,10 +1,7 @@
 // What is asked of a bucket as a whole.
 ghost use Rattle.std.specs.Prelude.{◌≡◌};
-ghost use Rattle.rules_json.specs.Reading.{rules_of};
-ghost use Rattle.office_types.specs.declared.command.Ask.TheVariants.{Command};
-ghost use Rattle.office_types.specs.declared.command.Command.TheVariants.{SetRules};
 ghost use Rattle.http_asks.specs.Faults.{OnMeant};
-ghost use Rattle.http_asks.specs.Meaning.{asks, if_name, by_rules};
+ghost use Rattle.http_asks.specs.Meaning.{set_rules_meant};
 ghost use Rattle.http_asks.specs.Meaning.{bucket_meant, versioning_meant, lifecycle_meant};
 ghost use Rattle.http_asks.specs.Meaning.{act_meant, due_meant, meters_meant};
 
@@ -48,8 +45,7 @@ pub(crate) fn versioning_ask(
 
 // The ask of a PUT of a lifecycle configuration.
 fn rules_ask(alloc: Global, name: &str, body: &[u8]) -> Result<Ask, Fault>
-    ensures { OnMeant result (λ meant. meant
-        ≡ if_name name.now (by_rules (rules_of body.now) (λ rules. asks (Command (SetRules name.now rules))))) }
+    ensures { OnMeant result (λ meant. meant ≡ set_rules_meant name.now body.now) }
 {
     let bucket = bucket_name(alloc, name)?;
     let rules = rules_body(alloc, body)?;

@@ -1,15 +1,8 @@
 // What is asked of an object and its versions.
 ghost use Rattle.std.specs.Prelude.{◌≡◌};
-ghost use Rattle.office_types.specs.declared.command.Ask.TheVariants.{Command, Query};
-ghost use Rattle.office_types.specs.declared.command.Command.TheVariants.{Delete, DeleteVersion, SetTags};
-ghost use Rattle.office_types.specs.declared.command.Query.TheVariants.{Stack};
-ghost use Rattle.http_bodies.specs.Puts.{put_of};
-ghost use Rattle.http_bodies.specs.Settings.{tagging_of};
-ghost use Rattle.http_routes.specs.Spelled.{key_of};
 ghost use Rattle.http_asks.specs.Faults.{OnMeant};
-ghost use Rattle.http_asks.specs.Meaning.{asks, no_such_version, if_name, if_key, by_part, by_body, put_meant};
+ghost use Rattle.http_asks.specs.Meaning.{put_meant, stack_meant, delete_meant, remove_meant, set_tags_meant};
 ghost use Rattle.http_asks.specs.Meaning.{object_meant, version_meant, tags_meant};
-ghost use Rattle.http_asks.specs.Numbers.{version_in};
 
 use crate::bad::{Bad, Fault};
 use crate::bodies::{put_body, tags_body};
@@ -19,8 +12,7 @@ use std::alloc::Global;
 
 // The ask of a PUT of an object.
 fn put_ask(alloc: Global, name: &str, part: &str, body: &[u8]) -> Result<Ask, Fault>
-    ensures { OnMeant result (λ meant. meant ≡ if_name name.now
-        (if_key (key_of part.now) (by_body (put_of body.now) (put_meant name.now (key_of part.now))))) }
+    ensures { OnMeant result (λ meant. meant ≡ put_meant name.now part.now body.now) }
 {
     let bucket = bucket_name(alloc, name)?;
     let key = object_key(alloc, part)?;
@@ -36,8 +28,7 @@ fn put_ask(alloc: Global, name: &str, part: &str, body: &[u8]) -> Result<Ask, Fa
 
 // The ask of a GET of an object.
 fn stack_ask(alloc: Global, name: &str, part: &str) -> Result<Ask, Fault>
-    ensures { OnMeant result (λ meant. meant ≡ if_name name.now
-        (if_key (key_of part.now) (asks (Query (Stack name.now (key_of part.now)))))) }
+    ensures { OnMeant result (λ meant. meant ≡ stack_meant name.now part.now) }
 {
     let bucket = bucket_name(alloc, name)?;
     let key = object_key(alloc, part)?;
@@ -46,8 +37,7 @@ fn stack_ask(alloc: Global, name: &str, part: &str) -> Result<Ask, Fault>
 
 // The ask of a DELETE of an object.
 fn delete_ask(alloc: Global, name: &str, part: &str) -> Result<Ask, Fault>
-    ensures { OnMeant result (λ meant. meant ≡ if_name name.now
-        (if_key (key_of part.now) (asks (Command (Delete name.now (key_of part.now)))))) }
+    ensures { OnMeant result (λ meant. meant ≡ delete_meant name.now part.now) }
 {
     let bucket = bucket_name(alloc, name)?;
     let key = object_key(alloc, part)?;
@@ -78,8 +68,7 @@ pub(crate) fn object_ask(
 
 // The ask of a DELETE of a version.
 fn remove_ask(alloc: Global, name: &str, id: &str, part: &str) -> Result<Ask, Fault>
-    ensures { OnMeant result (λ meant. meant ≡ if_name name.now (by_part (version_in id.now) no_such_version (λ version.
-        if_key (key_of part.now) (asks (Command (DeleteVersion name.now (key_of part.now) version)))))) }
+    ensures { OnMeant result (λ meant. meant ≡ remove_meant name.now id.now part.now) }
 {
     let bucket = bucket_name(alloc, name)?;
     let id = version_id(id)?;
@@ -111,9 +100,7 @@ fn tagging_ask(
     part: &str,
     body: &[u8],
 ) -> Result<Ask, Fault>
-    ensures { OnMeant result (λ meant. meant ≡ if_name name.now (by_part (version_in id.now) no_such_version (λ version.
-        if_key (key_of part.now) (by_body (tagging_of body.now) (λ new.
-        asks (Command (SetTags name.now (key_of part.now) version new))))))) }
+    ensures { OnMeant result (λ meant. meant ≡ set_tags_meant name.now id.now part.now body.now) }
 {
     let bucket = bucket_name(alloc, name)?;
     let id = version_id(id)?;

@@ -1,6 +1,5 @@
 // The parts of a path that have ranges.
 ghost use Rattle.std.specs.Prelude.{◌≡◌, true, false, IfOk, IfErr};
-ghost use Rattle.std.specs.Str.{all_ascii_digits};
 ghost use Rattle.office_base.specs.Keys.{is_key};
 ghost use Rattle.office_base.specs.Names.{is_bucket_name};
 ghost use Rattle.moments.specs.Dates.{is_month, year_in, month_in};
@@ -9,7 +8,7 @@ ghost use Rattle.http_routes.specs.Spelled.{key_of};
 ghost use Rattle.http_asks.specs.Faults.{OnBroken, IsPart};
 ghost use Rattle.http_asks.specs.Meaning.{bad_bucket_name, bad_key, not_a_month};
 ghost use Rattle.http_asks.specs.Meaning.{no_such_version, no_such_upload, bad_part};
-ghost use Rattle.http_asks.specs.Numbers.{number_in, version_in, is_part, part_in};
+ghost use Rattle.http_asks.specs.Numbers.{number_in, version_in, are_digits, is_part, part_in};
 
 use crate::bad::{Bad, Fault};
 use http_routes::read_key;
@@ -64,6 +63,14 @@ pub(crate) fn version_id(part: &str) -> Result<VersionId, Fault>
 }
 
 // The number of an upload is written as that of a version.
+#[tactic(
+    auto,
+    using(
+        crate::proofs::NumberLemmas::number_is,
+        crate::proofs::NumberLemmas::null_no_number,
+        crate::proofs::NumberLemmas::no_upload
+    )
+)]
 pub(crate) fn upload_number(part: &str) -> Result<u64, Fault>
     ensures { IsPart (number_in part.now) no_such_upload result }
 {
@@ -76,9 +83,8 @@ pub(crate) fn upload_number(part: &str) -> Result<u64, Fault>
     }
 }
 
-#[tactic(auto, using(crate::proofs::NumberLemmas::digits_all))]
 fn are_digits(text: &str) -> bool
-    ensures { result ≡ all_ascii_digits text.now }
+    ensures { result ≡ are_digits text.now }
 {
     text.as_bytes().iter().all(|byte| byte.is_ascii_digit())
 }
@@ -90,6 +96,11 @@ fn is_part(text: &str) -> bool
     !text.is_empty() && text.len() <= 5 && are_digits(text)
 }
 
+#[tactic(
+    auto,
+    using(crate::proofs::NumberLemmas::part_read),
+    unfolding(crate::specs::Numbers::part_in)
+)]
 pub(crate) fn part_number(part: &str) -> Result<u32, Fault>
     ensures { IsPart (part_in part.now) bad_part result }
 {

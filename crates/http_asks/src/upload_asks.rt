@@ -1,14 +1,8 @@
 // What is asked of multipart uploads.
 ghost use Rattle.std.specs.Prelude.{◌≡◌};
-ghost use Rattle.office_types.specs.declared.command.Ask.TheVariants.{Command, Query};
-ghost use Rattle.office_types.specs.declared.command.Command.TheVariants.{PutPart, Complete, Abort};
-ghost use Rattle.office_types.specs.declared.command.Query.TheVariants.{Upload};
-ghost use Rattle.http_bodies.specs.Multipart.{upload_of, part_of};
-ghost use Rattle.http_routes.specs.Spelled.{key_of};
 ghost use Rattle.http_asks.specs.Faults.{OnMeant};
-ghost use Rattle.http_asks.specs.Meaning.{asks, bad_part, if_name, if_key, by_part, by_body, by_upload, start_meant};
+ghost use Rattle.http_asks.specs.Meaning.{start_meant, shown_meant, complete_meant, abort_meant, put_part_meant};
 ghost use Rattle.http_asks.specs.Meaning.{uploads_meant, upload_meant, part_meant};
-ghost use Rattle.http_asks.specs.Numbers.{part_in};
 
 use crate::bad::{Bad, Fault};
 use crate::bodies::{part_body, upload_body};
@@ -18,8 +12,7 @@ use std::alloc::Global;
 
 // The ask of a POST that starts an upload.
 fn start_ask(alloc: Global, name: &str, part: &str, body: &[u8]) -> Result<Ask, Fault>
-    ensures { OnMeant result (λ meant. meant ≡ if_name name.now
-        (if_key (key_of part.now) (by_body (upload_of body.now) (start_meant name.now (key_of part.now))))) }
+    ensures { OnMeant result (λ meant. meant ≡ start_meant name.now part.now body.now) }
 {
     let bucket = bucket_name(alloc, name)?;
     let key = object_key(alloc, part)?;
@@ -50,8 +43,7 @@ pub(crate) fn uploads_ask(
 
 // The ask of a GET of an upload.
 fn shown_ask(alloc: Global, name: &str, id: &str) -> Result<Ask, Fault>
-    ensures { OnMeant result (λ meant. meant ≡ if_name name.now
-        (by_upload id.now (λ number. asks (Query (Upload name.now number))))) }
+    ensures { OnMeant result (λ meant. meant ≡ shown_meant name.now id.now) }
 {
     let bucket = bucket_name(alloc, name)?;
     let upload = upload_number(id)?;
@@ -60,8 +52,7 @@ fn shown_ask(alloc: Global, name: &str, id: &str) -> Result<Ask, Fault>
 
 // The ask of a POST that completes an upload.
 fn complete_ask(alloc: Global, name: &str, id: &str) -> Result<Ask, Fault>
-    ensures { OnMeant result (λ meant. meant ≡ if_name name.now
-        (by_upload id.now (λ number. asks (Command (Complete name.now number))))) }
+    ensures { OnMeant result (λ meant. meant ≡ complete_meant name.now id.now) }
 {
     let bucket = bucket_name(alloc, name)?;
     let upload = upload_number(id)?;
@@ -70,8 +61,7 @@ fn complete_ask(alloc: Global, name: &str, id: &str) -> Result<Ask, Fault>
 
 // The ask of a DELETE of an upload.
 fn abort_ask(alloc: Global, name: &str, id: &str) -> Result<Ask, Fault>
-    ensures { OnMeant result (λ meant. meant ≡ if_name name.now
-        (by_upload id.now (λ number. asks (Command (Abort name.now number))))) }
+    ensures { OnMeant result (λ meant. meant ≡ abort_meant name.now id.now) }
 {
     let bucket = bucket_name(alloc, name)?;
     let upload = upload_number(id)?;
@@ -102,9 +92,7 @@ fn put_part_ask(
     part: &str,
     body: &[u8],
 ) -> Result<Ask, Fault>
-    ensures { OnMeant result (λ meant. meant ≡ if_name name.now (by_upload id.now (λ upload.
-        by_part (part_in part.now) bad_part (λ number. by_body (part_of body.now) (λ size.
-        asks (Command (PutPart name.now upload number size))))))) }
+    ensures { OnMeant result (λ meant. meant ≡ put_part_meant name.now id.now part.now body.now) }
 {
     let bucket = bucket_name(alloc, name)?;
     let upload = upload_number(id)?;
