@@ -34,7 +34,7 @@ use Rattle.bucket_account.specs.Uploading.{HavePartStays, AreEndableAt, parts_en
 
 -- ---- its parts
 
-put_by : (upload : UploadRecord) (at : ℕ) → IsUpload upload → upload.changed ≤ at → AllByRecursion (λ (part : ℕ × Part). part.1.put ≤ at) upload.parts
+pub put_by : (upload : UploadRecord) (at : ℕ) → IsUpload upload → upload.changed ≤ at → AllByRecursion (λ (part : ℕ × Part). part.1.put ≤ at) upload.parts
 put_by upload at h le =
     every_weaker (λ (part : ℕ × Part). is_part_until upload.changed part ≡ true) (λ (part : ℕ × Part). part.1.put ≤ at)
     (λ part is. let put = leb-true part.1.put upload.changed (and_parts (is_part part.0 part.1.size) (nat_le part.1.put upload.changed) is).1 in omega (arith, put, le)) upload.parts

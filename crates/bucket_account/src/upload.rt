@@ -14,6 +14,7 @@ use crate::change::Done;
 use crate::counts::Counts;
 use crate::dropping::remove_upload;
 use crate::incoming::tag_bytes;
+use crate::parts::{put_in, with_part};
 use accrual::Meters;
 use class_rules::Class;
 use due_core::Bucket;
@@ -109,7 +110,16 @@ pub(crate) fn start_upload(
     })
 }
 
-/// Puts a part of an upload.
+/// Puts a part of an upload. The one with its number goes.
+///
+/// Rule: S3 User Guide, "Uploading and copying objects using multipart upload": parts upload.
+/// Cost: one search of the uploads and four of the parts; where a new part is refused for the count, a copy of the
+/// upload besides.
+///
+/// # Errors
+///
+/// `NoSuchUpload`: there is none with this number. `BadPart`: the part is out of range. `Full`: there would be more
+/// parts than their limit. `NoMemory`: memory ran out. Nothing has then changed.
 pub(crate) fn put_part(
     bucket: &mut Bucket,
     meters: &mut Meters,
@@ -134,8 +144,15 @@ pub(crate) fn put_part(
     ensures few { IfOk result (IsFewMore counts) }
     ensures fits { IfOk result (λ done. ReplyFits done.reply) }
 {
-    let _ = counts;
-    Err(Refusal::NoMemory)
+    let Some(kept) = bucket.uploads.get_mut(&upload) else {
+        return Err(Refusal::NoSuchUpload);
+    };
+    let counts = with_part(counts, kept, part, size, t)?;
+    put_in(kept, meters, part, size, t)?;
+    Ok(Done {
+        counts,
+        reply: Reply::PartStored { part },
+    })
 }
 
 /// Makes an object of the parts of an upload.
