@@ -2,6 +2,7 @@ pub mod Doing
 pub mod Ending
 pub mod Gone
 pub mod Handed
+pub mod Moved
 pub mod Parting
 pub mod Putting
 pub mod Replacing
