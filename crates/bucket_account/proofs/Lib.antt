@@ -5,8 +5,10 @@ pub mod Handed
 pub mod Moved
 pub mod Parting
 pub mod Putting
+pub mod Removals
 pub mod Replacing
 pub mod Rules
 pub mod SetAt
 pub mod TagSizes
 pub mod Told
+pub mod Under

@@ -55,19 +55,21 @@ until_since changed v h = by v.kind h where
       let both = and_parts (nat_le v.created entered) (nat_le entered changed) parts.1 in
       leb-true entered changed both.1
 
-pub since_by : (versioning : Versioning) (changed at : ℕ) (versions : List Version) → IsTrue (is_stack changed versions) → changed ≤ at → IsSinceBy at (replaced versioning versions)
-since_by versioning changed at versions stack le = by versioning where
-  null : (o : Option Version) → version_at Null versions ≡ o → IsSinceBy at o
-  null None is = tt
-  null (Some v) is =
+module _ (changed at : ℕ) (versions : List Version) (stack : IsTrue (is_stack changed versions)) (le : changed ≤ at) where
+  since_id : (id : VersionId) (o : Option Version) → version_at id versions ≡ o → IsSinceBy at o
+  since_id id None is = tt
+  since_id id (Some v) is =
       let parts = and_parts (ids_differ versions) (list_all (has_moments_until changed) versions) stack in
-      let since = until_since changed v (found_all (has_moments_until changed) (has_id Null) versions v parts.1 is) in
+      let since = until_since changed v (found_all (has_moments_until changed) (has_id id) versions v parts.1 is) in
       omega (arith, since, le)
 
-  by : (v : Versioning) → IsSinceBy at (replaced v versions)
-  by Unversioned = null (version_at Null versions) refl
-  by Enabled = tt
-  by Suspended = null (version_at Null versions) refl
+  pub since_at : (id : VersionId) → IsSinceBy at (version_at id versions)
+  since_at id = since_id id (version_at id versions) refl
+
+  pub since_by : (versioning : Versioning) → IsSinceBy at (replaced versioning versions)
+  since_by Unversioned = since_at Null
+  since_by Enabled = tt
+  since_by Suspended = since_at Null
 
 pub since_le : (at : ℕ) (o : Option Version) → IsSinceBy at o → since_option at o ≤ at
 since_le at None h = omega arith

@@ -102,10 +102,13 @@ fn leave_of(version: &Version) -> Leaving
 }
 
 /// Tells of the version with this id what has to be known before it goes.
-pub(crate) fn leaving_at(versions: &[Version], id: VersionId) -> Option<Leaving>
-    ensures { result ≡ option_map leaving_of (version_at id versions.now) }
+pub(crate) fn leaving_at(versions: &[Version], id: &VersionId) -> Option<Leaving>
+    ensures { result ≡ option_map leaving_of (version_at id.now versions.now) }
 {
-    match versions.iter().find(|version| is_same(id, version.id)) {
+    match versions
+        .iter()
+        .find(|version| is_same(*id, version.id))
+    {
         Some(version) => Some(leave_of(version)),
         None => None,
     }
@@ -117,7 +120,7 @@ pub(crate) fn replaced(versioning: Versioning, versions: &[Version]) -> Option<L
 {
     match versioning {
         Versioning::Enabled => None,
-        Versioning::Unversioned | Versioning::Suspended => leaving_at(versions, VersionId::Null),
+        Versioning::Unversioned | Versioning::Suspended => leaving_at(versions, &VersionId::Null),
     }
 }
 
