@@ -3,6 +3,7 @@ pub mod Doing
 pub mod Ending
 pub mod Gone
 pub mod Handed
+pub mod Moved
 pub mod PartStays
 pub mod Parting
 pub mod Putting
