@@ -10,6 +10,7 @@ use Rattle.office_types.specs.declared.command.Ask.{Ask}
 use Rattle.office_types.specs.declared.command.Ask.TheVariants.{Command, Query}
 use Rattle.office_types.specs.declared.command.Command.TheVariants.{CreateBucket, Put}
 use Rattle.office_types.specs.declared.command.Query.TheVariants.{Bucket, Meters}
+use Rattle.rules_core.specs.declared.flaw.RuleFlaw.{RuleFlaw}
 use Rattle.http_bodies.specs.declared.put.PutBody.{PutBody}
 use Rattle.http_bodies.specs.Flaws.{BodyFlaw}
 use Rattle.http_bodies.specs.Puts.{put_of}
@@ -19,9 +20,18 @@ use Rattle.http_wire.specs.Messages.{Request}
 
 -- the rule that a request breaks; not_built: it asks what is not served (own)
 pub data Refused : Type 0 where
+  not_a_date : Refused
+  not_midnight : Refused
   not_a_month : Refused
   bad_bucket_name : Refused
   bad_key : Refused
+  flaw_in : RuleFlaw → ℕ → Refused
+  not_json : Refused
+  unknown_field : List ℕ → Refused
+  wrong_shape : List ℕ → Refused
+  no_such_version : Refused
+  no_such_upload : Refused
+  bad_part : Refused
   flawed : BodyFlaw → Refused
   not_built : Refused
 
