@@ -1,3 +1,4 @@
+pub mod Deletes
 pub mod Doing
 pub mod Ending
 pub mod Handed
