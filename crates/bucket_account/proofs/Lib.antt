@@ -1,4 +1,5 @@
 pub mod Accepted
+pub mod Deletes
 pub mod Doing
 pub mod Ending
 pub mod Gone

@@ -16,6 +16,8 @@ use Rattle.plain_office.specs.Office.{Books, of_version}
 use Rattle.plain_office.specs.Books.{is_open_stay, with_version, without_option}
 use Rattle.plain_office.specs.Counts.{tag_bytes_of}
 use Rattle.plain_office.specs.Orderly.{stay_of_version, lines_since}
+use Rattle.office_types.specs.declared.refusal.Refusal.{Refusal}
+use Rattle.office_types.specs.declared.refusal.Refusal.TheVariants.{NoSuchKey, NoSuchVersion}
 use Rattle.bucket_account.specs.declared.counts.Counts.{Counts}
 use Rattle.bucket_account.specs.declared.incoming.Incoming.{Incoming}
 use Rattle.bucket_account.specs.declared.incoming.Leaving.{Leaving}
@@ -158,3 +160,11 @@ pub record MayGo (id : VersionId) (at : ℕ) (stack : StackRecord) : Type 0 wher
   pub there : IsSome (version_at id stack.versions)
   pub later : stack.changed ≤ at
   pub since : IsSinceBy at (version_at id stack.versions)
+
+-- what a version is refused for that is not under its key, the key before the version (own)
+abbrev pub missing_from : VersionId → Option StackRecord → Option Refusal
+missing_from id None = Some NoSuchKey
+missing_from id (Some stack) = if is_some (version_at id stack.versions) then None else Some NoSuchVersion
+
+abbrev pub missing : List ℕ → VersionId → List (List ℕ × StackRecord) → Option Refusal
+missing key id stacks = missing_from id (at_name key stacks)

@@ -4,4 +4,5 @@ pub mod Counting
 pub mod Effects
 pub mod Moving
 pub mod Standing
+pub mod Tagging
 pub mod Uploading
