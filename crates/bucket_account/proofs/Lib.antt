@@ -2,6 +2,7 @@ pub mod Doing
 pub mod Ending
 pub mod Gone
 pub mod Handed
+pub mod PartPut
 pub mod PartStays
 pub mod Parting
 pub mod Putting
