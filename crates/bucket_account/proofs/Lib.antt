@@ -5,6 +5,7 @@ pub mod Ending
 pub mod Gone
 pub mod Handed
 pub mod Moved
+pub mod PartPut
 pub mod PartStays
 pub mod Parting
 pub mod Putting
