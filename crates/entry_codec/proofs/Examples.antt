@@ -212,6 +212,40 @@ part_put : command_spelling (command.PutPart (codes "logs") 1 5 1_000)
 unfolding to_compute
 part_put = refl
 
+abbrev one_bytes : List ℕ
+one_bytes = 0x00 ∷ 0x00 ∷ 0x00 ∷ 0x00 ∷ 0x00 ∷ 0x00 ∷ 0x00 ∷ 0x01 ∷ []
+
+abbrev key_a : List ℕ
+key_a = 0x00 ∷ 0x01 ∷ 0x61 ∷ []
+
+dropped : command_spelling (command.DropRules (codes "logs")) ≡ 0x04 ∷ name_bytes
+unfolding to_compute
+dropped = refl
+
+deleted : command_spelling (command.Delete (codes "logs") (codes "a")) ≡ 0x06 ∷ name_bytes ++ key_a
+unfolding to_compute
+deleted = refl
+
+tagged : command_spelling (command.SetTags (codes "logs") (codes "a") (Number 1) []) ≡ 0x08 ∷ name_bytes ++ key_a ++ one_bytes ++ 0x00 ∷ []
+unfolding to_compute
+tagged = refl
+
+started : command_spelling (command.StartUpload (codes "logs") (codes "a") Glacier []) ≡ 0x09 ∷ name_bytes ++ key_a ++ 0x04 ∷ 0x00 ∷ []
+unfolding to_compute
+started = refl
+
+completed : command_spelling (command.Complete (codes "logs") 1) ≡ 0x0B ∷ name_bytes ++ one_bytes
+unfolding to_compute
+completed = refl
+
+aborted : command_spelling (command.Abort (codes "logs") 1) ≡ 0x0C ∷ name_bytes ++ one_bytes
+unfolding to_compute
+aborted = refl
+
+acted : command_spelling (command.Act (codes "logs")) ≡ 0x0D ∷ name_bytes
+unfolding to_compute
+acted = refl
+
 -- 2024-01 is the month of this number
 january_closed : command_spelling (command.Close 648) ≡ 0x0F ∷ 0x07 ∷ 0xE8 ∷ 0x01 ∷ []
 unfolding to_compute

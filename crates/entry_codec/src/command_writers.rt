@@ -53,7 +53,8 @@ fn put_set_versioning(
     bucket: &BucketName,
     enabled: bool,
 ) -> Result<(), AllocError>
-    ensures bytes { OnOk result (out.new.items ≡ out.old.items ++ command_spelling (command.SetVersioning bucket.now enabled)) }
+    ensures bytes { OnOk result (out.new.items
+        ≡ out.old.items ++ command_spelling (command.SetVersioning bucket.now enabled)) }
     ensures fits { OnOk result (CommandFits (command.SetVersioning bucket.now enabled)) }
 {
     put_begin(out, Kind::SetVersioning, bucket)?;
@@ -62,7 +63,8 @@ fn put_set_versioning(
 
 #[tactic(auto, using(crate::proofs::Fitting::set_rules_fits), unfolding(crate::specs::Spelling::command_spelling))]
 fn put_set_rules(out: &mut Vec<u8>, bucket: &BucketName, rules: &RuleSet) -> Result<(), AllocError>
-    ensures bytes { OnOk result (out.new.items ≡ out.old.items ++ command_spelling (command.SetRules bucket.now rules.now)) }
+    ensures bytes { OnOk result (out.new.items
+        ≡ out.old.items ++ command_spelling (command.SetRules bucket.now rules.now)) }
     ensures fits { OnOk result (CommandFits (command.SetRules bucket.now rules.now)) }
 {
     put_begin(out, Kind::SetRules, bucket)?;
@@ -86,7 +88,8 @@ fn put_put(
     class: Class,
     tags: &Tags,
 ) -> Result<(), AllocError>
-    ensures bytes { OnOk result (out.new.items ≡ out.old.items ++ command_spelling (command.Put bucket.now key.now size class tags.now)) }
+    ensures bytes { OnOk result (out.new.items
+        ≡ out.old.items ++ command_spelling (command.Put bucket.now key.now size class tags.now)) }
     ensures fits { OnOk result (CommandFits (command.Put bucket.now key.now size class tags.now)) }
 {
     put_begin(out, Kind::Put, bucket)?;
@@ -98,7 +101,8 @@ fn put_put(
 
 #[tactic(auto, using(crate::proofs::Fitting::delete_fits), unfolding(crate::specs::Spelling::command_spelling))]
 fn put_delete(out: &mut Vec<u8>, bucket: &BucketName, key: &Key) -> Result<(), AllocError>
-    ensures bytes { OnOk result (out.new.items ≡ out.old.items ++ command_spelling (command.Delete bucket.now key.now)) }
+    ensures bytes { OnOk result (out.new.items
+        ≡ out.old.items ++ command_spelling (command.Delete bucket.now key.now)) }
     ensures fits { OnOk result (CommandFits (command.Delete bucket.now key.now)) }
 {
     put_begin(out, Kind::Delete, bucket)?;
@@ -112,7 +116,8 @@ fn put_delete_version(
     key: &Key,
     id: VersionId,
 ) -> Result<(), AllocError>
-    ensures bytes { OnOk result (out.new.items ≡ out.old.items ++ command_spelling (command.DeleteVersion bucket.now key.now id)) }
+    ensures bytes { OnOk result (out.new.items
+        ≡ out.old.items ++ command_spelling (command.DeleteVersion bucket.now key.now id)) }
     ensures fits { OnOk result (CommandFits (command.DeleteVersion bucket.now key.now id)) }
 {
     put_begin(out, Kind::DeleteVersion, bucket)?;
@@ -128,7 +133,8 @@ fn put_set_tags(
     id: VersionId,
     tags: &Tags,
 ) -> Result<(), AllocError>
-    ensures bytes { OnOk result (out.new.items ≡ out.old.items ++ command_spelling (command.SetTags bucket.now key.now id tags.now)) }
+    ensures bytes { OnOk result (out.new.items
+        ≡ out.old.items ++ command_spelling (command.SetTags bucket.now key.now id tags.now)) }
     ensures fits { OnOk result (CommandFits (command.SetTags bucket.now key.now id tags.now)) }
 {
     put_begin(out, Kind::SetTags, bucket)?;
@@ -145,7 +151,8 @@ fn put_start_upload(
     class: Class,
     tags: &Tags,
 ) -> Result<(), AllocError>
-    ensures bytes { OnOk result (out.new.items ≡ out.old.items ++ command_spelling (command.StartUpload bucket.now key.now class tags.now)) }
+    ensures bytes { OnOk result (out.new.items
+        ≡ out.old.items ++ command_spelling (command.StartUpload bucket.now key.now class tags.now)) }
     ensures fits { OnOk result (CommandFits (command.StartUpload bucket.now key.now class tags.now)) }
 {
     put_begin(out, Kind::StartUpload, bucket)?;
@@ -162,7 +169,8 @@ fn put_put_part(
     part: u32,
     size: u64,
 ) -> Result<(), AllocError>
-    ensures bytes { OnOk result (out.new.items ≡ out.old.items ++ command_spelling (command.PutPart bucket.now upload part size)) }
+    ensures bytes { OnOk result (out.new.items
+        ≡ out.old.items ++ command_spelling (command.PutPart bucket.now upload part size)) }
     ensures fits { OnOk result (CommandFits (command.PutPart bucket.now upload part size)) }
 {
     put_begin(out, Kind::PutPart, bucket)?;
@@ -173,7 +181,8 @@ fn put_put_part(
 
 #[tactic(auto, using(crate::proofs::Fitting::complete_fits), unfolding(crate::specs::Spelling::command_spelling))]
 fn put_complete(out: &mut Vec<u8>, bucket: &BucketName, upload: u64) -> Result<(), AllocError>
-    ensures bytes { OnOk result (out.new.items ≡ out.old.items ++ command_spelling (command.Complete bucket.now upload)) }
+    ensures bytes { OnOk result (out.new.items
+        ≡ out.old.items ++ command_spelling (command.Complete bucket.now upload)) }
     ensures fits { OnOk result (CommandFits (command.Complete bucket.now upload)) }
 {
     put_begin(out, Kind::Complete, bucket)?;

@@ -27,7 +27,7 @@ pub(crate) fn read_year(total: usize, bytes: &[u8]) -> Result<(u16, &[u8]), Entr
 }
 
 // The month of this year that stands at the front.
-#[tactic(auto, using(crate::proofs::MonthLemmas::month_back, crate::proofs::MonthLemmas::month_has, crate::proofs::MonthLemmas::month_has_not), unfolding(crate::specs::Reading::value_at, crate::specs::Fields::format))]
+#[tactic(auto, using(crate::proofs::MonthLemmas::month_back, crate::proofs::MonthLemmas::month_has), unfolding(crate::specs::Reading::value_at, crate::specs::Fields::format))]
 pub(crate) fn read_month(
     total: usize,
     year: u16,

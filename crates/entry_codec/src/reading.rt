@@ -57,8 +57,9 @@ fn whole_entry(alloc: Global, bytes: &[u8]) -> Result<Entry, EntryFault>
 
 /// Reads the entry that the bytes spell, all of the bytes.
 ///
-/// Cost: one pass over the bytes, and memory for the name, the key and the tags; for rules a second pass over their text,
-/// which is printed again, and memory for its JSON. Takes memory only for what the bytes hold, whatever lengths they claim.
+/// Cost: one pass over the bytes, and memory for the name, the key and the tags; for rules a second pass over their
+/// text, which is printed again, and memory for its JSON. It takes memory only for what the bytes hold, whatever lengths
+/// they claim.
 ///
 /// # Errors
 ///

@@ -25,12 +25,22 @@ fn bad(offset: u64) -> Option<EntryFault> {
     Some(EntryFault::BadEntry { offset })
 }
 
-// The fault of these bytes behind a moment; none where they are an entry.
-fn fault_of(alloc: Global, moment: u64, behind: &[u8]) -> Result<Option<EntryFault>, AllocError> {
+// The fault of NEW_YEAR and these bytes; none where they are an entry.
+fn fault_of(alloc: Global, behind: &[u8]) -> Result<Option<EntryFault>, AllocError> {
     let mut bytes = Vec::new(alloc);
-    bytes.extend_from_slice(&moment.to_be_bytes())?;
+    bytes.extend_from_slice(&NEW_YEAR.to_be_bytes())?;
     bytes.extend_from_slice(behind)?;
     Ok(decode(alloc, &bytes).err())
+}
+
+// The place that the first of these rows names whose fault is at another place or none.
+fn first_wrong(alloc: Global, rows: &[(&[u8], u64)]) -> Result<Option<u64>, AllocError> {
+    for row in rows {
+        if fault_of(alloc, row.0)? != bad(row.1) {
+            return Ok(Some(row.1));
+        }
+    }
+    Ok(None)
 }
 
 // The bytes of an entry at NEW_YEAR.
@@ -40,13 +50,14 @@ fn written(alloc: Global, command: Command) -> Result<Vec<u8>, Fail> {
     Ok(encode(alloc, &entry)?)
 }
 
-// The bytes that are written of the entry that was read from NEW_YEAR and these.
-fn again(alloc: Global, behind: &[u8]) -> Result<Vec<u8>, Fail> {
+// Whether the entry that is read from NEW_YEAR and these bytes is written as the same bytes.
+fn is_written_again(alloc: Global, behind: &[u8]) -> Result<bool, Fail> {
     let mut bytes = Vec::new(alloc);
     bytes.extend_from_slice(&NEW_YEAR.to_be_bytes())?;
     bytes.extend_from_slice(behind)?;
     let entry = decode(alloc, &bytes)?;
-    Ok(encode(alloc, &entry)?)
+    let written = encode(alloc, &entry)?;
+    Ok(written.as_slice() == bytes.as_slice())
 }
 
 // A put of 1,000 bytes under the key `a` of the bucket `logs`.
@@ -106,178 +117,118 @@ const ENTRIES: [&[u8]; 19] = [
     b"\x0b\0\x04logs\0\0\0\0\0\0\0\x01",
     b"\x0c\0\x04logs\xff\xff\xff\xff\xff\xff\xff\xff",
     b"\x0d\0\x04logs",
-    b"\x0e\0\x10\0\0\0\0\0\x01\0\0\0\x02\0\0\0\x03\0\0\0\x04\0\0\0\x05\0\0\0\x06\0\0\0\x07\0\0\0\x08\0\0\0\x09\0\x10\0\0",
+    b"\x0e\0\x10\0\0\0\0\0\x01\0\0\0\x02\0\0\0\x03\0\0\0\x04\0\0\0\x05\0\0\0\x06\0\0\0\x07\0\0\0\x08\0\0\0\0\0\x10\0\0",
     b"\x0f\x07\xb2\x01",
     b"\x0f\x08\x33\x0c",
 ];
 
+fn are_written_again(alloc: Global, rows: &[&[u8]]) -> Result<bool, Fail> {
+    for row in rows {
+        if !is_written_again(alloc, row)? {
+            return Ok(false);
+        }
+    }
+    Ok(true)
+}
+
 #[test]
 fn every_kind_is_read_and_written(rt: HostRuntime) -> Result<(), Fail> {
-    for behind in ENTRIES {
-        let bytes = again(rt.alloc(), behind)?;
-        assert_eq!(rt; &bytes.as_slice()[8..], behind);
-    }
+    assert_eq!(rt; are_written_again(rt.alloc(), &ENTRIES)?, true);
     Ok(())
 }
 
-// The moment, the bytes behind it, and where the first field begins that breaks the format.
-const FAULTS: [(u64, &[u8], u64); 46] = [
-    (4_102_444_800_000, b"\x01\0\x04logs", 0),
-    (u64::MAX, b"\x01\0\x04logs", 0),
-    (NEW_YEAR, b"", 8),
-    (NEW_YEAR, b"\0\0\x04logs", 8),
-    (NEW_YEAR, b"\x10\0\x04logs", 8),
-    (NEW_YEAR, b"\xff\0\x04logs", 8),
-    (NEW_YEAR, b"\x01\0", 9),
-    (NEW_YEAR, b"\x01\0\x04log", 9),
-    (NEW_YEAR, b"\x01\0\x02lo", 9),
-    (NEW_YEAR, b"\x01\0\x04Logs", 9),
-    (NEW_YEAR, b"\x01\0\x04logs\0", 15),
-    (NEW_YEAR, b"\x02\0\x04logs", 15),
-    (NEW_YEAR, b"\x02\0\x04logs\0", 15),
-    (NEW_YEAR, b"\x02\0\x04logs\x03", 15),
-    (NEW_YEAR, b"\x02\0\x04logs\x01\x01", 16),
-    (NEW_YEAR, b"\x06\0\x04logs\0\0", 15),
-    (NEW_YEAR, b"\x06\0\x04logs\0\x01\xff", 15),
+// The bytes behind the moment, and where the first field begins that breaks the format.
+const FAULTS: [(&[u8], u64); 27] = [
+    (b"", 8),
+    (b"\x10\0\x04logs", 8),
+    (b"\x01\0\x04log", 9),
+    (b"\x01\0\x04Logs", 9),
+    (b"\x01\0\x04logs\0", 15),
+    (b"\x02\0\x04logs\x03", 15),
+    (b"\x02\0\x04logs\x01\x01", 16),
+    (b"\x06\0\x04logs\0\0", 15),
+    (b"\x05\0\x04logs\0\x01a\0\0\x05\0\0\0\0\x01\0\0", 18),
+    (b"\x05\0\x04logs\0\x01a\0\0\0\0\0\0\0\x01\x06\0", 26),
     (
-        NEW_YEAR,
-        b"\x05\0\x04logs\0\x01a\0\0\x05\0\0\0\0\x01\0\0",
-        18,
-    ),
-    (
-        NEW_YEAR,
-        b"\x05\0\x04logs\0\x01a\0\0\0\0\0\0\0\x01\x06\0",
-        26,
-    ),
-    (NEW_YEAR, b"\x05\0\x04logs\0\x01a\0\0\0\0\0\0\0\x01\0", 27),
-    (
-        NEW_YEAR,
-        b"\x05\0\x04logs\0\x01a\0\0\0\0\0\0\0\x01\0\x01\0\0\0\0",
-        27,
-    ),
-    (
-        NEW_YEAR,
-        b"\x05\0\x04logs\0\x01a\0\0\0\0\0\0\0\x01\0\x01\0\x01\xff\0\0",
-        27,
-    ),
-    (
-        NEW_YEAR,
         b"\x05\0\x04logs\0\x01a\0\0\0\0\0\0\0\x01\0\x02\0\x01b\0\0\0\x01a\0\0",
         27,
     ),
+    (b"\x07\0\x04logs\0\x01a\0\0\0\0\0\0\0", 18),
+    (b"\x08\0\x04logs\0\x01a\0\0\0\0\0\0\0\x01\x0b", 26),
+    (b"\x09\0\x04logs\0\x01a\x06\0", 18),
+    (b"\x09\0\x04logs\0\x01a\0", 19),
+    (b"\x0a\0\x04logs\0\0\0\0\0\0\0", 15),
+    (b"\x0a\0\x04logs\0\0\0\0\0\0\0\x01\0\0\0", 23),
     (
-        NEW_YEAR,
-        b"\x05\0\x04logs\0\x01a\0\0\0\0\0\0\0\x01\0\x02\0\x01a\0\0\0\x01a\0\0",
-        27,
-    ),
-    (
-        NEW_YEAR,
-        b"\x05\0\x04logs\0\x01a\0\0\0\0\0\0\0\x01\0\x01\0\x01a\0\0\0",
-        33,
-    ),
-    (NEW_YEAR, b"\x07\0\x04logs\0\x01a\0\0\0\0\0\0\0", 18),
-    (NEW_YEAR, b"\x07\0\x04logs\0\x01a\0\0\0\0\0\0\0\x01\0", 26),
-    (NEW_YEAR, b"\x08\0\x04logs\0\x01a\0\0\0\0\0\0\0\x01\x0b", 26),
-    (NEW_YEAR, b"\x09\0\x04logs\0\x01a\x06\0", 18),
-    (NEW_YEAR, b"\x09\0\x04logs\0\x01a\0", 19),
-    (NEW_YEAR, b"\x0a\0\x04logs\0\0\0\0\0\0\0", 15),
-    (NEW_YEAR, b"\x0a\0\x04logs\0\0\0\0\0\0\0\x01\0\0\0", 23),
-    (
-        NEW_YEAR,
         b"\x0a\0\x04logs\0\0\0\0\0\0\0\x01\0\0\0\x01\0\0\0\0\0\0\0",
         27,
     ),
+    (b"\x0b\0\x04logs\0\0\0\0\0\0\0", 15),
+    (b"\x0c\0\x04logs\0\0\0\0\0\0\0\x01\0", 23),
+    (b"\x0e\0\x10\0\0\0\0\0\0\0\x10\0\x01", 17),
     (
-        NEW_YEAR,
-        b"\x0a\0\x04logs\0\0\0\0\0\0\0\x01\0\0\0\x01\0\0\0\0\0\0\0\x01\0",
-        35,
-    ),
-    (NEW_YEAR, b"\x0b\0\x04logs\0\0\0\0\0\0\0", 15),
-    (NEW_YEAR, b"\x0c\0\x04logs\0\0\0\0\0\0\0\x01\0", 23),
-    (NEW_YEAR, b"\x0e", 9),
-    (NEW_YEAR, b"\x0e\0\x10\0\0\0\0\0\0\0\x10\0\x01", 17),
-    (
-        NEW_YEAR,
         b"\x0e\0\0\0\0\0\0\0\0\0\0\0\0\0\0\0\0\0\0\0\0\0\0\0\0\xff\xff\xff\xff",
         33,
     ),
     (
-        NEW_YEAR,
         b"\x0e\0\0\0\0\0\0\0\0\0\0\0\0\0\0\0\0\0\0\0\0\0\0\0\0\0\0\0\0\0\0\0\0\0\0\0\0\0\0\0\0\0\0\0",
         49,
     ),
-    (NEW_YEAR, b"\x0f\x07\xb1\x01", 9),
-    (NEW_YEAR, b"\x0f\x08\x34\x01", 9),
-    (NEW_YEAR, b"\x0f\x07\xe8", 11),
-    (NEW_YEAR, b"\x0f\x07\xe8\0", 11),
-    (NEW_YEAR, b"\x0f\x07\xe8\x0d", 11),
-    (NEW_YEAR, b"\x0f\x07\xe8\x0c\0", 12),
+    (b"\x0f\x07\xb1\x01", 9),
+    (b"\x0f\x07\xe8\0", 11),
+    (b"\x0f\x07\xe8\x0d", 11),
+    (b"\x0f\x07\xe8\x0c\0", 12),
 ];
 
 #[test]
 fn a_fault_names_its_field(rt: HostRuntime) -> Result<(), Fail> {
-    for (moment, behind, offset) in FAULTS {
-        assert_eq!(rt; fault_of(rt.alloc(), moment, behind)?, bad(offset));
-    }
+    assert_eq!(rt; first_wrong(rt.alloc(), &FAULTS)?, None);
     Ok(())
 }
+
+// A rule with a space; with its fields in another order; without its id; with a flaw; and no JSON.
+const OTHER_TEXTS: [&[u8]; 5] = [
+    b"{\"Expiration\":{\"Days\":9}, \"Filter\":{\"Prefix\":\"\"},\"ID\":\"a\",\"Status\":\"Enabled\"}",
+    b"{\"ID\":\"a\",\"Expiration\":{\"Days\":9},\"Filter\":{\"Prefix\":\"\"},\"Status\":\"Enabled\"}",
+    b"{\"Expiration\":{\"Days\":9},\"Filter\":{\"Prefix\":\"\"},\"Status\":\"Enabled\"}",
+    b"{\"Expiration\":{\"Days\":0},\"Filter\":{\"Prefix\":\"\"},\"ID\":\"a\",\"Status\":\"Enabled\"}",
+    b"{",
+];
 
 #[test]
 fn rules_have_one_text(rt: HostRuntime) -> Result<(), Fail> {
-    // A configuration in its one text; with a space; with its fields in another order; without the rule's id; a text
-    // that breaks a condition; and no JSON.
-    let texts: [(&[u8], Option<EntryFault>); 6] = [
-        (
-            b"{\"Rules\":[{\"Expiration\":{\"Days\":9},\"Filter\":{\"Prefix\":\"\"},\"ID\":\"a\",\"Status\":\"Enabled\"}],\"TransitionDefaultMinimumObjectSize\":\"all_storage_classes_128K\"}",
-            None,
-        ),
-        (
-            b"{\"Rules\": [{\"Expiration\":{\"Days\":9},\"Filter\":{\"Prefix\":\"\"},\"ID\":\"a\",\"Status\":\"Enabled\"}],\"TransitionDefaultMinimumObjectSize\":\"all_storage_classes_128K\"}",
-            bad(15),
-        ),
-        (
-            b"{\"Rules\":[{\"ID\":\"a\",\"Expiration\":{\"Days\":9},\"Filter\":{\"Prefix\":\"\"},\"Status\":\"Enabled\"}],\"TransitionDefaultMinimumObjectSize\":\"all_storage_classes_128K\"}",
-            bad(15),
-        ),
-        (
-            b"{\"Rules\":[{\"Expiration\":{\"Days\":9},\"Filter\":{\"Prefix\":\"\"},\"Status\":\"Enabled\"}],\"TransitionDefaultMinimumObjectSize\":\"all_storage_classes_128K\"}",
-            bad(15),
-        ),
-        (
-            b"{\"Rules\":[{\"Expiration\":{\"Days\":0},\"Filter\":{\"Prefix\":\"\"},\"ID\":\"a\",\"Status\":\"Enabled\"}],\"TransitionDefaultMinimumObjectSize\":\"all_storage_classes_128K\"}",
-            bad(15),
-        ),
-        (b"{\"Rules\":[", bad(15)),
-    ];
-    for (text, fault) in texts {
-        let mut behind = Vec::new(rt.alloc());
-        behind.extend_from_slice(b"\x03\0\x04logs")?;
-        behind.extend_from_slice(&(text.len() as u32).to_be_bytes())?;
-        behind.extend_from_slice(text)?;
-        assert_eq!(rt; fault_of(rt.alloc(), NEW_YEAR, &behind)?, fault);
-    }
+    let alloc = rt.alloc();
+    let printed = set_rules(
+        alloc,
+        b"{\"Expiration\":{\"Days\":9},\"Filter\":{\"Prefix\":\"\"},\"ID\":\"a\",\"Status\":\"Enabled\"}",
+    )?;
+    assert_eq!(rt; is_written_again(alloc, &printed)?, true);
+    assert_eq!(rt; are_refused(alloc, &OTHER_TEXTS)?, true);
     Ok(())
 }
 
-#[test]
-fn keys_in_and_out_of_range(rt: HostRuntime) -> Result<(), Fail> {
-    // The length in two bytes, the byte of which the key consists, how often, and the fault.
-    let keys = [
-        ([0x04, 0x00], 0x61, 1_024, None),
-        ([0x04, 0x01], 0x61, 1_025, bad(15)),
-        ([0x00, 0x02], 0x7f, 2, None),
-        ([0x00, 0x02], 0x80, 2, bad(15)),
-    ];
-    for (len, byte, count, fault) in keys {
-        let mut behind = Vec::new(rt.alloc());
-        behind.extend_from_slice(b"\x06\0\x04logs")?;
-        behind.extend_from_slice(&len)?;
-        behind.extend_from_slice(&vec![in rt.alloc(); byte; count]?)?;
-        assert_eq!(rt;
-            fault_of(rt.alloc(), NEW_YEAR, &behind)?,
-            fault,
-            "{count} of {byte}"
-        );
+// Whether each of these texts of a rule is refused where the rules begin.
+fn are_refused(alloc: Global, rules: &[&[u8]]) -> Result<bool, AllocError> {
+    for rule in rules {
+        let behind = set_rules(alloc, rule)?;
+        if fault_of(alloc, &behind)? != bad(15) {
+            return Ok(false);
+        }
     }
-    Ok(())
+    Ok(true)
+}
+
+// The bytes behind the moment of an entry that sets the rules of `logs`, with this text of one rule.
+fn set_rules(alloc: Global, rule: &[u8]) -> Result<Vec<u8>, AllocError> {
+    let mut text = Vec::new(alloc);
+    text.extend_from_slice(b"{\"Rules\":[")?;
+    text.extend_from_slice(rule)?;
+    text.extend_from_slice(
+        b"],\"TransitionDefaultMinimumObjectSize\":\"all_storage_classes_128K\"}",
+    )?;
+    let mut behind = Vec::new(alloc);
+    behind.extend_from_slice(b"\x03\0\x04logs")?;
+    behind.extend_from_slice(&(text.len() as u32).to_be_bytes())?;
+    behind.extend_from_slice(&text)?;
+    Ok(behind)
 }

@@ -11,8 +11,8 @@ use office_base::NoMemory;
 use office_types::{Command, Entry};
 use std::alloc::Global;
 
-/// The most bytes of an entry's spelling: 256 MiB. Own rule: the longest entry sets the rules of a bucket, whose text has
-/// at most 170,001,650 bytes (1,000 rules of 170,000 each), and with the bucket's name 170,001,728; this is the next
+/// The most bytes of an entry's spelling: 256 MiB. Own rule: the longest entry sets a bucket's rules, whose text has at
+/// most 170,001,650 bytes (1,000 rules of 170,000 each); with the bucket's name it has 170,001,728, and this is the next
 /// power of two. A reader can refuse what is longer before it takes memory for it.
 pub const ENTRY_LIMIT: u64 = 268_435_456;
 
