@@ -8,5 +8,6 @@ pub mod Replacing
 pub mod Rules
 pub mod SetAt
 pub mod TagSizes
+pub mod Tagged
 pub mod Told
 pub mod Under
