@@ -1,11 +1,12 @@
 -- What a delete does, by the versioning of its bucket, and what a version is refused for that is not there.
 use Rattle.std.proofs.Common.{◌≡◌, ℕ, List, [], ◌∷◌, refl, sym, subst, Bool, true, false, cond}
 use Rattle.std.specs.Prelude.{Option, Some, None, Ok, Err, IsSome, is_some, unwrap_or}
+use Rattle.std.specs.Option.{ok_or}
 use Rattle.std.specs.List.{list_any, find}
 use Rattle.office_base.specs.Maps.{at_name}
 use Rattle.office_base.specs.declared.version_id.VersionId.{VersionId}
 use Rattle.office_base.specs.declared.version_id.VersionId.TheVariants.{Null}
-use Rattle.stacks.specs.Stacks.{StackRecord, new_stack, has_id, version_at}
+use Rattle.stacks.specs.Stacks.{StackRecord, new_stack, has_id, version_at, or_no_such, found}
 use Rattle.stacks.specs.declared.version.Kind.TheVariants.{Marker}
 use Rattle.stacks.specs.declared.version.Version.{Version}
 use Rattle.stacks.specs.declared.version.Versioning.{Versioning}
@@ -14,7 +15,7 @@ use Rattle.due_core.specs.Buckets.{BucketRecord}
 use Rattle.plain_office.specs.Office.{Account}
 use Rattle.plain_office.specs.Changes.{add_version, remove_version, next_id, versions_of}
 use Rattle.plain_office.specs.Orderly.{IsOneNullObject, FitsVersioning, IsOrderlyBucket}
-use Rattle.plain_office.specs.Step.{delete, delete_version}
+use Rattle.plain_office.specs.Step.{Change, ◌>>=◌, of_stack, delete, delete_version}
 use Rattle.office_types.specs.declared.reply.Reply.TheVariants.{Deleted, VersionDeleted}
 use Rattle.office_types.specs.declared.refusal.Refusal.{Refusal}
 use Rattle.office_types.specs.declared.refusal.Refusal.TheVariants.{NoSuchKey, NoSuchVersion}
@@ -72,7 +73,7 @@ any_found p (v ∷ versions) = by (p v) refl (any_found p versions) where
   by true is more = rw is refl
   by false is more = rw is more
 
-missing_by : (id : VersionId) (o : Option Version) → cond (is_some o) None (Some NoSuchVersion) ≡ None {Refusal} → IsSome o
+missing_by : (id : VersionId) (o : Option Version) → cond (is_some o) None (Some NoSuchVersion) ≡ None → IsSome o
 missing_by id None h = absurd cc
 missing_by id (Some v) h = refl
 
@@ -82,3 +83,16 @@ module _ (t : ℕ) (key : List ℕ) (id : VersionId) (account : Account) where
     by : (o : Option StackRecord) → missing_from id o ≡ None → IsSome (version_at id (unwrap_or o (new_stack 0)).versions)
     by None h = absurd cc
     by (Some stack) h = missing_by id (version_at id stack.versions) h
+  abbrev gone : Version → Change
+  gone version = Ok (remove_version key id t account, VersionDeleted id)
+
+  -- it goes, where it is there
+  pub goes : missing key id account.bucket.stacks ≡ None → delete_version t key id account ≡ Ok (remove_version key id t account, VersionDeleted id)
+  goes is = by (at_name key account.bucket.stacks) is where
+    found_by : (o : Option Version) → cond (is_some o) None (Some NoSuchVersion) ≡ None → (of_stack (or_no_such o) >>= gone) ≡ Ok (remove_version key id t account, VersionDeleted id)
+    found_by None h = absurd cc
+    found_by (Some v) h = refl
+
+    by : (o : Option StackRecord) → missing_from id o ≡ None → (ok_or o NoSuchKey >>= λ stack. (of_stack (found id stack.versions) >>= gone)) ≡ Ok (remove_version key id t account, VersionDeleted id)
+    by None h = absurd cc
+    by (Some stack) h = found_by (version_at id stack.versions) h

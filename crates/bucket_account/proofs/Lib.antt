@@ -15,5 +15,6 @@ pub mod Rules
 pub mod SetAt
 pub mod Started
 pub mod TagSizes
+pub mod Tagged
 pub mod Told
 pub mod Under
