@@ -5,9 +5,7 @@ ghost use Rattle.http_asks.specs.Faults.{OnMeant};
 ghost use Rattle.http_asks.specs.Meaning.{Means, meant_of};
 
 use crate::bad::{Bad, Fault};
-use crate::bucket_asks::{
-    act_ask, bucket_ask, due_ask, lifecycle_ask, meters_ask, versioning_ask,
-};
+use crate::bucket_asks::{act_ask, bucket_ask, due_ask, lifecycle_ask, meters_ask, versioning_ask};
 use crate::object_asks::{object_ask, tags_ask, version_ask};
 use crate::upload_asks::{part_ask, upload_ask, uploads_ask};
 use http_routes::{Route, Routes};

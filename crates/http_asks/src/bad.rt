@@ -36,12 +36,18 @@ pub enum Bad {
     /// The bytes of a lifecycle configuration are no JSON text.
     NotJson,
     /// An object of a lifecycle configuration has a field that is none of its own.
-    UnknownField { name: String },
+    UnknownField {
+        name: String,
+    },
     /// The field of a lifecycle configuration is missing, has another kind of value, is out of its range or is too many;
     /// an empty name: the whole is no object.
-    WrongShape { field: String },
+    WrongShape {
+        field: String,
+    },
     /// The name is that of no storage class.
-    UnsupportedClass { name: String },
+    UnsupportedClass {
+        name: String,
+    },
     /// The part of the path is not spelled as the id of a version.
     NoSuchVersion,
     /// The part of the path is not spelled as the number of an upload.
@@ -50,7 +56,9 @@ pub enum Bad {
     BadPart,
     /// The field of the body is missing, has another kind of value or is not one of the body's; an empty name: the body
     /// is no JSON object.
-    BadBody { field: String },
+    BadBody {
+        field: String,
+    },
     /// The message is none that is served. It is the last of its session.
     NotBuilt,
 }

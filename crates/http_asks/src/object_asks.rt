@@ -93,13 +93,7 @@ pub(crate) fn version_ask(
 }
 
 // The ask of a PUT of the tags of a version.
-fn tagging_ask(
-    alloc: Global,
-    name: &str,
-    id: &str,
-    part: &str,
-    body: &[u8],
-) -> Result<Ask, Fault>
+fn tagging_ask(alloc: Global, name: &str, id: &str, part: &str, body: &[u8]) -> Result<Ask, Fault>
     ensures { OnMeant result (λ meant. meant ≡ set_tags_meant name.now id.now part.now body.now) }
 {
     let bucket = bucket_name(alloc, name)?;

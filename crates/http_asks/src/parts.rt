@@ -63,14 +63,7 @@ pub(crate) fn version_id(part: &str) -> Result<VersionId, Fault>
 }
 
 // The number of an upload is written as that of a version.
-#[tactic(
-    auto,
-    using(
-        crate::proofs::NumberLemmas::number_is,
-        crate::proofs::NumberLemmas::null_no_number,
-        crate::proofs::NumberLemmas::no_upload
-    )
-)]
+#[tactic(auto, using(crate::proofs::NumberLemmas::number_is, crate::proofs::NumberLemmas::null_no_number, crate::proofs::NumberLemmas::no_upload))]
 pub(crate) fn upload_number(part: &str) -> Result<u64, Fault>
     ensures { IsPart (number_in part.now) no_such_upload result }
 {
@@ -96,11 +89,7 @@ fn is_part(text: &str) -> bool
     !text.is_empty() && text.len() <= 5 && are_digits(text)
 }
 
-#[tactic(
-    auto,
-    using(crate::proofs::NumberLemmas::part_read),
-    unfolding(crate::specs::Numbers::part_in)
-)]
+#[tactic(auto, using(crate::proofs::NumberLemmas::part_read), unfolding(crate::specs::Numbers::part_in))]
 pub(crate) fn part_number(part: &str) -> Result<u32, Fault>
     ensures { IsPart (part_in part.now) bad_part result }
 {

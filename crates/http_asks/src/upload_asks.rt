@@ -85,13 +85,7 @@ pub(crate) fn upload_ask(alloc: Global, method: &[u8], name: &str, id: &str) -> 
 }
 
 // The ask of a PUT of a part.
-fn put_part_ask(
-    alloc: Global,
-    name: &str,
-    id: &str,
-    part: &str,
-    body: &[u8],
-) -> Result<Ask, Fault>
+fn put_part_ask(alloc: Global, name: &str, id: &str, part: &str, body: &[u8]) -> Result<Ask, Fault>
     ensures { OnMeant result (λ meant. meant ≡ put_part_meant name.now id.now part.now body.now) }
 {
     let bucket = bucket_name(alloc, name)?;

@@ -226,7 +226,11 @@ fn starts_of_uploads(rt: HostRuntime) -> Result<(), Fail> {
         ("{\"tags\":{\"\":\"x\"}}", "BadTags"),
     ];
     for (text, answer) in cases {
-        assert_eq!(rt; told_upload(rt.alloc(), text.as_bytes())?.as_str(), answer, "{text}");
+        assert_eq!(rt;
+            told_upload(rt.alloc(), text.as_bytes())?.as_str(),
+            answer,
+            "{text}"
+        );
     }
     Ok(())
 }
@@ -247,7 +251,11 @@ fn tags_of_versions(rt: HostRuntime) -> Result<(), Fail> {
         ("{\"tags\":{\"\":\"x\"}}", "BadTags"),
     ];
     for (text, answer) in cases {
-        assert_eq!(rt; told_tags(rt.alloc(), text.as_bytes())?.as_str(), answer, "{text}");
+        assert_eq!(rt;
+            told_tags(rt.alloc(), text.as_bytes())?.as_str(),
+            answer,
+            "{text}"
+        );
     }
     Ok(())
 }
@@ -265,7 +273,11 @@ fn sizes_of_parts(rt: HostRuntime) -> Result<(), Fail> {
         ("{", "BadBody "),
     ];
     for (text, answer) in cases {
-        assert_eq!(rt; told_part(rt.alloc(), text.as_bytes())?.as_str(), answer, "{text}");
+        assert_eq!(rt;
+            told_part(rt.alloc(), text.as_bytes())?.as_str(),
+            answer,
+            "{text}"
+        );
     }
     Ok(())
 }
@@ -279,11 +291,18 @@ fn settings_of_versioning(rt: HostRuntime) -> Result<(), Fail> {
         ("{\"Status\":\"\"}", "BadBody Status"),
         ("{\"Status\":true}", "BadBody Status"),
         ("", "BadBody Status"),
-        ("{\"Status\":\"Off\",\"MFADelete\":\"Off\"}", "BadBody MFADelete"),
+        (
+            "{\"Status\":\"Off\",\"MFADelete\":\"Off\"}",
+            "BadBody MFADelete",
+        ),
         ("[]", "BadBody "),
     ];
     for (text, answer) in cases {
-        assert_eq!(rt; told_status(rt.alloc(), text.as_bytes())?.as_str(), answer, "{text}");
+        assert_eq!(rt;
+            told_status(rt.alloc(), text.as_bytes())?.as_str(),
+            answer,
+            "{text}"
+        );
     }
     Ok(())
 }
