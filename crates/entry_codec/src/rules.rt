@@ -21,6 +21,7 @@ fn text_of(alloc: Global, rules: &RuleSet) -> Result<String, NoMemory>
     ensures text { IfOk result (λ text. string_bytes text ≡ printed rules.now) }
     ensures kept { IsConfiguration rules.now }
 {
+    // Called for its clause alone, that the rules keep all conditions.
     let _kept = rules.rules();
     print_rules(alloc, rules)
 }

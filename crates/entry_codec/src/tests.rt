@@ -228,7 +228,8 @@ fn set_rules(alloc: Global, rule: &[u8]) -> Result<Vec<u8>, AllocError> {
     )?;
     let mut behind = Vec::new(alloc);
     behind.extend_from_slice(b"\x03\0\x04logs")?;
-    behind.extend_from_slice(&(text.len() as u32).to_be_bytes())?;
+    // The last four bytes of the length.
+    behind.extend_from_slice(&text.len().to_be_bytes()[4..])?;
     behind.extend_from_slice(&text)?;
     Ok(behind)
 }
