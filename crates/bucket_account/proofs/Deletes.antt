@@ -83,6 +83,7 @@ module _ (t : ℕ) (key : List ℕ) (id : VersionId) (account : Account) where
     by : (o : Option StackRecord) → missing_from id o ≡ None → IsSome (version_at id (unwrap_or o (new_stack 0)).versions)
     by None h = absurd cc
     by (Some stack) h = missing_by id (version_at id stack.versions) h
+
   abbrev gone : Version → Change
   gone version = Ok (remove_version key id t account, VersionDeleted id)
 
