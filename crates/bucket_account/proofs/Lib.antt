@@ -1,3 +1,4 @@
+pub mod Accepted
 pub mod Deletes
 pub mod Doing
 pub mod Ending
