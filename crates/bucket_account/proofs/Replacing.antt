@@ -2,7 +2,7 @@
 use Rattle.std.proofs.Common.{◌≡◌, ℕ, ◌+◌, ◌≤◌, ◌<◌, List, [], ◌∷◌, length, refl, ap, sym, subst, Bool, true, false, not, ◌&&◌, cond, arith}
 use Rattle.std.specs.Prelude.{Option, Some, None, sum_by, nat_le, ◌==◌, IsTrue}
 use Rattle.std.specs.List.{AllByRecursion, list_any, list_all, find}
-use Rattle.std.proofs.lemmas.Bool.{and_parts, or_parts, not-true, leb-true}
+use Rattle.std.proofs.lemmas.Bool.{and_parts, not-true, leb-true}
 use Rattle.std.proofs.lemmas.Bool.Decides.{nat_tests}
 use Rattle.std.proofs.lemmas.List.Sums.{sum_by-cons}
 use Rattle.office_base.specs.declared.version_id.VersionId.{VersionId}
