@@ -6,7 +6,7 @@ use Rattle.std.specs.List.{list_any, find}
 use Rattle.office_base.specs.Maps.{at_name}
 use Rattle.office_base.specs.declared.version_id.VersionId.{VersionId}
 use Rattle.office_base.specs.declared.version_id.VersionId.TheVariants.{Null}
-use Rattle.stacks.specs.Stacks.{StackRecord, new_stack, has_id, version_at, or_no_such, found}
+use Rattle.stacks.specs.Stacks.{StackRecord, new_stack, version_at, or_no_such, found}
 use Rattle.stacks.specs.declared.version.Kind.TheVariants.{Marker}
 use Rattle.stacks.specs.declared.version.Version.{Version}
 use Rattle.stacks.specs.declared.version.Versioning.{Versioning}
@@ -17,7 +17,6 @@ use Rattle.plain_office.specs.Changes.{add_version, remove_version, next_id, ver
 use Rattle.plain_office.specs.Orderly.{IsOneNullObject, FitsVersioning, IsOrderlyBucket}
 use Rattle.plain_office.specs.Step.{Change, ◌>>=◌, of_stack, delete, delete_version}
 use Rattle.office_types.specs.declared.reply.Reply.TheVariants.{Deleted, VersionDeleted}
-use Rattle.office_types.specs.declared.refusal.Refusal.{Refusal}
 use Rattle.office_types.specs.declared.refusal.Refusal.TheVariants.{NoSuchKey, NoSuchVersion}
 use Rattle.office_laws.proofs.Buckets.{stack_orderly}
 use Rattle.bucket_account.specs.Booking.{missing, missing_from}
@@ -83,6 +82,7 @@ module _ (t : ℕ) (key : List ℕ) (id : VersionId) (account : Account) where
     by : (o : Option StackRecord) → missing_from id o ≡ None → IsSome (version_at id (unwrap_or o (new_stack 0)).versions)
     by None h = absurd cc
     by (Some stack) h = missing_by id (version_at id stack.versions) h
+
   abbrev gone : Version → Change
   gone version = Ok (remove_version key id t account, VersionDeleted id)
 

@@ -1,34 +1,30 @@
 -- A bucket after a version came.
-use Rattle.std.proofs.Common.{◌≡◌, ◌⊎◌, inl, inr, ℕ, ◌+◌, ◌≤◌, ◌<◌, List, [], ◌∷◌, length, refl, ap, sym, ◌∙◌, subst, Bool, true, false, cond, arith}
-use Rattle.std.specs.Prelude.{Option, Some, None, Result, Ok, Err, is_some, unwrap_or, option_map, sum_by}
-use Rattle.std.specs.List.{AllByRecursion, list_all, filter}
-use Rattle.std.proofs.lemmas.Bool.{and_parts}
+use Rattle.std.proofs.Common.{◌≡◌, ◌⊎◌, inl, inr, ℕ, ◌+◌, ◌≤◌, List, [], ◌∷◌, length, refl, ap, sym, ◌∙◌, subst, true, arith}
+use Rattle.std.specs.Prelude.{Option, Some, None, Result, Ok, Err, unwrap_or, option_map, sum_by}
+use Rattle.std.specs.List.{AllByRecursion}
 use Rattle.std.proofs.lemmas.List.Sums.{sum_by-cons}
 use Rattle.office_base.specs.Maps.{at_name, with_name}
-use Rattle.office_base.specs.declared.version_id.VersionId.{VersionId}
 use Rattle.office_base.specs.declared.version_id.VersionId.TheVariants.{Null}
-use Rattle.stacks.specs.Stacks.{StackRecord, new_stack, version_at, without, covered, ids_differ, new_id, replaced, IsFree, has_moments_until}
+use Rattle.stacks.specs.Stacks.{StackRecord, new_stack, version_at, without, covered, ids_differ, replaced}
 use Rattle.stacks.specs.declared.version.Versioning.{Versioning}
 use Rattle.stacks.specs.declared.version.Versioning.TheVariants.{Unversioned, Enabled, Suspended}
 use Rattle.stacks.specs.declared.version.Kind.{Kind}
 use Rattle.stacks.specs.declared.version.Version.{Version}
 use Rattle.accrual.specs.Totals.{Totals, StandsFor}
 use Rattle.due_core.specs.Buckets.{BucketRecord}
-use Rattle.plain_office.specs.Office.{Account, Books, book_of, of_version}
-use Rattle.plain_office.specs.Books.{is_open_stay}
+use Rattle.plain_office.specs.Office.{Account, Books, book_of}
 use Rattle.plain_office.specs.Changes.{add_version, next_id, number_after}
 use Rattle.plain_office.specs.Counts.{tag_bytes_of, name_bytes}
-use Rattle.plain_office.specs.Orderly.{IsNumberBelow, IsOrderlyBucket, stay_of_version}
+use Rattle.plain_office.specs.Orderly.{IsNumberBelow}
 use Rattle.office_types.specs.declared.refusal.Refusal.{Refusal}
 use Rattle.office_types.specs.declared.refusal.Refusal.TheVariants.{NoMemory}
 use Rattle.office_types.specs.declared.refusal.What.{What}
 use Rattle.office_types.specs.declared.refusal.What.TheVariants.{Buckets, Versions, Uploads, Parts, Names, Rules}
 use Rattle.office_laws.proofs.Buckets.{not_empty, stack_orderly, with_versions, weight_of, weight_with}
-use Rattle.office_laws.proofs.OneStay.{version_stands}
-use Rattle.office_laws.proofs.Versions.{found_id, replaced_is}
+use Rattle.office_laws.proofs.Versions.{replaced_is}
 use Rattle.bucket_account.specs.declared.counts.Counts.{Counts}
 use Rattle.bucket_account.specs.declared.incoming.Incoming.{Incoming}
-use Rattle.bucket_account.specs.Booking.{MayCome, leaving_of, MayHaveStay, version_of, stack_put, books_put, gone_versions, gone_bytes, stack_under, gone_of, new_bytes, counts_after, IsReady, AreMovable}
+use Rattle.bucket_account.specs.Booking.{MayCome, leaving_of, MayHaveStay, version_of, stack_put, books_put, gone_bytes, stack_under, gone_of, new_bytes, counts_after, IsReady, AreMovable}
 use Rattle.bucket_account.specs.Changing.{IsFullAfter}
 use Rattle.bucket_account.specs.Effects.{IsReadyAt, DoesEffect}
 use Rattle.bucket_account.specs.Counting.{AccountRecord, account_of, AreCountsOver, HaveMoved, first_over, IsFullOf}

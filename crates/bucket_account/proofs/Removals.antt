@@ -1,5 +1,5 @@
 -- A bucket after a version went.
-use Rattle.std.proofs.Common.{◌≡◌, ◌⊎◌, inl, inr, ℕ, ◌+◌, ◌≤◌, ◌<◌, List, [], ◌∷◌, length, refl, ap, sym, ◌∙◌, subst, Bool, true, false, not, cond, arith}
+use Rattle.std.proofs.Common.{◌≡◌, ◌⊎◌, inl, inr, ℕ, ◌+◌, ◌≤◌, List, [], ◌∷◌, length, refl, ap, sym, subst, Bool, true, false, cond, arith}
 use Rattle.std.specs.Prelude.{Option, Some, None, Result, Ok, Err, OnOk, OnErr, IfOk, IfErr, IsSome, unwrap_or, option_map, sum_by}
 use Rattle.std.specs.Map.{set_value, remove_entry}
 use Rattle.office_base.specs.Maps.{at_name, with_name, without_name}
@@ -20,7 +20,7 @@ use Rattle.office_types.specs.declared.refusal.What.{What}
 use Rattle.office_types.specs.declared.refusal.What.TheVariants.{Buckets, Versions, Uploads, Parts, Names, Rules}
 use Rattle.office_laws.proofs.Buckets.{stack_orderly, weight_of, weight_with}
 use Rattle.bucket_account.specs.declared.counts.Counts.{Counts}
-use Rattle.bucket_account.specs.Booking.{leaving_of, MayHaveStay, gone_versions, gone_bytes, stack_under, lost_bytes, counts_from, AreTakable, MayGo}
+use Rattle.bucket_account.specs.Booking.{leaving_of, MayHaveStay, stack_under, lost_bytes, counts_from, AreTakable, MayGo}
 use Rattle.bucket_account.specs.Changing.{IsFullAfter}
 use Rattle.bucket_account.specs.Counting.{AccountRecord, account_of, AreCountsOver, HaveMoved, first_over, IsFullOf}
 use Rattle.bucket_account.specs.Effects.{IsReadyAt, DoesEffect}

@@ -2,7 +2,7 @@
 use Rattle.std.proofs.Common.{◌≡◌, ℕ, ◌+◌, ◌≤◌, ◌<◌, List, [], ◌∷◌, length, refl, ap, sym, subst, Bool, true, false, not, ◌&&◌, cond, arith}
 use Rattle.std.specs.Prelude.{Option, Some, None, sum_by, nat_le, ◌==◌, IsTrue}
 use Rattle.std.specs.List.{AllByRecursion, list_any, list_all, find}
-use Rattle.std.proofs.lemmas.Bool.{and_parts, or_parts, not-true, leb-true}
+use Rattle.std.proofs.lemmas.Bool.{and_parts, not-true, leb-true}
 use Rattle.std.proofs.lemmas.Bool.Decides.{nat_tests}
 use Rattle.std.proofs.lemmas.List.Sums.{sum_by-cons}
 use Rattle.office_base.specs.declared.version_id.VersionId.{VersionId}
@@ -14,6 +14,7 @@ use Rattle.stacks.specs.declared.version.Kind.TheVariants.{Object, Marker}
 use Rattle.stacks.specs.declared.version.Version.{Version}
 use Rattle.stacks.specs.Stacks.{same_id, has_id, version_at, without, ids_differ, covered, replaced, IsFree, has_moments_until, is_entered_until, is_stack}
 use Rattle.plain_office.specs.Orderly.{IsNumberBelow, lines_since}
+use Rattle.office_laws.proofs.Ids.{without_none}
 use Rattle.office_laws.proofs.Versions.{id_same}
 use Rattle.accrual.specs.Totals.{Totals}
 use Rattle.bucket_account.specs.Booking.{IsSinceBy, MayHaveRows, HasRowsFrom, since_option}
@@ -84,12 +85,6 @@ rows_for at (Some v) meters rows = rows
 abbrev pub of_option : (Version → ℕ) → Option Version → ℕ
 of_option f None = 0
 of_option f (Some v) = f v
-
-without_none : (id : VersionId) (versions : List Version) → list_any (has_id id) versions ≡ false → without id versions ≡ versions
-without_none id [] h = refl
-without_none id (v ∷ versions) h =
-    let parts = or_parts (has_id id v) (list_any (has_id id) versions) h in
-    rw parts.0 (ap (λ (l : List Version). v ∷ l) (without_none id versions parts.1))
 
 pub sum_without : (f : Version → ℕ) (id : VersionId) (versions : List Version) → ids_differ versions ≡ true → sum_by f (without id versions) + of_option f (version_at id versions) ≡ sum_by f versions
 sum_without f id [] differ = refl

@@ -26,13 +26,13 @@ use Rattle.office_types.specs.declared.reply.Reply.TheVariants.{TagsSet}
 use Rattle.office_types.specs.declared.refusal.Refusal.{Refusal}
 use Rattle.office_types.specs.declared.refusal.Refusal.TheVariants.{NoMemory, NoSuchKey}
 use Rattle.office_types.specs.declared.refusal.What.TheVariants.{Buckets, Versions, Uploads, Parts, Names, Rules}
-use Rattle.office_laws.proofs.Buckets.{weight_of, weight_with}
+use Rattle.office_laws.proofs.Buckets.{weight_with}
 use Rattle.office_laws.proofs.Versions.{id_same, tags_change, changed_length}
 use Rattle.bucket_account.specs.declared.change.Done.{Done}
 use Rattle.bucket_account.specs.declared.counts.Counts.{Counts}
 use Rattle.bucket_account.specs.Booking.{stack_under}
 use Rattle.bucket_account.specs.Changing.{IsOrderlyAccount, IsFullAfter, DoesTold}
-use Rattle.bucket_account.specs.Counting.{AccountRecord, account_of, AreCountsOver, HaveMoved, first_over, IsFullOf}
+use Rattle.bucket_account.specs.Counting.{AccountRecord, account_of, AreCountsOver, HaveMoved, IsFullOf}
 use Rattle.bucket_account.specs.Standing.{StandsForAccount}
 use Rattle.bucket_account.specs.Tagging.{counts_tagged, AreTaggable, CountsTags, CountsTagsUnder}
 use Rattle.bucket_account.proofs.Doing.{ready_at}

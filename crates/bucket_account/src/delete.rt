@@ -24,7 +24,7 @@ use stacks::{Kind, Stack, Versioning};
 use std::alloc::Global;
 use std::collections::BTreeMap;
 
-/// The counts that are tested where a null version goes: none grows, and the bytes of keys and tags are tested.
+/// The count that is tested where a null version goes (own).
 const REMOVED: [What; 1] = [What::Names];
 
 /// The counts to which a delete marker adds, in the order in which they are tested.
@@ -104,8 +104,8 @@ fn mark(
 ///
 /// # Errors
 ///
-/// `NoSuchKey`: the bucket keeps no versions, and the key has none. `Full`: there would be more versions, or more bytes of
-/// keys and tags, than their limits. `NoMemory`: memory ran out. Nothing has then changed.
+/// `NoSuchKey`: the bucket keeps no versions, and the key has none. `Full`: there would be more versions, or more bytes
+/// of keys and tags, than their limits. `NoMemory`: memory ran out. Nothing has then changed.
 pub(crate) fn delete(
     bucket: &mut Bucket,
     meters: &mut Meters,
@@ -164,8 +164,8 @@ fn missing(stacks: &BTreeMap<Key, Stack>, key: &Key, id: &VersionId) -> Option<R
 ///
 /// # Errors
 ///
-/// `NoSuchKey`: the key has no versions. `NoSuchVersion`: none has this id. `NoMemory`: memory ran out. Nothing has then
-/// changed.
+/// `NoSuchKey`: the key has no versions. `NoSuchVersion`: none has this id. `NoMemory`: memory ran out. Nothing has
+/// then changed.
 pub(crate) fn delete_version(
     bucket: &mut Bucket,
     meters: &mut Meters,

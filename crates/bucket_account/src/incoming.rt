@@ -105,9 +105,7 @@ fn leave_of(version: &Version) -> Leaving
 pub(crate) fn version_at<'v>(versions: &'v [Version], id: &VersionId) -> Option<&'v Version>
     ensures { option_copied result ≡ version_at id.now versions.now }
 {
-    versions
-        .iter()
-        .find(|version| is_same(*id, version.id))
+    versions.iter().find(|version| is_same(*id, version.id))
 }
 
 /// Tells of the version with this id what has to be known before it goes.

@@ -58,10 +58,10 @@ fn counted(counts: Counts, before: u64, tags: &Tags) -> Result<Counts, Refusal>
     requires names { counts.names ≤ 2 ^ 32 }
     requires before { before ≤ counts.names }
     ensures ok { IfOk result (λ after.
-        (after ≡ record counts { names = counts.names + tag_bytes tags.now - before; })
+        (after ≡ record counts { names = counts.names + tag_bytes tags.now - before })
         × (first_over (Names ∷ []) after ≡ None)) }
     ensures full { IfErr result (IsFullOf (Names ∷ [])
-        (record counts { names = counts.names + tag_bytes tags.now - before; })) }
+        (record counts { names = counts.names + tag_bytes tags.now - before })) }
 {
     let after = Counts {
         names: counts.names + tag_bytes(tags) - before,

@@ -3,7 +3,6 @@ use Rattle.std.specs.Prelude.{Result, Ok, Err, Some}
 use Rattle.due_core.specs.Buckets.{BucketRecord}
 use Rattle.office_base.specs.declared.version_id.VersionId.{VersionId}
 use Rattle.stacks.specs.declared.version.Kind.TheVariants.{Marker}
-use Rattle.stacks.specs.declared.version.Versioning.{Versioning}
 use Rattle.stacks.specs.declared.version.Versioning.TheVariants.{Unversioned}
 use Rattle.plain_office.specs.Changes.{next_id, add_version}
 use Rattle.plain_office.specs.Step.{Change, delete}

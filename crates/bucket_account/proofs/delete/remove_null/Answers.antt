@@ -1,4 +1,4 @@
-use Rattle.std.proofs.Common.{◌≡◌, List, ◌∷◌, [], inr, refl, true, false, sym, ap, ◌∙◌, subst}
+use Rattle.std.proofs.Common.{List, ◌∷◌, [], inr, refl, sym, ap, ◌∙◌, subst}
 use Rattle.std.specs.Prelude.{Result, Ok, Err, None, is_some}
 use Rattle.office_base.specs.Maps.{at_name}
 use Rattle.office_base.specs.declared.version_id.VersionId.TheVariants.{Null}

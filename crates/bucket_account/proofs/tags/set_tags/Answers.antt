@@ -1,5 +1,5 @@
-use Rattle.std.proofs.Common.{List, ◌∷◌, [], sym, ap, ◌∙◌, subst}
-use Rattle.std.specs.Prelude.{Result, Ok, Err}
+use Rattle.std.proofs.Common.{◌∷◌, [], sym, ap, ◌∙◌, subst}
+use Rattle.std.specs.Prelude.{Result}
 use Rattle.due_core.specs.Buckets.{BucketRecord}
 use Rattle.plain_office.specs.Step.{set_tags}
 use Rattle.office_types.specs.declared.reply.Reply.TheVariants.{TagsSet}
