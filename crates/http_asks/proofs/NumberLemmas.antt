@@ -12,7 +12,7 @@ use Rattle.office_base.proofs.Versions.{no_number}
 use Rattle.office_base.specs.Versions.{id_text, IsVersionId, begins_with_number}
 use Rattle.office_base.specs.declared.version_id.VersionId.{VersionId}
 use Rattle.office_base.specs.declared.version_id.VersionId.TheVariants.{Null, Number}
-use Rattle.http_asks.specs.Numbers.{are_digits, is_number, number_in, version_in, is_part, part_in}
+use Rattle.http_asks.specs.Numbers.{are_digits, is_number, number_in, version_in, is_part_number, part_in}
 
 own : IsNumeralModel (λ ds. all_ascii_digits ds ≡ true) (digits_value 10)
 own = numerals_by_value _ tells_all_ascii_digits
@@ -115,7 +115,7 @@ no_version text none = no_null text (none Null tt) ∙ ap (option_map Number) (n
 
 -- ---- numbers of parts
 
-pub part_read : {E : Type 0} (text : List ℕ) (r : Result ℕ E) → is_part text ≡ true → ParsesUnsigned 32 10 text r → r ≡ Ok (digits_value 10 text)
+pub part_read : {E : Type 0} (text : List ℕ) (r : Result ℕ E) → is_part_number text ≡ true → ParsesUnsigned 32 10 text r → r ≡ Ok (digits_value 10 text)
 part_read {E} text r is read = by_tests (nat_lt 0 (length text)) (nat_le (length text) 5) (are_digits text) refl refl refl is
   where
     by_tests : (a b c : Bool) → nat_lt 0 (length text) ≡ a → nat_le (length text) 5 ≡ b → are_digits text ≡ c → (a && b && c) ≡ true → r ≡ Ok (digits_value 10 text)
@@ -132,3 +132,5 @@ part_read {E} text r is read = by_tests (nat_lt 0 (length text)) (nat_le (length
 -- a text that is the id of no version is no number
 pub no_upload : (text : List ℕ) → ((id : VersionId) → IsVersionId id → text ≢ id_text id) → number_in text ≡ None
 no_upload text none = no_number_in text (λ n is. none (Number n) is)
+
+pub ruleset upload_texts = (number_is, null_no_number, no_upload)

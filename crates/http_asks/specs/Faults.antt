@@ -57,9 +57,9 @@ HasFault (Ok rules) broken = ⊥
 HasFault (Err fault) broken = broken ≡ broken_by fault
 
 -- an answer is what a part of the path is read as, or this refusal
-abbrev pub IsPart : {T : Type 0} → Option T → Refused → Result T Fault → Type 0
-IsPart part refused (Ok value) = part ≡ Some value
-IsPart part refused (Err fault) = OnBroken fault (λ broken. (broken ≡ refused) × (part ≡ None))
+abbrev pub IsRead : {T : Type 0} → Option T → Refused → Result T Fault → Type 0
+IsRead part refused (Ok value) = part ≡ Some value
+IsRead part refused (Err fault) = OnBroken fault (λ broken. (broken ≡ refused) × (part ≡ None))
 
 -- P of what was read, where memory did not run out
 abbrev pub OnMeant : Result Ask Fault → (Meant → Type 0) → Type 0

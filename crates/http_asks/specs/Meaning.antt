@@ -79,7 +79,7 @@ abbrev pub by_body : {T : Type 0} → Result T BodyFlaw → (T → Meant) → Me
 by_body (Ok said) meant = meant said
 by_body (Err flaw) meant = refuses (flawed flaw)
 
--- the rule that the text of a lifecycle configuration breaks; no text gives the last fault
+-- the rule that the text of a lifecycle configuration breaks; want of memory, the last, is the fault of no text
 abbrev pub broken_by : RulesFault → Refused
 broken_by faults.NotADate = not_a_date
 broken_by faults.NotMidnight = not_midnight

@@ -26,9 +26,9 @@ unfoldable pub version_in : List ℕ → Option VersionId
 version_in text = if bytes_eq text (codes "null") then Some Null else option_map Number (number_in text)
 
 -- 1 to 5 digits
-abbrev pub is_part : List ℕ → Bool
-is_part text = nat_lt 0 (length text) && nat_le (length text) 5 && are_digits text
+abbrev pub is_part_number : List ℕ → Bool
+is_part_number text = nat_lt 0 (length text) && nat_le (length text) 5 && are_digits text
 
 -- the number of a part of an upload, with leading zeros or without them (own)
 unfoldable pub part_in : List ℕ → Option ℕ
-part_in text = if is_part text then Some (digits_value 10 text) else None
+part_in text = if is_part_number text then Some (digits_value 10 text) else None

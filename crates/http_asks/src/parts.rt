@@ -5,10 +5,10 @@ ghost use Rattle.office_base.specs.Names.{is_bucket_name};
 ghost use Rattle.moments.specs.Dates.{is_month, year_in, month_in};
 ghost use Rattle.moments.specs.Months.{month_number};
 ghost use Rattle.http_routes.specs.Spelled.{key_of};
-ghost use Rattle.http_asks.specs.Faults.{OnBroken, IsPart};
+ghost use Rattle.http_asks.specs.Faults.{OnBroken, IsRead};
 ghost use Rattle.http_asks.specs.Meaning.{bad_bucket_name, bad_key, not_a_month};
 ghost use Rattle.http_asks.specs.Meaning.{no_such_version, no_such_upload, bad_part};
-ghost use Rattle.http_asks.specs.Numbers.{number_in, version_in, are_digits, is_part, part_in};
+ghost use Rattle.http_asks.specs.Numbers.{number_in, version_in, are_digits, is_part_number, part_in};
 
 use crate::bad::{Bad, Fault};
 use http_routes::read_key;
@@ -52,9 +52,9 @@ pub(crate) fn month_of(part: &str) -> Result<Month, Fault>
     }
 }
 
-#[tactic(auto, using(crate::proofs::NumberLemmas::version_is, crate::proofs::NumberLemmas::no_version))]
+#[tactic(auto, using(crate::proofs::NumberLemmas::no_version))]
 pub(crate) fn version_id(part: &str) -> Result<VersionId, Fault>
-    ensures { IsPart (version_in part.now) no_such_version result }
+    ensures { IsRead (version_in part.now) no_such_version result }
 {
     match VersionId::read(part) {
         Some(id) => Ok(id),
@@ -63,9 +63,9 @@ pub(crate) fn version_id(part: &str) -> Result<VersionId, Fault>
 }
 
 // The number of an upload is written as that of a version.
-#[tactic(auto, using(crate::proofs::NumberLemmas::number_is, crate::proofs::NumberLemmas::null_no_number, crate::proofs::NumberLemmas::no_upload))]
+#[tactic(auto, using(crate::proofs::NumberLemmas::upload_texts))]
 pub(crate) fn upload_number(part: &str) -> Result<u64, Fault>
-    ensures { IsPart (number_in part.now) no_such_upload result }
+    ensures { IsRead (number_in part.now) no_such_upload result }
 {
     match VersionId::read(part) {
         Some(id) => match id {
@@ -83,17 +83,17 @@ fn are_digits(text: &str) -> bool
 }
 
 // The text is 1 to 5 digits.
-fn is_part(text: &str) -> bool
-    ensures { result ≡ is_part text.now }
+fn is_part_number(text: &str) -> bool
+    ensures { result ≡ is_part_number text.now }
 {
     !text.is_empty() && text.len() <= 5 && are_digits(text)
 }
 
 #[tactic(auto, using(crate::proofs::NumberLemmas::part_read), unfolding(crate::specs::Numbers::part_in))]
 pub(crate) fn part_number(part: &str) -> Result<u32, Fault>
-    ensures { IsPart (part_in part.now) bad_part result }
+    ensures { IsRead (part_in part.now) bad_part result }
 {
-    if !is_part(part) {
+    if !is_part_number(part) {
         return Err(Fault::Bad(Bad::BadPart));
     }
     match part.parse::<u32>() {

@@ -309,7 +309,7 @@ fn requests_for_buckets(rt: HostRuntime) -> Result<(), Fail> {
 const LIFECYCLES: [Row; 15] = [
     (
         "PUT /buckets/logs/lifecycle",
-        "{\"Rules\":[{\"Status\":\"Enabled\",\"Filter\":{\"Prefix\":\"x/\"},\"Expiration\":{\"Days\":365}}]}",
+        "{\"Rules\":[{\"Status\":\"Enabled\",\"Expiration\":{\"Days\":365}}]}",
         "SetRules logs 1",
     ),
     (
@@ -337,22 +337,22 @@ const LIFECYCLES: [Row; 15] = [
     ),
     (
         "PUT /buckets/logs/lifecycle",
-        "{\"Rules\":[{\"Status\":\"Enabled\",\"Filter\":{\"Prefix\":\"x/\"},\"Expiration\":{\"Date\":\"2024-02-30\"}}]}",
+        "{\"Rules\":[{\"Status\":\"Enabled\",\"Expiration\":{\"Date\":\"2024-02-30\"}}]}",
         "NotADate",
     ),
     (
         "PUT /buckets/logs/lifecycle",
-        "{\"Rules\":[{\"Status\":\"Enabled\",\"Filter\":{\"Prefix\":\"x/\"},\"Expiration\":{\"Date\":\"2024-02-03T04:00:00Z\"}}]}",
+        "{\"Rules\":[{\"Status\":\"Enabled\",\"Expiration\":{\"Date\":\"2024-02-03T04:00:00Z\"}}]}",
         "NotMidnight",
     ),
     (
         "PUT /buckets/logs/lifecycle",
-        "{\"Rules\":[{\"Status\":\"Enabled\",\"Filter\":{\"Prefix\":\"x/\"},\"Transitions\":[{\"Days\":30,\"StorageClass\":\"FOO\"}]}]}",
+        "{\"Rules\":[{\"Status\":\"Enabled\",\"Transitions\":[{\"Days\":30,\"StorageClass\":\"FOO\"}]}]}",
         "UnsupportedClass FOO",
     ),
     (
         "PUT /buckets/logs/lifecycle",
-        "{\"Rules\":[{\"Status\":\"Enabled\",\"Filter\":{\"Prefix\":\"x/\"},\"Expiration\":{\"Days\":0}}]}",
+        "{\"Rules\":[{\"Status\":\"Enabled\",\"Expiration\":{\"Days\":0}}]}",
         "Flaw BadDays 1",
     ),
 ];
