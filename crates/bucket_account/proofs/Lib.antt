@@ -12,3 +12,4 @@ pub mod SetAt
 pub mod Started
 pub mod TagSizes
 pub mod Told
+pub mod WholePut
