@@ -18,3 +18,4 @@ pub mod TagSizes
 pub mod Tagged
 pub mod Told
 pub mod Under
+pub mod WholePut

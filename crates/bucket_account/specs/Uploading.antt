@@ -7,7 +7,9 @@ use Rattle.class_rules.specs.Lines.{part_line}
 use Rattle.class_rules.specs.declared.class.Class.{Class}
 use Rattle.accrual.specs.Books.{open_stay}
 use Rattle.accrual.specs.Totals.{Totals}
-use Rattle.uploads.specs.Uploads.{UploadRecord, new_part, part_at, admits_part}
+use Rattle.stacks.specs.declared.version.Kind.TheVariants.{Object}
+use Rattle.stacks.specs.declared.version.Versioning.{Versioning}
+use Rattle.uploads.specs.Uploads.{UploadRecord, new_part, part_at, admits_part, total_size}
 use Rattle.uploads.specs.declared.part.Part.{Part}
 use Rattle.plain_office.specs.Office.{Books, Item, of_part}
 use Rattle.plain_office.specs.Books.{is_open_stay, with_stay, with_end}
@@ -17,6 +19,7 @@ use Rattle.office_types.specs.declared.refusal.Refusal.{Refusal}
 use Rattle.office_types.specs.declared.refusal.Refusal.TheVariants.{NoMemory, BadPart}
 use Rattle.office_types.specs.declared.refusal.What.TheVariants.{Parts}
 use Rattle.bucket_account.specs.declared.counts.Counts.{Counts}
+use Rattle.bucket_account.specs.declared.incoming.Incoming.{Incoming}
 use Rattle.bucket_account.specs.Booking.{HasRowsFrom}
 use Rattle.bucket_account.specs.Counting.{IsFullOf}
 
@@ -88,3 +91,14 @@ IsPartRefused place size at upload counts refusal =
     ⊎ ((refusal ≡ BadPart) × (admits_part place (new_part size at) upload.parts ≡ false))
     ⊎ (IsFullOf (Parts ∷ []) (counts_with_part place upload counts) refusal
     × (admits_part place (new_part size at) upload.parts ≡ true))
+
+-- ---- an upload that is completed
+
+-- the object that its parts make, at the moment
+abbrev pub whole_of : UploadRecord → Versioning → ℕ → ℕ → Incoming
+whole_of upload versioning number at = record {
+  versioning = versioning;
+  number = number;
+  kind = Object (total_size upload.parts) upload.class upload.tags at;
+  at = at;
+}

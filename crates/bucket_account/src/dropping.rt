@@ -5,6 +5,7 @@ ghost use Rattle.std.specs.Ordering.{nat_cmp};
 ghost use Rattle.office_base.specs.Maps.{at_number, Rises};
 ghost use Rattle.office_base.specs.Sizes.{largest_size};
 ghost use Rattle.class_rules.specs.Lines.{lines_of, part_line};
+ghost use Rattle.uploads.specs.Uploads.{IsUpload};
 ghost use Rattle.accrual.specs.Totals.{StandsFor, IsBilled};
 ghost use Rattle.plain_office.specs.Office.{Account, Books, book_of};
 ghost use Rattle.plain_office.specs.Changes.{remove_upload_at};
@@ -28,6 +29,7 @@ use uploads::Upload;
 pub(crate) fn first_put(upload: &Upload, at: Moment) -> Moment
     ensures parts { AllByRecursion (λ part. result ≤ part.1.put) upload.now.parts }
     ensures at { result ≤ at }
+    ensures ranges { IsUpload upload.now }
 {
     let mut first = at;
     for (_, part) in upload.parts().iter() {

@@ -6,6 +6,7 @@ mod act;
 mod adding;
 mod booking;
 mod change;
+mod completing;
 mod counts;
 mod delete;
 mod dropping;
