@@ -1,12 +1,15 @@
+pub mod Acting
 pub mod Doing
 pub mod Ending
 pub mod Gone
 pub mod Handed
 pub mod Moved
+pub mod Moves
 pub mod Parting
 pub mod Putting
 pub mod Removals
 pub mod Replacing
+pub mod RuleIds
 pub mod Rules
 pub mod SetAt
 pub mod TagSizes
