@@ -1,29 +1,28 @@
 -- Which replies and refusals a command on a bucket has.
 use Rattle.std.proofs.Common.{◌≡◌, ◌⊎◌, inl, inr, ℕ, List, refl, ap, sym, ◌∙◌, subst, Bool, true, false, not, cond}
-use Rattle.std.specs.Prelude.{Option, Some, None, Result, Ok, Err, IfOk, is_some}
+use Rattle.std.specs.Prelude.{Option, Some, None, Result, Ok, Err, IfOk}
 use Rattle.std.specs.Option.{ok_or}
 use Rattle.office_base.specs.declared.version_id.VersionId.TheVariants.{Null}
 use Rattle.office_base.specs.Maps.{at_name, at_number}
 use Rattle.rules_core.specs.Matching.{is_empty}
-use Rattle.stacks.specs.Stacks.{StackRecord, found, tags_at}
+use Rattle.stacks.specs.Stacks.{found, tags_at}
 use Rattle.stacks.specs.declared.refusal.StackRefusal.{StackRefusal}
 use Rattle.stacks.specs.declared.refusal.StackRefusal.TheVariants as stack
 use Rattle.stacks.specs.declared.version.Kind.TheVariants.{Marker}
 use Rattle.stacks.specs.declared.version.Versioning.{Versioning}
 use Rattle.stacks.specs.declared.version.Versioning.TheVariants.{Unversioned, Enabled, Suspended}
-use Rattle.uploads.specs.Uploads.{UploadRecord, new_part, admits_part}
 use Rattle.due_core.specs.Choice.{choice}
 use Rattle.due_core.specs.declared.action.Action.{Action}
 use Rattle.plain_office.specs.Office.{Account}
 use Rattle.plain_office.specs.Changes.{next_id, remove_version, add_version}
-use Rattle.plain_office.specs.Step.{◌>>=◌, Change, refuse_if, is_accepted, is_unversioned, has_stack, stack_in, upload_in, of_stack, delete, act}
+use Rattle.plain_office.specs.Step.{◌>>=◌, Change, refuse_if, is_accepted, has_stack, stack_in, upload_in, of_stack, delete, act}
 use Rattle.office_types.specs.Fits.{RefusalFits}
 use Rattle.office_types.specs.declared.command.Command.{Command}
 use Rattle.office_types.specs.declared.command.Command.TheVariants as command
 use Rattle.office_types.specs.declared.reply.Reply.{Reply}
-use Rattle.office_types.specs.declared.reply.Reply.TheVariants.{NothingDue, Deleted, RulesSet, PartStored}
+use Rattle.office_types.specs.declared.reply.Reply.TheVariants.{NothingDue, Deleted}
 use Rattle.office_types.specs.declared.refusal.Refusal.{Refusal}
-use Rattle.office_types.specs.declared.refusal.Refusal.TheVariants.{MonthNotOver, NoSuchKey, NoSuchUpload, NoMemory}
+use Rattle.office_types.specs.declared.refusal.Refusal.TheVariants.{MonthNotOver, NoSuchKey, NoSuchUpload}
 use Rattle.office_types.specs.declared.refusal.What.{What}
 use Rattle.bucket_account.specs.declared.change.Done.{Done}
 use Rattle.bucket_account.specs.declared.counts.Counts.{Counts}

@@ -1,9 +1,14 @@
 pub mod Accepted
+pub mod Deletes
+pub mod Doing
 pub mod Ending
 pub mod Handed
 pub mod Putting
+pub mod Removals
 pub mod Replacing
 pub mod Rules
 pub mod SetAt
 pub mod TagSizes
+pub mod Tagged
 pub mod Told
+pub mod Under

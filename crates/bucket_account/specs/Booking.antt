@@ -1,18 +1,23 @@
 -- How a version's coming and going is booked, in meters that stand for a bucket's books.
-use Rattle.std.specs.Prelude.{◌≡◌, ℕ, ◌+◌, ◌-◌, ◌≤◌, List, [], ◌∷◌, ◌^◌, Option, Some, None, is_some, unwrap_or, option_map, length, if◌then◌else◌}
+use Rattle.std.specs.Prelude.{◌≡◌, ℕ, ◌+◌, ◌-◌, ◌≤◌, List, [], ◌∷◌, ◌^◌, Option, Some, None, is_some, unwrap_or, option_map, length, IsSome, ◌==◌, if◌then◌else◌}
 use Rattle.std.specs.List.{filter}
 use Rattle.office_base.specs.Maps.{at_name}
-use Rattle.office_base.specs.Tags.{Tag}
+use Rattle.office_base.specs.declared.version_id.VersionId.{VersionId}
+use Rattle.office_base.specs.declared.version_id.VersionId.TheVariants.{Null}
 use Rattle.moments.specs.Months.{month_at}
 use Rattle.stacks.specs.declared.version.Kind.{Kind}
-use Rattle.stacks.specs.declared.version.Kind.TheVariants.{Object}
+use Rattle.stacks.specs.declared.version.Kind.TheVariants.{Object, Marker}
+use Rattle.stacks.specs.declared.version.Versioning.{Versioning}
+use Rattle.stacks.specs.declared.version.Versioning.TheVariants.{Unversioned}
 use Rattle.stacks.specs.declared.version.Version.{Version}
-use Rattle.stacks.specs.Stacks.{StackRecord, new_stack, new_id, new_version, replaced, after_adding, IsFree}
+use Rattle.stacks.specs.Stacks.{StackRecord, new_stack, new_id, version_at, new_version, replaced, after_adding, IsFree}
 use Rattle.accrual.specs.Totals.{Totals, HasRow}
 use Rattle.plain_office.specs.Office.{Books, of_version}
 use Rattle.plain_office.specs.Books.{is_open_stay, with_version, without_option}
-use Rattle.plain_office.specs.Counts.{tag_bytes, tag_bytes_of}
+use Rattle.plain_office.specs.Counts.{tag_bytes_of}
 use Rattle.plain_office.specs.Orderly.{stay_of_version, lines_since}
+use Rattle.office_types.specs.declared.refusal.Refusal.{Refusal}
+use Rattle.office_types.specs.declared.refusal.Refusal.TheVariants.{NoSuchKey, NoSuchVersion}
 use Rattle.bucket_account.specs.declared.counts.Counts.{Counts}
 use Rattle.bucket_account.specs.declared.incoming.Incoming.{Incoming}
 use Rattle.bucket_account.specs.declared.incoming.Leaving.{Leaving}
@@ -54,25 +59,32 @@ abbrev pub IsSinceBy : ℕ → Option Version → Type 0
 IsSinceBy at None = Unit {0}
 IsSinceBy at (Some version) = lines_since version ≤ at
 
--- ---- an object that is put
+-- ---- a version that comes
 
-abbrev pub kind_of : Incoming → List Tag → Kind
-kind_of object tags = Object object.size object.class tags object.at
+-- an object enters its class at the moment (own); a delete marker comes only where versions are kept (S3 User Guide,
+-- "Working with delete markers")
+abbrev pub MayCome : Versioning → ℕ → Kind → Type 0
+MayCome versioning at (Object size class tags entered) = entered ≡ at
+MayCome versioning at Marker = versioning ≡ Unversioned → ⊥
 
-abbrev pub version_of : Incoming → List Tag → Version
-version_of object tags = new_version (new_id object.versioning object.number) (kind_of object tags) object.at
+abbrev pub version_of : Incoming → Version
+version_of incoming = new_version (new_id incoming.versioning incoming.number) incoming.kind incoming.at
 
 -- the stack after it came
-abbrev pub stack_put : Incoming → List Tag → StackRecord → StackRecord
-stack_put object tags stack =
-    after_adding (new_id object.versioning object.number) (kind_of object tags) object.at stack
+abbrev pub stack_put : Incoming → StackRecord → StackRecord
+stack_put incoming stack =
+    after_adding (new_id incoming.versioning incoming.number) incoming.kind incoming.at stack
 
 -- the books after it came in the place of one that may have been there
-abbrev pub books_put : List ℕ → Incoming → List Tag → Option Version → Books → Books
-books_put key object tags gone books =
-    with_version key (version_of object tags) object.at (without_option key gone object.at books)
+abbrev pub books_put : List ℕ → Incoming → Option Version → Books → Books
+books_put key incoming gone books =
+    with_version key (version_of incoming) incoming.at (without_option key gone incoming.at books)
 
--- the counts after it came with so many bytes of a new key
+-- the bytes of the tags of a version of this kind, whichever it is
+abbrev pub bytes_of_kind : Kind → ℕ
+bytes_of_kind kind = tag_bytes_of (new_version Null kind 0)
+
+-- the counts after it came with so many bytes of a new key and of tags
 abbrev pub gone_versions : Option Leaving → ℕ
 gone_versions None = 0
 gone_versions (Some leaving) = 1
@@ -81,37 +93,78 @@ abbrev pub gone_bytes : Option Leaving → ℕ
 gone_bytes None = 0
 gone_bytes (Some leaving) = leaving.tag_bytes
 
-abbrev pub counts_put : ℕ → List Tag → Option Leaving → Counts → Counts
-counts_put key_bytes tags gone counts = record counts {
+abbrev pub counts_put : ℕ → ℕ → Option Leaving → Counts → Counts
+counts_put key_bytes tag_bytes gone counts = record counts {
   versions = counts.versions + 1 - gone_versions gone;
-  names = counts.names + key_bytes + tag_bytes tags - gone_bytes gone;
+  names = counts.names + key_bytes + tag_bytes - gone_bytes gone;
 }
 
--- ---- an object that is put under a key of these stacks
+-- ---- a version that comes under a key of these stacks
 
 -- what it is put on: the key's stack, or one without versions
 abbrev pub stack_under : List ℕ → List (List ℕ × StackRecord) → StackRecord
 stack_under key stacks = unwrap_or (at_name key stacks) (new_stack 0)
 
 abbrev pub gone_of : List ℕ → Incoming → List (List ℕ × StackRecord) → Option Version
-gone_of key object stacks = replaced object.versioning (stack_under key stacks).versions
+gone_of key incoming stacks = replaced incoming.versioning (stack_under key stacks).versions
 
 -- the bytes of a new key
 abbrev pub new_bytes : List ℕ → List (List ℕ × StackRecord) → ℕ
 new_bytes key stacks = if is_some (at_name key stacks) then 0 else length key
 
-abbrev pub counts_after : List ℕ → Incoming → List Tag → List (List ℕ × StackRecord) → Counts → Counts
-counts_after key object tags stacks counts =
-    counts_put (new_bytes key stacks) tags (option_map leaving_of (gone_of key object stacks)) counts
+abbrev pub counts_after : List ℕ → Incoming → List (List ℕ × StackRecord) → Counts → Counts
+counts_after key incoming stacks counts =
+    counts_put (new_bytes key stacks) (bytes_of_kind incoming.kind)
+    (option_map leaving_of (gone_of key incoming stacks)) counts
 
 -- it may be put on this stack, and what goes has its lines since a moment that is not later
-pub record IsReady (object : Incoming) (stack : StackRecord) : Type 0 where
-  pub later : stack.changed ≤ object.at
-  pub free : IsFree object.versioning object.number stack.versions
-  pub since : IsSinceBy object.at (replaced object.versioning stack.versions)
+pub record IsReady (incoming : Incoming) (stack : StackRecord) : Type 0 where
+  pub comes : MayCome incoming.versioning incoming.at incoming.kind
+  pub later : stack.changed ≤ incoming.at
+  pub free : IsFree incoming.versioning incoming.number stack.versions
+  pub since : IsSinceBy incoming.at (replaced incoming.versioning stack.versions)
 
--- counts that can be moved by a put that takes so many bytes of tags away
+-- counts that can be moved by a version that comes where one with so many bytes of tags goes
 pub record AreMovable (counts : Counts) (bytes : ℕ) : Type 0 where
   pub versions : counts.versions ≤ 400_000
   pub names : counts.names ≤ 2 ^ 32
   pub gone : bytes ≤ counts.names
+
+-- ---- a version that goes from under a key of these stacks
+
+abbrev pub taken_of : List ℕ → VersionId → List (List ℕ × StackRecord) → Option Version
+taken_of key id stacks = version_at id (stack_under key stacks).versions
+
+-- the bytes of a key that goes with its last version
+abbrev pub lost_bytes : List ℕ → List Version → ℕ
+lost_bytes key versions = if length versions == 1 then length key else 0
+
+-- the counts after it went with so many bytes of its key
+abbrev pub counts_taken : ℕ → Option Leaving → Counts → Counts
+counts_taken key_bytes gone counts = record counts {
+  versions = counts.versions - gone_versions gone;
+  names = counts.names - (key_bytes + gone_bytes gone);
+}
+
+abbrev pub counts_from : List ℕ → VersionId → StackRecord → Counts → Counts
+counts_from key id stack counts =
+    counts_taken (lost_bytes key stack.versions) (option_map leaving_of (version_at id stack.versions)) counts
+
+-- counts from which this can be taken
+pub record AreTakable (counts : Counts) (key_bytes : ℕ) (gone : Option Leaving) : Type 0 where
+  pub versions : gone_versions gone ≤ counts.versions
+  pub names : key_bytes + gone_bytes gone ≤ counts.names
+
+-- it may go from this stack, where it is and has its lines since a moment that is not later
+pub record MayGo (id : VersionId) (at : ℕ) (stack : StackRecord) : Type 0 where
+  pub there : IsSome (version_at id stack.versions)
+  pub later : stack.changed ≤ at
+  pub since : IsSinceBy at (version_at id stack.versions)
+
+-- what a version is refused for that is not under its key, the key before the version (own)
+abbrev pub missing_from : VersionId → Option StackRecord → Option Refusal
+missing_from id None = Some NoSuchKey
+missing_from id (Some stack) = if is_some (version_at id stack.versions) then None else Some NoSuchVersion
+
+abbrev pub missing : List ℕ → VersionId → List (List ℕ × StackRecord) → Option Refusal
+missing key id stacks = missing_from id (at_name key stacks)

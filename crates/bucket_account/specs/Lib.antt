@@ -3,3 +3,4 @@ pub mod Changing
 pub mod Counting
 pub mod Effects
 pub mod Standing
+pub mod Tagging

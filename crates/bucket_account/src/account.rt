@@ -90,7 +90,8 @@ impl Account {
         requires room { (accepted : ℕ) × (accepted < most_commands) × IsWithinBy accepted self.old }
         requires counts { AreCountsOver self.old.bucket counts }
         ensures done { (account : plain.Account) → StandsForAccount self.old account → IsOrderlyAccount t account
-            → DoesTold (limits_of command.now self.old.bucket) (change_of t command.now account) account counts self.new result }
+            → DoesTold (limits_of command.now self.old.bucket) (change_of t command.now account) account counts
+            self.new result }
         ensures fits { IfOk result (λ done. ReplyFits done.reply) }
         ensures room { OnOk result (HasGrownBy 3 1 self.old self.new) }
         ensures room_kept { OnErr result (HasGrownBy 0 0 self.old self.new) }

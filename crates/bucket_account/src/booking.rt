@@ -5,7 +5,7 @@ ghost use Rattle.moments.specs.Months.{month_at};
 ghost use Rattle.accrual.specs.Books.{Book};
 ghost use Rattle.accrual.specs.Totals.{StandsFor, HasRow, IsBilled, most_bookings};
 ghost use Rattle.plain_office.specs.Office.{Books, book_of};
-ghost use Rattle.plain_office.specs.Books.{without_version, without_option};
+ghost use Rattle.plain_office.specs.Books.{lines_of_kind, without_version, without_option};
 ghost use Rattle.plain_office.specs.Orderly.{lines_since};
 ghost use Rattle.bucket_account.specs.Booking.{HasStay, MayHaveStay, MayHaveRows, IsSinceBy, HasRowsFrom};
 
@@ -45,6 +45,17 @@ fn marker_billed(key: &Key) -> Lines
     ensures billed { IsBilled result }
 {
     marker_lines(key.bytes().len() as u64)
+}
+
+/// Gives the lines of a version of this kind under a key.
+pub(crate) fn kind_billed(key: &Key, kind: &Kind) -> Lines
+    ensures lines { lines_of result ≡ lines_of_kind key.now kind.now }
+    ensures billed { IsBilled result }
+{
+    match kind {
+        Kind::Object { size, class, .. } => object_billed(*class, *size),
+        Kind::Marker => marker_billed(key),
+    }
 }
 
 /// Books that a version goes: its stay ends, and an object owes what is left of the least duration.

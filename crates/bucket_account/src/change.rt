@@ -72,10 +72,10 @@ pub(crate) fn change(
         } => put(bucket, meters, alloc, t, key, *size, *class, tags, counts),
         Command::Delete { key, .. } => delete(bucket, meters, alloc, t, key, counts),
         Command::DeleteVersion { key, id, .. } => {
-            delete_version(bucket, meters, t, key, *id, counts)
+            delete_version(bucket, meters, t, key, id, counts)
         }
         Command::SetTags { key, id, tags, .. } => {
-            set_tags(bucket, meters, t, key, *id, tags, counts)
+            set_tags(bucket, meters, t, key, id, tags, counts)
         }
         Command::StartUpload {
             key,

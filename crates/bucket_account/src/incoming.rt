@@ -1,25 +1,24 @@
-// An object that is put, and the version that it replaces.
-ghost use Rattle.std.specs.Prelude.{◌≡◌, ◌≤◌, ◌*◌, length, option_map, IsTrue};
+// A version that comes, and the version that it replaces.
+ghost use Rattle.std.specs.Prelude.{◌≡◌, ◌≤◌, ◌<◌, ◌*◌, length, option_map, option_copied, IsTrue};
 ghost use Rattle.std.specs.List.{list_all};
 ghost use Rattle.office_base.specs.Tags.{is_tag, tags_of};
-ghost use Rattle.plain_office.specs.Counts.{tag_bytes, tag_bytes_of};
+ghost use Rattle.plain_office.specs.Counts.{tag_bytes};
 ghost use Rattle.plain_office.specs.Orderly.{lines_since};
-ghost use Rattle.stacks.specs.Stacks.{replaced, version_at};
-ghost use Rattle.bucket_account.specs.Booking.{leaving_of, leaving_since};
+ghost use Rattle.stacks.specs.Stacks.{same_id, new_id, replaced, version_at};
+ghost use Rattle.bucket_account.specs.Booking.{bytes_of_kind, leaving_of, leaving_since};
 
-use class_rules::Class;
 use moments::Moment;
-use office_base::{Size, Tags, VersionId};
+use office_base::{Nth, Tags, VersionId};
 use stacks::{Kind, Version, Versioning};
 
-/// An object that is put, but for its key and tags.
+/// A version that comes, but for its key.
 #[derive(Drop)]
 pub(crate) struct Incoming {
+    /// That of its bucket.
     pub(crate) versioning: Versioning,
     /// The number that it gets in an Enabled bucket.
     pub(crate) number: u64,
-    pub(crate) size: Size,
-    pub(crate) class: Class,
+    pub(crate) kind: Kind,
     pub(crate) at: Moment,
 }
 
@@ -28,6 +27,27 @@ pub(crate) struct Incoming {
 pub(crate) struct Leaving {
     pub(crate) since: Moment,
     pub(crate) tag_bytes: u64,
+}
+
+/// Gives the id of the next version.
+pub(crate) fn id_of(versioning: Versioning, number: u64) -> VersionId
+    requires { 0 < number }
+    ensures { result ≡ new_id versioning number }
+{
+    match versioning {
+        Versioning::Enabled => match Nth::of(number) {
+            Some(number) => VersionId::Number(number),
+            None => unreachable!(),
+        },
+        Versioning::Unversioned | Versioning::Suspended => VersionId::Null,
+    }
+}
+
+// The ids are the same.
+fn is_same(a: VersionId, b: VersionId) -> bool
+    ensures { result ≡ same_id a b }
+{
+    a == b
 }
 
 #[tactic(auto, using(crate::proofs::TagSizes::tag_most))]
@@ -61,38 +81,50 @@ pub(crate) fn since(version: &Version) -> Moment
     }
 }
 
-fn leave_of(version: &Version) -> Leaving
-    ensures { result ≡ leaving_of version.now }
+/// Counts the bytes of the tags that a version of this kind has.
+pub(crate) fn kind_bytes(kind: &Kind) -> u64
+    ensures bytes { result ≡ bytes_of_kind kind.now }
+    ensures at_most { result ≤ 15_360 }
 {
-    let tag_bytes = match &version.kind {
+    match kind {
         Kind::Object { tags, .. } => tag_bytes(tags),
         Kind::Marker => 0,
-    };
-    Leaving {
-        since: since(version),
-        tag_bytes,
     }
 }
 
-fn leaving_null(versions: &[Version]) -> Option<Leaving>
-    ensures { result ≡ option_map leaving_of (version_at VersionId.Null versions.now) }
+fn leave_of(version: &Version) -> Leaving
+    ensures { result ≡ leaving_of version.now }
 {
-    match versions
-        .iter()
-        .find(|version| version.id == VersionId::Null)
-    {
+    Leaving {
+        since: since(version),
+        tag_bytes: kind_bytes(&version.kind),
+    }
+}
+
+/// Finds the version with this id.
+pub(crate) fn version_at<'v>(versions: &'v [Version], id: &VersionId) -> Option<&'v Version>
+    ensures { option_copied result ≡ version_at id.now versions.now }
+{
+    versions.iter().find(|version| is_same(*id, version.id))
+}
+
+/// Tells of the version with this id what has to be known before it goes.
+pub(crate) fn leaving_at(versions: &[Version], id: &VersionId) -> Option<Leaving>
+    ensures { result ≡ option_map leaving_of (version_at id.now versions.now) }
+{
+    match version_at(versions, id) {
         Some(version) => Some(leave_of(version)),
         None => None,
     }
 }
 
-/// Tells what goes where an object is put on these versions: the null version, unless the object gets a number.
+/// Tells what goes where a version is put on these: the null version, unless the new one gets a number.
 pub(crate) fn replaced(versioning: Versioning, versions: &[Version]) -> Option<Leaving>
     ensures { result ≡ option_map leaving_of (replaced versioning versions.now) }
 {
     match versioning {
         Versioning::Enabled => None,
-        Versioning::Unversioned | Versioning::Suspended => leaving_null(versions),
+        Versioning::Unversioned | Versioning::Suspended => leaving_at(versions, &VersionId::Null),
     }
 }
 

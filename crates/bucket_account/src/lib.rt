@@ -3,6 +3,7 @@
 
 mod account;
 mod act;
+mod adding;
 mod booking;
 mod change;
 mod counts;
@@ -10,6 +11,7 @@ mod delete;
 mod incoming;
 mod lifecycle;
 mod put;
+mod removing;
 mod tags;
 mod upload;
 mod versioning;

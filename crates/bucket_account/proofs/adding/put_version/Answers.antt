@@ -8,7 +8,7 @@ use Rattle.stacks.specs.Stacks.{StackRecord, new_stack}
 use Rattle.bucket_account.specs.Booking.{stack_put}
 use Rattle.bucket_account.proofs.SetAt.{set_is_with}
 use Rattle.bucket_account.proofs.Handed.{on_err}
-use Rattle.bucket_account.proofs.put.put_version.Goals as goal
+use Rattle.bucket_account.proofs.adding.put_version.Goals as goal
 
 pub returns-in_err-counts-in-Some-clause-stacks_kept : goal.returns-in_err-counts-in-Some-clause-stacks_kept
 returns-in_err-counts-in-Some-clause-stacks_kept c =
@@ -28,7 +28,7 @@ returns-in_ok-put_on-in-Some-clause-stacks c =
     let key : List ℕ = c.args.key.now in
     let entries : List (List ℕ × StackRecord) = c.args.stacks.now.entries in
     let old : StackRecord = c.in-Some.stack.now in
-    let put = λ (stack : StackRecord). stack_put c.args.object.now c.args.tags.now stack in
+    let put = λ (stack : StackRecord). stack_put c.args.incoming stack in
     (c.get_mut.follows.holds c.put_on.new.stack).0
     ∙ ap (λ (stack : StackRecord). set_value (is_at (bytes_cmp key)) entries stack) c.in_ok-put_on-in-Some.ensures.stack
     ∙ set_is_with key (put old) old entries c.requires.rises (sym c.in-Some.ensures.value)
