@@ -2,9 +2,13 @@
 #![tactic(auto)]
 
 mod action;
+mod asked;
 mod bucket;
+mod candidates;
+mod found;
 mod laws;
 
 pub use action::{Action, ActionKind, Candidate, Target};
 pub use bucket::Bucket;
+pub use candidates::chosen;
 pub use laws::{the_choice_is_the_least, the_choice_stays};

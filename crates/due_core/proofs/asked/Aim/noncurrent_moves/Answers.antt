@@ -1,0 +1,19 @@
+use Rattle.std.proofs.Common.{◌∙◌, ap, map, filter, ◌&&◌}
+use Rattle.moments.specs.Time.{due}
+use Rattle.due_core.specs.RuleActions.{DueAction, admits_move, keeps_newer}
+use Rattle.due_core.specs.Search.{first_due, with_due}
+use Rattle.due_core.specs.declared.action.ActionKind.TheVariants.{Transition}
+use Rattle.due_core.proofs.Loops.{end, picked_map}
+use Rattle.due_core.proofs.asked.Aim.noncurrent_moves.Goals as goal
+
+pub returns : goal.returns
+returns c =
+    let aim = c.args.self.now in
+    let object = c.args.object.now in
+    let items = c.as_slice-step-items.result.now in
+    let picked = picked_map (λ move. keeps_newer move.newer c.args.newer && admits_move c.args.mode c.args.rule.now.filter object.class object.size move.to)
+    (λ move. (Transition move.to, due c.args.ceased move.days)) items in
+    end (with_due aim) _ _ _ items _ c.loop-step-test.false c.loop-step.invariant
+    ∙ ap (λ asked. first_due aim c.args.best asked) picked
+    ∙ ap (λ moves. first_due aim c.args.best (map (λ move. (Transition move.to, due c.args.ceased move.days))
+    (filter (λ move. keeps_newer move.newer c.args.newer && admits_move c.args.mode c.args.rule.now.filter object.class object.size move.to) moves))) c.as_slice-step-items.ensures

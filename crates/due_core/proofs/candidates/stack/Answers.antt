@@ -1,0 +1,26 @@
+use Rattle.std.proofs.Common.{◌≡◌, ◌+◌, ◌-◌, List, drop, length, refl, ap, ◌∙◌, flat_map}
+use Rattle.stacks.specs.declared.version.Version.{Version}
+use Rattle.due_core.specs.RuleActions.{Placed, placed_from}
+use Rattle.due_core.specs.Search.{first_come, with_come, version_candidates}
+use Rattle.due_core.proofs.Loops.{placed_turn, placed_end}
+use Rattle.due_core.proofs.Places.{placed, older_left}
+use Rattle.due_core.proofs.candidates.stack.Goals as goal
+
+pub loop-i-preserved : goal.loop-i-preserved
+loop-i-preserved c =
+    let t = c.args.setting.now.t in
+    let asked = version_candidates c.args.setting.now c.args.rules.now c.args.key.now c.changed-changed.result in
+    let versions = c.versions-versions.result.now in
+    let i = c.loop-i.i in
+    let older = older_left versions i in
+    placed_turn (with_come t) asked placed_from placed
+    (λ _. refl) (λ _ _ _. refl) _ _ _ versions i i c.index-versions-i.result c.loop-i-test.true c.index-versions-i.is c.loop-i.invariant
+    (c.version-first.ensures ∙ ap (λ n. first_come t c.loop-i.first (asked (record { version = c.index-versions-i.result; newer = i; older = n }))) older)
+
+pub returns : goal.returns
+returns c =
+    let t = c.args.setting.now.t in
+    placed_end (with_come t) (version_candidates c.args.setting.now c.args.rules.now c.args.key.now c.changed-changed.result) placed_from placed
+    (λ _. refl) (λ _ _ _. refl) _ _ c.versions-versions.result.now c.loop-i.i c.loop-i.i c.loop-i-test.false c.loop-i.invariant
+    ∙ ap (λ changed. first_come t c.args.best (flat_map (version_candidates c.args.setting.now c.args.rules.now c.args.key.now changed) (placed_from 0 c.versions-versions.result.now))) c.changed-changed.ensures
+    ∙ ap (λ versions. first_come t c.args.best (flat_map (version_candidates c.args.setting.now c.args.rules.now c.args.key.now c.args.stack.now.changed) (placed_from 0 versions))) c.versions-versions.ensures.same

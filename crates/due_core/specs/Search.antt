@@ -1,0 +1,100 @@
+-- How the first of the candidates is found in one pass: what is the first so far, with the next one looked at.
+use Rattle.std.specs.Prelude.{ℕ, max, List, [], fold, flat_map, nat_lt, nat_le, Option, Some, None, if◌then◌else◌}
+use Rattle.std.specs.List.{enumerate_from}
+use Rattle.moments.specs.Time.{end_of_time}
+use Rattle.rules_core.specs.Matching.{matches_upload}
+use Rattle.rules_core.specs.Configurations.{Configuration}
+use Rattle.rules_core.specs.declared.rule.Rule.{Rule}
+use Rattle.stacks.specs.Stacks.{StackRecord}
+use Rattle.uploads.specs.Uploads.{UploadRecord}
+use Rattle.due_core.specs.Buckets.{BucketRecord}
+use Rattle.due_core.specs.Candidates.{timely}
+use Rattle.due_core.specs.Choice.{comes_before}
+use Rattle.due_core.specs.RuleActions.{DueAction, Placed, placed_from, version_actions, matches_version, upload_actions}
+use Rattle.due_core.specs.declared.action.Target.{Target}
+use Rattle.due_core.specs.declared.action.Target.TheVariants as target
+use Rattle.due_core.specs.declared.action.Candidate.{Candidate}
+use Rattle.due_core.specs.declared.asked.Setting.{Setting}
+
+-- the earlier one of the first so far and the next
+abbrev pub sooner : Option Candidate → Candidate → Candidate
+sooner None next = next
+sooner (Some best) next = if comes_before next best then next else best
+
+-- one whose moment has come is looked at
+abbrev pub with_come : ℕ → Option Candidate → Candidate → Option Candidate
+with_come t best next = if nat_le next.action.since t then Some (sooner best next) else best
+
+-- the first of those that have come, among what was found before and these
+abbrev pub first_come : ℕ → Option Candidate → List Candidate → Option Candidate
+first_come t best candidates = fold (with_come t) best candidates
+
+-- a target and a rule that matches it, before which moment no action on it stands, and the moment of the search
+pub record Aim : Type 0 where
+  pub key : List ℕ
+  pub target : Target
+  pub age : ℕ
+  pub rule : ℕ
+  pub not_before : ℕ
+  pub t : ℕ
+
+abbrev pub aimed : Aim → DueAction → Candidate
+aimed aim due = record {
+  action = record {
+    kind = due.0;
+    key = aim.key;
+    target = aim.target;
+    rule = aim.rule;
+    since = max due.1 aim.not_before;
+  };
+  age = aim.age;
+}
+
+-- an action that the rule asks for is looked at, unless it is never due
+abbrev pub with_due : Aim → Option Candidate → DueAction → Option Candidate
+with_due aim best due = if nat_lt due.1 end_of_time then with_come aim.t best (aimed aim due) else best
+
+-- the first of those that have come, among what was found before and what the rule asks for
+abbrev pub first_due : Aim → Option Candidate → List DueAction → Option Candidate
+first_due aim best asked = fold (with_due aim) best asked
+
+-- ---- the candidates in the order of the search: each version or upload, and each rule with its place from 1
+
+-- what of a bucket and its configuration bears on a search at this moment
+abbrev pub setting_of : BucketRecord → Configuration → ℕ → Setting
+setting_of bucket rules t =
+    record { versioning = bucket.versioning; mode = rules.mode; rules_since = bucket.rules_since; t = t }
+
+-- what an enabled rule asks of a version that it matches, in a stack that changed last at this moment
+abbrev pub asked_of_version : Setting → List ℕ → ℕ → Placed → ℕ × Rule → List Candidate
+asked_of_version setting key changed placed numbered =
+    if numbered.1.enabled
+    then (
+      if matches_version numbered.1.filter key placed.version
+      then timely key (target.Version placed.version.id) numbered.0 placed.older (max changed setting.rules_since)
+      (version_actions setting.versioning setting.mode changed numbered.1 placed) else []
+    )
+    else []
+
+abbrev pub version_candidates : Setting → List Rule → List ℕ → ℕ → Placed → List Candidate
+version_candidates setting rules key changed placed =
+    flat_map (asked_of_version setting key changed placed) (enumerate_from 1 rules)
+
+abbrev pub key_candidates : Setting → List Rule → List ℕ × StackRecord → List Candidate
+key_candidates setting rules (key, stack) =
+    flat_map (version_candidates setting rules key stack.changed) (placed_from 0 stack.versions)
+
+-- what an enabled rule asks of an upload that it matches
+abbrev pub asked_of_upload : Setting → ℕ → UploadRecord → ℕ × Rule → List Candidate
+asked_of_upload setting number upload numbered =
+    if numbered.1.enabled
+    then (
+      if matches_upload numbered.1.filter upload.key
+      then timely upload.key (target.Upload number) numbered.0 number (max upload.changed setting.rules_since)
+      (upload_actions numbered.1 upload) else []
+    )
+    else []
+
+abbrev pub number_candidates : Setting → List Rule → ℕ × UploadRecord → List Candidate
+number_candidates setting rules (number, upload) =
+    flat_map (asked_of_upload setting number upload) (enumerate_from 1 rules)

@@ -1,0 +1,129 @@
+// The first of the candidates that were looked at.
+ghost use Rattle.std.specs.Prelude.{◌≡◌, IfOk};
+ghost use Rattle.due_core.specs.Choice.{kind_place, coldness, precedence, comes_before};
+ghost use Rattle.due_core.specs.Search.{sooner, with_come};
+
+use crate::{Action, ActionKind, Target};
+use class_rules::rank;
+use moments::Moment;
+use office_base::{Key, NoMemory};
+use std::cmp::Ordering;
+use std::marker::Model;
+
+/// A candidate whose key is that of its target.
+#[derive(Drop)]
+pub(crate) struct Found<'a> {
+    pub(crate) kind: ActionKind,
+    pub(crate) key: &'a Key,
+    pub(crate) target: Target,
+    pub(crate) rule: u32,
+    pub(crate) since: Moment,
+    pub(crate) age: u64,
+}
+
+impl<'a> Model for Found<'a> {
+    ghost use Rattle.due_core.specs.declared.action.Candidate.{Candidate};
+
+    ghost Value = { Candidate };
+
+    ghost view = { λ f. record {
+      action = record { kind = f.kind; key = f.key.now; target = f.target; rule = f.rule; since = f.since };
+      age = f.age;
+    } };
+}
+
+// The place of a kind in the order: removals, transitions, delete markers, aborts.
+fn kind_place(kind: ActionKind) -> u8
+    ensures { result ≡ kind_place kind }
+{
+    match kind {
+        ActionKind::Remove => 0,
+        ActionKind::Transition(_) => 1,
+        ActionKind::Marker => 2,
+        ActionKind::Abort => 3,
+    }
+}
+
+// How cold the target class is; 0 where there is none.
+fn coldness(kind: ActionKind) -> u8
+    ensures { result ≡ coldness kind }
+{
+    match kind {
+        ActionKind::Transition(to) => rank(to),
+        _ => 0,
+    }
+}
+
+// Own rule: by the moment, the kind, the key, the older version or the lower upload, the colder class, the rule.
+fn precedence(a: &Found<'_>, b: &Found<'_>) -> Ordering
+    ensures { result ≡ precedence a.now b.now }
+{
+    match a.since.ms().cmp(&b.since.ms()) {
+        Ordering::Equal => {}
+        decided => return decided,
+    }
+    match kind_place(a.kind).cmp(&kind_place(b.kind)) {
+        Ordering::Equal => {}
+        decided => return decided,
+    }
+    match a.key.cmp(b.key) {
+        Ordering::Equal => {}
+        decided => return decided,
+    }
+    let colder = coldness(b.kind).cmp(&coldness(a.kind));
+    a.age.cmp(&b.age).then(colder.then(a.rule.cmp(&b.rule)))
+}
+
+fn comes_before(a: &Found<'_>, b: &Found<'_>) -> bool
+    ensures { result ≡ comes_before a.now b.now }
+{
+    precedence(a, b).is_lt()
+}
+
+fn sooner<'a>(best: Option<Found<'a>>, next: Found<'a>) -> Found<'a>
+    ensures { result ≡ sooner best.entry next.entry }
+{
+    match best {
+        Some(best) => {
+            if comes_before(&next, &best) {
+                next
+            } else {
+                best
+            }
+        }
+        None => next,
+    }
+}
+
+/// Looks at the next candidate: it is the first one if its moment has come, and it comes before the first so far.
+pub(crate) fn with_come<'a>(
+    best: Option<Found<'a>>,
+    next: Found<'a>,
+    t: Moment,
+) -> Option<Found<'a>>
+    ensures { result ≡ with_come t best.entry next.entry }
+{
+    if next.since.ms() <= t.ms() {
+        Some(sooner(best, next))
+    } else {
+        best
+    }
+}
+
+impl<'a> Found<'a> {
+    /// Gives the action, with a key of its own. Fails only for want of memory.
+    pub(crate) fn action(&self) -> Result<Action, NoMemory>
+        ensures { IfOk result (λ action. action ≡ self.now.action) }
+    {
+        match self.key.copy() {
+            Ok(key) => Ok(Action {
+                kind: self.kind,
+                key,
+                target: self.target,
+                rule: self.rule,
+                since: self.since,
+            }),
+            Err(_) => Err(NoMemory),
+        }
+    }
+}
