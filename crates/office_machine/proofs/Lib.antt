@@ -1,6 +1,9 @@
 pub mod Accounts
+pub mod Charges
 pub mod Months
 pub mod Offices
 pub mod Room
+pub mod Rows
+pub mod RuleIds
 pub mod Steps
 pub mod Sums

@@ -1,12 +1,12 @@
 -- What the office in memory stands for after each command, and the replies to queries.
-use Rattle.std.proofs.Common.{◌≡◌, ◌⊎◌, inl, inr, ℕ, ◌+◌, ◌≤◌, List, [], ◌∷◌, ◌++◌, length, map, refl, ap, sym, ◌∙◌, Bool, true, false, subst, arith}
+use Rattle.std.proofs.Common.{◌≡◌, ◌⊎◌, inl, inr, ℕ, ◌+◌, ◌≤◌, List, [], ◌∷◌, ◌++◌, length, map, refl, ap, sym, ◌∙◌, Bool, true, false, subst, arith, flat_map}
 use Rattle.std.specs.Prelude.{Result, Option, Some, None, Ok, Err, is_some, unwrap_or}
 use Rattle.std.specs.List.{AllByRecursion}
 use Rattle.std.specs.Map.{set_value}
 use Rattle.std.specs.BTreeMap.{is_at}
 use Rattle.moments.specs.Months.{month_at, month_end}
 use Rattle.class_rules.specs.Classes.{all_classes}
-use Rattle.office_base.specs.Maps.{bytes_cmp, at_name, with_name}
+use Rattle.office_base.specs.Maps.{bytes_cmp, at_name, with_name, at_number}
 use Rattle.accrual.specs.Books.{IsBookedBy}
 use Rattle.tariff.specs.Prices.{Prices}
 use Rattle.due_core.specs.Buckets.{BucketRecord}
@@ -20,14 +20,15 @@ use Rattle.office_types.specs.declared.command.Command.{Command}
 use Rattle.office_types.specs.declared.command.Command.TheVariants as command
 use Rattle.office_types.specs.declared.command.Query.TheVariants as query
 use Rattle.office_types.specs.declared.reply.Reply.{Reply}
-use Rattle.office_types.specs.declared.reply.Reply.TheVariants.{BucketMade, NothingDue, TariffSet, Closed, BucketShown, MetersShown}
+use Rattle.office_types.specs.declared.reply.Reply.TheVariants.{BucketMade, NothingDue, TariffSet, Closed, BucketShown, MetersShown, Report}
+use Rattle.office_types.specs.declared.reply.ReportLine.{ReportLine}
 use Rattle.office_types.specs.declared.refusal.Refusal.{Refusal}
-use Rattle.office_types.specs.declared.refusal.Refusal.TheVariants.{BucketExists, NoSuchBucket, Full, NoMemory}
+use Rattle.office_types.specs.declared.refusal.Refusal.TheVariants.{BucketExists, NoSuchBucket, NoTariff, Full, NoMemory}
 use Rattle.office_types.specs.declared.refusal.What.{What}
 use Rattle.office_types.specs.declared.refusal.What.TheVariants.{Buckets, Versions, Uploads, Parts, Names, Rules}
 use Rattle.office_laws.proofs.Lists.{Added, Replaced}
 use Rattle.office_laws.proofs.Maps.{by_name, added, replaced}
-use Rattle.office_laws.proofs.Offices.{kept_now}
+use Rattle.office_laws.proofs.Offices.{kept_now, booked_now}
 use Rattle.office_laws.proofs.Steps.{step_orderly, empty_orderly}
 use Rattle.bucket_account.specs.declared.change.Done.{Done}
 use Rattle.bucket_account.specs.declared.counts.Counts.{Counts}
@@ -37,8 +38,11 @@ use Rattle.office_machine.specs.Standing.{Records, StandForAccounts, StandsForOf
 use Rattle.bucket_account.specs.Standing.{StandsForAccount}
 use Rattle.bucket_account.proofs.Accepted.{told_is, FindsNothing, told_or_nothing, something_by, refusal_fits}
 use Rattle.office_types.specs.Fits.{RefusalFits}
-use Rattle.office_machine.proofs.Accounts.{StandsForOption, stand_at, stand_with, stand_set, stand_one}
+use Rattle.office_machine.proofs.Accounts.{StandsForOption, stand_length, stand_at, stand_with, stand_set, stand_one}
+use Rattle.office_machine.proofs.Rows.{closed_is}
 use Rattle.office_machine.proofs.Sums.{AreCountsOf, full_is, moved_is, added_is, counts_over, same_counts}
+use Rattle.office_machine.specs.Asking.{rules_told, stack_told, upload_told, due_told, prices_told, kept_prices, closed_at, entry_lines, IsBookedIn}
+use Rattle.plain_office.specs.Charges.{tariff_for, report_lines}
 use Rattle.office_machine.specs.Closing.{closing_with, first_due, due_refusal}
 use Rattle.office_machine.proofs.Months.{closed_office, close_refused, close_due, close_done, due_same, due_of, none_due}
 use Rattle.office_machine.proofs.Steps.{Answer, step_missing, step_refused, step_full, step_done, step_nothing, placed, made, create_exists, create_full, create_made, priced, tariff_told}
@@ -330,6 +334,22 @@ module _ (records : Records) (p : Office) (stands : StandsForOffice records p) w
     unfolding answer
     meters_none t month none = let nothing = absent none in rw nothing refl
 
+    pub rules_none : (t : ℕ) → at_name name records.accounts ≡ None → answer t (query.Rules name) p ≡ Err NoSuchBucket
+    unfolding answer
+    rules_none t none = let nothing = absent none in rw nothing refl
+
+    pub stack_none : (t : ℕ) (key : List ℕ) → at_name name records.accounts ≡ None → answer t (query.Stack name key) p ≡ Err NoSuchBucket
+    unfolding answer
+    stack_none t key none = let nothing = absent none in rw nothing refl
+
+    pub upload_none : (t number : ℕ) → at_name name records.accounts ≡ None → answer t (query.Upload name number) p ≡ Err NoSuchBucket
+    unfolding answer
+    upload_none t number none = let nothing = absent none in rw nothing refl
+
+    pub due_none : (t : ℕ) → at_name name records.accounts ≡ None → answer t (query.Due name) p ≡ Err NoSuchBucket
+    unfolding answer
+    due_none t none = let nothing = absent none in rw nothing refl
+
     module _ (held : AccountRecord) (found : at_name name records.accounts ≡ Some held) where
       abbrev pub shown_account : Account
       shown_account = (present held found).0
@@ -356,12 +376,65 @@ module _ (records : Records) (p : Office) (stands : StandsForOffice records p) w
           let there = shown_there in
           rw there (ap (λ (bucket : BucketRecord). Ok (BucketShown name (rule_count bucket.rules) (length bucket.uploads) bucket.versioning (version_count bucket))) (sym shown_stands.bucket))
 
+      pub shows_rules : (t : ℕ) → answer t (query.Rules name) p ≡ rules_told held.bucket
+      unfolding answer
+      shows_rules t = let there = shown_there in rw there (ap rules_told (sym shown_stands.bucket))
+
+      pub shows_stack : (t : ℕ) (key : List ℕ) → answer t (query.Stack name key) p ≡ stack_told key held.bucket
+      unfolding answer
+      shows_stack t key = let there = shown_there in rw there (ap (stack_told key) (sym shown_stands.bucket))
+
+      pub shows_upload : (t number : ℕ) → answer t (query.Upload name number) p ≡ upload_told number held.bucket
+      unfolding answer
+      shows_upload t number = let there = shown_there in rw there (ap (upload_told number) (sym shown_stands.bucket))
+
+      pub shows_due : (t : ℕ) → answer t (query.Due name) p ≡ due_told t held.bucket
+      unfolding answer
+      shows_due t = let there = shown_there in rw there (ap (due_told t) (sym shown_stands.bucket))
+
       pub shows_meters : (t month : ℕ) → answer t (query.Meters name month) p ≡ Ok (MetersShown name month (map (class_meters month t (book_of shown_account.books)) all_classes))
       unfolding answer
       shows_meters t month = let there = shown_there in rw there refl
 
       pub shown_booked : (t : ℕ) → is_not_before records.last t ≡ true → IsBookedBy t (book_of shown_account.books)
       shown_booked t later = (kept_now t p stands.orderly (later_plain t later) name shown_account shown_there).booked
+
+module _ (records : Records) (p : Office) (stands : StandsForOffice records p) where
+  -- ---- queries on the whole office
+
+  pub shows_tariff : (t : ℕ) → answer t query.Tariff p ≡ prices_told records.tariff
+  unfolding answer
+  shows_tariff t = ap prices_told (sym stands.tariff)
+
+  prices_by : (month : ℕ) (o : Option Prices) → at_number month p.closed ≡ o → tariff_for month p ≡ kept_prices o p.tariff
+  prices_by month None is = rw is refl
+  prices_by month (Some prices) is = rw is refl
+
+  pub shows_prices : (month : ℕ) → tariff_for month p ≡ kept_prices (closed_at month records.closed) records.tariff
+  shows_prices month =
+      prices_by month (closed_at month p.closed) (sym (closed_is month p.closed))
+      ∙ ap (λ (closed : List (ℕ × Prices)). kept_prices (closed_at month closed) p.tariff) (sym stands.closed)
+      ∙ ap (kept_prices (closed_at month records.closed)) (sym stands.tariff)
+
+  pub shows_report : (t month : ℕ) (prices : Prices) → tariff_for month p ≡ Some prices → answer t (query.Report month) p ≡ Ok (Report (report_lines prices month t p))
+  unfolding answer
+  shows_report t month prices is = rw is refl
+
+  pub shows_no_report : (t month : ℕ) → tariff_for month p ≡ None → answer t (query.Report month) p ≡ Err NoTariff
+  unfolding answer
+  shows_no_report t month is = rw is refl
+
+  module _ (t : ℕ) (later : is_not_before records.last t ≡ true) where
+    -- the lines that are listed of the buckets in memory
+    pub listed : (prices : Prices) (month : ℕ) (lines : List ReportLine)
+        → ((plainly : List (List ℕ × Account)) → StandForAccounts records.accounts plainly → AllByRecursion (IsBookedIn t) plainly → lines ≡ flat_map (entry_lines prices month t) plainly)
+        → lines ≡ report_lines prices month t p
+    unfolding report_lines
+    listed prices month lines told = told p.accounts stands.accounts (booked_now t p stands.orderly (subst (λ (last : Option ℕ). is_not_before last t ≡ true) stands.last later))
+
+  pub few_accounts : length records.accounts ≤ 1_000
+  unfolding count_of
+  few_accounts = let few = stands.orderly.records.counts.0 in let same = stand_length records.accounts p.accounts stands.accounts in omega (arith, few, same)
 
 -- ---- the office before the first command
 

@@ -1,2 +1,4 @@
+pub mod Asking
 pub mod Closing
+pub mod Lines
 pub mod Standing

@@ -6,6 +6,7 @@ mod closing;
 mod commands;
 mod office;
 mod queries;
+mod reports;
 mod stand_in;
 #[cfg(test)]
 mod tests;

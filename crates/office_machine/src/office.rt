@@ -139,8 +139,13 @@ impl Office {
     {
         match query {
             Query::Bucket(name) => self.show_bucket(name),
+            Query::Rules(name) => self.show_rules(name),
+            Query::Stack(name, key) => self.show_stack(name, key),
+            Query::Upload(name, number) => self.show_upload(name, *number),
+            Query::Due(name) => self.show_due(t, name),
             Query::Meters(name, month) => self.show_meters(t, name, *month),
-            _ => Err(Refusal::NoMemory),
+            Query::Tariff => self.show_tariff(),
+            Query::Report(month) => self.show_report(t, *month),
         }
     }
 }

@@ -1,23 +1,34 @@
 // The queries on one bucket, and the prices.
-ghost use Rattle.std.specs.Prelude.{◌≡◌, ◌⊎◌, ℕ, Err, IsTrue};
+ghost use Rattle.std.specs.Prelude.{◌≡◌, ◌≤◌, ℕ, map, IfOk, IfErr, IsTrue};
+ghost use Rattle.accrual.specs.Books.{Book, IsBookedBy};
+ghost use Rattle.accrual.specs.Totals.{StandsFor};
+ghost use Rattle.class_rules.specs.Classes.{all_classes};
+ghost use Rattle.office_base.specs.Tags.{char_count};
 ghost use Rattle.plain_office.specs.Office as plain;
-ghost use Rattle.plain_office.specs.Answers.{answer};
+ghost use Rattle.plain_office.specs.Answers.{answer, class_meters};
 ghost use Rattle.plain_office.specs.Run.{is_not_before};
+ghost use Rattle.plain_office.specs.Step.{rule_id};
 ghost use Rattle.office_types.specs.Fits.{AnswerFits};
 ghost use Rattle.office_types.specs.declared.command.Query.TheVariants as query;
+ghost use Rattle.office_machine.specs.Asking.{IsAnswer, rules_told, stack_told, upload_told, due_told};
 ghost use Rattle.office_machine.specs.Standing.{StandsForOffice};
 
+use crate::closing::choice_of;
 use crate::commands::copy_of;
 use crate::office::Office;
+use bucket_account::Account;
 use class_rules::Class;
+use due_core::{Action, Bucket};
 use moments::{Moment, Month};
-use office_base::BucketName;
-use office_types::{Refusal, Reply};
+use office_base::{BucketName, Key, Text};
+use office_types::{ClassMeters, Refusal, Reply};
+use rules_core::RuleSet;
+use std::alloc::Global;
 
 impl Office {
     pub(crate) fn show_bucket(&self, name: &BucketName) -> Result<Reply, Refusal>
         ensures reply { (t : ℕ) (p : plain.Office) → StandsForOffice self.now p
-            → (result ≡ answer t (query.Bucket name.now) p) ⊎ (result ≡ Err Refusal.NoMemory) }
+            → IsAnswer (answer t (query.Bucket name.now) p) result }
         ensures fits { AnswerFits result }
     {
         let Some(account) = self.accounts.get(name) else {
@@ -32,6 +43,50 @@ impl Office {
         })
     }
 
+    pub(crate) fn show_rules(&self, name: &BucketName) -> Result<Reply, Refusal>
+        ensures reply { (t : ℕ) (p : plain.Office) → StandsForOffice self.now p
+            → IsAnswer (answer t (query.Rules name.now) p) result }
+        ensures fits { AnswerFits result }
+    {
+        match self.accounts.get(name) {
+            Some(account) => rules_of(account.bucket()),
+            None => Err(Refusal::NoSuchBucket),
+        }
+    }
+
+    pub(crate) fn show_stack(&self, name: &BucketName, key: &Key) -> Result<Reply, Refusal>
+        ensures reply { (t : ℕ) (p : plain.Office) → StandsForOffice self.now p
+            → IsAnswer (answer t (query.Stack name.now key.now) p) result }
+        ensures fits { AnswerFits result }
+    {
+        match self.accounts.get(name) {
+            Some(account) => stack_of(account.bucket(), key),
+            None => Err(Refusal::NoSuchBucket),
+        }
+    }
+
+    pub(crate) fn show_upload(&self, name: &BucketName, number: u64) -> Result<Reply, Refusal>
+        ensures reply { (t : ℕ) (p : plain.Office) → StandsForOffice self.now p
+            → IsAnswer (answer t (query.Upload name.now number) p) result }
+        ensures fits { AnswerFits result }
+    {
+        match self.accounts.get(name) {
+            Some(account) => upload_of(account.bucket(), number),
+            None => Err(Refusal::NoSuchBucket),
+        }
+    }
+
+    pub(crate) fn show_due(&self, t: Moment, name: &BucketName) -> Result<Reply, Refusal>
+        ensures reply { (p : plain.Office) → StandsForOffice self.now p
+            → IsAnswer (answer t (query.Due name.now) p) result }
+        ensures fits { AnswerFits result }
+    {
+        match self.accounts.get(name) {
+            Some(account) => due_of(self.alloc, account.bucket(), t),
+            None => Err(Refusal::NoSuchBucket),
+        }
+    }
+
     pub(crate) fn show_meters(
         &self,
         t: Moment,
@@ -40,7 +95,7 @@ impl Office {
     ) -> Result<Reply, Refusal>
         requires later { IsTrue (is_not_before self.now.last t) }
         ensures reply { (p : plain.Office) → StandsForOffice self.now p
-            → (result ≡ answer t (query.Meters name.now month) p) ⊎ (result ≡ Err Refusal.NoMemory) }
+            → IsAnswer (answer t (query.Meters name.now month) p) result }
         ensures fits { AnswerFits result }
     {
         let Some(account) = self.accounts.get(name) else {
@@ -50,14 +105,114 @@ impl Office {
         Ok(Reply::MetersShown {
             bucket,
             month,
-            classes: [
-                account.used(month, Class::Standard, t),
-                account.used(month, Class::StandardIa, t),
-                account.used(month, Class::OnezoneIa, t),
-                account.used(month, Class::GlacierIr, t),
-                account.used(month, Class::Glacier, t),
-                account.used(month, Class::DeepArchive, t),
-            ],
+            classes: used_of(account, month, t),
         })
     }
+
+    pub(crate) fn show_tariff(&self) -> Result<Reply, Refusal>
+        ensures reply { (t : ℕ) (p : plain.Office) → StandsForOffice self.now p
+            → IsAnswer (answer t query.Tariff p) result }
+        ensures fits { AnswerFits result }
+    {
+        match self.tariff {
+            Some(tariff) => Ok(Reply::TariffShown { tariff }),
+            None => Err(Refusal::NoTariff),
+        }
+    }
+}
+
+fn rules_of(bucket: &Bucket) -> Result<Reply, Refusal>
+    ensures reply { IsAnswer (rules_told bucket.now) result }
+    ensures fits { AnswerFits result }
+{
+    match &bucket.rules {
+        Some(rules) => match rules.copy() {
+            Ok(rules) => Ok(Reply::RulesShown { rules }),
+            Err(_) => Err(Refusal::NoMemory),
+        },
+        None => Err(Refusal::NoRules),
+    }
+}
+
+fn stack_of(bucket: &Bucket, key: &Key) -> Result<Reply, Refusal>
+    ensures reply { IsAnswer (stack_told key.now bucket.now) result }
+    ensures fits { AnswerFits result }
+{
+    let Some(stack) = bucket.stacks.get(key) else {
+        return Err(Refusal::NoSuchKey);
+    };
+    let (Ok(key), Ok(stack)) = (key.copy(), stack.copy()) else {
+        return Err(Refusal::NoMemory);
+    };
+    Ok(Reply::StackShown { key, stack })
+}
+
+fn upload_of(bucket: &Bucket, number: u64) -> Result<Reply, Refusal>
+    ensures reply { IsAnswer (upload_told number bucket.now) result }
+    ensures fits { AnswerFits result }
+{
+    match bucket.uploads.get(&number) {
+        Some(upload) => match upload.copy() {
+            Ok(upload) => Ok(Reply::UploadShown { number, upload }),
+            Err(_) => Err(Refusal::NoMemory),
+        },
+        None => Err(Refusal::NoSuchUpload),
+    }
+}
+
+fn due_of(alloc: Global, bucket: &Bucket, t: Moment) -> Result<Reply, Refusal>
+    ensures reply { IsAnswer (due_told t bucket.now) result }
+    ensures fits { AnswerFits result }
+{
+    let Some(Action {
+        kind,
+        key,
+        target,
+        rule,
+        since,
+    }) = choice_of(bucket, t)?
+    else {
+        return Ok(Reply::NothingDue);
+    };
+    Ok(Reply::Chosen {
+        kind,
+        key,
+        target,
+        rule: id_of(alloc, &bucket.rules, rule)?,
+        since,
+        marker: None,
+    })
+}
+
+/// Gives the id of the rule at this place, from 1; the empty text where there is none.
+fn id_of(alloc: Global, rules: &Option<RuleSet>, place: u32) -> Result<Text, Refusal>
+    ensures same { IfOk result (λ id. id ≡ rule_id rules.now place) }
+    ensures short { IfOk result (λ id. char_count id ≤ 255) }
+    ensures refusal { IfErr result (λ refusal. refusal ≡ Refusal.NoMemory) }
+{
+    let Some(rules) = rules else {
+        return Ok(Text::of(String::new(alloc)));
+    };
+    match rules.rules().get(place.saturating_sub(1) as usize) {
+        Some(rule) => match rule.id.copy() {
+            Ok(id) => Ok(id),
+            Err(_) => Err(Refusal::NoMemory),
+        },
+        None => Ok(Text::of(String::new(alloc))),
+    }
+}
+
+/// Reads what a bucket used in a month, from the warmest class to the coldest.
+pub(crate) fn used_of(account: &Account, month: Month, t: Moment) -> [ClassMeters; 6]
+    ensures { (book : Book) → StandsFor account.now.meters book → IsBookedBy t book
+        → result ≡ map (class_meters month t book) all_classes }
+{
+    [
+        account.used(month, Class::Standard, t),
+        account.used(month, Class::StandardIa, t),
+        account.used(month, Class::OnezoneIa, t),
+        account.used(month, Class::GlacierIr, t),
+        account.used(month, Class::Glacier, t),
+        account.used(month, Class::DeepArchive, t),
+    ]
 }

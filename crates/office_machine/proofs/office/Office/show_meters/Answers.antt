@@ -22,12 +22,7 @@ returns c = record {
       let book : Book = book_of (shown_account _ p stood c.args.name.now c.in-Some.account.now found).books in
       let meters = (shown_stands _ p stood c.args.name.now c.in-Some.account.now found).meters in
       let booked = shown_booked _ p stood c.args.name.now c.in-Some.account.now found c.args.t (subst (λ (r : Records). is_not_before r.last c.args.t ≡ true) (sym c.self.view_is) c.requires.later) in
-      let used1 = c.used.ensures book meters booked in
-      let used2 = c.used-2.ensures book meters booked in
-      let used3 = c.used-3.ensures book meters booked in
-      let used4 = c.used-4.ensures book meters booked in
-      let used5 = c.used-5.ensures book meters booked in
-      let used6 = c.used-6.ensures book meters booked in
-      inl (rw (c.in_ok-bucket.ensures.ok, used1, used2, used3, used4, used5, used6) (sym is));
+      let used = c.used_of.ensures book meters booked in
+      inl (rw (c.in_ok-bucket.ensures.ok, used) (sym is));
   fits = tt;
 }

@@ -1,0 +1,106 @@
+-- The lines of a report, in the steps of its loops.
+use Rattle.std.proofs.Common.{◌≡◌, ◌⊎◌, inl, inr, ℕ, eqb, true, false, arith, map, ◌+◌, ◌<◌, ◌≤◌, List, [], ◌∷◌, ◌++◌, length, drop, get_or, refl, sym, ap, ◌∙◌, Bool, cond, flat_map, append_assoc, append-nil}
+use Rattle.std.specs.Prelude.{Some, None}
+use Rattle.std.specs.List.{AllByRecursion}
+use Rattle.std.specs.Ordering.{is_eq, nat_cmp}
+use Rattle.std.specs.Cmp.{nat_cmp_is}
+use Rattle.std.specs.declared.cmp.Ordering.TheVariants.{Less, Equal, Greater}
+use Rattle.std.proofs.lemmas.Bool.{cases_lt}
+use Rattle.std.proofs.lemmas.Bool.Decides.{eqb_tells}
+use Rattle.std.proofs.lemmas.List.{at_drop_more, at_drop_all}
+use Rattle.class_rules.specs.Classes.{all_classes}
+use Rattle.accrual.specs.Books.{Book, IsBookedBy}
+use Rattle.accrual.specs.Totals.{StandsFor}
+use Rattle.office_base.specs.Maps.{at_number}
+use Rattle.tariff.specs.Prices.{Prices}
+use Rattle.plain_office.specs.Office.{Account, book_of}
+use Rattle.plain_office.specs.Charges.{class_lines}
+use Rattle.plain_office.specs.Answers.{class_meters}
+use Rattle.office_types.specs.declared.reply.ClassMeters.{ClassMeters}
+use Rattle.office_types.specs.declared.reply.ReportLine.{ReportLine}
+use Rattle.bucket_account.specs.Counting.{AccountRecord}
+use Rattle.office_machine.specs.Asking.{closed_at, metered_lines, entry_lines, IsBookedIn}
+use Rattle.office_machine.specs.Standing.{StandForAccounts}
+
+-- ---- one turn of a loop over a slice
+
+module _ {X Y : Type 0} (f : X → List Y) where
+  pub turn : (old new base : List Y) (xs : List X) (i : ℕ) (x : X) → i < length xs → x ≡ get_or xs i x → old ++ flat_map f (drop i xs) ≡ base → new ≡ old ++ f x → new ++ flat_map f (drop (i + 1) xs) ≡ base
+  turn old new base xs i x inside here so_far added =
+      let rest = drop (i + 1) xs in
+      ap (λ (l : List Y). l ++ flat_map f rest) added
+      ∙ append_assoc old (f x) (flat_map f rest)
+      ∙ ap (λ (y : X). old ++ (f y ++ flat_map f rest)) here
+      ∙ ap (λ (l : List Y). old ++ l) (sym (at_drop_more (λ (l : List X). flat_map f l) xs i x inside))
+      ∙ so_far
+
+  pub end : (old base : List Y) (xs : List X) (i : ℕ) → length xs ≤ i → old ++ flat_map f (drop i xs) ≡ base → old ≡ base
+  end old base xs i over so_far =
+      sym (append-nil old) ∙ ap (λ (l : List Y). old ++ l) (sym (at_drop_all (λ (l : List X). flat_map f l) xs i over)) ∙ so_far
+
+-- ---- the prices of a closed month
+
+same_test : (a b : ℕ) → is_eq (nat_cmp a b) ≡ eqb b a
+same_test a b = by (eqb_tells b a) where
+  apart : (b ≡ a → ⊥) → (a < b) ⊎ (b ≤ a) → is_eq (nat_cmp a b) ≡ false
+  apart differ (inl lt) = ap is_eq (sym (nat_cmp_is a b Less lt))
+  apart differ (inr le) = ap is_eq (sym (nat_cmp_is a b Greater (omega (arith, le, differ))))
+
+  by : ((eqb b a ≡ true) × (b ≡ a)) ⊎ ((eqb b a ≡ false) × (b ≡ a → ⊥)) → is_eq (nat_cmp a b) ≡ eqb b a
+  by (inl told) = ap is_eq (sym (nat_cmp_is a b Equal (sym told.1))) ∙ sym told.0
+  by (inr told) = apart told.1 (cases_lt a b) ∙ sym told.0
+
+pub closed_is : (month : ℕ) (closed : List (ℕ × Prices)) → closed_at month closed ≡ at_number month closed
+closed_is month [] = refl
+closed_is month (entry ∷ closed) = by (eqb entry.0 month) refl (closed_is month closed) where
+  by : (b : Bool) → eqb entry.0 month ≡ b → closed_at month closed ≡ at_number month closed → closed_at month (entry ∷ closed) ≡ at_number month (entry ∷ closed)
+  by true is rest = let test = same_test month entry.0 ∙ is in rw (is, test) refl
+  by false is rest = let test = same_test month entry.0 ∙ is in rw (is, test) rest
+
+-- ---- one turn of the loop over the buckets
+
+module _ (tariff : Prices) (month t : ℕ) where
+  -- the buckets that are left stand for these, whose lines are to come
+  pub record Left (left : List (List ℕ × AccountRecord)) (lines : List ReportLine) (plainly : List (List ℕ × Account)) : Type 0 where
+    pub rest : List (List ℕ × Account)
+    pub stand : StandForAccounts left rest
+    pub booked : AllByRecursion (IsBookedIn t) rest
+    pub lines_are : lines ++ flat_map (entry_lines tariff month t) rest ≡ flat_map (entry_lines tariff month t) plainly
+
+  abbrev pub IsListing : List (List ℕ × AccountRecord) → List (List ℕ × AccountRecord) → List ReportLine → Type 0
+  IsListing all left lines = (plainly : List (List ℕ × Account)) → StandForAccounts all plainly → AllByRecursion (IsBookedIn t) plainly → Left left lines plainly
+
+  pub started : (all : List (List ℕ × AccountRecord)) → IsListing all all []
+  started all plainly stand booked = record { rest = plainly; stand = stand; booked = booked; lines_are = refl }
+
+  used_lines : (name : List ℕ) (book : Book) → flat_map (metered_lines tariff month name) (map (class_meters month t book) all_classes) ≡ flat_map (class_lines tariff month t name book) all_classes
+  used_lines name book = refl
+
+  module _ (entry : List ℕ × AccountRecord) (left : List (List ℕ × AccountRecord)) (old new : List ReportLine) (used : List ClassMeters)
+      (added : new ≡ old ++ flat_map (metered_lines tariff month entry.0) used) (reads : (book : Book) → StandsFor entry.1.meters book → IsBookedBy t book → used ≡ map (class_meters month t book) all_classes) where
+    more : (plainly rest : List (List ℕ × Account)) → StandForAccounts (entry ∷ left) rest → AllByRecursion (IsBookedIn t) rest → old ++ flat_map (entry_lines tariff month t) rest ≡ flat_map (entry_lines tariff month t) plainly → Left left new plainly
+    more plainly [] stand booked is = absurd stand
+    more plainly (first ∷ rest) stand booked is =
+        let here : flat_map (metered_lines tariff month entry.0) used ≡ entry_lines tariff month t first =
+        ap (λ (l : List ClassMeters). flat_map (metered_lines tariff month entry.0) l) (reads (book_of first.1.books) stand.0.account.meters booked.0)
+        ∙ ap (λ (name : List ℕ). flat_map (class_lines tariff month t name (book_of first.1.books)) all_classes) stand.0.name in
+        record {
+          rest = rest;
+          stand = stand.1;
+          booked = booked.1;
+          lines_are =
+          ap (λ (l : List ReportLine). l ++ flat_map (entry_lines tariff month t) rest) (added ∙ ap (λ (l : List ReportLine). old ++ l) here)
+          ∙ append_assoc old (entry_lines tariff month t first) (flat_map (entry_lines tariff month t) rest) ∙ is;
+        }
+
+    pub went_on : (all : List (List ℕ × AccountRecord)) → IsListing all (entry ∷ left) old → IsListing all left new
+    went_on all h plainly stand booked = let so_far = h plainly stand booked in more plainly so_far.rest so_far.stand so_far.booked so_far.lines_are
+
+  nothing_left : (lines : List ReportLine) (plainly rest : List (List ℕ × Account)) → StandForAccounts [] rest → lines ++ flat_map (entry_lines tariff month t) rest ≡ flat_map (entry_lines tariff month t) plainly
+      → lines ≡ flat_map (entry_lines tariff month t) plainly
+  nothing_left lines plainly [] stand is = sym (append-nil lines) ∙ is
+  nothing_left lines plainly (first ∷ rest) stand is = absurd stand
+
+  pub all_listed : (all : List (List ℕ × AccountRecord)) (lines : List ReportLine) → IsListing all [] lines
+      → (plainly : List (List ℕ × Account)) → StandForAccounts all plainly → AllByRecursion (IsBookedIn t) plainly → lines ≡ flat_map (entry_lines tariff month t) plainly
+  all_listed all lines h plainly stand booked = let so_far = h plainly stand booked in nothing_left lines plainly so_far.rest so_far.stand so_far.lines_are

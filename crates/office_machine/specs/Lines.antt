@@ -1,0 +1,16 @@
+-- A line of a report that is told in parts.
+use Rattle.std.specs.Prelude.{ℕ, List}
+use Rattle.class_rules.specs.declared.class.Class.{Class}
+use Rattle.office_types.specs.declared.reply.ReportLine.{ReportLine}
+use Rattle.office_machine.specs.declared.reports.Line.{Line}
+
+-- the line of a bucket and a class with this kind, quantity, price and charge
+abbrev pub line_of : List ℕ → Class → Line → ReportLine
+line_of name class line = record {
+  bucket = name;
+  kind = line.kind;
+  class = class;
+  quantity = line.quantity;
+  price = line.price;
+  charge = line.charge;
+}
