@@ -13,9 +13,8 @@ ghost use Rattle.office_machine.specs.Standing.{StandsForOffice, Does, accepted_
 use crate::calendar::{month_numbered, number_of};
 use crate::commands::{copy_of, first_of};
 use crate::office::Office;
-use crate::stand_in::chosen;
 use bucket_account::Account;
-use due_core::{Action, Bucket};
+use due_core::{Action, Bucket, chosen};
 use moments::{Moment, Month, month_window};
 use office_base::BucketName;
 use office_types::{Refusal, Reply};

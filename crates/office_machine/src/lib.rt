@@ -7,7 +7,6 @@ mod commands;
 mod office;
 mod queries;
 mod reports;
-mod stand_in;
 #[cfg(test)]
 mod tests;
 
