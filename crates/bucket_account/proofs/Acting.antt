@@ -97,7 +97,7 @@ module _ (t : ℕ) (account : Account) (orderly : IsOrderlyAccount t account) (c
     }
 
     abbrev place : HasPlace suits_version.0.versions chosen.kind id
-    place = suits_version.2.2
+    place = suits_version.2
 
     found : version_at id (versions_of chosen.key bucket) ≡ Some place.version
     found =
