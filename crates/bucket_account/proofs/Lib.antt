@@ -1,3 +1,4 @@
+pub mod Completed
 pub mod Doing
 pub mod Ending
 pub mod Gone
