@@ -1,6 +1,6 @@
 -- A command whose change is one effect, at the moment of the command.
 use Rattle.std.proofs.Common.{◌≡◌, ℕ, ◌≤◌, List, refl, arith}
-use Rattle.std.specs.Prelude.{Option, Some, None, unwrap_or, Result, Ok, Err}
+use Rattle.std.specs.Prelude.{Option, Some, None, unwrap_or, Ok, Err}
 use Rattle.office_base.specs.Maps.{at_name}
 use Rattle.stacks.specs.Stacks.{StackRecord, new_stack}
 use Rattle.plain_office.specs.Office.{Account}

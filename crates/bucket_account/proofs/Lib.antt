@@ -1,4 +1,6 @@
+pub mod Accepted
 pub mod Completed
+pub mod Deletes
 pub mod Doing
 pub mod Ending
 pub mod Gone
@@ -7,10 +9,13 @@ pub mod PartPut
 pub mod PartStays
 pub mod Parting
 pub mod Putting
+pub mod Removals
 pub mod Replacing
 pub mod Rules
 pub mod SetAt
 pub mod Started
 pub mod TagSizes
+pub mod Tagged
 pub mod Told
+pub mod Under
 pub mod WholePut

@@ -1,82 +1,36 @@
 -- A bucket after a version came.
-use Rattle.std.proofs.Common.{◌≡◌, ◌⊎◌, inl, inr, ℕ, ◌+◌, ◌≤◌, ◌<◌, List, [], ◌∷◌, length, refl, ap, sym, ◌∙◌, subst, Bool, true, false, cond, arith}
-use Rattle.std.specs.Prelude.{Option, Some, None, Result, Ok, Err, is_some, unwrap_or, option_map, sum_by}
-use Rattle.std.specs.List.{AllByRecursion, list_all, filter}
-use Rattle.std.proofs.lemmas.Bool.{and_parts}
+use Rattle.std.proofs.Common.{◌≡◌, ◌⊎◌, inl, inr, ℕ, ◌+◌, ◌≤◌, List, [], ◌∷◌, length, refl, ap, sym, ◌∙◌, subst, true, arith}
+use Rattle.std.specs.Prelude.{Option, Some, None, Result, Ok, Err, unwrap_or, option_map, sum_by}
+use Rattle.std.specs.List.{AllByRecursion}
 use Rattle.std.proofs.lemmas.List.Sums.{sum_by-cons}
 use Rattle.office_base.specs.Maps.{at_name, with_name}
-use Rattle.office_base.specs.declared.version_id.VersionId.{VersionId}
 use Rattle.office_base.specs.declared.version_id.VersionId.TheVariants.{Null}
-use Rattle.stacks.specs.Stacks.{StackRecord, new_stack, version_at, without, covered, ids_differ, new_id, replaced, IsFree, has_moments_until}
+use Rattle.stacks.specs.Stacks.{StackRecord, new_stack, version_at, without, covered, ids_differ, replaced}
 use Rattle.stacks.specs.declared.version.Versioning.{Versioning}
 use Rattle.stacks.specs.declared.version.Versioning.TheVariants.{Unversioned, Enabled, Suspended}
 use Rattle.stacks.specs.declared.version.Kind.{Kind}
 use Rattle.stacks.specs.declared.version.Version.{Version}
 use Rattle.accrual.specs.Totals.{Totals, StandsFor}
 use Rattle.due_core.specs.Buckets.{BucketRecord}
-use Rattle.plain_office.specs.Office.{Account, Books, book_of, of_version}
-use Rattle.plain_office.specs.Books.{is_open_stay}
+use Rattle.plain_office.specs.Office.{Account, Books, book_of}
 use Rattle.plain_office.specs.Changes.{add_version, next_id, number_after}
 use Rattle.plain_office.specs.Counts.{tag_bytes_of, name_bytes}
-use Rattle.plain_office.specs.Orderly.{IsNumberBelow, IsOrderlyBucket, stay_of_version}
+use Rattle.plain_office.specs.Orderly.{IsNumberBelow}
 use Rattle.office_types.specs.declared.refusal.Refusal.{Refusal}
 use Rattle.office_types.specs.declared.refusal.Refusal.TheVariants.{NoMemory}
 use Rattle.office_types.specs.declared.refusal.What.{What}
 use Rattle.office_types.specs.declared.refusal.What.TheVariants.{Buckets, Versions, Uploads, Parts, Names, Rules}
 use Rattle.office_laws.proofs.Buckets.{not_empty, stack_orderly, with_versions, weight_of, weight_with}
-use Rattle.office_laws.proofs.OneStay.{version_stands}
-use Rattle.office_laws.proofs.Versions.{found_id, replaced_is}
+use Rattle.office_laws.proofs.Versions.{replaced_is}
 use Rattle.bucket_account.specs.declared.counts.Counts.{Counts}
 use Rattle.bucket_account.specs.declared.incoming.Incoming.{Incoming}
-use Rattle.bucket_account.specs.Booking.{MayCome, leaving_of, MayHaveStay, version_of, stack_put, books_put, gone_versions, gone_bytes, stack_under, gone_of, new_bytes, counts_after, IsReady, AreMovable}
+use Rattle.bucket_account.specs.Booking.{MayCome, leaving_of, MayHaveStay, version_of, stack_put, books_put, gone_bytes, stack_under, gone_of, new_bytes, counts_after, IsReady, AreMovable}
 use Rattle.bucket_account.specs.Changing.{IsFullAfter}
 use Rattle.bucket_account.specs.Effects.{IsReadyAt, DoesEffect}
 use Rattle.bucket_account.specs.Counting.{AccountRecord, account_of, AreCountsOver, HaveMoved, first_over, IsFullOf}
 use Rattle.bucket_account.specs.Standing.{StandsForAccount}
 use Rattle.bucket_account.proofs.Replacing.{is_free, since_by, of_option, sum_below, one_each}
-
--- what goes, by its bytes and by its number
-bytes_of : (o : Option Version) → gone_bytes (option_map leaving_of o) ≡ of_option tag_bytes_of o
-bytes_of None = refl
-bytes_of (Some v) = refl
-
-number_of : (o : Option Version) → gone_versions (option_map leaving_of o) ≡ of_option (λ v. 1) o
-number_of None = refl
-number_of (Some v) = refl
-
-gone_most : (o : Option Version) → gone_versions (option_map leaving_of o) ≤ 1
-gone_most None = omega arith
-gone_most (Some v) = omega arith
-
-same_tags : (at : ℕ) (v : Version) → tag_bytes_of (record v { ceased = at }) ≡ tag_bytes_of v
-same_tags at v = refl
-
--- ---- what a key weighs
-
-abbrev pub by_length : List ℕ → List Version → ℕ
-by_length name versions = length versions
-
-abbrev pub by_names : List ℕ → List Version → ℕ
-by_names name versions = length name + sum_by tag_bytes_of versions
-
-module _ (b : BucketRecord) (key : List ℕ) where
-  pub length_weight : (vs : List Version) → weight_of b key by_length key vs ≡ length vs
-  length_weight [] = refl
-  length_weight (v ∷ vs) = refl
-
-  pub names_by : (last : ℕ) → IsOrderlyBucket last b → (o : Option StackRecord) → at_name key b.stacks ≡ o
-      → weight_of b key by_names key (unwrap_or o (new_stack 0)).versions + new_bytes key b.stacks ≡ length key + sum_by tag_bytes_of (unwrap_or o (new_stack 0)).versions
-  names_by last orderly None is = rw is (omega arith)
-  names_by last orderly (Some stack) is = with_some stack.versions (stack_orderly b key last orderly stack is).some where
-    with_some : (vs : List Version) → 0 < length vs → weight_of b key by_names key vs + new_bytes key b.stacks ≡ length key + sum_by tag_bytes_of vs
-    with_some [] few = absurd (omega (arith, few))
-    with_some (v ∷ vs) many = rw is (omega arith)
-
-  pub new_most : new_bytes key b.stacks ≤ length key
-  new_most = by (is_some (at_name key b.stacks)) where
-    by : (c : Bool) → cond c 0 (length key) ≤ length key
-    by true = omega arith
-    by false = omega arith
+use Rattle.bucket_account.proofs.Under.{bytes_of, number_of, gone_most, same_tags, stay_under, ids_under, by_length, by_names, length_weight, names_by, new_most}
 
 -- ---- a version comes
 
@@ -105,7 +59,7 @@ module _ (b : BucketRecord) (books : Books) (key : List ℕ) (kind : Kind) (at :
     comes = comes;
     later = omega arith;
     free = is_free b.versioning b.next_version [] orderly.bucket.next_version tt;
-    since = since_by b.versioning 0 at [] refl (omega arith);
+    since = since_by 0 at [] refl (omega arith) b.versioning;
   }
   ready_by (Some stack) is later =
       let s = stack_orderly b key orderly.last orderly.bucket stack is in
@@ -113,36 +67,24 @@ module _ (b : BucketRecord) (books : Books) (key : List ℕ) (kind : Kind) (at :
         comes = comes;
         later = later;
         free = is_free b.versioning b.next_version stack.versions orderly.bucket.next_version s.numbers;
-        since = since_by b.versioning stack.changed at stack.versions s.ids_and_moments later;
+        since = since_by stack.changed at stack.versions s.ids_and_moments later b.versioning;
       }
 
   pub is_ready : IsReady incoming (stack_under key b.stacks)
   is_ready = ready_by (at_name key b.stacks) refl orderly.changed
 
-  null_stay : (o : Option Version) → version_at Null versions ≡ o → MayHaveStay key o books
-  null_stay None is = tt
-  null_stay (Some v) is =
-      subst (λ (id : VersionId). filter (is_open_stay key (of_version id)) books.stays ≡ stay_of_version key v ∷ [])
-      (found_id Null versions v is) (version_stands key account Null v orderly.stays is)
-
   stay_by : (versioning : Versioning) → MayHaveStay key (replaced versioning versions) books
-  stay_by Unversioned = null_stay (version_at Null versions) refl
+  stay_by Unversioned = stay_under b books key orderly.stays Null
   stay_by Enabled = tt
-  stay_by Suspended = null_stay (version_at Null versions) refl
+  stay_by Suspended = stay_under b books key orderly.stays Null
 
   pub has_stay : MayHaveStay key gone books
   has_stay = stay_by b.versioning
 
   -- ---- the counts
 
-  differ_by : (o : Option StackRecord) → at_name key b.stacks ≡ o → ids_differ (unwrap_or o (new_stack 0)).versions ≡ true
-  differ_by None is = refl
-  differ_by (Some stack) is =
-      let s = stack_orderly b key orderly.last orderly.bucket stack is in
-      (and_parts (ids_differ stack.versions) (list_all (has_moments_until stack.changed) stack.versions) s.ids_and_moments).0
-
   differ : ids_differ versions ≡ true
-  differ = differ_by (at_name key b.stacks) refl
+  differ = ids_under b key orderly.last orderly.bucket
 
   abbrev below : List Version
   below = without (next_id b) (covered at versions)

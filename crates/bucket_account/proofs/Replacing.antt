@@ -2,7 +2,7 @@
 use Rattle.std.proofs.Common.{◌≡◌, ℕ, ◌+◌, ◌≤◌, ◌<◌, List, [], ◌∷◌, length, refl, ap, sym, subst, Bool, true, false, not, ◌&&◌, cond, arith}
 use Rattle.std.specs.Prelude.{Option, Some, None, sum_by, nat_le, ◌==◌, IsTrue}
 use Rattle.std.specs.List.{AllByRecursion, list_any, list_all, find}
-use Rattle.std.proofs.lemmas.Bool.{and_parts, or_parts, not-true, leb-true}
+use Rattle.std.proofs.lemmas.Bool.{and_parts, not-true, leb-true}
 use Rattle.std.proofs.lemmas.Bool.Decides.{nat_tests}
 use Rattle.std.proofs.lemmas.List.Sums.{sum_by-cons}
 use Rattle.office_base.specs.declared.version_id.VersionId.{VersionId}
@@ -14,6 +14,7 @@ use Rattle.stacks.specs.declared.version.Kind.TheVariants.{Object, Marker}
 use Rattle.stacks.specs.declared.version.Version.{Version}
 use Rattle.stacks.specs.Stacks.{same_id, has_id, version_at, without, ids_differ, covered, replaced, IsFree, has_moments_until, is_entered_until, is_stack}
 use Rattle.plain_office.specs.Orderly.{IsNumberBelow, lines_since}
+use Rattle.office_laws.proofs.Ids.{without_none}
 use Rattle.office_laws.proofs.Versions.{id_same}
 use Rattle.accrual.specs.Totals.{Totals}
 use Rattle.bucket_account.specs.Booking.{IsSinceBy, MayHaveRows, HasRowsFrom, since_option}
@@ -55,19 +56,21 @@ until_since changed v h = by v.kind h where
       let both = and_parts (nat_le v.created entered) (nat_le entered changed) parts.1 in
       leb-true entered changed both.1
 
-pub since_by : (versioning : Versioning) (changed at : ℕ) (versions : List Version) → IsTrue (is_stack changed versions) → changed ≤ at → IsSinceBy at (replaced versioning versions)
-since_by versioning changed at versions stack le = by versioning where
-  null : (o : Option Version) → version_at Null versions ≡ o → IsSinceBy at o
-  null None is = tt
-  null (Some v) is =
+module _ (changed at : ℕ) (versions : List Version) (stack : IsTrue (is_stack changed versions)) (le : changed ≤ at) where
+  since_id : (id : VersionId) (o : Option Version) → version_at id versions ≡ o → IsSinceBy at o
+  since_id id None is = tt
+  since_id id (Some v) is =
       let parts = and_parts (ids_differ versions) (list_all (has_moments_until changed) versions) stack in
-      let since = until_since changed v (found_all (has_moments_until changed) (has_id Null) versions v parts.1 is) in
+      let since = until_since changed v (found_all (has_moments_until changed) (has_id id) versions v parts.1 is) in
       omega (arith, since, le)
 
-  by : (v : Versioning) → IsSinceBy at (replaced v versions)
-  by Unversioned = null (version_at Null versions) refl
-  by Enabled = tt
-  by Suspended = null (version_at Null versions) refl
+  pub since_at : (id : VersionId) → IsSinceBy at (version_at id versions)
+  since_at id = since_id id (version_at id versions) refl
+
+  pub since_by : (versioning : Versioning) → IsSinceBy at (replaced versioning versions)
+  since_by Unversioned = since_at Null
+  since_by Enabled = tt
+  since_by Suspended = since_at Null
 
 pub since_le : (at : ℕ) (o : Option Version) → IsSinceBy at o → since_option at o ≤ at
 since_le at None h = omega arith
@@ -82,12 +85,6 @@ rows_for at (Some v) meters rows = rows
 abbrev pub of_option : (Version → ℕ) → Option Version → ℕ
 of_option f None = 0
 of_option f (Some v) = f v
-
-without_none : (id : VersionId) (versions : List Version) → list_any (has_id id) versions ≡ false → without id versions ≡ versions
-without_none id [] h = refl
-without_none id (v ∷ versions) h =
-    let parts = or_parts (has_id id v) (list_any (has_id id) versions) h in
-    rw parts.0 (ap (λ (l : List Version). v ∷ l) (without_none id versions parts.1))
 
 pub sum_without : (f : Version → ℕ) (id : VersionId) (versions : List Version) → ids_differ versions ≡ true → sum_by f (without id versions) + of_option f (version_at id versions) ≡ sum_by f versions
 sum_without f id [] differ = refl

@@ -1,7 +1,8 @@
 -- How a version's coming and going is booked, in meters that stand for a bucket's books.
-use Rattle.std.specs.Prelude.{◌≡◌, ℕ, ◌+◌, ◌-◌, ◌≤◌, List, [], ◌∷◌, ◌^◌, Option, Some, None, is_some, unwrap_or, option_map, length, if◌then◌else◌}
+use Rattle.std.specs.Prelude.{◌≡◌, ℕ, ◌+◌, ◌-◌, ◌≤◌, List, [], ◌∷◌, ◌^◌, Option, Some, None, is_some, unwrap_or, option_map, length, IsSome, ◌==◌, if◌then◌else◌}
 use Rattle.std.specs.List.{filter}
 use Rattle.office_base.specs.Maps.{at_name}
+use Rattle.office_base.specs.declared.version_id.VersionId.{VersionId}
 use Rattle.office_base.specs.declared.version_id.VersionId.TheVariants.{Null}
 use Rattle.moments.specs.Months.{month_at}
 use Rattle.stacks.specs.declared.version.Kind.{Kind}
@@ -9,12 +10,14 @@ use Rattle.stacks.specs.declared.version.Kind.TheVariants.{Object, Marker}
 use Rattle.stacks.specs.declared.version.Versioning.{Versioning}
 use Rattle.stacks.specs.declared.version.Versioning.TheVariants.{Unversioned}
 use Rattle.stacks.specs.declared.version.Version.{Version}
-use Rattle.stacks.specs.Stacks.{StackRecord, new_stack, new_id, new_version, replaced, after_adding, IsFree}
+use Rattle.stacks.specs.Stacks.{StackRecord, new_stack, new_id, version_at, new_version, replaced, after_adding, IsFree}
 use Rattle.accrual.specs.Totals.{Totals, HasRow}
 use Rattle.plain_office.specs.Office.{Books, of_version}
 use Rattle.plain_office.specs.Books.{is_open_stay, with_version, without_option}
 use Rattle.plain_office.specs.Counts.{tag_bytes_of}
 use Rattle.plain_office.specs.Orderly.{stay_of_version, lines_since}
+use Rattle.office_types.specs.declared.refusal.Refusal.{Refusal}
+use Rattle.office_types.specs.declared.refusal.Refusal.TheVariants.{NoSuchKey, NoSuchVersion}
 use Rattle.bucket_account.specs.declared.counts.Counts.{Counts}
 use Rattle.bucket_account.specs.declared.incoming.Incoming.{Incoming}
 use Rattle.bucket_account.specs.declared.incoming.Leaving.{Leaving}
@@ -126,3 +129,42 @@ pub record AreMovable (counts : Counts) (bytes : ℕ) : Type 0 where
   pub versions : counts.versions ≤ 400_000
   pub names : counts.names ≤ 2 ^ 32
   pub gone : bytes ≤ counts.names
+
+-- ---- a version that goes from under a key of these stacks
+
+abbrev pub taken_of : List ℕ → VersionId → List (List ℕ × StackRecord) → Option Version
+taken_of key id stacks = version_at id (stack_under key stacks).versions
+
+-- the bytes of a key that goes with its last version
+abbrev pub lost_bytes : List ℕ → List Version → ℕ
+lost_bytes key versions = if length versions == 1 then length key else 0
+
+-- the counts after it went with so many bytes of its key
+abbrev pub counts_taken : ℕ → Option Leaving → Counts → Counts
+counts_taken key_bytes gone counts = record counts {
+  versions = counts.versions - gone_versions gone;
+  names = counts.names - (key_bytes + gone_bytes gone);
+}
+
+abbrev pub counts_from : List ℕ → VersionId → StackRecord → Counts → Counts
+counts_from key id stack counts =
+    counts_taken (lost_bytes key stack.versions) (option_map leaving_of (version_at id stack.versions)) counts
+
+-- counts from which this can be taken
+pub record AreTakable (counts : Counts) (key_bytes : ℕ) (gone : Option Leaving) : Type 0 where
+  pub versions : gone_versions gone ≤ counts.versions
+  pub names : key_bytes + gone_bytes gone ≤ counts.names
+
+-- it may go from this stack, where it is and has its lines since a moment that is not later
+pub record MayGo (id : VersionId) (at : ℕ) (stack : StackRecord) : Type 0 where
+  pub there : IsSome (version_at id stack.versions)
+  pub later : stack.changed ≤ at
+  pub since : IsSinceBy at (version_at id stack.versions)
+
+-- what a version is refused for that is not under its key, the key before the version (own)
+abbrev pub missing_from : VersionId → Option StackRecord → Option Refusal
+missing_from id None = Some NoSuchKey
+missing_from id (Some stack) = if is_some (version_at id stack.versions) then None else Some NoSuchVersion
+
+abbrev pub missing : List ℕ → VersionId → List (List ℕ × StackRecord) → Option Refusal
+missing key id stacks = missing_from id (at_name key stacks)

@@ -3,4 +3,5 @@ pub mod Changing
 pub mod Counting
 pub mod Effects
 pub mod Standing
+pub mod Tagging
 pub mod Uploading

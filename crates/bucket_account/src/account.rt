@@ -7,6 +7,7 @@ ghost use Rattle.plain_office.specs.Step.{new_account};
 ghost use Rattle.plain_office.specs.Counts.{version_count};
 ghost use Rattle.plain_office.specs.Answers.{class_meters, rule_count};
 ghost use Rattle.office_types.specs.Fits.{ReplyFits};
+ghost use Rattle.office_types.specs.declared.reply.Reply.TheVariants.{NothingDue};
 ghost use Rattle.bucket_account.specs.Changing.{change_of, limits_of, IsOrderlyAccount, DoesTold};
 ghost use Rattle.bucket_account.specs.Counting.{AreCountsOver, IsWithinBy, HasGrownBy};
 ghost use Rattle.bucket_account.specs.Standing.{StandsForAccount, most_commands};
@@ -89,10 +90,12 @@ impl Account {
         requires room { (accepted : ℕ) × (accepted < most_commands) × IsWithinBy accepted self.old }
         requires counts { AreCountsOver self.old.bucket counts }
         ensures done { (account : plain.Account) → StandsForAccount self.old account → IsOrderlyAccount t account
-            → DoesTold (limits_of command.now self.old.bucket) (change_of t command.now account) account counts self.new result }
+            → DoesTold (limits_of command.now self.old.bucket) (change_of t command.now account) account counts
+            self.new result }
         ensures fits { IfOk result (λ done. ReplyFits done.reply) }
         ensures room { OnOk result (HasGrownBy 3 1 self.old self.new) }
         ensures room_kept { OnErr result (HasGrownBy 0 0 self.old self.new) }
+        ensures nothing { IfOk result (λ done. done.reply ≡ NothingDue → HasGrownBy 0 0 self.old self.new) }
     {
         let done = change(
             &mut self.bucket,

@@ -1,8 +1,9 @@
 // The first lifecycle action that is due is done.
-ghost use Rattle.std.specs.Prelude.{◌+◌, ◌<◌, ◌≤◌, ◌∷◌, [], ℕ, OnOk, OnErr, IfOk};
+ghost use Rattle.std.specs.Prelude.{◌≡◌, ◌+◌, ◌<◌, ◌≤◌, ◌∷◌, [], ℕ, OnOk, OnErr, IfOk};
 ghost use Rattle.plain_office.specs.Office as plain;
 ghost use Rattle.plain_office.specs.Step.{act};
 ghost use Rattle.office_types.specs.Fits.{ReplyFits};
+ghost use Rattle.office_types.specs.declared.reply.Reply.TheVariants.{NothingDue};
 ghost use Rattle.bucket_account.specs.Changing.{IsOrderlyAccount, DoesTold};
 ghost use Rattle.bucket_account.specs.Counting.{account_of, AreCountsOver, IsWithinBy, HasGrownBy, IsFewMore};
 ghost use Rattle.bucket_account.specs.Standing.{StandsForAccount, most_commands};
@@ -34,6 +35,8 @@ pub(crate) fn act(
     ensures room { OnOk result (HasGrownBy 3 1 (account_of bucket.old meters.old) (account_of bucket.new meters.new)) }
     ensures room_kept { OnErr result (HasGrownBy 0 0 (account_of bucket.old meters.old)
         (account_of bucket.new meters.new)) }
+    ensures nothing { IfOk result (λ done. done.reply ≡ NothingDue
+        → HasGrownBy 0 0 (account_of bucket.old meters.old) (account_of bucket.new meters.new)) }
     ensures few { IfOk result (IsFewMore counts) }
     ensures fits { IfOk result (λ done. ReplyFits done.reply) }
 {

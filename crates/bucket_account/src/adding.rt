@@ -78,7 +78,10 @@ fn put_kind(stack: &mut Stack, incoming: Incoming) -> Result<Option<Version>, No
     } = incoming;
     match kind {
         Kind::Object {
-            size, class, tags, ..
+            size,
+            class,
+            tags,
+            ..
         } => stack.put(versioning, number, size, class, tags, at),
         Kind::Marker => stack.put_marker(versioning, number, at),
     }
@@ -189,7 +192,8 @@ pub(crate) fn put_version(
 ) -> Result<Counts, Refusal>
     requires rises { Rises bytes_cmp stacks.old.entries }
     requires ready { IsReady incoming (stack_under key.now stacks.old.entries) }
-    requires room { AreMovable counts (gone_bytes (option_map leaving_of (gone_of key.now incoming stacks.old.entries))) }
+    requires room { AreMovable counts
+        (gone_bytes (option_map leaving_of (gone_of key.now incoming stacks.old.entries))) }
     requires few { meters.old.booked + 2 ≤ most_bookings }
     requires open { (books : Books) × StandsFor meters.old (book_of books)
         × MayHaveStay key.now (gone_of key.now incoming stacks.old.entries) books }
@@ -265,7 +269,15 @@ pub(crate) fn add_version(
         kind,
         at,
     };
-    let after = put_version(&mut bucket.stacks, meters, alloc, key, incoming, whats, counts)?;
+    let after = put_version(
+        &mut bucket.stacks,
+        meters,
+        alloc,
+        key,
+        incoming,
+        whats,
+        counts,
+    )?;
     bucket.next_version = next_number(versioning, number);
     Ok(after)
 }

@@ -2,6 +2,7 @@
 ghost use Rattle.std.specs.Prelude.{◌≡◌, ◌+◌, ◌<◌, ◌≤◌, ℕ, OnOk, OnErr, IfOk};
 ghost use Rattle.plain_office.specs.Office as plain;
 ghost use Rattle.office_types.specs.Fits.{ReplyFits};
+ghost use Rattle.office_types.specs.declared.reply.Reply.TheVariants.{NothingDue};
 ghost use Rattle.bucket_account.specs.Changing.{change_of, limits_of, IsOrderlyAccount, DoesTold};
 ghost use Rattle.plain_office.specs.Counts.{rules_bytes};
 ghost use Rattle.bucket_account.specs.Counting.{account_of, IsFewMore, AreCountsOver, IsWithinBy, HasGrownBy};
@@ -51,6 +52,8 @@ pub(crate) fn change(
     ensures room { OnOk result (HasGrownBy 3 1 (account_of bucket.old meters.old) (account_of bucket.new meters.new)) }
     ensures room_kept { OnErr result (HasGrownBy 0 0 (account_of bucket.old meters.old)
         (account_of bucket.new meters.new)) }
+    ensures nothing { IfOk result (λ done. done.reply ≡ NothingDue
+        → HasGrownBy 0 0 (account_of bucket.old meters.old) (account_of bucket.new meters.new)) }
     ensures few { IfOk result (IsFewMore counts) }
     ensures fits { IfOk result (λ done. ReplyFits done.reply) }
 {
@@ -71,10 +74,10 @@ pub(crate) fn change(
         } => put(bucket, meters, alloc, t, key, *size, *class, tags, counts),
         Command::Delete { key, .. } => delete(bucket, meters, alloc, t, key, counts),
         Command::DeleteVersion { key, id, .. } => {
-            delete_version(bucket, meters, t, key, *id, counts)
+            delete_version(bucket, meters, t, key, id, counts)
         }
         Command::SetTags { key, id, tags, .. } => {
-            set_tags(bucket, meters, t, key, *id, tags, counts)
+            set_tags(bucket, meters, t, key, id, tags, counts)
         }
         Command::StartUpload {
             key,

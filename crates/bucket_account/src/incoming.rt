@@ -1,5 +1,5 @@
 // A version that comes, and the version that it replaces.
-ghost use Rattle.std.specs.Prelude.{◌≡◌, ◌≤◌, ◌<◌, ◌*◌, length, option_map, IsTrue};
+ghost use Rattle.std.specs.Prelude.{◌≡◌, ◌≤◌, ◌<◌, ◌*◌, length, option_map, option_copied, IsTrue};
 ghost use Rattle.std.specs.List.{list_all};
 ghost use Rattle.office_base.specs.Tags.{is_tag, tags_of};
 ghost use Rattle.plain_office.specs.Counts.{tag_bytes};
@@ -101,11 +101,18 @@ fn leave_of(version: &Version) -> Leaving
     }
 }
 
-/// Tells of the version with this id what has to be known before it goes.
-pub(crate) fn leaving_at(versions: &[Version], id: VersionId) -> Option<Leaving>
-    ensures { result ≡ option_map leaving_of (version_at id versions.now) }
+/// Finds the version with this id.
+pub(crate) fn version_at<'v>(versions: &'v [Version], id: &VersionId) -> Option<&'v Version>
+    ensures { option_copied result ≡ version_at id.now versions.now }
 {
-    match versions.iter().find(|version| is_same(id, version.id)) {
+    versions.iter().find(|version| is_same(*id, version.id))
+}
+
+/// Tells of the version with this id what has to be known before it goes.
+pub(crate) fn leaving_at(versions: &[Version], id: &VersionId) -> Option<Leaving>
+    ensures { result ≡ option_map leaving_of (version_at id.now versions.now) }
+{
+    match version_at(versions, id) {
         Some(version) => Some(leave_of(version)),
         None => None,
     }
@@ -117,7 +124,7 @@ pub(crate) fn replaced(versioning: Versioning, versions: &[Version]) -> Option<L
 {
     match versioning {
         Versioning::Enabled => None,
-        Versioning::Unversioned | Versioning::Suspended => leaving_at(versions, VersionId::Null),
+        Versioning::Unversioned | Versioning::Suspended => leaving_at(versions, &VersionId::Null),
     }
 }
 

@@ -1,4 +1,4 @@
-use Rattle.std.proofs.Common.{◌≤◌, ◌+◌, ℕ, sym, ap, ◌∙◌, subst, arith}
+use Rattle.std.proofs.Common.{sym, ◌∙◌, subst}
 use Rattle.std.specs.Prelude.{Result}
 use Rattle.due_core.specs.Buckets.{BucketRecord}
 use Rattle.plain_office.specs.Office.{Account, book_of}

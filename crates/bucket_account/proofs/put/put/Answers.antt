@@ -1,4 +1,4 @@
-use Rattle.std.proofs.Common.{List, ◌∷◌, [], sym, ap, ◌∙◌, subst}
+use Rattle.std.proofs.Common.{List, ◌∷◌, [], ap, ◌∙◌, subst}
 use Rattle.std.specs.Prelude.{Result, Ok, Err}
 use Rattle.due_core.specs.Buckets.{BucketRecord}
 use Rattle.office_base.specs.Tags.{Tag}
