@@ -1,10 +1,6 @@
 -- A value set in its place in a map.
 use Rattle.std.proofs.Common.{◌≡◌, ℕ, List, [], ◌∷◌, refl, ap, ◌∙◌, cond}
-<<<<<<< HEAD
-use Rattle.std.specs.Prelude.{Option, Some}
-=======
 use Rattle.std.specs.Prelude.{Some}
->>>>>>> 5a7cfa382bae4774bf2e136bc7bd060c173a20a8
 use Rattle.std.specs.Bool.{IsTrue}
 use Rattle.std.specs.declared.cmp.Ordering.{Ordering}
 use Rattle.std.specs.declared.cmp.Ordering.TheVariants.{Less, Equal, Greater}
