@@ -1,5 +1,6 @@
 pub mod Accepted
 pub mod Acting
+pub mod Completed
 pub mod Deletes
 pub mod Doing
 pub mod Ending

@@ -55,7 +55,7 @@ module _ (account : Account) (number place size t : ℕ) (upload : UploadRecord)
   more_by None is = added_length (place, new_part size t) upload.parts (with_number place (new_part size t) upload.parts) (added by_number place (new_part size t) upload.parts is)
   more_by (Some part) is =
       let same = replaced_length (place, part) (place, new_part size t) upload.parts (with_number place (new_part size t) upload.parts)
-          (replaced by_number place (new_part size t) part upload.parts whole.parts is) in
+      (replaced by_number place (new_part size t) part upload.parts whole.parts is) in
       omega (arith, same)
 
   more : length new.parts ≡ length upload.parts + cond (is_some (part_at place upload.parts)) 0 1
@@ -75,7 +75,7 @@ module _ (account : Account) (number place size t : ℕ) (upload : UploadRecord)
     part_moved Versions = refl
     part_moved Uploads =
         let same = replaced_length (number, upload) (number, new) account.bucket.uploads (with_number number new account.bucket.uploads)
-            (replaced by_number number new upload account.bucket.uploads orderly.bucket.numbers there) in
+        (replaced by_number number new upload account.bucket.uploads orderly.bucket.numbers there) in
         omega (arith, same)
     part_moved Parts = let sum = sums (λ (upload : ℕ × UploadRecord). length upload.1.parts) in let one = more in omega (arith, sum, one)
     part_moved Names = let sum = sums (λ (upload : ℕ × UploadRecord). length upload.1.key + tag_bytes upload.1.tags) in omega (arith, sum)

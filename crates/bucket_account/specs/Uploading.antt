@@ -82,7 +82,7 @@ books_with_part number upload place size at books =
 -- the counts once a part with this number came
 abbrev pub counts_with_part : ℕ → UploadRecord → Counts → Counts
 counts_with_part place upload counts =
-    record counts { parts = counts.parts + (if is_some (part_at place upload.parts) then 0 else 1); }
+    record counts { parts = counts.parts + (if is_some (part_at place upload.parts) then 0 else 1) }
 
 -- why a part is not put
 abbrev pub IsPartRefused : ℕ → ℕ → ℕ → UploadRecord → Counts → Refusal → Type 0

@@ -102,7 +102,15 @@ pub(crate) fn put_whole(
 {
     let at = incoming.at;
     reserve(meters, first_put(upload, at), at)?;
-    let counts = put_version(stacks, meters, alloc, upload.key(), incoming, &ADDED, counts)?;
+    let counts = put_version(
+        stacks,
+        meters,
+        alloc,
+        upload.key(),
+        incoming,
+        &ADDED,
+        counts,
+    )?;
     end_parts(meters, upload, at);
     Ok(counts)
 }

@@ -10,10 +10,12 @@ ghost use Rattle.bucket_account.specs.Counting.{account_of, AreCountsOver, IsWit
 ghost use Rattle.bucket_account.specs.Uploading.{counts_started};
 ghost use Rattle.bucket_account.specs.Standing.{StandsForAccount, most_commands};
 
+use crate::adding::next_number;
 use crate::change::Done;
+use crate::completing::{put_whole, whole};
 use crate::counts::Counts;
-use crate::dropping::remove_upload;
-use crate::incoming::tag_bytes;
+use crate::dropping::{remove_upload, without};
+use crate::incoming::{id_of, tag_bytes};
 use crate::parts::{put_in, with_part};
 use accrual::Meters;
 use class_rules::Class;
@@ -155,7 +157,16 @@ pub(crate) fn put_part(
     })
 }
 
-/// Makes an object of the parts of an upload.
+/// Makes an object of the parts of an upload, which goes.
+///
+/// Rule: S3 User Guide, "Uploading and copying objects using multipart upload": completion. Own rule: the object is
+/// created at the moment.
+/// Cost: what a put takes, two searches of the uploads, and two passes over the parts.
+///
+/// # Errors
+///
+/// `NoSuchUpload`: there is none with this number. `NoParts`: it has no part. `Full`: there would be more versions, or
+/// more bytes of keys and tags, than their limits. `NoMemory`: memory ran out. Nothing has then changed.
 pub(crate) fn complete(
     bucket: &mut Bucket,
     meters: &mut Meters,
@@ -179,8 +190,22 @@ pub(crate) fn complete(
     ensures few { IfOk result (IsFewMore counts) }
     ensures fits { IfOk result (λ done. ReplyFits done.reply) }
 {
-    let _ = counts;
-    Err(Refusal::NoMemory)
+    let (versioning, number) = (bucket.versioning, bucket.next_version);
+    let Some(kept) = bucket.uploads.get(&upload) else {
+        return Err(Refusal::NoSuchUpload);
+    };
+    let object = whole(kept, versioning, number, t)?;
+    let left = without(counts, kept);
+    let counts = put_whole(&mut bucket.stacks, meters, alloc, kept, object, left)?;
+    let _ = bucket.uploads.remove(&upload);
+    bucket.next_version = next_number(versioning, number);
+    Ok(Done {
+        counts,
+        reply: Reply::Stored {
+            moment: t,
+            version: id_of(versioning, number),
+        },
+    })
 }
 
 /// Drops an upload with its parts.
