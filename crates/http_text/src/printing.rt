@@ -73,13 +73,7 @@ fn phrase(status: StatusCode) -> &'static str
     }
 }
 
-fn put_head_with(
-    room: &mut [u8],
-    at: usize,
-    media: &str,
-    status: StatusCode,
-    size: usize,
-) -> usize
+fn put_head_with(room: &mut [u8], at: usize, media: &str, status: StatusCode, size: usize) -> usize
     ensures { Puts room.old at room.new result (head_with media.now status size) }
 {
     let at = put(room, at, b"HTTP/1.1 ");

@@ -10,10 +10,10 @@ use Rattle.http_text.proofs.report_body.report_text.Goals as goal
 
 pub loop-line-init : goal.loop-line-init
 loop-line-init c = (
-      c.in_ok-put_texts.ensures.ready,
-      c.in_ok-put_texts.ensures.bytes ∙ ap (λ o. append_known o (row_text default_writer header_row)) c.start-sheet.ensures.empty ∙ ap Some no_rows,
-      omega arith,
-    )
+  c.in_ok-put_texts.ensures.ready,
+  c.in_ok-put_texts.ensures.bytes ∙ ap (λ o. append_known o (row_text default_writer header_row)) c.start-sheet.ensures.empty ∙ ap Some no_rows,
+  omega arith,
+)
 
 pub loop-line-preserved : goal.loop-line-preserved
 loop-line-preserved c =
@@ -22,9 +22,9 @@ loop-line-preserved c =
     let line = c.line-item.result in (
       c.in_ok-put_line.ensures.ready,
       c.in_ok-put_line.ensures.bytes
-      ∙ ap (λ o. append_known o (row_text default_writer (line_row line))) c.loop-line.invariant.1
-      ∙ ap (λ (l : ReportLine). Some (rows_of (take i lines) ++ row_text default_writer (line_row l))) c.line-item.is
-      ∙ ap Some (sym (more_rows lines i line c.loop-line-test.true)),
+          ∙ ap (λ o. append_known o (row_text default_writer (line_row line))) c.loop-line.invariant.1
+          ∙ ap (λ (l : ReportLine). Some (rows_of (take i lines) ++ row_text default_writer (line_row l))) c.line-item.is
+          ∙ ap Some (sym (more_rows lines i line c.loop-line-test.true)),
       omega (arith, sum_by-drop_more (λ (l : ReportLine). l.charge) lines i line c.loop-line-test.true, ap (λ (l : ReportLine). l.charge) c.line-item.is, c.loop-line.invariant.2),
     )
 
