@@ -1,5 +1,5 @@
 -- Bytes that are said one after another, and calls and texts of two parts of a session.
-use Rattle.std.proofs.Common.{◌≡◌, ℕ, List, [], ◌++◌, take, sym, ap, subst, ◌∙◌, append_assoc, append-nil, Option, Some, None, Result, Err, inr}
+use Rattle.std.proofs.Common.{◌≡◌, ℕ, List, [], ◌++◌, take, sym, ap, subst, ◌∙◌, append_assoc, append-nil, Option, Some, None, Result, Err, inl, inr}
 use Rattle.std.specs.Prelude.{◌⊎◌}
 use Rattle.std.specs.Io.KnownBytes.{Appends}
 use Rattle.desk_core.specs.Answers.{Answer}
