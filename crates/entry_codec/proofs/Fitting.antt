@@ -1,12 +1,12 @@
 -- Values in range are values of their fields, and commands of such values fit.
-use Rattle.std.proofs.Common.{◌≡◌, ◌&&◌, nat_le, ℕ, ◌^◌, ◌<◌, ◌≤◌, Bool, true, false, List, [], ◌∷◌, length, refl, ap, arith}
+use Rattle.std.proofs.Common.{◌≡◌, nat_le, ℕ, ◌^◌, ◌<◌, ◌≤◌, Bool, true, false, List, [], ◌∷◌, length, refl, ap, arith}
 use Rattle.std.specs.List.{list_all}
 use Rattle.std.proofs.lemmas.Bool.{lt-ltb, le-leb}
 use Rattle.std.proofs.lemmas.Bool.Decides.{nat_tests}
-use Rattle.office_base.specs.Names.{IsBucketName, is_bucket_name}
-use Rattle.office_base.specs.Keys.{IsKey, is_key}
+use Rattle.office_base.specs.Names.{IsBucketName}
+use Rattle.office_base.specs.Keys.{IsKey}
 use Rattle.office_base.specs.Sizes.{largest_size}
-use Rattle.office_base.specs.Tags.{Tag, is_tag, keys_rise, AreTags}
+use Rattle.office_base.specs.Tags.{Tag, is_tag, AreTags}
 use Rattle.office_base.proofs.Sizes.{name_small, key_small}
 use Rattle.class_rules.specs.declared.class.Class.{Class}
 use Rattle.class_rules.specs.declared.class.Class.TheVariants.{Standard, StandardIa, OnezoneIa, GlacierIr, Glacier, DeepArchive}
@@ -14,8 +14,8 @@ use Rattle.office_base.specs.declared.version_id.VersionId.{VersionId}
 use Rattle.moments.specs.Months.{months, year_of, month_of_year, month_number}
 use Rattle.rules_core.specs.Configurations.{Configuration}
 use Rattle.office_types.specs.declared.command.Command.TheVariants as command
-use Rattle.std.specs.Int.{w8, w16, w64}
-use Rattle.entry_codec.specs.Formats.{Format, number, text, ◌such_that◌}
+use Rattle.std.specs.Int.{w8}
+use Rattle.entry_codec.specs.Formats.{Format, number, ◌such_that◌}
 use Rattle.entry_codec.specs.Fields.{Name, Key, Size, Rank, Tags, Rules, Status, Id, Number4, Number8, Year, Month, format, id_code, is_id, utf8_text, tag}
 use Rattle.entry_codec.specs.Spelling.{CommandFits}
 use Rattle.entry_codec.proofs.FormatLaws.{both, and_true}

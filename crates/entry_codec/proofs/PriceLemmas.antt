@@ -1,5 +1,5 @@
 -- The prices of a tariff, as fields and as two lists.
-use Rattle.std.proofs.Common.{◌≡◌, ◌∙◌, ℕ, zero, suc, ◌+◌, ◌-◌, ◌^◌, ◌<◌, ◌≤◌, Bool, true, false, ◌&&◌, List, [], ◌∷◌, ◌++◌, length, get_or, take, drop, Option, Some, None, Result, Ok, Err, refl, sym, ap, ap₂, subst, append_assoc, arith, length-append, length-drop}
+use Rattle.std.proofs.Common.{◌≡◌, ◌∙◌, ℕ, zero, suc, ◌+◌, ◌-◌, ◌^◌, ◌<◌, ◌≤◌, true, List, [], ◌∷◌, ◌++◌, length, get_or, take, drop, Result, Ok, Err, refl, sym, ap, ap₂, subst, append_assoc, arith}
 use Rattle.std.specs.Prelude.{slice_set}
 use Rattle.std.specs.List.{list_all, flat_map}
 use Rattle.std.proofs.lemmas.Bool.{lt-ltb, leb-true}
@@ -10,9 +10,8 @@ use Rattle.office_types.specs.declared.command.Command.TheVariants as command
 use Rattle.entry_codec.specs.declared.fault.EntryFault.{EntryFault}
 use Rattle.entry_codec.specs.declared.fault.EntryFault.TheVariants as faults
 use Rattle.entry_codec.specs.declared.kinds.Kind.TheVariants as kind
-use Rattle.entry_codec.specs.Formats.{Format}
 use Rattle.entry_codec.specs.Fields.{Field, Price, format}
-use Rattle.entry_codec.specs.Kinds.{Values, kind_format, fields_of, command_of, parts_of}
+use Rattle.entry_codec.specs.Kinds.{Values, kind_format, fields_of, command_of}
 use Rattle.entry_codec.specs.Spelling.{written_values, are_values, command_spelling, CommandFits}
 use Rattle.entry_codec.specs.Reading.{◌>>=◌, Fails, value_at, values_at, items_at, kind_at}
 use Rattle.entry_codec.proofs.FormatLaws.{both, and_true}

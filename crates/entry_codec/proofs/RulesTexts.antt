@@ -1,12 +1,10 @@
 -- The texts of configurations.
-use Rattle.std.proofs.Common.{◌≡◌, ◌∙◌, ℕ, ◌^◌, ◌<◌, Bool, true, false, ◌&&◌, List, length, Option, Some, None, Result, Ok, Err, refl, sym, ap, arith, is_none, if◌then◌else◌}
+use Rattle.std.proofs.Common.{◌≡◌, ◌∙◌, ℕ, ◌^◌, ◌<◌, Bool, true, false, ◌&&◌, List, length, Some, None, Result, Ok, Err, ap, arith, is_none, if◌then◌else◌}
 use Rattle.std.specs.Prelude.{option_and_then}
 use Rattle.std.specs.Result.{result_ok}
 use Rattle.std.specs.Str.{bytes_eq}
-use Rattle.std.specs.List.{list_all}
 use Rattle.std.proofs.lemmas.Bool.{lt-ltb}
-use Rattle.rules_core.specs.Conditions.{first_flaw}
-use Rattle.rules_core.specs.Configurations.{Configuration, has_name, has_midnights, has_texts, IsConfiguration}
+use Rattle.rules_core.specs.Configurations.{Configuration, IsConfiguration}
 use Rattle.rules_json.specs.Printing.{printed}
 use Rattle.rules_json.specs.Reading.{rules_of}
 use Rattle.rules_json.specs.declared.fault.RulesFault.{RulesFault}

@@ -1,4 +1,4 @@
-use Rattle.std.proofs.Common.{◌≡◌, true, ◌&&◌, sym, ap, subst, arith}
+use Rattle.std.proofs.Common.{◌≡◌, true, ◌&&◌, sym, subst, arith}
 use Rattle.std.specs.List.{list_all}
 use Rattle.tariff.specs.Prices.{is_price}
 use Rattle.office_types.specs.declared.command.Command.TheVariants as command
