@@ -13,9 +13,8 @@ ghost use Rattle.office_machine.specs.Standing.{StandsForOffice, Does, accepted_
 use crate::calendar::{month_numbered, number_of};
 use crate::commands::{copy_of, first_of};
 use crate::office::Office;
-use crate::stand_in::chosen;
 use bucket_account::Account;
-use due_core::{Action, Bucket};
+use due_core::{Action, Bucket, chosen};
 use moments::{Moment, Month, month_window};
 use office_base::BucketName;
 use office_types::{Refusal, Reply};
@@ -50,7 +49,8 @@ impl Office {
 
     /// Gives the prices with which a month may be closed: it is over, it is the first that is open, and prices are set.
     fn closing_tariff(&self, t: Moment, month: Month) -> Result<Tariff, Refusal>
-        ensures tests { (p : plain.Office) → StandsForOffice self.now p → close t month p ≡ closing_with t month p result }
+        ensures tests { (p : plain.Office) → StandsForOffice self.now p
+            → close t month p ≡ closing_with t month p result }
         ensures fits { IfErr result RefusalFits }
     {
         let number = number_of(month);

@@ -7,8 +7,9 @@ mod commands;
 mod office;
 mod queries;
 mod reports;
-mod stand_in;
 #[cfg(test)]
 mod tests;
+#[cfg(test)]
+mod trial;
 
 pub use office::Office;
