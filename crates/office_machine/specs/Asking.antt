@@ -1,5 +1,6 @@
 -- What the parts of a query's answer give, in the words of the plain office.
-use Rattle.std.specs.Prelude.{◌≡◌, ◌⊎◌, ℕ, Bool, not, ◌==◌, List, [], ◌∷◌, filter, flat_map, sum_by, Option, Some, None, option_map, Result, Ok, Err}
+use Rattle.std.specs.Prelude.{◌≡◌, ◌⊎◌, ℕ, Bool, not, ◌==◌, Option, Some, None, option_map, Result, Ok, Err}
+use Rattle.std.specs.Prelude.{List, [], ◌∷◌, filter, flat_map, sum_by}
 use Rattle.std.specs.List.{find}
 use Rattle.std.specs.Option.{ok_or}
 use Rattle.accrual.specs.Books.{IsBookedBy}
@@ -17,7 +18,8 @@ use Rattle.office_types.specs.declared.reply.Reply.{Reply}
 use Rattle.office_types.specs.declared.reply.Reply.TheVariants.{RulesShown, StackShown, UploadShown, TariffShown}
 use Rattle.office_types.specs.declared.reply.ReportLine.{ReportLine}
 use Rattle.office_types.specs.declared.refusal.Refusal.{Refusal}
-use Rattle.office_types.specs.declared.refusal.Refusal.TheVariants.{NoRules, NoSuchKey, NoSuchUpload, NoTariff, NoMemory}
+use Rattle.office_types.specs.declared.refusal.Refusal.TheVariants.{NoRules, NoSuchKey, NoSuchUpload, NoTariff}
+use Rattle.office_types.specs.declared.refusal.Refusal.TheVariants.{NoMemory}
 
 -- this is the answer, or memory is wanting
 abbrev pub IsAnswer : Result Reply Refusal → Result Reply Refusal → Type 0

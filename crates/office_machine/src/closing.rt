@@ -49,7 +49,8 @@ impl Office {
 
     /// Gives the prices with which a month may be closed: it is over, it is the first that is open, and prices are set.
     fn closing_tariff(&self, t: Moment, month: Month) -> Result<Tariff, Refusal>
-        ensures tests { (p : plain.Office) → StandsForOffice self.now p → close t month p ≡ closing_with t month p result }
+        ensures tests { (p : plain.Office) → StandsForOffice self.now p
+            → close t month p ≡ closing_with t month p result }
         ensures fits { IfErr result RefusalFits }
     {
         let number = number_of(month);

@@ -9,5 +9,7 @@ mod queries;
 mod reports;
 #[cfg(test)]
 mod tests;
+#[cfg(test)]
+mod trial;
 
 pub use office::Office;

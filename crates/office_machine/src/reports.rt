@@ -1,5 +1,6 @@
 // The report of a month.
-ghost use Rattle.std.specs.Prelude.{◌≡◌, ◌+◌, ◌*◌, ◌^◌, ◌≤◌, ◌++◌, ◌∷◌, [], ◌==◌, ℕ, List, length, filter, flat_map, OnOk, IfOk, IfErr, IsTrue};
+ghost use Rattle.std.specs.Prelude.{◌≡◌, ◌+◌, ◌*◌, ◌^◌, ◌≤◌, ◌==◌, ℕ, IsTrue, OnOk, IfOk, IfErr};
+ghost use Rattle.std.specs.Prelude.{List, [], ◌∷◌, ◌++◌, length, filter, flat_map};
 ghost use Rattle.plain_office.specs.Office as plain;
 ghost use Rattle.plain_office.specs.Answers.{answer};
 ghost use Rattle.plain_office.specs.Charges.{tariff_for};
@@ -8,7 +9,8 @@ ghost use Rattle.std.specs.List.{AllByRecursion};
 ghost use Rattle.tariff.specs.Charges.{charge_of, move_charge_of};
 ghost use Rattle.office_types.specs.Fits.{AnswerFits};
 ghost use Rattle.office_types.specs.declared.command.Query.TheVariants as query;
-ghost use Rattle.office_machine.specs.Asking.{IsAnswer, IsBookedIn, entry_lines, metered_lines, has_quantity, charges, closed_at};
+ghost use Rattle.office_machine.specs.Asking.{IsAnswer, IsBookedIn, closed_at, charges};
+ghost use Rattle.office_machine.specs.Asking.{entry_lines, metered_lines, has_quantity};
 ghost use Rattle.office_machine.specs.Lines.{line_of};
 ghost use Rattle.office_machine.specs.Standing.{StandsForOffice, StandForAccounts};
 
@@ -115,7 +117,8 @@ fn push_class(
     name: &BucketName,
     used: &ClassMeters,
 ) -> Result<(), Refusal>
-    ensures lines { OnOk result (lines.new.items ≡ lines.old.items ++ metered_lines tariff.now month name.now used.now) }
+    ensures lines { OnOk result (lines.new.items
+        ≡ lines.old.items ++ metered_lines tariff.now month name.now used.now) }
     ensures small { OnOk result (charges lines.new.items ≤ charges lines.old.items + 3 * 2 ^ 100) }
     ensures refusal { IfErr result (λ refusal. refusal ≡ Refusal.NoMemory) }
 {
