@@ -6,14 +6,13 @@ use Rattle.std.proofs.lemmas.List.Sums.{fold-append}
 use Rattle.moments.specs.Time.{end_of_time}
 use Rattle.rules_core.specs.Matching.{matches_upload}
 use Rattle.rules_core.specs.Configurations.{Configuration}
-use Rattle.rules_core.specs.declared.rule.Rule.{Rule}
 use Rattle.stacks.specs.Stacks.{StackRecord}
 use Rattle.uploads.specs.Uploads.{UploadRecord}
 use Rattle.due_core.specs.Buckets.{BucketRecord}
 use Rattle.due_core.specs.RuleActions.{DueAction, Placed, placed_from, matches_version, version_actions, upload_actions}
 use Rattle.due_core.specs.Candidates.{timely, stack_candidates, upload_candidates, eligible_by, eligible, candidates}
 use Rattle.due_core.specs.Choice.{comes_before, least, choice}
-use Rattle.due_core.specs.Search.{Aim, with_come, first_come, with_due, first_due, aimed, setting_of, asked_of_version, version_candidates, key_candidates, asked_of_upload, number_candidates}
+use Rattle.due_core.specs.Search.{Aim, with_come, first_come, first_due, aimed, setting_of, key_candidates, number_candidates}
 use Rattle.due_core.specs.declared.action.Candidate.{Candidate}
 use Rattle.due_core.specs.declared.action.Target.TheVariants as target
 use Rattle.due_core.proofs.Loops.{picked_twice, same_flat}

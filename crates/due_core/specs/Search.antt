@@ -1,19 +1,21 @@
 -- How the first of the candidates is found in one pass: what is the first so far, with the next one looked at.
-use Rattle.std.specs.Prelude.{ℕ, max, List, [], fold, flat_map, nat_lt, nat_le, Option, Some, None, if◌then◌else◌}
+use Rattle.std.specs.Prelude.{ℕ, ◌-◌, ◌==◌, ◌++◌, max, List, [], fold, flat_map, nat_lt, nat_le, Option, Some, None, if◌then◌else◌}
 use Rattle.std.specs.List.{enumerate_from}
 use Rattle.moments.specs.Time.{end_of_time}
 use Rattle.rules_core.specs.Matching.{matches_upload}
 use Rattle.rules_core.specs.Configurations.{Configuration}
 use Rattle.rules_core.specs.declared.rule.Rule.{Rule}
 use Rattle.stacks.specs.Stacks.{StackRecord}
+use Rattle.stacks.specs.declared.version.Version.{Version}
 use Rattle.uploads.specs.Uploads.{UploadRecord}
 use Rattle.due_core.specs.Buckets.{BucketRecord}
 use Rattle.due_core.specs.Candidates.{timely}
 use Rattle.due_core.specs.Choice.{comes_before}
-use Rattle.due_core.specs.RuleActions.{DueAction, Placed, placed_from, version_actions, matches_version, upload_actions}
+use Rattle.due_core.specs.RuleActions.{DueAction, Placed, placed_from, object_actions, noncurrent_removals, noncurrent_transitions, version_actions, matches_version, upload_actions}
 use Rattle.due_core.specs.declared.action.Target.{Target}
 use Rattle.due_core.specs.declared.action.Target.TheVariants as target
 use Rattle.due_core.specs.declared.action.Candidate.{Candidate}
+use Rattle.due_core.specs.declared.asked.Held.{Held}
 use Rattle.due_core.specs.declared.asked.Setting.{Setting}
 
 -- the earlier one of the first so far and the next
@@ -64,6 +66,14 @@ first_due aim best asked = fold (with_due aim) best asked
 abbrev pub setting_of : BucketRecord → Configuration → ℕ → Setting
 setting_of bucket rules t =
     record { versioning = bucket.versioning; mode = rules.mode; rules_since = bucket.rules_since; t = t }
+
+-- what a rule asks of an object with so many newer versions
+abbrev pub asked_of_object : Setting → Rule → Held → Version → ℕ → List DueAction
+asked_of_object setting rule object version newer =
+    if newer == 0
+    then object_actions setting.versioning setting.mode rule object.size object.class version.created
+    else noncurrent_removals rule (newer - 1) version.ceased
+    ++ noncurrent_transitions setting.mode rule object.size object.class (newer - 1) version.ceased
 
 -- what an enabled rule asks of a version that it matches, in a stack that changed last at this moment
 abbrev pub asked_of_version : Setting → List ℕ → ℕ → Placed → ℕ × Rule → List Candidate

@@ -1,8 +1,8 @@
 // What one rule asks of one version or upload.
-ghost use Rattle.std.specs.Prelude.{◌≡◌, ◌∷◌, ◌++◌, ◌-◌, ◌==◌, [], map, if◌then◌else◌};
+ghost use Rattle.std.specs.Prelude.{◌≡◌, ◌∷◌, ◌-◌, ◌==◌, [], map, if◌then◌else◌};
 ghost use Rattle.moments.specs.Time.{due, next_midnight};
-ghost use Rattle.due_core.specs.RuleActions.{expirations, expiring, expiration_actions, transition_actions, object_actions, noncurrent_removals, noncurrent_transitions, lone_marker_actions, keeps_newer, admits_move, due_when, version_actions, upload_actions};
-ghost use Rattle.due_core.specs.Search.{first_due};
+ghost use Rattle.due_core.specs.RuleActions.{expirations, expiring, expiration_actions, transition_actions, noncurrent_removals, noncurrent_transitions, lone_marker_actions, keeps_newer, admits_move, due_when, version_actions, upload_actions};
+ghost use Rattle.due_core.specs.Search.{first_due, asked_of_object};
 
 use crate::found::{Found, with_come};
 use crate::{ActionKind, Target};
@@ -310,9 +310,7 @@ impl<'a> Aim<'a> {
         newer: u64,
     ) -> Option<Found<'a>>
         ensures { result ≡ first_due self.now best.entry
-            (if newer == 0 then object_actions setting.now.versioning setting.now.mode rule.now object.now.size object.now.class version.now.created
-            else noncurrent_removals rule.now (newer - 1) version.now.ceased
-            ++ noncurrent_transitions setting.now.mode rule.now object.now.size object.now.class (newer - 1) version.now.ceased) }
+            (asked_of_object setting.now rule.now object.now version.now newer) }
     {
         if newer == 0 {
             let first = self.expiration(best, setting.versioning, rule, version.created);

@@ -141,7 +141,8 @@ fn upload<'a>(
     upload: &'a Upload,
 ) -> Option<Found<'a>>
     requires few { length rules.now ≤ 1_000 }
-    ensures { result ≡ first_come setting.now.t best.entry (number_candidates setting.now rules.now (place, upload.now)) }
+    ensures { result
+        ≡ first_come setting.now.t best.entry (number_candidates setting.now rules.now (place, upload.now)) }
 {
     let mut first = best;
     for i in 0..rules.len() {
@@ -154,7 +155,8 @@ fn upload<'a>(
 // Looks at what the rules ask of all versions.
 fn stacks<'a>(bucket: &'a Bucket, setting: &Setting, rules: &[Rule]) -> Option<Found<'a>>
     requires few { length rules.now ≤ 1_000 }
-    ensures { result ≡ first_come setting.now.t None (flat_map (key_candidates setting.now rules.now) bucket.now.stacks) }
+    ensures { result
+        ≡ first_come setting.now.t None (flat_map (key_candidates setting.now rules.now) bucket.now.stacks) }
 {
     let mut first = None;
     for (key, kept) in bucket.stacks.iter() {

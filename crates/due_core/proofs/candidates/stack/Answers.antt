@@ -1,6 +1,5 @@
-use Rattle.std.proofs.Common.{◌≡◌, ◌+◌, ◌-◌, List, drop, length, refl, ap, ◌∙◌, flat_map}
-use Rattle.stacks.specs.declared.version.Version.{Version}
-use Rattle.due_core.specs.RuleActions.{Placed, placed_from}
+use Rattle.std.proofs.Common.{refl, ap, ◌∙◌, flat_map}
+use Rattle.due_core.specs.RuleActions.{placed_from}
 use Rattle.due_core.specs.Search.{first_come, with_come, version_candidates}
 use Rattle.due_core.proofs.Loops.{placed_turn, placed_end}
 use Rattle.due_core.proofs.Places.{placed, older_left}

@@ -1,6 +1,6 @@
 use Rattle.std.proofs.Common.{◌+◌, refl}
 use Rattle.std.specs.List.{enumerate_from}
-use Rattle.due_core.specs.Search.{first_come, with_come, asked_of_version}
+use Rattle.due_core.specs.Search.{with_come, asked_of_version}
 use Rattle.due_core.proofs.Loops.{placed_turn, placed_end}
 use Rattle.due_core.proofs.candidates.version.Goals as goal
 

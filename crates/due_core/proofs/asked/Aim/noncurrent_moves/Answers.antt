@@ -1,6 +1,6 @@
 use Rattle.std.proofs.Common.{◌∙◌, ap, map, filter, ◌&&◌}
 use Rattle.moments.specs.Time.{due}
-use Rattle.due_core.specs.RuleActions.{DueAction, admits_move, keeps_newer}
+use Rattle.due_core.specs.RuleActions.{admits_move, keeps_newer}
 use Rattle.due_core.specs.Search.{first_due, with_due}
 use Rattle.due_core.specs.declared.action.ActionKind.TheVariants.{Transition}
 use Rattle.due_core.proofs.Loops.{end, picked_map}

@@ -1,5 +1,5 @@
 use Rattle.std.proofs.Common.{◌∙◌, ap, map, filter}
-use Rattle.due_core.specs.RuleActions.{DueAction, admits_move, due_when}
+use Rattle.due_core.specs.RuleActions.{admits_move, due_when}
 use Rattle.due_core.specs.Search.{first_due, with_due}
 use Rattle.due_core.specs.declared.action.ActionKind.TheVariants.{Transition}
 use Rattle.due_core.proofs.Loops.{end, picked_map}
