@@ -52,12 +52,13 @@ impl Tariff {
         let transition = members(&document, TariffTable::Transition, &empty);
         check_classes(alloc, TariffTable::Storage, storage)?;
         check_classes(alloc, TariffTable::Transition, transition)?;
-        let mut prices = ([0; 6], [0; 5]);
-        read_prices(TariffTable::Storage, storage, &mut prices.0)?;
-        read_prices(TariffTable::Transition, transition, &mut prices.1)?;
+        let mut stored = [0; 6];
+        let mut moved = [0; 5];
+        read_prices(TariffTable::Storage, storage, &mut stored)?;
+        read_prices(TariffTable::Transition, transition, &mut moved)?;
         Ok(Tariff {
-            storage: prices.0,
-            transition: prices.1,
+            storage: stored,
+            transition: moved,
         })
     }
 }

@@ -1,7 +1,7 @@
-use Rattle.std.proofs.Common.{◌≡◌, ◌∙◌, sym, ap, refl, rules, arith, length, drop, take, ◌++◌, ◌∷◌, [], ◌+◌, Ok, Err}
+use Rattle.std.proofs.Common.{◌≡◌, ◌∙◌, sym, ap, rules, arith, length, drop, take, ◌+◌, Ok, Err}
 use Rattle.std.proofs.lemmas.List.{length-set, take_more_set, take_all}
 use Rattle.toml.specs.View.{table_view}
-use Rattle.tariff.specs.Reading.{classes_of, price_in, prices_in}
+use Rattle.tariff.specs.Reading.{classes_of, prices_in}
 use Rattle.tariff.proofs.PriceLemmas.{joined, joined-nil, passed_on, prices_on, prices_refused, prices_read}
 use Rattle.tariff.proofs.read.read_prices.Goals as goal
 
