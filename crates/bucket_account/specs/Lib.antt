@@ -4,3 +4,4 @@ pub mod Counting
 pub mod Effects
 pub mod Standing
 pub mod Tagging
+pub mod Uploading

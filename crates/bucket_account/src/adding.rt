@@ -3,7 +3,7 @@ ghost use Rattle.std.specs.Prelude.{◌≡◌, ◌⊎◌, ◌+◌, ◌^◌, ◌<
 ghost use Rattle.office_base.specs.Maps.{bytes_cmp, at_name, with_name, Rises};
 ghost use Rattle.stacks.specs.Stacks.{IsFree, new_stack, replaced};
 ghost use Rattle.accrual.specs.Books.{Book};
-ghost use Rattle.accrual.specs.Totals.{StandsFor, most_bookings};
+ghost use Rattle.accrual.specs.Totals.{StandsFor, HasRow, most_bookings};
 ghost use Rattle.plain_office.specs.Office as plain;
 ghost use Rattle.plain_office.specs.Office.{Books, book_of};
 ghost use Rattle.plain_office.specs.Changes.{number_after, add_version};
@@ -24,7 +24,7 @@ use stacks::{Kind, Stack, Version, Versioning};
 use std::alloc::Global;
 use std::collections::BTreeMap;
 
-fn next_number(versioning: Versioning, number: u64) -> u64
+pub(crate) fn next_number(versioning: Versioning, number: u64) -> u64
     requires { number < 2 ^ 63 }
     ensures { result ≡ number_after versioning number }
 {
@@ -123,6 +123,7 @@ fn put_on(
     ensures stack_kept { OnErr result (stack.new ≡ stack.old) }
     ensures meters_kept { OnErr result ((book : Book) → StandsFor meters.old book → StandsFor meters.new book) }
     ensures refusal { IfErr result (λ refusal. refusal ≡ Refusal.NoMemory) }
+    ensures rows { (month : ℕ) → HasRow meters.old month → HasRow meters.new month }
     ensures booked { meters.new.booked ≤ meters.old.booked + 2 }
     ensures not_booked { OnErr result (meters.new.booked ≡ meters.old.booked) }
 {
@@ -154,6 +155,7 @@ fn put_first(
     ensures stacks_kept { OnErr result (stacks.new.entries ≡ stacks.old.entries) }
     ensures meters_kept { OnErr result ((book : Book) → StandsFor meters.old book → StandsFor meters.new book) }
     ensures refusal { IfErr result (λ refusal. refusal ≡ Refusal.NoMemory) }
+    ensures rows { (month : ℕ) → HasRow meters.old month → HasRow meters.new month }
     ensures booked { meters.new.booked ≤ meters.old.booked + 2 }
     ensures not_booked { OnErr result (meters.new.booked ≡ meters.old.booked) }
 {
@@ -206,6 +208,7 @@ pub(crate) fn put_version(
         ⊎ IsFullOf whats.now (counts_after key.now incoming stacks.old.entries counts) refusal) }
     ensures stacks_kept { OnErr result (stacks.new.entries ≡ stacks.old.entries) }
     ensures meters_kept { OnErr result ((book : Book) → StandsFor meters.old book → StandsFor meters.new book) }
+    ensures rows { (month : ℕ) → HasRow meters.old month → HasRow meters.new month }
     ensures booked { meters.new.booked ≤ meters.old.booked + 2 }
     ensures not_booked { OnErr result (meters.new.booked ≡ meters.old.booked) }
 {

@@ -20,6 +20,7 @@ use stacks::{Kind, Version};
 pub(crate) fn reserve(meters: &mut Meters, from: Moment, to: Moment) -> Result<(), Refusal>
     requires later { from ≤ to }
     ensures rows { OnOk result (HasRowsFrom from to meters.new) }
+    ensures kept { (month : ℕ) → HasRow meters.old month → HasRow meters.new month }
     ensures stands { (book : Book) → StandsFor meters.old book → StandsFor meters.new book }
     ensures booked { meters.new.booked ≡ meters.old.booked }
     ensures refusal { IfErr result (λ refusal. refusal ≡ Refusal.NoMemory) }

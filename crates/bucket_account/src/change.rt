@@ -61,7 +61,9 @@ pub(crate) fn change(
         Command::SetVersioning { enabled, .. } => {
             set_versioning(bucket, meters, t, *enabled, counts)
         }
-        Command::SetRules { rules, .. } => set_rules(bucket, meters, t, rules, counts, text_bytes),
+        Command::SetRules { rules, .. } => {
+            set_rules(bucket, meters, alloc, t, rules, counts, text_bytes)
+        }
         Command::DropRules { .. } => drop_rules(bucket, meters, t, counts, text_bytes),
         Command::Put {
             key,

@@ -1,5 +1,6 @@
 // The lifecycle configuration of a bucket is set or dropped.
-ghost use Rattle.std.specs.Prelude.{◌+◌, ◌<◌, ◌≤◌, ◌∷◌, [], ℕ, OnOk, OnErr, IfOk, ◌≡◌, Some, None};
+ghost use Rattle.std.specs.Prelude.{◌≡◌, ◌+◌, ◌-◌, ◌^◌, ◌<◌, ◌≤◌, ◌∷◌, [], ℕ, length, OnOk, OnErr, IfOk, IfErr};
+ghost use Rattle.rules_json.specs.Printing.{printed};
 ghost use Rattle.plain_office.specs.Office as plain;
 ghost use Rattle.plain_office.specs.Step.{set_rules, drop_rules};
 ghost use Rattle.plain_office.specs.Counts.{rules_bytes};
@@ -14,13 +15,50 @@ use crate::counts::Counts;
 use accrual::Meters;
 use due_core::Bucket;
 use moments::Moment;
-use office_types::Refusal;
+use office_types::{Refusal, Reply, What};
 use rules_core::RuleSet;
+use rules_json::print_rules;
+use std::alloc::Global;
+
+/// The count to which a configuration adds.
+const ADDED: [What; 1] = [What::Rules];
+
+/// Counts the bytes of a configuration's text.
+fn text_length(alloc: Global, rules: &RuleSet) -> Result<u64, Refusal>
+    ensures ok { IfOk result (λ bytes. bytes ≡ length (printed rules.now)) }
+    ensures refusal { IfErr result (λ refusal. refusal ≡ Refusal.NoMemory) }
+{
+    match print_rules(alloc, rules) {
+        Ok(text) => Ok(text.len() as u64),
+        Err(_) => Err(Refusal::NoMemory),
+    }
+}
+
+/// Gives the counts once a text of so many bytes has gone and another one has come.
+fn moved(counts: Counts, gone: u64, come: u64) -> Counts
+    requires some { gone ≤ counts.rules }
+    requires few { counts.rules + come < 2 ^ 64 }
+    ensures { result ≡ (record counts { rules = counts.rules - gone + come }) }
+{
+    Counts {
+        rules: counts.rules - gone + come,
+        ..counts
+    }
+}
 
 /// Sets the lifecycle configuration. The one before has a text of so many bytes.
+///
+/// Rule: S3 User Guide, "Setting an S3 Lifecycle configuration on a bucket": a configuration replaces the one before.
+/// Cost: one printing of the configuration, one copy of it.
+///
+/// # Errors
+///
+/// `Full`: the texts of all configurations would have more bytes than their limit.
+/// `NoMemory`: memory ran out. The bucket is unchanged after each.
 pub(crate) fn set_rules(
     bucket: &mut Bucket,
     meters: &mut Meters,
+    alloc: Global,
     t: Moment,
     rules: &RuleSet,
     counts: Counts,
@@ -34,18 +72,32 @@ pub(crate) fn set_rules(
     requires text { text_bytes ≡ rules_bytes bucket.old.rules }
     ensures done { (account : plain.Account) → StandsForAccount (account_of bucket.old meters.old) account
         → IsOrderlyAccount t account
-        → DoesTold (Rules ∷ []) (set_rules t rules.now account) account counts (account_of bucket.new meters.new) result }
+        → DoesTold (Rules ∷ []) (set_rules t rules.now account) account counts
+        (account_of bucket.new meters.new) result }
     ensures room { OnOk result (HasGrownBy 3 1 (account_of bucket.old meters.old) (account_of bucket.new meters.new)) }
     ensures room_kept { OnErr result (HasGrownBy 0 0 (account_of bucket.old meters.old)
         (account_of bucket.new meters.new)) }
     ensures few { IfOk result (IsFewMore counts) }
     ensures fits { IfOk result (λ done. ReplyFits done.reply) }
 {
-    let _ = counts;
-    Err(Refusal::NoMemory)
+    let count = rules.rules().len() as u32;
+    let counts = moved(counts, text_bytes, text_length(alloc, rules)?).within(&ADDED)?;
+    let Ok(kept) = rules.copy() else {
+        return Err(Refusal::NoMemory);
+    };
+    bucket.rules = Some(kept);
+    bucket.rules_since = t;
+    Ok(Done {
+        counts,
+        reply: Reply::RulesSet { rules: count },
+    })
 }
 
 /// Drops the lifecycle configuration, whose text has so many bytes.
+///
+/// # Errors
+///
+/// `NoRules`: there is none. The bucket is then unchanged.
 pub(crate) fn drop_rules(
     bucket: &mut Bucket,
     meters: &mut Meters,
@@ -61,13 +113,21 @@ pub(crate) fn drop_rules(
     requires text { text_bytes ≡ rules_bytes bucket.old.rules }
     ensures done { (account : plain.Account) → StandsForAccount (account_of bucket.old meters.old) account
         → IsOrderlyAccount t account
-        → DoesTold ([]) (drop_rules t account) account counts (account_of bucket.new meters.new) result }
+        → DoesTold ([]) (drop_rules t account) account counts
+        (account_of bucket.new meters.new) result }
     ensures room { OnOk result (HasGrownBy 3 1 (account_of bucket.old meters.old) (account_of bucket.new meters.new)) }
     ensures room_kept { OnErr result (HasGrownBy 0 0 (account_of bucket.old meters.old)
         (account_of bucket.new meters.new)) }
     ensures few { IfOk result (IsFewMore counts) }
     ensures fits { IfOk result (λ done. ReplyFits done.reply) }
 {
-    let _ = counts;
-    Err(Refusal::NoMemory)
+    if bucket.rules.is_none() {
+        return Err(Refusal::NoRules);
+    }
+    bucket.rules = None;
+    bucket.rules_since = t;
+    Ok(Done {
+        counts: moved(counts, text_bytes, 0),
+        reply: Reply::RulesSet { rules: 0 },
+    })
 }

@@ -1,24 +1,79 @@
 // Multipart uploads are started, filled, completed and aborted.
-ghost use Rattle.std.specs.Prelude.{◌+◌, ◌<◌, ◌≤◌, ◌∷◌, [], ℕ, OnOk, OnErr, IfOk};
+ghost use Rattle.std.specs.Prelude.{◌≡◌, ◌+◌, ◌^◌, ◌<◌, ◌≤◌, ◌∷◌, [], ℕ, None, OnOk, OnErr, IfOk, IfErr};
+ghost use Rattle.uploads.specs.Uploads.{new_upload};
 ghost use Rattle.plain_office.specs.Office as plain;
 ghost use Rattle.plain_office.specs.Step.{start_upload, put_part, complete, abort};
 ghost use Rattle.office_types.specs.declared.refusal.What.TheVariants.{Versions, Uploads, Parts, Names};
 ghost use Rattle.office_types.specs.Fits.{ReplyFits};
 ghost use Rattle.bucket_account.specs.Changing.{IsOrderlyAccount, DoesTold};
-ghost use Rattle.bucket_account.specs.Counting.{account_of, AreCountsOver, IsWithinBy, HasGrownBy, IsFewMore};
+ghost use Rattle.bucket_account.specs.Counting.{account_of, AreCountsOver, IsWithinBy, HasGrownBy, IsFewMore, first_over, IsFullOf};
+ghost use Rattle.bucket_account.specs.Uploading.{counts_started};
 ghost use Rattle.bucket_account.specs.Standing.{StandsForAccount, most_commands};
 
+use crate::adding::next_number;
 use crate::change::Done;
+use crate::completing::{put_whole, whole};
 use crate::counts::Counts;
+use crate::dropping::{remove_upload, without};
+use crate::incoming::{id_of, tag_bytes};
+use crate::parts::{put_in, with_part};
 use accrual::Meters;
 use class_rules::Class;
 use due_core::Bucket;
 use moments::Moment;
 use office_base::{Key, Tags};
-use office_types::Refusal;
+use office_types::{Refusal, Reply, What};
 use std::alloc::Global;
+use uploads::Upload;
+
+/// The counts to which an upload adds, in the order in which they are tested.
+const STARTED: [What; 2] = [What::Uploads, What::Names];
+
+/// Gives the counts once an upload has started, within their limits.
+fn counted(counts: Counts, key: &Key, tags: &Tags) -> Result<Counts, Refusal>
+    requires uploads { counts.uploads ≤ 40_000 }
+    requires names { counts.names ≤ 2 ^ 32 }
+    ensures ok { IfOk result (λ after. (after ≡ counts_started key.now tags.now counts)
+        × (first_over (Uploads ∷ Names ∷ []) after ≡ None)) }
+    ensures full { IfErr result (IsFullOf (Uploads ∷ Names ∷ []) (counts_started key.now tags.now counts)) }
+{
+    let after = Counts {
+        uploads: counts.uploads + 1,
+        names: counts.names + (key.bytes().len() as u64 + tag_bytes(tags)),
+        ..counts
+    };
+    after.within(&STARTED)
+}
+
+/// Gives an upload without parts.
+fn started(
+    alloc: Global,
+    key: &Key,
+    class: Class,
+    tags: &Tags,
+    t: Moment,
+) -> Result<Upload, Refusal>
+    ensures ok { IfOk result (λ upload. upload ≡ new_upload key.now class tags.now t) }
+    ensures refusal { IfErr result (λ refusal. refusal ≡ Refusal.NoMemory) }
+{
+    let Ok(key) = key.copy() else {
+        return Err(Refusal::NoMemory);
+    };
+    let Ok(tags) = tags.copy() else {
+        return Err(Refusal::NoMemory);
+    };
+    Ok(Upload::start(alloc, key, class, tags, t))
+}
 
 /// Starts an upload.
+///
+/// Rule: S3 User Guide, "Uploading and copying objects using multipart upload": initiation.
+/// Cost: one search of the uploads, and a copy of the key and the tags.
+///
+/// # Errors
+///
+/// `Full`: there would be more uploads, or more bytes of keys and tags, than their limits. `NoMemory`: memory ran
+/// out. Nothing has then changed.
 pub(crate) fn start_upload(
     bucket: &mut Bucket,
     meters: &mut Meters,
@@ -36,18 +91,37 @@ pub(crate) fn start_upload(
     requires counts { AreCountsOver bucket.old counts }
     ensures done { (account : plain.Account) → StandsForAccount (account_of bucket.old meters.old) account
         → IsOrderlyAccount t account
-        → DoesTold (Uploads ∷ Names ∷ []) (start_upload t key.now class tags.now account) account counts (account_of bucket.new meters.new) result }
+        → DoesTold (Uploads ∷ Names ∷ []) (start_upload t key.now class tags.now account) account counts
+        (account_of bucket.new meters.new) result }
     ensures room { OnOk result (HasGrownBy 3 1 (account_of bucket.old meters.old) (account_of bucket.new meters.new)) }
     ensures room_kept { OnErr result (HasGrownBy 0 0 (account_of bucket.old meters.old)
         (account_of bucket.new meters.new)) }
     ensures few { IfOk result (IsFewMore counts) }
     ensures fits { IfOk result (λ done. ReplyFits done.reply) }
 {
-    let _ = counts;
-    Err(Refusal::NoMemory)
+    let number = bucket.next_upload;
+    let counts = counted(counts, key, tags)?;
+    let upload = started(alloc, key, class, tags, t)?;
+    if bucket.uploads.insert(number, upload).is_err() {
+        return Err(Refusal::NoMemory);
+    }
+    bucket.next_upload = number + 1;
+    Ok(Done {
+        counts,
+        reply: Reply::UploadStarted { upload: number },
+    })
 }
 
-/// Puts a part of an upload.
+/// Puts a part of an upload. The one with its number goes.
+///
+/// Rule: S3 User Guide, "Uploading and copying objects using multipart upload": parts upload.
+/// Cost: one search of the uploads and four of the parts; where a new part is refused for the count, a copy of the
+/// upload besides.
+///
+/// # Errors
+///
+/// `NoSuchUpload`: there is none with this number. `BadPart`: the part is out of range. `Full`: there would be more
+/// parts than their limit. `NoMemory`: memory ran out. Nothing has then changed.
 pub(crate) fn put_part(
     bucket: &mut Bucket,
     meters: &mut Meters,
@@ -64,18 +138,35 @@ pub(crate) fn put_part(
     requires counts { AreCountsOver bucket.old counts }
     ensures done { (account : plain.Account) → StandsForAccount (account_of bucket.old meters.old) account
         → IsOrderlyAccount t account
-        → DoesTold (Parts ∷ []) (put_part t upload part size account) account counts (account_of bucket.new meters.new) result }
+        → DoesTold (Parts ∷ []) (put_part t upload part size account) account counts
+        (account_of bucket.new meters.new) result }
     ensures room { OnOk result (HasGrownBy 3 1 (account_of bucket.old meters.old) (account_of bucket.new meters.new)) }
     ensures room_kept { OnErr result (HasGrownBy 0 0 (account_of bucket.old meters.old)
         (account_of bucket.new meters.new)) }
     ensures few { IfOk result (IsFewMore counts) }
     ensures fits { IfOk result (λ done. ReplyFits done.reply) }
 {
-    let _ = counts;
-    Err(Refusal::NoMemory)
+    let Some(kept) = bucket.uploads.get_mut(&upload) else {
+        return Err(Refusal::NoSuchUpload);
+    };
+    let counts = with_part(counts, kept, part, size, t)?;
+    put_in(kept, meters, part, size, t)?;
+    Ok(Done {
+        counts,
+        reply: Reply::PartStored { part },
+    })
 }
 
-/// Makes an object of the parts of an upload.
+/// Makes an object of the parts of an upload, which goes.
+///
+/// Rule: S3 User Guide, "Uploading and copying objects using multipart upload": completion. Own rule: the object is
+/// created at the moment.
+/// Cost: what a put takes, two searches of the uploads, and two passes over the parts.
+///
+/// # Errors
+///
+/// `NoSuchUpload`: there is none with this number. `NoParts`: it has no part. `Full`: there would be more versions, or
+/// more bytes of keys and tags, than their limits. `NoMemory`: memory ran out. Nothing has then changed.
 pub(crate) fn complete(
     bucket: &mut Bucket,
     meters: &mut Meters,
@@ -91,18 +182,40 @@ pub(crate) fn complete(
     requires counts { AreCountsOver bucket.old counts }
     ensures done { (account : plain.Account) → StandsForAccount (account_of bucket.old meters.old) account
         → IsOrderlyAccount t account
-        → DoesTold (Versions ∷ Names ∷ []) (complete t upload account) account counts (account_of bucket.new meters.new) result }
+        → DoesTold (Versions ∷ Names ∷ []) (complete t upload account) account counts
+        (account_of bucket.new meters.new) result }
     ensures room { OnOk result (HasGrownBy 3 1 (account_of bucket.old meters.old) (account_of bucket.new meters.new)) }
     ensures room_kept { OnErr result (HasGrownBy 0 0 (account_of bucket.old meters.old)
         (account_of bucket.new meters.new)) }
     ensures few { IfOk result (IsFewMore counts) }
     ensures fits { IfOk result (λ done. ReplyFits done.reply) }
 {
-    let _ = counts;
-    Err(Refusal::NoMemory)
+    let (versioning, number) = (bucket.versioning, bucket.next_version);
+    let Some(kept) = bucket.uploads.get(&upload) else {
+        return Err(Refusal::NoSuchUpload);
+    };
+    let object = whole(kept, versioning, number, t)?;
+    let left = without(counts, kept);
+    let counts = put_whole(&mut bucket.stacks, meters, alloc, kept, object, left)?;
+    let _ = bucket.uploads.remove(&upload);
+    bucket.next_version = next_number(versioning, number);
+    Ok(Done {
+        counts,
+        reply: Reply::Stored {
+            moment: t,
+            version: id_of(versioning, number),
+        },
+    })
 }
 
 /// Drops an upload with its parts.
+///
+/// Rule: S3 User Guide, "Aborting a multipart upload".
+/// Cost: two passes over the parts.
+///
+/// # Errors
+///
+/// `NoSuchUpload`: there is none with this number. `NoMemory`: memory ran out. Nothing has then changed.
 pub(crate) fn abort(
     bucket: &mut Bucket,
     meters: &mut Meters,
@@ -117,13 +230,20 @@ pub(crate) fn abort(
     requires counts { AreCountsOver bucket.old counts }
     ensures done { (account : plain.Account) → StandsForAccount (account_of bucket.old meters.old) account
         → IsOrderlyAccount t account
-        → DoesTold ([]) (abort t upload account) account counts (account_of bucket.new meters.new) result }
+        → DoesTold ([]) (abort t upload account) account counts
+        (account_of bucket.new meters.new) result }
     ensures room { OnOk result (HasGrownBy 3 1 (account_of bucket.old meters.old) (account_of bucket.new meters.new)) }
     ensures room_kept { OnErr result (HasGrownBy 0 0 (account_of bucket.old meters.old)
         (account_of bucket.new meters.new)) }
     ensures few { IfOk result (IsFewMore counts) }
     ensures fits { IfOk result (λ done. ReplyFits done.reply) }
 {
-    let _ = counts;
-    Err(Refusal::NoMemory)
+    if !bucket.uploads.contains_key(&upload) {
+        return Err(Refusal::NoSuchUpload);
+    }
+    let counts = remove_upload(bucket, meters, upload, t, counts)?;
+    Ok(Done {
+        counts,
+        reply: Reply::Aborted { upload },
+    })
 }

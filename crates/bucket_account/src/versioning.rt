@@ -1,7 +1,7 @@
 // The versioning of a bucket is set.
-ghost use Rattle.std.specs.Prelude.{◌+◌, ◌<◌, ◌≤◌, ◌∷◌, [], ℕ, OnOk, OnErr, IfOk};
+ghost use Rattle.std.specs.Prelude.{◌≡◌, ◌+◌, ◌<◌, ◌≤◌, ◌∷◌, [], ℕ, OnOk, OnErr, IfOk, if◌then◌else◌};
 ghost use Rattle.plain_office.specs.Office as plain;
-ghost use Rattle.plain_office.specs.Step.{set_versioning};
+ghost use Rattle.plain_office.specs.Step.{is_unversioned, set_versioning};
 ghost use Rattle.office_types.specs.Fits.{ReplyFits};
 ghost use Rattle.bucket_account.specs.Changing.{IsOrderlyAccount, DoesTold};
 ghost use Rattle.bucket_account.specs.Counting.{account_of, AreCountsOver, IsWithinBy, HasGrownBy, IsFewMore};
@@ -12,9 +12,33 @@ use crate::counts::Counts;
 use accrual::Meters;
 use due_core::Bucket;
 use moments::Moment;
-use office_types::Refusal;
+use office_types::{Refusal, Reply};
+use stacks::Versioning;
 
-/// Sets whether a bucket keeps versions: enabled, or suspended.
+fn is_unversioned(versioning: Versioning) -> bool
+    ensures { result ≡ is_unversioned versioning }
+{
+    versioning == Versioning::Unversioned
+}
+
+fn versioning_of(enabled: bool) -> Versioning
+    ensures { result ≡ (if enabled then Versioning.Enabled else Versioning.Suspended) }
+{
+    if enabled {
+        Versioning::Enabled
+    } else {
+        Versioning::Suspended
+    }
+}
+
+/// Sets whether a bucket keeps versions: enabled, or suspended. No lifecycle action stands before the moment then, also
+/// where the bucket had this versioning before.
+///
+/// Rule: S3 User Guide, "Using versioning in S3 buckets".
+///
+/// # Errors
+///
+/// `NotEnabledBefore`: the bucket is to be suspended and was never enabled. It is then unchanged.
 pub(crate) fn set_versioning(
     bucket: &mut Bucket,
     meters: &mut Meters,
@@ -29,13 +53,22 @@ pub(crate) fn set_versioning(
     requires counts { AreCountsOver bucket.old counts }
     ensures done { (account : plain.Account) → StandsForAccount (account_of bucket.old meters.old) account
         → IsOrderlyAccount t account
-        → DoesTold ([]) (set_versioning t enabled account) account counts (account_of bucket.new meters.new) result }
+        → DoesTold ([]) (set_versioning t enabled account) account counts
+        (account_of bucket.new meters.new) result }
     ensures room { OnOk result (HasGrownBy 3 1 (account_of bucket.old meters.old) (account_of bucket.new meters.new)) }
     ensures room_kept { OnErr result (HasGrownBy 0 0 (account_of bucket.old meters.old)
         (account_of bucket.new meters.new)) }
     ensures few { IfOk result (IsFewMore counts) }
     ensures fits { IfOk result (λ done. ReplyFits done.reply) }
 {
-    let _ = counts;
-    Err(Refusal::NoMemory)
+    if !enabled && is_unversioned(bucket.versioning) {
+        return Err(Refusal::NotEnabledBefore);
+    }
+    let versioning = versioning_of(enabled);
+    bucket.versioning = versioning;
+    bucket.rules_since = t;
+    Ok(Done {
+        counts,
+        reply: Reply::VersioningSet { versioning },
+    })
 }

@@ -11,3 +11,6 @@ open-requires-clause-row c =
     let earlier : c.args.since ≤ at =
     subst (λ (n : ℕ). n ≤ at) (sym c.requires.since) (since_le at (replaced c.args.incoming.versioning c.args.stack.now.versions) c.requires.ready.since) in
     c.end_replaced.ensures.rows (month_at at) (c.in_ok-reserve.ensures.rows (month_at at) (month_at_order c.args.since at earlier) (omega arith))
+
+pub returns-clause-rows : goal.returns-clause-rows
+returns-clause-rows c = λ month has. c.open.ensures.rows month (c.end_replaced.ensures.rows month (c.in_ok-reserve.ensures.kept month has))
