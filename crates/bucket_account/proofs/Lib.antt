@@ -1,3 +1,4 @@
+pub mod Acting
 pub mod Accepted
 pub mod Completed
 pub mod Deletes
@@ -5,12 +6,15 @@ pub mod Doing
 pub mod Ending
 pub mod Gone
 pub mod Handed
+pub mod Moved
+pub mod Moves
 pub mod PartPut
 pub mod PartStays
 pub mod Parting
 pub mod Putting
 pub mod Removals
 pub mod Replacing
+pub mod RuleIds
 pub mod Rules
 pub mod SetAt
 pub mod Started

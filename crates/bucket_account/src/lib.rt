@@ -12,6 +12,7 @@ mod delete;
 mod dropping;
 mod incoming;
 mod lifecycle;
+mod moving;
 mod parts;
 mod put;
 mod removing;

@@ -23,7 +23,7 @@ use Rattle.due_core.proofs.Loops.{picked_twice, same_flat}
 due_by : (aim : Aim) (best : Option Candidate) (due : DueAction) (asked : List DueAction) (b : Bool)
     → ((o : Option Candidate) → first_due aim o asked ≡ first_come aim.t o (timely aim.key aim.target aim.rule aim.age aim.not_before asked))
     → first_due aim (cond b (with_come aim.t best (aimed aim due)) best) asked
-      ≡ first_come aim.t best (Rattle.std.proofs.Common.map (aimed aim) (cond b (due ∷ filter (λ due. nat_lt due.1 end_of_time) asked) (filter (λ due. nat_lt due.1 end_of_time) asked)))
+    ≡ first_come aim.t best (Rattle.std.proofs.Common.map (aimed aim) (cond b (due ∷ filter (λ due. nat_lt due.1 end_of_time) asked) (filter (λ due. nat_lt due.1 end_of_time) asked)))
 due_by aim best due asked true rest = rest (with_come aim.t best (aimed aim due))
 due_by aim best due asked false rest = rest best
 
@@ -59,7 +59,7 @@ has_come t candidate = nat_le candidate.action.since t
 some_by : (t : ℕ) (b x : Candidate) (xs : List Candidate) (come : Bool)
     → ((c : Candidate) → first_come t (Some c) xs ≡ Some (best_of comes_before c (filter (has_come t) xs)))
     → first_come t (cond come (Some (cond (comes_before x b) x b)) (Some b)) xs
-      ≡ Some (best_of comes_before b (cond come (x ∷ filter (has_come t) xs) (filter (has_come t) xs)))
+    ≡ Some (best_of comes_before b (cond come (x ∷ filter (has_come t) xs) (filter (has_come t) xs)))
 some_by t b x xs true rest = rest (cond (comes_before x b) x b)
 some_by t b x xs false rest = rest b
 
@@ -84,12 +84,12 @@ pub is_choice : (bucket : BucketRecord) (rules : Configuration) (t : ℕ) (versi
 unfolding choice candidates eligible
 is_choice bucket rules t versions all own is-versions is-all =
     ap (option_map (λ (c : Candidate). c.action)) (
-      is-all
-      ∙ ap (λ o. first_come t o (flat_map (number_candidates (setting_of bucket rules t) rules.rules) bucket.uploads)) is-versions
-      ∙ sym (fold-append (with_come t) None (flat_map (key_candidates (setting_of bucket rules t) rules.rules) bucket.stacks)
-      (flat_map (number_candidates (setting_of bucket rules t) rules.rules) bucket.uploads))
-      ∙ ap (first_come t None) (same_eligible bucket rules t ∙ ap (eligible_by bucket) (sym own))
-      ∙ first_none t (eligible_by bucket bucket.rules)
+    is-all
+    ∙ ap (λ o. first_come t o (flat_map (number_candidates (setting_of bucket rules t) rules.rules) bucket.uploads)) is-versions
+    ∙ sym (fold-append (with_come t) None (flat_map (key_candidates (setting_of bucket rules t) rules.rules) bucket.stacks)
+    (flat_map (number_candidates (setting_of bucket rules t) rules.rules) bucket.uploads))
+    ∙ ap (first_come t None) (same_eligible bucket rules t ∙ ap (eligible_by bucket) (sym own))
+    ∙ first_none t (eligible_by bucket bucket.rules)
     )
 
 -- and of one without

@@ -70,9 +70,9 @@ abbrev pub asked_of_version : Setting → List ℕ → ℕ → Placed → ℕ ×
 asked_of_version setting key changed placed numbered =
     if numbered.1.enabled
     then (
-      if matches_version numbered.1.filter key placed.version
-      then timely key (target.Version placed.version.id) numbered.0 placed.older (max changed setting.rules_since)
-      (version_actions setting.versioning setting.mode changed numbered.1 placed) else []
+    if matches_version numbered.1.filter key placed.version
+    then timely key (target.Version placed.version.id) numbered.0 placed.older (max changed setting.rules_since)
+    (version_actions setting.versioning setting.mode changed numbered.1 placed) else []
     )
     else []
 
@@ -89,9 +89,9 @@ abbrev pub asked_of_upload : Setting → ℕ → UploadRecord → ℕ × Rule �
 asked_of_upload setting number upload numbered =
     if numbered.1.enabled
     then (
-      if matches_upload numbered.1.filter upload.key
-      then timely upload.key (target.Upload number) numbered.0 number (max upload.changed setting.rules_since)
-      (upload_actions numbered.1 upload) else []
+    if matches_upload numbered.1.filter upload.key
+    then timely upload.key (target.Upload number) numbered.0 number (max upload.changed setting.rules_since)
+    (upload_actions numbered.1 upload) else []
     )
     else []
 

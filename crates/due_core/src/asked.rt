@@ -101,12 +101,7 @@ fn expiring(versioning: Versioning) -> ActionKind
 
 impl<'a> Aim<'a> {
     // Looks at an action that is due at a moment. It does not stand before its target or the rules changed.
-    fn at(
-        &self,
-        best: Option<Found<'a>>,
-        kind: ActionKind,
-        due: Moment,
-    ) -> Option<Found<'a>>
+    fn at(&self, best: Option<Found<'a>>, kind: ActionKind, due: Moment) -> Option<Found<'a>>
         ensures { result ≡ first_due self.now best.entry ((kind, due) ∷ []) }
     {
         let since = if due.ms() < self.not_before.ms() {

@@ -7,6 +7,8 @@ mod bucket;
 mod candidates;
 mod found;
 mod laws;
+#[cfg(test)]
+mod tests;
 
 pub use action::{Action, ActionKind, Candidate, Target};
 pub use bucket::Bucket;

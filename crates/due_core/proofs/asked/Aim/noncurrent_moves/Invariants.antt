@@ -10,5 +10,5 @@ use Rattle.due_core.proofs.asked.Aim.noncurrent_moves.Given as goal
 abbrev pub invariant-loop-step : goal.invariant-loop-step
 invariant-loop-step l =
     first_due l.self l.first (flat_map asked (drop l.step-index l.step-items)) ≡ first_due l.self l.fn.best (flat_map asked l.step-items) where
-  asked : NoncurrentMove → List DueAction
-  asked move = cond (keeps_newer move.newer l.newer && admits_move l.mode l.rule.filter l.object.class l.object.size move.to) ((Transition move.to, due l.ceased move.days) ∷ []) []
+      asked : NoncurrentMove → List DueAction
+      asked move = cond (keeps_newer move.newer l.newer && admits_move l.mode l.rule.filter l.object.class l.object.size move.to) ((Transition move.to, due l.ceased move.days) ∷ []) []

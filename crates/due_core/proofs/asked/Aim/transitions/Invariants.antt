@@ -9,5 +9,5 @@ use Rattle.due_core.proofs.asked.Aim.transitions.Given as goal
 abbrev pub invariant-loop-transition : goal.invariant-loop-transition
 invariant-loop-transition l =
     first_due l.self l.first (flat_map asked (drop l.transition-index l.transition-items)) ≡ first_due l.self l.fn.best (flat_map asked l.transition-items) where
-  asked : rule.Transition → List DueAction
-  asked transition = cond (admits_move l.mode l.rule.filter l.object.class l.object.size transition.to) ((Transition transition.to, due_when l.created transition.when) ∷ []) []
+      asked : rule.Transition → List DueAction
+      asked transition = cond (admits_move l.mode l.rule.filter l.object.class l.object.size transition.to) ((Transition transition.to, due_when l.created transition.when) ∷ []) []
