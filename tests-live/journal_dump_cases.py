@@ -62,6 +62,36 @@ def changed(data, place, byte):
     return data[:place] + bytes([byte]) + data[place + 1:]
 
 
+def each_kind():
+    """A command of each kind that messages ask for, and what is read of its entry."""
+    rules = {"Rules": [{"Expiration": {"Date": "2024-01-05T00:00:00.000Z"}, "Filter": {"Prefix": ""}, "ID": "r", "Status": "Enabled"}],
+             "TransitionDefaultMinimumObjectSize": "all_storage_classes_128K"}
+    at, tags = "/buckets/zoo", {"a": "1", "k": ""}
+    rows = [("PUT", at, None, "create-bucket", {}), ("PUT", f"{at}/versioning", {"Status": "Enabled"}, "set-versioning", {"status": "Enabled"}),
+            ("PUT", f"{at}/objects/x", {"size": 1, "tags": tags}, "put", {"key": "x", "size": 1, "class": "STANDARD", "tags": tags}),
+            ("PUT", f"{at}/tags/1/x", {"tags": {}}, "set-tags", {"key": "x", "version": 1, "tags": {}}),
+            ("DELETE", f"{at}/objects/x", None, "delete", {"key": "x"}),
+            ("DELETE", f"{at}/versions/1/x", None, "delete-version", {"key": "x", "version": 1}),
+            ("PUT", f"{at}/versioning", {"Status": "Suspended"}, "set-versioning", {"status": "Suspended"}),
+            ("POST", f"{at}/uploads/y", {"class": "GLACIER"}, "start-upload", {"key": "y", "class": "GLACIER", "tags": {}}),
+            ("PUT", f"{at}/parts/1/7", {"size": 9}, "put-part", {"upload": 1, "part": 7, "size": 9}),
+            ("POST", f"{at}/upload/1", None, "complete", {"upload": 1}),
+            ("DELETE", f"{at}/versions/null/y", None, "delete-version", {"key": "y", "version": "null"}),
+            ("POST", f"{at}/uploads/z", {}, "start-upload", {"key": "z", "class": "STANDARD", "tags": {}}),
+            ("DELETE", f"{at}/upload/2", None, "abort", {"upload": 2}),
+            ("PUT", f"{at}/objects/w", {"size": 3}, "put", {"key": "w", "size": 3, "class": "STANDARD", "tags": {}}),
+            ("PUT", f"{at}/lifecycle", rules, "set-rules", {"rules": rules}), ("POST", f"{at}/act", None, "act", {}),
+            ("DELETE", f"{at}/lifecycle", None, "drop-rules", {})]
+    folder = tool_cases.new_folder("kinds")
+    sent = b"".join(request(method.encode(), target.encode(), json.dumps(body).encode() if body is not None else b"")
+                    for method, target, body, _, _ in rows)
+    said = office("run", sent, folder).stdout
+    check("each kind is accepted", len(rows), said.count(b"HTTP/1.1 20"))
+    status, text, note = run_tool(folder / "office-data" / "journal")
+    found = [{name: it[name] for name in it if name not in (*MOMENT, "offset")} for it in map(json.loads, text.splitlines())]
+    check("each kind is read", (0, "", [{"kind": kind, "bucket": "zoo", **fields} for *_, kind, fields in rows]), (status, note, found))
+
+
 def main():
     check("init", 0, office("init").returncode)
     check("an empty journal", (0, "", ""), run_tool(JOURNAL))
@@ -113,7 +143,9 @@ def main():
     compare("a file cut", [whole[:count] for count in [*range(0, 60), *range(len(whole) - 60, len(whole) + 1)]])
     compare("an open gate at the end", [whole[:end] + b"\xa5", whole[:end] + b"\xa5" + bytes(40), whole + b"\xa5\xff"])
     huge = whole[:10] + b"\xa5\x00\x20\x00\x01" + bytes((1 << 21) + 2)
-    compare("a frame that claims 2,097,153 bytes", [huge, whole])
+    compare("a frame of 2,097,153 bytes", [huge, whole])
+
+    each_kind()
 
     # What the office does not accept at its place is damage to the program, and an entry to the tool.
     make = whole[10:second]

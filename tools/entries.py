@@ -1,5 +1,6 @@
 """Reads the entries of a journal by docs/FORMATS.md, for journal-dump."""
 import datetime
+import json
 import re
 
 END_OF_TIME, LARGEST_SIZE = 4_102_444_800_000, 5_497_558_138_880
@@ -73,12 +74,55 @@ class Fields:
             found[key] = self.text(0, 256, "tag's value")
         return found
 
+    def status(self):
+        status = self.number(1, "status")
+        if status not in (1, 2):
+            raise Damaged(f"the status is {status}")
+        return ("Enabled", "Suspended")[status - 1]
+
+    def version(self):
+        return self.number(8, "version") or "null"
+
+    def rules(self):
+        """A configuration, of which this reader knows no more than that it is compact JSON."""
+        text = self.take(self.number(4, "configuration"), "configuration")
+        try:
+            found = json.loads(text)
+        except ValueError:
+            raise Damaged("the configuration is no JSON text") from None
+        if json.dumps(found, ensure_ascii=False, separators=(",", ":")).encode() != text:
+            raise Damaged("the configuration is not written as it is printed")
+        return found
+
+    def prices(self, count):
+        return [self.below(4, "price", 1_048_577) for _ in range(count)]
+
+    def month(self):
+        year, month = self.number(2, "year"), self.number(1, "month")
+        if not (1970 <= year <= 2099 and 1 <= month <= 12):
+            raise Damaged(f"the month is {year}-{month}")
+        return f"{year}-{month:02}"
+
 
 # Of each kind its name, and its fields in their order with the reader of each.
 BUCKET, KEY, TAGS = ("bucket", Fields.bucket), ("key", Fields.key), ("tags", Fields.tags)
+CLASS, VERSION, UPLOAD = ("class", Fields.storage_class), ("version", Fields.version), ("upload", lambda it: it.number(8, "upload"))
 KINDS = {
     0x01: ("create-bucket", BUCKET),
-    0x05: ("put", BUCKET, KEY, ("size", Fields.size), ("class", Fields.storage_class), TAGS),
+    0x02: ("set-versioning", BUCKET, ("status", Fields.status)),
+    0x03: ("set-rules", BUCKET, ("rules", Fields.rules)),
+    0x04: ("drop-rules", BUCKET),
+    0x05: ("put", BUCKET, KEY, ("size", Fields.size), CLASS, TAGS),
+    0x06: ("delete", BUCKET, KEY),
+    0x07: ("delete-version", BUCKET, KEY, VERSION),
+    0x08: ("set-tags", BUCKET, KEY, VERSION, TAGS),
+    0x09: ("start-upload", BUCKET, KEY, CLASS, TAGS),
+    0x0A: ("put-part", BUCKET, UPLOAD, ("part", lambda it: it.number(4, "part")), ("size", lambda it: it.number(8, "size"))),
+    0x0B: ("complete", BUCKET, UPLOAD),
+    0x0C: ("abort", BUCKET, UPLOAD),
+    0x0D: ("act", BUCKET),
+    0x0E: ("set-tariff", ("storage", lambda it: it.prices(6)), ("transition", lambda it: it.prices(5))),
+    0x0F: ("close", ("month", Fields.month)),
 }
 
 

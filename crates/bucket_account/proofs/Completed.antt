@@ -1,6 +1,6 @@
 -- A bucket after an upload was completed: the object comes before its parts' stays end, which is the same as after.
-use Rattle.std.proofs.Common.{◌≡◌, ◌⊎◌, inl, inr, ℕ, ◌+◌, ◌≤◌, List, [], ◌∷◌, refl, ap, sym, ◌∙◌, subst, Bool, true, false, arith}
-use Rattle.std.specs.Prelude.{Option, Some, None, Result, Ok, Err, option_map}
+use Rattle.std.proofs.Common.{◌≡◌, ◌⊎◌, inl, inr, ℕ, ◌≤◌, List, [], ◌∷◌, refl, ap, sym, ◌∙◌, subst, true, false, arith}
+use Rattle.std.specs.Prelude.{Some, None, Ok, Err, option_map}
 use Rattle.accrual.specs.Totals.{Totals, StandsFor}
 use Rattle.office_base.specs.Maps.{at_number, without_number, with_name}
 use Rattle.office_base.specs.declared.version_id.VersionId.{VersionId}
@@ -19,13 +19,12 @@ use Rattle.office_types.specs.declared.refusal.Refusal.TheVariants.{NoMemory, No
 use Rattle.office_types.specs.declared.refusal.What.{What}
 use Rattle.office_types.specs.declared.refusal.What.TheVariants.{Versions, Names}
 use Rattle.office_laws.proofs.Uploads.{bucket_without, stays_aborted}
-use Rattle.bucket_account.specs.declared.change.Done.{Done}
 use Rattle.bucket_account.specs.declared.counts.Counts.{Counts}
 use Rattle.bucket_account.specs.declared.incoming.Incoming.{Incoming}
 use Rattle.bucket_account.specs.Booking.{leaving_of, stack_under, stack_put, gone_of, books_put, counts_after, gone_bytes, MayHaveStay, IsReady, AreMovable}
-use Rattle.bucket_account.specs.Changing.{IsOrderlyAccount, IsFullAfter, DoesTold}
+use Rattle.bucket_account.specs.Changing.{IsOrderlyAccount, DoesTold}
 use Rattle.bucket_account.specs.Counting.{AccountRecord, account_of, AreCountsOver, HaveMoved, first_over, IsFullOf}
-use Rattle.bucket_account.specs.Effects.{IsReadyAt, DoesEffect}
+use Rattle.bucket_account.specs.Effects.{IsReadyAt}
 use Rattle.bucket_account.specs.Standing.{StandsForAccount}
 use Rattle.bucket_account.specs.Uploading.{parts_ended, counts_without, whole_of}
 use Rattle.bucket_account.proofs.Doing.{ready_at}

@@ -1,25 +1,20 @@
 -- A bucket after an upload went.
-use Rattle.std.proofs.Common.{◌≡◌, ◌⊎◌, inl, inr, ℕ, ◌+◌, ◌≤◌, List, [], ◌∷◌, length, refl, ap, sym, ◌∙◌, subst, Bool, true, false, ◌&&◌, arith}
-use Rattle.std.specs.Prelude.{Option, Some, None, Result, Ok, Err, IfSome, nat_le, sum_by}
+use Rattle.std.proofs.Common.{◌≡◌, ℕ, ◌+◌, ◌≤◌, List, [], ◌∷◌, length, refl, ap, sym, ◌∙◌, subst, true, ◌&&◌, arith}
+use Rattle.std.specs.Prelude.{Option, Some, None, Ok, IfSome, nat_le, sum_by}
 use Rattle.std.specs.List.{AllByRecursion, list_all}
 use Rattle.std.specs.Ordering.{nat_cmp}
 use Rattle.std.proofs.lemmas.Bool.{and_parts, leb-true}
 use Rattle.accrual.specs.Totals.{Totals, StandsFor}
 use Rattle.accrual.proofs.Windows.{month_at_order}
-use Rattle.moments.specs.Months.{month_at}
 use Rattle.office_base.specs.Maps.{at_number, without_number, Rises}
 use Rattle.uploads.specs.declared.part.Part.{Part}
 use Rattle.uploads.specs.Uploads.{UploadRecord, IsUpload, is_part, is_part_until, total_size}
 use Rattle.office_base.specs.Sizes.{largest_size}
 use Rattle.due_core.specs.Buckets.{BucketRecord}
-use Rattle.plain_office.specs.Office.{Account, Books, of_part, book_of}
-use Rattle.plain_office.specs.Books.{is_open_stay}
+use Rattle.plain_office.specs.Office.{Account, book_of}
 use Rattle.plain_office.specs.Changes.{remove_upload, remove_upload_at}
-use Rattle.plain_office.specs.Counts.{tag_bytes, name_bytes, part_count}
-use Rattle.plain_office.specs.Orderly.{IsOrderlyUpload, IsOrderlyBucket, HasOpenStays, stay_of_part}
-use Rattle.office_types.specs.declared.refusal.Refusal.{Refusal}
-use Rattle.office_types.specs.declared.refusal.Refusal.TheVariants.{NoMemory}
-use Rattle.office_types.specs.declared.refusal.What.{What}
+use Rattle.plain_office.specs.Counts.{tag_bytes}
+use Rattle.plain_office.specs.Orderly.{IsOrderlyUpload, IsOrderlyBucket, HasOpenStays}
 use Rattle.office_types.specs.declared.refusal.What.TheVariants.{Buckets, Versions, Uploads, Parts, Names, Rules}
 use Rattle.office_laws.proofs.Lists.{every_true, every_weaker, added_length, added_sum}
 use Rattle.office_laws.proofs.Maps.{by_number, each_found, removed}
@@ -27,7 +22,7 @@ use Rattle.office_laws.proofs.OneStay.{part_stands}
 use Rattle.office_laws.proofs.Uploads.{upload_orderly}
 use Rattle.bucket_account.specs.declared.counts.Counts.{Counts}
 use Rattle.bucket_account.specs.Booking.{HasRowsFrom}
-use Rattle.bucket_account.specs.Counting.{AccountRecord, account_of, AreCountsOver, HaveMoved, first_over}
+use Rattle.bucket_account.specs.Counting.{account_of, AreCountsOver, HaveMoved, first_over}
 use Rattle.bucket_account.specs.Effects.{IsUploadReadyAt, DoesEffect}
 use Rattle.bucket_account.specs.Standing.{StandsForAccount}
 use Rattle.bucket_account.specs.Uploading.{HavePartStays, AreEndableAt, parts_ended, counts_without}

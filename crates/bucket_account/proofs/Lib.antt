@@ -1,5 +1,5 @@
-pub mod Acting
 pub mod Accepted
+pub mod Acting
 pub mod Completed
 pub mod Deletes
 pub mod Doing

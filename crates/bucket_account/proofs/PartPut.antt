@@ -1,17 +1,16 @@
 -- A bucket after a part was put.
-use Rattle.std.proofs.Common.{◌≡◌, ◌⊎◌, inl, inr, ℕ, ◌+◌, ◌≤◌, List, [], ◌∷◌, length, refl, ap, sym, ◌∙◌, subst, Bool, true, false, not, cond, arith}
-use Rattle.std.specs.Prelude.{Option, Some, None, Result, Ok, Err, is_some, sum_by}
+use Rattle.std.proofs.Common.{◌≡◌, ◌⊎◌, inl, inr, ℕ, ◌+◌, ◌≤◌, List, [], ◌∷◌, length, refl, ap, sym, ◌∙◌, subst, true, false, cond, arith}
+use Rattle.std.specs.Prelude.{Option, Some, None, Ok, Err, is_some, sum_by}
 use Rattle.std.specs.Ordering.{nat_cmp}
 use Rattle.accrual.specs.Totals.{Totals, StandsFor}
 use Rattle.office_base.specs.Maps.{at_number, with_number, Rises}
 use Rattle.uploads.specs.Uploads.{UploadRecord, new_part, part_at, after_part, admits_part}
 use Rattle.uploads.specs.declared.part.Part.{Part}
 use Rattle.due_core.specs.Buckets.{BucketRecord}
-use Rattle.plain_office.specs.Office.{Account, Booked, Books, of_part, book_of}
-use Rattle.plain_office.specs.Books.{is_open_stay}
+use Rattle.plain_office.specs.Office.{Account, of_part, book_of}
 use Rattle.plain_office.specs.Changes.{with_upload, add_part}
 use Rattle.plain_office.specs.Counts.{tag_bytes}
-use Rattle.plain_office.specs.Orderly.{IsOrderlyUpload, stay_of_part, part_stays_expected}
+use Rattle.plain_office.specs.Orderly.{IsOrderlyUpload, part_stays_expected}
 use Rattle.plain_office.specs.Step.{Change, put_part}
 use Rattle.office_types.specs.declared.reply.Reply.TheVariants.{PartStored}
 use Rattle.office_types.specs.declared.refusal.Refusal.{Refusal}
@@ -22,10 +21,9 @@ use Rattle.office_laws.proofs.Lists.{added_length, replaced_length, replaced_sum
 use Rattle.office_laws.proofs.Maps.{by_number, added, replaced, bytes_itself}
 use Rattle.office_laws.proofs.Stays.{open_of}
 use Rattle.office_laws.proofs.Uploads.{upload_orderly}
-use Rattle.bucket_account.specs.declared.change.Done.{Done}
 use Rattle.bucket_account.specs.declared.counts.Counts.{Counts}
-use Rattle.bucket_account.specs.Changing.{IsOrderlyAccount, IsFullAfter, DoesTold}
-use Rattle.bucket_account.specs.Counting.{AccountRecord, account_of, AreCountsOver, HaveMoved, first_over, IsFullOf}
+use Rattle.bucket_account.specs.Changing.{IsOrderlyAccount, DoesTold}
+use Rattle.bucket_account.specs.Counting.{AccountRecord, account_of, HaveMoved, first_over}
 use Rattle.bucket_account.specs.Standing.{StandsForAccount}
 use Rattle.bucket_account.specs.Uploading.{HasPartStay, books_with_part, counts_with_part, IsPartRefused}
 

@@ -2,7 +2,6 @@
 use Rattle.std.proofs.Common.{◌≡◌, ℕ, ◌≤◌, List, [], ◌∷◌, map, refl, ap, sym, subst, Bool, true, false, cond, arith}
 use Rattle.std.specs.Prelude.{Option, Some, None}
 use Rattle.accrual.specs.Totals.{Totals, StandsFor, HasOpenStay}
-use Rattle.accrual.specs.Books.{Book}
 use Rattle.class_rules.specs.Lines.{part_line}
 use Rattle.class_rules.specs.declared.class.Class.{Class}
 use Rattle.uploads.specs.Uploads.{UploadRecord, IsUpload, part_at}

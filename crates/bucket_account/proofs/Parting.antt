@@ -18,9 +18,8 @@ use Rattle.accrual.specs.Books.{Book, Stay, open_stay, ended_stay}
 use Rattle.accrual.specs.Totals.{Totals, StandsFor, HasRow, HasOpenStay}
 use Rattle.plain_office.specs.Office.{Item, of_part, Books, book_of, stay_in}
 use Rattle.plain_office.specs.Books.{is_open_stay, with_end}
-use Rattle.plain_office.specs.Orderly.{stay_of_part}
 use Rattle.office_laws.proofs.Lists.{every_true, every_weaker}
-use Rattle.office_laws.proofs.Stays.{open_of, open_kept, is_of, begun}
+use Rattle.office_laws.proofs.Stays.{open_kept, is_of, begun}
 use Rattle.office_laws.proofs.OneStay.{StandsOnce, one_stay}
 use Rattle.bucket_account.specs.Booking.{HasRowsFrom}
 use Rattle.bucket_account.specs.Uploading.{HavePartStays, AreEndableAt, parts_ended}

@@ -1,7 +1,6 @@
 -- A bucket after an upload started, and a command that takes one off.
-use Rattle.std.proofs.Common.{◌≡◌, ◌⊎◌, inl, inr, ℕ, ◌+◌, ◌≤◌, List, [], ◌∷◌, length, refl, ap, sym, ◌∙◌, subst, arith}
+use Rattle.std.proofs.Common.{◌≡◌, inr, ℕ, ◌+◌, ◌≤◌, List, [], ◌∷◌, length, refl, ap, sym, ◌∙◌, subst, arith}
 use Rattle.std.specs.Prelude.{Option, Some, None, Result, Ok, Err, IfSome, OnOk, is_some, is_err, true, false, sum_by}
-use Rattle.std.specs.Ordering.{nat_cmp}
 use Rattle.accrual.specs.Totals.{Totals, StandsFor}
 use Rattle.office_base.specs.Maps.{at_number, with_number}
 use Rattle.office_base.specs.Tags.{Tag}
@@ -11,23 +10,18 @@ use Rattle.due_core.specs.Buckets.{BucketRecord}
 use Rattle.plain_office.specs.Office.{Account, book_of}
 use Rattle.plain_office.specs.Changes.{remove_upload_at}
 use Rattle.plain_office.specs.Counts.{tag_bytes}
-use Rattle.plain_office.specs.Orderly.{IsOrderlyBucket}
 use Rattle.plain_office.specs.Step.{Change, start_upload, abort}
-use Rattle.office_types.specs.declared.reply.Reply.{Reply}
 use Rattle.office_types.specs.declared.reply.Reply.TheVariants.{UploadStarted, Aborted}
 use Rattle.office_types.specs.declared.refusal.Refusal.{Refusal}
-use Rattle.office_types.specs.declared.refusal.Refusal.TheVariants.{NoMemory, NoSuchUpload}
-use Rattle.office_types.specs.declared.refusal.What.{What}
 use Rattle.office_types.specs.declared.refusal.What.TheVariants.{Buckets, Versions, Uploads, Parts, Names, Rules}
 use Rattle.office_laws.proofs.Lists.{added_length, added_sum}
 use Rattle.office_laws.proofs.Maps.{by_number, added}
 use Rattle.office_laws.proofs.Uploads.{upload_orderly, fresh_number}
 use Rattle.bucket_account.specs.declared.change.Done.{Done}
 use Rattle.bucket_account.specs.declared.counts.Counts.{Counts}
-use Rattle.bucket_account.specs.Changing.{IsOrderlyAccount, IsFullAfter, DoesTold}
+use Rattle.bucket_account.specs.Changing.{IsOrderlyAccount, DoesTold}
 use Rattle.bucket_account.specs.Counting.{AccountRecord, account_of, AreCountsOver, HaveMoved, first_over, IsFullOf}
 use Rattle.bucket_account.specs.Effects.{IsUploadReadyAt, DoesEffect}
-use Rattle.bucket_account.specs.Standing.{StandsForAccount}
 use Rattle.bucket_account.specs.Uploading.{counts_started}
 
 pub ok_of : {T E : Type 0} (result : Result T E) (P : Type 0) → is_err result ≡ false → OnOk result P → P

@@ -2,10 +2,8 @@
 use Rattle.std.proofs.Common.{◌≡◌, ℕ, ◌+◌, List, [], ◌∷◌, ◌++◌, map, refl, ap, sym, ◌∙◌, Bool, true, false, ◌&&◌, cond}
 use Rattle.std.specs.Prelude.{Option, Some, None, is_none, nat_lt}
 use Rattle.std.specs.Str.{bytes_eq}
-use Rattle.std.specs.List.{AllByRecursion}
 use Rattle.std.proofs.lemmas.List.{map-append}
 use Rattle.office_base.specs.declared.version_id.VersionId.{VersionId}
-use Rattle.office_base.specs.Tags.{Tag}
 use Rattle.class_rules.specs.Classes.{least_stay}
 use Rattle.class_rules.specs.declared.class.Class.{Class}
 use Rattle.stacks.specs.declared.version.Kind.{Kind}
@@ -16,7 +14,6 @@ use Rattle.uploads.specs.Uploads.{UploadRecord}
 use Rattle.accrual.specs.Books.{Stay, Early, open_stay}
 use Rattle.plain_office.specs.Office.{Item, of_version, of_part, Booked, Books}
 use Rattle.plain_office.specs.Books.{is_open_stay, with_end, with_early, with_stay, without_option, lines_of_kind}
-use Rattle.office_laws.proofs.Maps.{bytes_itself}
 use Rattle.office_laws.proofs.Stays.{is_of, begun, open_of, open_other, after_end, version_kept}
 use Rattle.bucket_account.specs.declared.incoming.Incoming.{Incoming}
 use Rattle.bucket_account.specs.Booking.{books_put, version_of}

@@ -1,7 +1,6 @@
 pub mod Adding
 pub mod Again
 pub mod Breaking
-pub mod Built
 pub mod Following
 pub mod Keeping
 pub mod Narrowing

@@ -42,7 +42,7 @@ impl Acked {
         at: Snapshot<u64>,
     ) -> Acked
         requires enough { reply ≡ Err NoMemory → ⊥ }
-        requires built { AnswerFits reply }
+        requires reply_fits { AnswerFits reply }
         ensures { result ≡ record { moment = moment; told = told; reply = reply; position = position; disk_moment = at.value } }
     {
         Acked {
@@ -57,7 +57,7 @@ impl Acked {
     /// Reads the office's answer.
     pub fn reply(&self) -> &Result<Reply, Refusal>
         ensures value { result.now ≡ self.now.reply }
-        ensures built { AnswerFits result.now }
+        ensures fits { AnswerFits result.now }
     {
         &self.reply
     }

@@ -83,7 +83,7 @@ impl<D: Disk + Drop, C: Clock + Drop> Engine<D, C> {
 
     fn answer(&self, moment: u64, told: u64, reply: Result<Reply, Refusal>) -> Acked
         requires enough { reply ≡ Err NoMemory → ⊥ }
-        requires built { AnswerFits reply }
+        requires reply_fits { AnswerFits reply }
         ensures { result ≡ record { moment = moment; told = told; reply = reply; position = self.now.gate; disk_moment = D.moment self.now.disk } }
     {
         Acked::new(
@@ -103,7 +103,7 @@ impl<D: Disk + Drop, C: Clock + Drop> Engine<D, C> {
         reply: Reply,
         bytes: &[u8],
     ) -> Result<Acked, DeskFault>
-        requires built { ReplyFits reply }
+        requires reply_fits { ReplyFits reply }
         requires entry { IsEntry bytes.now }
         requires fits { self.old.gate + 6 + length bytes.now ≤ self.old.limit }
         requires at_rest { IsTrue D.honest → (before : List Entry) × IsAtRest header (D.state self.old.disk) self.old.gate before }

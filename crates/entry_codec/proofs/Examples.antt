@@ -14,7 +14,7 @@ use Rattle.office_base.specs.declared.version_id.VersionId.TheVariants.{Null, Nu
 use Rattle.entry_codec.specs.Formats.{front_items}
 use Rattle.entry_codec.specs.Fields.{format, moment_format, utf8_text, tag}
 use Rattle.entry_codec.specs.Kinds.{kind_format, fields_of}
-use Rattle.entry_codec.specs.Kinds as kind
+use Rattle.entry_codec.specs.declared.kinds.Kind.TheVariants as kind
 use Rattle.entry_codec.specs.Spelling.{command_spelling, spelling}
 use Rattle.entry_codec.specs.Reading.{value_at, values_at, kind_at, command_at, entry_of}
 
@@ -83,11 +83,6 @@ no_kind = refl
 kind_00 : entry_of (moment_bytes ++ 0x00 ∷ name_bytes) ≡ Err 8
 unfolding to_compute
 kind_00 = refl
-
--- a kind that is not built is unknown
-kind_04 : entry_of (moment_bytes ++ 0x04 ∷ name_bytes) ≡ Err 8
-unfolding to_compute
-kind_04 = refl
 
 kind_10 : entry_of (moment_bytes ++ 0x10 ∷ name_bytes) ≡ Err 8
 unfolding to_compute
@@ -196,7 +191,7 @@ zeros = repeat 32 (0x00 ∷ [])
 abbrev all_ones : List ℕ
 all_ones = repeat 8 (0xFF ∷ [])
 
--- ---- the rows of kinds that are not built, each in an entry of that moment
+-- ---- the other kinds, each in an entry of that moment
 
 suspended : command_spelling (command.SetVersioning (codes "logs") false) ≡ 0x02 ∷ name_bytes ++ 0x02 ∷ []
 unfolding to_compute
@@ -216,6 +211,40 @@ part_put : command_spelling (command.PutPart (codes "logs") 1 5 1_000)
     ≡ 0x0A ∷ name_bytes ++ (0x00 ∷ 0x00 ∷ 0x00 ∷ 0x00 ∷ 0x00 ∷ 0x00 ∷ 0x00 ∷ 0x01 ∷ []) ++ (0x00 ∷ 0x00 ∷ 0x00 ∷ 0x05 ∷ []) ++ size_bytes
 unfolding to_compute
 part_put = refl
+
+abbrev one_bytes : List ℕ
+one_bytes = 0x00 ∷ 0x00 ∷ 0x00 ∷ 0x00 ∷ 0x00 ∷ 0x00 ∷ 0x00 ∷ 0x01 ∷ []
+
+abbrev key_a : List ℕ
+key_a = 0x00 ∷ 0x01 ∷ 0x61 ∷ []
+
+dropped : command_spelling (command.DropRules (codes "logs")) ≡ 0x04 ∷ name_bytes
+unfolding to_compute
+dropped = refl
+
+deleted : command_spelling (command.Delete (codes "logs") (codes "a")) ≡ 0x06 ∷ name_bytes ++ key_a
+unfolding to_compute
+deleted = refl
+
+tagged : command_spelling (command.SetTags (codes "logs") (codes "a") (Number 1) []) ≡ 0x08 ∷ name_bytes ++ key_a ++ one_bytes ++ 0x00 ∷ []
+unfolding to_compute
+tagged = refl
+
+started : command_spelling (command.StartUpload (codes "logs") (codes "a") Glacier []) ≡ 0x09 ∷ name_bytes ++ key_a ++ 0x04 ∷ 0x00 ∷ []
+unfolding to_compute
+started = refl
+
+completed : command_spelling (command.Complete (codes "logs") 1) ≡ 0x0B ∷ name_bytes ++ one_bytes
+unfolding to_compute
+completed = refl
+
+aborted : command_spelling (command.Abort (codes "logs") 1) ≡ 0x0C ∷ name_bytes ++ one_bytes
+unfolding to_compute
+aborted = refl
+
+acted : command_spelling (command.Act (codes "logs")) ≡ 0x0D ∷ name_bytes
+unfolding to_compute
+acted = refl
 
 -- 2024-01 is the month of this number
 january_closed : command_spelling (command.Close 648) ≡ 0x0F ∷ 0x07 ∷ 0xE8 ∷ 0x01 ∷ []

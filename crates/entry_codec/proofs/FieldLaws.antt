@@ -1,9 +1,9 @@
 -- Each field keeps the laws of a format.
-use Rattle.std.proofs.Common.{◌≡◌, ℕ, Bool, true, false, ◌&&◌, cond, eqb, if◌then◌else◌, List, Option, Some, None, Result, Ok, refl, sym, ap, subst, ◌∙◌, arith, is_none}
+use Rattle.std.proofs.Common.{◌≡◌, ℕ, Bool, true, false, ◌&&◌, cond, eqb, if◌then◌else◌, List, [], ◌∷◌, Option, Some, None, Result, Ok, refl, sym, ap, subst, ◌∙◌, arith, is_none}
 use Rattle.std.specs.Prelude.{option_and_then}
 use Rattle.std.specs.Result.{result_ok}
 use Rattle.std.specs.Str.{is_utf8, bytes_eq}
-use Rattle.std.specs.List.{list_all}
+use Rattle.std.specs.List.{find, list_all}
 use Rattle.std.proofs.lemmas.Bool.{eqb-true}
 use Rattle.std.proofs.lemmas.Slice.Eq.{bytes_eq-Decides}
 use Rattle.std.proofs.lemmas.Bool.Decides.{nat_tests}
@@ -13,8 +13,9 @@ use Rattle.class_rules.specs.declared.class.Class.TheVariants.{Standard, Standar
 use Rattle.office_base.specs.declared.version_id.VersionId.{VersionId}
 use Rattle.office_base.specs.declared.version_id.VersionId.TheVariants as version
 use Rattle.entry_codec.specs.Fields.{ranks, statuses, ids, utf8_text, tag, are_kept, is_configuration, if_printed, texts, Field, Name, Key, Size, Rank, Tags, Rules, Status, Id, Number4, Number8, Price, Year, Month, format, moment_format}
-use Rattle.entry_codec.specs.Kinds.{Kind, kinds, kind_format, number_of, is_built}
-use Rattle.entry_codec.specs.Kinds as kind
+use Rattle.entry_codec.specs.declared.kinds.Kind.{Kind}
+use Rattle.entry_codec.specs.Kinds.{all_kinds, kinds, kind_format, number_of}
+use Rattle.entry_codec.specs.declared.kinds.Kind.TheVariants as kind
 use Rattle.std.specs.Int.{w8, w16, w32, w64}
 use Rattle.std.specs.Prelude.{nat_lt, nat_le}
 use Rattle.moments.specs.Time.{end_of_time}
@@ -28,7 +29,8 @@ use Rattle.rules_json.specs.Printing.{printed}
 use Rattle.rules_json.specs.Reading.{rules_of}
 use Rattle.rules_json.specs.declared.fault.RulesFault.{RulesFault}
 use Rattle.entry_codec.specs.Formats.{Format, number, text, ◌such_that◌, list}
-use Rattle.entry_codec.proofs.Built.{each_built}
+use Rattle.rules_json.proofs.Law.{printed_back}
+use Rattle.entry_codec.proofs.Midnights.{read_back}
 use Rattle.entry_codec.proofs.FormatLaws.{some_is, if_some, both, and_true, IsFormat, IsCode, number-IsFormat, text-IsFormat, such_that-IsFormat, pair-IsFormat, list-IsFormat, coded-IsFormat, wide8, wide16, wide32, wide64}
 
 ranks-IsCode : IsCode ranks
@@ -72,22 +74,40 @@ ids-IsCode = record { again = again; back = λ n id e. id_back (eqb n 0) n id re
     again version.Null has = refl
     again (version.Number n) has = id_again n has
 
-kind_back : (make put : Bool) (n : ℕ) (k : Kind) → eqb 1 n ≡ make → eqb 5 n ≡ put → cond make (Some kind.CreateBucket) (cond put (Some kind.Put) None) ≡ Some k → (number_of k ≡ n) × (is_built k ≡ true)
-kind_back true put n k is_make is_put e = subst (λ (x : Kind). (number_of x ≡ n) × (is_built x ≡ true)) (some_is kind.CreateBucket k e) (eqb-true _ _ is_make, refl)
-kind_back false true n k is_make is_put e = subst (λ (x : Kind). (number_of x ≡ n) × (is_built x ≡ true)) (some_is kind.Put k e) (eqb-true _ _ is_put, refl)
-kind_back false false n k is_make is_put e = absurd cc
+-- what is found passes the test
+found_by : {X : Type 0} (test : X → Bool) (y : X) (first : Bool) (later : Option X) (x : X) → test y ≡ first → (later ≡ Some x → test x ≡ true) → cond first (Some y) later ≡ Some x → test x ≡ true
+found_by {X = X} test y true later x is others e = subst (λ (z : X). test z ≡ true) (some_is y x e) is
+found_by test y false later x is others e = others e
+
+found_passes : {X : Type 0} (test : X → Bool) (xs : List X) (x : X) → find test xs ≡ Some x → test x ≡ true
+found_passes test [] x e = absurd cc
+found_passes test (y ∷ ys) x e = found_by test y (test y) (find test ys) x refl (found_passes test ys x) e
 
 kinds-IsCode : IsCode kinds
-kinds-IsCode = record {
-  again = each_built (λ k. kinds.value (number_of k) ≡ Some k) refl refl;
-  back = λ n k e. kind_back (eqb 1 n) (eqb 5 n) n k refl refl e;
-}
+kinds-IsCode = record { again = again; back = λ n k e. (eqb-true _ _ (found_passes (λ k. eqb (number_of k) n) all_kinds k e), refl) }
+  where
+    again : (k : Kind) → kinds.has k ≡ true → kinds.value (number_of k) ≡ Some k
+    again kind.CreateBucket has = refl
+    again kind.SetVersioning has = refl
+    again kind.SetRules has = refl
+    again kind.DropRules has = refl
+    again kind.Put has = refl
+    again kind.Delete has = refl
+    again kind.DeleteVersion has = refl
+    again kind.SetTags has = refl
+    again kind.StartUpload has = refl
+    again kind.PutPart has = refl
+    again kind.Complete has = refl
+    again kind.Abort has = refl
+    again kind.Act has = refl
+    again kind.SetTariff has = refl
+    again kind.Close has = refl
 
 -- ---- configurations
 
 -- each configuration is read again from its text
-abbrev pub RulesReadBack : Type 0
-RulesReadBack = (rules : Configuration) → IsConfiguration rules → rules_of (printed rules) ≡ Ok rules
+rules_back : (rules : Configuration) → IsConfiguration rules → rules_of (printed rules) ≡ Ok rules
+rules_back = printed_back read_back
 
 is_nothing : {A : Type 0} (o : Option A) → is_none o ≡ true → o ≡ None
 is_nothing None is = refl
@@ -103,12 +123,12 @@ kept rules is =
 same_text : (t : List ℕ) → bytes_eq t t ≡ true
 same_text t = (bytes_eq-Decides t t).1 refl
 
-texts-IsCode : RulesReadBack → IsCode texts
-texts-IsCode law = record { again = again; back = back }
+texts-IsCode : IsCode texts
+texts-IsCode = record { again = again; back = back }
   where
     again : (rules : Configuration) → is_configuration rules ≡ true → texts.value (printed rules) ≡ Some rules
     again rules has =
-        ap (λ (r : Result Configuration RulesFault). option_and_then (if_printed (printed rules)) (result_ok r)) (law rules (kept rules has))
+        ap (λ (r : Result Configuration RulesFault). option_and_then (if_printed (printed rules)) (result_ok r)) (rules_back rules (kept rules has))
         ∙ ap (λ (b : Bool). if b then Some rules else None) (and_true _ _ has (same_text (printed rules)))
 
     found : (t : List ℕ) (o : Option Configuration) (rules : Configuration) → option_and_then (if_printed t) o ≡ Some rules → (printed rules ≡ t) × (is_configuration rules ≡ true)
@@ -129,19 +149,19 @@ two_bytes = number-IsFormat w16 wide16
 two_byte_text : IsFormat (text (number w16))
 two_byte_text = text-IsFormat (number w16) two_bytes
 
-pub name-IsFormat : IsFormat (format Name)
+name-IsFormat : IsFormat (format Name)
 unfolding format
 name-IsFormat = such_that-IsFormat (text (number w16)) is_bucket_name two_byte_text
 
-pub key-IsFormat : IsFormat (format Key)
+key-IsFormat : IsFormat (format Key)
 unfolding format
 key-IsFormat = such_that-IsFormat (text (number w16)) is_key two_byte_text
 
-pub size-IsFormat : IsFormat (format Size)
+size-IsFormat : IsFormat (format Size)
 unfolding format
 size-IsFormat = such_that-IsFormat (number w64) (λ size. nat_le size largest_size) (number-IsFormat w64 wide64)
 
-pub rank-IsFormat : IsFormat (format Rank)
+rank-IsFormat : IsFormat (format Rank)
 unfolding format
 rank-IsFormat = coded-IsFormat (number w8) ranks (number-IsFormat w8 wide8) ranks-IsCode
 
@@ -156,28 +176,27 @@ tag-IsFormat : IsFormat tag
 unfolding tag
 tag-IsFormat = pair-IsFormat utf8_text utf8_text utf8-IsFormat utf8-IsFormat
 
-pub tags-IsFormat : IsFormat (format Tags)
+tags-IsFormat : IsFormat (format Tags)
 unfolding format
 tags-IsFormat =
     let count = such_that-IsFormat (number w8) (λ n. nat_le n 10) (number-IsFormat w8 wide8) in
     such_that-IsFormat (list few tag) are_kept (list-IsFormat few tag count tag-IsFormat)
 
--- each field; configurations by the law of their texts
-pub format-IsFormat : RulesReadBack → (field : Field) → IsFormat (format field)
+pub format-IsFormat : (field : Field) → IsFormat (format field)
 unfolding format
-format-IsFormat law Name = name-IsFormat
-format-IsFormat law Key = key-IsFormat
-format-IsFormat law Size = size-IsFormat
-format-IsFormat law Rank = rank-IsFormat
-format-IsFormat law Tags = tags-IsFormat
-format-IsFormat law Rules = coded-IsFormat (text (number w32)) texts (text-IsFormat (number w32) (number-IsFormat w32 wide32)) (texts-IsCode law)
-format-IsFormat law Status = coded-IsFormat (number w8) statuses (number-IsFormat w8 wide8) statuses-IsCode
-format-IsFormat law Id = coded-IsFormat (number w64) ids (number-IsFormat w64 wide64) ids-IsCode
-format-IsFormat law Number4 = number-IsFormat w32 wide32
-format-IsFormat law Number8 = number-IsFormat w64 wide64
-format-IsFormat law Price = such_that-IsFormat (number w32) is_price (number-IsFormat w32 wide32)
-format-IsFormat law Year = such_that-IsFormat (number w16) (λ year. nat_le 1970 year && nat_le year 2099) two_bytes
-format-IsFormat law Month = such_that-IsFormat (number w8) (λ month. nat_le 1 month && nat_le month 12) (number-IsFormat w8 wide8)
+format-IsFormat Name = name-IsFormat
+format-IsFormat Key = key-IsFormat
+format-IsFormat Size = size-IsFormat
+format-IsFormat Rank = rank-IsFormat
+format-IsFormat Tags = tags-IsFormat
+format-IsFormat Rules = coded-IsFormat (text (number w32)) texts (text-IsFormat (number w32) (number-IsFormat w32 wide32)) texts-IsCode
+format-IsFormat Status = coded-IsFormat (number w8) statuses (number-IsFormat w8 wide8) statuses-IsCode
+format-IsFormat Id = coded-IsFormat (number w64) ids (number-IsFormat w64 wide64) ids-IsCode
+format-IsFormat Number4 = number-IsFormat w32 wide32
+format-IsFormat Number8 = number-IsFormat w64 wide64
+format-IsFormat Price = such_that-IsFormat (number w32) is_price (number-IsFormat w32 wide32)
+format-IsFormat Year = such_that-IsFormat (number w16) (λ year. nat_le 1970 year && nat_le year 2099) two_bytes
+format-IsFormat Month = such_that-IsFormat (number w8) (λ month. nat_le 1 month && nat_le month 12) (number-IsFormat w8 wide8)
 
 pub moment-IsFormat : IsFormat moment_format
 unfolding moment_format

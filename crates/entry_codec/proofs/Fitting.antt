@@ -1,18 +1,22 @@
--- Values in range are values of their fields.
-use Rattle.std.proofs.Common.{◌≡◌, ◌&&◌, nat_le, ℕ, ◌^◌, ◌≤◌, true, List, [], ◌∷◌, length, refl, arith}
+-- Values in range are values of their fields, and commands of such values fit.
+use Rattle.std.proofs.Common.{◌≡◌, nat_le, ℕ, ◌^◌, ◌<◌, ◌≤◌, Bool, true, false, List, [], ◌∷◌, length, refl, ap, arith}
 use Rattle.std.specs.List.{list_all}
-use Rattle.std.proofs.lemmas.Bool.{lt-ltb, le-leb, leb-true}
-use Rattle.office_base.specs.Names.{IsBucketName, is_bucket_name}
-use Rattle.office_base.specs.Keys.{IsKey, is_key}
+use Rattle.std.proofs.lemmas.Bool.{lt-ltb, le-leb}
+use Rattle.std.proofs.lemmas.Bool.Decides.{nat_tests}
+use Rattle.office_base.specs.Names.{IsBucketName}
+use Rattle.office_base.specs.Keys.{IsKey}
 use Rattle.office_base.specs.Sizes.{largest_size}
-use Rattle.office_base.specs.Tags.{Tag, is_tag, keys_rise, AreTags}
+use Rattle.office_base.specs.Tags.{Tag, is_tag, AreTags}
 use Rattle.office_base.proofs.Sizes.{name_small, key_small}
 use Rattle.class_rules.specs.declared.class.Class.{Class}
 use Rattle.class_rules.specs.declared.class.Class.TheVariants.{Standard, StandardIa, OnezoneIa, GlacierIr, Glacier, DeepArchive}
+use Rattle.office_base.specs.declared.version_id.VersionId.{VersionId}
+use Rattle.moments.specs.Months.{months, year_of, month_of_year, month_number}
+use Rattle.rules_core.specs.Configurations.{Configuration}
 use Rattle.office_types.specs.declared.command.Command.TheVariants as command
-use Rattle.std.specs.Int.{w8, w16, w64}
-use Rattle.entry_codec.specs.Formats.{Format, number, text, ◌such_that◌}
-use Rattle.entry_codec.specs.Fields.{Name, Key, Size, Rank, Tags, format, utf8_text, tag}
+use Rattle.std.specs.Int.{w8}
+use Rattle.entry_codec.specs.Formats.{Format, number, ◌such_that◌}
+use Rattle.entry_codec.specs.Fields.{Name, Key, Size, Rank, Tags, Rules, Status, Id, Number4, Number8, Year, Month, format, id_code, is_id, utf8_text, tag}
 use Rattle.entry_codec.specs.Spelling.{CommandFits}
 use Rattle.entry_codec.proofs.FormatLaws.{both, and_true}
 use Rattle.entry_codec.proofs.Sizes.{tag_parts_small}
@@ -20,19 +24,19 @@ use Rattle.entry_codec.proofs.Sizes.{tag_parts_small}
 abbrev few : Format ℕ
 few = number w8 such_that λ n. nat_le n 10
 
-name_has : (t : List ℕ) → IsBucketName t → (format Name).has t ≡ true
+pub name_has : (t : List ℕ) → IsBucketName t → (format Name).has t ≡ true
 unfolding format
 name_has t is = and_true _ _ (lt-ltb (length t) (256 ^ 2) (omega (arith, name_small t is))) is
 
-key_has : (t : List ℕ) → IsKey t → (format Key).has t ≡ true
+pub key_has : (t : List ℕ) → IsKey t → (format Key).has t ≡ true
 unfolding format
 key_has t is = and_true _ _ (lt-ltb (length t) (256 ^ 2) (omega (arith, key_small t is))) is
 
-size_has : (size : ℕ) → size ≤ largest_size → (format Size).has size ≡ true
+pub size_has : (size : ℕ) → size ≤ largest_size → (format Size).has size ≡ true
 unfolding format
 size_has size le = and_true _ _ (lt-ltb size (256 ^ 8) (omega (arith, le))) (le-leb size largest_size le)
 
-rank_has : (class : Class) → (format Rank).has class ≡ true
+pub rank_has : (class : Class) → (format Rank).has class ≡ true
 unfolding format
 rank_has Standard = refl
 rank_has StandardIa = refl
@@ -55,56 +59,88 @@ all_have : (tags : List Tag) → list_all is_tag tags ≡ true → list_all tag.
 all_have [] all = refl
 all_have (t ∷ tags) all = let parts = both (is_tag t) (list_all is_tag tags) all in and_true _ _ (tag_has t parts.0) (all_have tags parts.1)
 
-tags_have : (tags : List Tag) → AreTags tags → (format Tags).has tags ≡ true
+pub tags_have : (tags : List Tag) → AreTags tags → (format Tags).has tags ≡ true
 unfolding format
 tags_have tags are =
     let count = and_true _ _ (lt-ltb (length tags) 256 (omega (arith, are.few))) (le-leb (length tags) 10 are.few) in
     and_true _ _ (and_true _ _ count (all_have tags are.in_range)) (and_true _ _ are.in_range are.in_order)
 
-pub create_bucket_fits : (bucket : List ℕ) → IsBucketName bucket → CommandFits (command.CreateBucket bucket)
-create_bucket_fits bucket is = record { built = tt; in_range = record { values = and_true _ _ (name_has bucket is) refl; whole = refl } }
+pub status_has : (enabled : Bool) → (format Status).has enabled ≡ true
+unfolding format
+status_has true = refl
+status_has false = refl
 
-pub put_fits : (bucket key : List ℕ) (size : ℕ) (class : Class) (tags : List Tag) → IsBucketName bucket → IsKey key → size ≤ largest_size → AreTags tags
+pub id_has : (id : VersionId) → id_code id < 2 ^ 64 → is_id id ≡ true → (format Id).has id ≡ true
+unfolding format
+id_has id small is = and_true _ _ (lt-ltb (id_code id) (256 ^ 8) (omega (arith, small))) is
+
+pub number4_has : (n : ℕ) → n < 2 ^ 32 → (format Number4).has n ≡ true
+unfolding format
+number4_has n small = lt-ltb n (256 ^ 4) (omega (arith, small))
+
+pub number8_has : (n : ℕ) → n < 2 ^ 64 → (format Number8).has n ≡ true
+unfolding format
+number8_has n small = lt-ltb n (256 ^ 8) (omega (arith, small))
+
+-- ---- commands
+
+pub create_bucket_fits : (bucket : List ℕ) → (format Name).has bucket ≡ true
+    → CommandFits (command.CreateBucket bucket)
+create_bucket_fits bucket h0 = record { values = and_true _ _ h0 refl; whole = refl }
+
+pub set_versioning_fits : (bucket : List ℕ) (enabled : Bool) → (format Name).has bucket ≡ true → (format Status).has enabled ≡ true
+    → CommandFits (command.SetVersioning bucket enabled)
+set_versioning_fits bucket enabled h0 h1 = record { values = and_true _ _ h0 (and_true _ _ h1 refl); whole = refl }
+
+pub set_rules_fits : (bucket : List ℕ) (rules : Configuration) → (format Name).has bucket ≡ true → (format Rules).has rules ≡ true
+    → CommandFits (command.SetRules bucket rules)
+set_rules_fits bucket rules h0 h1 = record { values = and_true _ _ h0 (and_true _ _ h1 refl); whole = refl }
+
+pub drop_rules_fits : (bucket : List ℕ) → (format Name).has bucket ≡ true
+    → CommandFits (command.DropRules bucket)
+drop_rules_fits bucket h0 = record { values = and_true _ _ h0 refl; whole = refl }
+
+pub put_fits : (bucket : List ℕ) (key : List ℕ) (size : ℕ) (class : Class) (tags : List Tag) → (format Name).has bucket ≡ true → (format Key).has key ≡ true → (format Size).has size ≡ true → (format Rank).has class ≡ true → (format Tags).has tags ≡ true
     → CommandFits (command.Put bucket key size class tags)
-put_fits bucket key size class tags name_is key_is size_is tags_are =
-    record {
-      built = tt;
-      in_range = record {
-        values = and_true _ _ (name_has bucket name_is) (and_true _ _ (key_has key key_is) (and_true _ _ (size_has size size_is) (and_true _ _ (rank_has class) (and_true _ _ (tags_have tags tags_are) refl))));
-        whole = refl;
-      };
-    }
+put_fits bucket key size class tags h0 h1 h2 h3 h4 = record { values = and_true _ _ h0 (and_true _ _ h1 (and_true _ _ h2 (and_true _ _ h3 (and_true _ _ h4 refl)))); whole = refl }
 
--- ---- and values of their fields are in range
+pub delete_fits : (bucket : List ℕ) (key : List ℕ) → (format Name).has bucket ≡ true → (format Key).has key ≡ true
+    → CommandFits (command.Delete bucket key)
+delete_fits bucket key h0 h1 = record { values = and_true _ _ h0 (and_true _ _ h1 refl); whole = refl }
 
-name_range : (t : List ℕ) → (format Name).has t ≡ true → IsBucketName t
+pub delete_version_fits : (bucket : List ℕ) (key : List ℕ) (id : VersionId) → (format Name).has bucket ≡ true → (format Key).has key ≡ true → (format Id).has id ≡ true
+    → CommandFits (command.DeleteVersion bucket key id)
+delete_version_fits bucket key id h0 h1 h2 = record { values = and_true _ _ h0 (and_true _ _ h1 (and_true _ _ h2 refl)); whole = refl }
+
+pub set_tags_fits : (bucket : List ℕ) (key : List ℕ) (id : VersionId) (tags : List Tag) → (format Name).has bucket ≡ true → (format Key).has key ≡ true → (format Id).has id ≡ true → (format Tags).has tags ≡ true
+    → CommandFits (command.SetTags bucket key id tags)
+set_tags_fits bucket key id tags h0 h1 h2 h3 = record { values = and_true _ _ h0 (and_true _ _ h1 (and_true _ _ h2 (and_true _ _ h3 refl))); whole = refl }
+
+pub start_upload_fits : (bucket : List ℕ) (key : List ℕ) (class : Class) (tags : List Tag) → (format Name).has bucket ≡ true → (format Key).has key ≡ true → (format Rank).has class ≡ true → (format Tags).has tags ≡ true
+    → CommandFits (command.StartUpload bucket key class tags)
+start_upload_fits bucket key class tags h0 h1 h2 h3 = record { values = and_true _ _ h0 (and_true _ _ h1 (and_true _ _ h2 (and_true _ _ h3 refl))); whole = refl }
+
+pub put_part_fits : (bucket : List ℕ) (upload : ℕ) (part : ℕ) (size : ℕ) → (format Name).has bucket ≡ true → (format Number8).has upload ≡ true → (format Number4).has part ≡ true → (format Number8).has size ≡ true
+    → CommandFits (command.PutPart bucket upload part size)
+put_part_fits bucket upload part size h0 h1 h2 h3 = record { values = and_true _ _ h0 (and_true _ _ h1 (and_true _ _ h2 (and_true _ _ h3 refl))); whole = refl }
+
+pub complete_fits : (bucket : List ℕ) (upload : ℕ) → (format Name).has bucket ≡ true → (format Number8).has upload ≡ true
+    → CommandFits (command.Complete bucket upload)
+complete_fits bucket upload h0 h1 = record { values = and_true _ _ h0 (and_true _ _ h1 refl); whole = refl }
+
+pub abort_fits : (bucket : List ℕ) (upload : ℕ) → (format Name).has bucket ≡ true → (format Number8).has upload ≡ true
+    → CommandFits (command.Abort bucket upload)
+abort_fits bucket upload h0 h1 = record { values = and_true _ _ h0 (and_true _ _ h1 refl); whole = refl }
+
+pub act_fits : (bucket : List ℕ) → (format Name).has bucket ≡ true
+    → CommandFits (command.Act bucket)
+act_fits bucket h0 = record { values = and_true _ _ h0 refl; whole = refl }
+
+-- a month is told by its year and its month of the year
+pub close_fits : (month : ℕ) → month < months → CommandFits (command.Close month)
 unfolding format
-name_range t has = (both ((text (number w16)).has t) (is_bucket_name t) has).1
-
-key_range : (t : List ℕ) → (format Key).has t ≡ true → IsKey t
-unfolding format
-key_range t has = (both ((text (number w16)).has t) (is_key t) has).1
-
-size_range : (size : ℕ) → (format Size).has size ≡ true → size ≤ largest_size
-unfolding format
-size_range size has = leb-true size largest_size (both ((number w64).has size) (nat_le size largest_size) has).1
-
-tags_range : (tags : List Tag) → (format Tags).has tags ≡ true → AreTags tags
-unfolding format
-tags_range tags has =
-    let parts = both (few.has (length tags) && list_all tag.has tags) (list_all is_tag tags && keys_rise tags) has in
-    let kept = both (list_all is_tag tags) (keys_rise tags) parts.1 in
-    let count = both (few.has (length tags)) (list_all tag.has tags) parts.0 in
-    let ten = both ((number w8).has (length tags)) (nat_le (length tags) 10) count.0 in
-    record { few = leb-true (length tags) 10 ten.1; in_range = kept.0; in_order = kept.1 }
-
--- the values of a put that fits
-pub put_ranges : (bucket key : List ℕ) (size : ℕ) (class : Class) (tags : List Tag) → CommandFits (command.Put bucket key size class tags)
-    → IsBucketName bucket × IsKey key × (size ≤ largest_size) × AreTags tags
-put_ranges bucket key size class tags fits =
-    let name = both ((format Name).has bucket) _ fits.in_range.values in
-    let the_key = both ((format Key).has key) _ name.1 in
-    let the_size = both ((format Size).has size) _ the_key.1 in
-    let rank = both ((format Rank).has class) _ the_size.1 in
-    let the_tags = both ((format Tags).has tags) true rank.1 in
-    (name_range bucket name.0, key_range key the_key.0, size_range size the_size.0, tags_range tags the_tags.0)
+close_fits month small =
+    let whole : month_number (year_of month) (month_of_year month) ≡ month = omega arith in
+    let year : (format Year).has (year_of month) ≡ true = grind (arith, nat_tests) in
+    let of_year : (format Month).has (month_of_year month) ≡ true = grind (arith, nat_tests) in
+    record { values = and_true _ _ year (and_true _ _ of_year refl); whole = ap command.Close whole }

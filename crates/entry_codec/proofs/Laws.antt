@@ -6,21 +6,20 @@ use Rattle.std.proofs.lemmas.Bool.Decides.{nat_tests}
 use Rattle.std.proofs.lemmas.List.{append-nil, nil_from_length}
 use Rattle.moments.specs.Time.{end_of_time}
 use Rattle.moments.specs.Months.{year_of, month_of_year, month_number}
-use Rattle.office_types.specs.Fits.{IsBuilt}
 use Rattle.office_types.specs.declared.command.Command.{Command}
 use Rattle.office_types.specs.declared.command.Command.TheVariants as command
 use Rattle.office_types.specs.declared.command.Entry.{Entry}
 use Rattle.entry_codec.specs.declared.fault.EntryFault.{EntryFault}
 use Rattle.entry_codec.specs.Formats.{Format}
 use Rattle.entry_codec.specs.Fields.{Field, format, moment_format}
-use Rattle.entry_codec.specs.Kinds.{Kind, Parts, Values, kind_format, fields_of, is_built, parts_of, command_of}
-use Rattle.entry_codec.specs.Kinds as kind
-use Rattle.entry_codec.specs.Spelling.{entry_at, written_values, are_values, command_spelling, IsInRange, CommandFits, Fits, spelling}
+use Rattle.entry_codec.specs.declared.kinds.Kind.{Kind}
+use Rattle.entry_codec.specs.Kinds.{Parts, Values, kind_format, fields_of, parts_of, command_of}
+use Rattle.entry_codec.specs.declared.kinds.Kind.TheVariants as kind
+use Rattle.entry_codec.specs.Spelling.{entry_at, written_values, are_values, command_spelling, CommandFits, Fits, spelling}
 use Rattle.entry_codec.specs.Reading.{◌>>=◌, Gives, place, value_at, values_at, kind_at, command_at, entry_of}
-use Rattle.entry_codec.proofs.Built.{each_built, built_kind}
 use Rattle.entry_codec.proofs.Bytes.{IsBytes}
 use Rattle.entry_codec.proofs.FormatLaws.{IsBytes-rest, both, and_true, IsFormat}
-use Rattle.entry_codec.proofs.FieldLaws.{RulesReadBack, name-IsFormat, key-IsFormat, size-IsFormat, rank-IsFormat, tags-IsFormat, format-IsFormat, moment-IsFormat, kind-IsFormat}
+use Rattle.entry_codec.proofs.FieldLaws.{format-IsFormat, moment-IsFormat, kind-IsFormat}
 
 -- ---- steps
 
@@ -83,17 +82,10 @@ values_again (field ∷ fields) laws total values rest has =
 
 -- ---- kinds
 
--- the fields of a built kind keep the laws
-built_row : (k : Kind) → is_built k ≡ true → AreFormats (fields_of k)
-built_row = each_built (λ k. AreFormats (fields_of k)) (name-IsFormat, tt) (name-IsFormat, (key-IsFormat, (size-IsFormat, (rank-IsFormat, (tags-IsFormat, tt)))))
-
--- and those of each kind do
-pub every_row : RulesReadBack → (fields : List Field) → AreFormats fields
-every_row law [] = tt
-every_row law (field ∷ fields) = (format-IsFormat law field, every_row law fields)
-
-built_command : (k : Kind) (values : Values (fields_of k)) → is_built k ≡ true → IsBuilt (command_of k values)
-built_command k values built = each_built (λ k. (values : Values (fields_of k)) → IsBuilt (command_of k values)) (λ values. tt) (λ values. tt) k built values
+-- each field keeps the laws
+pub every_row : (fields : List Field) → AreFormats fields
+every_row [] = tt
+every_row (field ∷ fields) = (format-IsFormat field, every_row fields)
 
 -- ---- a command and its parts
 
@@ -128,9 +120,9 @@ same_parts kind.Act values has = refl
 same_parts kind.SetTariff values has = refl
 same_parts kind.Close (year, (month, none)) has = let range = close_range year month has in same_close year month range.0 range.1 range.2
 
--- a command whose parts are in range is in range
-in_range_of : (k : Kind) (values : Values (fields_of k)) → are_values (fields_of k) values ≡ true → IsInRange (command_of k values)
-in_range_of k values has =
+-- a command whose parts are in range fits
+pub fits_of : (k : Kind) (values : Values (fields_of k)) → are_values (fields_of k) values ≡ true → CommandFits (command_of k values)
+fits_of k values has =
     let same = same_parts k values has in
     record {
       values = subst (λ (p : Parts). are_values (fields_of p.kind) p.values ≡ true) (sym same) has;
@@ -147,31 +139,41 @@ moment_before : (moment : ℕ) → moment_format.has moment ≡ true → moment 
 unfolding moment_format
 moment_before moment has = ltb-true moment end_of_time (both _ _ has).1
 
-kind_has : (k : Kind) → is_built k ≡ true → kind_format.has k ≡ true
+kind_has : (k : Kind) → kind_format.has k ≡ true
 unfolding kind_format
-kind_has = each_built (λ k. kind_format.has k ≡ true) refl refl
-
-kind_built : (k : Kind) → kind_format.has k ≡ true → is_built k ≡ true
-unfolding kind_format
-kind_built k has = (both _ _ has).1
+kind_has kind.CreateBucket = refl
+kind_has kind.SetVersioning = refl
+kind_has kind.SetRules = refl
+kind_has kind.DropRules = refl
+kind_has kind.Put = refl
+kind_has kind.Delete = refl
+kind_has kind.DeleteVersion = refl
+kind_has kind.SetTags = refl
+kind_has kind.StartUpload = refl
+kind_has kind.PutPart = refl
+kind_has kind.Complete = refl
+kind_has kind.Abort = refl
+kind_has kind.Act = refl
+kind_has kind.SetTariff = refl
+kind_has kind.Close = refl
 
 -- the command of a kind that was read with its fields
 record Reads (k : Kind) (bytes : List ℕ) (x : Command × List ℕ) : Type 0 where
   parts : kind_format.written k ++ bytes ≡ command_spelling x.0 ++ x.1
   fits : CommandFits x.0
 
-kind_takes : (k : Kind) → is_built k ≡ true → (total : ℕ) (bytes : List ℕ) (x : Command × List ℕ) → IsBytes bytes → kind_at k total bytes ≡ Ok x → Reads k bytes x
+kind_takes : (k : Kind) (total : ℕ) (bytes : List ℕ) (x : Command × List ℕ) → IsBytes bytes → kind_at k total bytes ≡ Ok x → Reads k bytes x
 unfolding kind_at command_spelling
-kind_takes k built total bytes x fits is =
+kind_takes k total bytes x fits is =
     let read = bind_ok (values_at (fields_of k) total bytes) _ x is in
-    let t = values_take (fields_of k) (built_row k built) total bytes read.0 fits read.1 in
+    let t = values_take (fields_of k) (every_row (fields_of k)) total bytes read.0 fits read.1 in
     let front = kind_format.written k in
     let values = written_values (fields_of k) read.0.0 in
     let parts : front ++ bytes ≡ (front ++ values) ++ read.0.1 = ap (λ (l : List ℕ). front ++ l) t.0 ∙ sym (append_assoc front values read.0.1) in
     let same = ap (λ (p : Parts). kind_format.written p.kind ++ written_values (fields_of p.kind) p.values) (same_parts k read.0.0 t.1) in
     subst (Reads k bytes) (ok_is (command_of k read.0.0, read.0.1) x read.2) (record {
       parts = parts ∙ ap (λ (l : List ℕ). l ++ read.0.1) (sym same);
-      fits = record { built = built_command k read.0.0 built; in_range = in_range_of k read.0.0 t.1 };
+      fits = fits_of k read.0.0 t.1;
     })
 
 command_takes : (total : ℕ) (bytes : List ℕ) (c : Command) → IsBytes bytes → command_at total bytes ≡ Ok c → (bytes ≡ command_spelling c) × CommandFits c
@@ -181,7 +183,7 @@ command_takes total bytes c fits is =
     let command = bind_ok (kind_at kind.0.0 total kind.0.1) _ c kind.2 in
     let t = value_takes kind_format kind-IsFormat total bytes kind.0 fits kind.1 in
     let behind : IsBytes kind.0.1 = IsBytes-rest (kind_format.written kind.0.0) kind.0.1 (subst IsBytes t.0 fits) in
-    let u = kind_takes kind.0.0 (kind_built kind.0.0 t.1) total kind.0.1 command.0 behind command.1 in
+    let u = kind_takes kind.0.0 total kind.0.1 command.0 behind command.1 in
     let last = guard_passed (eqb (length command.0.1) 0) (place total command.0.1) command.0.0 c command.2 in
     let none : command.0.1 ≡ [] = nil_from_length command.0.1 (eqb-true _ _ last.0) in
     let parts : bytes ≡ command_spelling command.0.0 = t.0 ∙ u.parts ∙ ap (λ (l : List ℕ). command_spelling command.0.0 ++ l) none ∙ append-nil (command_spelling command.0.0) in
@@ -192,11 +194,10 @@ unfolding command_at kind_at command_spelling
 command_again total c fits =
     let parts = parts_of c in
     let fields = fields_of parts.kind in
-    let built = built_kind c fits.built in
     let values = written_values fields parts.values in
     let whole : values_at fields total values ≡ Ok (parts.values, []) =
-    ap (values_at fields total) (sym (append-nil values)) ∙ values_again fields (built_row parts.kind built) total parts.values [] fits.in_range.values in
-    rw (value_again kind_format kind-IsFormat total parts.kind values (kind_has parts.kind built), whole) (ap (λ d. Ok d) fits.in_range.whole)
+    ap (values_at fields total) (sym (append-nil values)) ∙ values_again fields (every_row fields) total parts.values [] fits.values in
+    rw (value_again kind_format kind-IsFormat total parts.kind values (kind_has parts.kind), whole) (ap (λ d. Ok d) fits.whole)
 
 pub entry_takes : (bytes : List ℕ) (e : Entry) → IsBytes bytes → entry_of bytes ≡ Ok e → Fits e × (bytes ≡ spelling e)
 unfolding entry_of spelling

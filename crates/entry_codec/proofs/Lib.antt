@@ -1,4 +1,3 @@
-pub mod Built
 pub mod Bytes
 pub mod Examples
 pub mod FieldLaws
@@ -6,6 +5,10 @@ pub mod Fitting
 pub mod FormatLaws
 pub mod Items
 pub mod Laws
+mod Midnights
+pub mod MonthLemmas
+pub mod PriceLemmas
 pub mod Rising
+pub mod RulesTexts
 pub mod Sizes
 pub mod TagLemmas

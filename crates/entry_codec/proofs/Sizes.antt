@@ -13,14 +13,14 @@ use Rattle.office_types.specs.declared.command.Entry.{Entry}
 use Rattle.rules_core.specs.Configurations.{Configuration}
 use Rattle.rules_json.specs.Printing.{printed}
 use Rattle.rules_json.proofs.Sizes.{text_small}
-use Rattle.rules_json.proofs.ShortTexts.{printed_small}
+use Rattle.rules_json.proofs.ShortTexts.{printed_most}
 use Rattle.std.specs.Int.{w8}
 use Rattle.entry_codec.specs.Formats.{Format, number, ◌such_that◌}
 use Rattle.entry_codec.specs.Fields.{Field, Name, Key, Size, Rank, Tags, Rules, Status, Id, Number4, Number8, Price, Year, Month, Holds, format, moment_format, tag, utf8_text}
-use Rattle.entry_codec.specs.Kinds.{Kind, Values, kind_format, fields_of, is_built, parts_of}
-use Rattle.entry_codec.specs.Kinds as kind
-use Rattle.entry_codec.specs.Spelling.{entry_at, written_values, are_values, command_spelling, IsInRange, IsEntry, Fits, entry_limit, spelling}
-use Rattle.entry_codec.proofs.Built.{each_built, built_kind}
+use Rattle.entry_codec.specs.declared.kinds.Kind.{Kind}
+use Rattle.entry_codec.specs.Kinds.{Values, kind_format, fields_of, parts_of}
+use Rattle.entry_codec.specs.declared.kinds.Kind.TheVariants as kind
+use Rattle.entry_codec.specs.Spelling.{entry_at, written_values, are_values, command_spelling, CommandFits, IsEntry, Fits, entry_limit, spelling}
 use Rattle.entry_codec.proofs.FieldLaws.{kept}
 use Rattle.entry_codec.proofs.FormatLaws.{both}
 
@@ -62,7 +62,7 @@ most Key = 1_026
 most Size = 8
 most Rank = 1
 most Tags = 15_401
-most Rules = 2 ^ 32 + 3
+most Rules = 170_001_654
 most Status = 1
 most Id = 8
 most Number4 = 4
@@ -83,7 +83,7 @@ value_small Tags value has =
     let ten : nat_le (length value) 10 ≡ true = (both ((number w8).has (length value)) (nat_le (length value) 10) count.0).1 in
     let at_most : length value ≤ 10 = grind (arith, nat_tests) in
     omega (arith, at_most, all_small value (both (list_all is_tag value) (keys_rise value) parts.1).0)
-value_small Rules value has = omega (arith, printed_small value (kept value (both _ _ has).1))
+value_small Rules value has = omega (arith, printed_most value (kept value (both _ _ has).1))
 value_small Status value has = omega arith
 value_small Id value has = omega arith
 value_small Number4 value has = omega arith
@@ -112,9 +112,9 @@ moment_small : (moment : ℕ) → length (moment_format.written moment) ≡ 8
 unfolding moment_format
 moment_small moment = refl
 
-by_fields : (e : Entry) → IsInRange e.command → length (spelling e) ≤ 9 + most_of (fields_of (parts_of e.command).kind)
+by_fields : (e : Entry) → CommandFits e.command → length (spelling e) ≤ 9 + most_of (fields_of (parts_of e.command).kind)
 unfolding spelling command_spelling
-by_fields e range =
+by_fields e fits =
     let parts = parts_of e.command in
     omega (
       arith,
@@ -122,22 +122,37 @@ by_fields e range =
       length-append (kind_format.written parts.kind) (written_values (fields_of parts.kind) parts.values),
       moment_small e.moment,
       kind_small parts.kind,
-      values_small (fields_of parts.kind) parts.values range.values,
+      values_small (fields_of parts.kind) parts.values fits.values,
     )
 
-built_most : (k : Kind) → is_built k ≡ true → most_of (fields_of k) ≤ 16_501
-built_most = each_built (λ k. most_of (fields_of k) ≤ 16_501) (omega arith) (omega arith)
+-- the most bytes of each row
+row_most : (k : Kind) → most_of (fields_of k) ≤ 170_001_719
+row_most kind.CreateBucket = omega arith
+row_most kind.SetVersioning = omega arith
+row_most kind.SetRules = omega arith
+row_most kind.DropRules = omega arith
+row_most kind.Put = omega arith
+row_most kind.Delete = omega arith
+row_most kind.DeleteVersion = omega arith
+row_most kind.SetTags = omega arith
+row_most kind.StartUpload = omega arith
+row_most kind.PutPart = omega arith
+row_most kind.Complete = omega arith
+row_most kind.Abort = omega arith
+row_most kind.Act = omega arith
+row_most kind.SetTariff = omega arith
+row_most kind.Close = omega arith
 
-spelling_small : (e : Entry) → Fits e → length (spelling e) ≤ 16_510
-spelling_small e fits = omega (arith, by_fields e fits.command.in_range, built_most (parts_of e.command).kind (built_kind e.command fits.command.built))
+spelling_most : (e : Entry) → Fits e → length (spelling e) ≤ 170_001_728
+spelling_most e fits = omega (arith, by_fields e fits.command, row_most (parts_of e.command).kind)
 
 pub spelling_short : (e : Entry) → Fits e → length (spelling e) ≤ entry_limit
-spelling_short e fits = omega (arith, spelling_small e fits)
+spelling_short e fits = omega (arith, spelling_most e fits)
 
 pub entry_small : (bytes : List ℕ) → IsEntry bytes → length bytes < 2 ^ 32
-entry_small bytes is = omega (arith, ap length is.2, spelling_small is.0 is.1)
+entry_small bytes is = omega (arith, ap length is.2, spelling_most is.0 is.1)
 
--- ---- entries of all kinds, built or not
+-- ---- entries that set no rules
 
 -- all fields but rules are short
 other_most : (k : Kind) → (k ≡ kind.SetRules → ⊥) → most_of (fields_of k) ≤ 16_501
@@ -157,19 +172,14 @@ other_most kind.Act other = omega arith
 other_most kind.SetTariff other = omega arith
 other_most kind.Close other = omega arith
 
-pub other_small : (e : Entry) → IsInRange e.command → ((parts_of e.command).kind ≡ kind.SetRules → ⊥) → length (spelling e) ≤ 16_510
-other_small e range other = omega (arith, by_fields e range, other_most (parts_of e.command).kind other)
+pub other_small : (e : Entry) → Fits e → ((parts_of e.command).kind ≡ kind.SetRules → ⊥) → length (spelling e) ≤ 16_510
+other_small e fits other = omega (arith, by_fields e fits.command, other_most (parts_of e.command).kind other)
 
--- an entry that sets rules is longer than their text by the bucket's name and 15 bytes: below 2^32 + 78 bytes, as the text has
--- fewer than 2^32
+-- an entry that sets rules is longer than their text by the bucket's name and 15 bytes
 pub length-set_rules : (moment : ℕ) (bucket : List ℕ) (rules : Configuration)
     → length (spelling (entry_at moment (command.SetRules bucket rules))) ≡ 15 + length bucket + length (printed rules)
 unfolding spelling command_spelling moment_format kind_format format
 length-set_rules moment bucket rules = omega (arith, length-append bucket ((format Rules).written rules ++ []), length-append (printed rules) [])
-
-pub set_rules_small : (moment : ℕ) (bucket : List ℕ) (rules : Configuration) → IsInRange (command.SetRules bucket rules)
-    → length (spelling (entry_at moment (command.SetRules bucket rules))) < 2 ^ 32 + 78
-set_rules_small moment bucket rules range = omega (arith, by_fields (entry_at moment (command.SetRules bucket rules)) range)
 
 -- a moment and a kind
 pub spelling_long : (e : Entry) → 9 ≤ length (spelling e)

@@ -1,19 +1,16 @@
 -- The kinds of entries. Each has a number and fields (own), and stands for one command.
-use Rattle.std.specs.Prelude.{ℕ, ◌==◌, Bool, true, false, ◌&&◌, List, [], ◌∷◌, slice_index}
+use Rattle.std.specs.Prelude.{ℕ, ◌==◌, true, List, [], ◌∷◌, slice_index}
 use Rattle.std.specs.Int.{w8}
 use Rattle.std.specs.List.{find, repeat}
 use Rattle.moments.specs.Months.{year_of, month_of_year, month_number}
 use Rattle.office_types.specs.declared.command.Command.{Command}
 use Rattle.office_types.specs.declared.command.Command.TheVariants as command
+use Rattle.entry_codec.specs.declared.kinds.Kind.{Kind}
+use Rattle.entry_codec.specs.declared.kinds.Kind.TheVariants.{CreateBucket, SetVersioning, SetRules, DropRules, Put, Delete, DeleteVersion, SetTags, StartUpload, PutPart, Complete, Abort, Act, SetTariff, Close}
 use Rattle.entry_codec.specs.Formats.{Format, number, Code, coded}
 use Rattle.entry_codec.specs.Fields.{Field, Name, Key, Size, Rank, Tags, Rules, Status, Id, Number4, Number8, Price, Year, Month, Holds}
 
--- a kind for each command
-pub data Kind : Type 0 where
-  CreateBucket SetVersioning SetRules DropRules Put Delete DeleteVersion SetTags : Kind
-  StartUpload PutPart Complete Abort Act SetTariff Close : Kind
-
--- all of them
+-- all kinds
 abbrev pub all_kinds : List Kind
 all_kinds =
     CreateBucket ∷ SetVersioning ∷ SetRules ∷ DropRules ∷ Put ∷ Delete ∷ DeleteVersion ∷ SetTags
@@ -37,12 +34,6 @@ row Act = (0x0D, Name ∷ [])
 row SetTariff = (0x0E, repeat 11 (Price ∷ []))
 row Close = (0x0F, Year ∷ Month ∷ [])
 
--- the kinds that entries have by now; the others are unknown
-abbrev pub is_built : Kind → Bool
-is_built CreateBucket = true
-is_built Put = true
-is_built kind = false
-
 -- the columns of the table
 abbrev pub number_of : Kind → ℕ
 number_of kind = (row kind).0
@@ -54,8 +45,8 @@ fields_of kind = (row kind).1
 abbrev pub kinds : Code ℕ Kind
 kinds = record {
   code = number_of;
-  has = is_built;
-  value = λ n. find (λ kind. is_built kind && number_of kind == n) all_kinds;
+  has = λ kind. true;
+  value = λ n. find (λ kind. number_of kind == n) all_kinds;
 }
 
 -- the kind of an entry

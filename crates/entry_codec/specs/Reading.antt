@@ -1,14 +1,15 @@
 -- Reading bytes from left to right, by the fields of the kind. A fault is the place at which the first field begins
 -- that breaks the format, in bytes from the first byte of the entry; bytes behind the last field break it where they
 -- begin (own).
-use Rattle.std.specs.Prelude.{◌≡◌, ℕ, ◌-◌, List, [], ◌∷◌, length, Option, option_map, Result, Ok, Err, ok_or, ◌==◌, if◌then◌else◌}
+use Rattle.std.specs.Prelude.{◌≡◌, ℕ, zero, suc, ◌-◌, List, [], ◌∷◌, length, Option, option_map, Result, Ok, Err, ok_or, ◌==◌, if◌then◌else◌}
 use Rattle.office_types.specs.declared.command.Command.{Command}
 use Rattle.office_types.specs.declared.command.Entry.{Entry}
 use Rattle.entry_codec.specs.declared.fault.EntryFault.{EntryFault}
 use Rattle.entry_codec.specs.declared.fault.EntryFault.TheVariants as faults
 use Rattle.entry_codec.specs.Formats.{Format}
 use Rattle.entry_codec.specs.Fields.{Field, format, moment_format}
-use Rattle.entry_codec.specs.Kinds.{Kind, kind_format, fields_of, Values, command_of}
+use Rattle.entry_codec.specs.declared.kinds.Kind.{Kind}
+use Rattle.entry_codec.specs.Kinds.{kind_format, fields_of, Values, command_of}
 
 -- one field after another, up to the first fault
 infixl 10 ◌>>=◌
@@ -38,6 +39,14 @@ place total bytes = total - length bytes
 -- the value at the front of the bytes that are left, and what is left then
 unfoldable pub value_at : {X : Type 0} → Format X → ℕ → List ℕ → Result (X × List ℕ) ℕ
 value_at format total bytes = ok_or (format.front bytes) (place total bytes)
+
+-- so many values of one format, from left to right
+unfoldable pub items_at : {X : Type 0} → Format X → ℕ → ℕ → List ℕ → Result (List X × List ℕ) ℕ
+items_at format zero total bytes = Ok ([], bytes)
+items_at format (suc n) total bytes = do
+  first ← value_at format total bytes
+  others ← items_at format n total first.1
+  Ok (first.0 ∷ others.0, others.1)
 
 -- a value for each field, from left to right
 abbrev pub values_at : (fields : List Field) → ℕ → List ℕ → Result (Values fields × List ℕ) ℕ

@@ -1,7 +1,6 @@
 -- The one spelling of each entry (own).
 use Rattle.std.specs.Prelude.{◌≡◌, ℕ, ◌<◌, Bool, true, ◌&&◌, List, [], ◌∷◌, ◌++◌}
 use Rattle.moments.specs.Time.{end_of_time}
-use Rattle.office_types.specs.Fits.{IsBuilt}
 use Rattle.office_types.specs.declared.command.Command.{Command}
 use Rattle.office_types.specs.declared.command.Entry.{Entry}
 use Rattle.entry_codec.specs.Fields.{Field, format, moment_format}
@@ -26,9 +25,10 @@ command_spelling c =
 unfoldable pub spelling : Entry → List ℕ
 spelling e = moment_format.written e.moment ++ command_spelling e.command
 
--- no entry has a longer spelling, in bytes (own: 2 MiB, room for a command that carries a whole request body of 1 MiB)
+-- no entry has a longer spelling, in bytes (own: 256 MiB, the first power of two above the 170,001,728 bytes of an
+-- entry with 1,000 rules of 170,000 bytes each)
 abbrev pub entry_limit : ℕ
-entry_limit = 2_097_152
+entry_limit = 268_435_456
 
 -- each value is one of its field
 abbrev pub are_values : (fields : List Field) → Values fields → Bool
@@ -36,14 +36,9 @@ are_values [] none = true
 are_values (field ∷ fields) (value, values) = (format field).has value && are_values fields values
 
 -- a command is its kind with its fields, all in range
-pub record IsInRange (c : Command) : Type 0 where
+pub record CommandFits (c : Command) : Type 0 where
   pub values : are_values (fields_of (parts_of c).kind) (parts_of c).values ≡ true
   pub whole : command_of (parts_of c).kind (parts_of c).values ≡ c
-
--- a command that entries have by now
-pub record CommandFits (c : Command) : Type 0 where
-  pub built : IsBuilt c
-  pub in_range : IsInRange c
 
 -- an entry as it is kept
 pub record Fits (e : Entry) : Type 0 where

@@ -1,7 +1,7 @@
 // Reading the parts of which fields consist. A reader takes its value from the front of the bytes, and gives what is
 // left then; it gives None where no such value stands there.
 ghost use Rattle.std.specs.Prelude.{◌≡◌, option_map, IfOk};
-ghost use Rattle.std.specs.Int.{w8, w16, w64};
+ghost use Rattle.std.specs.Int.{w8, w16, w32, w64};
 ghost use Rattle.office_base.specs.Tags.{tag_of, tags_of, comes_before, keys_rise};
 ghost use Rattle.entry_codec.specs.Formats.{number, text, front_items};
 ghost use Rattle.entry_codec.specs.Fields as field;
@@ -34,6 +34,19 @@ pub(crate) fn u16_in(bytes: &[u8]) -> Option<(u16, &[u8])>
     Some((u16::from_be_bytes([front[0], front[1]]), rest))
 }
 
+pub(crate) fn u32_in(bytes: &[u8]) -> Option<(u32, &[u8])>
+    ensures { option_map (λ x. (x.0, x.1.now)) result ≡ (number w32).front bytes.now }
+{
+    if bytes.len() < 4 {
+        return None;
+    }
+    let (front, rest) = bytes.split_at(4);
+    Some((
+        u32::from_be_bytes([front[0], front[1], front[2], front[3]]),
+        rest,
+    ))
+}
+
 pub(crate) fn u64_in(bytes: &[u8]) -> Option<(u64, &[u8])>
     ensures { option_map (λ x. (x.0, x.1.now)) result ≡ (number w64).front bytes.now }
 {
@@ -58,7 +71,18 @@ pub(crate) fn counted_in(bytes: &[u8]) -> Option<(&[u8], &[u8])>
     Some(rest.split_at(len as usize))
 }
 
-// The same, in UTF-8.
+// A length in four bytes, and so many bytes.
+pub(crate) fn long_counted_in(bytes: &[u8]) -> Option<(&[u8], &[u8])>
+    ensures { option_map (λ x. (x.0.now, x.1.now)) result ≡ (text (number w32)).front bytes.now }
+{
+    let (len, rest) = u32_in(bytes)?;
+    if rest.len() < len as usize {
+        return None;
+    }
+    Some(rest.split_at(len as usize))
+}
+
+// A length in two bytes, and so many bytes in UTF-8.
 #[tactic(auto, using(office_base::proofs::Utf8::utf8_is, office_base::proofs::Utf8::utf8_is_not), unfolding(crate::specs::Fields::utf8_text))]
 fn text_in(bytes: &[u8]) -> Option<(&str, &[u8])>
     ensures { option_map (λ x. (x.0.now, x.1.now)) result ≡ utf8_text.front bytes.now }

@@ -1,9 +1,17 @@
 //! The one spelling of each entry of a journal, written and read.
 #![tactic(auto)]
 
+mod command_readers;
+mod command_writers;
 mod fault;
+mod field_readers;
+mod field_writers;
 mod fields;
+mod kinds;
+mod months;
+mod prices;
 mod reading;
+mod rules;
 #[cfg(test)]
 mod tests;
 mod writing;

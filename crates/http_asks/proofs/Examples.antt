@@ -1,86 +1,211 @@
 -- Meanings computed on examples.
 use Rattle.std.proofs.Common.{ap}
-use Rattle.std.specs.Prelude.{◌≡◌, ℕ, Bool, true, false, if◌then◌else◌, List, [], ◌∷◌, Ok, Err, codes, refl}
+use Rattle.std.specs.Prelude.{◌≡◌, ℕ, Bool, true, false, if◌then◌else◌, List, [], Some, None, Result, Ok, Err, codes, refl}
 use Rattle.office_base.specs.Keys.{is_key}
 use Rattle.office_base.specs.Names.{is_bucket_name}
-use Rattle.class_rules.specs.declared.class.Class.TheVariants.{Glacier}
+use Rattle.office_base.specs.declared.version_id.VersionId.TheVariants.{Null, Number}
 use Rattle.moments.specs.Dates.{is_month, begins_with_month}
 use Rattle.moments.specs.Months.{month_number}
+use Rattle.rules_core.specs.Configurations.{Configuration}
+use Rattle.rules_core.specs.declared.flaw.RuleFlaw.TheVariants.{NoAction}
+use Rattle.rules_json.specs.declared.fault.RulesFault.TheVariants as faults
 use Rattle.office_types.specs.declared.command.Ask.TheVariants.{Command, Query}
-use Rattle.office_types.specs.declared.command.Command.TheVariants.{CreateBucket, Put}
-use Rattle.office_types.specs.declared.command.Query.TheVariants.{Bucket, Meters}
-use Rattle.http_bodies.specs.Flaws.{unsupported_class}
-use Rattle.http_bodies.specs.Puts.{put_of}
+use Rattle.office_types.specs.declared.command.Command.TheVariants.{CreateBucket, SetVersioning, DropRules, Complete, Abort, PutPart, Act}
+use Rattle.office_types.specs.declared.command.Query.TheVariants.{Bucket, Rules, Upload, Due, Meters}
+use Rattle.http_bodies.specs.Flaws.{BodyFlaw, bad_body}
+use Rattle.http_bodies.specs.Multipart.{part_of}
+use Rattle.http_bodies.specs.Settings.{status_of}
 use Rattle.http_routes.specs.Spelled.{key_of}
-use Rattle.http_routes.specs.Targets.{bucket, object, meters}
-use Rattle.http_asks.specs.Meaning.{asks, refuses, not_a_month, bad_bucket_name, bad_key, flawed, not_built, meant_of, bucket_meant, object_meant, meters_meant, put_meant}
+use Rattle.http_routes.specs.Targets as targets
+use Rattle.http_asks.specs.Meaning.{Meant, asks, refuses, not_a_month, bad_bucket_name, bad_key, flaw_in, not_json, no_such_version, no_such_upload, bad_part, flawed, not_built, by_key, by_body, by_rules, meant_of, bucket_meant, versioning_meant, lifecycle_meant, object_meant, version_meant, upload_meant, part_meant, act_meant, due_meant, meters_meant}
+use Rattle.http_asks.specs.Numbers.{number_in, version_in, part_in}
+
+-- ---- numbers and ids
+
+first_number : number_in (codes "1") ≡ Some 1
+unfolding number_in
+first_number = refl
+
+largest_number : number_in (codes "18446744073709551615") ≡ Some 18446744073709551615
+unfolding number_in
+largest_number = refl
+
+past_64_bits : number_in (codes "18446744073709551616") ≡ None
+unfolding number_in
+past_64_bits = refl
+
+no_zero : number_in (codes "0") ≡ None
+unfolding number_in
+no_zero = refl
+
+leading_zero : number_in (codes "01") ≡ None
+unfolding number_in
+leading_zero = refl
+
+with_a_sign : number_in (codes "+1") ≡ None
+unfolding number_in
+with_a_sign = refl
+
+null_version : version_in (codes "null") ≡ Some Null
+unfolding version_in number_in
+null_version = refl
+
+numbered_version : version_in (codes "12") ≡ Some (Number 12)
+unfolding version_in number_in
+numbered_version = refl
+
+zeros_before_a_part : part_in (codes "00001") ≡ Some 1
+unfolding part_in
+zeros_before_a_part = refl
+
+-- which parts an upload has is not asked here
+no_part : part_in (codes "0") ≡ Some 0
+unfolding part_in
+no_part = refl
+
+six_digits : part_in (codes "000001") ≡ None
+unfolding part_in
+six_digits = refl
+
+part_with_a_sign : part_in (codes "+1") ≡ None
+unfolding part_in
+part_with_a_sign = refl
 
 -- ---- buckets
 
 -- a bucket is made, whatever the body
-makes : meant_of (bucket (codes "logs")) (codes "PUT") (codes "[") ≡ asks (Command (CreateBucket (codes "logs")))
+makes : meant_of (targets.bucket (codes "logs")) (codes "PUT") (codes "[") ≡ asks (Command (CreateBucket (codes "logs")))
 unfolding bucket_meant is_bucket_name
 makes = refl
 
-asks_for : meant_of (bucket (codes "logs")) (codes "GET") [] ≡ asks (Query (Bucket (codes "logs")))
+asks_for : meant_of (targets.bucket (codes "logs")) (codes "GET") [] ≡ asks (Query (Bucket (codes "logs")))
 unfolding bucket_meant is_bucket_name
 asks_for = refl
 
 -- methods are compared as they stand
-lower_case : meant_of (bucket (codes "logs")) (codes "put") [] ≡ refuses not_built
+lower_case : meant_of (targets.bucket (codes "logs")) (codes "put") [] ≡ refuses not_built
 unfolding bucket_meant is_bucket_name
 lower_case = refl
 
-short_name : meant_of (bucket (codes "lo")) (codes "PUT") [] ≡ refuses bad_bucket_name
+short_name : meant_of (targets.bucket (codes "lo")) (codes "PUT") [] ≡ refuses bad_bucket_name
 unfolding bucket_meant is_bucket_name
 short_name = refl
 
 -- a method that is not served comes before a bad name
-another_method : meant_of (bucket (codes "lo")) (codes "DELETE") [] ≡ refuses not_built
+another_method : meant_of (targets.bucket (codes "lo")) (codes "DELETE") [] ≡ refuses not_built
 unfolding bucket_meant is_bucket_name
 another_method = refl
 
+-- versioning is set as the body says
+sets : (body : List ℕ) (enabled : Bool) → status_of body ≡ Ok enabled → meant_of (targets.versioning (codes "logs")) (codes "PUT") body ≡ asks (Command (SetVersioning (codes "logs") enabled))
+unfolding versioning_meant is_bucket_name
+sets body enabled is = ap (λ (said : Result Bool BodyFlaw). by_body said (λ e. asks (Command (SetVersioning (codes "logs") e)))) is
+
+no_status : (body : List ℕ) → status_of body ≡ Err (bad_body (codes "Status")) → meant_of (targets.versioning (codes "logs")) (codes "PUT") body ≡ refuses (flawed (bad_body (codes "Status")))
+unfolding versioning_meant is_bucket_name
+no_status body is = ap (λ (said : Result Bool BodyFlaw). by_body said (λ e. asks (Command (SetVersioning (codes "logs") e)))) is
+
+acts : meant_of (targets.act (codes "logs")) (codes "POST") [] ≡ asks (Command (Act (codes "logs")))
+unfolding act_meant is_bucket_name
+acts = refl
+
+shows_due : meant_of (targets.due (codes "logs")) (codes "GET") [] ≡ asks (Query (Due (codes "logs")))
+unfolding due_meant is_bucket_name
+shows_due = refl
+
+-- ---- lifecycle configurations
+
+drops : meant_of (targets.lifecycle (codes "logs")) (codes "DELETE") [] ≡ asks (Command (DropRules (codes "logs")))
+unfolding lifecycle_meant is_bucket_name
+drops = refl
+
+shows_rules : meant_of (targets.lifecycle (codes "logs")) (codes "GET") [] ≡ asks (Query (Rules (codes "logs")))
+unfolding lifecycle_meant is_bucket_name
+shows_rules = refl
+
+name_before_rules : meant_of (targets.lifecycle (codes "lo")) (codes "PUT") [] ≡ refuses bad_bucket_name
+unfolding lifecycle_meant is_bucket_name
+name_before_rules = refl
+
+flaw_told : (meant : Configuration → Meant) → by_rules (Err (faults.Flaw NoAction 2)) meant ≡ refuses (flaw_in NoAction 2)
+flaw_told meant = refl
+
+no_json : (meant : Configuration → Meant) → by_rules (Err faults.NotJson) meant ≡ refuses not_json
+no_json meant = refl
+
 -- ---- objects
 
--- the key is what the part spells, and the body is read
-puts : (part body : List ℕ) → is_key (key_of part) ≡ true → meant_of (object (codes "logs") part) (codes "PUT") body ≡ put_meant (codes "logs") (key_of part) (put_of body)
-unfolding object_meant is_bucket_name
-puts part body is = ap (λ (b : Bool). if b then put_meant (codes "logs") (key_of part) (put_of body) else refuses bad_key) is
+-- the key is what the part spells
+keyed : (part : List ℕ) (meant : List ℕ → Meant) → is_key (key_of part) ≡ true → by_key part meant ≡ meant (key_of part)
+keyed part meant is = ap (λ (b : Bool). if b then meant (key_of part) else refuses bad_key) is
 
-whole_body : put_meant (codes "logs") (codes "a") (Ok (record { size = 5; class = Glacier; tags = [] })) ≡ asks (Command (Put (codes "logs") (codes "a") 5 Glacier []))
-whole_body = refl
-
-some_tags : put_meant (codes "logs") (codes "a") (Ok (record { size = 5; class = Glacier; tags = (codes "k", codes "v") ∷ [] })) ≡ refuses not_built
-some_tags = refl
-
-no_class : put_meant (codes "logs") (codes "a") (Err (unsupported_class (codes "FOO"))) ≡ refuses (flawed (unsupported_class (codes "FOO")))
-no_class = refl
+not_keyed : (part : List ℕ) (meant : List ℕ → Meant) → is_key (key_of part) ≡ false → by_key part meant ≡ refuses bad_key
+not_keyed part meant is = ap (λ (b : Bool). if b then meant (key_of part) else refuses bad_key) is
 
 -- a bad name comes before a bad key, and that before a bad body
-name_first : meant_of (object (codes "lo") (codes "%ff")) (codes "PUT") (codes "[]") ≡ refuses bad_bucket_name
+name_first : meant_of (targets.object (codes "lo") (codes "%ff")) (codes "PUT") (codes "[]") ≡ refuses bad_bucket_name
 unfolding object_meant is_bucket_name
 name_first = refl
 
-key_next : (part body : List ℕ) → is_key (key_of part) ≡ false → meant_of (object (codes "logs") part) (codes "PUT") body ≡ refuses bad_key
-unfolding object_meant is_bucket_name
-key_next part body is = ap (λ (b : Bool). if b then put_meant (codes "logs") (key_of part) (put_of body) else refuses bad_key) is
+-- parts of the path go from left to right: a name, an id, a key
+name_before_id : meant_of (targets.version (codes "lo") (codes "01") (codes "%ff")) (codes "DELETE") [] ≡ refuses bad_bucket_name
+unfolding version_meant is_bucket_name
+name_before_id = refl
 
--- an object is not read yet
-reads : meant_of (object (codes "logs") (codes "a")) (codes "GET") [] ≡ refuses not_built
-unfolding object_meant
-reads = refl
+id_before_key : meant_of (targets.version (codes "logs") (codes "01") (codes "%ff")) (codes "DELETE") [] ≡ refuses no_such_version
+unfolding version_meant is_bucket_name version_in number_in
+id_before_key = refl
 
--- ---- meters
+-- a version is not asked for by itself
+no_version_read : meant_of (targets.version (codes "logs") (codes "1") (codes "a")) (codes "GET") [] ≡ refuses not_built
+unfolding version_meant
+no_version_read = refl
 
-a_month : meant_of (meters (codes "logs") (codes "2024-02")) (codes "GET") [] ≡ asks (Query (Meters (codes "logs") (month_number 2024 2)))
+-- ---- uploads
+
+shows_upload : meant_of (targets.upload (codes "logs") (codes "7")) (codes "GET") [] ≡ asks (Query (Upload (codes "logs") 7))
+unfolding upload_meant is_bucket_name number_in
+shows_upload = refl
+
+completes : meant_of (targets.upload (codes "logs") (codes "7")) (codes "POST") [] ≡ asks (Command (Complete (codes "logs") 7))
+unfolding upload_meant is_bucket_name number_in
+completes = refl
+
+aborts : meant_of (targets.upload (codes "logs") (codes "7")) (codes "DELETE") [] ≡ asks (Command (Abort (codes "logs") 7))
+unfolding upload_meant is_bucket_name number_in
+aborts = refl
+
+-- the null version is no upload
+null_upload : meant_of (targets.upload (codes "logs") (codes "null")) (codes "GET") [] ≡ refuses no_such_upload
+unfolding upload_meant is_bucket_name number_in
+null_upload = refl
+
+puts_part : (body : List ℕ) (size : ℕ) → part_of body ≡ Ok size → meant_of (targets.part (codes "logs") (codes "7") (codes "00002")) (codes "PUT") body ≡ asks (Command (PutPart (codes "logs") 7 2 size))
+unfolding part_meant is_bucket_name number_in part_in
+puts_part body size is = ap (λ (said : Result ℕ BodyFlaw). by_body said (λ n. asks (Command (PutPart (codes "logs") 7 2 n)))) is
+
+upload_before_part : meant_of (targets.part (codes "logs") (codes "0") (codes "x")) (codes "PUT") (codes "[]") ≡ refuses no_such_upload
+unfolding part_meant is_bucket_name number_in
+upload_before_part = refl
+
+part_before_body : meant_of (targets.part (codes "logs") (codes "7") (codes "x")) (codes "PUT") (codes "[]") ≡ refuses bad_part
+unfolding part_meant is_bucket_name number_in part_in
+part_before_body = refl
+
+-- ---- meters, and what is not served yet
+
+a_month : meant_of (targets.meters (codes "logs") (codes "2024-02")) (codes "GET") [] ≡ asks (Query (Meters (codes "logs") (month_number 2024 2)))
 unfolding meters_meant is_bucket_name is_month begins_with_month
 a_month = refl
 
-no_month : meant_of (meters (codes "logs") (codes "2024-13")) (codes "GET") [] ≡ refuses not_a_month
+no_month : meant_of (targets.meters (codes "logs") (codes "2024-13")) (codes "GET") [] ≡ refuses not_a_month
 unfolding meters_meant is_bucket_name is_month begins_with_month
 no_month = refl
 
 -- a bad name comes before a text that is no month
-name_before_month : meant_of (meters (codes "lo") (codes "2024-13")) (codes "GET") [] ≡ refuses bad_bucket_name
+name_before_month : meant_of (targets.meters (codes "lo") (codes "2024-13")) (codes "GET") [] ≡ refuses bad_bucket_name
 unfolding meters_meant is_bucket_name is_month begins_with_month
 name_before_month = refl
+
+tariff_waits : meant_of targets.tariff (codes "GET") [] ≡ refuses not_built
+tariff_waits = refl

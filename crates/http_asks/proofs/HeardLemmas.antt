@@ -19,7 +19,7 @@ use Rattle.http_wire.proofs.Unique.{stands_unique, stands_rest, stands_more, not
 use Rattle.http_asks.specs.Counts.{Given, AreEnough}
 use Rattle.http_asks.specs.Faults.{refused_of}
 use Rattle.http_asks.specs.Hearing.{IsHeard, last_of}
-use Rattle.http_asks.specs.Meaning.{Refused, not_a_month, bad_bucket_name, bad_key, flawed, not_built, Meant, asks, refuses, meant_of, Means, IsMeant}
+use Rattle.http_asks.specs.Meaning.{Refused, not_a_date, not_midnight, not_a_month, bad_bucket_name, bad_key, flaw_in, not_json, unknown_field, wrong_shape, no_such_version, no_such_upload, bad_part, flawed, not_built, Meant, asks, refuses, meant_of, Means, IsMeant}
 use Rattle.http_asks.specs.Streams.{IsItem, IsUnbuilt, StandsUnbuilt, WantsMemory}
 use Rattle.http_asks.specs.Tells.{Tells, TellsRefused, IfServed, OnItem}
 use Rattle.http_asks.specs.declared.reader.Heard.{Heard}
@@ -100,9 +100,18 @@ refused_told : (bytes more after : List ℕ) (held : Held) (m : Parts) (broken :
     → Means (span_bytes held.bytes m.head.path) (span_bytes held.bytes m.head.method) (body_of m held.bytes) (refuses broken)
     → last ≡ last_of broken m.last → TellsRefused (Some (bytes ++ more)) broken last (Some (after ++ more))
 refused_told bytes more after held m not_built last a rest means ends = (unserved_stands bytes more held m a means, ends)
+refused_told bytes more after held m not_a_date last a rest means ends = item_stands bytes more after held m (refuses not_a_date) last a rest means (λ is. cc) ends
+refused_told bytes more after held m not_midnight last a rest means ends = item_stands bytes more after held m (refuses not_midnight) last a rest means (λ is. cc) ends
 refused_told bytes more after held m not_a_month last a rest means ends = item_stands bytes more after held m (refuses not_a_month) last a rest means (λ is. cc) ends
 refused_told bytes more after held m bad_bucket_name last a rest means ends = item_stands bytes more after held m (refuses bad_bucket_name) last a rest means (λ is. cc) ends
 refused_told bytes more after held m bad_key last a rest means ends = item_stands bytes more after held m (refuses bad_key) last a rest means (λ is. cc) ends
+refused_told bytes more after held m (flaw_in flaw rule) last a rest means ends = item_stands bytes more after held m (refuses (flaw_in flaw rule)) last a rest means (λ is. cc) ends
+refused_told bytes more after held m not_json last a rest means ends = item_stands bytes more after held m (refuses not_json) last a rest means (λ is. cc) ends
+refused_told bytes more after held m (unknown_field name) last a rest means ends = item_stands bytes more after held m (refuses (unknown_field name)) last a rest means (λ is. cc) ends
+refused_told bytes more after held m (wrong_shape field) last a rest means ends = item_stands bytes more after held m (refuses (wrong_shape field)) last a rest means (λ is. cc) ends
+refused_told bytes more after held m no_such_version last a rest means ends = item_stands bytes more after held m (refuses no_such_version) last a rest means (λ is. cc) ends
+refused_told bytes more after held m no_such_upload last a rest means ends = item_stands bytes more after held m (refuses no_such_upload) last a rest means (λ is. cc) ends
+refused_told bytes more after held m bad_part last a rest means ends = item_stands bytes more after held m (refuses bad_part) last a rest means (λ is. cc) ends
 refused_told bytes more after held m (flawed flaw) last a rest means ends = item_stands bytes more after held m (refuses (flawed flaw)) last a rest means (λ is. cc) ends
 
 request_told : (bytes more after : List ℕ) (held : Held) (m : Parts) (heard : Heard) → Answers bytes held m → after ≡ drop m.used held.bytes
@@ -118,9 +127,18 @@ whole_stream held xs ys given is = ap (λ (t : List ℕ). held ++ t) is ∙ sym 
 
 tells_refused_none : (broken : Refused) (bad_last last : Bool) (after : Option (List ℕ)) → bad_last ≡ last_of broken last → TellsRefused None broken bad_last after
 tells_refused_none not_built bad_last last after is = (tt, is)
+tells_refused_none not_a_date bad_last last after is = tt
+tells_refused_none not_midnight bad_last last after is = tt
 tells_refused_none not_a_month bad_last last after is = tt
 tells_refused_none bad_bucket_name bad_last last after is = tt
 tells_refused_none bad_key bad_last last after is = tt
+tells_refused_none (flaw_in flaw rule) bad_last last after is = tt
+tells_refused_none not_json bad_last last after is = tt
+tells_refused_none (unknown_field name) bad_last last after is = tt
+tells_refused_none (wrong_shape field) bad_last last after is = tt
+tells_refused_none no_such_version bad_last last after is = tt
+tells_refused_none no_such_upload bad_last last after is = tt
+tells_refused_none bad_part bad_last last after is = tt
 tells_refused_none (flawed flaw) bad_last last after is = tt
 
 tells_none : (heard : Heard) (Means : Meant → Type 0) (last : Bool) (after : Option (List ℕ)) → IsHeard Means last heard → Tells None heard after
@@ -217,9 +235,18 @@ end_enough a b la lb few gave end = record { given = gave.given; counted = gave.
 
 served_if : (broken : Refused) (P : Type 0) → P → IfServed broken P
 served_if not_built P p = tt
+served_if not_a_date P p = p
+served_if not_midnight P p = p
 served_if not_a_month P p = p
 served_if bad_bucket_name P p = p
 served_if bad_key P p = p
+served_if (flaw_in flaw rule) P p = p
+served_if not_json P p = p
+served_if (unknown_field name) P p = p
+served_if (wrong_shape field) P p = p
+served_if no_such_version P p = p
+served_if no_such_upload P p = p
+served_if bad_part P p = p
 served_if (flawed flaw) P p = p
 
 pub on_item : (heard : Heard) (P : Type 0) → P → OnItem {E = Stop} (Ok heard) P

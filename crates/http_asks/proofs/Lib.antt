@@ -1,3 +1,4 @@
 pub mod AskLemmas
 mod Examples
 pub mod HeardLemmas
+pub mod NumberLemmas

@@ -1,18 +1,14 @@
 -- What is heard of a request.
 use Rattle.std.specs.Prelude.{◌≡◌, Bool, true}
 use Rattle.http_asks.specs.Faults.{refused_of}
-use Rattle.http_asks.specs.Meaning.{Refused, not_a_month, bad_bucket_name, bad_key, flawed, not_built}
-use Rattle.http_asks.specs.Meaning.{Meant, asks, refuses}
+use Rattle.http_asks.specs.Meaning.{Refused, not_built, Meant, asks, refuses}
 use Rattle.http_asks.specs.declared.reader.Heard.{Heard}
 use Rattle.http_asks.specs.declared.reader.Heard.TheVariants.{Asked, Bad, End}
 
 -- whether a message is the last of its session: each is that is not served
 abbrev pub last_of : Refused → Bool → Bool
 last_of not_built last = true
-last_of not_a_month last = last
-last_of bad_bucket_name last = last
-last_of bad_key last = last
-last_of (flawed flaw) last = last
+last_of broken last = last
 
 -- what was heard is what is meant, and the last of its session where this is
 abbrev pub IsHeard : (Meant → Type 0) → Bool → Heard → Type 0

@@ -1,27 +1,47 @@
 -- What a request means, by its target, its method and its body. Methods are compared as they stand (RFC 9110,
 -- "Methods").
-use Rattle.std.specs.Prelude.{◌≡◌, ◌⊎◌, ℕ, Bool, List, [], ◌∷◌, codes, bytes_eq, Result, Ok, Err, if◌then◌else◌}
+use Rattle.std.specs.Prelude.{◌≡◌, ◌⊎◌, ℕ, Bool, List, codes, bytes_eq, if◌then◌else◌}
+use Rattle.std.specs.Prelude.{Option, Some, None, Result, Ok, Err}
 use Rattle.office_base.specs.Keys.{is_key}
 use Rattle.office_base.specs.Names.{is_bucket_name}
-use Rattle.office_base.specs.Tags.{Tag}
+use Rattle.office_base.specs.declared.version_id.VersionId.{VersionId}
 use Rattle.moments.specs.Dates.{is_month, year_in, month_in}
 use Rattle.moments.specs.Months.{month_number}
+use Rattle.rules_core.specs.Configurations.{Configuration}
+use Rattle.rules_core.specs.declared.flaw.RuleFlaw.{RuleFlaw}
+use Rattle.rules_json.specs.Reading.{rules_of}
+use Rattle.rules_json.specs.declared.fault.RulesFault.{RulesFault}
+use Rattle.rules_json.specs.declared.fault.RulesFault.TheVariants as faults
 use Rattle.office_types.specs.declared.command.Ask.{Ask}
 use Rattle.office_types.specs.declared.command.Ask.TheVariants.{Command, Query}
-use Rattle.office_types.specs.declared.command.Command.TheVariants.{CreateBucket, Put}
-use Rattle.office_types.specs.declared.command.Query.TheVariants.{Bucket, Meters}
-use Rattle.http_bodies.specs.declared.put.PutBody.{PutBody}
-use Rattle.http_bodies.specs.Flaws.{BodyFlaw}
+use Rattle.office_types.specs.declared.command.Command.TheVariants.{CreateBucket, SetVersioning, SetRules, DropRules}
+use Rattle.office_types.specs.declared.command.Command.TheVariants.{Put, Delete, DeleteVersion, SetTags}
+use Rattle.office_types.specs.declared.command.Command.TheVariants.{StartUpload, PutPart, Complete, Abort, Act}
+use Rattle.office_types.specs.declared.command.Query.TheVariants.{Bucket, Rules, Stack, Upload, Due, Meters}
+use Rattle.http_bodies.specs.Flaws.{BodyFlaw, unsupported_class}
+use Rattle.http_bodies.specs.Multipart.{upload_of, part_of}
 use Rattle.http_bodies.specs.Puts.{put_of}
+use Rattle.http_bodies.specs.Settings.{status_of, tagging_of}
 use Rattle.http_routes.specs.Spelled.{key_of}
-use Rattle.http_routes.specs.Targets.{Resource, bucket, object, meters, HasRoute}
+use Rattle.http_routes.specs.Targets.{Resource, HasRoute}
+use Rattle.http_routes.specs.Targets as targets
 use Rattle.http_wire.specs.Messages.{Request}
+use Rattle.http_asks.specs.Numbers.{number_in, version_in, part_in}
 
 -- the rule that a request breaks; not_built: it asks what is not served (own)
 pub data Refused : Type 0 where
+  not_a_date : Refused
+  not_midnight : Refused
   not_a_month : Refused
   bad_bucket_name : Refused
   bad_key : Refused
+  flaw_in : RuleFlaw → ℕ → Refused
+  not_json : Refused
+  unknown_field : List ℕ → Refused
+  wrong_shape : List ℕ → Refused
+  no_such_version : Refused
+  no_such_upload : Refused
+  bad_part : Refused
   flawed : BodyFlaw → Refused
   not_built : Refused
 
@@ -30,45 +50,188 @@ pub data Meant : Type 0 where
   asks : Ask → Meant
   refuses : Refused → Meant
 
--- the methods that are served (RFC 9110, "GET" and "PUT")
+-- ---- methods, parts of the path and bodies
+
+-- the methods that are served (RFC 9110, "GET", "PUT", "POST" and "DELETE")
 abbrev pub is_get : List ℕ → Bool
 is_get method = bytes_eq method (codes "GET")
 
 abbrev pub is_put : List ℕ → Bool
 is_put method = bytes_eq method (codes "PUT")
 
+abbrev pub is_post : List ℕ → Bool
+is_post method = bytes_eq method (codes "POST")
+
+abbrev pub is_delete : List ℕ → Bool
+is_delete method = bytes_eq method (codes "DELETE")
+
 -- this, where the bucket has a name
 abbrev pub if_name : List ℕ → Meant → Meant
 if_name name meant = if is_bucket_name name then meant else refuses bad_bucket_name
 
--- this, where the object has a key
-abbrev pub if_key : List ℕ → Meant → Meant
-if_key key meant = if is_key key then meant else refuses bad_key
+-- this of what a part of the path is read as, or this refusal
+abbrev pub by_part : {T : Type 0} → Option T → Refused → (T → Meant) → Meant
+by_part None refused meant = refuses refused
+by_part (Some part) refused meant = meant part
 
--- a bucket is made or asked for
+-- this of what a body says, or its flaw
+abbrev pub by_body : {T : Type 0} → Result T BodyFlaw → (T → Meant) → Meant
+by_body (Ok said) meant = meant said
+by_body (Err flaw) meant = refuses (flawed flaw)
+
+-- the rule that the text of a lifecycle configuration breaks; want of memory, the last, is the fault of no text
+abbrev pub broken_by : RulesFault → Refused
+broken_by faults.NotADate = not_a_date
+broken_by faults.NotMidnight = not_midnight
+broken_by faults.NotJson = not_json
+broken_by (faults.UnknownField name) = unknown_field name
+broken_by (faults.WrongShape field) = wrong_shape field
+broken_by (faults.UnsupportedClass name) = flawed (unsupported_class name)
+broken_by (faults.Flaw flaw rule) = flaw_in flaw rule
+broken_by faults.NoMemory = not_json
+
+-- this of a lifecycle configuration, or what its text breaks
+abbrev pub by_rules : Result Configuration RulesFault → (Configuration → Meant) → Meant
+by_rules (Ok rules) meant = meant rules
+by_rules (Err fault) meant = refuses (broken_by fault)
+
+-- this, of the id of a version
+abbrev pub by_version : List ℕ → (VersionId → Meant) → Meant
+by_version id meant = by_part (version_in id) no_such_version meant
+
+-- this, of the number of an upload
+abbrev pub by_upload : List ℕ → (ℕ → Meant) → Meant
+by_upload id meant = by_part (number_in id) no_such_upload meant
+
+-- this, of the key of an object, which a part of the path spells
+abbrev pub by_key : List ℕ → (List ℕ → Meant) → Meant
+by_key part meant = if is_key (key_of part) then meant (key_of part) else refuses bad_key
+
+-- ---- what is asked: the parts of the path from left to right, then the body
+
+-- a lifecycle configuration is set
+abbrev pub set_rules_meant : List ℕ → List ℕ → Meant
+set_rules_meant name body =
+    if_name name (by_rules (rules_of body) (λ rules. asks (Command (SetRules name rules))))
+
+-- an object is put
+abbrev pub put_meant : List ℕ → List ℕ → List ℕ → Meant
+put_meant name part body =
+    if_name name (by_key part (λ key.
+    by_body (put_of body) (λ said. asks (Command (Put name key said.size said.class said.tags)))))
+
+-- the versions of an object are asked for
+abbrev pub stack_meant : List ℕ → List ℕ → Meant
+stack_meant name part = if_name name (by_key part (λ key. asks (Query (Stack name key))))
+
+-- an object is deleted
+abbrev pub delete_meant : List ℕ → List ℕ → Meant
+delete_meant name part = if_name name (by_key part (λ key. asks (Command (Delete name key))))
+
+-- a version is removed
+abbrev pub remove_meant : List ℕ → List ℕ → List ℕ → Meant
+remove_meant name id part =
+    if_name name (by_version id (λ version. by_key part (λ key. asks (Command (DeleteVersion name key version)))))
+
+-- the tags of a version are set
+abbrev pub set_tags_meant : List ℕ → List ℕ → List ℕ → List ℕ → Meant
+set_tags_meant name id part body =
+    if_name name (by_version id (λ version. by_key part (λ key.
+    by_body (tagging_of body) (λ tags. asks (Command (SetTags name key version tags))))))
+
+-- an upload is started
+abbrev pub start_meant : List ℕ → List ℕ → List ℕ → Meant
+start_meant name part body =
+    if_name name (by_key part (λ key.
+    by_body (upload_of body) (λ said. asks (Command (StartUpload name key said.class said.tags)))))
+
+-- an upload is asked for, completed or aborted
+abbrev pub shown_meant : List ℕ → List ℕ → Meant
+shown_meant name id = if_name name (by_upload id (λ upload. asks (Query (Upload name upload))))
+
+abbrev pub complete_meant : List ℕ → List ℕ → Meant
+complete_meant name id = if_name name (by_upload id (λ upload. asks (Command (Complete name upload))))
+
+abbrev pub abort_meant : List ℕ → List ℕ → Meant
+abort_meant name id = if_name name (by_upload id (λ upload. asks (Command (Abort name upload))))
+
+-- a part of an upload is put
+abbrev pub put_part_meant : List ℕ → List ℕ → List ℕ → List ℕ → Meant
+put_part_meant name id part body =
+    if_name name (by_upload id (λ upload. by_part (part_in part) bad_part (λ number.
+    by_body (part_of body) (λ size. asks (Command (PutPart name upload number size))))))
+
+-- ---- the routes: what a method asks of what the target names
+
+-- a bucket
 unfoldable pub bucket_meant : List ℕ → List ℕ → Meant
 bucket_meant method name =
     if is_put method then if_name name (asks (Command (CreateBucket name)))
     else if is_get method then if_name name (asks (Query (Bucket name)))
     else refuses not_built
 
--- an object without tags is put; tags are not served yet (own)
-abbrev pub if_untagged : List Tag → Meant → Meant
-if_untagged [] meant = meant
-if_untagged (tag ∷ tags) meant = refuses not_built
-
--- an object is put under a key as its body says
-abbrev pub put_meant : List ℕ → List ℕ → Result PutBody BodyFlaw → Meant
-put_meant name key (Ok body) = if_untagged body.tags (asks (Command (Put name key body.size body.class body.tags)))
-put_meant name key (Err flaw) = refuses (flawed flaw)
-
--- an object is put, under the key that the target spells
-unfoldable pub object_meant : List ℕ → List ℕ → List ℕ → List ℕ → Meant
-object_meant method name part body =
-    if is_put method then if_name name (if_key (key_of part) (put_meant name (key_of part) (put_of body)))
+-- the versioning of a bucket
+unfoldable pub versioning_meant : List ℕ → List ℕ → List ℕ → Meant
+versioning_meant method name body =
+    if is_put method
+    then if_name name (by_body (status_of body) (λ enabled. asks (Command (SetVersioning name enabled))))
     else refuses not_built
 
--- the meters of a month are asked for
+-- the lifecycle configuration of a bucket
+unfoldable pub lifecycle_meant : List ℕ → List ℕ → List ℕ → Meant
+lifecycle_meant method name body =
+    if is_put method then set_rules_meant name body
+    else if is_get method then if_name name (asks (Query (Rules name)))
+    else if is_delete method then if_name name (asks (Command (DropRules name)))
+    else refuses not_built
+
+-- an object
+unfoldable pub object_meant : List ℕ → List ℕ → List ℕ → List ℕ → Meant
+object_meant method name part body =
+    if is_put method then put_meant name part body
+    else if is_get method then stack_meant name part
+    else if is_delete method then delete_meant name part
+    else refuses not_built
+
+-- a version of an object
+unfoldable pub version_meant : List ℕ → List ℕ → List ℕ → List ℕ → Meant
+version_meant method name id part =
+    if is_delete method then remove_meant name id part else refuses not_built
+
+-- the tags of a version
+unfoldable pub tags_meant : List ℕ → List ℕ → List ℕ → List ℕ → List ℕ → Meant
+tags_meant method name id part body =
+    if is_put method then set_tags_meant name id part body else refuses not_built
+
+-- the uploads under a key
+unfoldable pub uploads_meant : List ℕ → List ℕ → List ℕ → List ℕ → Meant
+uploads_meant method name part body =
+    if is_post method then start_meant name part body else refuses not_built
+
+-- an upload
+unfoldable pub upload_meant : List ℕ → List ℕ → List ℕ → Meant
+upload_meant method name id =
+    if is_get method then shown_meant name id
+    else if is_post method then complete_meant name id
+    else if is_delete method then abort_meant name id
+    else refuses not_built
+
+-- a part of an upload
+unfoldable pub part_meant : List ℕ → List ℕ → List ℕ → List ℕ → List ℕ → Meant
+part_meant method name id part body =
+    if is_put method then put_part_meant name id part body else refuses not_built
+
+-- the next lifecycle action of a bucket, taken
+unfoldable pub act_meant : List ℕ → List ℕ → Meant
+act_meant method name =
+    if is_post method then if_name name (asks (Command (Act name))) else refuses not_built
+
+-- the next lifecycle action of a bucket, shown
+unfoldable pub due_meant : List ℕ → List ℕ → Meant
+due_meant method name =
+    if is_get method then if_name name (asks (Query (Due name))) else refuses not_built
+
+-- the meters of a bucket in a month
 unfoldable pub meters_meant : List ℕ → List ℕ → List ℕ → Meant
 meters_meant method name month =
     if is_get method then if_name name (
@@ -77,11 +240,23 @@ meters_meant method name month =
     )
     else refuses not_built
 
--- what a method asks of a resource, with this body
+-- what a method asks of a resource, with this body; tariffs, closes and reports are not served yet
 abbrev pub meant_of : Resource → List ℕ → List ℕ → Meant
-meant_of (bucket name) method body = bucket_meant method name
-meant_of (object name part) method body = object_meant method name part body
-meant_of (meters name month) method body = meters_meant method name month
+meant_of (targets.bucket name) method body = bucket_meant method name
+meant_of (targets.versioning name) method body = versioning_meant method name body
+meant_of (targets.lifecycle name) method body = lifecycle_meant method name body
+meant_of (targets.object name part) method body = object_meant method name part body
+meant_of (targets.version name id part) method body = version_meant method name id part
+meant_of (targets.tags name id part) method body = tags_meant method name id part body
+meant_of (targets.uploads name part) method body = uploads_meant method name part body
+meant_of (targets.upload name id) method body = upload_meant method name id
+meant_of (targets.part name id part) method body = part_meant method name id part body
+meant_of (targets.act name) method body = act_meant method name
+meant_of (targets.due name) method body = due_meant method name
+meant_of (targets.meters name month) method body = meters_meant method name month
+meant_of targets.tariff method body = refuses not_built
+meant_of (targets.close month) method body = refuses not_built
+meant_of (targets.report month) method body = refuses not_built
 
 -- a request with this target, method and body means this: what it asks of the resource that the target names, or
 -- nothing that is served where the target names none

@@ -2,7 +2,7 @@
 use Rattle.std.specs.Prelude.{◌≡◌, ℕ, Bool, true, List, Option, Result, Ok, Err, ⊤}
 use Rattle.std.specs.Io.KnownBytes.{IsAtEnd}
 use Rattle.http_asks.specs.Faults.{refused_of}
-use Rattle.http_asks.specs.Meaning.{Refused, not_a_month, bad_bucket_name, bad_key, flawed, not_built, asks, refuses}
+use Rattle.http_asks.specs.Meaning.{Refused, not_built, asks, refuses}
 use Rattle.http_asks.specs.Streams.{StandsItem, StandsUnbuilt}
 use Rattle.http_asks.specs.declared.reader.Heard.{Heard}
 use Rattle.http_asks.specs.declared.reader.Heard.TheVariants.{Asked, Bad, End}
@@ -11,10 +11,7 @@ use Rattle.http_asks.specs.declared.reader.Heard.TheVariants.{Asked, Bad, End}
 -- the last
 abbrev pub TellsRefused : Option (List ℕ) → Refused → Bool → Option (List ℕ) → Type 0
 TellsRefused before not_built last after = StandsUnbuilt before × (last ≡ true)
-TellsRefused before not_a_month last after = StandsItem before (refuses not_a_month) last after
-TellsRefused before bad_bucket_name last after = StandsItem before (refuses bad_bucket_name) last after
-TellsRefused before bad_key last after = StandsItem before (refuses bad_key) last after
-TellsRefused before (flawed flaw) last after = StandsItem before (refuses (flawed flaw)) last after
+TellsRefused before broken last after = StandsItem before (refuses broken) last after
 
 -- what was heard stands at the front of the stream, which is then the later one
 abbrev pub Tells : Option (List ℕ) → Heard → Option (List ℕ) → Type 0
@@ -25,10 +22,7 @@ Tells before End after = IsAtEnd before
 -- P, where the rule is one that an item breaks
 abbrev pub IfServed : Refused → Type 0 → Type 0
 IfServed not_built P = ⊤
-IfServed not_a_month P = P
-IfServed bad_bucket_name P = P
-IfServed bad_key P = P
-IfServed (flawed flaw) P = P
+IfServed broken P = P
 
 -- P, where an item was heard
 abbrev pub OnItem : {E : Type 0} → Result Heard E → Type 0 → Type 0

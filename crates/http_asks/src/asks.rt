@@ -2,79 +2,15 @@
 ghost use Rattle.std.specs.Prelude.{◌≡◌};
 ghost use Rattle.http_routes.specs.Targets.{resource_of};
 ghost use Rattle.http_asks.specs.Faults.{OnMeant};
-ghost use Rattle.http_bodies.specs.Puts.{put_of};
-ghost use Rattle.http_routes.specs.Spelled.{key_of};
-ghost use Rattle.http_asks.specs.Meaning.{Means, if_name, if_key, put_meant};
-ghost use Rattle.http_asks.specs.Meaning.{bucket_meant, object_meant, meters_meant, meant_of};
+ghost use Rattle.http_asks.specs.Meaning.{Means, meant_of};
 
 use crate::bad::{Bad, Fault};
-use crate::parts::{bucket_name, month_of, object_key, put_body};
+use crate::bucket_asks::{act_ask, bucket_ask, due_ask, lifecycle_ask, meters_ask, versioning_ask};
+use crate::object_asks::{object_ask, tags_ask, version_ask};
+use crate::upload_asks::{part_ask, upload_ask, uploads_ask};
 use http_routes::{Route, Routes};
-use office_types::{Ask, Command, Query};
+use office_types::Ask;
 use std::alloc::Global;
-
-#[tactic(auto, unfolding(crate::specs::Meaning::bucket_meant))]
-fn bucket_ask(alloc: Global, method: &[u8], name: &str) -> Result<Ask, Fault>
-    ensures { OnMeant result (λ meant. meant ≡ bucket_meant method.now name.now) }
-{
-    if method == b"PUT".as_slice() {
-        let bucket = bucket_name(alloc, name)?;
-        return Ok(Ask::Command(Command::CreateBucket { bucket }));
-    }
-    if method == b"GET".as_slice() {
-        let bucket = bucket_name(alloc, name)?;
-        return Ok(Ask::Query(Query::Bucket(bucket)));
-    }
-    Err(Fault::Bad(Bad::NotBuilt))
-}
-
-// The ask of a PUT of an object.
-fn put_ask(alloc: Global, name: &str, key: &str, body: &[u8]) -> Result<Ask, Fault>
-    ensures { OnMeant result (λ meant. meant
-        ≡ if_name name.now (if_key (key_of key.now) (put_meant name.now (key_of key.now) (put_of body.now)))) }
-{
-    let bucket = bucket_name(alloc, name)?;
-    let key = object_key(alloc, key)?;
-    let body = put_body(alloc, body)?;
-    if !body.tags.pairs().is_empty() {
-        return Err(Fault::Bad(Bad::NotBuilt));
-    }
-    Ok(Ask::Command(Command::Put {
-        bucket,
-        key,
-        size: body.size,
-        class: body.class,
-        tags: body.tags,
-    }))
-}
-
-#[tactic(auto, unfolding(crate::specs::Meaning::object_meant))]
-fn object_ask(
-    alloc: Global,
-    method: &[u8],
-    name: &str,
-    key: &str,
-    body: &[u8],
-) -> Result<Ask, Fault>
-    ensures { OnMeant result (λ meant. meant ≡ object_meant method.now name.now key.now body.now) }
-{
-    if method == b"PUT".as_slice() {
-        return put_ask(alloc, name, key, body);
-    }
-    Err(Fault::Bad(Bad::NotBuilt))
-}
-
-#[tactic(auto, unfolding(crate::specs::Meaning::meters_meant))]
-fn meters_ask(alloc: Global, method: &[u8], name: &str, month: &str) -> Result<Ask, Fault>
-    ensures { OnMeant result (λ meant. meant ≡ meters_meant method.now name.now month.now) }
-{
-    if method == b"GET".as_slice() {
-        let bucket = bucket_name(alloc, name)?;
-        let month = month_of(month)?;
-        return Ok(Ask::Query(Query::Meters(bucket, month)));
-    }
-    Err(Fault::Bad(Bad::NotBuilt))
-}
 
 // What a method asks of the resource that a route names.
 fn route_ask(alloc: Global, route: Route<'_>, method: &[u8], body: &[u8]) -> Result<Ask, Fault>
@@ -82,8 +18,20 @@ fn route_ask(alloc: Global, route: Route<'_>, method: &[u8], body: &[u8]) -> Res
 {
     match route {
         Route::Bucket { bucket } => bucket_ask(alloc, method, bucket),
+        Route::Versioning { bucket } => versioning_ask(alloc, method, bucket, body),
+        Route::Lifecycle { bucket } => lifecycle_ask(alloc, method, bucket, body),
         Route::Object { bucket, key } => object_ask(alloc, method, bucket, key, body),
+        Route::Version { bucket, id, key } => version_ask(alloc, method, bucket, id, key),
+        Route::Tags { bucket, id, key } => tags_ask(alloc, method, bucket, id, key, body),
+        Route::Uploads { bucket, key } => uploads_ask(alloc, method, bucket, key, body),
+        Route::Upload { bucket, id } => upload_ask(alloc, method, bucket, id),
+        Route::Part { bucket, id, part } => part_ask(alloc, method, bucket, id, part, body),
+        Route::Act { bucket } => act_ask(alloc, method, bucket),
+        Route::Due { bucket } => due_ask(alloc, method, bucket),
         Route::Meters { bucket, month } => meters_ask(alloc, method, bucket, month),
+        Route::Tariff | Route::Close { .. } | Route::Report { .. } => {
+            Err(Fault::Bad(Bad::NotBuilt))
+        }
     }
 }
 

@@ -2,28 +2,63 @@
 ghost use Rattle.std.specs.Prelude.{◌≡◌, Some, option_map};
 ghost use Rattle.http_bodies.specs.Flaws.{flaw_of};
 ghost use Rattle.http_asks.specs.Faults.{OnBroken};
-ghost use Rattle.http_asks.specs.Meaning.{flawed};
+ghost use Rattle.http_asks.specs.Meaning.{flawed, broken_by};
+ghost use Rattle.rules_json.specs.Faults.{told_of};
 
 use http_bodies::BodyFault;
+use rules_core::RuleFlaw;
+use rules_json::RulesFault;
 
 /// Refusals that a message's own text decides.
 #[derive(PartialEq, Debug, Drop)]
 pub enum Bad {
+    /// A date is none from 1970-01-01 to 2099-12-31, alone or with a time in UTC.
+    NotADate,
+    /// A date's time is not midnight.
+    NotMidnight,
     /// The text is not `YYYY-MM`, or no month from 1970-01 to 2099-12.
     NotAMonth,
     /// The part of the path is out of the range of bucket names.
     BadBucketName,
     /// The part of the path, percent-decoded, is out of the range of keys.
     BadKey,
-    /// The size is above 5 TiB.
-    BadSize,
-    /// The name is that of no storage class.
-    UnsupportedClass { name: String },
     /// There are more than 10 tags, a key has not 1 to 128 characters, or a value has more than 256.
     BadTags,
+    /// The size is above 5 TiB.
+    BadSize,
+    /// A rule of a lifecycle configuration breaks a condition.
+    Flaw {
+        /// The condition.
+        flaw: RuleFlaw,
+        /// The place of the rule, from 1; 0 where it is the number of rules.
+        rule: u32,
+    },
+    /// The bytes of a lifecycle configuration are no JSON text.
+    NotJson,
+    /// An object of a lifecycle configuration has a field that is none of its own.
+    UnknownField {
+        name: String,
+    },
+    /// The field of a lifecycle configuration is missing, has another kind of value, is out of its range or is too many;
+    /// an empty name: the whole is no object.
+    WrongShape {
+        field: String,
+    },
+    /// The name is that of no storage class.
+    UnsupportedClass {
+        name: String,
+    },
+    /// The part of the path is not spelled as the id of a version.
+    NoSuchVersion,
+    /// The part of the path is not spelled as the number of an upload.
+    NoSuchUpload,
+    /// The part of the path is not 1 to 5 digits.
+    BadPart,
     /// The field of the body is missing, has another kind of value or is not one of the body's; an empty name: the body
     /// is no JSON object.
-    BadBody { field: String },
+    BadBody {
+        field: String,
+    },
     /// The message is none that is served. It is the last of its session.
     NotBuilt,
 }
@@ -46,5 +81,26 @@ pub(crate) fn fault_of(fault: BodyFault) -> Fault
         BodyFault::UnsupportedClass { name } => Fault::Bad(Bad::UnsupportedClass { name }),
         BodyFault::BadTags => Fault::Bad(Bad::BadTags),
         BodyFault::NoMemory => Fault::NoMemory,
+    }
+}
+
+pub(crate) fn rules_fault(fault: RulesFault) -> Fault
+    ensures { OnBroken result (λ broken. option_map broken_by (told_of fault) ≡ Some broken) }
+{
+    match fault {
+        RulesFault::NotADate => Fault::Bad(Bad::NotADate),
+        RulesFault::NotMidnight => Fault::Bad(Bad::NotMidnight),
+        RulesFault::NotJson => Fault::Bad(Bad::NotJson),
+        RulesFault::UnknownField { name } => Fault::Bad(Bad::UnknownField {
+            name: name.into_string(),
+        }),
+        RulesFault::WrongShape { field } => Fault::Bad(Bad::WrongShape {
+            field: field.into_string(),
+        }),
+        RulesFault::UnsupportedClass { name } => Fault::Bad(Bad::UnsupportedClass {
+            name: name.into_string(),
+        }),
+        RulesFault::Flaw { flaw, rule } => Fault::Bad(Bad::Flaw { flaw, rule }),
+        RulesFault::NoMemory => Fault::NoMemory,
     }
 }

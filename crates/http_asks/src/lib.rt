@@ -3,11 +3,15 @@
 
 mod asks;
 mod bad;
+mod bodies;
+mod bucket_asks;
 mod laws;
+mod object_asks;
 mod parts;
 mod reader;
 #[cfg(test)]
 mod tests;
+mod upload_asks;
 
 pub use bad::Bad;
 pub use laws::{means_one_thing, one_item};

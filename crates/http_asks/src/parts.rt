@@ -1,19 +1,19 @@
-// The parts of a request that have ranges.
-ghost use Rattle.std.specs.Prelude.{◌≡◌, true, false, IfOk, IfErr, Ok, Err};
+// The parts of a path that have ranges.
+ghost use Rattle.std.specs.Prelude.{◌≡◌, true, false, IfOk, IfErr};
 ghost use Rattle.office_base.specs.Keys.{is_key};
 ghost use Rattle.office_base.specs.Names.{is_bucket_name};
 ghost use Rattle.moments.specs.Dates.{is_month, year_in, month_in};
 ghost use Rattle.moments.specs.Months.{month_number};
-ghost use Rattle.http_bodies.specs.Puts.{put_of};
 ghost use Rattle.http_routes.specs.Spelled.{key_of};
-ghost use Rattle.http_asks.specs.Faults.{OnBroken, HasFlaw};
+ghost use Rattle.http_asks.specs.Faults.{OnBroken, IsRead};
 ghost use Rattle.http_asks.specs.Meaning.{bad_bucket_name, bad_key, not_a_month};
+ghost use Rattle.http_asks.specs.Meaning.{no_such_version, no_such_upload, bad_part};
+ghost use Rattle.http_asks.specs.Numbers.{number_in, version_in, are_digits, is_part_number, part_in};
 
-use crate::bad::{Bad, Fault, fault_of};
-use http_bodies::{PutBody, read_put};
+use crate::bad::{Bad, Fault};
 use http_routes::read_key;
 use moments::{Month, read_month};
-use office_base::{BucketName, Key, NameRefusal};
+use office_base::{BucketName, Key, NameRefusal, VersionId};
 use std::alloc::Global;
 
 pub(crate) fn bucket_name(alloc: Global, part: &str) -> Result<BucketName, Fault>
@@ -40,17 +40,6 @@ pub(crate) fn object_key(alloc: Global, part: &str) -> Result<Key, Fault>
     }
 }
 
-#[tactic(auto, using(crate::proofs::AskLemmas::flaw_told))]
-pub(crate) fn put_body(alloc: Global, bytes: &[u8]) -> Result<PutBody, Fault>
-    ensures ok { IfOk result (λ body. put_of bytes.now ≡ Ok body) }
-    ensures err { IfErr result (λ fault. OnBroken fault (λ broken. HasFlaw (put_of bytes.now) broken)) }
-{
-    match read_put(alloc, bytes) {
-        Ok(body) => Ok(body),
-        Err(fault) => Err(fault_of(fault)),
-    }
-}
-
 pub(crate) fn month_of(part: &str) -> Result<Month, Fault>
     ensures ok { IfOk result (λ m. (m ≡ month_number (year_in part.now) (month_in part.now))
         × (is_month part.now ≡ true)) }
@@ -60,5 +49,55 @@ pub(crate) fn month_of(part: &str) -> Result<Month, Fault>
     match read_month(part) {
         Ok(month) => Ok(month),
         Err(_) => Err(Fault::Bad(Bad::NotAMonth)),
+    }
+}
+
+#[tactic(auto, using(crate::proofs::NumberLemmas::no_version))]
+pub(crate) fn version_id(part: &str) -> Result<VersionId, Fault>
+    ensures { IsRead (version_in part.now) no_such_version result }
+{
+    match VersionId::read(part) {
+        Some(id) => Ok(id),
+        None => Err(Fault::Bad(Bad::NoSuchVersion)),
+    }
+}
+
+// The number of an upload is written as that of a version.
+#[tactic(auto, using(crate::proofs::NumberLemmas::upload_texts))]
+pub(crate) fn upload_number(part: &str) -> Result<u64, Fault>
+    ensures { IsRead (number_in part.now) no_such_upload result }
+{
+    match VersionId::read(part) {
+        Some(id) => match id {
+            VersionId::Number(number) => Ok(number.get()),
+            VersionId::Null => Err(Fault::Bad(Bad::NoSuchUpload)),
+        },
+        None => Err(Fault::Bad(Bad::NoSuchUpload)),
+    }
+}
+
+fn are_digits(text: &str) -> bool
+    ensures { result ≡ are_digits text.now }
+{
+    text.as_bytes().iter().all(|byte| byte.is_ascii_digit())
+}
+
+// The text is 1 to 5 digits.
+fn is_part_number(text: &str) -> bool
+    ensures { result ≡ is_part_number text.now }
+{
+    !text.is_empty() && text.len() <= 5 && are_digits(text)
+}
+
+#[tactic(auto, using(crate::proofs::NumberLemmas::part_read), unfolding(crate::specs::Numbers::part_in))]
+pub(crate) fn part_number(part: &str) -> Result<u32, Fault>
+    ensures { IsRead (part_in part.now) bad_part result }
+{
+    if !is_part_number(part) {
+        return Err(Fault::Bad(Bad::BadPart));
+    }
+    match part.parse::<u32>() {
+        Ok(number) => Ok(number),
+        Err(_) => Err(Fault::Bad(Bad::BadPart)),
     }
 }

@@ -1,6 +1,6 @@
 use super::*;
 use http_wire::MemorySource;
-use office_base::Key;
+use office_base::{Key, Tags, VersionId};
 use office_types::{Ask, Command, Query};
 use std::alloc::Global;
 use std::process::Abort;
@@ -16,29 +16,115 @@ fn put_key(text: &mut String, key: &Key) -> Result<(), Fail> {
     Ok(())
 }
 
-fn put_ask(text: &mut String, ask: &Ask) -> Result<(), Fail> {
-    match ask {
-        Ask::Command(Command::CreateBucket { bucket }) => {
-            write!(text, "CreateBucket {}", bucket.text())?;
+fn put_id(text: &mut String, id: VersionId) -> Result<(), Fail> {
+    match id {
+        VersionId::Null => text.push_str(" null")?,
+        VersionId::Number(number) => write!(text, " {}", number.get())?,
+    }
+    Ok(())
+}
+
+fn put_tags(text: &mut String, tags: &Tags) -> Result<(), Fail> {
+    for (key, value) in tags.pairs() {
+        write!(text, " {key}={value}")?;
+    }
+    Ok(())
+}
+
+fn put_bucket_command(text: &mut String, command: &Command) -> Result<(), Fail> {
+    match command {
+        Command::CreateBucket { bucket } => write!(text, "CreateBucket {}", bucket.text())?,
+        Command::SetVersioning { bucket, enabled } => {
+            write!(text, "SetVersioning {} {enabled}", bucket.text())?;
         }
-        Ask::Command(
-            Command::Put {
-                bucket,
-                key,
-                size,
-                class,
-                tags,
-            },
-        ) => {
+        Command::SetRules { bucket, rules } => {
+            write!(text, "SetRules {} {}", bucket.text(), rules.rules().len())?;
+        }
+        Command::DropRules { bucket } => write!(text, "DropRules {}", bucket.text())?,
+        Command::Act { bucket } => write!(text, "Act {}", bucket.text())?,
+        _ => {}
+    }
+    Ok(())
+}
+
+fn put_object_command(text: &mut String, command: &Command) -> Result<(), Fail> {
+    match command {
+        Command::Put {
+            bucket,
+            key,
+            size,
+            class,
+            tags,
+        } => {
             write!(text, "Put {} ", bucket.text())?;
             put_key(text, key)?;
             write!(text, " {} {}", size.bytes(), class.name())?;
-            if !tags.pairs().is_empty() {
-                text.push_str(" tagged")?;
-            }
+            put_tags(text, tags)?;
         }
-        Ask::Query(Query::Bucket(bucket)) => write!(text, "Bucket {}", bucket.text())?,
-        Ask::Query(Query::Meters(bucket, month)) => {
+        Command::Delete { bucket, key } => {
+            write!(text, "Delete {} ", bucket.text())?;
+            put_key(text, key)?;
+        }
+        Command::DeleteVersion { bucket, key, id } => {
+            write!(text, "DeleteVersion {} ", bucket.text())?;
+            put_key(text, key)?;
+            put_id(text, *id)?;
+        }
+        Command::SetTags {
+            bucket,
+            key,
+            id,
+            tags,
+        } => {
+            write!(text, "SetTags {} ", bucket.text())?;
+            put_key(text, key)?;
+            put_id(text, *id)?;
+            put_tags(text, tags)?;
+        }
+        _ => {}
+    }
+    Ok(())
+}
+
+fn put_upload_command(text: &mut String, command: &Command) -> Result<(), Fail> {
+    match command {
+        Command::StartUpload {
+            bucket,
+            key,
+            class,
+            tags,
+        } => {
+            write!(text, "StartUpload {} ", bucket.text())?;
+            put_key(text, key)?;
+            write!(text, " {}", class.name())?;
+            put_tags(text, tags)?;
+        }
+        Command::PutPart {
+            bucket,
+            upload,
+            part,
+            size,
+        } => write!(text, "PutPart {} {upload} {part} {size}", bucket.text())?,
+        Command::Complete { bucket, upload } => {
+            write!(text, "Complete {} {upload}", bucket.text())?;
+        }
+        Command::Abort { bucket, upload } => write!(text, "Abort {} {upload}", bucket.text())?,
+        _ => {}
+    }
+    Ok(())
+}
+
+fn put_query(text: &mut String, query: &Query) -> Result<(), Fail> {
+    match query {
+        Query::Bucket(bucket) => write!(text, "Bucket {}", bucket.text())?,
+        Query::Rules(bucket) => write!(text, "Rules {}", bucket.text())?,
+        Query::Stack(bucket, key) => {
+            write!(text, "Stack {} ", bucket.text())?;
+            put_key(text, key)?;
+        }
+        Query::Upload(bucket, upload) => write!(text, "Upload {} {upload}", bucket.text())?,
+        Query::Due(bucket) => write!(text, "Due {}", bucket.text())?,
+        Query::Meters(bucket, month) => {
             write!(
                 text,
                 "Meters {} {}/{}",
@@ -47,24 +133,54 @@ fn put_ask(text: &mut String, ask: &Ask) -> Result<(), Fail> {
                 month.month()
             )?;
         }
-        _ => text.push_str("another ask")?,
+        _ => {}
     }
     Ok(())
 }
 
-fn put_bad(text: &mut String, bad: &Bad) -> Result<(), Fail> {
-    let (word, more) = match bad {
+// Writes what is asked; each of the three writes the commands of its own.
+fn put_ask(text: &mut String, ask: &Ask) -> Result<(), Fail> {
+    match ask {
+        Ask::Command(command) => {
+            put_bucket_command(text, command)?;
+            put_object_command(text, command)?;
+            put_upload_command(text, command)?;
+        }
+        Ask::Query(query) => put_query(text, query)?,
+    }
+    Ok(())
+}
+
+// The name of a refusal, and the text that it holds.
+fn words_of(bad: &Bad) -> (&str, &str) {
+    match bad {
+        Bad::NotADate => ("NotADate", ""),
+        Bad::NotMidnight => ("NotMidnight", ""),
         Bad::NotAMonth => ("NotAMonth", ""),
         Bad::BadBucketName => ("BadBucketName", ""),
         Bad::BadKey => ("BadKey", ""),
-        Bad::BadSize => ("BadSize", ""),
-        Bad::UnsupportedClass { name } => ("UnsupportedClass ", name.as_str()),
         Bad::BadTags => ("BadTags", ""),
+        Bad::BadSize => ("BadSize", ""),
+        Bad::Flaw { .. } => ("Flaw ", ""),
+        Bad::NotJson => ("NotJson", ""),
+        Bad::UnknownField { name } => ("UnknownField ", name.as_str()),
+        Bad::WrongShape { field } => ("WrongShape ", field.as_str()),
+        Bad::UnsupportedClass { name } => ("UnsupportedClass ", name.as_str()),
+        Bad::NoSuchVersion => ("NoSuchVersion", ""),
+        Bad::NoSuchUpload => ("NoSuchUpload", ""),
+        Bad::BadPart => ("BadPart", ""),
         Bad::BadBody { field } => ("BadBody ", field.as_str()),
         Bad::NotBuilt => ("NotBuilt", ""),
-    };
+    }
+}
+
+fn put_bad(text: &mut String, bad: &Bad) -> Result<(), Fail> {
+    let (word, more) = words_of(bad);
     text.push_str(word)?;
     text.push_str(more)?;
+    if let Bad::Flaw { flaw, rule } = bad {
+        write!(text, "{flaw:?} {rule}")?;
+    }
     Ok(())
 }
 
@@ -151,7 +267,7 @@ fn assert_requests(rt: &impl Abort, alloc: Global, rows: &[Row]) -> Result<(), F
     Ok(())
 }
 
-const BUCKETS: [Row; 9] = [
+const BUCKETS: [Row; 17] = [
     ("PUT /buckets/logs", "", "CreateBucket logs"),
     ("GET /buckets/logs", "", "Bucket logs"),
     ("PUT /buckets/my.log-2", "", "CreateBucket my.log-2"),
@@ -163,6 +279,26 @@ const BUCKETS: [Row; 9] = [
     ("GET /buckets/lo", "", "BadBucketName"),
     // A name is not decoded.
     ("PUT /buckets/lo%67s", "", "BadBucketName"),
+    (
+        "PUT /buckets/logs/versioning",
+        "{\"Status\":\"Enabled\"}",
+        "SetVersioning logs true",
+    ),
+    (
+        "PUT /buckets/logs/versioning",
+        "{\"Status\":\"Suspended\"}",
+        "SetVersioning logs false",
+    ),
+    (
+        "PUT /buckets/logs/versioning",
+        "{\"Status\":\"Off\"}",
+        "BadBody Status",
+    ),
+    ("PUT /buckets/lo/versioning", "[]", "BadBucketName"),
+    ("POST /buckets/logs/act", "", "Act logs"),
+    ("POST /buckets/lo/act", "", "BadBucketName"),
+    ("GET /buckets/logs/due", "", "Due logs"),
+    ("GET /buckets/lo/due", "", "BadBucketName"),
 ];
 
 #[test]
@@ -170,7 +306,63 @@ fn requests_for_buckets(rt: HostRuntime) -> Result<(), Fail> {
     assert_requests(&rt, rt.alloc(), &BUCKETS)
 }
 
-const PUTS: [Row; 19] = [
+const LIFECYCLES: [Row; 15] = [
+    (
+        "PUT /buckets/logs/lifecycle",
+        "{\"Rules\":[{\"Status\":\"Enabled\",\"Expiration\":{\"Days\":365}}]}",
+        "SetRules logs 1",
+    ),
+    (
+        "PUT /buckets/logs/lifecycle",
+        "{\"Rules\":[]}",
+        "SetRules logs 0",
+    ),
+    ("GET /buckets/logs/lifecycle", "", "Rules logs"),
+    ("DELETE /buckets/logs/lifecycle", "", "DropRules logs"),
+    ("GET /buckets/lo/lifecycle", "", "BadBucketName"),
+    ("DELETE /buckets/lo/lifecycle", "", "BadBucketName"),
+    // The body goes as it stands to the reader of configurations, an empty one too.
+    ("PUT /buckets/logs/lifecycle", "", "NotJson"),
+    ("PUT /buckets/lo/lifecycle", "", "BadBucketName"),
+    ("PUT /buckets/logs/lifecycle", "[]", "WrongShape "),
+    (
+        "PUT /buckets/logs/lifecycle",
+        "{\"Rules\":7}",
+        "WrongShape Rules",
+    ),
+    (
+        "PUT /buckets/logs/lifecycle",
+        "{\"Rules\":[],\"Owner\":\"x\"}",
+        "UnknownField Owner",
+    ),
+    (
+        "PUT /buckets/logs/lifecycle",
+        "{\"Rules\":[{\"Status\":\"Enabled\",\"Expiration\":{\"Date\":\"2024-02-30\"}}]}",
+        "NotADate",
+    ),
+    (
+        "PUT /buckets/logs/lifecycle",
+        "{\"Rules\":[{\"Status\":\"Enabled\",\"Expiration\":{\"Date\":\"2024-02-03T04:00:00Z\"}}]}",
+        "NotMidnight",
+    ),
+    (
+        "PUT /buckets/logs/lifecycle",
+        "{\"Rules\":[{\"Status\":\"Enabled\",\"Transitions\":[{\"Days\":30,\"StorageClass\":\"FOO\"}]}]}",
+        "UnsupportedClass FOO",
+    ),
+    (
+        "PUT /buckets/logs/lifecycle",
+        "{\"Rules\":[{\"Status\":\"Enabled\",\"Expiration\":{\"Days\":0}}]}",
+        "Flaw BadDays 1",
+    ),
+];
+
+#[test]
+fn requests_for_lifecycle_configurations(rt: HostRuntime) -> Result<(), Fail> {
+    assert_requests(&rt, rt.alloc(), &LIFECYCLES)
+}
+
+const OBJECTS: [Row; 23] = [
     (
         "PUT /buckets/logs/objects/a",
         "{\"size\":5}",
@@ -183,13 +375,8 @@ const PUTS: [Row; 19] = [
     ),
     (
         "PUT /buckets/logs/objects/a",
-        "{\"size\":5,\"tags\":{}}",
-        "Put logs a 5 STANDARD",
-    ),
-    (
-        "PUT /buckets/logs/objects/a",
         "{\"size\":5,\"tags\":{\"kind\":\"raw\"}}",
-        "NotBuilt",
+        "Put logs a 5 STANDARD kind=raw",
     ),
     (
         "PUT /buckets/logs/objects/a%2Fb",
@@ -214,7 +401,6 @@ const PUTS: [Row; 19] = [
     ("PUT /buckets/logs/objects/%ff", "{\"size\":5}", "BadKey"),
     // A bad name comes before a bad key, and that before a bad body.
     ("PUT /buckets/lo/objects/%ff", "[]", "BadBucketName"),
-    ("PUT /buckets/lo/objects/a", "[]", "BadBucketName"),
     ("PUT /buckets/logs/objects/%ff", "[]", "BadKey"),
     ("PUT /buckets/logs/objects/a", "[]", "BadBody "),
     ("PUT /buckets/logs/objects/a", "", "BadBody size"),
@@ -243,11 +429,130 @@ const PUTS: [Row; 19] = [
         "{\"size\":5,\"tags\":{\"\":\"x\"}}",
         "BadTags",
     ),
+    ("GET /buckets/logs/objects/a/b", "[]", "Stack logs a/b"),
+    ("GET /buckets/lo/objects/%ff", "", "BadBucketName"),
+    ("GET /buckets/logs/objects/%ff", "", "BadKey"),
+    ("DELETE /buckets/logs/objects/a", "", "Delete logs a"),
+    ("DELETE /buckets/lo/objects/%ff", "", "BadBucketName"),
+    ("DELETE /buckets/logs/objects/%ff", "", "BadKey"),
 ];
 
 #[test]
-fn puts_of_objects(rt: HostRuntime) -> Result<(), Fail> {
-    assert_requests(&rt, rt.alloc(), &PUTS)
+fn requests_for_objects(rt: HostRuntime) -> Result<(), Fail> {
+    assert_requests(&rt, rt.alloc(), &OBJECTS)
+}
+
+const VERSIONS: [Row; 16] = [
+    (
+        "DELETE /buckets/logs/versions/null/a%20b",
+        "",
+        "DeleteVersion logs a b null",
+    ),
+    (
+        "DELETE /buckets/logs/versions/18446744073709551615/a/b",
+        "",
+        "DeleteVersion logs a/b 18446744073709551615",
+    ),
+    (
+        "DELETE /buckets/logs/versions/18446744073709551616/a",
+        "",
+        "NoSuchVersion",
+    ),
+    ("DELETE /buckets/logs/versions/0/a", "", "NoSuchVersion"),
+    ("DELETE /buckets/logs/versions/01/a", "", "NoSuchVersion"),
+    ("DELETE /buckets/logs/versions/+1/a", "", "NoSuchVersion"),
+    // The parts go from left to right: the name, the id, the key.
+    ("DELETE /buckets/lo/versions/01/%ff", "", "BadBucketName"),
+    ("DELETE /buckets/logs/versions/01/%ff", "", "NoSuchVersion"),
+    ("DELETE /buckets/logs/versions/1/%ff", "", "BadKey"),
+    (
+        "PUT /buckets/logs/tags/3/a",
+        "{\"tags\":{\"b\":\"y\",\"a\":\"x\"}}",
+        "SetTags logs a 3 a=x b=y",
+    ),
+    (
+        "PUT /buckets/logs/tags/null/a",
+        "{\"tags\":{}}",
+        "SetTags logs a null",
+    ),
+    ("PUT /buckets/logs/tags/3/a", "", "BadBody tags"),
+    ("PUT /buckets/lo/tags/x/%ff", "[]", "BadBucketName"),
+    ("PUT /buckets/logs/tags/x/%ff", "[]", "NoSuchVersion"),
+    ("PUT /buckets/logs/tags/3/%ff", "[]", "BadKey"),
+    ("PUT /buckets/logs/tags/3/a", "[]", "BadBody "),
+];
+
+#[test]
+fn requests_for_versions(rt: HostRuntime) -> Result<(), Fail> {
+    assert_requests(&rt, rt.alloc(), &VERSIONS)
+}
+
+const UPLOADS: [Row; 23] = [
+    (
+        "POST /buckets/logs/uploads/a/b",
+        "{\"class\":\"GLACIER\",\"tags\":{\"k\":\"v\"}}",
+        "StartUpload logs a/b GLACIER k=v",
+    ),
+    (
+        "POST /buckets/logs/uploads/a",
+        "",
+        "StartUpload logs a STANDARD",
+    ),
+    ("POST /buckets/lo/uploads/%ff", "[]", "BadBucketName"),
+    ("POST /buckets/logs/uploads/%ff", "[]", "BadKey"),
+    (
+        "POST /buckets/logs/uploads/a",
+        "{\"size\":1}",
+        "BadBody size",
+    ),
+    ("GET /buckets/logs/upload/1", "", "Upload logs 1"),
+    (
+        "POST /buckets/logs/upload/18446744073709551615",
+        "",
+        "Complete logs 18446744073709551615",
+    ),
+    ("DELETE /buckets/logs/upload/20", "", "Abort logs 20"),
+    ("GET /buckets/logs/upload/0", "", "NoSuchUpload"),
+    ("POST /buckets/logs/upload/01", "", "NoSuchUpload"),
+    (
+        "DELETE /buckets/logs/upload/18446744073709551616",
+        "",
+        "NoSuchUpload",
+    ),
+    ("GET /buckets/logs/upload/null", "", "NoSuchUpload"),
+    ("GET /buckets/lo/upload/null", "", "BadBucketName"),
+    (
+        "PUT /buckets/logs/parts/7/00001",
+        "{\"size\":18446744073709551615}",
+        "PutPart logs 7 1 18446744073709551615",
+    ),
+    (
+        "PUT /buckets/logs/parts/7/99999",
+        "{\"size\":0}",
+        "PutPart logs 7 99999 0",
+    ),
+    (
+        "PUT /buckets/logs/parts/7/0",
+        "{\"size\":0}",
+        "PutPart logs 7 0 0",
+    ),
+    (
+        "PUT /buckets/logs/parts/7/000001",
+        "{\"size\":0}",
+        "BadPart",
+    ),
+    ("PUT /buckets/logs/parts/7/+1", "{\"size\":0}", "BadPart"),
+    ("PUT /buckets/logs/parts/7/1a", "{\"size\":0}", "BadPart"),
+    // The parts go from left to right: the name, the upload, the part; then the body.
+    ("PUT /buckets/lo/parts/0/x", "[]", "BadBucketName"),
+    ("PUT /buckets/logs/parts/0/x", "[]", "NoSuchUpload"),
+    ("PUT /buckets/logs/parts/7/x", "[]", "BadPart"),
+    ("PUT /buckets/logs/parts/7/1", "[]", "BadBody "),
+];
+
+#[test]
+fn requests_for_uploads(rt: HostRuntime) -> Result<(), Fail> {
+    assert_requests(&rt, rt.alloc(), &UPLOADS)
 }
 
 const METERS: [Row; 8] = [
@@ -274,7 +579,7 @@ fn queries_of_meters(rt: HostRuntime) -> Result<(), Fail> {
     assert_requests(&rt, rt.alloc(), &METERS)
 }
 
-const NOT_SERVED: [Row; 10] = [
+const NOT_SERVED: [Row; 22] = [
     // Neither a route nor a method that is served.
     ("put /buckets/logs", "", "NotBuilt"),
     ("Get /buckets/logs", "", "NotBuilt"),
@@ -283,9 +588,22 @@ const NOT_SERVED: [Row; 10] = [
     ("GET /", "", "NotBuilt"),
     ("GET /bucket/logs", "", "NotBuilt"),
     ("GET /buckets/logs?list-type=2", "", "NotBuilt"),
-    ("GET /buckets/logs/objects/a", "", "NotBuilt"),
+    ("GET /buckets/lo/versioning", "", "NotBuilt"),
+    ("POST /buckets/logs/lifecycle", "{}", "NotBuilt"),
+    ("POST /buckets/logs/objects/a", "", "NotBuilt"),
+    ("GET /buckets/logs/versions/0/a", "", "NotBuilt"),
+    ("GET /buckets/logs/tags/0/a", "", "NotBuilt"),
+    ("GET /buckets/logs/uploads/a", "", "NotBuilt"),
+    ("PUT /buckets/logs/upload/0", "", "NotBuilt"),
+    ("GET /buckets/logs/parts/0/x", "", "NotBuilt"),
+    ("GET /buckets/logs/act", "", "NotBuilt"),
+    ("POST /buckets/logs/due", "", "NotBuilt"),
     ("PUT /buckets/logs/meters/2024-01", "", "NotBuilt"),
     ("PUT /buckets/logs/objects/", "{\"size\":5}", "NotBuilt"),
+    // Not served yet.
+    ("GET /tariff", "", "NotBuilt"),
+    ("POST /months/2024-01/close", "", "NotBuilt"),
+    ("GET /months/2024-01/report", "", "NotBuilt"),
 ];
 
 #[test]

@@ -1,7 +1,7 @@
 -- What is wrong with a body.
-use Rattle.std.specs.Prelude.{◌≡◌, ℕ, List, Option, Some, None, Result, Ok, Err, IfSome, string_bytes}
+use Rattle.std.specs.Prelude.{◌≡◌, ℕ, List, [], Option, Some, None, Result, Ok, Err, IfSome, ok_or, string_bytes}
 use Rattle.serde_json.specs.Data.{Data}
-use Rattle.http_bodies.specs.Bodies.{first_unknown}
+use Rattle.http_bodies.specs.Bodies.{body_of, first_unknown}
 use Rattle.http_bodies.specs.declared.fault.BodyFault.{BodyFault}
 use Rattle.http_bodies.specs.declared.fault.BodyFault.TheVariants.{BadBody, BadSize, UnsupportedClass}
 use Rattle.http_bodies.specs.declared.fault.BodyFault.TheVariants.{BadTags, NoMemory}
@@ -40,3 +40,7 @@ if_known body (Some name) = Err (bad_body name)
 -- the body has these fields alone
 abbrev pub with_fields : List (List ℕ) → Data → Result Data BodyFlaw
 with_fields known body = if_known body (first_unknown known body)
+
+-- the object that the bytes of a body are, which has these fields alone
+abbrev pub body_with : List (List ℕ) → List ℕ → Result Data BodyFlaw
+body_with known bytes = ok_or (body_of bytes) (bad_body []) >>= with_fields known

@@ -1,4 +1,6 @@
 pub mod Bodies
 pub mod Flaws
+pub mod Multipart
 pub mod Puts
 pub mod Ranges
+pub mod Settings

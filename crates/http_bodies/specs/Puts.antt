@@ -4,8 +4,8 @@ use Rattle.std.specs.Prelude.{ℕ, List, [], ◌∷◌, Option, Result, Ok, ok_o
 use Rattle.serde_json.specs.Find.{as_str}
 use Rattle.office_base.specs.Tags.{Tag}
 use Rattle.http_bodies.specs.declared.put.PutBody.{PutBody}
-use Rattle.http_bodies.specs.Bodies.{body_of, whole_number, text_pairs, held, if_held}
-use Rattle.http_bodies.specs.Flaws.{BodyFlaw, bad_body, with_fields, ◌>>=◌}
+use Rattle.http_bodies.specs.Bodies.{whole_number, text_pairs, held, if_held}
+use Rattle.http_bodies.specs.Flaws.{BodyFlaw, bad_body, body_with, ◌>>=◌}
 use Rattle.http_bodies.specs.Ranges.{size_in_range, class_in_range, tags_in_range}
 
 -- the names of the fields (own)
@@ -23,8 +23,7 @@ put_in_range bytes name pairs = do
 -- what the bytes of a body say, or the first rule that they break
 unfoldable pub put_of : List ℕ → Result PutBody BodyFlaw
 put_of bytes = do
-  object ← ok_or (body_of bytes) (bad_body [])
-  body ← with_fields put_fields object
+  body ← body_with put_fields bytes
   size ← ok_or (held whole_number (codes "size") body) (bad_body (codes "size"))
   class ← ok_or (if_held as_str (codes "class") body) (bad_body (codes "class"))
   tags ← ok_or (if_held text_pairs (codes "tags") body) (bad_body (codes "tags"))

@@ -8,7 +8,8 @@ ghost use Rattle.serde_json.specs.View.{view, members_view};
 ghost use Rattle.office_base.specs.Tags.{tags_of};
 ghost use Rattle.http_bodies.specs.Bodies.{body_of, names_of, is_among, first_unknown, whole_number};
 ghost use Rattle.http_bodies.specs.Bodies.{text_members, text_pairs, held, if_held};
-ghost use Rattle.http_bodies.specs.Flaws.{Gives, bad_body, with_fields};
+ghost use Rattle.http_bodies.specs.Flaws.{Gives, bad_body, with_fields, body_with};
+ghost use Rattle.http_bodies.specs.Settings.{status_named, status};
 
 use crate::fault::{BodyFault, bad_field};
 use serde_json::{Map, Value};
@@ -16,7 +17,7 @@ use std::alloc::{AllocError, Global};
 
 // Reads the object that a body is.
 #[tactic(auto, unfolding(crate::specs::Bodies::body_of, crate::specs::Bodies::json_of))]
-pub(crate) fn read_body(alloc: Global, bytes: &[u8]) -> Result<Value, BodyFault>
+fn read_body(alloc: Global, bytes: &[u8]) -> Result<Value, BodyFault>
     ensures { Gives view result (ok_or (body_of bytes.now) (bad_body [])) }
 {
     if bytes.is_empty() {
@@ -83,13 +84,22 @@ fn first_unknown<'b>(body: &'b Value, known: &[&str]) -> Option<&'b str>
 }
 
 // Refuses a field that is none of these.
-pub(crate) fn check_fields(alloc: Global, body: &Value, known: &[&str]) -> Result<(), BodyFault>
+fn check_fields(alloc: Global, body: &Value, known: &[&str]) -> Result<(), BodyFault>
     ensures { Gives (λ _. view body.now) result (with_fields (map (λ k. k.now) known.now) (view body.now)) }
 {
     match first_unknown(body, known) {
         Some(name) => Err(bad_field(alloc, name)),
         None => Ok(()),
     }
+}
+
+// Reads the object that a body is, which has these fields alone.
+pub(crate) fn read_object(alloc: Global, bytes: &[u8], known: &[&str]) -> Result<Value, BodyFault>
+    ensures { Gives view result (body_with (map (λ k. k.now) known.now) bytes.now) }
+{
+    let body = read_body(alloc, bytes)?;
+    check_fields(alloc, &body, known)?;
+    Ok(body)
 }
 
 // The whole number of a field that has to be there.
@@ -99,6 +109,40 @@ pub(crate) fn whole_number(alloc: Global, body: &Value, name: &str) -> Result<u6
     match body.get(name) {
         Some(value) => match value.as_u64() {
             Some(number) => Ok(number),
+            None => Err(bad_field(alloc, name)),
+        },
+        None => Err(bad_field(alloc, name)),
+    }
+}
+
+fn status_named(word: &str) -> Option<bool>
+    ensures { result ≡ status_named word.now }
+{
+    if word == "Enabled" {
+        return Some(true);
+    }
+    if word == "Suspended" {
+        return Some(false);
+    }
+    None
+}
+
+fn status_in(value: &Value) -> Option<bool>
+    ensures { result ≡ status (view value.now) }
+{
+    match value.as_str() {
+        Some(word) => status_named(word),
+        None => None,
+    }
+}
+
+// Whether versioning is enabled, by a field that has to be there.
+pub(crate) fn status(alloc: Global, body: &Value, name: &str) -> Result<bool, BodyFault>
+    ensures { Gives (λ enabled. enabled) result (ok_or (held status name.now (view body.now)) (bad_body name.now)) }
+{
+    match body.get(name) {
+        Some(value) => match status_in(value) {
+            Some(enabled) => Ok(enabled),
             None => Err(bad_field(alloc, name)),
         },
         None => Err(bad_field(alloc, name)),
@@ -149,6 +193,32 @@ fn text_pairs(alloc: Global, value: Value) -> Result<Option<Vec<(String, String)
     }
 }
 
+// The pairs of texts that the field of this name holds.
+fn pairs_of(alloc: Global, value: Value, name: &str) -> Result<Vec<(String, String)>, BodyFault>
+    ensures { Gives (λ pairs. tags_of pairs.items) result (ok_or (text_pairs (view value)) (bad_body name.now)) }
+{
+    match text_pairs(alloc, value) {
+        Ok(Some(pairs)) => Ok(pairs),
+        Ok(None) => Err(bad_field(alloc, name)),
+        Err(_) => Err(BodyFault::NoMemory),
+    }
+}
+
+// Takes the pairs of texts out of a field that has to be there.
+pub(crate) fn take_needed_pairs(
+    alloc: Global,
+    body: &mut Value,
+    name: &str,
+) -> Result<Vec<(String, String)>, BodyFault>
+    ensures { Gives (λ pairs. tags_of pairs.items) result
+        (ok_or (held text_pairs name.now (view body.old)) (bad_body name.now)) }
+{
+    match body.get_mut(name) {
+        Some(value) => pairs_of(alloc, value.take(), name),
+        None => Err(bad_field(alloc, name)),
+    }
+}
+
 // Takes the pairs of texts out of a field that may be missing.
 pub(crate) fn take_pairs(
     alloc: Global,
@@ -159,11 +229,7 @@ pub(crate) fn take_pairs(
         (ok_or (if_held text_pairs name.now (view body.old)) (bad_body name.now)) }
 {
     match body.get_mut(name) {
-        Some(value) => match text_pairs(alloc, value.take()) {
-            Ok(Some(pairs)) => Ok(Some(pairs)),
-            Ok(None) => Err(bad_field(alloc, name)),
-            Err(_) => Err(BodyFault::NoMemory),
-        },
+        Some(value) => Ok(Some(pairs_of(alloc, value.take(), name)?)),
         None => Ok(None),
     }
 }

@@ -3,10 +3,14 @@
 
 mod body;
 mod fault;
+mod multipart;
 mod put;
 mod ranges;
+mod settings;
 #[cfg(test)]
 mod tests;
 
 pub use fault::BodyFault;
+pub use multipart::{UploadBody, read_part, read_upload};
 pub use put::{PutBody, read_put};
+pub use settings::{read_status, read_tags};

@@ -2,7 +2,7 @@
 ghost use Rattle.http_bodies.specs.Flaws.{Gives};
 ghost use Rattle.http_bodies.specs.Puts.{put_of};
 
-use crate::body::{check_fields, read_body, take_pairs, text, whole_number};
+use crate::body::{read_object, take_pairs, text, whole_number};
 use crate::fault::BodyFault;
 use crate::ranges::{class_in_range, size_in_range, tags_in_range};
 use class_rules::Class;
@@ -40,8 +40,7 @@ pub struct PutBody {
 pub fn read_put(alloc: Global, bytes: &[u8]) -> Result<PutBody, BodyFault>
     ensures exact { Gives (λ body. body) result (put_of bytes.now) }
 {
-    let mut body = read_body(alloc, bytes)?;
-    check_fields(alloc, &body, &["size", "class", "tags"])?;
+    let mut body = read_object(alloc, bytes, &["size", "class", "tags"])?;
     let size = whole_number(alloc, &body, "size")?;
     let class = class_in_range(alloc, text(alloc, &body, "class")?);
     let pairs = take_pairs(alloc, &mut body, "tags")?;

@@ -1,29 +1,74 @@
 use super::*;
-use class_rules::Class;
+use office_base::Tags;
 use std::alloc::{AllocError, Global};
 use std::test::Fail;
 
-// An answer as one line: the size, the class and the tags, or the fault.
-fn told(alloc: Global, bytes: &[u8]) -> Result<String, AllocError> {
-    match read_put(alloc, bytes) {
-        Ok(body) => told_body(alloc, &body),
-        Err(BodyFault::BadBody { field }) => format!(in alloc; "BadBody {field}"),
-        Err(BodyFault::UnsupportedClass { name }) => format!(in alloc; "UnsupportedClass {name}"),
-        Err(BodyFault::BadSize) => String::from_str(alloc, "BadSize"),
-        Err(BodyFault::BadTags) => String::from_str(alloc, "BadTags"),
-        Err(BodyFault::NoMemory) => String::from_str(alloc, "NoMemory"),
+fn told_fault(alloc: Global, fault: &BodyFault) -> Result<String, AllocError> {
+    match fault {
+        BodyFault::BadBody { field } => format!(in alloc; "BadBody {field}"),
+        BodyFault::UnsupportedClass { name } => format!(in alloc; "UnsupportedClass {name}"),
+        BodyFault::BadSize => String::from_str(alloc, "BadSize"),
+        BodyFault::BadTags => String::from_str(alloc, "BadTags"),
+        BodyFault::NoMemory => String::from_str(alloc, "NoMemory"),
     }
 }
 
-fn told_body(alloc: Global, body: &PutBody) -> Result<String, AllocError> {
-    let mut text = format!(in alloc; "{} {}", body.size.bytes(), body.class.name())?;
-    for (key, value) in body.tags.pairs() {
+fn put_tags(text: &mut String, tags: &Tags) -> Result<(), AllocError> {
+    for (key, value) in tags.pairs() {
         text.push(' ')?;
         text.push_str(key)?;
         text.push('=')?;
         text.push_str(value)?;
     }
-    Ok(text)
+    Ok(())
+}
+
+// An answer as one line: the size, the class and the tags, or the fault.
+fn told(alloc: Global, bytes: &[u8]) -> Result<String, AllocError> {
+    match read_put(alloc, bytes) {
+        Ok(body) => {
+            let mut text = format!(in alloc; "{} {}", body.size.bytes(), body.class.name())?;
+            put_tags(&mut text, &body.tags)?;
+            Ok(text)
+        }
+        Err(fault) => told_fault(alloc, &fault),
+    }
+}
+
+fn told_upload(alloc: Global, bytes: &[u8]) -> Result<String, AllocError> {
+    match read_upload(alloc, bytes) {
+        Ok(body) => {
+            let mut text = String::from_str(alloc, body.class.name())?;
+            put_tags(&mut text, &body.tags)?;
+            Ok(text)
+        }
+        Err(fault) => told_fault(alloc, &fault),
+    }
+}
+
+fn told_tags(alloc: Global, bytes: &[u8]) -> Result<String, AllocError> {
+    match read_tags(alloc, bytes) {
+        Ok(tags) => {
+            let mut text = String::from_str(alloc, "tags")?;
+            put_tags(&mut text, &tags)?;
+            Ok(text)
+        }
+        Err(fault) => told_fault(alloc, &fault),
+    }
+}
+
+fn told_part(alloc: Global, bytes: &[u8]) -> Result<String, AllocError> {
+    match read_part(alloc, bytes) {
+        Ok(size) => format!(in alloc; "{size}"),
+        Err(fault) => told_fault(alloc, &fault),
+    }
+}
+
+fn told_status(alloc: Global, bytes: &[u8]) -> Result<String, AllocError> {
+    match read_status(alloc, bytes) {
+        Ok(enabled) => String::from_str(alloc, if enabled { "enabled" } else { "suspended" }),
+        Err(fault) => told_fault(alloc, &fault),
+    }
 }
 
 // RFC 8259 for the texts, the S3 User Guide for sizes, classes and tags.
@@ -159,5 +204,105 @@ fn bounds_of_tags_and_of_depth(rt: HostRuntime) -> Result<(), Fail> {
     assert_eq!(rt; told(alloc, deep.as_bytes())?.as_str(), "BadBody a");
     let deeper = nested(alloc, 127)?;
     assert_eq!(rt; told(alloc, deeper.as_bytes())?.as_str(), "BadBody ");
+    Ok(())
+}
+
+#[test]
+fn starts_of_uploads(rt: HostRuntime) -> Result<(), Fail> {
+    let cases = [
+        ("", "STANDARD"),
+        (
+            "{\"tags\":{\"a\":\"x\"},\"class\":\"GLACIER\"}",
+            "GLACIER a=x",
+        ),
+        ("[]", "BadBody "),
+        ("{\"size\":1,\"class\":1}", "BadBody size"),
+        ("{\"class\":null,\"tags\":1}", "BadBody class"),
+        ("{\"class\":\"FOO\",\"tags\":1}", "BadBody tags"),
+        (
+            "{\"class\":\"FOO\",\"tags\":{\"\":\"x\"}}",
+            "UnsupportedClass FOO",
+        ),
+        ("{\"tags\":{\"\":\"x\"}}", "BadTags"),
+    ];
+    for (text, answer) in cases {
+        assert_eq!(rt;
+            told_upload(rt.alloc(), text.as_bytes())?.as_str(),
+            answer,
+            "{text}"
+        );
+    }
+    Ok(())
+}
+
+#[test]
+fn tags_of_versions(rt: HostRuntime) -> Result<(), Fail> {
+    let cases = [
+        (
+            "{\"tags\":{\"kind\":\"raw\",\"Keep\":\"no\"}}",
+            "tags Keep=no kind=raw",
+        ),
+        ("{\"tags\":{}}", "tags"),
+        ("null", "BadBody "),
+        ("", "BadBody tags"),
+        ("{\"Tags\":{}}", "BadBody Tags"),
+        ("{\"tags\":null}", "BadBody tags"),
+        ("{\"tags\":{\"a\":1}}", "BadBody tags"),
+        ("{\"tags\":{\"\":\"x\"}}", "BadTags"),
+    ];
+    for (text, answer) in cases {
+        assert_eq!(rt;
+            told_tags(rt.alloc(), text.as_bytes())?.as_str(),
+            answer,
+            "{text}"
+        );
+    }
+    Ok(())
+}
+
+#[test]
+fn sizes_of_parts(rt: HostRuntime) -> Result<(), Fail> {
+    let cases = [
+        ("{\"size\":0}", "0"),
+        // A part's range is not asked here.
+        ("{\"size\":18446744073709551615}", "18446744073709551615"),
+        ("{\"size\":18446744073709551616}", "BadBody size"),
+        ("{\"size\":\"1\"}", "BadBody size"),
+        ("", "BadBody size"),
+        ("{\"size\":1,\"class\":\"GLACIER\"}", "BadBody class"),
+        ("{", "BadBody "),
+    ];
+    for (text, answer) in cases {
+        assert_eq!(rt;
+            told_part(rt.alloc(), text.as_bytes())?.as_str(),
+            answer,
+            "{text}"
+        );
+    }
+    Ok(())
+}
+
+#[test]
+fn settings_of_versioning(rt: HostRuntime) -> Result<(), Fail> {
+    let cases = [
+        ("{\"Status\":\"Enabled\"}", "enabled"),
+        ("{\"Status\":\"Suspended\"}", "suspended"),
+        ("{\"Status\":\"enabled\"}", "BadBody Status"),
+        ("{\"Status\":\"\"}", "BadBody Status"),
+        ("{\"Status\":true}", "BadBody Status"),
+        ("", "BadBody Status"),
+        (
+            "{\"Status\":\"Off\",\"MFADelete\":\"Off\"}",
+            "BadBody MFADelete",
+        ),
+        ("[]", "BadBody "),
+    ];
+    for (text, answer) in cases {
+        assert_eq!(rt;
+            told_status(rt.alloc(), text.as_bytes())?.as_str(),
+            answer,
+            "{text}"
+        );
+    }
     Ok(())
 }

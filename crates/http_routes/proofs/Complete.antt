@@ -9,6 +9,7 @@ use Rattle.matchit.proofs.ParamLemmas.{same_text-self}
 use Rattle.matchit.specs.Rows.{RowsOf, param_token, catch_all_token}
 use Rattle.matchit.specs.Seek.{own, step, or_else, seek, param_step, has_slash, segment, longest_suffix, longest_from, better, cuts, with_suffix, same_text, slash}
 use Rattle.http_routes.specs.Table.{Among}
+use Rattle.http_routes.proofs.Sound.{drop_less}
 use Rattle.http_routes.proofs.Patterns.{IsSegment, Takes, IsEndOrSlash, IsPlain, ArePlain}
 
 -- some answer is given
@@ -235,10 +236,6 @@ steps_end {K} rs part key plain ends is_part a =
       row = subst (λ (x : ℕ × RowsOf K). Among x.1 [] key) (sym is) a;
       plain = subst (λ (x : ℕ × RowsOf K). ArePlain x.1) (sym is) plain;
     }
-
-pub drop_less : (n b : ℕ) (path : List ℕ) → 0 < n → drop (n - 1) path ≡ drop n (b ∷ path)
-drop_less zero b path some = absurd (omega arith)
-drop_less (suc m) b path some = let e : suc m - 1 ≡ m = omega arith in ap (λ (k : ℕ). drop k path) e
 
 -- what the step over a parameter finds for a row that goes on after it
 param_steps : {K : Type 0} (rs : RowsOf K) (part rest : List ℕ) (p : List ℕ) (later : List (List ℕ)) (key : K) → ArePlain rs → AreEnds rs

@@ -1,55 +1,67 @@
 -- Worked examples of targets and keys.
-use Rattle.std.proofs.Common.{◌≡◌, ℕ, Bool, true, false, List, [], ◌∷◌, ◌++◌, length, drop, get_or, ltb, ◌&&◌, codes, refl, sym, ap, ◌∙◌, arith}
-use Rattle.std.specs.List.{list_all}
-use Rattle.std.specs.Str.{IsAscii, is_utf8}
+use Rattle.std.proofs.Common.{◌≡◌, false, [], ◌∷◌, codes, refl, sym}
 use Rattle.std.proofs.lemmas.Bool.{false≢true}
-use Rattle.std.proofs.lemmas.Str.{IsUtf8-from_ascii, is_utf8-from_IsUtf8}
-use Rattle.std.proofs.lemmas.Str.Ascii.{IsAscii-nil, IsAscii-cons}
 use Rattle.percent_encoding.specs.Percent.{percent_decode}
 use Rattle.office_base.specs.Keys.{is_key}
-use Rattle.http_routes.specs.Targets.{Resource, bucket, object, meters, has_byte, HasRoute}
+use Rattle.http_routes.specs.Targets.{Resource, bucket, versioning, lifecycle, object, version, tags, uploads, upload, part, act, due, meters, tariff, close, report, HasRoute}
+use Rattle.http_routes.specs.Table.{pattern_of}
 use Rattle.http_routes.specs.Spelled.{key_of}
-use Rattle.http_routes.proofs.Closed.{segment_of_part}
-use Rattle.http_routes.proofs.Unique.{part_unique}
+use Rattle.http_routes.proofs.Computed.{there, nowhere}
 
--- ---- targets
-
--- a text of ASCII bytes is UTF-8
-ascii : (text : List ℕ) → list_all (λ b. ltb b 128) text ≡ true → IsAscii text
-ascii [] e = IsAscii-nil
-ascii (b ∷ text) e = go (ltb b 128) refl (ascii text) e
-  where
-    go : (v : Bool) → ltb b 128 ≡ v → (list_all (λ c. ltb c 128) text ≡ true → IsAscii text) → (v && list_all (λ c. ltb c 128) text) ≡ true → IsAscii (b ∷ text)
-    go true small later rest = IsAscii-cons b text (grind arith) (later rest)
-    go false small later rest = absurd (false≢true rest)
-
-utf8 : (text : List ℕ) → list_all (λ b. ltb b 128) text ≡ true → is_utf8 text ≡ true
-utf8 text e = is_utf8-from_IsUtf8 text (IsUtf8-from_ascii text (ascii text e))
+-- ---- targets, one of each route
 
 a_bucket : HasRoute (codes "/buckets/a%2Fb") (bucket (codes "a%2Fb"))
-a_bucket = record { text = utf8 (codes "/buckets/a%2Fb") refl; no_query = refl; spelled = (refl, record { some = omega arith; plain = refl }) }
+a_bucket = there (codes "/buckets/a%2Fb") (bucket (codes "a%2Fb")) refl
+
+its_versioning : HasRoute (codes "/buckets/a/versioning") (versioning (codes "a"))
+its_versioning = there (codes "/buckets/a/versioning") (versioning (codes "a")) refl
+
+its_lifecycle : HasRoute (codes "/buckets/a/lifecycle") (lifecycle (codes "a"))
+its_lifecycle = there (codes "/buckets/a/lifecycle") (lifecycle (codes "a")) refl
 
 an_object : HasRoute (codes "/buckets/a/objects/b%2Fc") (object (codes "a") (codes "b%2Fc"))
-an_object = record {
-  text = utf8 (codes "/buckets/a/objects/b%2Fc") refl;
-  no_query = refl;
-  spelled = (refl, record { some = omega arith; plain = refl }, omega arith);
-}
+an_object = there (codes "/buckets/a/objects/b%2Fc") (object (codes "a") (codes "b%2Fc")) refl
+
+a_version : HasRoute (codes "/buckets/a/versions/3/b/c") (version (codes "a") (codes "3") (codes "b/c"))
+a_version = there (codes "/buckets/a/versions/3/b/c") (version (codes "a") (codes "3") (codes "b/c")) refl
+
+its_tags : HasRoute (codes "/buckets/a/tags/null/b") (tags (codes "a") (codes "null") (codes "b"))
+its_tags = there (codes "/buckets/a/tags/null/b") (tags (codes "a") (codes "null") (codes "b")) refl
+
+its_uploads : HasRoute (codes "/buckets/a/uploads/b") (uploads (codes "a") (codes "b"))
+its_uploads = there (codes "/buckets/a/uploads/b") (uploads (codes "a") (codes "b")) refl
+
+an_upload : HasRoute (codes "/buckets/a/upload/7") (upload (codes "a") (codes "7"))
+an_upload = there (codes "/buckets/a/upload/7") (upload (codes "a") (codes "7")) refl
+
+a_part : HasRoute (codes "/buckets/a/parts/7/00001") (part (codes "a") (codes "7") (codes "00001"))
+a_part = there (codes "/buckets/a/parts/7/00001") (part (codes "a") (codes "7") (codes "00001")) refl
+
+an_action : HasRoute (codes "/buckets/a/act") (act (codes "a"))
+an_action = there (codes "/buckets/a/act") (act (codes "a")) refl
+
+a_due_action : HasRoute (codes "/buckets/a/due") (due (codes "a"))
+a_due_action = there (codes "/buckets/a/due") (due (codes "a")) refl
+
+some_meters : HasRoute (codes "/buckets/a/meters/2024-01") (meters (codes "a") (codes "2024-01"))
+some_meters = there (codes "/buckets/a/meters/2024-01") (meters (codes "a") (codes "2024-01")) refl
+
+the_tariff : HasRoute (codes "/tariff") tariff
+the_tariff = there (codes "/tariff") tariff refl
+
+a_close : HasRoute (codes "/months/2024-01/close") (close (codes "2024-01"))
+a_close = there (codes "/months/2024-01/close") (close (codes "2024-01")) refl
+
+a_report : HasRoute (codes "/months/2024-01/report") (report (codes "2024-01"))
+a_report = there (codes "/months/2024-01/report") (report (codes "2024-01")) refl
 
 -- a key may begin with a slash, and be one
 a_slash : HasRoute (codes "/buckets/a/objects//") (object (codes "a") (codes "/"))
-a_slash = record {
-  text = utf8 (codes "/buckets/a/objects//") refl;
-  no_query = refl;
-  spelled = (refl, record { some = omega arith; plain = refl }, omega arith);
-}
+a_slash = there (codes "/buckets/a/objects//") (object (codes "a") (codes "/")) refl
 
-some_meters : HasRoute (codes "/buckets/a/meters/2024-01") (meters (codes "a") (codes "2024-01"))
-some_meters = record {
-  text = utf8 (codes "/buckets/a/meters/2024-01") refl;
-  no_query = refl;
-  spelled = (refl, record { some = omega arith; plain = refl }, record { some = omega arith; plain = refl });
-}
+-- names are not looked into
+another_name : HasRoute (codes "/buckets/Tariff~/act") (act (codes "Tariff~"))
+another_name = there (codes "/buckets/Tariff~/act") (act (codes "Tariff~")) refl
 
 -- with a query a target leads nowhere
 a_query : (resource : Resource) → HasRoute (codes "/buckets/a?b") resource → ⊥
@@ -57,27 +69,57 @@ a_query resource has = false≢true (sym has.no_query)
 
 -- nor without a slash in front
 no_slash : (resource : Resource) → HasRoute (codes "buckets/a") resource → ⊥
-no_slash (bucket name) has = absurd (omega (arith, ap (λ (t : List ℕ). get_or t 0 0) has.spelled.0))
-no_slash (object name key) has = absurd (omega (arith, ap (λ (t : List ℕ). get_or t 0 0) has.spelled.0))
-no_slash (meters name month) has = absurd (omega (arith, ap (λ (t : List ℕ). get_or t 0 0) has.spelled.0))
+unfolding pattern_of
+no_slash = nowhere (codes "buckets/a") refl
 
 -- nor with another word
 another_word : (resource : Resource) → HasRoute (codes "/bucket/x") resource → ⊥
-another_word (bucket name) has = absurd (omega (arith, ap (λ (t : List ℕ). get_or t 7 0) has.spelled.0))
-another_word (object name key) has = absurd (omega (arith, ap (λ (t : List ℕ). get_or t 7 0) has.spelled.0))
-another_word (meters name month) has = absurd (omega (arith, ap (λ (t : List ℕ). get_or t 7 0) has.spelled.0))
+unfolding pattern_of
+another_word = nowhere (codes "/bucket/x") refl
+
+-- nor without a part
+no_bucket : (resource : Resource) → HasRoute (codes "/buckets/") resource → ⊥
+unfolding pattern_of
+no_bucket = nowhere (codes "/buckets/") refl
+
+no_part : (resource : Resource) → HasRoute (codes "/buckets/a/parts/7/") resource → ⊥
+unfolding pattern_of
+no_part = nowhere (codes "/buckets/a/parts/7/") refl
+
+-- nor with an empty segment in its place
+empty_part : (resource : Resource) → HasRoute (codes "/buckets/a/parts//1") resource → ⊥
+unfolding pattern_of
+empty_part = nowhere (codes "/buckets/a/parts//1") refl
+
+empty_id : (resource : Resource) → HasRoute (codes "/buckets/a/versions//b") resource → ⊥
+unfolding pattern_of
+empty_id = nowhere (codes "/buckets/a/versions//b") refl
+
+empty_month : (resource : Resource) → HasRoute (codes "/months//close") resource → ⊥
+unfolding pattern_of
+empty_month = nowhere (codes "/months//close") refl
 
 -- nor with an empty key
 no_key : (resource : Resource) → HasRoute (codes "/buckets/a/objects/") resource → ⊥
-no_key (bucket name) has =
-    let e : codes "a/objects/" ≡ name = ap (λ (t : List ℕ). drop 9 t) has.spelled.0 in
-    false≢true (sym has.spelled.1.plain ∙ sym (ap (λ (t : List ℕ). has_byte 47 t) e))
-no_key (object name key) has =
-    let same = part_unique (codes "a") (codes "/objects/") name (codes "/objects/" ++ key) refl (segment_of_part name has.spelled.1).plain refl refl (ap (λ (t : List ℕ). drop 9 t) has.spelled.0) in
-    absurd (omega (arith, has.spelled.2, ap length same.1))
-no_key (meters name month) has =
-    let same = part_unique (codes "a") (codes "/objects/") name (codes "/meters/" ++ month) refl (segment_of_part name has.spelled.1).plain refl refl (ap (λ (t : List ℕ). drop 9 t) has.spelled.0) in
-    absurd (omega (arith, ap (λ (t : List ℕ). get_or t 1 0) same.1))
+unfolding pattern_of
+no_key = nowhere (codes "/buckets/a/objects/") refl
+
+no_key_of_a_version : (resource : Resource) → HasRoute (codes "/buckets/a/versions/3/") resource → ⊥
+unfolding pattern_of
+no_key_of_a_version = nowhere (codes "/buckets/a/versions/3/") refl
+
+-- nor with a slash at the end
+a_slash_at_the_end : (resource : Resource) → HasRoute (codes "/tariff/") resource → ⊥
+unfolding pattern_of
+a_slash_at_the_end = nowhere (codes "/tariff/") refl
+
+a_slash_after_a_word : (resource : Resource) → HasRoute (codes "/buckets/a/act/") resource → ⊥
+unfolding pattern_of
+a_slash_after_a_word = nowhere (codes "/buckets/a/act/") refl
+
+a_slash_after_a_part : (resource : Resource) → HasRoute (codes "/buckets/a/upload/7/") resource → ⊥
+unfolding pattern_of
+a_slash_after_a_part = nowhere (codes "/buckets/a/upload/7/") refl
 
 -- ---- keys
 

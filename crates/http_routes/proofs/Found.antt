@@ -7,12 +7,13 @@ use Rattle.matchit.specs.Router.{RouteOf}
 use Rattle.matchit.specs.Seek.{seek}
 use Rattle.matchit.specs.Params.{walk}
 use Rattle.http_routes.specs.declared.routes.Kind.{Kind}
-use Rattle.http_routes.specs.Targets.{Resource, Spells, HasRoute, has_byte}
+use Rattle.http_routes.specs.Targets.{Resource, pieces_of, Spells, HasRoute, has_byte}
 use Rattle.http_routes.specs.Table.{pattern_of, part_count, named, IsRow, AreRows, Among, IsTable, AreTexts, taken}
-use Rattle.http_routes.proofs.Patterns.{Takes, AreBytes, IsPlain, ArePlain, spelled_good}
+use Rattle.http_routes.proofs.Patterns.{Takes, AreBytes, IsPlain, ArePlain}
 use Rattle.http_routes.proofs.Sound.{sound}
 use Rattle.http_routes.proofs.Complete.{Answers, complete}
-use Rattle.http_routes.proofs.Leads.{kind_of, parts_of, has_pattern, leads, good, plain, short}
+use Rattle.http_routes.proofs.Pieces.{parts_of}
+use Rattle.http_routes.proofs.Leads.{kind_of, has_pattern, leads, plain, ascii, short}
 use Rattle.http_routes.proofs.Taken.{taken_are}
 use Rattle.http_routes.proofs.Texts.{are_texts}
 
@@ -39,9 +40,9 @@ pub not_found : (rows : RowsOf (RouteOf Kind)) (target path : List ℕ) → IsTa
     → (resource : Resource) → HasRoute target resource → ⊥
 not_found rows target path table same missing resource has =
     let row = table.whole (kind_of resource) in
-    let takes = subst (λ (t : List ℕ). Takes (pattern_of (kind_of resource)) t (parts_of resource)) (sym same) (has_pattern resource target has.spelled) in
+    let takes = subst (λ (t : List ℕ). Takes (pattern_of (kind_of resource)) t (parts_of (pieces_of resource))) (sym same) (has_pattern resource target has.spelled) in
     subst Answers missing
-    (complete 0 rows path (pattern_of (kind_of resource)) (parts_of resource) row.0 (are_plain rows table.routes) row.2 (omega arith) takes)
+    (complete 0 rows path (pattern_of (kind_of resource)) (parts_of (pieces_of resource)) row.0 (are_plain rows table.routes) row.2 (omega arith) takes)
 
 -- what the parameters of the row took, and what they name
 record IsFound (path : List ℕ) (row : RouteOf Kind) : Type 0 where
@@ -59,7 +60,7 @@ row_found rows path row table bytes text found =
     ap (λ (p : List ℕ). taken (walk p row.text path row.names 0 0)) pattern
     ∙ taken_are (pattern_of row.value) row.text path row.names has.1 (short row.value) (plain row.value) takes (is.names ∙ ap part_count is.is_route) in
     record {
-      texts = subst AreTexts (sym parts) (are_texts (pattern_of row.value) path has.1 (plain row.value) (spelled_good (pattern_of row.value) (good row.value)) takes text);
+      texts = subst AreTexts (sym parts) (are_texts (pattern_of row.value) path has.1 (plain row.value) (ascii row.value) takes text);
       spelled = subst (λ (p : List (List ℕ)). Spells path (named row.value p)) (sym parts) (leads row.value path has.1 takes);
     }
 

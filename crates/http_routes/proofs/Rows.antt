@@ -1,31 +1,26 @@
 -- The rows of the router.
-use Rattle.std.proofs.Common.{◌≡◌, ℕ, zero, suc, ◌<◌, ◌++◌, get_or, arith, Bool, true, false, cond, ◌==◌, ◌&&◌, not, List, [], ◌∷◌, length, nat_eq, refl, sym, ap, ◌∙◌, subst, inl, inr, Result, Ok, Err, Some, None}
-use Rattle.std.specs.Prelude.{◌⊎◌}
-use Rattle.std.proofs.lemmas.Bool.{eqb-true, false≢true}
+use Rattle.std.proofs.Common.{◌≡◌, ℕ, zero, suc, ◌+◌, ◌<◌, ◌++◌, get_or, take, map, append-nil, append_assoc, arith, Bool, true, false, cond, ◌==◌, ◌&&◌, not, List, [], ◌∷◌, length, nat_eq, refl, sym, ap, ◌∙◌, subst, inl, inr, Result, Ok, Err, Some, None}
+use Rattle.std.proofs.lemmas.Bool.{not-true, eqb-true, false≢true, and_parts}
+use Rattle.std.proofs.lemmas.List.{map_more}
 use Rattle.matchit.specs.Rows.{RowsOf, comes_before}
 use Rattle.matchit.specs.Router.{RouteOf, route_from, InsertsRead, nearest, nearest_from, nearer}
 use Rattle.matchit.specs.Conflict.{conflicts}
 use Rattle.matchit.specs.Order.{placed, common_len}
-use Rattle.matchit.specs.Route.{Scan}
+use Rattle.matchit.specs.Route.{Scan, parse_route}
 use Rattle.matchit.specs.Seek.{same_text}
 use Rattle.matchit.specs.declared.error.InsertError.{InsertError}
 use Rattle.matchit.specs.declared.error.InsertError.TheVariants.{Conflict, InvalidParam, InvalidParamSegment, InvalidCatchAll, OutOfMemory}
 use Rattle.http_routes.specs.declared.routes.Kind.{Kind}
-use Rattle.http_routes.specs.Table.{pattern_of, part_count, reads_as, IsRow, AreRows, Among, HasKind, AddsKind, IsFree, IsTable}
+use Rattle.http_routes.specs.Table.{pattern_of, part_count, reads_as, is_clear, can_stand, IsRow, AreRows, Among, HasKind, AddsKind, IsFree, IsOneOf, AreOf, HaveRows, Holds, IsTable}
 use Rattle.http_routes.specs.declared.routes.Kind.TheVariants.{Bucket}
 use Rattle.http_routes.proofs.Leads.{all_kinds, place_of}
 
-and_true : (a b : Bool) → a && b ≡ true → (a ≡ true) × (b ≡ true)
-and_true true true e = (refl, refl)
-and_true true false e = absurd cc
-and_true false b e = absurd cc
-
-same_is : (a b : List ℕ) → same_text a b ≡ true → a ≡ b
+pub same_is : (a b : List ℕ) → same_text a b ≡ true → a ≡ b
 same_is [] [] e = refl
 same_is [] (y ∷ b) e = absurd (false≢true e)
 same_is (x ∷ a) [] e = absurd (false≢true e)
 same_is (x ∷ a) (y ∷ b) e =
-    let both = and_true (nat_eq x y) (same_text a b) e in
+    let both = and_parts (nat_eq x y) (same_text a b) e in
     let head : x ≡ y = eqb-true x y both.0 in
     let tail : a ≡ b = same_is a b both.1 in
     cc
@@ -61,7 +56,7 @@ pub adds : (read : Result Scan InsertError) (kind : Kind) (old new : RowsOf (Rou
     → InsertsRead read kind old new (Ok tt) → AddsKind kind old new
 adds (Err e) kind old new reads inserts = absurd (false≢true reads)
 adds (Ok s) kind old new reads inserts =
-    let both = and_true (same_text s.pattern (pattern_of kind)) (length s.names == part_count (pattern_of kind)) reads in
+    let both = and_parts (same_text s.pattern (pattern_of kind)) (length s.names == part_count (pattern_of kind)) reads in
     let is : s.pattern ≡ pattern_of kind = same_is s.pattern (pattern_of kind) both.0 in
     record {
       row = route_from s kind;
@@ -75,7 +70,7 @@ pub refused : (read : Result Scan InsertError) (kind : Kind) (old new : RowsOf (
     → IsFree kind old → InsertsRead read kind old new (Err e) → e ≡ OutOfMemory
 refused (Err d) kind old new e reads free inserts = absurd (false≢true reads)
 refused (Ok s) kind old new (Conflict with) reads free inserts =
-    let both = and_true (same_text s.pattern (pattern_of kind)) (length s.names == part_count (pattern_of kind)) reads in
+    let both = and_parts (same_text s.pattern (pattern_of kind)) (length s.names == part_count (pattern_of kind)) reads in
     let is : s.pattern ≡ pattern_of kind = same_is s.pattern (pattern_of kind) both.0 in
     let other : None ≡ Some inserts.1.0 = sym free ∙ sym (ap (λ (p : List ℕ). nearest p old) is) ∙ inserts.1.1 in
     absurd (cc)
@@ -85,25 +80,6 @@ refused (Ok s) kind old new InvalidParam reads free inserts = absurd inserts.1
 refused (Ok s) kind old new InvalidCatchAll reads free inserts = absurd inserts.1
 
 -- ---- all routes, one after another
-
--- the pattern is that of one of these kinds
-abbrev IsOneOf : List Kind → List ℕ → Type 0
-IsOneOf [] pattern = ⊥
-IsOneOf (kind ∷ kinds) pattern = (pattern ≡ pattern_of kind) ⊎ IsOneOf kinds pattern
-
-abbrev AreOf : List Kind → RowsOf (RouteOf Kind) → Type 0
-AreOf kinds [] = Unit {0}
-AreOf kinds ((pattern, row) ∷ rows) = IsOneOf kinds pattern × AreOf kinds rows
-
-abbrev HaveRows : List Kind → RowsOf (RouteOf Kind) → Type 0
-HaveRows [] rows = Unit {0}
-HaveRows (kind ∷ kinds) rows = HasKind rows kind × HaveRows kinds rows
-
--- the rows are routes of these kinds, and each of these is among them
-pub record Holds (kinds : List Kind) (rows : RowsOf (RouteOf Kind)) : Type 0 where
-  routes : AreRows rows
-  only : AreOf kinds rows
-  whole : HaveRows kinds rows
 
 pub holds_none : (rows : RowsOf (RouteOf Kind)) → rows ≡ [] → Holds [] rows
 holds_none rows e = record { routes = subst AreRows (sym e) tt; only = subst (λ (r : RowsOf (RouteOf Kind)). AreOf [] r) (sym e) tt; whole = tt }
@@ -148,22 +124,13 @@ holds_more kinds kind old new holds adds =
           (adds.row, adds.value, placed_among (pattern_of kind) adds.row old);
     })
 
--- the pattern of a kind conflicts with none of these
-abbrev pub is_clear : Kind → List Kind → Bool
-is_clear kind [] = true
-is_clear kind (other ∷ kinds) = not (conflicts (pattern_of kind) (pattern_of other)) && is_clear kind kinds
-
 no_conflict : (kind : Kind) (kinds : List Kind) (pattern : List ℕ) → is_clear kind kinds ≡ true → IsOneOf kinds pattern → conflicts (pattern_of kind) pattern ≡ false
 no_conflict kind [] pattern clear is = absurd is
 no_conflict kind (other ∷ kinds) pattern clear (inl is) =
     ap (λ (p : List ℕ). conflicts (pattern_of kind) p) is
-    ∙ not_true (conflicts (pattern_of kind) (pattern_of other)) (and_true (not (conflicts (pattern_of kind) (pattern_of other))) (is_clear kind kinds) clear).0
-  where
-    not_true : (v : Bool) → not v ≡ true → v ≡ false
-    not_true true e = absurd (false≢true e)
-    not_true false e = refl
+    ∙ not-true (conflicts (pattern_of kind) (pattern_of other)) (and_parts (not (conflicts (pattern_of kind) (pattern_of other))) (is_clear kind kinds) clear).0
 no_conflict kind (other ∷ kinds) pattern clear (inr is) =
-    no_conflict kind kinds pattern (and_true (not (conflicts (pattern_of kind) (pattern_of other))) (is_clear kind kinds) clear).1 is
+    no_conflict kind kinds pattern (and_parts (not (conflicts (pattern_of kind) (pattern_of other))) (is_clear kind kinds) clear).1 is
 
 none_near : (kind : Kind) (kinds : List Kind) (rows : RowsOf (RouteOf Kind)) → is_clear kind kinds ≡ true → AreOf kinds rows
     → nearest_from (pattern_of kind) (None, 0) rows ≡ None
@@ -175,6 +142,30 @@ none_near kind kinds ((pattern, row) ∷ rows) clear are =
 -- so no row stands in its way
 pub free : (kinds : List Kind) (kind : Kind) (rows : RowsOf (RouteOf Kind)) → Holds kinds rows → is_clear kind kinds ≡ true → IsFree kind rows
 free kinds kind rows holds clear = none_near kind kinds rows clear holds.only
+
+-- a row of a table that can stand reads as its kind, and conflicts with none before it
+pub stands_at : {X : Type 0} (text : X → List ℕ) (kind : X → Kind) (before : List Kind) (table : List X) (i : ℕ) (d : X) → i < length table
+    → can_stand before (map (λ row. (text row, kind row)) table) ≡ true
+    → (reads_as (parse_route (text (get_or table i d))) (kind (get_or table i d)) ≡ true)
+    × (is_clear (kind (get_or table i d)) (before ++ map kind (take i table)) ≡ true)
+stands_at text kind before [] i d within stands = absurd (omega (arith, within))
+stands_at text kind before (row ∷ table) zero d within stands =
+    let later = can_stand (before ++ kind row ∷ []) (map (λ r. (text r, kind r)) table) in
+    let both = and_parts (reads_as (parse_route (text row)) (kind row)) (is_clear (kind row) before && later) stands in
+    let clear = (and_parts (is_clear (kind row) before) later both.1).0 in
+    (both.0, ap (λ (kinds : List Kind). is_clear (kind row) kinds) (append-nil before) ∙ clear)
+stands_at text kind before (row ∷ table) (suc i) d within stands =
+    let later = can_stand (before ++ kind row ∷ []) (map (λ r. (text r, kind r)) table) in
+    let both = and_parts (reads_as (parse_route (text row)) (kind row)) (is_clear (kind row) before && later) stands in
+    let rest = (and_parts (is_clear (kind row) before) later both.1).1 in
+    let at = stands_at text kind (before ++ kind row ∷ []) table i d (omega (arith, within)) rest in
+    (at.0, ap (λ (kinds : List Kind). is_clear (kind (get_or table i d)) kinds) (sym (append_assoc before (kind row ∷ []) (map kind (take i table)))) ∙ at.1)
+
+-- one more row of a table
+pub holds_row : {X : Type 0} (kind : X → Kind) (table : List X) (i : ℕ) (d : X) (old new : RowsOf (RouteOf Kind)) → i < length table
+    → Holds (map kind (take i table)) old → AddsKind (kind (get_or table i d)) old new → Holds (map kind (take (i + 1) table)) new
+holds_row kind table i d old new within holds adds =
+    subst (λ (kinds : List Kind). Holds kinds new) (sym (map_more kind table i d within)) (holds_more (map kind (take i table)) (kind (get_or table i d)) old new holds adds)
 
 have_at : (kinds : List Kind) (rows : RowsOf (RouteOf Kind)) (n : ℕ) → n < length kinds → HaveRows kinds rows → HasKind rows (get_or kinds n Bucket)
 have_at [] rows n within have = absurd (omega (arith, within))

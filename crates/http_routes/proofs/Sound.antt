@@ -2,6 +2,8 @@
 use Rattle.std.proofs.Common.{◌≡◌, ℕ, zero, suc, ◌-◌, ◌<◌, ◌≤◌, Bool, true, false, cond, ◌==◌, ◌&&◌, List, [], ◌∷◌, length, take, drop, refl, sym, ap, ◌∙◌, subst, arith, inl, inr, Option, Some, None, take-append-drop, ltb, length-take}
 use Rattle.std.specs.Prelude.{◌⊎◌}
 use Rattle.std.proofs.lemmas.Bool.{eqb-true}
+use Rattle.std.proofs.Math.Seq.{take-length}
+use Rattle.matchit.proofs.ParamLemmas.{length-segment}
 use Rattle.matchit.specs.Rows.{RowsOf, param_token, catch_all_token}
 use Rattle.matchit.specs.Seek.{own, step, or_else, seek, param_step, has_slash, segment, longest_suffix, longest_from, better, cuts, with_suffix, same_text, slash}
 use Rattle.http_routes.specs.Table.{Among}
@@ -54,14 +56,6 @@ longest_cut : {K : Type 0} (seg best : List ℕ) (rs : RowsOf K) → IsCut seg b
 longest_cut seg best [] cut = cut
 longest_cut seg best ((t, k) ∷ rest) cut = longest_cut seg (better seg best (segment t)) rest (better_cut seg best (segment t) cut)
 
-segment_length : (path : List ℕ) → length (segment path) ≤ length path
-segment_length [] = omega arith
-segment_length (b ∷ path) = go (b == slash) (segment_length path)
-  where
-    go : (v : Bool) → length (segment path) ≤ length path → length (cond v (b ∷ []) (b ∷ segment path)) ≤ suc (length path)
-    go true rest = omega arith
-    go false rest = omega arith
-
 -- fewer bytes than the segment has hold no slash
 no_slash_before : (n : ℕ) (path : List ℕ) → n < length (segment path) → has_slash (take n path) ≡ false
 no_slash_before zero path short = refl
@@ -79,10 +73,6 @@ record IsStep {K : Type 0} (rs : RowsOf K) (path : List ℕ) (n : ℕ) (p : List
   inside : n ≤ length path
   plain : has_slash (take n path) ≡ false
   row : Among rs p key
-
-take_whole : (path : List ℕ) → take (length path) path ≡ path
-take_whole [] = refl
-take_whole (b ∷ path) = ap (λ (t : List ℕ). b ∷ t) (take_whole path)
 
 param_part : {K : Type 0} (rs : RowsOf K) (path : List ℕ) (p : List ℕ) (key : K) → 0 < length path
     → Among (param_step rs path).1 p key → IsStep rs path (param_step rs path).0 p key
@@ -104,7 +94,7 @@ param_part {K} rs path p key some = go (ltb 0 (length long)) refl
     no_suffix false e a = record {
       some = some;
       inside = omega arith;
-      plain = ap has_slash (take_whole path) ∙ e;
+      plain = ap has_slash (take-length path) ∙ e;
       row = a;
     }
 
@@ -121,13 +111,13 @@ param_part {K} rs path p key some = go (ltb 0 (length long)) refl
         let short = shorter (longest_cut (segment path) [] rs (inl refl)) above in
         record {
           some = omega arith;
-          inside = omega (arith, segment_length path);
+          inside = omega (arith, length-segment path);
           plain = no_slash_before (length (segment path) - length (longest_suffix (segment path) rs)) path (omega arith);
           row = among_suffix (longest_suffix (segment path) rs) rs p key a;
         }
     go false e a = no_suffix (has_slash path) refl a
 
-drop_less : (n b : ℕ) (path : List ℕ) → 0 < n → drop (n - 1) path ≡ drop n (b ∷ path)
+pub drop_less : (n b : ℕ) (path : List ℕ) → 0 < n → drop (n - 1) path ≡ drop n (b ∷ path)
 drop_less zero b path some = absurd (omega arith)
 drop_less (suc m) b path some = let e : suc m - 1 ≡ m = omega arith in ap (λ (k : ℕ). drop k path) e
 
@@ -137,7 +127,7 @@ param_inside {K} rs path = go (ltb 0 (length (longest_suffix (segment path) rs))
   where
     go : (v w : Bool)
         → (cond {A = ℕ × RowsOf K} v (length (segment path) - length (longest_suffix (segment path) rs), with_suffix (longest_suffix (segment path) rs) rs) (cond w (0, []) (length path, rs))).0 ≤ length path
-    go true w = omega (arith, segment_length path)
+    go true w = omega (arith, length-segment path)
     go false true = omega arith
     go false false = omega arith
 

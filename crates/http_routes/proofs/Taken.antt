@@ -1,7 +1,7 @@
 -- What the parameters of a match took are the parts of the path.
 use Rattle.std.proofs.Common.{◌≡◌, ℕ, zero, suc, ◌+◌, ◌-◌, ◌^◌, ◌<◌, ◌≤◌, Bool, true, false, cond, List, [], ◌∷◌, ◌++◌, length, drop, get_or, refl, sym, ap, ◌∙◌, subst, arith, inl, inr, ltb, leb, length-append, append-nil}
 use Rattle.std.proofs.lemmas.Bool.{lt-ltb}
-use Rattle.std.proofs.Math.Seq.{drop-append_seam, take-append_seam}
+use Rattle.std.proofs.Math.Seq.{drop-nil, drop-append_seam, take-append_seam}
 use Rattle.matchit.specs.Rows.{param_token, catch_all_token}
 use Rattle.matchit.specs.Seek.{segment}
 use Rattle.matchit.specs.Params.{walk, wild_from, wild_stop, part_of, after_token}
@@ -28,15 +28,11 @@ length_from zero l rest fits e = omega (arith, ap length e)
 length_from (suc n) [] rest fits e = absurd (omega (arith, fits))
 length_from (suc n) (y ∷ l) rest fits e = omega (arith, length_from n l rest (omega (arith, fits)) e)
 
-drop_empty : (n : ℕ) → drop {A = ℕ} n [] ≡ []
-drop_empty zero = refl
-drop_empty (suc n) = refl
-
 drop_part : (n : ℕ) (l part rest : List ℕ) → drop n l ≡ part ++ rest → drop (n + length part) l ≡ rest
 drop_part zero l part rest e =
     let s : 0 + length part ≡ length part = omega arith in
     rw s (ap (λ (y : List ℕ). drop (length part) y) e ∙ drop-append_seam part rest)
-drop_part (suc n) [] [] rest e = drop_empty (suc n + 0) ∙ e
+drop_part (suc n) [] [] rest e = drop-nil (suc n + 0) ∙ e
 drop_part (suc n) [] (x ∷ part) rest e = absurd cc
 drop_part (suc n) (y ∷ l) part rest e = let s : suc n + length part ≡ suc (n + length part) = omega arith in rw s (drop_part n l part rest e)
 

@@ -28,7 +28,7 @@ part_unique (b ∷ part) rest (c ∷ other) after plain clean end stop e =
     (ap (λ (y : ℕ). y ∷ part) head ∙ ap (λ (y : List ℕ). c ∷ y) same.0, same.1)
 
 -- what follows a part
-rest_ends : (p rest : List ℕ) (later : List (List ℕ)) → IsPlain (param_token ∷ p) → Takes p rest later → IsEndOrSlash rest
+pub rest_ends : (p rest : List ℕ) (later : List (List ℕ)) → IsPlain (param_token ∷ p) → Takes p rest later → IsEndOrSlash rest
 rest_ends [] rest later plain (e, q) = subst IsEndOrSlash (sym e) tt
 rest_ends (x ∷ p) rest later plain (inl (small, tail, e, t)) = subst IsEndOrSlash (sym e) (plain.0 refl)
 rest_ends (x ∷ p) rest later plain (inr (inl t)) = absurd (omega (arith, plain.0 refl, t.0))

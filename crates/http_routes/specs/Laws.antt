@@ -4,4 +4,5 @@ use Rattle.http_routes.specs.Targets.{Resource, HasRoute}
 
 -- a target names one resource, with one list of parts
 abbrev pub HasOneRoute : Type 0
-HasOneRoute = (target : List ℕ) (one other : Resource) → HasRoute target one → HasRoute target other → one ≡ other
+HasOneRoute =
+    (target : List ℕ) (one other : Resource) → HasRoute target one → HasRoute target other → one ≡ other

@@ -9,7 +9,8 @@ use std::alloc::Global;
 
 /// Reads the key that a part of a path spells: the bytes of the part, percent-decoded.
 ///
-/// Rule: RFC 3986, "Percent-Encoding". A percent sign that no two hexadecimal digits follow stands for itself, as `+` does.
+/// Rule: RFC 3986, "Percent-Encoding". A percent sign that no two hexadecimal digits follow stands for itself, as `+`
+/// does.
 ///
 /// # Errors
 ///

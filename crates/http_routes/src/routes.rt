@@ -1,9 +1,8 @@
 // The routes of targets.
-ghost use Rattle.std.specs.Prelude.{◌≡◌, true, None, OnOk, IfSome, MatchOption};
-ghost use Rattle.matchit.specs.Params.{walk};
+ghost use Rattle.std.specs.Prelude.{◌≡◌, true, [], map, None, OnOk, IfSome, MatchOption};
 ghost use Rattle.matchit.specs.Route.{parse_route};
 ghost use Rattle.http_routes.specs.Targets.{Resource, HasRoute, resource_of};
-ghost use Rattle.http_routes.specs.Table.{AddsKind, IsFree, AreTexts, taken, first_of, second_of, named, reads_as};
+ghost use Rattle.http_routes.specs.Table.{AddsKind, IsFree, Holds, can_stand, AreTexts, taken_by, first_of, second_of, third_of, named, reads_as};
 
 use crate::route::Route;
 use matchit::{InsertError, Params, Router};
@@ -15,9 +14,40 @@ use std::marker::Model;
 #[derive(Clone, Copy, Debug, PartialEq, Eq)]
 enum Kind {
     Bucket,
+    Versioning,
+    Lifecycle,
     Object,
+    Version,
+    Tags,
+    Uploads,
+    Upload,
+    Part,
+    Act,
+    Due,
     Meters,
+    Tariff,
+    Close,
+    Report,
 }
+
+// Each route as matchit reads it, and what it leads to.
+const ROUTES: [(&str, Kind); 15] = [
+    ("/buckets/{bucket}", Kind::Bucket),
+    ("/buckets/{bucket}/versioning", Kind::Versioning),
+    ("/buckets/{bucket}/lifecycle", Kind::Lifecycle),
+    ("/buckets/{bucket}/objects/{*key}", Kind::Object),
+    ("/buckets/{bucket}/versions/{id}/{*key}", Kind::Version),
+    ("/buckets/{bucket}/tags/{id}/{*key}", Kind::Tags),
+    ("/buckets/{bucket}/uploads/{*key}", Kind::Uploads),
+    ("/buckets/{bucket}/upload/{id}", Kind::Upload),
+    ("/buckets/{bucket}/parts/{id}/{part}", Kind::Part),
+    ("/buckets/{bucket}/act", Kind::Act),
+    ("/buckets/{bucket}/due", Kind::Due),
+    ("/buckets/{bucket}/meters/{month}", Kind::Meters),
+    ("/tariff", Kind::Tariff),
+    ("/months/{month}/close", Kind::Close),
+    ("/months/{month}/report", Kind::Report),
+];
 
 /// The routes that are served. They are built once, and answer without memory.
 #[derive(Drop)]
@@ -51,39 +81,82 @@ fn add(router: &mut Router<Kind>, pattern: &str, kind: Kind) -> Result<(), NoMem
     }
 }
 
-// What the first two parameters of a match took, and nothing where there are fewer.
-fn parts_of<'t>(params: &Params<'_, 't>) -> (&'t str, &'t str)
-    ensures first { let parts = taken (walk params.now.pattern.now params.now.text.now params.now.path.now params.now.names.now 0 0) in
-        AreTexts parts → result.0.now ≡ first_of parts }
-    ensures second { let parts = taken (walk params.now.pattern.now params.now.text.now params.now.path.now params.now.names.now 0 0) in
-        AreTexts parts → result.1.now ≡ second_of parts }
+// Adds the routes of a table, in its order.
+fn add_all(router: &mut Router<Kind>, table: &[(&str, Kind)]) -> Result<(), NoMemory>
+    requires new { router.old ≡ [] }
+    requires stands { can_stand [] (map (λ row. (row.0.now, row.1)) table.now) ≡ true }
+    ensures { OnOk result (Holds (map (λ row. row.1) table.now) router.new) }
+{
+    for row in table {
+        add(router, row.0, row.1)?;
+    }
+    Ok(())
+}
+
+// What the first three parameters of a match took, and nothing where there are fewer.
+fn parts_of<'t>(params: &Params<'_, 't>) -> (&'t str, &'t str, &'t str)
+    ensures first { AreTexts (taken_by params.now) → result.0.now ≡ first_of (taken_by params.now) }
+    ensures second { AreTexts (taken_by params.now) → result.1.now ≡ second_of (taken_by params.now) }
+    ensures third { AreTexts (taken_by params.now) → result.2.now ≡ third_of (taken_by params.now) }
 {
     let mut parts = params.iter();
     let Some((_, first)) = parts.next() else {
-        return ("", "");
+        return ("", "", "");
     };
     let Some((_, second)) = parts.next() else {
-        return (first, "");
+        return (first, "", "");
     };
-    (first, second)
+    let Some((_, third)) = parts.next() else {
+        return (first, second, "");
+    };
+    (first, second, third)
 }
 
 // The route of this kind, with what the parameters took.
 fn route_of<'t>(kind: Kind, params: &Params<'_, 't>) -> Route<'t>
-    ensures { let parts = taken (walk params.now.pattern.now params.now.text.now params.now.path.now params.now.names.now 0 0) in
-        AreTexts parts → resource_of result ≡ named kind parts }
+    ensures { AreTexts (taken_by params.now) → resource_of result ≡ named kind (taken_by params.now) }
 {
-    let (first, second) = parts_of(params);
+    let (first, second, third) = parts_of(params);
     match kind {
         Kind::Bucket => Route::Bucket { bucket: first },
+        Kind::Versioning => Route::Versioning { bucket: first },
+        Kind::Lifecycle => Route::Lifecycle { bucket: first },
         Kind::Object => Route::Object {
             bucket: first,
             key: second,
         },
+        Kind::Version => Route::Version {
+            bucket: first,
+            id: second,
+            key: third,
+        },
+        Kind::Tags => Route::Tags {
+            bucket: first,
+            id: second,
+            key: third,
+        },
+        Kind::Uploads => Route::Uploads {
+            bucket: first,
+            key: second,
+        },
+        Kind::Upload => Route::Upload {
+            bucket: first,
+            id: second,
+        },
+        Kind::Part => Route::Part {
+            bucket: first,
+            id: second,
+            part: third,
+        },
+        Kind::Act => Route::Act { bucket: first },
+        Kind::Due => Route::Due { bucket: first },
         Kind::Meters => Route::Meters {
             bucket: first,
             month: second,
         },
+        Kind::Tariff => Route::Tariff,
+        Kind::Close => Route::Close { month: first },
+        Kind::Report => Route::Report { month: first },
     }
 }
 
@@ -95,17 +168,7 @@ impl Routes {
     /// `NoMemory`: memory ran out.
     pub fn new(alloc: Global) -> Result<Routes, NoMemory> {
         let mut router = Router::new(alloc);
-        add(&mut router, "/buckets/{bucket}", Kind::Bucket)?;
-        add(
-            &mut router,
-            "/buckets/{bucket}/objects/{*key}",
-            Kind::Object,
-        )?;
-        add(
-            &mut router,
-            "/buckets/{bucket}/meters/{month}",
-            Kind::Meters,
-        )?;
+        add_all(&mut router, &ROUTES)?;
         Ok(Routes { router })
     }
 

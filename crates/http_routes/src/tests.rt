@@ -2,89 +2,214 @@ use super::*;
 use office_base::NameRefusal;
 use std::test::Fail;
 
-#[test]
-fn buckets(rt: HostRuntime) -> Result<(), Fail> {
-    let routes = Routes::new(rt.alloc())?;
-    for (target, bucket) in [
-        ("/buckets/logs", "logs"),
-        ("/buckets/a%2Fb", "a%2Fb"),
-        ("/buckets/buckets", "buckets"),
-        ("/buckets/L+g~", "L+g~"),
-    ] {
-        let found = routes.find(target.as_bytes());
-        assert_eq!(rt; found, Some(Route::Bucket { bucket }), "{target}");
-    }
-    Ok(())
-}
+// Targets, and where they lead.
+const TARGETS: [(&[u8], Option<Route<'static>>); 76] = [
+    (b"/buckets/logs", Some(Route::Bucket { bucket: "logs" })),
+    (b"/buckets/a%2Fb", Some(Route::Bucket { bucket: "a%2Fb" })),
+    (
+        b"/buckets/buckets",
+        Some(Route::Bucket { bucket: "buckets" }),
+    ),
+    (b"/buckets/L+g~", Some(Route::Bucket { bucket: "L+g~" })),
+    (
+        b"/buckets/logs/versioning",
+        Some(Route::Versioning { bucket: "logs" }),
+    ),
+    (
+        b"/buckets/logs/lifecycle",
+        Some(Route::Lifecycle { bucket: "logs" }),
+    ),
+    (
+        b"/buckets/logs/objects/a",
+        Some(Route::Object {
+            bucket: "logs",
+            key: "a",
+        }),
+    ),
+    (
+        b"/buckets/logs/objects/a/b/",
+        Some(Route::Object {
+            bucket: "logs",
+            key: "a/b/",
+        }),
+    ),
+    (
+        b"/buckets/logs/objects//",
+        Some(Route::Object {
+            bucket: "logs",
+            key: "/",
+        }),
+    ),
+    (
+        b"/buckets/logs/objects//a",
+        Some(Route::Object {
+            bucket: "logs",
+            key: "/a",
+        }),
+    ),
+    (
+        b"/buckets/a/objects/b%2Fc",
+        Some(Route::Object {
+            bucket: "a",
+            key: "b%2Fc",
+        }),
+    ),
+    (
+        b"/buckets/a/objects/objects/x",
+        Some(Route::Object {
+            bucket: "a",
+            key: "objects/x",
+        }),
+    ),
+    (
+        b"/buckets/a/objects/%zz",
+        Some(Route::Object {
+            bucket: "a",
+            key: "%zz",
+        }),
+    ),
+    (
+        b"/buckets/act/objects/act",
+        Some(Route::Object {
+            bucket: "act",
+            key: "act",
+        }),
+    ),
+    (
+        b"/buckets/logs/versions/null/a",
+        Some(Route::Version {
+            bucket: "logs",
+            id: "null",
+            key: "a",
+        }),
+    ),
+    (
+        b"/buckets/logs/versions/3//",
+        Some(Route::Version {
+            bucket: "logs",
+            id: "3",
+            key: "/",
+        }),
+    ),
+    (
+        b"/buckets/logs/versions/%2F/a/",
+        Some(Route::Version {
+            bucket: "logs",
+            id: "%2F",
+            key: "a/",
+        }),
+    ),
+    (
+        b"/buckets/logs/tags/3/a/b",
+        Some(Route::Tags {
+            bucket: "logs",
+            id: "3",
+            key: "a/b",
+        }),
+    ),
+    (
+        b"/buckets/logs/uploads/7",
+        Some(Route::Uploads {
+            bucket: "logs",
+            key: "7",
+        }),
+    ),
+    (
+        b"/buckets/logs/uploads//a",
+        Some(Route::Uploads {
+            bucket: "logs",
+            key: "/a",
+        }),
+    ),
+    (
+        b"/buckets/logs/upload/7",
+        Some(Route::Upload {
+            bucket: "logs",
+            id: "7",
+        }),
+    ),
+    (
+        b"/buckets/logs/parts/7/00001",
+        Some(Route::Part {
+            bucket: "logs",
+            id: "7",
+            part: "00001",
+        }),
+    ),
+    (b"/buckets/logs/act", Some(Route::Act { bucket: "logs" })),
+    (b"/buckets/logs/due", Some(Route::Due { bucket: "logs" })),
+    (
+        b"/buckets/logs/meters/2024-01",
+        Some(Route::Meters {
+            bucket: "logs",
+            month: "2024-01",
+        }),
+    ),
+    (b"/tariff", Some(Route::Tariff)),
+    (
+        b"/months/2024-01/close",
+        Some(Route::Close { month: "2024-01" }),
+    ),
+    (
+        b"/months/close/report",
+        Some(Route::Report { month: "close" }),
+    ),
+    (b"", None),
+    (b"/", None),
+    (b"*", None),
+    (b"buckets/logs", None),
+    (b"http://host/buckets/logs", None),
+    (b"/bucket/x", None),
+    (b"/buckets", None),
+    (b"/buckets/", None),
+    (b"/buckets//", None),
+    (b"/buckets/logs/", None),
+    (b"//buckets/logs", None),
+    (b"/Buckets/logs", None),
+    (b"/buckets/logs?versions", None),
+    (b"/buckets/logs/objects/a?", None),
+    (b"/buckets/logs/objects/?a", None),
+    (b"/buckets/logs/objects", None),
+    (b"/buckets/logs/objects/", None),
+    (b"/buckets//objects/a", None),
+    (b"/buckets/logs//objects/a", None),
+    (b"/buckets/logs/object/a", None),
+    (b"/buckets/logs/versioning/", None),
+    (b"/buckets/logs/lifecycle/x", None),
+    (b"/buckets/logs/versions/3", None),
+    (b"/buckets/logs/versions/3/", None),
+    (b"/buckets/logs/versions//a", None),
+    (b"/buckets/logs/tags//a", None),
+    (b"/buckets/logs/uploads/", None),
+    (b"/buckets/logs/upload/", None),
+    (b"/buckets/logs/upload/7/", None),
+    (b"/buckets/logs/upload/7/a", None),
+    (b"/buckets/logs/parts/7", None),
+    (b"/buckets/logs/parts//1", None),
+    (b"/buckets/logs/parts/7/1/", None),
+    (b"/buckets/logs/act/", None),
+    (b"/buckets/logs/due/now", None),
+    (b"/buckets/logs/meters/", None),
+    (b"/buckets/logs/meters/2024-01/", None),
+    (b"/buckets/logs/meters//", None),
+    (b"/buckets//meters/2024-01", None),
+    (b"/tariff/", None),
+    (b"/tariffs", None),
+    (b"/tariff?", None),
+    (b"/months/2024-01", None),
+    (b"/months//close", None),
+    (b"/months/2024-01/closed", None),
+    (b"/months/2024-01/report/", None),
+    (b"/buckets/\xff", None),
+    (b"/buckets/logs/objects/\xc3", None),
+];
 
 #[test]
-fn objects(rt: HostRuntime) -> Result<(), Fail> {
+fn targets(rt: HostRuntime) -> Result<(), Fail> {
     let routes = Routes::new(rt.alloc())?;
-    for (target, bucket, key) in [
-        ("/buckets/logs/objects/a", "logs", "a"),
-        ("/buckets/logs/objects/a/b/", "logs", "a/b/"),
-        ("/buckets/logs/objects//", "logs", "/"),
-        ("/buckets/logs/objects//a", "logs", "/a"),
-        ("/buckets/a/objects/b%2Fc", "a", "b%2Fc"),
-        ("/buckets/a/objects/objects/x", "a", "objects/x"),
-        ("/buckets/a/objects/%zz", "a", "%zz"),
-        (
-            "/buckets/meters/objects/meters/2024-01",
-            "meters",
-            "meters/2024-01",
-        ),
-    ] {
-        let found = routes.find(target.as_bytes());
-        assert_eq!(rt; found, Some(Route::Object { bucket, key }), "{target}");
+    for (target, route) in TARGETS {
+        assert_eq!(rt; routes.find(target), route, "{target:?}");
     }
-    Ok(())
-}
-
-#[test]
-fn meters(rt: HostRuntime) -> Result<(), Fail> {
-    let routes = Routes::new(rt.alloc())?;
-    for (target, bucket, month) in [
-        ("/buckets/logs/meters/2024-01", "logs", "2024-01"),
-        ("/buckets/objects/meters/x", "objects", "x"),
-    ] {
-        let found = routes.find(target.as_bytes());
-        assert_eq!(rt; found, Some(Route::Meters { bucket, month }), "{target}");
-    }
-    Ok(())
-}
-
-#[test]
-fn nowhere(rt: HostRuntime) -> Result<(), Fail> {
-    let routes = Routes::new(rt.alloc())?;
-    for target in [
-        "",
-        "/",
-        "*",
-        "buckets/logs",
-        "http://host/buckets/logs",
-        "/bucket/x",
-        "/buckets",
-        "/buckets/",
-        "/buckets//",
-        "/buckets/logs/",
-        "//buckets/logs",
-        "/Buckets/logs",
-        "/buckets/logs?versions",
-        "/buckets/logs/objects/a?",
-        "/buckets/logs/objects/?a",
-        "/buckets/logs/objects",
-        "/buckets/logs/objects/",
-        "/buckets//objects/a",
-        "/buckets/logs//objects/a",
-        "/buckets/logs/object/a",
-        "/buckets/logs/meters/",
-        "/buckets/logs/meters/2024-01/",
-        "/buckets/logs/meters//",
-        "/buckets//meters/2024-01",
-    ] {
-        assert_eq!(rt; routes.find(target.as_bytes()), None, "{target}");
-    }
-    assert_eq!(rt; routes.find(b"/buckets/\xff"), None);
     Ok(())
 }
 

@@ -129,7 +129,8 @@ impl<D: Disk> Journal<D> {
     ///
     /// `end` is the length of the file in bytes, as `open` answered it. After an entry the next call reads at the
     /// gate behind it; after `None` an entry can be added. Nothing is written.
-    /// Cost: memory for the frame, at most `entry_codec::ENTRY_LIMIT` bytes whatever it claims, and for its entry.
+    /// Cost: memory for the frame, once it is known that the file holds it, at most `entry_codec::ENTRY_LIMIT` bytes
+    /// whatever it claims, and for its entry.
     ///
     /// # Errors
     ///

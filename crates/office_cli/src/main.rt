@@ -2,6 +2,8 @@
 #![tactic(auto)]
 
 mod init;
+#[cfg(test)]
+mod lifecycle_sessions;
 mod lines;
 mod program;
 mod run;
@@ -9,7 +11,11 @@ mod serve;
 #[cfg(test)]
 mod serve_tests;
 #[cfg(test)]
+mod session_tests;
+#[cfg(test)]
 mod tests;
+#[cfg(test)]
+mod version_sessions;
 
 use command_line::read_line;
 use desk_core::SystemClock;

@@ -71,15 +71,15 @@ const RUN: &[&str] = &["run"];
 
 /// What one command left.
 #[derive(Drop)]
-struct Ran {
-    status: u8,
-    said: Vec<u8>,
+pub(crate) struct Ran {
+    pub(crate) status: u8,
+    pub(crate) said: Vec<u8>,
     noted: Vec<u8>,
-    disk: MemoryDisk,
+    pub(crate) disk: MemoryDisk,
 }
 
 // A disk with this journal file. The write of the file is its call 1; the calls with these numbers fail.
-fn disk_of(alloc: Global, file: &[u8], failing: &[u64]) -> Result<MemoryDisk, Fail> {
+pub(crate) fn disk_of(alloc: Global, file: &[u8], failing: &[u64]) -> Result<MemoryDisk, Fail> {
     let mut disk = MemoryDisk::new(alloc, failing.to_vec(alloc)?);
     disk.write_at(FileNo::Journal, 0, file)?;
     Ok(disk)
@@ -98,7 +98,7 @@ fn command<R: Threads + Wait + Sync>(
 }
 
 // One command over a clock that tells these numbers.
-fn command_at<R: Threads + Wait + Sync>(
+pub(crate) fn command_at<R: Threads + Wait + Sync>(
     rt: &R,
     alloc: Global,
     words: &[&str],

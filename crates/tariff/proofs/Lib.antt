@@ -1,2 +1,4 @@
 pub mod Amounts
+pub mod DocumentLemmas
 mod Examples
+pub mod PriceLemmas

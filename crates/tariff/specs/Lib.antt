@@ -1,2 +1,4 @@
 pub mod Charges
+pub mod Faults
 pub mod Prices
+pub mod Reading

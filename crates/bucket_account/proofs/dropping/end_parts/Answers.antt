@@ -1,11 +1,10 @@
-use Rattle.std.proofs.Common.{◌≡◌, ◌∷◌, ℕ, ◌≤◌, List, refl, ap, sym, ◌∙◌, subst, arith, rules}
+use Rattle.std.proofs.Common.{◌≡◌, ℕ, List, refl, ap, sym, ◌∙◌, subst, rules}
 use Rattle.std.specs.Ordering.{nat_cmp}
 use Rattle.std.specs.Map.Iter.{deref_pair}
 use Rattle.std.proofs.lemmas.Map.Iter.{rest_more, rest_all}
 use Rattle.class_rules.specs.declared.class.Class.{Class}
-use Rattle.class_rules.specs.Lines.{lines_of, part_line}
-use Rattle.accrual.specs.Books.{Book}
-use Rattle.accrual.specs.Totals.{StandsFor, HasOpenStay}
+use Rattle.class_rules.specs.Lines.{part_line}
+use Rattle.accrual.specs.Totals.{HasOpenStay}
 use Rattle.office_base.specs.Maps.{Rises}
 use Rattle.uploads.specs.declared.part.Part.{Part}
 use Rattle.bucket_account.specs.Uploading.{AreEndableAt}

@@ -1,12 +1,9 @@
 use Rattle.std.proofs.Common.{◌≡◌, ℕ}
 use Rattle.std.specs.Ordering.{nat_cmp}
-use Rattle.std.specs.List.{AllByRecursion}
 use Rattle.office_base.specs.Maps.{Rises}
-use Rattle.office_base.specs.Sizes.{largest_size}
-use Rattle.uploads.specs.declared.part.Part.{Part}
 use Rattle.accrual.specs.Totals.{StandsFor}
 use Rattle.plain_office.specs.Office.{Books, book_of}
-use Rattle.bucket_account.specs.Uploading.{HavePartStays, AreEndableAt, parts_ended}
+use Rattle.bucket_account.specs.Uploading.{HavePartStays, AreEndableAt}
 use Rattle.bucket_account.proofs.Parting.{AreSmall, IsOnTheWay}
 use Rattle.bucket_account.proofs.dropping.end_parts.Given as goal
 

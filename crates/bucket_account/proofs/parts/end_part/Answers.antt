@@ -1,5 +1,4 @@
 use Rattle.std.proofs.Common.{ℕ, List, sym, subst}
-use Rattle.std.specs.Prelude.{None}
 use Rattle.accrual.specs.Totals.{HasOpenStay}
 use Rattle.class_rules.specs.declared.class.Class.{Class}
 use Rattle.plain_office.specs.Office.{book_of}

@@ -1,4 +1,4 @@
-use Rattle.std.proofs.Common.{◌≡◌, [], true, sym, ap, ◌∙◌, subst}
+use Rattle.std.proofs.Common.{◌≡◌, [], true, sym, ◌∙◌, subst}
 use Rattle.std.specs.Prelude.{Result, is_some}
 use Rattle.due_core.specs.Buckets.{BucketRecord}
 use Rattle.office_base.specs.Maps.{at_number}

@@ -8,7 +8,7 @@ use Rattle.office_types.specs.declared.refusal.Refusal.{Refusal}
 use Rattle.bucket_account.specs.declared.change.Done.{Done}
 use Rattle.bucket_account.specs.Changing.{DoesTold}
 use Rattle.bucket_account.specs.Counting.{AccountRecord, AreCountsOver, account_of}
-use Rattle.bucket_account.proofs.Completed.{whats, refused_for, object_ready, object_stay, object_later, object_room, completes_for, refuses_for}
+use Rattle.bucket_account.proofs.Completed.{whats, object_ready, object_stay, object_later, object_room, completes_for, refuses_for}
 use Rattle.bucket_account.proofs.Gone.{rises_for, stays_for, uploads_for, parts_for, names_for}
 use Rattle.bucket_account.proofs.Handed.{err_of}
 use Rattle.bucket_account.proofs.PartPut.{changed_for}

@@ -2,7 +2,6 @@ use Rattle.std.proofs.Common.{◌≡◌, [], ◌∷◌, sym, ◌∙◌, subst, a
 use Rattle.std.specs.Prelude.{Result}
 use Rattle.due_core.specs.Buckets.{BucketRecord}
 use Rattle.office_base.specs.Maps.{with_number}
-use Rattle.plain_office.specs.Office.{book_of}
 use Rattle.plain_office.specs.Step.{start_upload}
 use Rattle.office_types.specs.declared.refusal.Refusal.{Refusal}
 use Rattle.office_types.specs.declared.refusal.What.TheVariants.{Uploads, Names}

@@ -10,7 +10,6 @@ use Rattle.meter_journal.specs.History.{header, end_gate, IsAtRest}
 use Rattle.desk_core.specs.Desk.{Parts}
 use Rattle.desk_core.specs.Keeping.{Adds}
 use Rattle.desk_core.proofs.Adding.{added, unaccepted, wanting}
-use Rattle.desk_core.proofs.Built.{done_built}
 use Rattle.desk_core.proofs.Offices.{few, no_lack, other_lack}
 use Rattle.desk_core.proofs.engine.Engine.keep.Goals as goal
 
@@ -28,20 +27,6 @@ returns-in_default-clause-keeps g c before hold =
     let fits = subst (λ (n : _). c.args.self.now.gate + 6 + n ≤ c.args.self.now.limit) (ap length c.requires.spelled) c.requires.fits in
     added d.honest d.state d.moment d.had_since d.fault_count c.args.moment c.args.told before c.args.self.now hold c.args.command.now fits (record c.args.self.now { office = c.apply.new.self }) c.add.new.self c.in-Ok.reply c.add.result
     (accepted_reply c.in-Ok.reply c.in_default.not-NothingDue) c.requires.later does counted refl c.add.ensures.office (c.add.ensures.limit ∙ ap (λ (s : P). s.limit) c.self.view_is) adds
-
-pub add-requires-clause-built : goal.add-requires-clause-built
-add-requires-clause-built g c =
-    let P : Type 0 = Parts g.row.D.Denot g.row.C.Denot in
-    let office = c.requires.ready.1.office in
-    let does = subst (λ (s : P). (p : Office) → StandsForOffice s.office p → Does (step c.args.moment c.args.command.now p) p c.apply.new.self (Ok c.in-Ok.reply)) c.self.view_is c.in-Ok.ensures.step in
-    done_built c.args.moment c.args.command.now office.plain c.apply.new.self (Ok c.in-Ok.reply) c.requires.entry.command.built (does office.plain office.stands)
-
-pub answer-requires-in_default-refusal-clause-built : goal.answer-requires-in_default-refusal-clause-built
-answer-requires-in_default-refusal-clause-built g c =
-    let P : Type 0 = Parts g.row.D.Denot g.row.C.Denot in
-    let office = c.requires.ready.1.office in
-    let does = subst (λ (s : P). (p : Office) → StandsForOffice s.office p → Does (step c.args.moment c.args.command.now p) p c.apply.new.self (Err c.in-Err.refusal)) c.self.view_is c.in-Err.ensures.step in
-    done_built c.args.moment c.args.command.now office.plain c.apply.new.self (Err c.in-Err.refusal) c.requires.entry.command.built (does office.plain office.stands)
 
 pub answer-requires-in_default-refusal-clause-enough : goal.answer-requires-in_default-refusal-clause-enough
 answer-requires-in_default-refusal-clause-enough g c = other_lack c.in-Err.refusal c.in_default-refusal.not-NoMemory

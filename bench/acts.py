@@ -1,0 +1,65 @@
+#!/usr/bin/env python3
+"""What it costs to find the next lifecycle action: python3 bench/acts.py PROGRAM [ROUNDS] [FOLDER]
+
+Over journals in a new folder below FOLDER (/dev/shm) with a bucket of 100 and of 10,000 objects under one rule: questions
+what is due where nothing is, and acts that each remove one object. Prints for each the median of the rounds, in
+microseconds a call; the time of a run without calls is taken off.
+"""
+import json
+import statistics
+import subprocess
+import sys
+import tempfile
+import time
+from pathlib import Path
+
+DAY, MOMENT, DUE, ACTS = 86_400_000, 1_704_067_200_000, 400, 50
+
+
+def place(text):
+    return len(text).to_bytes(2, "big") + text
+
+
+def frame(kind, fields):
+    entry = MOMENT.to_bytes(8, "big") + bytes([kind]) + place(b"logs") + fields
+    return len(entry).to_bytes(4, "big") + entry + b"\xa5"
+
+
+def journal(count, expires):
+    """A bucket of so many objects, which expire by this part of a rule."""
+    rules = json.dumps({"Rules": [{"Expiration": expires, "Filter": {"Prefix": ""}, "ID": "r", "Status": "Enabled"}],
+                        "TransitionDefaultMinimumObjectSize": "all_storage_classes_128K"}, separators=(",", ":")).encode()
+    head = b"\xa5METERJRN1\xa5" + frame(1, b"") + frame(3, len(rules).to_bytes(4, "big") + rules)
+    objects = (frame(5, place(b"k%06d" % it) + (1).to_bytes(8, "big") + b"\0\0") for it in range(count))
+    return (head + b"".join(objects))[:-1] + b"\0"
+
+
+def seconds(program, file, sent, below):
+    with tempfile.TemporaryDirectory(dir=below) as folder:
+        Path(folder, "office-data").mkdir()
+        Path(folder, "office-data/journal").write_bytes(file)
+        started = time.monotonic()
+        ended = subprocess.run([program, "run"], cwd=folder, input=sent, capture_output=True, check=True)
+        return time.monotonic() - started, ended.stdout
+
+
+def micros(program, file, message, count, answer, below):
+    empty, _ = seconds(program, file, b"", below)
+    taken, said = seconds(program, file, message * count, below)
+    if said.count(answer) != count:
+        sys.exit(f"acts.py: {said.count(answer)} of {count} calls were answered {answer.decode()}")
+    return (taken - empty) / count * 1e6
+
+
+def main(program, rounds, below):
+    for count in (100, 10_000):
+        never, now = journal(count, {"Days": 365 * 70}), journal(count, {"Days": 1})
+        asks = [micros(program, never, b"GET /buckets/logs/due HTTP/1.1\r\n\r\n", DUE, b'{"action":"none"}', below) for _ in range(rounds)]
+        acts = [micros(program, now, b"POST /buckets/logs/act HTTP/1.1\r\n\r\n", ACTS, b'{"action":"remove"', below) for _ in range(rounds)]
+        print(f"objects {count} nothing_due_us {statistics.median(asks):.0f} act_us {statistics.median(acts):.0f}")
+
+
+if __name__ == "__main__":
+    if len(sys.argv) < 2:
+        sys.exit(__doc__)
+    main(str(Path(sys.argv[1]).resolve()), int(sys.argv[2]) if len(sys.argv) > 2 else 5, sys.argv[3] if len(sys.argv) > 3 else "/dev/shm")

@@ -1,0 +1,125 @@
+// Writing fields. A writer adds a value as its field stands in an entry.
+ghost use Rattle.std.specs.Prelude.{◌≡◌, ◌++◌, ◌<◌, ◌^◌, length, true, IsTrue, OnOk};
+ghost use Rattle.std.specs.Int.{w16, w32};
+ghost use Rattle.office_base.specs.Tags.{is_tag, tag_of};
+ghost use Rattle.entry_codec.specs.Formats.{number, text};
+ghost use Rattle.entry_codec.specs.Fields as field;
+ghost use Rattle.entry_codec.specs.Fields.{tag, format, id_code, is_id};
+
+use class_rules::{Class, rank};
+use office_base::{BucketName, Key, Size, Tags, VersionId};
+use std::alloc::AllocError;
+
+fn put_text(out: &mut Vec<u8>, bytes: &[u8]) -> Result<(), AllocError>
+    requires { length bytes.now < 2 ^ 16 }
+    ensures { OnOk result (out.new.items ≡ out.old.items ++ (text (number w16)).written bytes.now) }
+{
+    out.extend_from_slice(&(bytes.len() as u16).to_be_bytes())?;
+    out.extend_from_slice(bytes)
+}
+
+pub(crate) fn put_long_text(out: &mut Vec<u8>, bytes: &[u8]) -> Result<(), AllocError>
+    requires { length bytes.now < 2 ^ 32 }
+    ensures { OnOk result (out.new.items ≡ out.old.items ++ (text (number w32)).written bytes.now) }
+{
+    out.extend_from_slice(&(bytes.len() as u32).to_be_bytes())?;
+    out.extend_from_slice(bytes)
+}
+
+#[tactic(auto, using(crate::proofs::Sizes::tag_parts_small), unfolding(crate::specs::Fields::tag, crate::specs::Fields::utf8_text))]
+fn put_tag(out: &mut Vec<u8>, pair: &(String, String)) -> Result<(), AllocError>
+    requires { IsTrue (is_tag (tag_of pair.now)) }
+    ensures { OnOk result (out.new.items ≡ out.old.items ++ tag.written (tag_of pair.now)) }
+{
+    put_text(out, pair.0.as_bytes())?;
+    put_text(out, pair.1.as_bytes())
+}
+
+#[tactic(auto, using(crate::proofs::Fitting::tags_have))]
+pub(crate) fn put_tags(out: &mut Vec<u8>, tags: &Tags) -> Result<(), AllocError>
+    ensures bytes { OnOk result (out.new.items ≡ out.old.items ++ (format field.Tags).written tags.now) }
+    ensures has { OnOk result ((format field.Tags).has tags.now ≡ true) }
+{
+    let pairs = tags.pairs();
+    out.extend_from_slice(&(pairs.len() as u8).to_be_bytes())?;
+    for pair in pairs {
+        put_tag(out, pair)?;
+    }
+    Ok(())
+}
+
+#[tactic(auto, using(crate::proofs::Fitting::name_has), unfolding(crate::specs::Fields::format))]
+pub(crate) fn put_name(out: &mut Vec<u8>, name: &BucketName) -> Result<(), AllocError>
+    ensures bytes { OnOk result (out.new.items ≡ out.old.items ++ (format field.Name).written name.now) }
+    ensures has { OnOk result ((format field.Name).has name.now ≡ true) }
+{
+    put_text(out, name.text().as_bytes())
+}
+
+#[tactic(auto, using(crate::proofs::Fitting::key_has), unfolding(crate::specs::Fields::format))]
+pub(crate) fn put_key(out: &mut Vec<u8>, key: &Key) -> Result<(), AllocError>
+    ensures bytes { OnOk result (out.new.items ≡ out.old.items ++ (format field.Key).written key.now) }
+    ensures has { OnOk result ((format field.Key).has key.now ≡ true) }
+{
+    put_text(out, key.bytes())
+}
+
+#[tactic(auto, using(crate::proofs::Fitting::size_has), unfolding(crate::specs::Fields::format))]
+pub(crate) fn put_size(out: &mut Vec<u8>, size: Size) -> Result<(), AllocError>
+    ensures bytes { OnOk result (out.new.items ≡ out.old.items ++ (format field.Size).written size) }
+    ensures has { OnOk result ((format field.Size).has size ≡ true) }
+{
+    out.extend_from_slice(&size.bytes().to_be_bytes())
+}
+
+#[tactic(auto, using(crate::proofs::Fitting::rank_has), unfolding(crate::specs::Fields::format))]
+pub(crate) fn put_class(out: &mut Vec<u8>, class: Class) -> Result<(), AllocError>
+    ensures bytes { OnOk result (out.new.items ≡ out.old.items ++ (format field.Rank).written class) }
+    ensures has { OnOk result ((format field.Rank).has class ≡ true) }
+{
+    out.push(rank(class))?;
+    Ok(())
+}
+
+#[tactic(auto, using(crate::proofs::Fitting::status_has), unfolding(crate::specs::Fields::format))]
+pub(crate) fn put_status(out: &mut Vec<u8>, enabled: bool) -> Result<(), AllocError>
+    ensures bytes { OnOk result (out.new.items ≡ out.old.items ++ (format field.Status).written enabled) }
+    ensures has { OnOk result ((format field.Status).has enabled ≡ true) }
+{
+    out.push(if enabled { 1 } else { 2 })?;
+    Ok(())
+}
+
+fn number_of(id: VersionId) -> u64
+    ensures code { result ≡ id_code id }
+    ensures is { is_id id ≡ true }
+{
+    match id {
+        VersionId::Null => 0,
+        VersionId::Number(number) => number.get(),
+    }
+}
+
+#[tactic(auto, using(crate::proofs::Fitting::id_has), unfolding(crate::specs::Fields::format))]
+pub(crate) fn put_id(out: &mut Vec<u8>, id: VersionId) -> Result<(), AllocError>
+    ensures bytes { OnOk result (out.new.items ≡ out.old.items ++ (format field.Id).written id) }
+    ensures has { OnOk result ((format field.Id).has id ≡ true) }
+{
+    out.extend_from_slice(&number_of(id).to_be_bytes())
+}
+
+#[tactic(auto, using(crate::proofs::Fitting::number4_has), unfolding(crate::specs::Fields::format))]
+pub(crate) fn put_u32(out: &mut Vec<u8>, n: u32) -> Result<(), AllocError>
+    ensures bytes { OnOk result (out.new.items ≡ out.old.items ++ (format field.Number4).written n) }
+    ensures has { OnOk result ((format field.Number4).has n ≡ true) }
+{
+    out.extend_from_slice(&n.to_be_bytes())
+}
+
+#[tactic(auto, using(crate::proofs::Fitting::number8_has), unfolding(crate::specs::Fields::format))]
+pub(crate) fn put_u64(out: &mut Vec<u8>, n: u64) -> Result<(), AllocError>
+    ensures bytes { OnOk result (out.new.items ≡ out.old.items ++ (format field.Number8).written n) }
+    ensures has { OnOk result ((format field.Number8).has n ≡ true) }
+{
+    out.extend_from_slice(&n.to_be_bytes())
+}

@@ -1,0 +1,75 @@
+// What the bodies of requests say.
+ghost use Rattle.std.specs.Prelude.{◌≡◌, Ok, IfOk, IfErr};
+ghost use Rattle.http_bodies.specs.Multipart.{upload_of, part_of};
+ghost use Rattle.http_bodies.specs.Puts.{put_of};
+ghost use Rattle.http_bodies.specs.Settings.{status_of, tagging_of};
+ghost use Rattle.rules_json.specs.Reading.{rules_of};
+ghost use Rattle.http_asks.specs.Faults.{OnBroken, HasFault, IsSaid};
+
+use crate::bad::{Fault, fault_of, rules_fault};
+use http_bodies::{PutBody, UploadBody, read_part, read_put, read_status, read_tags, read_upload};
+use office_base::Tags;
+use rules_core::RuleSet;
+use rules_json::read_rules;
+use std::alloc::Global;
+
+#[tactic(auto, using(crate::proofs::AskLemmas::flaw_told))]
+pub(crate) fn put_body(alloc: Global, bytes: &[u8]) -> Result<PutBody, Fault>
+    ensures { IsSaid (put_of bytes.now) result }
+{
+    match read_put(alloc, bytes) {
+        Ok(body) => Ok(body),
+        Err(fault) => Err(fault_of(fault)),
+    }
+}
+
+#[tactic(auto, using(crate::proofs::AskLemmas::flaw_told))]
+pub(crate) fn status_body(alloc: Global, bytes: &[u8]) -> Result<bool, Fault>
+    ensures { IsSaid (status_of bytes.now) result }
+{
+    match read_status(alloc, bytes) {
+        Ok(enabled) => Ok(enabled),
+        Err(fault) => Err(fault_of(fault)),
+    }
+}
+
+#[tactic(auto, using(crate::proofs::AskLemmas::flaw_told))]
+pub(crate) fn tags_body(alloc: Global, bytes: &[u8]) -> Result<Tags, Fault>
+    ensures { IsSaid (tagging_of bytes.now) result }
+{
+    match read_tags(alloc, bytes) {
+        Ok(tags) => Ok(tags),
+        Err(fault) => Err(fault_of(fault)),
+    }
+}
+
+#[tactic(auto, using(crate::proofs::AskLemmas::flaw_told))]
+pub(crate) fn upload_body(alloc: Global, bytes: &[u8]) -> Result<UploadBody, Fault>
+    ensures { IsSaid (upload_of bytes.now) result }
+{
+    match read_upload(alloc, bytes) {
+        Ok(body) => Ok(body),
+        Err(fault) => Err(fault_of(fault)),
+    }
+}
+
+#[tactic(auto, using(crate::proofs::AskLemmas::flaw_told))]
+pub(crate) fn part_body(alloc: Global, bytes: &[u8]) -> Result<u64, Fault>
+    ensures { IsSaid (part_of bytes.now) result }
+{
+    match read_part(alloc, bytes) {
+        Ok(size) => Ok(size),
+        Err(fault) => Err(fault_of(fault)),
+    }
+}
+
+#[tactic(auto, using(crate::proofs::AskLemmas::fault_told))]
+pub(crate) fn rules_body(alloc: Global, bytes: &[u8]) -> Result<RuleSet, Fault>
+    ensures ok { IfOk result (λ rules. rules_of bytes.now ≡ Ok rules) }
+    ensures err { IfErr result (λ fault. OnBroken fault (HasFault (rules_of bytes.now))) }
+{
+    match read_rules(alloc, bytes) {
+        Ok(rules) => Ok(rules),
+        Err(fault) => Err(rules_fault(fault)),
+    }
+}

@@ -1,0 +1,126 @@
+// What is asked of an object and its versions.
+ghost use Rattle.std.specs.Prelude.{◌≡◌};
+ghost use Rattle.http_asks.specs.Faults.{OnMeant};
+ghost use Rattle.http_asks.specs.Meaning.{put_meant, stack_meant, delete_meant, remove_meant, set_tags_meant};
+ghost use Rattle.http_asks.specs.Meaning.{object_meant, version_meant, tags_meant};
+
+use crate::bad::{Bad, Fault};
+use crate::bodies::{put_body, tags_body};
+use crate::parts::{bucket_name, object_key, version_id};
+use office_types::{Ask, Command, Query};
+use std::alloc::Global;
+
+// The ask of a PUT of an object.
+fn put_ask(alloc: Global, name: &str, part: &str, body: &[u8]) -> Result<Ask, Fault>
+    ensures { OnMeant result (λ meant. meant ≡ put_meant name.now part.now body.now) }
+{
+    let bucket = bucket_name(alloc, name)?;
+    let key = object_key(alloc, part)?;
+    let body = put_body(alloc, body)?;
+    Ok(Ask::Command(Command::Put {
+        bucket,
+        key,
+        size: body.size,
+        class: body.class,
+        tags: body.tags,
+    }))
+}
+
+// The ask of a GET of an object.
+fn stack_ask(alloc: Global, name: &str, part: &str) -> Result<Ask, Fault>
+    ensures { OnMeant result (λ meant. meant ≡ stack_meant name.now part.now) }
+{
+    let bucket = bucket_name(alloc, name)?;
+    let key = object_key(alloc, part)?;
+    Ok(Ask::Query(Query::Stack(bucket, key)))
+}
+
+// The ask of a DELETE of an object.
+fn delete_ask(alloc: Global, name: &str, part: &str) -> Result<Ask, Fault>
+    ensures { OnMeant result (λ meant. meant ≡ delete_meant name.now part.now) }
+{
+    let bucket = bucket_name(alloc, name)?;
+    let key = object_key(alloc, part)?;
+    Ok(Ask::Command(Command::Delete { bucket, key }))
+}
+
+#[tactic(auto, unfolding(crate::specs::Meaning::object_meant))]
+pub(crate) fn object_ask(
+    alloc: Global,
+    method: &[u8],
+    name: &str,
+    part: &str,
+    body: &[u8],
+) -> Result<Ask, Fault>
+    ensures { OnMeant result (λ meant. meant ≡ object_meant method.now name.now part.now body.now) }
+{
+    if method == b"PUT".as_slice() {
+        return put_ask(alloc, name, part, body);
+    }
+    if method == b"GET".as_slice() {
+        return stack_ask(alloc, name, part);
+    }
+    if method == b"DELETE".as_slice() {
+        return delete_ask(alloc, name, part);
+    }
+    Err(Fault::Bad(Bad::NotBuilt))
+}
+
+// The ask of a DELETE of a version.
+fn remove_ask(alloc: Global, name: &str, id: &str, part: &str) -> Result<Ask, Fault>
+    ensures { OnMeant result (λ meant. meant ≡ remove_meant name.now id.now part.now) }
+{
+    let bucket = bucket_name(alloc, name)?;
+    let id = version_id(id)?;
+    let key = object_key(alloc, part)?;
+    Ok(Ask::Command(Command::DeleteVersion { bucket, key, id }))
+}
+
+#[tactic(auto, unfolding(crate::specs::Meaning::version_meant))]
+pub(crate) fn version_ask(
+    alloc: Global,
+    method: &[u8],
+    name: &str,
+    id: &str,
+    part: &str,
+) -> Result<Ask, Fault>
+    ensures { OnMeant result (λ meant. meant ≡ version_meant method.now name.now id.now part.now) }
+{
+    if method == b"DELETE".as_slice() {
+        return remove_ask(alloc, name, id, part);
+    }
+    Err(Fault::Bad(Bad::NotBuilt))
+}
+
+// The ask of a PUT of the tags of a version.
+fn tagging_ask(alloc: Global, name: &str, id: &str, part: &str, body: &[u8]) -> Result<Ask, Fault>
+    ensures { OnMeant result (λ meant. meant ≡ set_tags_meant name.now id.now part.now body.now) }
+{
+    let bucket = bucket_name(alloc, name)?;
+    let id = version_id(id)?;
+    let key = object_key(alloc, part)?;
+    let tags = tags_body(alloc, body)?;
+    Ok(Ask::Command(Command::SetTags {
+        bucket,
+        key,
+        id,
+        tags,
+    }))
+}
+
+#[tactic(auto, unfolding(crate::specs::Meaning::tags_meant))]
+pub(crate) fn tags_ask(
+    alloc: Global,
+    method: &[u8],
+    name: &str,
+    id: &str,
+    part: &str,
+    body: &[u8],
+) -> Result<Ask, Fault>
+    ensures { OnMeant result (λ meant. meant ≡ tags_meant method.now name.now id.now part.now body.now) }
+{
+    if method == b"PUT".as_slice() {
+        return tagging_ask(alloc, name, id, part, body);
+    }
+    Err(Fault::Bad(Bad::NotBuilt))
+}

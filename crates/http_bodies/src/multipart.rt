@@ -1,0 +1,63 @@
+// The bodies of a multipart upload.
+ghost use Rattle.http_bodies.specs.Flaws.{Gives};
+ghost use Rattle.http_bodies.specs.Multipart.{upload_of, part_of};
+
+use crate::body::{read_object, take_pairs, text, whole_number};
+use crate::fault::BodyFault;
+use crate::ranges::{class_in_range, tags_in_range};
+use class_rules::Class;
+use office_base::Tags;
+use std::alloc::Global;
+
+/// What the body says that starts a multipart upload.
+#[derive(Drop)]
+pub struct UploadBody {
+    /// The storage class of the object; STANDARD where the body names none.
+    pub class: Class,
+    /// Its tags.
+    pub tags: Tags,
+}
+
+/// Reads the body that starts a multipart upload: a JSON object with, where they are wanted, `class`, the name of a
+/// storage class, and `tags`, an object of texts. An empty body counts as `{}`.
+///
+/// Rule: S3 User Guide, "Uploading and copying objects using multipart upload", "Understanding and managing Amazon S3
+/// storage classes" and "Categorizing your objects using tags". Own rules: those of `read_put`.
+/// Cost: one pass over the bytes, and memory for their values.
+///
+/// # Errors
+///
+/// The first of these that is so. `BadBody`, with an empty field: the bytes are no JSON object. `BadBody`, with the
+/// field: it is none of the two (of these the first in the order of their bytes); `class` is no text; `tags` is no object
+/// of texts. `UnsupportedClass`, `BadTags`: a value is out of range. `NoMemory`: memory ran out.
+#[tactic(auto, unfolding(crate::specs::Multipart::upload_of, crate::specs::Multipart::upload_in_range))]
+pub fn read_upload(alloc: Global, bytes: &[u8]) -> Result<UploadBody, BodyFault>
+    ensures exact { Gives (λ body. body) result (upload_of bytes.now) }
+{
+    let mut body = read_object(alloc, bytes, &["class", "tags"])?;
+    let class = class_in_range(alloc, text(alloc, &body, "class")?);
+    let pairs = take_pairs(alloc, &mut body, "tags")?;
+    // The name is looked up before the pairs are taken out of the body, and told of after them.
+    Ok(UploadBody {
+        class: class?,
+        tags: tags_in_range(alloc, pairs)?,
+    })
+}
+
+/// Reads the size of a part in bytes: a JSON object with `size`, a whole number. An empty body counts as `{}`.
+///
+/// Own rules: a whole number is written as an integer; which sizes a part may have is not asked here.
+/// Cost: one pass over the bytes, and memory for their values.
+///
+/// # Errors
+///
+/// `BadBody`, with an empty field: the bytes are no JSON object. `BadBody`, with the field: it is not `size` (of these
+/// the first in the order of their bytes); `size` is missing or no whole number from 0 to 2^64 - 1. `NoMemory`: memory
+/// ran out.
+#[tactic(auto, unfolding(crate::specs::Multipart::part_of))]
+pub fn read_part(alloc: Global, bytes: &[u8]) -> Result<u64, BodyFault>
+    ensures exact { Gives (λ size. size) result (part_of bytes.now) }
+{
+    let body = read_object(alloc, bytes, &["size"])?;
+    whole_number(alloc, &body, "size")
+}

@@ -1,0 +1,48 @@
+// The bodies that set the versioning of a bucket, or the tags of a version.
+ghost use Rattle.http_bodies.specs.Flaws.{Gives};
+ghost use Rattle.http_bodies.specs.Settings.{status_of, tagging_of};
+
+use crate::body::{read_object, status, take_needed_pairs};
+use crate::fault::BodyFault;
+use crate::ranges::tags_in_range;
+use office_base::Tags;
+use std::alloc::Global;
+
+/// Reads whether the versioning of a bucket is to be enabled: a JSON object with `Status`, `Enabled` (true) or
+/// `Suspended` (false). An empty body counts as `{}`.
+///
+/// Rule: S3 User Guide, "Enabling versioning on buckets".
+/// Cost: one pass over the bytes, and memory for their values.
+///
+/// # Errors
+///
+/// `BadBody`, with an empty field: the bytes are no JSON object. `BadBody`, with the field: it is not `Status` (of these
+/// the first in the order of their bytes); `Status` is missing, or is neither of the two texts. `NoMemory`: memory ran
+/// out.
+#[tactic(auto, unfolding(crate::specs::Settings::status_of))]
+pub fn read_status(alloc: Global, bytes: &[u8]) -> Result<bool, BodyFault>
+    ensures exact { Gives (λ enabled. enabled) result (status_of bytes.now) }
+{
+    let body = read_object(alloc, bytes, &["Status"])?;
+    status(alloc, &body, "Status")
+}
+
+/// Reads the tags that a version is to have: a JSON object with `tags`, an object of texts. An empty body counts as
+/// `{}`.
+///
+/// Rule: S3 User Guide, "Categorizing your objects using tags". Own rule: the tags have to be there, and may be none.
+/// Cost: one pass over the bytes, and memory for their values.
+///
+/// # Errors
+///
+/// `BadBody`, with an empty field: the bytes are no JSON object. `BadBody`, with the field: it is not `tags` (of these
+/// the first in the order of their bytes); `tags` is missing or no object of texts. `BadTags`: the tags are out of
+/// range. `NoMemory`: memory ran out.
+#[tactic(auto, unfolding(crate::specs::Settings::tagging_of))]
+pub fn read_tags(alloc: Global, bytes: &[u8]) -> Result<Tags, BodyFault>
+    ensures exact { Gives (λ tags. tags) result (tagging_of bytes.now) }
+{
+    let mut body = read_object(alloc, bytes, &["tags"])?;
+    let pairs = take_needed_pairs(alloc, &mut body, "tags")?;
+    tags_in_range(alloc, Some(pairs))
+}

@@ -1,0 +1,95 @@
+-- The prices of a table, class by class.
+use Rattle.std.proofs.Common.{◌≡◌, ◌∙◌, sym, ap, refl, ℕ, pos, negsuc, ◌+◌, ◌<◌, Bool, true, false, cond, List, [], ◌∷◌, ◌++◌, length, get_or, drop, Option, Some, None, IfSome, Result, Ok, Err, ok_or, arith, append_assoc, append-nil}
+use Rattle.std.proofs.lemmas.List.{drop_more, drop_all}
+use Rattle.std.specs.List.{list_all}
+use Rattle.toml.specs.Data.{Data, string, integer, float, boolean, datetime, array, table, Members, get_member}
+use Rattle.class_rules.specs.Classes.{class_name}
+use Rattle.class_rules.specs.declared.class.Class.{Class}
+use Rattle.tariff.specs.declared.fault.TariffTable.{TariffTable}
+use Rattle.tariff.specs.declared.fault.TariffFault.{TariffFault}
+use Rattle.tariff.specs.Faults.{TariffFlaw, bad_price, flaw_of, Gives, ◌>>=◌}
+use Rattle.tariff.specs.Prices.{is_price}
+use Rattle.tariff.specs.Reading.{price_of, price_at, price_in, prices_in}
+
+-- what was found, and what is found later
+pub joined : List ℕ → Result (List ℕ) TariffFlaw → Result (List ℕ) TariffFlaw
+joined xs (Ok ys) = Ok (xs ++ ys)
+joined xs (Err flaw) = Err flaw
+
+pub joined-nil : (r : Result (List ℕ) TariffFlaw) → joined [] r ≡ r
+unfolding joined
+joined-nil (Ok ys) = refl
+joined-nil (Err flaw) = refl
+
+joined-push : (xs : List ℕ) (x : ℕ) (r : Result (List ℕ) TariffFlaw) → joined xs (r >>= λ ys. Ok (x ∷ ys)) ≡ joined (xs ++ x ∷ []) r
+unfolding joined
+joined-push xs x (Ok ys) = ap Ok (sym (append_assoc xs (x ∷ []) ys))
+joined-push xs x (Err flaw) = refl
+
+prices_from : (t : TariffTable) (ms : Members) (classes : List Class) (i : ℕ) (d : Class) → i < length classes
+    → prices_in t ms (drop i classes) ≡ (price_in t ms (get_or classes i d) >>= λ price. prices_in t ms (drop (i + 1) classes) >>= λ prices. Ok (price ∷ prices))
+prices_from t ms classes i d inside = ap (prices_in t ms) (drop_more classes i d inside)
+
+-- a price was read
+pub prices_on : (t : TariffTable) (ms : Members) (classes : List Class) (i : ℕ) (d : Class) (xs : List ℕ) (x : ℕ) → i < length classes
+    → price_in t ms (get_or classes i d) ≡ Ok x → joined xs (prices_in t ms (drop i classes)) ≡ joined (xs ++ x ∷ []) (prices_in t ms (drop (i + 1) classes))
+prices_on t ms classes i d xs x inside read =
+    ap (joined xs) (prices_from t ms classes i d inside ∙ ap (λ r. r >>= λ price. prices_in t ms (drop (i + 1) classes) >>= λ prices. Ok (price ∷ prices)) read)
+    ∙ joined-push xs x (prices_in t ms (drop (i + 1) classes))
+
+-- a price was refused
+pub prices_refused : (t : TariffTable) (ms : Members) (classes : List Class) (i : ℕ) (d : Class) (xs : List ℕ) (flaw : TariffFlaw) → i < length classes
+    → price_in t ms (get_or classes i d) ≡ Err flaw → joined xs (prices_in t ms (drop i classes)) ≡ Err flaw
+unfolding joined
+prices_refused t ms classes i d xs flaw inside refused =
+    ap (joined xs) (prices_from t ms classes i d inside ∙ ap (λ r. r >>= λ price. prices_in t ms (drop (i + 1) classes) >>= λ prices. Ok (price ∷ prices)) refused)
+
+told_on : {Y Y' : Type 0} (told : Option TariffFlaw) (part : Result Y TariffFlaw) (whole : Result Y' TariffFlaw)
+    → ((flaw : TariffFlaw) → part ≡ Err flaw → whole ≡ Err flaw) → IfSome told (λ flaw. part ≡ Err flaw) → IfSome told (λ flaw. whole ≡ Err flaw)
+told_on None part whole pass is = tt
+told_on (Some flaw) part whole pass is = pass flaw is
+
+-- a fault is passed on
+pub passed_on : {X Y X' Y' : Type 0} (see : X → Y) (see' : X' → Y') (fault : TariffFault) (part : Result Y TariffFlaw) (whole : Result Y' TariffFlaw)
+    → ((flaw : TariffFlaw) → part ≡ Err flaw → whole ≡ Err flaw) → Gives see (Err fault) part → Gives see' (Err fault) whole
+passed_on see see' fault part whole pass is = told_on (flaw_of fault) part whole pass is
+
+-- all were read
+pub prices_read : (t : TariffTable) (ms : Members) (classes : List Class) (xs : List ℕ) → joined xs (prices_in t ms (drop (length classes) classes)) ≡ Ok xs
+unfolding joined
+prices_read t ms classes xs =
+    ap (λ cs. joined xs (prices_in t ms cs)) (drop_all (length classes) classes (omega arith)) ∙ ap Ok (append-nil xs)
+
+in_range : (b : Bool) (p q : ℕ) → is_price p ≡ b → cond b (Some p) None ≡ Some q → is_price q ≡ true
+in_range true p q ok is = let same : p ≡ q = cc in rw (← same) ok
+in_range false p q ok is = absurd cc
+
+price_of_range : (d : Data) (q : ℕ) → price_of d ≡ Some q → is_price q ≡ true
+price_of_range (integer (pos p)) q is = in_range (is_price p) p q refl is
+price_of_range (integer (negsuc p)) q is = absurd cc
+price_of_range (string s) q is = absurd cc
+price_of_range (float x) q is = absurd cc
+price_of_range (boolean b) q is = absurd cc
+price_of_range (datetime dt) q is = absurd cc
+price_of_range (array ds) q is = absurd cc
+price_of_range (table ms) q is = absurd cc
+
+price_or_range : (o : Option ℕ) (d : Data) (flaw : TariffFlaw) (q : ℕ) → price_of d ≡ o → ok_or o flaw ≡ Ok q → is_price q ≡ true
+price_or_range (Some p) d flaw q found is = let same : p ≡ q = cc in price_of_range d q (found ∙ ap Some same)
+price_or_range None d flaw q found is = absurd cc
+
+price_at_range : (t : TariffTable) (class : Class) (o : Option Data) (q : ℕ) → price_at t class o ≡ Ok q → is_price q ≡ true
+price_at_range t class None q is = absurd cc
+price_at_range t class (Some d) q is = price_or_range (price_of d) d (bad_price t class) q refl is
+
+range_on : (one : Result ℕ TariffFlaw) (rest : Result (List ℕ) TariffFlaw) (ps : List ℕ) → ((q : ℕ) → one ≡ Ok q → is_price q ≡ true)
+    → ((qs : List ℕ) → rest ≡ Ok qs → list_all is_price qs ≡ true) → (one >>= λ price. rest >>= λ prices. Ok (price ∷ prices)) ≡ Ok ps → list_all is_price ps ≡ true
+range_on (Ok q) (Ok qs) ps first later is = let same : q ∷ qs ≡ ps = cc in rw (← same, first q refl, later qs refl) refl
+range_on (Ok q) (Err flaw) ps first later is = absurd cc
+range_on (Err flaw) rest ps first later is = absurd cc
+
+-- prices that were read are in range
+pub prices_range : (t : TariffTable) (ms : Members) (classes : List Class) (ps : List ℕ) → prices_in t ms classes ≡ Ok ps → list_all is_price ps ≡ true
+prices_range t ms [] ps is = let same : [] ≡ ps = cc in rw (← same) refl
+prices_range t ms (class ∷ classes) ps is =
+    range_on (price_in t ms class) (prices_in t ms classes) ps (price_at_range t class (get_member (class_name class) ms)) (prices_range t ms classes) is

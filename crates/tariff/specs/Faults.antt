@@ -1,0 +1,32 @@
+-- What the reading of a tariff gives: its prices, or the first fault.
+use Rattle.std.specs.Prelude.{◌≡◌, ℕ, List, Option, Some, None, Result, Ok, Err, IfSome, string_bytes}
+use Rattle.class_rules.specs.declared.class.Class.{Class}
+use Rattle.tariff.specs.declared.fault.TariffTable.{TariffTable}
+use Rattle.tariff.specs.declared.fault.TariffFault.{TariffFault}
+use Rattle.tariff.specs.declared.fault.TariffFault.TheVariants.{NotToml, MissingClass, BadPrice, UnknownField, NoMemory}
+
+-- the faults of a text, with names as bytes
+pub data TariffFlaw : Type 0 where
+  not_toml : TariffFlaw
+  missing_class : TariffTable → Class → TariffFlaw
+  bad_price : TariffTable → Class → TariffFlaw
+  unknown_field : List ℕ → TariffFlaw
+
+-- one rule after another, up to the first that is broken
+infixl 10 ◌>>=◌
+abbrev pub ◌>>=◌ : {A B : Type 0} → Result A TariffFlaw → (A → Result B TariffFlaw) → Result B TariffFlaw
+(Ok x) >>= f = f x
+(Err flaw) >>= f = Err flaw
+
+-- the flaw that a fault tells of; none where memory ran out
+abbrev pub flaw_of : TariffFault → Option TariffFlaw
+flaw_of NotToml = Some not_toml
+flaw_of (MissingClass table class) = Some (missing_class table class)
+flaw_of (BadPrice table class) = Some (bad_price table class)
+flaw_of (UnknownField name) = Some (unknown_field (string_bytes name))
+flaw_of NoMemory = None
+
+-- an answer, seen by view, is what reading gives, unless memory ran out
+abbrev pub Gives : {X Y : Type 0} → (X → Y) → Result X TariffFault → Result Y TariffFlaw → Type 0
+Gives view (Ok x) read = read ≡ Ok (view x)
+Gives view (Err fault) read = IfSome (flaw_of fault) (λ flaw. read ≡ Err flaw)

@@ -1,0 +1,66 @@
+// What is wrong with a text as a tariff.
+ghost use Rattle.std.specs.Prelude.{◌≡◌, Err};
+ghost use Rattle.tariff.specs.Faults.{Gives, unknown_field};
+ghost use Rattle.tariff.specs.Reading.{table_name};
+
+use class_rules::Class;
+use std::alloc::Global;
+
+/// A table of a tariff.
+#[derive(Clone, Copy, Debug, PartialEq, Eq)]
+pub enum TariffTable {
+    /// The prices of a GiB that is stored for a month, for each of the six classes.
+    Storage,
+    /// The prices of 1,000 moves to a class, for each class but STANDARD.
+    Transition,
+}
+
+impl TariffTable {
+    /// Gives the name that a document has for the table: `storage` or `transition`. Takes no memory.
+    pub fn name(self) -> &'static str
+        ensures { result.now ≡ table_name self }
+    {
+        match self {
+            TariffTable::Storage => "storage",
+            TariffTable::Transition => "transition",
+        }
+    }
+}
+
+/// Why a text says no tariff.
+#[derive(PartialEq, Debug, Drop)]
+pub enum TariffFault {
+    /// 70: the bytes are no TOML document.
+    NotToml,
+    /// 71: a table has no price for a class. A table that is missing is empty.
+    MissingClass {
+        /// The table.
+        table: TariffTable,
+        /// The first such class, from the warmest on.
+        class: Class,
+    },
+    /// 72: what a table has for a class is no whole number from 0 to `MOST_PRICE`.
+    BadPrice {
+        /// The table.
+        table: TariffTable,
+        /// The first such class, from the warmest on.
+        class: Class,
+    },
+    /// 73: the document has a field that is none of the two tables, or a table has a name that is none of its classes.
+    UnknownField {
+        /// The first such name, in the order of the names' bytes.
+        name: String,
+    },
+    /// Memory ran out.
+    NoMemory,
+}
+
+// Refuses a name.
+pub(crate) fn unknown<T>(alloc: Global, name: &str) -> Result<T, TariffFault>
+    ensures { Gives (λ x. x) result (Err (unknown_field name.now)) }
+{
+    match String::from_str(alloc, name) {
+        Ok(name) => Err(TariffFault::UnknownField { name }),
+        Err(_) => Err(TariffFault::NoMemory),
+    }
+}
