@@ -5,9 +5,8 @@ ghost use Rattle.due_core.specs.Choice.{choice};
 ghost use Rattle.plain_office.specs.Office as plain;
 ghost use Rattle.plain_office.specs.Changes.{effect};
 ghost use Rattle.plain_office.specs.Step.{act, rule_id, marker_made, shown_action};
-ghost use Rattle.office_types.specs.declared.reply.Reply.TheVariants.{Chosen};
 ghost use Rattle.office_types.specs.Fits.{ReplyFits};
-ghost use Rattle.office_types.specs.declared.reply.Reply.TheVariants.{NothingDue};
+ghost use Rattle.office_types.specs.declared.reply.Reply.TheVariants.{NothingDue, Chosen};
 ghost use Rattle.bucket_account.specs.Changing.{IsOrderlyAccount, DoesTold};
 ghost use Rattle.bucket_account.specs.Counting.{account_of, AreCountsOver, IsWithinBy, HasGrownBy, IsFewMore};
 ghost use Rattle.bucket_account.specs.Effects.{DoesEffect};
@@ -156,6 +155,8 @@ fn act_on(
     ensures room { OnOk result (HasGrownBy 3 1 (account_of bucket.old meters.old) (account_of bucket.new meters.new)) }
     ensures room_kept { OnErr result (HasGrownBy 0 0 (account_of bucket.old meters.old)
         (account_of bucket.new meters.new)) }
+    ensures nothing { IfOk result (λ done. done.reply ≡ NothingDue
+        → HasGrownBy 0 0 (account_of bucket.old meters.old) (account_of bucket.new meters.new)) }
     ensures few { IfOk result (IsFewMore counts) }
     ensures fits { IfOk result (λ done. ReplyFits done.reply) }
 {

@@ -222,8 +222,8 @@ const LEFT_EARLY: [Row; 4] = [
     ),
     (
         NEW_YEAR + 10 * DAY,
-        Wish::Put("logs", "a", 0, STANDARD),
-        Heard::Stored,
+        DELETE_A,
+        Heard::Done,
         NEW_YEAR + 10 * DAY,
     ),
     (
@@ -297,21 +297,13 @@ const NULL_A: Wish<'static> = Wish::Do("logs", Order::Remove("a", "null"));
 
 const JANUARY: Wish<'static> = Wish::Meters("logs", 2024, 1);
 
-const fn used(standard: u128, infrequent: u128, early: u128) -> Heard {
-    Heard::Metered(Used {
-        standard,
-        infrequent,
-        early,
-    })
-}
-
 // A delete marker under a key of one byte is billed as one byte.
 const A_MARKER: [Row; 8] = [
     (NEW_YEAR, Wish::Make("logs"), MADE, NEW_YEAR),
     (NEW_YEAR, ENABLE, Heard::Done, NEW_YEAR),
     (NEW_YEAR, DELETE_A, Heard::Marked(1), NEW_YEAR),
     (NEW_YEAR, KEY_A, Heard::Shown(1), NEW_YEAR),
-    (NEW_YEAR + DAY, JANUARY, used(86_400_000, 0, 0), NEW_YEAR),
+    (NEW_YEAR + DAY, JANUARY, Heard::Metered(Used { standard: 86_400_000, infrequent: 0, early: 0 }), NEW_YEAR),
     (
         NEW_YEAR + DAY,
         Wish::Do("logs", Order::Remove("a", "1")),
@@ -319,7 +311,7 @@ const A_MARKER: [Row; 8] = [
         NEW_YEAR + DAY,
     ),
     (NEW_YEAR + DAY, KEY_A, Heard::NoKey, NEW_YEAR + DAY),
-    (NEW_YEAR + 2 * DAY, JANUARY, used(86_400_000, 0, 0), NEW_YEAR + DAY),
+    (NEW_YEAR + 2 * DAY, JANUARY, Heard::Metered(Used { standard: 86_400_000, infrequent: 0, early: 0 }), NEW_YEAR + DAY),
 ];
 
 const A_NULL_VERSION_REPLACED: [Row; 11] = [
@@ -348,7 +340,7 @@ const A_NULL_VERSION_REPLACED: [Row; 11] = [
     (
         NEW_YEAR + 10 * DAY,
         JANUARY,
-        used(0, 172_800_000_000_000, 345_600_000_000_000),
+        Heard::Metered(Used { standard: 0, infrequent: 172_800_000_000_000, early: 345_600_000_000_000 }),
         NEW_YEAR + 10 * DAY,
     ),
     (NEW_YEAR + 10 * DAY, NULL_A, Heard::Done, NEW_YEAR + 10 * DAY),
@@ -362,7 +354,7 @@ fn markers_and_versions(rt: HostRuntime) -> Result<(), Fail> {
     assert_rows(&rt, rt.alloc(), &A_NULL_VERSION_REPLACED)
 }
 
-// 2024-02-01, 2024-03-01 and 2024-04-01 00:00 UTC.
+// 2024-02-01 and 2024-04-01 00:00 UTC.
 const FEBRUARY: u64 = 1_706_745_600_000;
 
 const APRIL: u64 = 1_711_929_600_000;
@@ -372,7 +364,7 @@ const EXPIRES: &str =
 
 const CLOSE: Wish<'static> = Wish::Do("logs", Order::Close(2024, 1));
 
-// Ten days after the year began.
+// Nine days after the year began.
 const TENTH: u64 = NEW_YEAR + 9 * DAY;
 
 const CLOSING: [Row; 10] = [
@@ -415,6 +407,109 @@ fn months_are_closed_in_order(rt: HostRuntime) -> Result<(), Fail> {
     assert_rows(&rt, rt.alloc(), &NOTHING_DUE)
 }
 
+// 2023-12-10 09:00 UTC; thirty days later, at the next midnight; and 2024-01-08 10:00 UTC.
+const PUT_AT: u64 = 1_702_198_800_000;
+
+const DUE_AT: u64 = 1_704_844_800_000;
+
+const EIGHTH: u64 = 1_704_708_000_000;
+
+const MOVE_AND_EXPIRE: &str =
+    "{\"Rules\":[{\"ID\":\"r1\",\"Status\":\"Enabled\",\"Filter\":{\"Prefix\":\"\"},\"Transitions\":[{\"Days\":30,\"StorageClass\":\"STANDARD_IA\"}]},{\"ID\":\"r2\",\"Status\":\"Enabled\",\"Filter\":{\"Prefix\":\"\"},\"Expiration\":{\"Days\":30}}]}";
+
+const PAST: &str =
+    "{\"Rules\":[{\"Status\":\"Enabled\",\"Filter\":{\"Prefix\":\"\"},\"Expiration\":{\"Date\":\"2024-01-05T00:00:00.000Z\"}}]}";
+
+const OLD_VERSIONS: &str =
+    "{\"Rules\":[{\"Status\":\"Enabled\",\"Filter\":{\"Prefix\":\"\"},\"NoncurrentVersionExpiration\":{\"NoncurrentDays\":30,\"NewerNoncurrentVersions\":1}}]}";
+
+const REMOVED: Heard = Heard::Acted(ActionKind::Remove, DUE_AT);
+
+const MILLION: Wish<'static> = Wish::Put("logs", "a", 1_000_000, STANDARD);
+
+const EXPIRED: [Row; 5] = [
+    (PUT_AT, Wish::Make("logs"), MADE, PUT_AT),
+    (PUT_AT, Wish::Do("logs", Order::Rules(MOVE_AND_EXPIRE)), Heard::Done, PUT_AT),
+    (PUT_AT, MILLION, Heard::Stored, PUT_AT),
+    (DUE_AT, ACT, REMOVED, DUE_AT),
+    (DUE_AT + 1, ACT, Heard::Nothing, DUE_AT),
+];
+
+const MOVED_AND_EXPIRED: [Row; 8] = [
+    (PUT_AT, Wish::Make("logs"), MADE, PUT_AT),
+    (PUT_AT, ENABLE, Heard::Done, PUT_AT),
+    (PUT_AT, Wish::Do("logs", Order::Rules(MOVE_AND_EXPIRE)), Heard::Done, PUT_AT),
+    (PUT_AT, MILLION, Heard::Numbered(1), PUT_AT),
+    (
+        DUE_AT,
+        ACT,
+        Heard::Acted(ActionKind::Transition(Class::StandardIa), DUE_AT),
+        DUE_AT,
+    ),
+    (DUE_AT, ACT, Heard::Acted(ActionKind::Marker, DUE_AT), DUE_AT),
+    (DUE_AT, ACT, Heard::Nothing, DUE_AT),
+    (DUE_AT, KEY_A, Heard::Shown(2), DUE_AT),
+];
+
+const ONE_NEWER_KEPT: [Row; 11] = [
+    (PUT_AT, Wish::Make("logs"), MADE, PUT_AT),
+    (PUT_AT, ENABLE, Heard::Done, PUT_AT),
+    (PUT_AT, Wish::Do("logs", Order::Rules(OLD_VERSIONS)), Heard::Done, PUT_AT),
+    (PUT_AT, MILLION, Heard::Numbered(1), PUT_AT),
+    (PUT_AT, MILLION, Heard::Numbered(2), PUT_AT),
+    (PUT_AT, MILLION, Heard::Numbered(3), PUT_AT),
+    (PUT_AT, MILLION, Heard::Numbered(4), PUT_AT),
+    (DUE_AT, ACT, REMOVED, DUE_AT),
+    (DUE_AT, ACT, REMOVED, DUE_AT),
+    (DUE_AT, ACT, Heard::Nothing, DUE_AT),
+    (DUE_AT, KEY_A, Heard::Shown(2), DUE_AT),
+];
+
+const A_DATE_IN_THE_PAST: [Row; 5] = [
+    (NEW_YEAR, Wish::Make("logs"), MADE, NEW_YEAR),
+    (NEW_YEAR, Wish::Do("logs", Order::Rules(PAST)), Heard::Done, NEW_YEAR),
+    (EIGHTH, MILLION, Heard::Stored, EIGHTH),
+    (EIGHTH, ACT, Heard::Acted(ActionKind::Remove, EIGHTH), EIGHTH),
+    (
+        EIGHTH + DAY,
+        JANUARY,
+        Heard::Metered(Used { standard: 0, infrequent: 0, early: 0 }),
+        EIGHTH,
+    ),
+];
+
+#[test]
+fn what_is_due_is_done_in_order(rt: HostRuntime) -> Result<(), Fail> {
+    for rows in [&EXPIRED[..], &MOVED_AND_EXPIRED, &ONE_NEWER_KEPT, &A_DATE_IN_THE_PAST] {
+        assert_rows(&rt, rt.alloc(), rows)?;
+    }
+    Ok(())
+}
+
+// A GiB in STANDARD for the whole of January.
+const BILLED: [Row; 5] = [
+    (NEW_YEAR, Wish::Make("logs"), MADE, NEW_YEAR),
+    (
+        NEW_YEAR,
+        Wish::Put("logs", "a", 1_073_741_824, STANDARD),
+        Heard::Stored,
+        NEW_YEAR,
+    ),
+    (FEBRUARY, Wish::Report("logs", 2024, 1), Heard::NoTariff, NEW_YEAR),
+    (FEBRUARY, Wish::Do("logs", Order::Prices), Heard::Done, FEBRUARY),
+    (
+        FEBRUARY + DAY,
+        Wish::Report("logs", 2024, 1),
+        Heard::Billed(2_875_910_101_401_600_000, 23_000),
+        FEBRUARY,
+    ),
+];
+
+#[test]
+fn a_report_of_one_line(rt: HostRuntime) -> Result<(), Fail> {
+    assert_rows(&rt, rt.alloc(), &BILLED)
+}
+
 // Parts of a Glacier upload are stored in STANDARD.
 const PARTS: [Row; 8] = [
     (NEW_YEAR, Wish::Make("logs"), MADE, NEW_YEAR),
@@ -448,7 +543,7 @@ const PARTS: [Row; 8] = [
         Heard::BadPart,
         NEW_YEAR,
     ),
-    (NEW_YEAR + DAY, JANUARY, used(86_400_000_000, 0, 0), NEW_YEAR),
+    (NEW_YEAR + DAY, JANUARY, Heard::Metered(Used { standard: 86_400_000_000, infrequent: 0, early: 0 }), NEW_YEAR),
     (
         NEW_YEAR + DAY,
         Wish::Do("logs", Order::Complete(1)),

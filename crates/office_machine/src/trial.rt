@@ -7,7 +7,7 @@ use class_rules::Class;
 use due_core::{ActionKind, Target};
 use moments::{Moment, Month};
 use office_base::{BucketName, Key, Size, Tags, VersionId};
-use office_types::{ClassMeters, Command, Query, Refusal, Reply, What};
+use office_types::{ClassMeters, Command, Query, Refusal, Reply, ReportLine, What};
 use rules_json::read_rules;
 use std::alloc::Global;
 use std::marker::Model;
@@ -30,6 +30,8 @@ pub(crate) enum Wish<'a> {
     Do(&'a str, Order<'a>),
     // The meters of this month of a year.
     Meters(&'a str, u16, u8),
+    // The report of this month of a year, of which this bucket has all lines.
+    Report(&'a str, u16, u8),
 }
 
 // A command on a bucket, or on the office.
@@ -75,6 +77,8 @@ pub(crate) enum Heard {
     // How many versions.
     Shown(u32),
     Metered(Used),
+    // The quantity and the charge of the report's one line.
+    Billed(u128, u128),
     Exists,
     Missing,
     NoKey,
@@ -87,6 +91,7 @@ pub(crate) enum Heard {
     // This month of a year is still open.
     Open(u8),
     Due(Target),
+    NoTariff,
     Full(What, u64),
     // Another refusal, or a reply to something else.
     Other,
@@ -148,7 +153,8 @@ impl Tried {
         | Wish::Show(name)
         | Wish::Versions(name, _)
         | Wish::Do(name, _)
-        | Wish::Meters(name, ..)) = wish;
+        | Wish::Meters(name, ..)
+        | Wish::Report(name, ..)) = wish;
         let bucket = BucketName::read(alloc, name)?;
         let moment = Moment::of(ms)?;
         let said = match wish {
@@ -179,6 +185,9 @@ impl Tried {
                 self.show(rt, moment, &Query::Stack(bucket, key))
             }
             Wish::Show(_) => self.show(rt, moment, &Query::Bucket(bucket)),
+            Wish::Report(_, year, number) => {
+                self.show(rt, moment, &Query::Report(month_of(year, number)?))
+            }
             Wish::Meters(_, year, number) => {
                 self.show(rt, moment, &Query::Meters(bucket, month_of(year, number)?))
             }
@@ -272,7 +281,7 @@ fn done_of(reply: &Reply, key: &str) -> Heard {
     match reply {
         Reply::Deleted {
             marker: Some(VersionId::Number(number)),
-        } => Heard::Marked(number.number()),
+        } => Heard::Marked(number.get()),
         Reply::Chosen {
             kind,
             key: shown,
@@ -285,7 +294,7 @@ fn done_of(reply: &Reply, key: &str) -> Heard {
             ..
         } => Heard::Stored,
         Reply::VersioningSet { .. }
-        | Reply::RulesSet { rules: 1 }
+        | Reply::RulesSet { .. }
         | Reply::Deleted { marker: None }
         | Reply::VersionDeleted { .. }
         | Reply::UploadStarted { upload: 1 }
@@ -306,7 +315,7 @@ fn answer_of(said: &Result<Reply, Refusal>, ms: u64, wish: Wish<'_>) -> Heard {
         (Reply::Stored { moment, version }, Wish::Put(..) | Wish::Tagged(..)) => {
             let what = match version {
                 VersionId::Null => Heard::Stored,
-                VersionId::Number(number) => Heard::Numbered(number.number()),
+                VersionId::Number(number) => Heard::Numbered(number.get()),
             };
             (what, moment.ms() == ms)
         }
@@ -316,6 +325,7 @@ fn answer_of(said: &Result<Reply, Refusal>, ms: u64, wish: Wish<'_>) -> Heard {
                 key.bytes() == asked.as_bytes(),
             )
         }
+        (Reply::Report { lines }, Wish::Report(name, ..)) => billed(lines.as_slice(), name),
         (reply, Wish::Do(..)) => (done_of(reply, "a"), true),
         (
             Reply::BucketShown {
@@ -348,6 +358,18 @@ fn answer_of(said: &Result<Reply, Refusal>, ms: u64, wish: Wish<'_>) -> Heard {
     if is_so { what } else { Heard::Other }
 }
 
+fn billed(lines: &[ReportLine], name: &str) -> (Heard, bool) {
+    match lines {
+        [line] => {
+            (
+                Heard::Billed(line.quantity, line.charge),
+                line.bucket.text() == name,
+            )
+        }
+        _ => (Heard::Other, true),
+    }
+}
+
 fn refused(refusal: &Refusal) -> Heard {
     match refusal {
         Refusal::BucketExists => Heard::Exists,
@@ -359,6 +381,7 @@ fn refused(refusal: &Refusal) -> Heard {
         Refusal::MonthNotOver { end } => Heard::NotOver(*end),
         Refusal::AlreadyClosed => Heard::Closed,
         Refusal::EarlierMonthOpen { month } => Heard::Open(month.month()),
+        Refusal::NoTariff => Heard::NoTariff,
         Refusal::DueActions { target, .. } => Heard::Due(*target),
         Refusal::Full { what, limit } => Heard::Full(*what, *limit),
         _ => Heard::Other,
