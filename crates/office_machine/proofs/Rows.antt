@@ -89,8 +89,8 @@ module _ (tariff : Prices) (month t : ℕ) where
           stand = stand.1;
           booked = booked.1;
           lines_are =
-          ap (λ (l : List ReportLine). l ++ flat_map (entry_lines tariff month t) rest) (added ∙ ap (λ (l : List ReportLine). old ++ l) here)
-          ∙ append_assoc old (entry_lines tariff month t first) (flat_map (entry_lines tariff month t) rest) ∙ is;
+              ap (λ (l : List ReportLine). l ++ flat_map (entry_lines tariff month t) rest) (added ∙ ap (λ (l : List ReportLine). old ++ l) here)
+              ∙ append_assoc old (entry_lines tariff month t first) (flat_map (entry_lines tariff month t) rest) ∙ is;
         }
 
     pub went_on : (all : List (List ℕ × AccountRecord)) → IsListing all (entry ∷ left) old → IsListing all left new

@@ -62,10 +62,10 @@ has_quantity line = not (line.quantity == 0)
 -- the lines of what a bucket used of a class
 abbrev pub metered_lines : Prices → ℕ → List ℕ → ClassMeters → List ReportLine
 metered_lines tariff month name used = filter has_quantity (
-  storage_line Storage tariff month name used.class used.byte_ms
-  ∷ storage_line Early tariff month name used.class used.early_byte_ms
-  ∷ transition_line tariff name used.class used.moves
-  ∷ [])
+    storage_line Storage tariff month name used.class used.byte_ms
+    ∷ storage_line Early tariff month name used.class used.early_byte_ms
+    ∷ transition_line tariff name used.class used.moves
+    ∷ [])
 
 -- the lines of a bucket of the plain office
 abbrev pub entry_lines : Prices → ℕ → ℕ → List ℕ × Account → List ReportLine

@@ -164,13 +164,15 @@ fn due_of(alloc: Global, bucket: &Bucket, t: Moment) -> Result<Reply, Refusal>
     ensures reply { IsAnswer (due_told t bucket.now) result }
     ensures fits { AnswerFits result }
 {
-    let Some(Action {
-        kind,
-        key,
-        target,
-        rule,
-        since,
-    }) = choice_of(bucket, t)?
+    let Some(
+        Action {
+            kind,
+            key,
+            target,
+            rule,
+            since,
+        },
+    ) = choice_of(bucket, t)?
     else {
         return Ok(Reply::NothingDue);
     };

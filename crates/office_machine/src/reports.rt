@@ -144,8 +144,12 @@ struct Line {
 /// Charges a quantity of byte-milliseconds at a price for a GiB-month.
 #[tactic(auto, using(crate::proofs::Charges::charge_small))]
 fn storage(kind: LineKind, quantity: u128, price: u32, month: Month) -> Line
-    ensures line { result ≡ record { kind = kind; quantity = quantity; price = price;
-        charge = charge_of quantity price month } }
+    ensures line { result ≡ record {
+      kind = kind;
+      quantity = quantity;
+      price = price;
+      charge = charge_of quantity price month;
+    } }
     ensures small { result.charge ≤ 2 ^ 100 }
 {
     Line {
@@ -159,8 +163,12 @@ fn storage(kind: LineKind, quantity: u128, price: u32, month: Month) -> Line
 /// Charges lifecycle transitions at a price for 1,000.
 #[tactic(auto, using(crate::proofs::Charges::moves_small))]
 fn transitions(moves: u64, price: u32) -> Line
-    ensures line { result ≡ record { kind = LineKind.Transitions; quantity = moves; price = price;
-        charge = move_charge_of moves price } }
+    ensures line { result ≡ record {
+      kind = LineKind.Transitions;
+      quantity = moves;
+      price = price;
+      charge = move_charge_of moves price;
+    } }
     ensures small { result.charge ≤ 2 ^ 100 }
 {
     Line {

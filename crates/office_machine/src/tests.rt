@@ -303,7 +303,16 @@ const A_MARKER: [Row; 8] = [
     (NEW_YEAR, ENABLE, Heard::Done, NEW_YEAR),
     (NEW_YEAR, DELETE_A, Heard::Marked(1), NEW_YEAR),
     (NEW_YEAR, KEY_A, Heard::Shown(1), NEW_YEAR),
-    (NEW_YEAR + DAY, JANUARY, Heard::Metered(Used { standard: 86_400_000, infrequent: 0, early: 0 }), NEW_YEAR),
+    (
+        NEW_YEAR + DAY,
+        JANUARY,
+        Heard::Metered(Used {
+            standard: 86_400_000,
+            infrequent: 0,
+            early: 0,
+        }),
+        NEW_YEAR,
+    ),
     (
         NEW_YEAR + DAY,
         Wish::Do("logs", Order::Remove("a", "1")),
@@ -311,7 +320,16 @@ const A_MARKER: [Row; 8] = [
         NEW_YEAR + DAY,
     ),
     (NEW_YEAR + DAY, KEY_A, Heard::NoKey, NEW_YEAR + DAY),
-    (NEW_YEAR + 2 * DAY, JANUARY, Heard::Metered(Used { standard: 86_400_000, infrequent: 0, early: 0 }), NEW_YEAR + DAY),
+    (
+        NEW_YEAR + 2 * DAY,
+        JANUARY,
+        Heard::Metered(Used {
+            standard: 86_400_000,
+            infrequent: 0,
+            early: 0,
+        }),
+        NEW_YEAR + DAY,
+    ),
 ];
 
 const A_NULL_VERSION_REPLACED: [Row; 11] = [
@@ -336,16 +354,40 @@ const A_NULL_VERSION_REPLACED: [Row; 11] = [
         Heard::Stored,
         NEW_YEAR + 10 * DAY,
     ),
-    (NEW_YEAR + 10 * DAY, KEY_A, Heard::Shown(2), NEW_YEAR + 10 * DAY),
+    (
+        NEW_YEAR + 10 * DAY,
+        KEY_A,
+        Heard::Shown(2),
+        NEW_YEAR + 10 * DAY,
+    ),
     (
         NEW_YEAR + 10 * DAY,
         JANUARY,
-        Heard::Metered(Used { standard: 0, infrequent: 172_800_000_000_000, early: 345_600_000_000_000 }),
+        Heard::Metered(Used {
+            standard: 0,
+            infrequent: 172_800_000_000_000,
+            early: 345_600_000_000_000,
+        }),
         NEW_YEAR + 10 * DAY,
     ),
-    (NEW_YEAR + 10 * DAY, NULL_A, Heard::Done, NEW_YEAR + 10 * DAY),
-    (NEW_YEAR + 11 * DAY, NULL_A, Heard::NoVersion, NEW_YEAR + 10 * DAY),
-    (NEW_YEAR + 11 * DAY, KEY_A, Heard::Shown(1), NEW_YEAR + 10 * DAY),
+    (
+        NEW_YEAR + 10 * DAY,
+        NULL_A,
+        Heard::Done,
+        NEW_YEAR + 10 * DAY,
+    ),
+    (
+        NEW_YEAR + 11 * DAY,
+        NULL_A,
+        Heard::NoVersion,
+        NEW_YEAR + 10 * DAY,
+    ),
+    (
+        NEW_YEAR + 11 * DAY,
+        KEY_A,
+        Heard::Shown(1),
+        NEW_YEAR + 10 * DAY,
+    ),
 ];
 
 #[test]
@@ -369,8 +411,18 @@ const TENTH: u64 = NEW_YEAR + 9 * DAY;
 
 const CLOSING: [Row; 10] = [
     (NEW_YEAR, Wish::Make("logs"), MADE, NEW_YEAR),
-    (NEW_YEAR, Wish::Do("logs", Order::Prices), Heard::Done, NEW_YEAR),
-    (NEW_YEAR, Wish::Do("logs", Order::Rules(EXPIRES)), Heard::Done, NEW_YEAR),
+    (
+        NEW_YEAR,
+        Wish::Do("logs", Order::Prices),
+        Heard::Done,
+        NEW_YEAR,
+    ),
+    (
+        NEW_YEAR,
+        Wish::Do("logs", Order::Rules(EXPIRES)),
+        Heard::Done,
+        NEW_YEAR,
+    ),
     (
         NEW_YEAR,
         Wish::Put("logs", "a", 1, STANDARD),
@@ -384,7 +436,12 @@ const CLOSING: [Row; 10] = [
         Heard::Due(Target::Version(VersionId::Null)),
         NEW_YEAR,
     ),
-    (FEBRUARY, ACT, Heard::Acted(ActionKind::Remove, TENTH), FEBRUARY),
+    (
+        FEBRUARY,
+        ACT,
+        Heard::Acted(ActionKind::Remove, TENTH),
+        FEBRUARY,
+    ),
     (FEBRUARY + 1, CLOSE, Heard::Done, FEBRUARY + 1),
     (FEBRUARY + 2, CLOSE, Heard::Closed, FEBRUARY + 1),
     (
@@ -415,13 +472,15 @@ const DUE_AT: u64 = 1_704_844_800_000;
 const EIGHTH: u64 = 1_704_708_000_000;
 
 const MOVE_AND_EXPIRE: &str =
-    "{\"Rules\":[{\"ID\":\"r1\",\"Status\":\"Enabled\",\"Filter\":{\"Prefix\":\"\"},\"Transitions\":[{\"Days\":30,\"StorageClass\":\"STANDARD_IA\"}]},{\"ID\":\"r2\",\"Status\":\"Enabled\",\"Filter\":{\"Prefix\":\"\"},\"Expiration\":{\"Days\":30}}]}";
+    "{\"Rules\":[{\"ID\":\"r1\",\"Status\":\"Enabled\",\"Filter\":{\"Prefix\":\"\"},\
+    \"Transitions\":[{\"Days\":30,\"StorageClass\":\"STANDARD_IA\"}]},\
+    {\"ID\":\"r2\",\"Status\":\"Enabled\",\"Filter\":{\"Prefix\":\"\"},\"Expiration\":{\"Days\":30}}]}";
 
-const PAST: &str =
-    "{\"Rules\":[{\"Status\":\"Enabled\",\"Filter\":{\"Prefix\":\"\"},\"Expiration\":{\"Date\":\"2024-01-05T00:00:00.000Z\"}}]}";
+const PAST: &str = "{\"Rules\":[{\"Status\":\"Enabled\",\"Filter\":{\"Prefix\":\"\"},\
+    \"Expiration\":{\"Date\":\"2024-01-05T00:00:00.000Z\"}}]}";
 
-const OLD_VERSIONS: &str =
-    "{\"Rules\":[{\"Status\":\"Enabled\",\"Filter\":{\"Prefix\":\"\"},\"NoncurrentVersionExpiration\":{\"NoncurrentDays\":30,\"NewerNoncurrentVersions\":1}}]}";
+const OLD_VERSIONS: &str = "{\"Rules\":[{\"Status\":\"Enabled\",\"Filter\":{\"Prefix\":\"\"},\
+    \"NoncurrentVersionExpiration\":{\"NoncurrentDays\":30,\"NewerNoncurrentVersions\":1}}]}";
 
 const REMOVED: Heard = Heard::Acted(ActionKind::Remove, DUE_AT);
 
@@ -429,7 +488,12 @@ const MILLION: Wish<'static> = Wish::Put("logs", "a", 1_000_000, STANDARD);
 
 const EXPIRED: [Row; 5] = [
     (PUT_AT, Wish::Make("logs"), MADE, PUT_AT),
-    (PUT_AT, Wish::Do("logs", Order::Rules(MOVE_AND_EXPIRE)), Heard::Done, PUT_AT),
+    (
+        PUT_AT,
+        Wish::Do("logs", Order::Rules(MOVE_AND_EXPIRE)),
+        Heard::Done,
+        PUT_AT,
+    ),
     (PUT_AT, MILLION, Heard::Stored, PUT_AT),
     (DUE_AT, ACT, REMOVED, DUE_AT),
     (DUE_AT + 1, ACT, Heard::Nothing, DUE_AT),
@@ -438,7 +502,12 @@ const EXPIRED: [Row; 5] = [
 const MOVED_AND_EXPIRED: [Row; 8] = [
     (PUT_AT, Wish::Make("logs"), MADE, PUT_AT),
     (PUT_AT, ENABLE, Heard::Done, PUT_AT),
-    (PUT_AT, Wish::Do("logs", Order::Rules(MOVE_AND_EXPIRE)), Heard::Done, PUT_AT),
+    (
+        PUT_AT,
+        Wish::Do("logs", Order::Rules(MOVE_AND_EXPIRE)),
+        Heard::Done,
+        PUT_AT,
+    ),
     (PUT_AT, MILLION, Heard::Numbered(1), PUT_AT),
     (
         DUE_AT,
@@ -446,7 +515,12 @@ const MOVED_AND_EXPIRED: [Row; 8] = [
         Heard::Acted(ActionKind::Transition(Class::StandardIa), DUE_AT),
         DUE_AT,
     ),
-    (DUE_AT, ACT, Heard::Acted(ActionKind::Marker, DUE_AT), DUE_AT),
+    (
+        DUE_AT,
+        ACT,
+        Heard::Acted(ActionKind::Marker, DUE_AT),
+        DUE_AT,
+    ),
     (DUE_AT, ACT, Heard::Nothing, DUE_AT),
     (DUE_AT, KEY_A, Heard::Shown(2), DUE_AT),
 ];
@@ -454,7 +528,12 @@ const MOVED_AND_EXPIRED: [Row; 8] = [
 const ONE_NEWER_KEPT: [Row; 11] = [
     (PUT_AT, Wish::Make("logs"), MADE, PUT_AT),
     (PUT_AT, ENABLE, Heard::Done, PUT_AT),
-    (PUT_AT, Wish::Do("logs", Order::Rules(OLD_VERSIONS)), Heard::Done, PUT_AT),
+    (
+        PUT_AT,
+        Wish::Do("logs", Order::Rules(OLD_VERSIONS)),
+        Heard::Done,
+        PUT_AT,
+    ),
     (PUT_AT, MILLION, Heard::Numbered(1), PUT_AT),
     (PUT_AT, MILLION, Heard::Numbered(2), PUT_AT),
     (PUT_AT, MILLION, Heard::Numbered(3), PUT_AT),
@@ -467,20 +546,39 @@ const ONE_NEWER_KEPT: [Row; 11] = [
 
 const A_DATE_IN_THE_PAST: [Row; 5] = [
     (NEW_YEAR, Wish::Make("logs"), MADE, NEW_YEAR),
-    (NEW_YEAR, Wish::Do("logs", Order::Rules(PAST)), Heard::Done, NEW_YEAR),
+    (
+        NEW_YEAR,
+        Wish::Do("logs", Order::Rules(PAST)),
+        Heard::Done,
+        NEW_YEAR,
+    ),
     (EIGHTH, MILLION, Heard::Stored, EIGHTH),
-    (EIGHTH, ACT, Heard::Acted(ActionKind::Remove, EIGHTH), EIGHTH),
+    (
+        EIGHTH,
+        ACT,
+        Heard::Acted(ActionKind::Remove, EIGHTH),
+        EIGHTH,
+    ),
     (
         EIGHTH + DAY,
         JANUARY,
-        Heard::Metered(Used { standard: 0, infrequent: 0, early: 0 }),
+        Heard::Metered(Used {
+            standard: 0,
+            infrequent: 0,
+            early: 0,
+        }),
         EIGHTH,
     ),
 ];
 
 #[test]
 fn what_is_due_is_done_in_order(rt: HostRuntime) -> Result<(), Fail> {
-    for rows in [&EXPIRED[..], &MOVED_AND_EXPIRED, &ONE_NEWER_KEPT, &A_DATE_IN_THE_PAST] {
+    for rows in [
+        &EXPIRED[..],
+        &MOVED_AND_EXPIRED,
+        &ONE_NEWER_KEPT,
+        &A_DATE_IN_THE_PAST,
+    ] {
         assert_rows(&rt, rt.alloc(), rows)?;
     }
     Ok(())
@@ -495,8 +593,18 @@ const BILLED: [Row; 5] = [
         Heard::Stored,
         NEW_YEAR,
     ),
-    (FEBRUARY, Wish::Report("logs", 2024, 1), Heard::NoTariff, NEW_YEAR),
-    (FEBRUARY, Wish::Do("logs", Order::Prices), Heard::Done, FEBRUARY),
+    (
+        FEBRUARY,
+        Wish::Report("logs", 2024, 1),
+        Heard::NoTariff,
+        NEW_YEAR,
+    ),
+    (
+        FEBRUARY,
+        Wish::Do("logs", Order::Prices),
+        Heard::Done,
+        FEBRUARY,
+    ),
     (
         FEBRUARY + DAY,
         Wish::Report("logs", 2024, 1),
@@ -543,7 +651,16 @@ const PARTS: [Row; 8] = [
         Heard::BadPart,
         NEW_YEAR,
     ),
-    (NEW_YEAR + DAY, JANUARY, Heard::Metered(Used { standard: 86_400_000_000, infrequent: 0, early: 0 }), NEW_YEAR),
+    (
+        NEW_YEAR + DAY,
+        JANUARY,
+        Heard::Metered(Used {
+            standard: 86_400_000_000,
+            infrequent: 0,
+            early: 0,
+        }),
+        NEW_YEAR,
+    ),
     (
         NEW_YEAR + DAY,
         Wish::Do("logs", Order::Complete(1)),

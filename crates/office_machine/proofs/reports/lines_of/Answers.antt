@@ -12,10 +12,9 @@ loop-name-preserved c =
     let small = c.loop-name.invariant.1 in
     let added = c.in_ok-push_bucket.ensures.small in
     let left : c.loop-name.name-iterator ≡ (c.in-Some.name.now, c.in-Some.account.now) ∷ c.next.new.self = c.in-Some.ensures.steps in
-    let fewer : length c.loop-name.name-iterator ≡ length c.next.new.self + 1 = fewer_by left in
-    (
+    let fewer : length c.loop-name.name-iterator ≡ length c.next.new.self + 1 = fewer_by left in (
       went_on c.args.tariff.now c.args.month c.args.t (c.in-Some.name.now, c.in-Some.account.now) c.next.new.self c.loop-name.lines.items c.push_bucket.new.lines.items c.used_of.result
-      c.in_ok-push_bucket.ensures.lines c.used_of.ensures c.args.accounts.now.entries
-      (subst (λ (l : List (List ℕ × AccountRecord)). IsListing c.args.tariff.now c.args.month c.args.t c.args.accounts.now.entries l c.loop-name.lines.items) left listing),
+          c.in_ok-push_bucket.ensures.lines c.used_of.ensures c.args.accounts.now.entries
+          (subst (λ (l : List (List ℕ × AccountRecord)). IsListing c.args.tariff.now c.args.month c.args.t c.args.accounts.now.entries l c.loop-name.lines.items) left listing),
       omega (arith, small, added, fewer),
     )
