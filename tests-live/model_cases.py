@@ -5,6 +5,7 @@ import random
 import subprocess
 import sys
 
+from model_words import configuration, stack_of, text
 from plain_office import CLASSES, DAY, Bucket, Refused, text_of, window
 
 PROGRAM, FOLDER = sys.argv[1], pathlib.Path(sys.argv[2])
@@ -20,47 +21,6 @@ PARTS = (
     {"moves": [(31, "ONEZONE_IA")]}, {"moves": [(0, "DEEP_ARCHIVE")]}, {"noncurrent": (1, None), "abort": 1},
 )
 FILTERS = ({}, {"prefix": "b/"}, {"tags": [("k", "v")]}, {"greater": 1_000}, {"prefix": "a", "greater": 10, "less": 200_000})
-
-
-def text(value):
-    return json.dumps(value, sort_keys=True, separators=(",", ":"), ensure_ascii=False)
-
-
-def configuration(rules, mode):
-    """The document of some rules."""
-    def one(rule):
-        found = {"ID": rule["id"], "Status": "Enabled" if rule["enabled"] else "Disabled"}
-        conditions = {}
-        if rule["prefix"]:
-            conditions["Prefix"] = rule["prefix"]
-        tags = [{"Key": key, "Value": value} for key, value in rule["tags"]]
-        if rule.get("greater") is not None:
-            conditions["ObjectSizeGreaterThan"] = rule["greater"]
-        if rule.get("less") is not None:
-            conditions["ObjectSizeLessThan"] = rule["less"]
-        if len(conditions) + len(tags) > 1:
-            found["Filter"] = {"And": {**conditions, **({"Tags": tags} if tags else {})}}
-        else:
-            found["Filter"] = {"Tag": tags[0]} if tags else conditions or {"Prefix": ""}
-        expires = {"Days": rule.get("days"), "Date": text_of(rule["date"]) if "date" in rule else None,
-                   "ExpiredObjectDeleteMarker": rule.get("lone_marker")}
-        expires = {name: value for name, value in expires.items() if value is not None}
-        if expires:
-            found["Expiration"] = expires
-        if "moves" in rule:
-            found["Transitions"] = [{"Days": days, "StorageClass": target} for days, target in rule["moves"]]
-
-        def newer(count):
-            return {} if count is None else {"NewerNoncurrentVersions": count}
-        if "noncurrent" in rule:
-            found["NoncurrentVersionExpiration"] = {"NoncurrentDays": rule["noncurrent"][0], **newer(rule["noncurrent"][1])}
-        if "noncurrent_moves" in rule:
-            found["NoncurrentVersionTransitions"] = [
-                {"NoncurrentDays": days, "StorageClass": target, **newer(least)} for days, least, target in rule["noncurrent_moves"]]
-        if "abort" in rule:
-            found["AbortIncompleteMultipartUpload"] = {"DaysAfterInitiation": rule["abort"]}
-        return found
-    return text({"Rules": [one(rule) for rule in rules], "TransitionDefaultMinimumObjectSize": mode})
 
 
 class Run:
@@ -165,7 +125,7 @@ class Run:
                                       else {"error": "NoRules", "number": 82})
             yield f"{at}/due", bucket.shown(bucket.choice(self.now))
             for key in KEYS:
-                yield f"{at}/objects/" + key.replace("\u00e9", "%C3%A9"), self.stack(bucket, key)
+                yield f"{at}/objects/" + key.replace("\u00e9", "%C3%A9"), stack_of(bucket, key)
             for number, upload in bucket.uploads.items():
                 yield f"{at}/upload/{number}", {
                     "class": upload["class"], "key": upload["key"], "started": text_of(upload["started"]), "tags": upload["tags"], "upload": number,
@@ -173,21 +133,6 @@ class Run:
             for month in (f"{year}-{it:02}" for year in (2030, 2031) for it in range(1, 13)):
                 if window(month)[0] <= self.now:
                     yield f"{at}/meters/{month}", {"bucket": name, "classes": bucket.meters(month, self.now), "month": month}
-
-    @staticmethod
-    def stack(bucket, key):
-        if key not in bucket.stacks:
-            return {"error": "NoSuchKey", "number": 50}
-        versions = []
-        for place, it in enumerate(bucket.stacks[key]["versions"]):
-            shown = {name: it[name] for name in ("kind", "version", "size", "class", "tags") if name in it}
-            shown["created"] = text_of(it["created"])
-            if it["kind"] == "object":
-                shown["entered"] = text_of(it["entered"])
-            if place:
-                shown["noncurrent_since"] = text_of(it["ceased"])
-            versions.append(shown)
-        return {"changed": text_of(bucket.stacks[key]["changed"]), "key": key, "versions": versions}
 
 
 def message(method, target, body):

@@ -187,6 +187,7 @@ class Bucket:
                     for when, target in rule.get("moves", []):
                         if moves(target):
                             yield due(1, midnight(it["created"] + when * DAY), target)
+                    yield from (due(1, date, target) for date, target in rule.get("date_moves", []) if moves(target))
                 elif older == 0:
                     yield from (due(0, when) for when in whens)
                     if rule.get("lone_marker"):
