@@ -1,4 +1,5 @@
-"""A server on loopback that lists the versions of one bucket, in two pages, as S3 does; for the AWS command line."""
+"""A server on loopback that lists the versions of one bucket, in two pages, and its lifecycle rules, as S3 does; for the AWS
+command line."""
 import http.server
 import threading
 import urllib.parse
@@ -15,10 +16,18 @@ SECOND = ("<IsTruncated>false</IsTruncated>" + VERSION.format("%C3%A9/%2541", "t
           "<LastModified>2024-01-01T00:00:00.000Z</LastModified></DeleteMarker>")
 
 
+# A configuration as the API has it, and no other page of it.
+LIFECYCLE = ('<?xml version="1.0" encoding="UTF-8"?><LifecycleConfiguration xmlns="http://s3.amazonaws.com/doc/2006-03-01/">'
+             "<Rule><ID>cold</ID><Filter><Prefix>raw/</Prefix></Filter><Status>Enabled</Status>"
+             "<Transition><Days>30</Days><StorageClass>STANDARD_IA</StorageClass></Transition></Rule>"
+             "<Rule><ID>end</ID><Filter><And><Prefix>a</Prefix><Tag><Key>k</Key><Value>v</Value></Tag></And></Filter><Status>Disabled</Status>"
+             "<Expiration><Date>2030-01-01T00:00:00.000Z</Date></Expiration></Rule></LifecycleConfiguration>")
+
+
 class Handler(http.server.BaseHTTPRequestHandler):
     def do_GET(self):
-        asked = urllib.parse.parse_qs(urllib.parse.urlsplit(self.path).query)
-        page = PAGE.format(SECOND if "key-marker" in asked else FIRST).encode()
+        asked = urllib.parse.parse_qs(urllib.parse.urlsplit(self.path).query, keep_blank_values=True)
+        page = (LIFECYCLE if "lifecycle" in asked else PAGE.format(SECOND if "key-marker" in asked else FIRST)).encode()
         self.send_response(200)
         self.send_header("Content-Type", "application/xml")
         self.send_header("Content-Length", str(len(page)))

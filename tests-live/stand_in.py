@@ -26,8 +26,8 @@ def now():
     return last[0]
 
 
-def refuse(name, number, **more):
-    raise Refused(name, number, more)
+def refuse(error, number, **more):
+    raise Refused(error, number, more)
 
 
 def moment_of(text):

@@ -1,0 +1,148 @@
+"""Reads lifecycle configurations as other programs print them, and says what this program does not have, for lifecycle."""
+import ast
+import datetime
+import json
+import re
+import sys
+
+from asking import Stop
+from terraform import configuration_of, resources_of
+
+CLASSES = ("STANDARD_IA", "ONEZONE_IA", "GLACIER_IR", "GLACIER", "DEEP_ARCHIVE")
+MODE, DEFAULT_MODE = "TransitionDefaultMinimumObjectSize", "all_storage_classes_128K"
+# What a request or a reply has around a configuration: boto3, the AWS command line, and its --cli-input-json.
+ENVELOPE = ("ResponseMetadata", "Bucket", "ExpectedBucketOwner", "ChecksumAlgorithm", "ContentMD5")
+# A moment as boto3 shows it where its reply is printed and not written as JSON.
+SHOWN = re.compile(r"datetime\.datetime\((\d+), (\d+), (\d+), (\d+), (\d+)(?:, tzinfo=\w*(?:tz|timezone|dateutil\.tz\.)\w*(?:\.utc|\(\)))?\)")
+
+
+def text_of(path):
+    try:
+        if path == "-":
+            return sys.stdin.buffer.read().decode("utf-8-sig")
+        with open(path, "rb") as file:
+            return file.read().decode("utf-8-sig")
+    except UnicodeDecodeError as fault:
+        raise Stop(3, f"{path}: not UTF-8 at byte {fault.start}") from None
+    except OSError as fault:
+        raise Stop(3, f"{path}: {fault.strerror}") from None
+
+
+def value_of(path, text):
+    """What a text says: JSON, or a reply of boto3 as Python prints it."""
+    try:
+        return json.loads(text)
+    except (ValueError, RecursionError) as fault:
+        why = fault
+    if text.lstrip()[:2] in ("{'", "['", "[{"):
+        dated = SHOWN.sub(lambda it: "'{:04}-{:02}-{:02}T{:02}:{:02}:00Z'".format(*map(int, it.groups())), text)
+        try:
+            return ast.literal_eval(dated.strip())
+        except (ValueError, SyntaxError, RecursionError, MemoryError):
+            pass
+    raise Stop(3, f"{path}: no JSON: {why}")
+
+
+def rules_in(path, found, bucket, address):
+    """The document in what a file says, without its envelope."""
+    if isinstance(found, dict) and "format_version" in found:
+        resources = resources_of(found)
+        if address:
+            chosen = [it for it in resources if it["address"] == address]
+        else:
+            chosen = resources if len(resources) == 1 else [it for it in resources if it["values"].get("bucket") == bucket]
+        if len(chosen) != 1:
+            known = ", ".join(it["address"] for it in resources) or "none"
+            raise Stop(3, f"{path}: which lifecycle configuration? Name it with --resource; there are: {known}")
+        return configuration_of(chosen[0]["values"])
+    if isinstance(found, list):
+        found = {"Rules": found}
+    if isinstance(found, dict):
+        found = {name: value for name, value in found.items() if name not in ENVELOPE}
+        inner = found.pop("LifecycleConfiguration", None)
+        if isinstance(inner, dict):
+            found = {**found, **inner}
+        if "Rules" not in found and any(it in found for it in ("ID", "Status", "Filter")):
+            found = {"Rules": [found]}
+    if not isinstance(found, dict) or not isinstance(found.get("Rules"), list) or not all(isinstance(it, dict) for it in found["Rules"]):
+        raise Stop(3, f"{path}: this is no lifecycle configuration: it has no list of Rules")
+    return found
+
+
+def document_of(path, bucket, address=None):
+    """The configuration of a file, as it is sent."""
+    return with_dates(rules_in(path, value_of(path, text_of(path)), bucket, address))
+
+
+def with_dates(found):
+    """The same, where a date with a blank before its time, as Python writes it, has a T there."""
+    if isinstance(found, list):
+        return [with_dates(it) for it in found]
+    if isinstance(found, dict):
+        return {name: re.sub(r"^(\d{4}-\d\d-\d\d) (?=\d)", r"\1T", it) if name == "Date" and isinstance(it, str) else with_dates(it)
+                for name, it in found.items()}
+    return found
+
+
+def missing(found, place=""):
+    """What this program does not have, each with its place."""
+    if isinstance(found, list):
+        for number, it in enumerate(found):
+            yield from missing(it, f"{place}[{number}]")
+    for name, it in found.items() if isinstance(found, dict) else ():
+        at = f"{place}.{name}".lstrip(".")
+        if name == "StorageClass" and isinstance(it, str) and it not in CLASSES:
+            why = {"INTELLIGENT_TIERING": "objects move in it by reads, which are not seen here",
+                   "STANDARD": "nothing moves to it"}.get(it, f"the classes to move to are {', '.join(CLASSES)}")
+            yield f"{at}: {it!r}: {why}"
+        elif name == "Date" and isinstance(it, str) and re.match(r"(2[1-9]|[3-9]\d)\d\d-", it):
+            yield f"{at}: {it!r}: the last day is 2099-12-31"
+        elif name == "Date" and isinstance(it, str) and re.search(r"T.*[+-](?!00:?00)\d\d:?\d\d$", it):
+            yield f"{at}: {it!r}: write the same midnight in UTC"
+        elif name in ("Transition", "NoncurrentVersionTransition"):
+            yield f"{at}: of the older XML API; write the list {name}s"
+        else:
+            yield from missing(it, at)
+
+
+def date_of(text):
+    """A date as the program prints it; what is none stays."""
+    try:
+        day = datetime.datetime.fromisoformat(re.sub(r"(Z|[+-]00:?00)$", "", text)[:19])
+        return day.isoformat(timespec="milliseconds") + "Z"
+    except (TypeError, ValueError):
+        return text
+
+
+def filter_of(rule):
+    """The filter of a rule as the program prints it: one condition, or an And of more."""
+    found = rule.get("Filter", {"Prefix": rule.get("Prefix", "")})
+    if not isinstance(found, dict) or not isinstance(found.get("And", {}), dict):
+        return found
+    found = dict(found.get("And", found))
+    tags = found.pop("Tags", [])
+    if not found.get("Prefix"):
+        found.pop("Prefix", None)
+    if len(found) + len(tags) > 1:
+        return {"And": {**found, **({"Tags": tags} if tags else {})}}
+    return {"Tag": tags[0]} if tags else found or {"Prefix": ""}
+
+
+def as_printed(document):
+    """A configuration about as the program prints it, for a comparison; lines of JSON."""
+    rules = []
+    for place, rule in enumerate(document["Rules"], 1):
+        rule = {**rule, "Filter": filter_of(rule), "ID": rule.get("ID") or f"rule-{place}"}
+        rule.pop("Prefix", None)
+        if isinstance(rule.get("Expiration"), dict) and rule["Expiration"].get("ExpiredObjectDeleteMarker") is False:
+            rule["Expiration"] = {name: it for name, it in rule["Expiration"].items() if it is not False}
+        rules.append({name: it for name, it in rule.items() if it not in ({}, [])})
+
+    def dated(found):
+        if isinstance(found, list):
+            return [dated(it) for it in found]
+        if isinstance(found, dict):
+            return {name: date_of(it) if name == "Date" else dated(it) for name, it in found.items()}
+        return found
+    whole = {**document, "Rules": dated(rules), MODE: document.get(MODE) or DEFAULT_MODE}
+    return json.dumps(whole, indent=2, sort_keys=True, ensure_ascii=False).splitlines()
