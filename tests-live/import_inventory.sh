@@ -4,7 +4,8 @@
 #
 #   import_inventory.sh PROGRAM
 #
-# The cases are in import_inventory_cases.py. Prints one line a case, and 'N passed, M failed' last; ends with 1 where one failed.
+# The cases are in import_inventory_cases.py, those of versions in import_versions_cases.py. Prints one line a case, and 'N passed, M
+# failed' behind each file; ends with 1 where one failed.
 set -u
 
 tools='python3 timeout'
@@ -14,4 +15,8 @@ if [ -d /dev/shm ] && [ -w /dev/shm ]; then
     export TMPDIR=/dev/shm
 fi
 . "$here/common"
-timeout 100 python3 -B "$here/import_inventory_cases.py" "$program" "$here/../tools" "$work"
+status=0
+for cases in import_inventory_cases.py import_versions_cases.py; do
+    timeout 100 python3 -B "$here/$cases" "$program" "$here/../tools" "$work" || status=1
+done
+exit $status

@@ -72,9 +72,9 @@ def by_server():
         to = f"http://127.0.0.1:{server.port}"
         server.client().socket.close()
         check("JSON without --bucket, status", 3, run("--to", to, "versions.json")[0])
-        status, notes = run("--to", to, "--bucket", "photos", "--names", "names", "versions.json")
+        status, notes = run("--to", to, "--bucket", "photos", "--current", "--names", "names", "versions.json")
         check("JSON, status", 0, status)
-        told = "put 2, refused 0, noncurrent versions 2, delete markers 1, second rows of a key 0"
+        told = "put 2, delete markers put 0, refused 0; left out: noncurrent versions 2, delete markers 1, second rows of a key 0"
         check("JSON, what is left out is counted", True, told in notes)
         check("JSON, and named", "photos,a%2Bb%20c,noncurrent versions\nphotos,gone,noncurrent versions\n"
               "photos,gone,delete markers\n", (FOLDER / "names").read_text("utf-8"))
@@ -82,10 +82,10 @@ def by_server():
               objects_of(server.folder))
         (FOLDER / "part.json").write_text(json.dumps({**listing, "IsTruncated": True}), encoding="utf-8")
         check("a listing that is not whole, status", 3, run("--to", to, "--bucket", "other", "part.json")[0])
-        check("the same words again, status", 0, run("--to", to, "--bucket", "photos", "versions.json")[0])
+        check("the same words again, status", 0, run("--to", to, "--bucket", "photos", "--current", "versions.json")[0])
         check("nothing is put twice", 2, len(objects_of(server.folder)))
         (FOLDER / "versions.json.import").unlink()
-        status, notes = run("--to", to, "--bucket", "photos", "versions.json")
+        status, notes = run("--to", to, "--bucket", "photos", "--current", "versions.json")
         check("a bucket that has objects of others, status", (6, 2), (status, len(objects_of(server.folder))))
 
         rows = [("logs", "a", 1, "STANDARD"), ("logs", "b", 1, "INTELLIGENT_TIERING"), ("logs", "%FF", 1, "STANDARD"),
@@ -114,10 +114,15 @@ def by_aws():
                             env={**os.environ, "AWS_DEFAULT_REGION": "us-east-1", "NO_PROXY": "*"})
     server.shutdown()
     (FOLDER / "aws.json").write_bytes(listed.stdout)
-    status, notes = run("--bucket", "photos", "--out", "requests", "aws.json")
-    check("what aws lists, status", (0, True), (status, "put 2, refused 0, noncurrent versions 1, delete markers 1" in notes))
-    targets = re.findall(rb"PUT (\S+)", (FOLDER / "requests").read_bytes())
     objects = b"/buckets/photos/objects/"
+    status, notes = run("--bucket", "photos", "--out", "requests", "aws.json")
+    check("what aws lists, status", (0, True), (status, "put 3, delete markers put 1, refused 0" in notes))
+    wanted = [b"PUT /buckets/photos", b"PUT /buckets/photos/versioning", b"PUT " + objects + b"a%2Bb%20c", b"PUT " + objects + b"a%2Bb%20c",
+              b"PUT " + objects + b"%C3%A9/%2541", b"DELETE " + objects + b"gone"]
+    check("what aws lists, the requests", wanted, re.findall(rb"(?:PUT|DELETE) \S+", (FOLDER / "requests").read_bytes()))
+    status, notes = run("--bucket", "photos", "--current", "--out", "requests", "aws.json")
+    check("what aws lists, current ones, status", (0, True), (status, "noncurrent versions 1, delete markers 1" in notes))
+    targets = re.findall(rb"PUT (\S+)", (FOLDER / "requests").read_bytes())
     check("what aws lists, the keys", [b"/buckets/photos", objects + b"a%2Bb%20c", objects + b"%C3%A9/%2541"], targets)
 
 
@@ -172,7 +177,9 @@ def bad():
     files = {"no file": None, "Parquet": b"PAR1abc", "ORC": b"ORCabc", "gzip, cut short": gzip.compress(b"logs,a,1,\n" * 99)[:30],
              "not UTF-8": b"logs,\xff,1,\n", "a field too few": b"logs,a,1,\nlogs,b,1\n", "a size that is none": b"logs,a,1k,\n",
              "no size": b"logs,a,,\n", "a quote that does not end": b'logs,"a,1,\n', "JSON, cut short": b'{"Versions": [',
-             "JSON of something else": b'{"Buckets": []}', "a version without a key": b'{"Name":"logs","Versions":[{"Size":1}]}'}
+             "JSON of something else": b'{"Buckets": []}', "a version without a key": b'{"Name":"logs","Versions":[{"Size":1}]}',
+             "two versions without a moment": b'{"Name":"logs","Versions":[{"Key":"a","Size":1},{"Key":"a","Size":1,"IsLatest":false}]}',
+             "a moment that is none": b'{"Name":"logs","Versions":[{"Key":"a","Size":1,"LastModified":"today"}]}'}
     for name, data in files.items():
         if data is not None:
             (FOLDER / "bad").write_bytes(data)

@@ -1,5 +1,6 @@
 """Reads S3 Inventories in CSV and what `aws s3api list-object-versions` prints, for import-inventory."""
 import csv
+import datetime
 import gzip
 import io
 import json
@@ -9,8 +10,9 @@ import zlib
 
 from asking import Stop
 
-NONCURRENT, MARKER, SECOND = "noncurrent versions", "delete markers", "second rows of a key"
+CURRENT, NONCURRENT, MARKER, SECOND = "objects", "noncurrent versions", "delete markers", "second rows of a key"
 LEFT_OUT = (NONCURRENT, MARKER, SECOND)
+FIRST = datetime.datetime(1, 1, 1, tzinfo=datetime.timezone.utc)
 OTHER_FORMATS = {b"ORC": "ORC", b"PAR1": "Parquet", b"PK": "a zip archive"}
 
 
@@ -20,8 +22,15 @@ class Row(typing.NamedTuple):
     key: typing.Optional[bytes]
     size: typing.Optional[int]
     storage_class: typing.Optional[str]
-    left_out: typing.Optional[str]
+    kind: str
     where: str
+    version: typing.Optional[str] = None
+    moment: typing.Optional[datetime.datetime] = None
+    latest: bool = True
+
+    def is_of_a_version(self):
+        """Whether its bucket has versions: it is not current, or has an id other than null."""
+        return self.kind != CURRENT or self.version not in (None, "", "null")
 
 
 def text_of(path):
@@ -53,6 +62,17 @@ def is_true(text):
     return text.strip().lower() == "true"
 
 
+def moment_of(text, where):
+    """The moment of LastModified; nothing where it is not told."""
+    if not text:
+        return None
+    try:
+        found = datetime.datetime.fromisoformat(text.strip().replace("Z", "+00:00"))
+    except (AttributeError, ValueError):
+        raise Stop(3, f"{where}: the moment is {text!r}") from None
+    return found if found.tzinfo else found.replace(tzinfo=datetime.timezone.utc)
+
+
 def read_csv(path, text, given):
     """The rows of an inventory in CSV."""
     lines = csv.reader(io.StringIO(text, newline=""), strict=True)
@@ -71,17 +91,18 @@ def read_csv(path, text, given):
             if len(values) != len(names):
                 raise Stop(3, f"{where}: {len(values)} fields in place of {len(names)}")
             field = dict(zip(names, values))
-            left_out = (MARKER if is_true(field.get("isdeletemarker", "")) else
-                        NONCURRENT if field.get("islatest", "").strip().lower() == "false" else None)
+            latest = field.get("islatest", "").strip().lower() != "false"
+            kind = MARKER if is_true(field.get("isdeletemarker", "")) else CURRENT if latest else NONCURRENT
             size = field["size"].strip()
-            if left_out is None and not (size.isascii() and size.isdigit()):
+            if kind != MARKER and not (size.isascii() and size.isdigit()):
                 raise Stop(3, f"{where}: the size is {size!r}")
             bucket = field.get("bucket") or given.bucket
             if not bucket or (given.bucket and bucket != given.bucket):
                 raise Stop(3, f"{where}: the bucket is {bucket!r}, and --bucket is {given.bucket!r}")
             key = bytes_of_key(field["key"], given.keys or "url")
-            yield Row(bucket, key, None if left_out else int(size), field.get("storageclass", "").strip() or None,
-                      left_out, where)
+            named = field.get("storageclass", "").strip() or None
+            yield Row(bucket, key, *((None, None) if kind == MARKER else (int(size), named)), kind, where,
+                      field.get("versionid", "").strip() or None, moment_of(field.get("lastmodifieddate"), where), latest)
     except csv.Error as fault:
         raise Stop(3, f"{path}:{lines.line_num}: no CSV: {fault}") from None
 
@@ -99,21 +120,23 @@ def read_json(path, text, given):
     bucket = found.get("Name") or given.bucket
     if not bucket or (given.bucket and bucket != given.bucket):
         raise Stop(3, f"{path}: " + (f"the listing is of '{bucket}'" if bucket else "which bucket? Give --bucket NAME"))
-    yield Row(bucket, None, None, None, "", path)
-    for kind in ("Versions", "Contents", "DeleteMarkers"):
-        for place, it in enumerate(found.get(kind) or [], 1):
-            where = f"{path}: {kind} {place}"
+    yield Row(bucket, None, None, None, CURRENT, path)
+    for part in ("Versions", "Contents", "DeleteMarkers"):
+        for place, it in enumerate(found.get(part) or [], 1):
+            where = f"{path}: {part} {place}"
             if not isinstance(it, dict) or not isinstance(it.get("Key"), str):
                 raise Stop(3, f"{where}: without a Key")
-            left_out = MARKER if kind == "DeleteMarkers" else NONCURRENT if it.get("IsLatest") is False else None
+            latest = it.get("IsLatest") is not False
+            kind = MARKER if part == "DeleteMarkers" else CURRENT if latest else NONCURRENT
             size = it.get("Size")
-            if left_out is None and not (isinstance(size, int) and not isinstance(size, bool) and size >= 0):
+            if kind != MARKER and not (isinstance(size, int) and not isinstance(size, bool) and size >= 0):
                 raise Stop(3, f"{where}: the size is {json.dumps(size)}")
             try:
                 key = bytes_of_key(it["Key"], given.keys or "plain")
             except UnicodeEncodeError:
                 raise Stop(3, f"{where}: the key is no text") from None
-            yield Row(bucket, key, size, it.get("StorageClass"), left_out, where)
+            yield Row(bucket, key, *((None, None) if kind == MARKER else (size, it.get("StorageClass"))), kind, where,
+                      it.get("VersionId"), moment_of(it.get("LastModified"), where), latest)
 
 
 def rows_of(given):
@@ -121,3 +144,21 @@ def rows_of(given):
     for path in given.files:
         text = text_of(path)
         yield from (read_json if text.lstrip()[:1] == "{" else read_csv)(path, text, given)
+
+
+def in_order(rows):
+    """Versions, oldest first by their moments. The current version of a key is its last one; of others of one moment a marker
+    stands behind an object, and else the earlier row is the newer one, as S3 lists them."""
+    keys, found = {}, []
+    for row in rows:
+        keys.setdefault((row.bucket, row.key), []).append(row)
+    for them in keys.values():
+        for row in them if len(them) > 1 else ():
+            if row.moment is None:
+                raise Stop(3, f"{row.where}: this key has several versions, and no LastModified tells which is the older one")
+        told = sum(row.latest for row in them) == 1
+        moment = FIRST
+        for row in sorted(reversed(them), key=lambda it: (told and it.latest, it.moment or FIRST, it.kind == MARKER)):
+            moment = max(moment, row.moment or FIRST)
+            found.append((moment, row))
+    return [row for _, row in sorted(found, key=lambda it: it[0])]

@@ -1,8 +1,9 @@
-"""Sends the objects of a listing to a running server, each once over any number of tries, for import-inventory."""
+"""Sends the versions of a listing to a running server, each once over any number of tries, for import-inventory."""
 import os
 import urllib.parse
 
 from asking import Stop, reason
+from listings import MARKER
 
 
 def target_of(row, bucket=None):
@@ -14,7 +15,14 @@ def bucket_target(bucket):
     return f"/buckets/{urllib.parse.quote(bucket, safe='')}"
 
 
+def method_of(row):
+    """A delete marker is what a delete puts in an Enabled bucket."""
+    return "DELETE" if row.kind == MARKER else "PUT"
+
+
 def body_of(row):
+    if row.kind == MARKER:
+        return None
     return {"size": row.size} if row.storage_class is None else {"size": row.size, "class": row.storage_class}
 
 
@@ -47,24 +55,32 @@ def begin(state, digest, where):
         raise Stop(4, f"{state}: {fault.strerror}") from None
 
 
-def versions(office, bucket):
-    """How many objects a bucket has; 0 where it is not made, or where its name is none."""
+def present(office, bucket):
+    """How many versions a bucket has, and its versioning; 0 where it is not made, or where its name is none."""
     status, found = office.ask("GET", bucket_target(bucket))
     if status in (400, 404):
-        return 0
+        return 0, None
     if status != 200 or not isinstance(found.get("versions"), int):
         raise Stop(2, f"bucket {bucket}: {reason(status, found)}")
-    return found["versions"]
+    return found["versions"], found.get("versioning")
 
 
 def put(office, work, row, nowhere=None):
-    """Asks for one object. Whether the program takes it; a row that it refuses for its text is named."""
-    status, found = office.ask("PUT", target_of(row, nowhere), body_of(row))
+    """Asks for one version. Whether the program takes it; a row that it refuses for its text is named."""
+    status, found = office.ask(method_of(row), target_of(row, nowhere), body_of(row))
     if status == 400:
         work.leave(row, "refused", f"refused: {found.get('error')}")
-    elif status != (404 if nowhere else 201):
+    elif status != (404 if nowhere else 200 if row.kind == MARKER else 201):
         raise Stop(2, f"{row.where}: {reason(status, found)}")
     return status != 400
+
+
+def set_versioning(office, bucket, wanted):
+    """Sets the versioning of a bucket, where it is another; a bucket whose name is none has none."""
+    if present(office, bucket)[1] not in (None, wanted):
+        status, found = office.ask("PUT", f"{bucket_target(bucket)}/versioning", {"Status": wanted})
+        if status != 200:
+            raise Stop(2, f"bucket {bucket}: versioning {wanted}: {reason(status, found)}")
 
 
 def send(work, office, state):
@@ -75,9 +91,9 @@ def send(work, office, state):
     """
     begun, there = is_begun(state, work.digest, office.name), {}
     for bucket in work.buckets:
-        there[bucket] = versions(office, bucket)
+        there[bucket], _ = present(office, bucket)
         if there[bucket] and not begun:
-            raise Stop(6, f"bucket {bucket} has {there[bucket]} objects already, and no file {state} says that they are of "
+            raise Stop(6, f"bucket {bucket} has {there[bucket]} versions already, and no file {state} says that they are of "
                        "this import; nothing was sent")
     if not begun:
         begin(state, work.digest, office.name)
@@ -85,12 +101,17 @@ def send(work, office, state):
         status, found = office.ask("PUT", bucket_target(bucket))
         if status not in (201, 400) and found.get("error") != "BucketExists":
             raise Stop(2, f"bucket {bucket}: {reason(status, found)}")
+        if bucket in work.versioned:
+            set_versioning(office, bucket, "Enabled")
     accepted, nowhere = dict.fromkeys(work.buckets, 0), f"not-made-{work.digest[:32]}"
-    for place, row in enumerate(work.rows(), 1):
+    for place, row in enumerate(work.rows, 1):
         is_there = accepted[row.bucket] < there[row.bucket]
-        accepted[row.bucket] += put(office, work, row, nowhere if is_there else None)
+        taken = put(office, work, row, nowhere if is_there else None)
+        accepted[row.bucket] += taken
+        work.count(row, taken)
         work.tell(place)
-    work.counts["put"] = sum(accepted.values())
     for bucket, count in accepted.items():
-        if (found := versions(office, bucket)) != count:
-            raise Stop(6, f"bucket {bucket} has {found} objects at the end, and {count} of this import")
+        if (found := present(office, bucket)[0]) != count:
+            raise Stop(6, f"bucket {bucket} has {found} versions at the end, and {count} of this import")
+        if bucket in work.suspended:
+            set_versioning(office, bucket, "Suspended")
