@@ -158,7 +158,7 @@ def stopped():
     check("it went on behind the one before", True, 397 < len(objects_of(folder)) < len(wanted))
     with Server(PROGRAM, folder) as server:
         status, notes = run(*move(server))
-        check("the last one ends the import, and 10 rows are refused", (5, True), (status, "refused 10," in notes))
+        check("the last one ends the import, and 10 rows are refused", (5, True), (status, "refused 10;" in notes))
     check("each object is put once, in order", wanted, objects_of(folder))
 
 

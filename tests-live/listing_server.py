@@ -7,11 +7,11 @@ import urllib.parse
 PAGE = ('<?xml version="1.0" encoding="UTF-8"?><ListVersionsResult xmlns="http://s3.amazonaws.com/doc/2006-03-01/">'
         "<Name>photos</Name><Prefix></Prefix><KeyMarker></KeyMarker><VersionIdMarker></VersionIdMarker><MaxKeys>2</MaxKeys>"
         "<EncodingType>url</EncodingType>{}</ListVersionsResult>")
-VERSION = ("<Version><Key>{}</Key><VersionId>v</VersionId><IsLatest>{}</IsLatest>"
+VERSION = ("<Version><Key>{}</Key><VersionId>{}</VersionId><IsLatest>{}</IsLatest>"
            "<LastModified>2024-01-01T00:00:00.000Z</LastModified><ETag>&quot;x&quot;</ETag><Size>{}</Size><StorageClass>{}</StorageClass></Version>")
 FIRST = ("<IsTruncated>true</IsTruncated><NextKeyMarker>a%2Bb+c</NextKeyMarker><NextVersionIdMarker>v</NextVersionIdMarker>"
-         + VERSION.format("a%2Bb+c", "true", 5, "GLACIER") + VERSION.format("a%2Bb+c", "false", 4, "STANDARD"))
-SECOND = ("<IsTruncated>false</IsTruncated>" + VERSION.format("%C3%A9/%2541", "true", 0, "STANDARD") +
+         + VERSION.format("a%2Bb+c", "v", "true", 5, "GLACIER") + VERSION.format("a%2Bb+c", "u", "false", 4, "STANDARD"))
+SECOND = ("<IsTruncated>false</IsTruncated>" + VERSION.format("%C3%A9/%2541", "v", "true", 0, "STANDARD") +
           "<DeleteMarker><Key>gone</Key><VersionId>m</VersionId><IsLatest>true</IsLatest>"
           "<LastModified>2024-01-01T00:00:00.000Z</LastModified></DeleteMarker>")
 

@@ -59,6 +59,18 @@ if has bash; then
     check 'bash: a word begun' 'serve' "$(complete_bash office s)"
     check 'bash: options' '--listen --workers --connections' "$(complete_bash office serve '')"
     check 'bash: options that are left' '--workers --connections' "$(complete_bash office serve --listen 127.0.0.1:1 '')"
+    # What bash completes of a tool of the package.
+    complete_tool() {
+        # shellcheck disable=SC2016
+        bash -c '. "$0"; COMP_WORDS=("$@"); COMP_CWORD=$(($# - 1)); _office_tool "$1"; echo "${COMPREPLY[*]}"' \
+            "$root/tools/completion/office.bash" "$@"
+    }
+    check 'bash: words of a tool' 'get set add edit remove' "$(complete_tool office-lifecycle --bucket logs '' | tr -d '\n')"
+    for tool in act-all lifecycle import-inventory; do
+        for option in $(complete_tool "office-$tool" --); do
+            check "$tool knows $option" yes "$("$root/tools/$tool" --help | grep -q -e "$option" && echo yes)"
+        done
+    done
     check 'bash: nothing behind run' '' "$(complete_bash office run '')"
     for word in $(complete_bash office ''); do
         case $word in
@@ -93,7 +105,7 @@ fi
 # The units, with the paths of an installation turned into those of here.
 mkdir units
 for unit in "$root"/tools/systemd/*; do
-    sed "s|/usr/bin/office-backup|$root/tools/backup|; s|/usr/bin/office |$program |" "$unit" >"units/${unit##*/}"
+    sed "s|/usr/bin/office-\([a-z-]*\)|$root/tools/\1|; s|/usr/bin/office |$program |" "$unit" >"units/${unit##*/}"
 done
 # shellcheck disable=SC2046
 check 'the unit gives words that the program knows' 5 "$(status_of serve $(sed -n 's/^Environment="OFFICE_OPTIONS=\(.*\)"/\1/p' \

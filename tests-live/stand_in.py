@@ -102,6 +102,8 @@ def ask(method, name, word, rest, body):
     if not re.fullmatch(r"[a-z0-9][a-z0-9.-]{1,61}[a-z0-9]", name):
         refuse("BadBucketName", 10)
     key = key_of(rest) if word == "objects" else None
+    if word == "objects" and method == "PUT" and body.get("size", 0) > 5 << 40:
+        refuse("BadSize", 13)
     if word == "objects" and method == "PUT" and body.get("class", "STANDARD") not in CLASSES:
         refuse("UnsupportedClass", 43, name=body["class"])
     if not word and method == "PUT":

@@ -30,4 +30,40 @@ _office() {
     mapfile -t COMPREPLY < <(compgen -W "$left" -- "$word")
 }
 
+# The tools of the package.
+_office_tool() {
+    local word=${COMP_WORDS[COMP_CWORD]} before=${COMP_WORDS[COMP_CWORD - 1]} choices=
+    COMPREPLY=()
+    case $before in
+    --to)
+        mapfile -t COMPREPLY < <(compgen -W 'http://127.0.0.1:8080' -- "$word")
+        return
+        ;;
+    --keys)
+        mapfile -t COMPREPLY < <(compgen -W 'url plain' -- "$word")
+        return
+        ;;
+    --bucket | --most | --resource | --schema | --suspended | = | :) return ;;
+    esac
+    case $word,$1 in
+    -*,office-act-all) choices='--to --bucket --buckets --journal --most --dry-run --help' ;;
+    -*,office-lifecycle) choices='--to --bucket --resource --yes --help' ;;
+    -*,office-import-inventory)
+        choices='--to --out --schema --bucket --keys --current --suspended --names --state --help'
+        ;;
+    *,office-lifecycle)
+        case " ${COMP_WORDS[*]} " in
+        *' get '* | *' set '* | *' add '* | *' edit '* | *' remove '*) ;;
+        *) choices='get set add edit remove' ;;
+        esac
+        ;;
+    esac
+    if [ -n "$choices" ]; then
+        mapfile -t COMPREPLY < <(compgen -W "$choices" -- "$word")
+    else
+        mapfile -t COMPREPLY < <(compgen -f -- "$word")
+    fi
+}
+
 complete -F _office office
+complete -F _office_tool office-act-all office-lifecycle office-import-inventory
