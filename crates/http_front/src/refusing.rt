@@ -3,7 +3,8 @@ ghost use Rattle.std.specs.Prelude.{◌≡◌, ◌++◌, IfOk};
 ghost use Rattle.http_asks.specs.Faults.{refused_of};
 ghost use Rattle.http_text.specs.Replies.{head_text};
 ghost use Rattle.http_text.specs.Room.{Puts};
-ghost use Rattle.http_front.specs.Texts.{bad_text, bad_text_of, field_text, flaw_name, flaw_number, named_text, refused_body, refused_status, rule_text};
+ghost use Rattle.http_front.specs.Texts.{bad_text, bad_text_of, refused_body, refused_status};
+ghost use Rattle.http_front.specs.Texts.{field_text, flaw_name, flaw_number, named_text, rule_text};
 
 use crate::bad::Bad;
 use crate::printing::print_call;
