@@ -78,10 +78,7 @@ fn put_kind(stack: &mut Stack, incoming: Incoming) -> Result<Option<Version>, No
     } = incoming;
     match kind {
         Kind::Object {
-            size,
-            class,
-            tags,
-            ..
+            size, class, tags, ..
         } => stack.put(versioning, number, size, class, tags, at),
         Kind::Marker => stack.put_marker(versioning, number, at),
     }
@@ -265,15 +262,7 @@ pub(crate) fn add_version(
         kind,
         at,
     };
-    let after = put_version(
-        &mut bucket.stacks,
-        meters,
-        alloc,
-        key,
-        incoming,
-        whats,
-        counts,
-    )?;
+    let after = put_version(&mut bucket.stacks, meters, alloc, key, incoming, whats, counts)?;
     bucket.next_version = next_number(versioning, number);
     Ok(after)
 }

@@ -105,7 +105,10 @@ fn leave_of(version: &Version) -> Leaving
 pub(crate) fn leaving_at(versions: &[Version], id: &VersionId) -> Option<Leaving>
     ensures { result ≡ option_map leaving_of (version_at id.now versions.now) }
 {
-    match versions.iter().find(|version| is_same(*id, version.id)) {
+    match versions
+        .iter()
+        .find(|version| is_same(*id, version.id))
+    {
         Some(version) => Some(leave_of(version)),
         None => None,
     }

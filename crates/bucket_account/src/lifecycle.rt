@@ -38,7 +38,7 @@ fn text_length(alloc: Global, rules: &RuleSet) -> Result<u64, Refusal>
 fn moved(counts: Counts, gone: u64, come: u64) -> Counts
     requires some { gone ≤ counts.rules }
     requires few { counts.rules + come < 2 ^ 64 }
-    ensures { result ≡ (record counts { rules = counts.rules - gone + come }) }
+    ensures { result ≡ (record counts { rules = counts.rules - gone + come; }) }
 {
     Counts {
         rules: counts.rules - gone + come,
