@@ -4,14 +4,13 @@ use Rattle.std.specs.Prelude.{◌≡◌, ℕ, Bool, true, false, if◌then◌els
 use Rattle.office_base.specs.Keys.{is_key}
 use Rattle.office_base.specs.Names.{is_bucket_name}
 use Rattle.office_base.specs.declared.version_id.VersionId.TheVariants.{Null, Number}
-use Rattle.class_rules.specs.declared.class.Class.TheVariants.{Glacier}
 use Rattle.moments.specs.Dates.{is_month, begins_with_month}
 use Rattle.moments.specs.Months.{month_number}
 use Rattle.rules_core.specs.Configurations.{Configuration}
 use Rattle.rules_core.specs.declared.flaw.RuleFlaw.TheVariants.{NoAction}
 use Rattle.rules_json.specs.declared.fault.RulesFault.TheVariants as faults
 use Rattle.office_types.specs.declared.command.Ask.TheVariants.{Command, Query}
-use Rattle.office_types.specs.declared.command.Command.TheVariants.{CreateBucket, SetVersioning, SetRules, DropRules, Put, Complete, Abort, PutPart, Act, SetTariff, Close}
+use Rattle.office_types.specs.declared.command.Command.TheVariants.{CreateBucket, SetVersioning, DropRules, Complete, Abort, PutPart, Act, SetTariff, Close}
 use Rattle.office_types.specs.declared.command.Query.TheVariants.{Bucket, Rules, Upload, Due, Meters, Tariff, Report}
 use Rattle.tariff.specs.declared.fault.TariffTable.TheVariants.{Transition}
 use Rattle.tariff.specs.Faults.{TariffFlaw}

@@ -1,5 +1,5 @@
 -- Numbers and ids, as parts of a path write them.
-use Rattle.std.proofs.Common.{◌≡◌, ◌≢◌, ◌∙◌, sym, ap, subst, refl, ℕ, zero, suc, ◌<◌, ◌≤◌, ◌^◌, Bool, true, false, ◌&&◌, List, [], ◌∷◌, length, get_or, Option, Some, None, Result, Ok, Err, decimal, codes, arith}
+use Rattle.std.proofs.Common.{◌≡◌, ◌≢◌, ◌∙◌, sym, ap, subst, refl, ℕ, zero, suc, ◌<◌, ◌≤◌, ◌^◌, Bool, true, false, ◌&&◌, List, [], ◌∷◌, length, get_or, Some, None, Result, Ok, decimal, codes, arith}
 use Rattle.std.specs.Prelude.{nat_lt, nat_le, option_map, if◌then◌else◌}
 use Rattle.std.specs.Char.{is_ascii_digit}
 use Rattle.std.specs.Str.{all_ascii_digits, bytes_eq}
@@ -12,7 +12,7 @@ use Rattle.office_base.proofs.Versions.{no_number}
 use Rattle.office_base.specs.Versions.{id_text, IsVersionId, begins_with_number}
 use Rattle.office_base.specs.declared.version_id.VersionId.{VersionId}
 use Rattle.office_base.specs.declared.version_id.VersionId.TheVariants.{Null, Number}
-use Rattle.http_asks.specs.Numbers.{are_digits, is_number, number_in, version_in, is_part_number, part_in}
+use Rattle.http_asks.specs.Numbers.{are_digits, is_number, number_in, version_in, is_part_number}
 
 own : IsNumeralModel (λ ds. all_ascii_digits ds ≡ true) (digits_value 10)
 own = numerals_by_value _ tells_all_ascii_digits

@@ -42,8 +42,8 @@ pub enum Bad {
     UnknownField {
         name: String,
     },
-    /// The field of a lifecycle configuration is missing, has another kind of value, is out of its range or is too many;
-    /// an empty name: the whole is no object.
+    /// The field of a lifecycle configuration is missing, has another kind of value, is out of its range or is too
+    /// many; an empty name: the whole is no object.
     WrongShape {
         field: String,
     },

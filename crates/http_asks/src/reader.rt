@@ -141,8 +141,8 @@ impl Reader {
     /// # Errors
     ///
     /// `Spent`: 2^40 = 1,099,511,627,776 bytes were taken and a further read is needed, also where it would find the
-    /// end. `ReadFault`: the source failed. `NoMemory`: memory ran out for a request whose head was read. Nothing was heard
-    /// then, and nothing is promised of a later call.
+    /// end. `ReadFault`: the source failed. `NoMemory`: memory ran out for a request whose head was read. Nothing was
+    /// heard then, and nothing is promised of a later call.
     pub fn next<R: Source>(&mut self, alloc: Global, source: &mut R) -> Result<Heard, Stop>
         ensures tells { IfOk result (λ heard. Tells (prepend_known self.old.bytes (R.left source.old)) heard
             (prepend_known self.new.bytes (R.left source.new))) }

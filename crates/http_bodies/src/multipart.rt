@@ -28,8 +28,8 @@ pub struct UploadBody {
 /// # Errors
 ///
 /// The first of these that is so. `BadBody`, with an empty field: the bytes are no JSON object. `BadBody`, with the
-/// field: it is none of the two (of these the first in the order of their bytes); `class` is no text; `tags` is no object
-/// of texts. `UnsupportedClass`, `BadTags`: a value is out of range. `NoMemory`: memory ran out.
+/// field: it is none of the two (of these the first in the order of their bytes); `class` is no text; `tags` is no
+/// object of texts. `UnsupportedClass`, `BadTags`: a value is out of range. `NoMemory`: memory ran out.
 #[tactic(auto, unfolding(crate::specs::Multipart::upload_of, crate::specs::Multipart::upload_in_range))]
 pub fn read_upload(alloc: Global, bytes: &[u8]) -> Result<UploadBody, BodyFault>
     ensures exact { Gives (λ body. body) result (upload_of bytes.now) }

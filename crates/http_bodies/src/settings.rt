@@ -16,9 +16,9 @@ use std::alloc::Global;
 ///
 /// # Errors
 ///
-/// `BadBody`, with an empty field: the bytes are no JSON object. `BadBody`, with the field: it is not `Status` (of these
-/// the first in the order of their bytes); `Status` is missing, or is neither of the two texts. `NoMemory`: memory ran
-/// out.
+/// `BadBody`, with an empty field: the bytes are no JSON object. `BadBody`, with the field: it is not `Status` (of
+/// these the first in the order of their bytes); `Status` is missing, or is neither of the two texts. `NoMemory`:
+/// memory ran out.
 #[tactic(auto, unfolding(crate::specs::Settings::status_of))]
 pub fn read_status(alloc: Global, bytes: &[u8]) -> Result<bool, BodyFault>
     ensures exact { Gives (λ enabled. enabled) result (status_of bytes.now) }
