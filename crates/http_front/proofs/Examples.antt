@@ -1,5 +1,6 @@
 -- Texts of refusals and faults, and the calls and moments among exchanges, computed.
 use Rattle.std.proofs.Common.{◌≡◌, ℕ, List, [], ◌∷◌, ◌++◌, codes, decimal, refl, ap, ◌∙◌, arith, Option, Ok, Err}
+use Rattle.std.proofs.lemmas.Fmt.{decimal_digit}
 use Rattle.json.specs.Print.{escape_byte}
 use Rattle.serde_json.proofs.OnLiterals.{serde_json_on_literals}
 use Rattle.office_types.specs.declared.command.Ask.{Ask}
@@ -8,20 +9,27 @@ use Rattle.desk_core.specs.declared.fault.DeskFault.TheVariants.{StoreFault, Jou
 use Rattle.http_bodies.specs.Flaws.{bad_size}
 use Rattle.http_asks.specs.Meaning.{not_a_month, bad_key, flawed, not_built}
 use Rattle.http_front.specs.Exchanges.{answered, refused, calls_of, moments_of}
-use Rattle.http_front.specs.Texts.{class_text, field_text, damaged_text, refused_status, fault_status, bad_text, not_built_text}
+use Rattle.http_front.specs.Texts.{named_text, field_text, rule_text, damaged_text, refused_status, fault_status, bad_text, not_built_text}
 use Rattle.http_front.proofs.PrintLemmas.{two_digits, three_digits}
 
-field_told : field_text (codes "size") ≡ codes "{\"error\":\"BadBody\",\"field\":\"size\",\"number\":123}"
+field_told : field_text (codes "BadBody") 123 (codes "size") ≡ codes "{\"error\":\"BadBody\",\"field\":\"size\",\"number\":123}"
 unfolding serde_json_on_literals field_text escape_byte
 field_told =
     ap (λ (digits : List ℕ). codes "{\"error\":\"BadBody\",\"field\":\"size\",\"number\":" ++ (digits ++ codes "}"))
     (three_digits 1 2 3 (omega arith) (omega arith) (omega arith) (omega arith) 123 (omega arith))
 
-quote_escaped : class_text (codes "A\"B") ≡ codes "{\"error\":\"UnsupportedClass\",\"name\":\"A\\\"B\",\"number\":43}"
-unfolding serde_json_on_literals class_text escape_byte
+quote_escaped : named_text (codes "UnsupportedClass") 43 (codes "A\"B") ≡ codes "{\"error\":\"UnsupportedClass\",\"name\":\"A\\\"B\",\"number\":43}"
+unfolding serde_json_on_literals named_text escape_byte
 quote_escaped =
     ap (λ (digits : List ℕ). codes "{\"error\":\"UnsupportedClass\",\"name\":\"A\\\"B\",\"number\":" ++ (digits ++ codes "}"))
     (two_digits 4 3 (omega arith) (omega arith) (omega arith) 43 (omega arith))
+
+rule_told : rule_text (codes "MarkerRule") 32 1 ≡ codes "{\"error\":\"MarkerRule\",\"number\":32,\"rule\":1}"
+unfolding serde_json_on_literals rule_text escape_byte
+rule_told =
+    ap (λ (digits : List ℕ). codes "{\"error\":\"MarkerRule\",\"number\":" ++ (digits ++ (codes ",\"rule\":" ++ (decimal 1 ++ codes "}"))))
+    (two_digits 3 2 (omega arith) (omega arith) (omega arith) 32 (omega arith))
+    ∙ ap (λ (digits : List ℕ). codes "{\"error\":\"MarkerRule\",\"number\":32,\"rule\":" ++ (digits ++ codes "}")) (decimal_digit 1 (omega arith))
 
 damaged_told : damaged_text 30 ≡ codes "{\"error\":\"Damaged\",\"number\":112,\"offset\":30}"
 unfolding serde_json_on_literals damaged_text

@@ -13,7 +13,7 @@ use Rattle.meter_journal.specs.declared.fault.OpenFault.{OpenFault}
 use Rattle.meter_journal.specs.declared.fault.OpenFault.TheVariants as opening
 use Rattle.desk_core.specs.declared.fault.DeskFault.{DeskFault}
 use Rattle.desk_core.specs.declared.fault.DeskFault.TheVariants as faults
-use Rattle.http_front.specs.Texts.{error_reply, no_memory_text, class_text, field_text, damaged_text, open_status, fault_status}
+use Rattle.http_front.specs.Texts.{error_reply, no_memory_text, named_text, field_text, rule_text, damaged_text, open_status, fault_status}
 
 -- ---- numbers
 
@@ -77,13 +77,20 @@ no_memory_is = reply_is 500 115 (codes "500") (codes "Internal Server Error") (c
 
 -- ---- bodies that tell more
 
-pub class_is : (name : List ℕ) → codes "{\"error\":\"UnsupportedClass\",\"name\":" ++ (quoted name ++ (codes ",\"number\":" ++ (decimal 43 ++ codes "}"))) ≡ class_text name
-unfolding serde_json_on_literals class_text
-class_is name = refl
+pub named_is : (error : List ℕ) (number : ℕ) (name : List ℕ)
+    → codes "{\"error\":" ++ (quoted error ++ (codes ",\"name\":" ++ (quoted name ++ (codes ",\"number\":" ++ (decimal number ++ codes "}"))))) ≡ named_text error number name
+unfolding serde_json_on_literals named_text
+named_is error number name = refl
 
-pub field_is : (field : List ℕ) → codes "{\"error\":\"BadBody\",\"field\":" ++ (quoted field ++ (codes ",\"number\":" ++ (decimal 123 ++ codes "}"))) ≡ field_text field
+pub field_is : (error : List ℕ) (number : ℕ) (field : List ℕ)
+    → codes "{\"error\":" ++ (quoted error ++ (codes ",\"field\":" ++ (quoted field ++ (codes ",\"number\":" ++ (decimal number ++ codes "}"))))) ≡ field_text error number field
 unfolding serde_json_on_literals field_text
-field_is field = refl
+field_is error number field = refl
+
+pub rule_is : (error : List ℕ) (number rule : ℕ)
+    → codes "{\"error\":" ++ (quoted error ++ (codes ",\"number\":" ++ (decimal number ++ (codes ",\"rule\":" ++ (decimal rule ++ codes "}"))))) ≡ rule_text error number rule
+unfolding serde_json_on_literals rule_text
+rule_is error number rule = refl
 
 pub damaged_is : (offset : ℕ) → codes "{\"error\":\"Damaged\",\"number\":" ++ (decimal 112 ++ (codes ",\"offset\":" ++ (decimal offset ++ codes "}"))) ≡ damaged_text offset
 unfolding serde_json_on_literals damaged_text
@@ -120,20 +127,6 @@ fault_low (faults.StoreFault told count) = (omega arith, omega arith)
 fault_low faults.JournalFull = (omega arith, omega arith)
 fault_low (faults.Broken fault) = open_low fault
 fault_low faults.NoMemory = (omega arith, omega arith)
-
--- a reply that is printed into a room of its own length, where its body was counted in another one
-pub whole_reply : (first second counts more old new : List ℕ) (status size whole end : ℕ) (body : List ℕ) → Puts first 0 counts size body
-    → Puts second 0 more whole (head_text status size ++ body) → Puts old 0 new end (head_text status size ++ body) → length new ≡ whole → whole < 2 ^ 63 → new ≡ reply_with status body
-unfolding reply_with
-whole_reply first second counts more old new status size whole end body counted long puts fits short =
-    let text = head_text status size ++ body in
-    let some = (counted [] (record { counts = refl; written = λ _. refl })).counts in
-    let all = (long [] (record { counts = refl; written = λ _. refl })).counts in
-    let is_whole : length text ≡ length new = omega (arith, all, fits, short) in
-    let is_size : size ≡ length body = omega (arith, some, is_whole, fits, short, length-append (head_text status size) body) in
-    sym (take_all (length new) new (omega arith)) ∙ ap (λ (n : ℕ). take n new) (sym is_whole)
-    ∙ (puts [] (record { counts = refl; written = λ _. refl })).written (omega (arith, is_whole))
-    ∙ ap (λ (n : ℕ). head_text status n ++ body) is_size
 
 -- ---- the room
 

@@ -14,7 +14,7 @@ use Rattle.http_wire.specs.Held.{Held, head_room, take_limit}
 use Rattle.http_wire.specs.Messages.{IsUnsettled}
 use Rattle.http_wire.proofs.Unique.{stands_more}
 use Rattle.http_asks.specs.Counts.{Given, AreEnough}
-use Rattle.http_asks.specs.Meaning.{Refused, not_a_month, bad_bucket_name, bad_key, flawed, not_built, asks, refuses}
+use Rattle.http_asks.specs.Meaning.{Refused, not_built, asks, refuses}
 use Rattle.http_asks.specs.Streams.{IsItem, StandsItem, StandsUnbuilt}
 use Rattle.http_asks.specs.Faults.{refused_of}
 use Rattle.http_asks.specs.Tells.{TellsRefused, IfServed, OnItem}
@@ -27,8 +27,8 @@ use Rattle.http_front.specs.declared.answering.SessionEnd.TheVariants as ends
 use Rattle.http_front.specs.Counts.{Gave, total_of, IsUnder, IsSpent, IsUnspent, Spends, reading, IsHeldBack}
 use Rattle.http_front.specs.Exchanges.{Exchange, answered, refused, meant_of, calls_of, exchange_moment, moments_of, Goes, Hears}
 use Rattle.desk_core.specs.Turns.{Moves}
-use Rattle.http_front.specs.Session.{IsCut, IsWritten, NoneLacks, LastLacks, LacksBy, Session}
-use Rattle.http_front.specs.Talk.{IsRefusedBy, Answers, Talked, Closed, Went}
+use Rattle.http_front.specs.Session.{IsCut, IsLong, IsUnsaid, IsWritten, NoneLacks, LastLacks, LacksBy, Session}
+use Rattle.http_front.specs.Talk.{IsPart, IsRefusedBy, Answers, Talked, Closed, Went}
 use Rattle.http_front.specs.Texts.{exchange_text, text_of, bad_text, texts, not_built_text, no_memory_text}
 use Rattle.http_front.proofs.SaidLemmas.{appends_none, appends_then}
 
@@ -88,6 +88,14 @@ cut_then first second whole w cut = record {
   n = cut.n;
   are = ap (λ (t : List Exchange). first ++ t) cut.are ∙ sym (append_assoc first whole (cut.last ∷ []));
   is = behind first whole (take cut.n (exchange_text cut.last)) w cut.is;
+}
+
+unsaid_then : (first second whole : List Exchange) (w instead : List ℕ) → IsUnsaid second whole w instead → IsUnsaid (first ++ second) (first ++ whole) (texts first ++ w) instead
+unsaid_then first second whole w instead x = record {
+  last = x.last;
+  are = ap (λ (t : List Exchange). first ++ t) x.are ∙ sym (append_assoc first whole (answered x.last ∷ []));
+  long = x.long;
+  is = behind first whole instead w x.is;
 }
 
 moments-append : (first second : List Exchange) → moments_of (first ++ second) ≡ moments_of first ++ moments_of second
@@ -155,14 +163,17 @@ written_then total later totals ends.Ended first second whole rest closed w enou
 written_then total later totals ends.ReadFault first second whole rest closed w enough x = (all_then first second whole x.0, x.1, all_behind first second w x.2)
 written_then total later totals ends.Spent first second whole rest closed w enough x = (all_then first second whole x.0, x.1, totals.spent rest x.2, all_behind first second w x.3)
 written_then total later totals ends.WriteFault first second whole rest closed w enough (inl x) = inl (cut_then first second whole w x)
-written_then total later totals ends.WriteFault first second whole rest closed w enough (inr (all, going, inl x)) =
-    inr (all_then first second whole all, going, inl (x.0, x.1, totals.unspent rest x.2, behind first second (take x.0 not_built_text) w x.3))
-written_then total later totals ends.WriteFault first second whole rest closed w enough (inr (all, going, inr x)) =
-    inr (all_then first second whole all, going, inr (x.0, behind first second (take x.0 no_memory_text) w x.1))
-written_then total later totals ends.NoMemory first second whole rest closed w enough (all, inl x) =
-    (all_then first second whole all, inl (lacks_then first second enough x.0, all_behind first second w x.1))
-written_then total later totals ends.NoMemory first second whole rest closed w enough (all, inr x) =
-    (all_then first second whole all, inr (x.0, enough_then first second enough x.1, behind first second no_memory_text w x.2))
+written_then total later totals ends.WriteFault first second whole rest closed w enough (inr (inl x)) =
+    inr (inl (x.0, unsaid_then first second whole w (take x.0 no_memory_text) x.1))
+written_then total later totals ends.WriteFault first second whole rest closed w enough (inr (inr (all, going, inl x))) =
+    inr (inr (all_then first second whole all, going, inl (x.0, x.1, totals.unspent rest x.2, behind first second (take x.0 not_built_text) w x.3)))
+written_then total later totals ends.WriteFault first second whole rest closed w enough (inr (inr (all, going, inr x))) =
+    inr (inr (all_then first second whole all, going, inr (x.0, behind first second (take x.0 no_memory_text) w x.1)))
+written_then total later totals ends.NoMemory first second whole rest closed w enough (inl x) = inl (unsaid_then first second whole w no_memory_text x)
+written_then total later totals ends.NoMemory first second whole rest closed w enough (inr (all, inl x)) =
+    inr (all_then first second whole all, inl (lacks_then first second enough x.0, all_behind first second w x.1))
+written_then total later totals ends.NoMemory first second whole rest closed w enough (inr (all, inr x)) =
+    inr (all_then first second whole all, inr (x.0, enough_then first second enough x.1, behind first second no_memory_text w x.2))
 
 -- ---- counts
 
@@ -405,17 +416,39 @@ module _ {T : Type 0} (moves : T → Ask → Result Answer DeskFault → T → T
       enough = one_enough ask told.told told.said.2;
     }
 
+    -- its text was cut, or that of want of memory in its place
+    asked_cut : (old new : T) (sa sb ma mb a b : Option (List ℕ)) (total : Option ℕ) (ask : Ask) (last : Bool) (told : Result Answer DeskFault) → moves old ask told new
+        → StandsItem a (asks ask) last b → IsHeldBack b remains → mb ≡ ma → IsPart sa sb (text_of told) ⊎ (IsLong told × IsPart sa sb no_memory_text)
+        → Closed moves old new sa sb ma mb (reading a remains) total ends.WriteFault
+    asked_cut old new sa sb ma mb a b total ask last told moved heard held same (inl x) =
+        closed_one old new sa sb ma mb a b total ask last told ends.WriteFault [] (take x.0 (text_of told)) moved heard held x.1
+        (subst (λ (m : Option (List ℕ)). Appends ma m []) (sym same) (appends_none ma))
+        (inl (record { last = answered (record { ask = ask; said = told }); n = x.0; are = refl; is = refl })) (one_either ask told)
+    asked_cut old new sa sb ma mb a b total ask last told moved heard held same (inr (long, x)) =
+        closed_one old new sa sb ma mb a b total ask last told ends.WriteFault [] (take x.0 no_memory_text) moved heard held x.1
+        (subst (λ (m : Option (List ℕ)). Appends ma m []) (sym same) (appends_none ma))
+        (inr (inl (x.0, record { last = record { ask = ask; said = told }; are = refl; long = long; is = refl }))) (one_either ask told)
+
+    -- memory ran out, in the call or for its text
+    asked_lack : (old new : T) (sa sb ma mb a b : Option (List ℕ)) (total : Option ℕ) (ask : Ask) (last : Bool) (told : Result Answer DeskFault) → moves old ask told new
+        → StandsItem a (asks ask) last b → IsHeldBack b remains → mb ≡ ma → ((told ≡ Err faults.NoMemory) × Appends sa sb (text_of told)) ⊎ (IsLong told × Appends sa sb no_memory_text)
+        → Closed moves old new sa sb ma mb (reading a remains) total ends.NoMemory
+    asked_lack old new sa sb ma mb a b total ask last told moved heard held same (inl (is, x)) =
+        closed_one old new sa sb ma mb a b total ask last told ends.NoMemory (one_call ask told) (texts (one_call ask told)) moved heard held
+        (one_text sa sb (answered (record { ask = ask; said = told })) x) (lack_moment ma mb ask told same is)
+        (inr (refl, inl (one_lacks ask told is, refl))) (inr (one_lacks ask told is))
+    asked_lack old new sa sb ma mb a b total ask last told moved heard held same (inr (long, x)) =
+        closed_one old new sa sb ma mb a b total ask last told ends.NoMemory [] no_memory_text moved heard held x
+        (subst (λ (m : Option (List ℕ)). Appends ma m []) (sym same) (appends_none ma))
+        (inl (record { last = record { ask = ask; said = told }; are = refl; long = long; is = refl })) (one_either ask told)
+
     -- it was answered, or not in full, and this ended the session
     pub asked_end : (old new : T) (sa sb ma mb a b : Option (List ℕ)) (total : Option ℕ) (ask : Ask) (last : Bool) (end : SessionEnd) → Answers moves old new sa sb ma mb ask (Err end)
         → StandsItem a (asks ask) last b → IsHeldBack b remains → Closed moves old new sa sb ma mb (reading a remains) total end
     asked_end old new sa sb ma mb a b total ask last ends.WriteFault done heard held =
-        closed_one old new sa sb ma mb a b total ask last done.told ends.WriteFault [] (take done.said.0.0 (text_of done.told)) done.moved heard held done.said.0.1
-        (subst (λ (m : Option (List ℕ)). Appends ma m []) (sym done.said.1) (appends_none ma))
-        (inl (record { last = answered (record { ask = ask; said = done.told }); n = done.said.0.0; are = refl; is = refl })) (one_either ask done.told)
+        asked_cut old new sa sb ma mb a b total ask last done.told done.moved heard held done.said.0 done.said.1
     asked_end old new sa sb ma mb a b total ask last ends.NoMemory done heard held =
-        closed_one old new sa sb ma mb a b total ask last done.told ends.NoMemory (one_call ask done.told) (texts (one_call ask done.told)) done.moved heard held
-        (one_text sa sb (answered (record { ask = ask; said = done.told })) done.said.0) (lack_moment ma mb ask done.told done.said.1 done.said.2)
-        (refl, inl (one_lacks ask done.told done.said.2, refl)) (inr (one_lacks ask done.told done.said.2))
+        asked_lack old new sa sb ma mb a b total ask last done.told done.moved heard held done.said.0 done.said.1
     asked_end old new sa sb ma mb a b total ask last ends.Ended done heard held = absurd done.said
     asked_end old new sa sb ma mb a b total ask last ends.ReadFault done heard held = absurd done.said
     asked_end old new sa sb ma mb a b total ask last ends.Spent done heard held = absurd done.said
@@ -486,9 +519,9 @@ module _ {T : Type 0} (moves : T → Ask → Result Answer DeskFault → T → T
         closed_refusal old sa sb m a b total broken last ends.WriteFault [] (take x.0 (bad_text broken)) heard held x.1 (appends_none m)
         (inl (record { last = refused broken; n = x.0; are = refl; is = refl })) (inl (All-nil IsNoLack))
     refused_end old sa sb m a b total broken last ends.WriteFault (inr x) heard held =
-        closed_here old sa sb m a total ends.WriteFault (take x.0 no_memory_text) x.1 (inr (refl, refl, inr (x.0, refl))) (inl (All-nil IsNoLack))
+        closed_here old sa sb m a total ends.WriteFault (take x.0 no_memory_text) x.1 (inr (inr (refl, refl, inr (x.0, refl)))) (inl (All-nil IsNoLack))
     refused_end old sa sb m a b total broken last ends.NoMemory said heard held =
-        closed_here old sa sb m a total ends.NoMemory no_memory_text said (refl, inr (refl, All-nil IsNoLack, refl)) (inl (All-nil IsNoLack))
+        closed_here old sa sb m a total ends.NoMemory no_memory_text said (inr (refl, inr (refl, All-nil IsNoLack, refl))) (inl (All-nil IsNoLack))
     refused_end old sa sb m a b total broken last ends.Ended said heard held = absurd said
     refused_end old sa sb m a b total broken last ends.ReadFault said heard held = absurd said
     refused_end old sa sb m a b total broken last ends.Spent said heard held = absurd said
@@ -505,11 +538,11 @@ module _ {T : Type 0} (moves : T → Ask → Result Answer DeskFault → T → T
 
     unbuilt_end : (old : T) (sa sb m a : Option (List ℕ)) (total : Option ℕ) (end : SessionEnd) → IsRefusedBy sa sb not_built (Err end) → StandsUnbuilt a → IsUnspent total a → Closed moves old old sa sb m m (reading a remains) total end
     unbuilt_end old sa sb m a total ends.WriteFault (inl x) stands within =
-        closed_here old sa sb m a total ends.WriteFault (take x.0 not_built_text) x.1 (inr (refl, refl, inl (x.0, stands, within, refl))) (inl (All-nil IsNoLack))
+        closed_here old sa sb m a total ends.WriteFault (take x.0 not_built_text) x.1 (inr (inr (refl, refl, inl (x.0, stands, within, refl)))) (inl (All-nil IsNoLack))
     unbuilt_end old sa sb m a total ends.WriteFault (inr x) stands within =
-        closed_here old sa sb m a total ends.WriteFault (take x.0 no_memory_text) x.1 (inr (refl, refl, inr (x.0, refl))) (inl (All-nil IsNoLack))
+        closed_here old sa sb m a total ends.WriteFault (take x.0 no_memory_text) x.1 (inr (inr (refl, refl, inr (x.0, refl)))) (inl (All-nil IsNoLack))
     unbuilt_end old sa sb m a total ends.NoMemory said stands within =
-        closed_here old sa sb m a total ends.NoMemory no_memory_text said (refl, inr (refl, All-nil IsNoLack, refl)) (inl (All-nil IsNoLack))
+        closed_here old sa sb m a total ends.NoMemory no_memory_text said (inr (refl, inr (refl, All-nil IsNoLack, refl))) (inl (All-nil IsNoLack))
     unbuilt_end old sa sb m a total ends.Ended said stands within = absurd said
     unbuilt_end old sa sb m a total ends.ReadFault said stands within = absurd said
     unbuilt_end old sa sb m a total ends.Spent said stands within = absurd said
@@ -518,18 +551,12 @@ module _ {T : Type 0} (moves : T → Ask → Result Answer DeskFault → T → T
     some_bad_on : (old : T) (sa sb m a b : Option (List ℕ)) (total : Option ℕ) (broken : Refused) (last : Bool) (done result : Result Unit SessionEnd) → IsOk done → IsRefusedBy sa sb broken done
         → TellsRefused a broken last b → IsUnspent total a → IfServed broken (IsHeldBack b remains) → (last ≡ false → IsOk result) → (last ≡ true → result ≡ Err ends.Ended) → Went moves old old sa sb m m (reading a remains) b total result
     some_bad_on old sa sb m a b total not_built last done result ok said tells within held goes stops = unbuilt_on old sa sb m a b total last done result ok said tells within stops
-    some_bad_on old sa sb m a b total not_a_month last done result ok said tells within held goes stops = refused_on old sa sb m a b total not_a_month last done result ok said tells held goes stops
-    some_bad_on old sa sb m a b total bad_bucket_name last done result ok said tells within held goes stops = refused_on old sa sb m a b total bad_bucket_name last done result ok said tells held goes stops
-    some_bad_on old sa sb m a b total bad_key last done result ok said tells within held goes stops = refused_on old sa sb m a b total bad_key last done result ok said tells held goes stops
-    some_bad_on old sa sb m a b total (flawed flaw) last done result ok said tells within held goes stops = refused_on old sa sb m a b total (flawed flaw) last done result ok said tells held goes stops
+    some_bad_on old sa sb m a b total broken last done result ok said tells within held goes stops = refused_on old sa sb m a b total broken last done result ok said tells held goes stops
 
     some_bad_end : (old : T) (sa sb m a b : Option (List ℕ)) (total : Option ℕ) (broken : Refused) (last : Bool) (end : SessionEnd) → IsRefusedBy sa sb broken (Err end)
         → TellsRefused a broken last b → IsUnspent total a → IfServed broken (IsHeldBack b remains) → Closed moves old old sa sb m m (reading a remains) total end
     some_bad_end old sa sb m a b total not_built last end said tells within held = unbuilt_end old sa sb m a total end said tells.0 within
-    some_bad_end old sa sb m a b total not_a_month last end said tells within held = refused_end old sa sb m a b total not_a_month last end said tells held
-    some_bad_end old sa sb m a b total bad_bucket_name last end said tells within held = refused_end old sa sb m a b total bad_bucket_name last end said tells held
-    some_bad_end old sa sb m a b total bad_key last end said tells within held = refused_end old sa sb m a b total bad_key last end said tells held
-    some_bad_end old sa sb m a b total (flawed flaw) last end said tells within held = refused_end old sa sb m a b total (flawed flaw) last end said tells held
+    some_bad_end old sa sb m a b total broken last end said tells within held = refused_end old sa sb m a b total broken last end said tells held
 
     pub bad_on : (old : T) (sa sb ma mb a b : Option (List ℕ)) (total : Option ℕ) (broken : Refused) (last : Bool) (done result : Result Unit SessionEnd) → mb ≡ ma → IsOk done → IsRefusedBy sa sb broken done
         → TellsRefused a broken last b → IsUnspent total a → IfServed broken (IsHeldBack b remains) → (last ≡ false → IsOk result) → (last ≡ true → result ≡ Err ends.Ended) → Went moves old old sa sb ma mb (reading a remains) b total result
@@ -545,10 +572,10 @@ module _ {T : Type 0} (moves : T → Ask → Result Answer DeskFault → T → T
         → ((end ≡ ends.NoMemory) × Appends sa sb no_memory_text) ⊎ ((end ≡ ends.WriteFault) × ((n : ℕ) × Appends sa sb (take n no_memory_text))) → Closed moves old old sa sb m m (reading a remains) total end
     last_words old sa sb m a total end (inl x) =
         subst (λ (e : SessionEnd). Closed moves old old sa sb m m (reading a remains) total e) (sym x.0)
-        (closed_here old sa sb m a total ends.NoMemory no_memory_text x.1 (refl, inr (refl, All-nil IsNoLack, refl)) (inl (All-nil IsNoLack)))
+        (closed_here old sa sb m a total ends.NoMemory no_memory_text x.1 (inr (refl, inr (refl, All-nil IsNoLack, refl))) (inl (All-nil IsNoLack)))
     last_words old sa sb m a total end (inr x) =
         subst (λ (e : SessionEnd). Closed moves old old sa sb m m (reading a remains) total e) (sym x.0)
-        (closed_here old sa sb m a total ends.WriteFault (take x.1.0 no_memory_text) x.1.1 (inr (refl, refl, inr (x.1.0, refl))) (inl (All-nil IsNoLack)))
+        (closed_here old sa sb m a total ends.WriteFault (take x.1.0 no_memory_text) x.1.1 (inr (inr (refl, refl, inr (x.1.0, refl)))) (inl (All-nil IsNoLack)))
 
     silent : (old : T) (sa sb m a : Option (List ℕ)) (total : Option ℕ) (end kind : SessionEnd) → (end ≡ kind) × (sb ≡ sa) → IsWritten total kind [] [] a false [] → LacksBy kind []
         → Closed moves old old sa sb m m (reading a remains) total end
@@ -591,10 +618,7 @@ module _ {T : Type 0} (moves : T → Ask → Result Answer DeskFault → T → T
 
 held_if : (broken : Refused) (P Q : Type 0) → (P → Q) → IfServed broken P → IfServed broken Q
 held_if not_built P Q f p = tt
-held_if not_a_month P Q f p = f p
-held_if bad_bucket_name P Q f p = f p
-held_if bad_key P Q f p = f p
-held_if (flawed flaw) P Q f p = f p
+held_if broken P Q f p = f p
 
 -- what is held behind an item
 pub held_back : (heard : Heard) (now : Held) (left : Option (List ℕ)) → OnItem {E = Stop} (Ok heard) (length now.bytes ≤ head_room)
@@ -608,7 +632,4 @@ pub item_refused : (a b : Option (List ℕ)) (broken : Refused) (last : Bool) (r
     → (last ≡ true → result ≡ Err ends.Ended) → OnOk result P
 item_refused a b broken last (Err e) P tells item stops = tt
 item_refused a b not_built last (Ok x) P tells item stops = absurd (let e = stops tells.1 in cc)
-item_refused a b not_a_month last (Ok x) P tells item stops = item
-item_refused a b bad_bucket_name last (Ok x) P tells item stops = item
-item_refused a b bad_key last (Ok x) P tells item stops = item
-item_refused a b (flawed flaw) last (Ok x) P tells item stops = item
+item_refused a b broken last (Ok x) P tells item stops = item

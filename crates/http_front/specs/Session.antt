@@ -1,11 +1,13 @@
 -- What a session does: its exchanges are the messages of the stream in order, and what was said are their texts.
-use Rattle.std.specs.Prelude.{◌≡◌, ◌⊎◌, ℕ, Bool, true, false, List, [], ◌∷◌, ◌++◌, take, length, All, Option, Result, Err, option_map}
+use Rattle.std.specs.Prelude.{◌≡◌, ◌⊎◌, ℕ, Bool, true, false, List, [], ◌∷◌, ◌++◌, take, length, All, option_map}
+use Rattle.std.specs.Prelude.{Option, Result, Ok, Err}
 use Rattle.std.specs.Io.KnownBytes.{Appends, IsAtEnd}
 use Rattle.office_types.specs.declared.command.Ask.{Ask}
 use Rattle.desk_core.specs.Answers.{Answer, Call}
 use Rattle.desk_core.specs.Turns.{Moves}
 use Rattle.desk_core.specs.declared.fault.DeskFault.{DeskFault}
 use Rattle.desk_core.specs.declared.fault.DeskFault.TheVariants.{NoMemory}
+use Rattle.http_text.specs.Shorts.{IsShort}
 use Rattle.http_asks.specs.Streams.{StandsUnbuilt}
 use Rattle.http_front.specs.declared.answering.SessionEnd.{SessionEnd}
 use Rattle.http_front.specs.declared.answering.SessionEnd.TheVariants as ends
@@ -44,8 +46,21 @@ pub record IsCut (exchanges whole : List Exchange) (written : List ℕ) : Type 0
   pub are : exchanges ≡ whole ++ last ∷ []
   pub is : written ≡ texts whole ++ take n (exchange_text last)
 
+-- an answer whose text takes memory
+abbrev pub IsLong : Result Answer DeskFault → Type 0
+IsLong (Ok answer) = IsShort answer.reply → ⊥
+IsLong (Err fault) = ⊥
+
+-- these were said whole, and this in place of the last exchange, an answer for whose text there was no memory
+pub record IsUnsaid (exchanges whole : List Exchange) (written instead : List ℕ) : Type 0 where
+  pub last : Call
+  pub are : exchanges ≡ whole ++ answered last ∷ []
+  pub long : IsLong last.said
+  pub is : written ≡ texts whole ++ instead
+
 -- What was said at the end of a session, where rest is left of the stream and the source has so many bytes in all: all
--- exchanges are said whole, but a last one that is cut. Where it is closed, nothing is heard or said behind its last exchange.
+-- exchanges are said whole, but a last one that is cut or lacks memory for its text. Where it is closed, nothing is
+-- heard or said behind its last exchange.
 abbrev pub IsWritten : Option ℕ → SessionEnd → List Exchange → List Exchange → Option (List ℕ) → Bool → List ℕ → Type 0
 IsWritten total ends.Ended exchanges whole rest closed written =
     (whole ≡ exchanges) × (
@@ -57,15 +72,17 @@ IsWritten total ends.ReadFault exchanges whole rest closed written = (whole ≡ 
 IsWritten total ends.Spent exchanges whole rest closed written = (whole ≡ exchanges) × (closed ≡ false) × IsSpent total rest × (written ≡ texts exchanges)
 IsWritten total ends.WriteFault exchanges whole rest closed written =
     IsCut exchanges whole written
+    ⊎ (((n : ℕ) × IsUnsaid exchanges whole written (take n no_memory_text))
     ⊎ ((whole ≡ exchanges) × (closed ≡ false) × (
     ((n : ℕ) × StandsUnbuilt rest × IsUnspent total rest × (written ≡ texts exchanges ++ take n not_built_text))
     ⊎ ((n : ℕ) × (written ≡ texts exchanges ++ take n no_memory_text))
-    ))
+    )))
 IsWritten total ends.NoMemory exchanges whole rest closed written =
-    (whole ≡ exchanges) × (
+    IsUnsaid exchanges whole written no_memory_text
+    ⊎ ((whole ≡ exchanges) × (
     (LastLacks exchanges × (written ≡ texts exchanges))
     ⊎ ((closed ≡ false) × NoneLacks (calls_of exchanges) × (written ≡ texts exchanges ++ no_memory_text))
-    )
+    ))
 
 -- ---- a session
 

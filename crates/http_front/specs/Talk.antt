@@ -11,20 +11,23 @@ use Rattle.http_front.specs.declared.answering.SessionEnd.{SessionEnd}
 use Rattle.http_front.specs.declared.answering.SessionEnd.TheVariants as ends
 use Rattle.http_front.specs.Counts.{Reading, reading, IsHeldBack}
 use Rattle.http_front.specs.Exchanges.{Exchange, calls_of, moment_of, moments_of, Hears}
-use Rattle.http_front.specs.Session.{IsWritten, NoneLacks, LacksBy}
+use Rattle.http_front.specs.Session.{IsLong, IsWritten, NoneLacks, LacksBy}
 use Rattle.http_front.specs.Texts.{text_of, bad_text, no_memory_text, texts}
 
 -- a front of the text was said
 abbrev pub IsPart : Option (List ℕ) → Option (List ℕ) → List ℕ → Type 0
 IsPart said_old said_new text = (n : ℕ) × Appends said_old said_new (take n text)
 
--- what was said of an answer, with its moment, and how the session goes on: it ends where memory ran out
+-- what was said of an answer, with its moment, and how the session goes on: it ends where memory ran out, also for the
+-- text of a long one
 abbrev pub IsSaid : Option (List ℕ) → Option (List ℕ) → Option (List ℕ) → Option (List ℕ) → Result Answer DeskFault → Result Unit SessionEnd → Type 0
 IsSaid said_old said_new moments_old moments_new told (Ok x) =
     Appends said_old said_new (text_of told) × Appends moments_old moments_new (moment_of told) × (told ≡ Err faults.NoMemory → ⊥)
-IsSaid said_old said_new moments_old moments_new told (Err ends.WriteFault) = IsPart said_old said_new (text_of told) × (moments_new ≡ moments_old)
-IsSaid said_old said_new moments_old moments_new told (Err ends.NoMemory) =
-    Appends said_old said_new (text_of told) × (moments_new ≡ moments_old) × (told ≡ Err faults.NoMemory)
+IsSaid said_old said_new moments_old moments_new told (Err ends.WriteFault) = (moments_new ≡ moments_old) × (
+    IsPart said_old said_new (text_of told) ⊎ (IsLong told × IsPart said_old said_new no_memory_text))
+IsSaid said_old said_new moments_old moments_new told (Err ends.NoMemory) = (moments_new ≡ moments_old) × (
+    ((told ≡ Err faults.NoMemory) × Appends said_old said_new (text_of told))
+    ⊎ (IsLong told × Appends said_old said_new no_memory_text))
 IsSaid said_old said_new moments_old moments_new told (Err ends.Ended) = ⊥
 IsSaid said_old said_new moments_old moments_new told (Err ends.ReadFault) = ⊥
 IsSaid said_old said_new moments_old moments_new told (Err ends.Spent) = ⊥

@@ -3,10 +3,14 @@ use Rattle.std.specs.Prelude.{ℕ, List, [], ◌∷◌, codes, Result, Ok, Err}
 use Rattle.std.specs.List.{flat_map}
 use Rattle.serde_json.specs.Data.{string}
 use Rattle.serde_json.specs.Written.{compact_text}
+use Rattle.rules_core.specs.declared.flaw.RuleFlaw.{RuleFlaw}
+use Rattle.rules_core.specs.declared.flaw.RuleFlaw.TheVariants as flaws
 use Rattle.http_bodies.specs.Flaws.{BodyFlaw, bad_body, bad_size, unsupported_class, bad_tags}
 use Rattle.http_text.specs.Replies.{whole, error_data, error_text, reply_with, answer_text}
 use Rattle.http_asks.specs.Faults.{refused_of}
-use Rattle.http_asks.specs.Meaning.{Refused, not_a_month, bad_bucket_name, bad_key, flawed, not_built}
+use Rattle.http_asks.specs.Meaning.{Refused, not_a_date, not_midnight, not_a_month, bad_bucket_name, bad_key}
+use Rattle.http_asks.specs.Meaning.{flaw_in, not_json, unknown_field, wrong_shape}
+use Rattle.http_asks.specs.Meaning.{no_such_version, no_such_upload, bad_part, flawed, not_built}
 use Rattle.meter_journal.specs.declared.fault.OpenFault.{OpenFault}
 use Rattle.meter_journal.specs.declared.fault.OpenFault.TheVariants as opening
 use Rattle.desk_core.specs.Answers.{Answer}
@@ -28,33 +32,80 @@ not_built_text = error_reply 501 (codes "NotBuilt") 119
 
 -- ---- a message that is refused
 
--- the body tells the name that is of no class, or the field of the body that is wrong
-unfoldable pub class_text : List ℕ → List ℕ
-class_text name = compact_text (error_data (codes "UnsupportedClass") 43 ((codes "name", string name) ∷ []))
+-- the body tells a name, the field that is wrong, or the place of a rule
+unfoldable pub named_text : List ℕ → ℕ → List ℕ → List ℕ
+named_text error number name = compact_text (error_data error number ((codes "name", string name) ∷ []))
 
-unfoldable pub field_text : List ℕ → List ℕ
-field_text field = compact_text (error_data (codes "BadBody") 123 ((codes "field", string field) ∷ []))
+unfoldable pub field_text : List ℕ → ℕ → List ℕ → List ℕ
+field_text error number field = compact_text (error_data error number ((codes "field", string field) ∷ []))
+
+unfoldable pub rule_text : List ℕ → ℕ → ℕ → List ℕ
+rule_text error number rule = compact_text (error_data error number ((codes "rule", whole rule) ∷ []))
+
+-- the conditions of rules, by name and by number
+abbrev pub flaw_name : RuleFlaw → List ℕ
+flaw_name flaws.TooManyRules = codes "TooManyRules"
+flaw_name flaws.LongId = codes "LongId"
+flaw_name flaws.DoubleId = codes "DoubleId"
+flaw_name flaws.NoAction = codes "NoAction"
+flaw_name flaws.BadFilter = codes "BadFilter"
+flaw_name flaws.BadSizeRange = codes "BadSizeRange"
+flaw_name flaws.BadDays = codes "BadDays"
+flaw_name flaws.BadNewer = codes "BadNewer"
+flaw_name flaws.EarlyInfrequent = codes "EarlyInfrequent"
+flaw_name flaws.ExpiresTooSoon = codes "ExpiresTooSoon"
+flaw_name flaws.MixedDates = codes "MixedDates"
+flaw_name flaws.BadOrder = codes "BadOrder"
+flaw_name flaws.MarkerRule = codes "MarkerRule"
+flaw_name flaws.AbortFilter = codes "AbortFilter"
+flaw_name flaws.BadExpiration = codes "BadExpiration"
+
+abbrev pub flaw_number : RuleFlaw → ℕ
+flaw_number flaws.TooManyRules = 20
+flaw_number flaws.LongId = 21
+flaw_number flaws.DoubleId = 22
+flaw_number flaws.NoAction = 23
+flaw_number flaws.BadFilter = 24
+flaw_number flaws.BadSizeRange = 25
+flaw_number flaws.BadDays = 26
+flaw_number flaws.BadNewer = 27
+flaw_number flaws.EarlyInfrequent = 28
+flaw_number flaws.ExpiresTooSoon = 29
+flaw_number flaws.MixedDates = 30
+flaw_number flaws.BadOrder = 31
+flaw_number flaws.MarkerRule = 32
+flaw_number flaws.AbortFilter = 33
+flaw_number flaws.BadExpiration = 34
 
 abbrev pub flaw_body : BodyFlaw → List ℕ
 flaw_body bad_tags = error_text (codes "BadTags") 12
 flaw_body bad_size = error_text (codes "BadSize") 13
-flaw_body (unsupported_class name) = class_text name
-flaw_body (bad_body field) = field_text field
+flaw_body (unsupported_class name) = named_text (codes "UnsupportedClass") 43 name
+flaw_body (bad_body field) = field_text (codes "BadBody") 123 field
 
 abbrev pub refused_body : Refused → List ℕ
+refused_body not_a_date = error_text (codes "NotADate") 2
+refused_body not_midnight = error_text (codes "NotMidnight") 3
 refused_body not_a_month = error_text (codes "NotAMonth") 4
 refused_body bad_bucket_name = error_text (codes "BadBucketName") 10
 refused_body bad_key = error_text (codes "BadKey") 11
+refused_body (flaw_in flaw rule) = rule_text (flaw_name flaw) (flaw_number flaw) rule
+refused_body not_json = error_text (codes "NotJson") 40
+refused_body (unknown_field name) = named_text (codes "UnknownField") 41 name
+refused_body (wrong_shape field) = field_text (codes "WrongShape") 42 field
+refused_body no_such_version = error_text (codes "NoSuchVersion") 51
+refused_body no_such_upload = error_text (codes "NoSuchUpload") 60
+refused_body bad_part = error_text (codes "BadPart") 61
 refused_body (flawed flaw) = flaw_body flaw
 refused_body not_built = error_text (codes "NotBuilt") 119
 
--- Bad Request, or Not Implemented (RFC 9110, "Status Codes")
+-- Not Found, Conflict, Not Implemented, or Bad Request (RFC 9110, "Status Codes")
 abbrev pub refused_status : Refused → ℕ
-refused_status not_a_month = 400
-refused_status bad_bucket_name = 400
-refused_status bad_key = 400
-refused_status (flawed flaw) = 400
+refused_status no_such_version = 404
+refused_status no_such_upload = 404
+refused_status bad_part = 409
 refused_status not_built = 501
+refused_status other = 400
 
 abbrev pub bad_text : Refused → List ℕ
 bad_text broken = reply_with (refused_status broken) (refused_body broken)

@@ -4,6 +4,7 @@ ghost use Rattle.std.specs.Io.KnownBytes.{Appends, prepend_known};
 ghost use Rattle.office_base.specs.Faults.{Rose, HasCause};
 ghost use Rattle.desk_core.specs.declared.fault.DeskFault.{DeskFault};
 ghost use Rattle.http_wire.specs.Held.{take_limit};
+ghost use Rattle.http_text.specs.Shorts.{IsShort};
 ghost use Rattle.http_asks.specs.Counts.{Given};
 ghost use Rattle.http_asks.specs.Faults.{refused_of};
 ghost use Rattle.http_asks.specs.Tells.{Tells, OnItem};
@@ -12,13 +13,14 @@ ghost use Rattle.http_front.specs.Talk.{IsSaid, IsRefusedBy, Answers, Talked, Cl
 ghost use Rattle.http_front.specs.Texts.{bad_text_of, no_memory_text};
 
 use crate::bad::Bad;
-use crate::printing::{print_fault, print_reply};
+use crate::printing::{print_fault, print_query, print_reply};
 use crate::refusing::print_bad;
 use crate::replies::Replies;
 use crate::teller::Teller;
 use crate::texts::no_memory;
 use desk_core::{Acked, DeskFault};
 use http_asks::{Heard, Reader, Stop};
+use http_text::is_short;
 use http_wire::Source;
 use office_types::Ask;
 use std::alloc::Global;
@@ -70,8 +72,10 @@ pub(crate) fn say_no_memory<W: Replies>(out: &mut W) -> SessionEnd
     }
 }
 
-fn say_reply<W: Replies>(out: &mut W, room: &mut [u8], acked: &Acked) -> Result<(), SessionEnd>
+// Says an answer that is printed into the room.
+fn say_short<W: Replies>(out: &mut W, room: &mut [u8], acked: &Acked) -> Result<(), SessionEnd>
     requires room { 16384 ≤ length room.old }
+    requires short { IsShort acked.now.reply }
     ensures said { IsSaid (W.said out.old) (W.said out.new) (W.moments out.old) (W.moments out.new) (Ok acked.now) result }
     ensures room { 16384 ≤ length room.new }
     ensures texts { W.texts out.new ≡ W.texts out.old }
@@ -84,6 +88,46 @@ fn say_reply<W: Replies>(out: &mut W, room: &mut [u8], acked: &Acked) -> Result<
             Err(_) => Err(SessionEnd::WriteFault),
         },
         Err(_) => Err(SessionEnd::WriteFault),
+    }
+}
+
+// Says an answer that is printed into memory of its own. Where there is none, this is said in its place.
+#[tactic(auto, using(crate::proofs::SaidLemmas::said_instead))]
+fn say_long<W: Replies>(alloc: Global, out: &mut W, acked: &Acked) -> Result<(), SessionEnd>
+    requires long { ¬ (IsShort acked.now.reply) }
+    ensures said { IsSaid (W.said out.old) (W.said out.new) (W.moments out.old) (W.moments out.new) (Ok acked.now) result }
+    ensures texts { W.texts out.new ≡ W.texts out.old }
+    ensures noted { W.noted out.new ≡ W.noted out.old }
+    ensures later { W.faults out.old ≤ W.faults out.new }
+    ensures fault { IsErrOf result SessionEnd.WriteFault → Rose (W.faults out.old) (W.faults out.new) }
+{
+    match print_query(alloc, acked) {
+        Ok(text) => match out.say(acked, &text) {
+            Ok(()) => Ok(()),
+            Err(_) => Err(SessionEnd::WriteFault),
+        },
+        Err(_) => Err(say_no_memory(out)),
+    }
+}
+
+fn say_reply<W: Replies>(
+    alloc: Global,
+    out: &mut W,
+    room: &mut [u8],
+    acked: &Acked,
+) -> Result<(), SessionEnd>
+    requires room { 16384 ≤ length room.old }
+    ensures said { IsSaid (W.said out.old) (W.said out.new) (W.moments out.old) (W.moments out.new) (Ok acked.now) result }
+    ensures room { 16384 ≤ length room.new }
+    ensures texts { W.texts out.new ≡ W.texts out.old }
+    ensures noted { W.noted out.new ≡ W.noted out.old }
+    ensures later { W.faults out.old ≤ W.faults out.new }
+    ensures fault { IsErrOf result SessionEnd.WriteFault → Rose (W.faults out.old) (W.faults out.new) }
+{
+    if is_short(acked.reply()) {
+        say_short(out, room, acked)
+    } else {
+        say_long(alloc, out, acked)
     }
 }
 
@@ -117,6 +161,7 @@ fn go_on_after(fault: DeskFault) -> Result<(), SessionEnd>
 }
 
 fn answer<W: Replies, T: Teller>(
+    alloc: Global,
     ask: &Ask,
     out: &mut W,
     room: &mut [u8],
@@ -131,7 +176,7 @@ fn answer<W: Replies, T: Teller>(
     ensures fault { IsErrOf result SessionEnd.WriteFault → Rose (W.faults out.old) (W.faults out.new) }
 {
     match teller.ask(ask) {
-        Ok(acked) => say_reply(out, room, &acked),
+        Ok(acked) => say_reply(alloc, out, room, &acked),
         Err(fault) => say_fault(out, room, fault),
     }
 }
@@ -204,7 +249,7 @@ fn answer_heard<W: Replies, T: Teller>(
 {
     match heard {
         Heard::Asked { ask, last } => {
-            answer(&ask, out, room, teller)?;
+            answer(alloc, &ask, out, room, teller)?;
             go_on_unless(last)
         }
         Heard::Bad { bad, last } => {

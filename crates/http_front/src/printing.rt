@@ -2,11 +2,12 @@
 ghost use Rattle.std.specs.Prelude.{◌≡◌, ◌<◌, ◌≤◌, ◌^◌, length, take, IfOk, OnOk, OnErr, IsOk};
 ghost use Rattle.http_text.specs.Room.{Puts};
 ghost use Rattle.http_text.specs.Replies.{answer_text};
+ghost use Rattle.http_text.specs.Shorts.{IsShort};
 ghost use Rattle.http_front.specs.Texts.{damaged_text, fault_body, fault_status, fault_text, open_body, open_status};
 
 use desk_core::{Acked, DeskFault};
 use http::StatusCode;
-use http_text::{put, put_answer, put_error, put_head, put_number, room_len};
+use http_text::{print_answer, put, put_answer, put_error, put_head, put_number, room_len};
 use meter_journal::OpenFault;
 use office_base::NoMemory;
 use std::alloc::Global;
@@ -103,13 +104,14 @@ fn ended(room: &[u8], end: usize) -> Result<usize, NoRoom>
     }
 }
 
-/// Prints the reply of an answer to the front of a room, and answers how many bytes it has. Takes no memory; 16,384
-/// bytes of room are always enough.
+/// Prints the reply of a short answer to the front of a room, and answers how many bytes it has: every answer to a
+/// command is short. Takes no memory; 16,384 bytes of room are always enough.
 ///
 /// # Errors
 ///
 /// `NoRoom`: the room is shorter than the text.
 pub fn print_reply(room: &mut [u8], acked: &Acked) -> Result<usize, NoRoom>
+    requires short { IsShort acked.now.reply }
     ensures text { IfOk result (λ size. (size ≡ length (answer_text acked.now.reply)) × (take size room.new ≡ answer_text acked.now.reply)) }
     ensures fits { OnOk result (length (answer_text acked.now.reply) ≤ length room.old) }
     ensures no_room { OnErr result (length room.old < length (answer_text acked.now.reply)) }
@@ -119,7 +121,9 @@ pub fn print_reply(room: &mut [u8], acked: &Acked) -> Result<usize, NoRoom>
     ended(room, end)
 }
 
-/// Prints the reply of an answer into memory of exactly its size.
+/// Prints the reply of any answer into memory of exactly its size.
+///
+/// Cost: two passes over what the answer holds.
 ///
 /// # Errors
 ///
@@ -127,12 +131,7 @@ pub fn print_reply(room: &mut [u8], acked: &Acked) -> Result<usize, NoRoom>
 pub fn print_query(alloc: Global, acked: &Acked) -> Result<Vec<u8>, NoMemory>
     ensures text { IfOk result (λ v. v.items ≡ answer_text acked.now.reply) }
 {
-    let size = put_answer(&mut [], acked.reply());
-    let Ok(mut text) = vec![in alloc; 0u8; size] else {
-        return Err(NoMemory);
-    };
-    put_answer(text.as_mut_slice(), acked.reply());
-    Ok(text)
+    print_answer(alloc, acked.reply())
 }
 
 /// Prints the reply of a call without an answer of the office to the front of a room, and answers how many bytes it has.

@@ -3,41 +3,108 @@ ghost use Rattle.std.specs.Prelude.{◌≡◌, ◌++◌, IfOk};
 ghost use Rattle.http_asks.specs.Faults.{refused_of};
 ghost use Rattle.http_text.specs.Replies.{head_text};
 ghost use Rattle.http_text.specs.Room.{Puts};
-ghost use Rattle.http_front.specs.Texts.{bad_text, bad_text_of, class_text, field_text, refused_body, refused_status};
+ghost use Rattle.http_front.specs.Texts.{bad_text, bad_text_of, refused_body, refused_status};
+ghost use Rattle.http_front.specs.Texts.{field_text, flaw_name, flaw_number, named_text, rule_text};
 
 use crate::bad::Bad;
 use crate::printing::print_call;
 use http::StatusCode;
 use http_text::{put, put_error, put_head, put_number, put_quoted};
 use office_base::NoMemory;
+use rules_core::RuleFlaw;
 use std::alloc::Global;
 
 fn status(bad: &http_asks::Bad) -> StatusCode
     ensures { result ≡ refused_status (refused_of bad.now) }
 {
     match bad {
+        http_asks::Bad::NoSuchVersion | http_asks::Bad::NoSuchUpload => StatusCode::NOT_FOUND,
+        http_asks::Bad::BadPart => StatusCode::CONFLICT,
         http_asks::Bad::NotBuilt => StatusCode::NOT_IMPLEMENTED,
         _ => StatusCode::BAD_REQUEST,
     }
 }
 
-fn put_class(room: &mut [u8], at: usize, name: &str) -> usize
-    ensures { Puts room.old at room.new result (class_text name.now) }
+// A refusal that tells a name.
+fn put_named(room: &mut [u8], at: usize, error: &str, number: u64, name: &str) -> usize
+    ensures { Puts room.old at room.new result (named_text error.now number name.now) }
 {
-    let at = put(room, at, b"{\"error\":\"UnsupportedClass\",\"name\":");
+    let at = put(room, at, b"{\"error\":");
+    let at = put_quoted(room, at, error.as_bytes());
+    let at = put(room, at, b",\"name\":");
     let at = put_quoted(room, at, name.as_bytes());
     let at = put(room, at, b",\"number\":");
-    let at = put_number(room, at, 43);
+    let at = put_number(room, at, number);
     put(room, at, b"}")
 }
 
-fn put_field(room: &mut [u8], at: usize, field: &str) -> usize
-    ensures { Puts room.old at room.new result (field_text field.now) }
+// A refusal that tells the field that is wrong.
+fn put_field(room: &mut [u8], at: usize, error: &str, number: u64, field: &str) -> usize
+    ensures { Puts room.old at room.new result (field_text error.now number field.now) }
 {
-    let at = put(room, at, b"{\"error\":\"BadBody\",\"field\":");
+    let at = put(room, at, b"{\"error\":");
+    let at = put_quoted(room, at, error.as_bytes());
+    let at = put(room, at, b",\"field\":");
     let at = put_quoted(room, at, field.as_bytes());
     let at = put(room, at, b",\"number\":");
-    let at = put_number(room, at, 123);
+    let at = put_number(room, at, number);
+    put(room, at, b"}")
+}
+
+fn flaw_name(flaw: RuleFlaw) -> &'static str
+    ensures { result.now ≡ flaw_name flaw }
+{
+    match flaw {
+        RuleFlaw::TooManyRules => "TooManyRules",
+        RuleFlaw::LongId => "LongId",
+        RuleFlaw::DoubleId => "DoubleId",
+        RuleFlaw::NoAction => "NoAction",
+        RuleFlaw::BadFilter => "BadFilter",
+        RuleFlaw::BadSizeRange => "BadSizeRange",
+        RuleFlaw::BadDays => "BadDays",
+        RuleFlaw::BadNewer => "BadNewer",
+        RuleFlaw::EarlyInfrequent => "EarlyInfrequent",
+        RuleFlaw::ExpiresTooSoon => "ExpiresTooSoon",
+        RuleFlaw::MixedDates => "MixedDates",
+        RuleFlaw::BadOrder => "BadOrder",
+        RuleFlaw::MarkerRule => "MarkerRule",
+        RuleFlaw::AbortFilter => "AbortFilter",
+        RuleFlaw::BadExpiration => "BadExpiration",
+    }
+}
+
+fn flaw_number(flaw: RuleFlaw) -> u64
+    ensures { result ≡ flaw_number flaw }
+{
+    match flaw {
+        RuleFlaw::TooManyRules => 20,
+        RuleFlaw::LongId => 21,
+        RuleFlaw::DoubleId => 22,
+        RuleFlaw::NoAction => 23,
+        RuleFlaw::BadFilter => 24,
+        RuleFlaw::BadSizeRange => 25,
+        RuleFlaw::BadDays => 26,
+        RuleFlaw::BadNewer => 27,
+        RuleFlaw::EarlyInfrequent => 28,
+        RuleFlaw::ExpiresTooSoon => 29,
+        RuleFlaw::MixedDates => 30,
+        RuleFlaw::BadOrder => 31,
+        RuleFlaw::MarkerRule => 32,
+        RuleFlaw::AbortFilter => 33,
+        RuleFlaw::BadExpiration => 34,
+    }
+}
+
+// The condition that a rule breaks, and the place of the rule.
+fn put_flaw(room: &mut [u8], at: usize, flaw: RuleFlaw, rule: u32) -> usize
+    ensures { Puts room.old at room.new result (rule_text (flaw_name flaw) (flaw_number flaw) rule) }
+{
+    let at = put(room, at, b"{\"error\":");
+    let at = put_quoted(room, at, flaw_name(flaw).as_bytes());
+    let at = put(room, at, b",\"number\":");
+    let at = put_number(room, at, flaw_number(flaw));
+    let at = put(room, at, b",\"rule\":");
+    let at = put_number(room, at, u64::from(rule));
     put(room, at, b"}")
 }
 
@@ -45,13 +112,24 @@ fn put_body(room: &mut [u8], at: usize, bad: &http_asks::Bad) -> usize
     ensures { Puts room.old at room.new result (refused_body (refused_of bad.now)) }
 {
     match bad {
+        http_asks::Bad::NotADate => put_error(room, at, "NotADate", 2),
+        http_asks::Bad::NotMidnight => put_error(room, at, "NotMidnight", 3),
         http_asks::Bad::NotAMonth => put_error(room, at, "NotAMonth", 4),
         http_asks::Bad::BadBucketName => put_error(room, at, "BadBucketName", 10),
         http_asks::Bad::BadKey => put_error(room, at, "BadKey", 11),
         http_asks::Bad::BadTags => put_error(room, at, "BadTags", 12),
         http_asks::Bad::BadSize => put_error(room, at, "BadSize", 13),
-        http_asks::Bad::UnsupportedClass { name } => put_class(room, at, name),
-        http_asks::Bad::BadBody { field } => put_field(room, at, field),
+        http_asks::Bad::Flaw { flaw, rule } => put_flaw(room, at, *flaw, *rule),
+        http_asks::Bad::NotJson => put_error(room, at, "NotJson", 40),
+        http_asks::Bad::UnknownField { name } => put_named(room, at, "UnknownField", 41, name),
+        http_asks::Bad::WrongShape { field } => put_field(room, at, "WrongShape", 42, field),
+        http_asks::Bad::UnsupportedClass { name } => {
+            put_named(room, at, "UnsupportedClass", 43, name)
+        }
+        http_asks::Bad::NoSuchVersion => put_error(room, at, "NoSuchVersion", 51),
+        http_asks::Bad::NoSuchUpload => put_error(room, at, "NoSuchUpload", 60),
+        http_asks::Bad::BadPart => put_error(room, at, "BadPart", 61),
+        http_asks::Bad::BadBody { field } => put_field(room, at, "BadBody", 123, field),
         http_asks::Bad::NotBuilt => put_error(room, at, "NotBuilt", 119),
     }
 }

@@ -1,9 +1,11 @@
 use super::*;
 use desk_core::{Acked, Desk, DeskFault, ListClock};
 use disk_core::{Disk, FileNo, MemoryDisk};
+use http_text::is_short;
 use meter_journal::OpenFault;
 use office_base::BucketName;
 use office_types::{Ask, Command};
+use rules_core::RuleFlaw;
 use std::alloc::Global;
 use std::process::Abort;
 use std::test::Fail;
@@ -186,6 +188,66 @@ fn faults_and_refusals_are_printed_exactly(rt: HostRuntime) -> Result<(), Fail> 
     let name = String::from_str(alloc, "FOO")?;
     let bad = Bad::Message(http_asks::Bad::UnsupportedClass { name });
     assert_printed(&rt, alloc, &bad, &reply);
+    Ok(())
+}
+
+// Refusals that tell no text of the message. RFC 9110, "Status Codes".
+const REFUSALS: [(http_asks::Bad, &[u8], &[u8], &[u8]); 7] = [
+    (
+        http_asks::Bad::NotADate,
+        b"400 Bad Request",
+        b"31",
+        b"{\"error\":\"NotADate\",\"number\":2}",
+    ),
+    (
+        http_asks::Bad::NotMidnight,
+        b"400 Bad Request",
+        b"34",
+        b"{\"error\":\"NotMidnight\",\"number\":3}",
+    ),
+    (
+        http_asks::Bad::Flaw {
+            flaw: RuleFlaw::MarkerRule,
+            rule: 1,
+        },
+        b"400 Bad Request",
+        b"43",
+        b"{\"error\":\"MarkerRule\",\"number\":32,\"rule\":1}",
+    ),
+    (
+        http_asks::Bad::NotJson,
+        b"400 Bad Request",
+        b"31",
+        b"{\"error\":\"NotJson\",\"number\":40}",
+    ),
+    (
+        http_asks::Bad::NoSuchVersion,
+        b"404 Not Found",
+        b"37",
+        b"{\"error\":\"NoSuchVersion\",\"number\":51}",
+    ),
+    (
+        http_asks::Bad::NoSuchUpload,
+        b"404 Not Found",
+        b"36",
+        b"{\"error\":\"NoSuchUpload\",\"number\":60}",
+    ),
+    (
+        http_asks::Bad::BadPart,
+        b"409 Conflict",
+        b"31",
+        b"{\"error\":\"BadPart\",\"number\":61}",
+    ),
+];
+
+#[test]
+fn refusals_are_printed_exactly(rt: HostRuntime) -> Result<(), Fail> {
+    let alloc = rt.alloc();
+    let kind: &[u8] = b"\r\ncontent-type: application/json\r\ncontent-length: ";
+    for (bad, status, size, body) in REFUSALS {
+        let reply = joined(alloc, &[b"HTTP/1.1 ", status, kind, size, GAP, body])?;
+        assert_printed(&rt, alloc, &Bad::Message(bad), &reply);
+    }
     Ok(())
 }
 
@@ -498,6 +560,7 @@ fn made(alloc: Global) -> Result<Acked, Fail> {
 fn a_query_is_printed_as_a_reply(rt: HostRuntime) -> Result<(), Fail> {
     let alloc = rt.alloc();
     let acked = made(alloc)?;
+    assert!(rt; is_short(acked.reply()));
     let mut room = [0u8; 200];
     assert!(rt; print_reply(&mut room, &acked) == Ok(MADE.len()));
     assert!(rt; room.starts_with(MADE));

@@ -1,4 +1,7 @@
 mod Examples
+pub mod Going
+pub mod LongTexts
+pub mod ReportLemmas
 pub mod RoomLemmas
 pub mod Small
 pub mod Statuses

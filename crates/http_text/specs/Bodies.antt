@@ -4,13 +4,14 @@ use Rattle.serde_json.specs.Data.{Data, string}
 use Rattle.serde_json.specs.Written.{compact_text}
 use Rattle.class_rules.specs.Classes.{all_classes, class_name}
 use Rattle.class_rules.specs.declared.class.Class.{Class}
+use Rattle.office_base.specs.Tags.{Tag}
 use Rattle.office_base.specs.declared.version_id.VersionId.{VersionId}
 use Rattle.rules_json.specs.Printing.{class_data, configuration_data}
 use Rattle.stacks.specs.declared.version.Kind.{Kind}
 use Rattle.stacks.specs.declared.version.Kind.TheVariants.{Object, Marker}
 use Rattle.stacks.specs.declared.version.Version.{Version}
 use Rattle.uploads.specs.declared.part.Part.{Part}
-use Rattle.tariff.specs.Prices.{storage_price, move_price}
+use Rattle.tariff.specs.Prices.{Prices, storage_price, move_price}
 use Rattle.due_core.specs.declared.action.ActionKind.{ActionKind}
 use Rattle.due_core.specs.declared.action.ActionKind.TheVariants as action
 use Rattle.due_core.specs.declared.action.Target.{Target}
@@ -59,13 +60,18 @@ abbrev pub version_fields : Version → List (List ℕ × Data)
 version_fields version =
     (codes "version", id_data version.id) ∷ (codes "created", moment_data version.created) ∷ kind_fields version.kind
 
+-- one that is noncurrent since a moment, or the current one
+abbrev pub dated_version : Option ℕ → Version → Data
+dated_version None version = json_object (version_fields version)
+dated_version (Some since) version =
+    json_object ((codes "noncurrent_since", moment_data since) ∷ version_fields version)
+
 abbrev pub noncurrent_version : Version → Data
-noncurrent_version version =
-    json_object ((codes "noncurrent_since", moment_data version.ceased) ∷ version_fields version)
+noncurrent_version version = dated_version (Some version.ceased) version
 
 abbrev pub versions_data : List Version → List Data
 versions_data [] = []
-versions_data (current ∷ noncurrent) = json_object (version_fields current) ∷ map noncurrent_version noncurrent
+versions_data (current ∷ noncurrent) = dated_version None current ∷ map noncurrent_version noncurrent
 
 -- ---- uploads, meters, prices
 
@@ -82,12 +88,38 @@ meters_data meters = json_object (
 abbrev pub price_fields : (Class → ℕ) → List Class → List (List ℕ × Data)
 price_fields price classes = map (λ class. (class_name class, whole (price class))) classes
 
--- these as they are written
+-- by rank from STANDARD on, and from STANDARD_IA on
+abbrev pub storage_data : Prices → Data
+storage_data tariff = json_object (price_fields (storage_price tariff) all_classes)
+
+abbrev pub moves_data : Prices → Data
+moves_data tariff = json_object (price_fields (move_price tariff) (drop 1 all_classes))
+
+-- ---- these as they are written
+
 unfoldable pub meters_text : ClassMeters → List ℕ
 meters_text meters = compact_text (meters_data meters)
 
 unfoldable pub classes_text : List ClassMeters → List ℕ
 classes_text classes = compact_text (array_of (map meters_data classes))
+
+unfoldable pub version_text : Option ℕ → Version → List ℕ
+version_text since version = compact_text (dated_version since version)
+
+unfoldable pub versions_text : List Version → List ℕ
+versions_text versions = compact_text (array_of (versions_data versions))
+
+unfoldable pub tags_text : List Tag → List ℕ
+tags_text tags = compact_text (tags_data tags)
+
+unfoldable pub parts_text : List (ℕ × Part) → List ℕ
+parts_text parts = compact_text (array_of (map part_data parts))
+
+unfoldable pub storage_text : Prices → List ℕ
+storage_text tariff = compact_text (storage_data tariff)
+
+unfoldable pub moves_text : Prices → List ℕ
+moves_text tariff = compact_text (moves_data tariff)
 
 -- ---- the bodies
 
@@ -127,6 +159,5 @@ reply_body (MetersShown bucket month classes) = json (json_object (
     (codes "bucket", string bucket) ∷ (codes "month", string (month_text month))
     ∷ (codes "classes", array_of (map meters_data classes)) ∷ []))
 reply_body (TariffShown tariff) = json (json_object (
-    (codes "storage", json_object (price_fields (storage_price tariff) all_classes))
-    ∷ (codes "transition", json_object (price_fields (move_price tariff) (drop 1 all_classes))) ∷ []))
+    (codes "storage", storage_data tariff) ∷ (codes "transition", moves_data tariff) ∷ []))
 reply_body (Report lines) = csv (report_csv lines)

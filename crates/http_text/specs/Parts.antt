@@ -1,13 +1,18 @@
 -- Members of objects as they are written, with the comma before them.
-use Rattle.std.specs.Prelude.{ℕ, List, [], ◌++◌, codes, decimal, Option, Some, None}
+use Rattle.std.specs.Prelude.{ℕ, Bool, List, [], ◌++◌, codes, decimal, Option, Some, None}
 use Rattle.json.specs.Print.{quoted}
+use Rattle.serde_json.specs.Written.{comma_if, compact_text}
+use Rattle.moments.specs.Texts.{moment_text}
 use Rattle.class_rules.specs.Classes.{class_name}
+use Rattle.office_base.specs.Tags.{Tag}
 use Rattle.office_base.specs.Versions.{id_text}
 use Rattle.office_base.specs.declared.version_id.VersionId.{VersionId}
+use Rattle.uploads.specs.declared.part.Part.{Part}
 use Rattle.due_core.specs.declared.action.ActionKind.{ActionKind}
 use Rattle.due_core.specs.declared.action.ActionKind.TheVariants.{Transition}
 use Rattle.due_core.specs.declared.action.Target.{Target}
 use Rattle.due_core.specs.declared.action.Target.TheVariants.{Version, Upload}
+use Rattle.http_text.specs.Bodies.{part_data}
 
 abbrev pub class_part : ActionKind → List ℕ
 class_part (Transition class) = codes ",\"class\":" ++ quoted (class_name class)
@@ -20,3 +25,15 @@ marker_part (Some id) = codes ",\"marker\":" ++ quoted (id_text id)
 abbrev pub target_part : Target → List ℕ
 target_part (Version id) = codes ",\"version\":" ++ quoted (id_text id)
 target_part (Upload number) = codes ",\"upload\":" ++ decimal number
+
+abbrev pub since_part : Option ℕ → List ℕ
+since_part None = []
+since_part (Some since) = codes ",\"noncurrent_since\":" ++ quoted (moment_text since)
+
+-- a tag as a member, with a comma where one stands before it
+abbrev pub tag_part : Bool → Tag → List ℕ
+tag_part later tag = comma_if later ++ (quoted tag.0 ++ (codes ":" ++ quoted tag.1))
+
+-- a part of an upload, likewise
+abbrev pub upload_part : Bool → ℕ × Part → List ℕ
+upload_part later part = comma_if later ++ compact_text (part_data part)

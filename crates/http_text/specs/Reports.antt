@@ -21,9 +21,12 @@ line_row line =
     ∷ decimal line.quantity ∷ decimal line.price ∷ decimal line.charge ∷ []
 
 -- the sum of the charges, in a row without a bucket
-abbrev pub total_row : List ReportLine → List (List ℕ)
-total_row lines = [] ∷ codes "total" ∷ [] ∷ [] ∷ [] ∷ decimal (sum_by (λ (line : ReportLine). line.charge) lines) ∷ []
+abbrev pub total_row : ℕ → List (List ℕ)
+total_row total = [] ∷ codes "total" ∷ [] ∷ [] ∷ [] ∷ decimal total ∷ []
+
+abbrev pub charges : List ReportLine → ℕ
+charges lines = sum_by (λ (line : ReportLine). line.charge) lines
 
 -- a row for each line, between the header and the total
 unfoldable pub report_csv : List ReportLine → List ℕ
-report_csv lines = flat_map (row_text default_writer) (header_row ∷ map line_row lines ++ total_row lines ∷ [])
+report_csv lines = flat_map (row_text default_writer) (header_row ∷ map line_row lines ++ total_row (charges lines) ∷ [])

@@ -5,6 +5,7 @@ ghost use Rattle.office_types.specs.declared.reply.Reply.TheVariants.{Stored, Bu
 ghost use Rattle.http_text.specs.Names.{versioning_name};
 ghost use Rattle.http_text.specs.Replies.{body_text};
 ghost use Rattle.http_text.specs.Room.{Puts};
+ghost use Rattle.http_text.specs.Shorts.{IsInParts, IsInPartsReply, IsShort, IsShortReply};
 
 use crate::chosen::put_chosen;
 use crate::members::{
@@ -12,8 +13,11 @@ use crate::members::{
     put_text_object, put_whole,
 };
 use crate::meters::put_classes;
+use crate::price_body::put_tariff;
 use crate::refusals::put_refusal;
 use crate::room::put;
+use crate::stack_body::put_stack;
+use crate::upload_body::put_upload;
 use moments::{Moment, Month};
 use office_base::{BucketName, VersionId};
 use office_types::{ClassMeters, Refusal, Reply};
@@ -81,9 +85,10 @@ fn put_usage(
 
 #[tactic(auto, using(crate::proofs::Texts::reply_texts))]
 fn put_reply(room: &mut [u8], at: usize, reply: &Reply) -> usize
-    requires { ReplyFits reply.now }
+    requires fits { ReplyFits reply.now }
+    requires in_parts { IsInPartsReply reply.now }
     ensures puts { Puts room.old at room.new result (body_text (Ok reply.now)) }
-    ensures small { length (body_text (Ok reply.now)) ≤ 16_000 }
+    ensures small { IsShortReply reply.now → length (body_text (Ok reply.now)) ≤ 16_000 }
 {
     match reply {
         Reply::BucketMade { bucket } => put_text_object(room, at, "bucket", bucket.text()),
@@ -124,20 +129,19 @@ fn put_reply(room: &mut [u8], at: usize, reply: &Reply) -> usize
             month,
             classes,
         } => put_usage(room, at, bucket, *month, classes),
-        // These are no replies that are built.
-        Reply::RulesShown { .. }
-        | Reply::StackShown { .. }
-        | Reply::UploadShown { .. }
-        | Reply::TariffShown { .. }
-        | Reply::Report { .. } => at,
+        Reply::StackShown { key, stack } => put_stack(room, at, key, stack),
+        Reply::UploadShown { number, upload } => put_upload(room, at, *number, upload),
+        Reply::TariffShown { tariff } => put_tariff(room, at, tariff),
+        Reply::RulesShown { .. } | Reply::Report { .. } => unreachable!(),
     }
 }
 
 /// Writes the body of an answer at an index, and answers the index after it.
 pub(crate) fn put_body(room: &mut [u8], at: usize, answer: &Result<Reply, Refusal>) -> usize
-    requires { AnswerFits answer.now }
+    requires fits { AnswerFits answer.now }
+    requires in_parts { IsInParts answer.now }
     ensures puts { Puts room.old at room.new result (body_text answer.now) }
-    ensures small { length (body_text answer.now) ≤ 16_000 }
+    ensures small { IsShort answer.now → length (body_text answer.now) ≤ 16_000 }
 {
     match answer {
         Ok(reply) => put_reply(room, at, reply),

@@ -1,16 +1,21 @@
-//! What the office answered, printed without memory.
+//! What the office answered, printed: short answers without memory, the others into memory of their own.
 #![tactic(auto)]
 
 mod body;
 mod chosen;
 mod members;
 mod meters;
+mod price_body;
 mod printing;
 mod refusals;
+mod report_body;
 mod room;
+mod stack_body;
+mod tag_body;
 #[cfg(test)]
 mod tests;
+mod upload_body;
 
-pub use printing::{put_answer, put_head};
+pub use printing::{is_short, print_answer, put_answer, put_head};
 pub use refusals::put_error;
 pub use room::{put, put_number, put_quoted, room_len};

@@ -1,14 +1,22 @@
-// Replies, printed without memory.
-ghost use Rattle.std.specs.Prelude.{◌≡◌, ◌≤◌, [], length, unwrap_or};
+// Replies, printed into a room or into memory.
+ghost use Rattle.std.specs.Prelude.{◌≡◌, ◌<◌, ◌≤◌, ◌^◌, ◌++◌, true, false, [], length, unwrap_or, Ok, IfOk};
 ghost use Rattle.http.specs.StatusCode.{reason_phrase};
 ghost use Rattle.office_types.specs.Fits.{AnswerFits};
-ghost use Rattle.http_text.specs.Replies.{answer_text, body_text, head_text, refusal_status, reply_status, status_of};
+ghost use Rattle.office_types.specs.declared.reply.Reply.TheVariants.{RulesShown, Report};
+ghost use Rattle.http_text.specs.Replies.{answer_text, body_text, head_text, head_with, refusal_status, reply_status, status_of};
+ghost use Rattle.http_text.specs.Reports.{charges};
 ghost use Rattle.http_text.specs.Room.{Puts};
+ghost use Rattle.http_text.specs.Shorts.{IsInParts, IsShort, IsShortReply};
 
 use crate::body::put_body;
+use crate::report_body::report_text;
 use crate::room::{put, put_number};
 use http::StatusCode;
-use office_types::{Refusal, Reply};
+use office_base::NoMemory;
+use office_types::{Refusal, Reply, ReportLine};
+use rules_core::RuleSet;
+use rules_json::print_rules;
+use std::alloc::Global;
 
 fn reply_status(reply: &Reply) -> StatusCode
     ensures { result ≡ reply_status reply.now }
@@ -65,42 +73,153 @@ fn phrase(status: StatusCode) -> &'static str
     }
 }
 
-/// Writes the head of a reply with a JSON body of so many bytes, and answers the index after it.
-pub fn put_head(room: &mut [u8], at: usize, status: StatusCode, size: usize) -> usize
-    ensures { Puts room.old at room.new result (head_text status size) }
+fn put_head_with(room: &mut [u8], at: usize, media: &str, status: StatusCode, size: usize) -> usize
+    ensures { Puts room.old at room.new result (head_with media.now status size) }
 {
     let at = put(room, at, b"HTTP/1.1 ");
     let at = put_number(room, at, u64::from(status.as_u16()));
     let at = put(room, at, b" ");
     let at = put(room, at, phrase(status).as_bytes());
-    let at = put(
-        room,
-        at,
-        b"\r\ncontent-type: application/json\r\ncontent-length: ",
-    );
+    let at = put(room, at, b"\r\ncontent-type: ");
+    let at = put(room, at, media.as_bytes());
+    let at = put(room, at, b"\r\ncontent-length: ");
     let at = put_number(room, at, size as u64);
     put(room, at, b"\r\n\r\n")
 }
 
+/// Writes the head of a reply with a JSON body of so many bytes, and answers the index after it.
+#[tactic(auto, unfolding(crate::specs::Replies::head_text))]
+pub fn put_head(room: &mut [u8], at: usize, status: StatusCode, size: usize) -> usize
+    ensures { Puts room.old at room.new result (head_text status size) }
+{
+    put_head_with(room, at, "application/json", status, size)
+}
+
+// Writes a reply whose body is a text that stands already.
+fn put_text_reply(room: &mut [u8], media: &str, body: &[u8]) -> usize
+    ensures { Puts room.old 0 room.new result (head_with media.now 200 (length body.now) ++ body.now) }
+{
+    let at = put_head_with(room, 0, media, StatusCode::OK, body.len());
+    put(room, at, body)
+}
+
 // The bytes of a body.
-#[tactic(auto, using(crate::proofs::Whole::counted))]
+#[tactic(auto, using(crate::proofs::Whole::counted, crate::proofs::Whole::short_in_parts))]
 fn size_of(answer: &Result<Reply, Refusal>) -> usize
-    requires { AnswerFits answer.now }
+    requires fits { AnswerFits answer.now }
+    requires short { IsShort answer.now }
     ensures same { result ≡ length (body_text answer.now) }
     ensures small { length (body_text answer.now) ≤ 16_000 }
 {
     put_body(&mut [], 0, answer)
 }
 
-/// Writes the reply to an answer at the front of a room, as far as the room goes, and answers how many bytes it has.
-/// Takes no memory; 16,384 bytes of room are always enough.
-///
-/// The answer is one that the program gives so far: the replies to queries that are long are not printed here.
+/// Tells whether the reply to an answer always fits 16,384 bytes. These are refusals, replies to commands, and of the
+/// replies to queries what a bucket holds and used.
+pub fn is_short(answer: &Result<Reply, Refusal>) -> bool
+    ensures short { result ≡ true → IsShort answer.now }
+    ensures long { result ≡ false → ¬ (IsShort answer.now) }
+{
+    match answer {
+        Ok(reply) => is_short_reply(reply),
+        Err(_) => true,
+    }
+}
+
+fn is_short_reply(reply: &Reply) -> bool
+    ensures short { result ≡ true → IsShortReply reply.now }
+    ensures long { result ≡ false → ¬ (IsShortReply reply.now) }
+{
+    match reply {
+        Reply::RulesShown { .. }
+        | Reply::StackShown { .. }
+        | Reply::UploadShown { .. }
+        | Reply::TariffShown { .. }
+        | Reply::Report { .. } => false,
+        _ => true,
+    }
+}
+
+/// Writes the reply to a short answer at the front of a room, as far as the room goes, and answers how many bytes it
+/// has. Takes no memory; 16,384 bytes of room are always enough.
+#[tactic(auto, using(crate::proofs::Whole::short_in_parts))]
 pub fn put_answer(room: &mut [u8], answer: &Result<Reply, Refusal>) -> usize
-    requires built { AnswerFits answer.now }
+    requires fits { AnswerFits answer.now }
+    requires short { IsShort answer.now }
     ensures puts { Puts room.old 0 room.new result (answer_text answer.now) }
     ensures small { length (answer_text answer.now) ≤ 16384 }
 {
     let at = put_head(room, 0, status(answer), size_of(answer));
     put_body(room, at, answer)
+}
+
+// Writes the reply to an answer whose body has so many bytes.
+fn put_sized(room: &mut [u8], answer: &Result<Reply, Refusal>, size: usize) -> usize
+    requires fits { AnswerFits answer.now }
+    requires in_parts { IsInParts answer.now }
+    ensures { Puts room.old 0 room.new result (head_text (status_of answer.now) size ++ body_text answer.now) }
+{
+    let at = put_head(room, 0, status(answer), size);
+    put_body(room, at, answer)
+}
+
+// Prints an answer from its parts: they are counted first, and written then.
+fn print_parts(alloc: Global, answer: &Result<Reply, Refusal>) -> Result<Vec<u8>, NoMemory>
+    requires fits { AnswerFits answer.now }
+    requires in_parts { IsInParts answer.now }
+    ensures text { IfOk result (λ v. v.items ≡ answer_text answer.now) }
+{
+    let size = put_body(&mut [], 0, answer);
+    let whole = put_sized(&mut [], answer, size);
+    let Ok(mut text) = vec![in alloc; 0u8; whole] else {
+        return Err(NoMemory);
+    };
+    put_sized(text.as_mut_slice(), answer, size);
+    Ok(text)
+}
+
+// Prints a reply whose body is a text that stands already.
+fn print_text(alloc: Global, media: &str, body: &[u8]) -> Result<Vec<u8>, NoMemory>
+    ensures text { IfOk result (λ v. v.items ≡ head_with media.now 200 (length body.now) ++ body.now) }
+{
+    let whole = put_text_reply(&mut [], media, body);
+    let Ok(mut text) = vec![in alloc; 0u8; whole] else {
+        return Err(NoMemory);
+    };
+    put_text_reply(text.as_mut_slice(), media, body);
+    Ok(text)
+}
+
+fn print_configuration(alloc: Global, rules: &RuleSet) -> Result<Vec<u8>, NoMemory>
+    ensures text { IfOk result (λ v. v.items ≡ answer_text (Ok (RulesShown rules.now))) }
+{
+    let body = print_rules(alloc, rules)?;
+    print_text(alloc, "application/json", body.as_bytes())
+}
+
+fn print_report(alloc: Global, lines: &[ReportLine]) -> Result<Vec<u8>, NoMemory>
+    requires { charges lines.now < 2 ^ 128 }
+    ensures text { IfOk result (λ v. v.items ≡ answer_text (Ok (Report lines.now))) }
+{
+    let body = report_text(alloc, lines)?;
+    print_text(alloc, "text/csv", &body)
+}
+
+/// Prints the reply to any answer into memory of exactly its size.
+///
+/// Cost: two passes over what the answer holds, one to count and one to write. A lifecycle configuration and a report
+/// are printed as texts of their own first, which are copied once and are held beside the reply meanwhile.
+///
+/// # Errors
+///
+/// `NoMemory`: memory ran out.
+pub fn print_answer(alloc: Global, answer: &Result<Reply, Refusal>) -> Result<Vec<u8>, NoMemory>
+    requires fits { AnswerFits answer.now }
+    ensures text { IfOk result (λ v. v.items ≡ answer_text answer.now) }
+{
+    match answer {
+        Ok(Reply::RulesShown { rules }) => print_configuration(alloc, rules),
+        Ok(Reply::Report { lines }) => print_report(alloc, lines.as_slice()),
+        _ => print_parts(alloc, answer),
+    }
 }

@@ -5,11 +5,15 @@ use super::*;
 use class_rules::Class;
 use due_core::{ActionKind, Target};
 use moments::{Moment, Month};
-use office_base::{BucketName, Key, Nth, Text, VersionId};
-use office_types::{ClassMeters, Refusal, Reply, What};
-use stacks::Versioning;
+use office_base::{BucketName, Items, Key, Nth, Size, Tags, Text, VersionId};
+use office_types::{ClassMeters, LineKind, Refusal, Reply, ReportLine, What};
+use rules_json::read_rules;
+use stacks::{Kind, Stack, Version, Versioning};
 use std::alloc::Global;
+use std::collections::BTreeMap;
 use std::test::Fail;
+use tariff::Tariff;
+use uploads::{Part, Upload};
 
 const HEADERS: &str = "\r\ncontent-type: application/json\r\ncontent-length: ";
 
@@ -23,6 +27,7 @@ fn is_printed(
 ) -> Result<(), Fail>
     requires { AnswerFits answer.now }
 {
+    assert!(rt; is_short(answer), "{body}");
     let mut room = vec![in alloc; 0u8; 16384]?;
     let size = put_answer(&mut room, answer);
     let wanted = format!(in alloc; "HTTP/1.1 {status}{HEADERS}{}\r\n\r\n{body}", body.len())?;
@@ -357,6 +362,7 @@ fn the_longest_action(rt: HostRuntime) -> Result<(), Fail> {
     let kind = ActionKind::Transition(Class::DeepArchive);
     let target = Target::Version(id(18_446_744_073_709_551_615)?);
     let answer = Ok(chosen(alloc, kind, &key, target, &rule, None)?);
+    assert!(rt; is_short(&answer));
     let mut room = vec![in alloc; 0u8; 16384]?;
     // 1,024 and 255 bytes of six characters each, and what stands between them.
     assert_eq!(rt; put_answer(&mut room, &answer), 7_881);
@@ -412,4 +418,156 @@ fn a_short_room(rt: HostRuntime) -> Result<(), Fail> {
     assert_eq!(rt; put_answer(&mut room, &Err(Refusal::NoMemory)), 123);
     assert_eq!(rt; &room[..4], b"HTTP".as_slice());
     Ok(())
+}
+
+// What is printed into memory of its own.
+fn is_kept(
+    rt: &impl std::process::Abort,
+    alloc: Global,
+    answer: &Result<Reply, Refusal>,
+    media: &str,
+    body: &str,
+) -> Result<(), Fail>
+    requires { AnswerFits answer.now }
+{
+    let Ok(text) = print_answer(alloc, answer) else {
+        return Err("no memory")?;
+    };
+    let wanted = format!(in alloc;
+        "HTTP/1.1 200 OK\r\ncontent-type: {media}\r\ncontent-length: {}\r\n\r\n{body}",
+        body.len()
+    )?;
+    assert_eq!(rt; text.as_slice(), wanted.as_bytes(), "{body}");
+    Ok(())
+}
+
+const JSON: &str = "application/json";
+
+// Two tags, which are read out of order.
+fn two_tags(alloc: Global) -> Result<Tags, Fail> {
+    let kind = (
+        String::from_str(alloc, "kind")?,
+        String::from_str(alloc, "raw")?,
+    );
+    let keep = (
+        String::from_str(alloc, "keep")?,
+        String::from_str(alloc, "n\"o")?,
+    );
+    Ok(Tags::read(alloc, vec![in alloc; kind, keep]?)?)
+}
+
+// An object with tags over a delete marker, which ceased to be the current version when the object was put.
+fn two_versions(alloc: Global) -> Result<Stack, Fail> {
+    let first = Moment::of(1_704_067_200_000)?;
+    let second = Moment::of(1_704_153_600_000)?;
+    let object = Version {
+        id: id(2)?,
+        kind: Kind::Object {
+            size: Size::of(5)?,
+            class: Class::Glacier,
+            tags: two_tags(alloc)?,
+            entered: second,
+        },
+        created: second,
+        ceased: second,
+    };
+    let marker = Version {
+        id: VersionId::Null,
+        kind: Kind::Marker,
+        created: first,
+        ceased: second,
+    };
+    Ok(Stack::of(second, vec![in alloc; object, marker]?).ok_or("no stack")?)
+}
+
+#[test]
+fn the_versions_of_a_key(rt: HostRuntime) -> Result<(), Fail> {
+    let alloc = rt.alloc();
+    let shown = Ok(Reply::StackShown {
+        key: Key::read(alloc, b"a")?,
+        stack: two_versions(alloc)?,
+    });
+    let body =
+        "{\"changed\":\"2024-01-02T00:00:00.000Z\",\"key\":\"a\",\"versions\":[{\"class\":\"GLACIER\",\"created\":\"2024-01-02T00:00:00.000Z\",\"entered\":\"2024-01-02T00:00:00.000Z\",\"kind\":\"object\",\"size\":5,\"tags\":{\"keep\":\"n\\\"o\",\"kind\":\"raw\"},\"version\":\"2\"},{\"created\":\"2024-01-01T00:00:00.000Z\",\"kind\":\"marker\",\"noncurrent_since\":\"2024-01-02T00:00:00.000Z\",\"version\":\"null\"}]}";
+    is_kept(&rt, alloc, &shown, JSON, body)
+}
+
+// Parts 1 and 3, of which the later one was put first.
+fn upload_of_parts(alloc: Global) -> Result<Upload, Fail> {
+    let at = Moment::of(1_704_067_200_000)?;
+    let tags = Tags::read(alloc, Vec::new(alloc))?;
+    let mut parts = BTreeMap::new(alloc);
+    let _ = parts.insert(3, Part { size: 7, put: at })?;
+    let _ = parts.insert(1, Part { size: 5, put: at })?;
+    let key = Key::read(alloc, b"a")?;
+    Ok(Upload::of(key, Class::Glacier, tags, at, at, parts).ok_or("no upload")?)
+}
+
+#[test]
+fn an_upload(rt: HostRuntime) -> Result<(), Fail> {
+    let alloc = rt.alloc();
+    let shown = Ok(Reply::UploadShown {
+        number: 1,
+        upload: upload_of_parts(alloc)?,
+    });
+    let body =
+        "{\"class\":\"GLACIER\",\"key\":\"a\",\"parts\":[{\"part\":1,\"size\":5},{\"part\":3,\"size\":7}],\"started\":\"2024-01-01T00:00:00.000Z\",\"tags\":{},\"upload\":1}";
+    is_kept(&rt, alloc, &shown, JSON, body)
+}
+
+#[test]
+fn the_prices(rt: HostRuntime) -> Result<(), Fail> {
+    let alloc = rt.alloc();
+    let tariff = Tariff::of(
+        [23_000, 12_500, 10_000, 4_000, 3_600, 990],
+        [10, 11, 20, 30, 50],
+    );
+    let shown = Ok(Reply::TariffShown {
+        tariff: tariff.ok_or("no tariff")?,
+    });
+    let body =
+        "{\"storage\":{\"DEEP_ARCHIVE\":990,\"GLACIER\":3600,\"GLACIER_IR\":4000,\"ONEZONE_IA\":10000,\"STANDARD\":23000,\"STANDARD_IA\":12500},\"transition\":{\"DEEP_ARCHIVE\":50,\"GLACIER\":30,\"GLACIER_IR\":20,\"ONEZONE_IA\":11,\"STANDARD_IA\":10}}";
+    is_kept(&rt, alloc, &shown, JSON, body)
+}
+
+#[test]
+fn a_configuration(rt: HostRuntime) -> Result<(), Fail> {
+    let alloc = rt.alloc();
+    let read = read_rules(
+        alloc,
+        b"{\"Rules\": [{\"Status\": \"Enabled\", \"ID\": \"rest\", \"Expiration\": {\"Days\": 60}}]}",
+    );
+    let Ok(rules) = read else {
+        return Err("no configuration")?;
+    };
+    let shown = Ok(Reply::RulesShown { rules });
+    let body =
+        "{\"Rules\":[{\"Expiration\":{\"Days\":60},\"Filter\":{\"Prefix\":\"\"},\"ID\":\"rest\",\"Status\":\"Enabled\"}],\"TransitionDefaultMinimumObjectSize\":\"all_storage_classes_128K\"}";
+    is_kept(&rt, alloc, &shown, JSON, body)
+}
+
+// A GiB for the whole of January 2024.
+fn january(alloc: Global) -> Result<Reply, Fail>
+    ensures { IfOk result (λ reply. ReplyFits reply) }
+{
+    let line = ReportLine {
+        bucket: BucketName::read(alloc, "logs")?,
+        kind: LineKind::Storage,
+        class: Class::Standard,
+        quantity: 2_875_910_101_401_600_000,
+        price: 23_000,
+        charge: 23_000,
+    };
+    Ok(Reply::Report {
+        lines: Items::of(vec![in alloc; line]?),
+    })
+}
+
+#[test]
+fn a_report(rt: HostRuntime) -> Result<(), Fail> {
+    let alloc = rt.alloc();
+    let report = Ok(january(alloc)?);
+    let body =
+        "bucket,line,class,quantity,price,charge\nlogs,storage,STANDARD,2875910101401600000,23000,23000\n,total,,,,23000\n";
+    is_kept(&rt, alloc, &report, "text/csv", body)
 }

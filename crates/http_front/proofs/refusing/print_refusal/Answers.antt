@@ -2,7 +2,7 @@ use Rattle.std.proofs.Common.{drop, length, ◌∙◌, arith}
 use Rattle.std.proofs.lemmas.List.{take_all, take-append-le}
 use Rattle.http_asks.specs.Faults.{refused_of}
 use Rattle.http_front.specs.Texts.{refused_body, refused_status}
-use Rattle.http_front.proofs.PrintLemmas.{whole_reply}
+use Rattle.http_text.proofs.Whole.{whole_reply}
 use Rattle.http_front.proofs.refusing.print_refusal.Goals as goal
 
 pub returns : goal.returns
@@ -14,6 +14,6 @@ returns c =
       text =
           take-append-le text.len new (drop (length new) text.items) (omega (arith, c.put_reply.auto.room, c.as_mut_slice.ensures.len))
           ∙ take_all text.len new (omega (arith, c.put_reply.auto.room, c.as_mut_slice.ensures.len))
-          ∙ whole_reply _ _ _ _ _ new (refused_status broken) c.put_body-size.result c.put_reply-whole.result c.put_reply.result (refused_body broken) c.put_body-size.ensures c.put_reply-whole.ensures c.put_reply.ensures
+          ∙ whole_reply (refused_status broken) (refused_body broken) c.put_body-size.ensures c.put_reply-whole.ensures c.put_reply.ensures
           (omega (arith, c.put_reply.auto.room, c.as_mut_slice.ensures.len, c.in-Ok.ensures.len)) (omega (arith, c.in-Ok.text.small, c.in-Ok.ensures.len));
     }

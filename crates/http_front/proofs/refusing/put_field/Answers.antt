@@ -6,9 +6,13 @@ use Rattle.http_front.proofs.refusing.put_field.Goals as goal
 
 pub returns : goal.returns
 returns c =
+    let error = c.args.error.now in
+    let number = c.args.number in
     let field = c.args.field.now in
-    puts_same _ _ (field_is field)
-    (puts_then (codes "{\"error\":\"BadBody\",\"field\":") _ c.put-at.ensures
-    (puts_then (quoted field) _ (rw c.as_bytes.ensures.value at c.put_quoted-at.ensures)
-    (puts_then (codes ",\"number\":") _ c.put-at-2.ensures
-    (puts_then (decimal 123) (codes "}") c.put_number-at.ensures c.put.ensures))))
+    puts_same _ _ (field_is error number field)
+    (puts_then (codes "{\"error\":") _ c.put-at.ensures
+    (puts_then (quoted error) _ (rw c.as_bytes.ensures.value at c.put_quoted-at.ensures)
+    (puts_then (codes ",\"field\":") _ c.put-at-2.ensures
+    (puts_then (quoted field) _ (rw c.as_bytes-2.ensures.value at c.put_quoted-at-2.ensures)
+    (puts_then (codes ",\"number\":") _ c.put-at-3.ensures
+    (puts_then (decimal number) (codes "}") c.put_number-at.ensures c.put.ensures))))))

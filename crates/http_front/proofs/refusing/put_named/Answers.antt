@@ -1,0 +1,18 @@
+use Rattle.std.proofs.Common.{codes, decimal}
+use Rattle.json.specs.Print.{quoted}
+use Rattle.http_text.proofs.RoomLemmas.{puts_then, puts_same}
+use Rattle.http_front.proofs.PrintLemmas.{named_is}
+use Rattle.http_front.proofs.refusing.put_named.Goals as goal
+
+pub returns : goal.returns
+returns c =
+    let error = c.args.error.now in
+    let number = c.args.number in
+    let name = c.args.name.now in
+    puts_same _ _ (named_is error number name)
+    (puts_then (codes "{\"error\":") _ c.put-at.ensures
+    (puts_then (quoted error) _ (rw c.as_bytes.ensures.value at c.put_quoted-at.ensures)
+    (puts_then (codes ",\"name\":") _ c.put-at-2.ensures
+    (puts_then (quoted name) _ (rw c.as_bytes-2.ensures.value at c.put_quoted-at-2.ensures)
+    (puts_then (codes ",\"number\":") _ c.put-at-3.ensures
+    (puts_then (decimal number) (codes "}") c.put_number-at.ensures c.put.ensures))))))

@@ -1,0 +1,29 @@
+-- Answers by how long their text may be.
+use Rattle.std.specs.Prelude.{Result, Ok, Err}
+use Rattle.office_types.specs.declared.reply.Reply.{Reply}
+use Rattle.office_types.specs.declared.reply.Reply.TheVariants.{RulesShown, StackShown, UploadShown, TariffShown, Report}
+use Rattle.office_types.specs.declared.refusal.Refusal.{Refusal}
+
+-- the replies to commands, and what a bucket holds and used
+abbrev pub IsShortReply : Reply → Type 0
+IsShortReply (RulesShown rules) = ⊥
+IsShortReply (StackShown key stack) = ⊥
+IsShortReply (UploadShown number upload) = ⊥
+IsShortReply (TariffShown tariff) = ⊥
+IsShortReply (Report lines) = ⊥
+IsShortReply other = Unit {0}
+
+-- its text fits a room that is fixed beforehand (own)
+abbrev pub IsShort : Result Reply Refusal → Type 0
+IsShort (Ok reply) = IsShortReply reply
+IsShort (Err refusal) = Unit {0}
+
+-- its body is written from its parts, without memory: a configuration and a report are printed as texts first
+abbrev pub IsInPartsReply : Reply → Type 0
+IsInPartsReply (RulesShown rules) = ⊥
+IsInPartsReply (Report lines) = ⊥
+IsInPartsReply other = Unit {0}
+
+abbrev pub IsInParts : Result Reply Refusal → Type 0
+IsInParts (Ok reply) = IsInPartsReply reply
+IsInParts (Err refusal) = Unit {0}

@@ -1,0 +1,134 @@
+// The report of a month, as CSV.
+ghost use Rattle.std.specs.Prelude.{◌≡◌, ◌<◌, ◌^◌, [], ◌∷◌, map, Some, IfOk, OnOk, decimal, sum_by};
+ghost use Rattle.std.specs.Io.KnownBytes.{append_known};
+ghost use Rattle.csv.specs.Writing.{default_writer, row_text};
+ghost use Rattle.office_types.specs.declared.reply.ReportLine.{ReportLine};
+ghost use Rattle.http_text.specs.Reports.{header_row, line_name, line_row, report_csv, total_row};
+ghost use Rattle.http_text.specs.Sheets.{IsReady, held};
+
+use csv::{Writer, WriterBuilder};
+use office_base::NoMemory;
+use office_types::{LineKind, ReportLine};
+use std::alloc::Global;
+
+type Sheet = Writer<Vec<u8>>;
+
+fn start(alloc: Global) -> Sheet
+    ensures ready { IsReady result }
+    ensures empty { held result ≡ Some [] }
+{
+    WriterBuilder::new().from_writer(Vec::new(alloc))
+}
+
+fn put_row(sheet: &mut Sheet, fields: &[&[u8]]) -> Result<(), NoMemory>
+    requires { IsReady sheet.old }
+    ensures ready { OnOk result (IsReady sheet.new) }
+    ensures bytes { OnOk result (held sheet.new
+        ≡ append_known (held sheet.old) (row_text default_writer (map (λ f. f.now) fields.now))) }
+{
+    match sheet.write_fields(fields) {
+        Ok(()) => Ok(()),
+        Err(_) => Err(NoMemory),
+    }
+}
+
+fn line_name(kind: LineKind) -> &'static str
+    ensures { result.now ≡ line_name kind }
+{
+    match kind {
+        LineKind::Storage => "storage",
+        LineKind::Early => "early",
+        LineKind::Transitions => "transitions",
+    }
+}
+
+// A row of six texts.
+fn put_texts<'a>(
+    sheet: &mut Sheet,
+    bucket: &'a str,
+    kind: &'a str,
+    class: &'a str,
+    quantity: &'a str,
+    price: &'a str,
+    charge: &'a str,
+) -> Result<(), NoMemory>
+    requires { IsReady sheet.old }
+    ensures ready { OnOk result (IsReady sheet.new) }
+    ensures bytes { OnOk result (held sheet.new ≡ append_known (held sheet.old) (row_text default_writer
+        (bucket.now ∷ kind.now ∷ class.now ∷ quantity.now ∷ price.now ∷ charge.now ∷ []))) }
+{
+    put_row(
+        sheet,
+        &[
+            bucket.as_bytes(),
+            kind.as_bytes(),
+            class.as_bytes(),
+            quantity.as_bytes(),
+            price.as_bytes(),
+            charge.as_bytes(),
+        ],
+    )
+}
+
+fn put_line(sheet: &mut Sheet, line: &ReportLine) -> Result<(), NoMemory>
+    requires { IsReady sheet.old }
+    ensures ready { OnOk result (IsReady sheet.new) }
+    ensures bytes { OnOk result (held sheet.new
+        ≡ append_known (held sheet.old) (row_text default_writer (line_row line.now))) }
+{
+    put_texts(
+        sheet,
+        line.bucket.text(),
+        line_name(line.kind),
+        line.class.name(),
+        itoa::Buffer::new().format(line.quantity),
+        itoa::Buffer::new().format(line.price),
+        itoa::Buffer::new().format(line.charge),
+    )
+}
+
+fn put_total(sheet: &mut Sheet, total: u128) -> Result<(), NoMemory>
+    requires { IsReady sheet.old }
+    ensures ready { OnOk result (IsReady sheet.new) }
+    ensures bytes { OnOk result (held sheet.new
+        ≡ append_known (held sheet.old) (row_text default_writer (total_row total))) }
+{
+    put_texts(
+        sheet,
+        "",
+        "total",
+        "",
+        "",
+        "",
+        itoa::Buffer::new().format(total),
+    )
+}
+
+fn finish(sheet: Sheet) -> Result<Vec<u8>, NoMemory>
+    ensures { IfOk result (λ v. held sheet ≡ Some v.items) }
+{
+    match sheet.into_inner() {
+        Ok(bytes) => Ok(bytes),
+        Err(_) => Err(NoMemory),
+    }
+}
+
+/// Writes the lines of a report and their total.
+///
+/// Cost: a pass over the lines, and memory for the text.
+pub(crate) fn report_text(alloc: Global, lines: &[ReportLine]) -> Result<Vec<u8>, NoMemory>
+    requires { sum_by (λ (line : ReportLine). line.charge) lines.now < 2 ^ 128 }
+    ensures { IfOk result (λ v. v.items ≡ report_csv lines.now) }
+{
+    let mut sheet = start(alloc);
+    put_texts(
+        &mut sheet, "bucket", "line", "class", "quantity", "price", "charge",
+    )?;
+    let mut total = 0;
+    for line in lines {
+        put_line(&mut sheet, line)?;
+        total += line.charge;
+    }
+    put_total(&mut sheet, total)?;
+    finish(sheet)
+}
