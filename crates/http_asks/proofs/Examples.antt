@@ -4,6 +4,7 @@ use Rattle.std.specs.Prelude.{◌≡◌, ℕ, Bool, true, false, if◌then◌els
 use Rattle.office_base.specs.Keys.{is_key}
 use Rattle.office_base.specs.Names.{is_bucket_name}
 use Rattle.office_base.specs.declared.version_id.VersionId.TheVariants.{Null, Number}
+use Rattle.class_rules.specs.declared.class.Class.TheVariants.{Glacier}
 use Rattle.moments.specs.Dates.{is_month, begins_with_month}
 use Rattle.moments.specs.Months.{month_number}
 use Rattle.rules_core.specs.Configurations.{Configuration}
