@@ -1,4 +1,5 @@
 use super::*;
+use class_rules::Class;
 use desk_core::{Acked, Desk, DeskFault, ListClock};
 use disk_core::{Disk, FileNo, MemoryDisk};
 use http_text::is_short;
@@ -9,6 +10,7 @@ use rules_core::RuleFlaw;
 use std::alloc::Global;
 use std::process::Abort;
 use std::test::Fail;
+use tariff::TariffTable;
 
 const MADE: &[u8] =
     b"HTTP/1.1 201 Created\r\ncontent-type: application/json\r\ncontent-length: 17\r\n\r\n{\"bucket\":\"logs\"}";
@@ -192,7 +194,7 @@ fn faults_and_refusals_are_printed_exactly(rt: HostRuntime) -> Result<(), Fail> 
 }
 
 // Refusals that tell no text of the message. RFC 9110, "Status Codes".
-const REFUSALS: [(http_asks::Bad, &[u8], &[u8], &[u8]); 7] = [
+const REFUSALS: [(http_asks::Bad, &[u8], &[u8], &[u8]); 10] = [
     (
         http_asks::Bad::NotADate,
         b"400 Bad Request",
@@ -237,6 +239,30 @@ const REFUSALS: [(http_asks::Bad, &[u8], &[u8], &[u8]); 7] = [
         b"409 Conflict",
         b"31",
         b"{\"error\":\"BadPart\",\"number\":61}",
+    ),
+    (
+        http_asks::Bad::NotToml,
+        b"400 Bad Request",
+        b"31",
+        b"{\"error\":\"NotToml\",\"number\":70}",
+    ),
+    (
+        http_asks::Bad::MissingClass {
+            table: TariffTable::Storage,
+            class: Class::Glacier,
+        },
+        b"400 Bad Request",
+        b"72",
+        b"{\"class\":\"GLACIER\",\"error\":\"MissingClass\",\"number\":71,\"table\":\"storage\"}",
+    ),
+    (
+        http_asks::Bad::BadPrice {
+            table: TariffTable::Transition,
+            class: Class::StandardIa,
+        },
+        b"400 Bad Request",
+        b"75",
+        b"{\"class\":\"STANDARD_IA\",\"error\":\"BadPrice\",\"number\":72,\"table\":\"transition\"}",
     ),
 ];
 
@@ -377,7 +403,7 @@ fn what_is_not_served_is_the_last(rt: HostRuntime) -> Result<(), Fail> {
 }
 
 // A message that is refused, and the size and the text of the reply's body.
-const REFUSED: [(&[u8], &[u8], &[u8]); 9] = [
+const REFUSED: [(&[u8], &[u8], &[u8]); 10] = [
     (
         b"GET /buckets/logs/meters/2024-13 HTTP/1.1\r\n\r\n",
         b"32",
@@ -414,6 +440,11 @@ const REFUSED: [(&[u8], &[u8], &[u8]); 9] = [
         b"PUT /buckets/logs/objects/k HTTP/1.1\r\nContent-Length: 2\r\n\r\n[]",
         b"43",
         b"{\"error\":\"BadBody\",\"field\":\"\",\"number\":123}",
+    ),
+    (
+        b"PUT /tariff HTTP/1.1\r\nContent-Length: 5\r\n\r\nx = 1",
+        b"47",
+        b"{\"error\":\"UnknownField\",\"name\":\"x\",\"number\":73}",
     ),
 ];
 
