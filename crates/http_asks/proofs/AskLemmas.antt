@@ -6,8 +6,12 @@ use Rattle.rules_json.specs.Faults.{told_of}
 use Rattle.rules_json.specs.declared.fault.RulesFault.{RulesFault}
 use Rattle.http_bodies.specs.Flaws.{BodyFlaw, flaw_of}
 use Rattle.http_bodies.specs.declared.fault.BodyFault.{BodyFault}
-use Rattle.http_asks.specs.Faults.{OnBroken, HasFlaw, HasFault, refused_of}
-use Rattle.http_asks.specs.Meaning.{Refused, flawed, broken_by}
+use Rattle.tariff.specs.Faults.{TariffFlaw}
+use Rattle.tariff.specs.Faults as prices
+use Rattle.tariff.specs.Prices.{Prices}
+use Rattle.tariff.specs.declared.fault.TariffFault.{TariffFault}
+use Rattle.http_asks.specs.Faults.{OnBroken, HasFlaw, HasFault, HasPriceFlaw, refused_of}
+use Rattle.http_asks.specs.Meaning.{Refused, flawed, broken_by, refused_by}
 use Rattle.http_asks.specs.declared.bad.Fault.{Fault}
 use Rattle.http_asks.specs.declared.bad.Fault.TheVariants as faults
 
@@ -35,3 +39,14 @@ fault_told fault (faults.Bad bad) read is same = by_fault (told_of fault) is sam
         → OnBroken (faults.Bad bad) (HasFault read)
     by_fault None is same = absurd cc
     by_fault (Some f) is same = subst (λ (r : Result Configuration RulesFault). HasFault r (refused_of bad)) (sym is) (sym (some_same same))
+
+-- a fault of a tariff that is told as it is
+pub price_flaw_told : (fault : TariffFault) (told : Fault) (read : Result Prices TariffFlaw) → IfSome (prices.flaw_of fault) (λ (flaw : TariffFlaw). read ≡ Err flaw)
+    → OnBroken told (λ (broken : Refused). option_map refused_by (prices.flaw_of fault) ≡ Some broken) → OnBroken told (HasPriceFlaw read)
+price_flaw_told fault faults.NoMemory read is same = tt
+price_flaw_told fault (faults.Bad bad) read is same = by_flaw (prices.flaw_of fault) is same
+  where
+    by_flaw : (o : Option TariffFlaw) → IfSome o (λ (flaw : TariffFlaw). read ≡ Err flaw) → OnBroken (faults.Bad bad) (λ (broken : Refused). option_map refused_by o ≡ Some broken)
+        → OnBroken (faults.Bad bad) (HasPriceFlaw read)
+    by_flaw None is same = absurd cc
+    by_flaw (Some flaw) is same = subst (λ (r : Result Prices TariffFlaw). HasPriceFlaw r (refused_of bad)) (sym is) (sym (some_same same))

@@ -4,20 +4,26 @@ use Rattle.std.specs.Prelude.{◌≡◌, ℕ, Bool, true, false, if◌then◌els
 use Rattle.office_base.specs.Keys.{is_key}
 use Rattle.office_base.specs.Names.{is_bucket_name}
 use Rattle.office_base.specs.declared.version_id.VersionId.TheVariants.{Null, Number}
+use Rattle.class_rules.specs.declared.class.Class.TheVariants.{Glacier}
 use Rattle.moments.specs.Dates.{is_month, begins_with_month}
 use Rattle.moments.specs.Months.{month_number}
 use Rattle.rules_core.specs.Configurations.{Configuration}
 use Rattle.rules_core.specs.declared.flaw.RuleFlaw.TheVariants.{NoAction}
 use Rattle.rules_json.specs.declared.fault.RulesFault.TheVariants as faults
 use Rattle.office_types.specs.declared.command.Ask.TheVariants.{Command, Query}
-use Rattle.office_types.specs.declared.command.Command.TheVariants.{CreateBucket, SetVersioning, DropRules, Complete, Abort, PutPart, Act}
-use Rattle.office_types.specs.declared.command.Query.TheVariants.{Bucket, Rules, Upload, Due, Meters}
+use Rattle.office_types.specs.declared.command.Command.TheVariants.{CreateBucket, SetVersioning, DropRules, Complete, Abort, PutPart, Act, SetTariff, Close}
+use Rattle.office_types.specs.declared.command.Query.TheVariants.{Bucket, Rules, Upload, Due, Meters, Tariff, Report}
+use Rattle.tariff.specs.declared.fault.TariffTable.TheVariants.{Transition}
+use Rattle.tariff.specs.Faults.{TariffFlaw}
+use Rattle.tariff.specs.Faults as prices
+use Rattle.tariff.specs.Prices.{Prices}
+use Rattle.tariff.specs.Reading.{tariff_of}
 use Rattle.http_bodies.specs.Flaws.{BodyFlaw, bad_body}
 use Rattle.http_bodies.specs.Multipart.{part_of}
 use Rattle.http_bodies.specs.Settings.{status_of}
 use Rattle.http_routes.specs.Spelled.{key_of}
 use Rattle.http_routes.specs.Targets as targets
-use Rattle.http_asks.specs.Meaning.{Meant, asks, refuses, not_a_month, bad_bucket_name, bad_key, flaw_in, not_json, no_such_version, no_such_upload, bad_part, flawed, not_built, by_key, by_body, by_rules, meant_of, bucket_meant, versioning_meant, lifecycle_meant, object_meant, version_meant, upload_meant, part_meant, act_meant, due_meant, meters_meant}
+use Rattle.http_asks.specs.Meaning.{Meant, asks, refuses, not_a_month, bad_bucket_name, bad_key, flaw_in, not_json, no_such_version, no_such_upload, bad_part, missing_class, flawed, not_built, by_key, by_body, by_rules, by_tariff, meant_of, bucket_meant, versioning_meant, lifecycle_meant, object_meant, version_meant, upload_meant, part_meant, act_meant, due_meant, meters_meant, tariff_meant, close_meant, report_meant}
 use Rattle.http_asks.specs.Numbers.{number_in, version_in, part_in}
 
 -- ---- numbers and ids
@@ -192,7 +198,7 @@ part_before_body : meant_of (targets.part (codes "logs") (codes "7") (codes "x")
 unfolding part_meant is_bucket_name number_in part_in
 part_before_body = refl
 
--- ---- meters, and what is not served yet
+-- ---- meters, months and prices
 
 a_month : meant_of (targets.meters (codes "logs") (codes "2024-02")) (codes "GET") [] ≡ asks (Query (Meters (codes "logs") (month_number 2024 2)))
 unfolding meters_meant is_bucket_name is_month begins_with_month
@@ -207,5 +213,33 @@ name_before_month : meant_of (targets.meters (codes "lo") (codes "2024-13")) (co
 unfolding meters_meant is_bucket_name is_month begins_with_month
 name_before_month = refl
 
-tariff_waits : meant_of targets.tariff (codes "GET") [] ≡ refuses not_built
-tariff_waits = refl
+-- a tariff is set as the body says
+sets_prices : (body : List ℕ) (said : Prices) → tariff_of body ≡ Ok said → meant_of targets.tariff (codes "PUT") body ≡ asks (Command (SetTariff said))
+unfolding tariff_meant
+sets_prices body said is = ap (λ (read : Result Prices TariffFlaw). by_tariff read (λ t. asks (Command (SetTariff t)))) is
+
+no_price : (body : List ℕ) → tariff_of body ≡ Err (prices.missing_class Transition Glacier) → meant_of targets.tariff (codes "PUT") body ≡ refuses (missing_class Transition Glacier)
+unfolding tariff_meant
+no_price body is = ap (λ (said : Result Prices TariffFlaw). by_tariff said (λ t. asks (Command (SetTariff t)))) is
+
+-- a body is passed over where none is wanted
+shows_prices : meant_of targets.tariff (codes "GET") (codes "[") ≡ asks (Query Tariff)
+unfolding tariff_meant
+shows_prices = refl
+
+closes : meant_of (targets.close (codes "2024-02")) (codes "POST") [] ≡ asks (Command (Close (month_number 2024 2)))
+unfolding close_meant is_month begins_with_month
+closes = refl
+
+no_month_to_close : meant_of (targets.close (codes "2024-2")) (codes "POST") [] ≡ refuses not_a_month
+unfolding close_meant is_month begins_with_month
+no_month_to_close = refl
+
+-- a method that is not served comes before a text that is no month
+no_close_shown : meant_of (targets.close (codes "2024-2")) (codes "GET") [] ≡ refuses not_built
+unfolding close_meant
+no_close_shown = refl
+
+reports : meant_of (targets.report (codes "1970-01")) (codes "GET") [] ≡ asks (Query (Report (month_number 1970 1)))
+unfolding report_meant is_month begins_with_month
+reports = refl

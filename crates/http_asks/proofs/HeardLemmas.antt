@@ -19,7 +19,7 @@ use Rattle.http_wire.proofs.Unique.{stands_unique, stands_rest, stands_more, not
 use Rattle.http_asks.specs.Counts.{Given, AreEnough}
 use Rattle.http_asks.specs.Faults.{refused_of}
 use Rattle.http_asks.specs.Hearing.{IsHeard, last_of}
-use Rattle.http_asks.specs.Meaning.{Refused, not_a_date, not_midnight, not_a_month, bad_bucket_name, bad_key, flaw_in, not_json, unknown_field, wrong_shape, no_such_version, no_such_upload, bad_part, flawed, not_built, Meant, asks, refuses, meant_of, Means, IsMeant}
+use Rattle.http_asks.specs.Meaning.{Refused, not_a_date, not_midnight, not_a_month, bad_bucket_name, bad_key, flaw_in, not_json, unknown_field, wrong_shape, no_such_version, no_such_upload, bad_part, not_toml, missing_class, bad_price, tariff_field, flawed, not_built, Meant, asks, refuses, meant_of, Means, IsMeant}
 use Rattle.http_asks.specs.Streams.{IsItem, IsUnbuilt, StandsUnbuilt, WantsMemory}
 use Rattle.http_asks.specs.Tells.{Tells, TellsRefused, IfServed, OnItem}
 use Rattle.http_asks.specs.declared.reader.Heard.{Heard}
@@ -112,6 +112,10 @@ refused_told bytes more after held m (wrong_shape field) last a rest means ends 
 refused_told bytes more after held m no_such_version last a rest means ends = item_stands bytes more after held m (refuses no_such_version) last a rest means (λ is. cc) ends
 refused_told bytes more after held m no_such_upload last a rest means ends = item_stands bytes more after held m (refuses no_such_upload) last a rest means (λ is. cc) ends
 refused_told bytes more after held m bad_part last a rest means ends = item_stands bytes more after held m (refuses bad_part) last a rest means (λ is. cc) ends
+refused_told bytes more after held m not_toml last a rest means ends = item_stands bytes more after held m (refuses not_toml) last a rest means (λ is. cc) ends
+refused_told bytes more after held m (missing_class table class) last a rest means ends = item_stands bytes more after held m (refuses (missing_class table class)) last a rest means (λ is. cc) ends
+refused_told bytes more after held m (bad_price table class) last a rest means ends = item_stands bytes more after held m (refuses (bad_price table class)) last a rest means (λ is. cc) ends
+refused_told bytes more after held m (tariff_field name) last a rest means ends = item_stands bytes more after held m (refuses (tariff_field name)) last a rest means (λ is. cc) ends
 refused_told bytes more after held m (flawed flaw) last a rest means ends = item_stands bytes more after held m (refuses (flawed flaw)) last a rest means (λ is. cc) ends
 
 request_told : (bytes more after : List ℕ) (held : Held) (m : Parts) (heard : Heard) → Answers bytes held m → after ≡ drop m.used held.bytes
@@ -139,6 +143,10 @@ tells_refused_none (wrong_shape field) bad_last last after is = tt
 tells_refused_none no_such_version bad_last last after is = tt
 tells_refused_none no_such_upload bad_last last after is = tt
 tells_refused_none bad_part bad_last last after is = tt
+tells_refused_none not_toml bad_last last after is = tt
+tells_refused_none (missing_class table class) bad_last last after is = tt
+tells_refused_none (bad_price table class) bad_last last after is = tt
+tells_refused_none (tariff_field name) bad_last last after is = tt
 tells_refused_none (flawed flaw) bad_last last after is = tt
 
 tells_none : (heard : Heard) (Means : Meant → Type 0) (last : Bool) (after : Option (List ℕ)) → IsHeard Means last heard → Tells None heard after
@@ -247,6 +255,10 @@ served_if (wrong_shape field) P p = p
 served_if no_such_version P p = p
 served_if no_such_upload P p = p
 served_if bad_part P p = p
+served_if not_toml P p = p
+served_if (missing_class table class) P p = p
+served_if (bad_price table class) P p = p
+served_if (tariff_field name) P p = p
 served_if (flawed flaw) P p = p
 
 pub on_item : (heard : Heard) (P : Type 0) → P → OnItem {E = Stop} (Ok heard) P

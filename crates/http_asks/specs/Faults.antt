@@ -3,16 +3,19 @@ use Rattle.std.specs.Prelude.{◌≡◌, string_bytes, Option, Some, None, Resul
 use Rattle.rules_core.specs.Configurations.{Configuration}
 use Rattle.rules_json.specs.declared.fault.RulesFault.{RulesFault}
 use Rattle.office_types.specs.declared.command.Ask.{Ask}
+use Rattle.tariff.specs.Faults.{TariffFlaw}
+use Rattle.tariff.specs.Prices.{Prices}
 use Rattle.http_bodies.specs.Flaws as flaws
 use Rattle.http_asks.specs.Meaning.{Refused, not_a_date, not_midnight, not_a_month, bad_bucket_name, bad_key}
 use Rattle.http_asks.specs.Meaning.{flaw_in, not_json, unknown_field, wrong_shape}
 use Rattle.http_asks.specs.Meaning.{no_such_version, no_such_upload, bad_part, flawed, not_built}
-use Rattle.http_asks.specs.Meaning.{broken_by, Meant, asks, refuses}
+use Rattle.http_asks.specs.Meaning.{not_toml, missing_class, bad_price, tariff_field}
+use Rattle.http_asks.specs.Meaning.{broken_by, refused_by, Meant, asks, refuses}
 use Rattle.http_asks.specs.declared.bad.Bad.{Bad}
 use Rattle.http_asks.specs.declared.bad.Bad.TheVariants.{NotADate, NotMidnight, NotAMonth, BadBucketName, BadKey}
 use Rattle.http_asks.specs.declared.bad.Bad.TheVariants.{BadTags, BadSize, Flaw, NotJson, UnknownField, WrongShape}
 use Rattle.http_asks.specs.declared.bad.Bad.TheVariants.{UnsupportedClass, NoSuchVersion, NoSuchUpload, BadPart}
-use Rattle.http_asks.specs.declared.bad.Bad.TheVariants.{BadBody, NotBuilt}
+use Rattle.http_asks.specs.declared.bad.Bad.TheVariants.{NotToml, MissingClass, BadPrice, TariffField, BadBody, NotBuilt}
 use Rattle.http_asks.specs.declared.bad.Fault.{Fault}
 use Rattle.http_asks.specs.declared.bad.Fault.TheVariants as faults
 
@@ -33,6 +36,10 @@ refused_of (UnsupportedClass name) = flawed (flaws.unsupported_class (string_byt
 refused_of NoSuchVersion = no_such_version
 refused_of NoSuchUpload = no_such_upload
 refused_of BadPart = bad_part
+refused_of NotToml = not_toml
+refused_of (MissingClass table class) = missing_class table class
+refused_of (BadPrice table class) = bad_price table class
+refused_of (TariffField name) = tariff_field (string_bytes name)
 refused_of (BadBody field) = flawed (flaws.bad_body (string_bytes field))
 refused_of NotBuilt = not_built
 
@@ -55,6 +62,11 @@ IsSaid said (Err fault) = OnBroken fault (HasFlaw said)
 abbrev pub HasFault : Result Configuration RulesFault → Refused → Type 0
 HasFault (Ok rules) broken = ⊥
 HasFault (Err fault) broken = broken ≡ broken_by fault
+
+-- reading a tariff breaks this rule
+abbrev pub HasPriceFlaw : Result Prices TariffFlaw → Refused → Type 0
+HasPriceFlaw (Ok tariff) broken = ⊥
+HasPriceFlaw (Err flaw) broken = broken ≡ refused_by flaw
 
 -- an answer is what a part of the path is read as, or this refusal
 abbrev pub IsRead : {T : Type 0} → Option T → Refused → Result T Fault → Type 0

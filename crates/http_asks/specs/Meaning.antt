@@ -12,12 +12,18 @@ use Rattle.rules_core.specs.declared.flaw.RuleFlaw.{RuleFlaw}
 use Rattle.rules_json.specs.Reading.{rules_of}
 use Rattle.rules_json.specs.declared.fault.RulesFault.{RulesFault}
 use Rattle.rules_json.specs.declared.fault.RulesFault.TheVariants as faults
+use Rattle.class_rules.specs.declared.class.Class.{Class}
+use Rattle.tariff.specs.declared.fault.TariffTable.{TariffTable}
+use Rattle.tariff.specs.Faults.{TariffFlaw}
+use Rattle.tariff.specs.Faults as prices
+use Rattle.tariff.specs.Prices.{Prices}
+use Rattle.tariff.specs.Reading.{tariff_of}
 use Rattle.office_types.specs.declared.command.Ask.{Ask}
 use Rattle.office_types.specs.declared.command.Ask.TheVariants.{Command, Query}
 use Rattle.office_types.specs.declared.command.Command.TheVariants.{CreateBucket, SetVersioning, SetRules, DropRules}
 use Rattle.office_types.specs.declared.command.Command.TheVariants.{Put, Delete, DeleteVersion, SetTags}
-use Rattle.office_types.specs.declared.command.Command.TheVariants.{StartUpload, PutPart, Complete, Abort, Act}
-use Rattle.office_types.specs.declared.command.Query.TheVariants.{Bucket, Rules, Stack, Upload, Due, Meters}
+use Rattle.office_types.specs.declared.command.Command.TheVariants.{StartUpload, PutPart, Complete, Abort, Act, SetTariff, Close}
+use Rattle.office_types.specs.declared.command.Query.TheVariants.{Bucket, Rules, Stack, Upload, Due, Meters, Tariff, Report}
 use Rattle.http_bodies.specs.Flaws.{BodyFlaw, unsupported_class}
 use Rattle.http_bodies.specs.Multipart.{upload_of, part_of}
 use Rattle.http_bodies.specs.Puts.{put_of}
@@ -42,6 +48,10 @@ pub data Refused : Type 0 where
   no_such_version : Refused
   no_such_upload : Refused
   bad_part : Refused
+  not_toml : Refused
+  missing_class : TariffTable → Class → Refused
+  bad_price : TariffTable → Class → Refused
+  tariff_field : List ℕ → Refused
   flawed : BodyFlaw → Refused
   not_built : Refused
 
@@ -94,6 +104,23 @@ broken_by faults.NoMemory = not_json
 abbrev pub by_rules : Result Configuration RulesFault → (Configuration → Meant) → Meant
 by_rules (Ok rules) meant = meant rules
 by_rules (Err fault) meant = refuses (broken_by fault)
+
+-- the rule that the text of a tariff breaks
+abbrev pub refused_by : TariffFlaw → Refused
+refused_by prices.not_toml = not_toml
+refused_by (prices.missing_class table class) = missing_class table class
+refused_by (prices.bad_price table class) = bad_price table class
+refused_by (prices.unknown_field name) = tariff_field name
+
+-- this of a tariff, or what its text breaks
+abbrev pub by_tariff : Result Prices TariffFlaw → (Prices → Meant) → Meant
+by_tariff (Ok tariff) meant = meant tariff
+by_tariff (Err flaw) meant = refuses (refused_by flaw)
+
+-- this, of the month that a part of the path is
+abbrev pub by_month : List ℕ → (ℕ → Meant) → Meant
+by_month part meant =
+    if is_month part then meant (month_number (year_in part) (month_in part)) else refuses not_a_month
 
 -- this, of the id of a version
 abbrev pub by_version : List ℕ → (VersionId → Meant) → Meant
@@ -234,13 +261,26 @@ due_meant method name =
 -- the meters of a bucket in a month
 unfoldable pub meters_meant : List ℕ → List ℕ → List ℕ → Meant
 meters_meant method name month =
-    if is_get method then if_name name (
-    if is_month month then asks (Query (Meters name (month_number (year_in month) (month_in month))))
-    else refuses not_a_month
-    )
+    if is_get method then if_name name (by_month month (λ m. asks (Query (Meters name m)))) else refuses not_built
+
+-- the tariff
+unfoldable pub tariff_meant : List ℕ → List ℕ → Meant
+tariff_meant method body =
+    if is_put method then by_tariff (tariff_of body) (λ tariff. asks (Command (SetTariff tariff)))
+    else if is_get method then asks (Query Tariff)
     else refuses not_built
 
--- what a method asks of a resource, with this body; tariffs, closes and reports are not served yet
+-- the close of a month
+unfoldable pub close_meant : List ℕ → List ℕ → Meant
+close_meant method month =
+    if is_post method then by_month month (λ m. asks (Command (Close m))) else refuses not_built
+
+-- the report of a month
+unfoldable pub report_meant : List ℕ → List ℕ → Meant
+report_meant method month =
+    if is_get method then by_month month (λ m. asks (Query (Report m))) else refuses not_built
+
+-- what a method asks of a resource, with this body
 abbrev pub meant_of : Resource → List ℕ → List ℕ → Meant
 meant_of (targets.bucket name) method body = bucket_meant method name
 meant_of (targets.versioning name) method body = versioning_meant method name body
@@ -254,9 +294,9 @@ meant_of (targets.part name id part) method body = part_meant method name id par
 meant_of (targets.act name) method body = act_meant method name
 meant_of (targets.due name) method body = due_meant method name
 meant_of (targets.meters name month) method body = meters_meant method name month
-meant_of targets.tariff method body = refuses not_built
-meant_of (targets.close month) method body = refuses not_built
-meant_of (targets.report month) method body = refuses not_built
+meant_of targets.tariff method body = tariff_meant method body
+meant_of (targets.close month) method body = close_meant method month
+meant_of (targets.report month) method body = report_meant method month
 
 -- a request with this target, method and body means this: what it asks of the resource that the target names, or
 -- nothing that is served where the target names none

@@ -6,6 +6,7 @@ ghost use Rattle.http_asks.specs.Meaning.{Means, meant_of};
 
 use crate::bad::{Bad, Fault};
 use crate::bucket_asks::{act_ask, bucket_ask, due_ask, lifecycle_ask, meters_ask, versioning_ask};
+use crate::month_asks::{close_ask, report_ask, tariff_ask};
 use crate::object_asks::{object_ask, tags_ask, version_ask};
 use crate::upload_asks::{part_ask, upload_ask, uploads_ask};
 use http_routes::{Route, Routes};
@@ -29,9 +30,9 @@ fn route_ask(alloc: Global, route: Route<'_>, method: &[u8], body: &[u8]) -> Res
         Route::Act { bucket } => act_ask(alloc, method, bucket),
         Route::Due { bucket } => due_ask(alloc, method, bucket),
         Route::Meters { bucket, month } => meters_ask(alloc, method, bucket, month),
-        Route::Tariff | Route::Close { .. } | Route::Report { .. } => {
-            Err(Fault::Bad(Bad::NotBuilt))
-        }
+        Route::Tariff => tariff_ask(alloc, method, body),
+        Route::Close { month } => close_ask(method, month),
+        Route::Report { month } => report_ask(method, month),
     }
 }
 

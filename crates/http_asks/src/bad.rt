@@ -2,12 +2,15 @@
 ghost use Rattle.std.specs.Prelude.{◌≡◌, Some, option_map};
 ghost use Rattle.http_bodies.specs.Flaws.{flaw_of};
 ghost use Rattle.http_asks.specs.Faults.{OnBroken};
-ghost use Rattle.http_asks.specs.Meaning.{flawed, broken_by};
+ghost use Rattle.http_asks.specs.Meaning.{flawed, broken_by, refused_by};
 ghost use Rattle.rules_json.specs.Faults.{told_of};
+ghost use Rattle.tariff.specs.Faults as prices;
 
+use class_rules::Class;
 use http_bodies::BodyFault;
 use rules_core::RuleFlaw;
 use rules_json::RulesFault;
+use tariff::{TariffFault, TariffTable};
 
 /// Refusals that a message's own text decides.
 #[derive(PartialEq, Debug, Drop)]
@@ -54,6 +57,26 @@ pub enum Bad {
     NoSuchUpload,
     /// The part of the path is not 1 to 5 digits.
     BadPart,
+    /// The bytes of a tariff are no TOML document.
+    NotToml,
+    /// A table of a tariff has no price for a class.
+    MissingClass {
+        /// The table.
+        table: TariffTable,
+        /// The first such class, from the warmest on.
+        class: Class,
+    },
+    /// What a table of a tariff has for a class is no price.
+    BadPrice {
+        /// The table.
+        table: TariffTable,
+        /// The first such class, from the warmest on.
+        class: Class,
+    },
+    /// A tariff has a field that is none of its tables, or a table has a name that is none of its classes.
+    TariffField {
+        name: String,
+    },
     /// The field of the body is missing, has another kind of value or is not one of the body's; an empty name: the body
     /// is no JSON object.
     BadBody {
@@ -102,5 +125,19 @@ pub(crate) fn rules_fault(fault: RulesFault) -> Fault
         }),
         RulesFault::Flaw { flaw, rule } => Fault::Bad(Bad::Flaw { flaw, rule }),
         RulesFault::NoMemory => Fault::NoMemory,
+    }
+}
+
+pub(crate) fn tariff_fault(fault: TariffFault) -> Fault
+    ensures { OnBroken result (λ broken. option_map refused_by (prices.flaw_of fault) ≡ Some broken) }
+{
+    match fault {
+        TariffFault::NotToml => Fault::Bad(Bad::NotToml),
+        TariffFault::MissingClass { table, class } => {
+            Fault::Bad(Bad::MissingClass { table, class })
+        }
+        TariffFault::BadPrice { table, class } => Fault::Bad(Bad::BadPrice { table, class }),
+        TariffFault::UnknownField { name } => Fault::Bad(Bad::TariffField { name }),
+        TariffFault::NoMemory => Fault::NoMemory,
     }
 }

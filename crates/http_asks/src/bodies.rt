@@ -4,14 +4,16 @@ ghost use Rattle.http_bodies.specs.Multipart.{upload_of, part_of};
 ghost use Rattle.http_bodies.specs.Puts.{put_of};
 ghost use Rattle.http_bodies.specs.Settings.{status_of, tagging_of};
 ghost use Rattle.rules_json.specs.Reading.{rules_of};
-ghost use Rattle.http_asks.specs.Faults.{OnBroken, HasFault, IsSaid};
+ghost use Rattle.tariff.specs.Reading.{tariff_of};
+ghost use Rattle.http_asks.specs.Faults.{OnBroken, HasFault, HasPriceFlaw, IsSaid};
 
-use crate::bad::{Fault, fault_of, rules_fault};
+use crate::bad::{Fault, fault_of, rules_fault, tariff_fault};
 use http_bodies::{PutBody, UploadBody, read_part, read_put, read_status, read_tags, read_upload};
 use office_base::Tags;
 use rules_core::RuleSet;
 use rules_json::read_rules;
 use std::alloc::Global;
+use tariff::Tariff;
 
 #[tactic(auto, using(crate::proofs::AskLemmas::flaw_told))]
 pub(crate) fn put_body(alloc: Global, bytes: &[u8]) -> Result<PutBody, Fault>
@@ -71,5 +73,16 @@ pub(crate) fn rules_body(alloc: Global, bytes: &[u8]) -> Result<RuleSet, Fault>
     match read_rules(alloc, bytes) {
         Ok(rules) => Ok(rules),
         Err(fault) => Err(rules_fault(fault)),
+    }
+}
+
+#[tactic(auto, using(crate::proofs::AskLemmas::price_flaw_told))]
+pub(crate) fn tariff_body(alloc: Global, bytes: &[u8]) -> Result<Tariff, Fault>
+    ensures ok { IfOk result (λ tariff. tariff_of bytes.now ≡ Ok tariff) }
+    ensures err { IfErr result (λ fault. OnBroken fault (HasPriceFlaw (tariff_of bytes.now))) }
+{
+    match Tariff::read(alloc, bytes) {
+        Ok(tariff) => Ok(tariff),
+        Err(fault) => Err(tariff_fault(fault)),
     }
 }

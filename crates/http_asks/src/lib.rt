@@ -6,6 +6,7 @@ mod bad;
 mod bodies;
 mod bucket_asks;
 mod laws;
+mod month_asks;
 mod object_asks;
 mod parts;
 mod reader;

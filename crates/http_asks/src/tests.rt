@@ -114,6 +114,23 @@ fn put_upload_command(text: &mut String, command: &Command) -> Result<(), Fail> 
     Ok(())
 }
 
+fn put_office_command(text: &mut String, command: &Command) -> Result<(), Fail> {
+    match command {
+        Command::SetTariff { tariff } => {
+            text.push_str("SetTariff")?;
+            for price in &tariff.storage {
+                write!(text, " {price}")?;
+            }
+            for price in &tariff.transition {
+                write!(text, " {price}")?;
+            }
+        }
+        Command::Close { month } => write!(text, "Close {}/{}", month.year(), month.month())?,
+        _ => {}
+    }
+    Ok(())
+}
+
 fn put_query(text: &mut String, query: &Query) -> Result<(), Fail> {
     match query {
         Query::Bucket(bucket) => write!(text, "Bucket {}", bucket.text())?,
@@ -133,18 +150,20 @@ fn put_query(text: &mut String, query: &Query) -> Result<(), Fail> {
                 month.month()
             )?;
         }
-        _ => {}
+        Query::Tariff => text.push_str("Tariff")?,
+        Query::Report(month) => write!(text, "Report {}/{}", month.year(), month.month())?,
     }
     Ok(())
 }
 
-// Writes what is asked; each of the three writes the commands of its own.
+// Writes what is asked; each of the four writes the commands of its own.
 fn put_ask(text: &mut String, ask: &Ask) -> Result<(), Fail> {
     match ask {
         Ask::Command(command) => {
             put_bucket_command(text, command)?;
             put_object_command(text, command)?;
             put_upload_command(text, command)?;
+            put_office_command(text, command)?;
         }
         Ask::Query(query) => put_query(text, query)?,
     }
@@ -169,6 +188,10 @@ fn words_of(bad: &Bad) -> (&str, &str) {
         Bad::NoSuchVersion => ("NoSuchVersion", ""),
         Bad::NoSuchUpload => ("NoSuchUpload", ""),
         Bad::BadPart => ("BadPart", ""),
+        Bad::NotToml => ("NotToml", ""),
+        Bad::MissingClass { class, .. } => ("MissingClass ", class.name()),
+        Bad::BadPrice { class, .. } => ("BadPrice ", class.name()),
+        Bad::TariffField { name } => ("TariffField ", name.as_str()),
         Bad::BadBody { field } => ("BadBody ", field.as_str()),
         Bad::NotBuilt => ("NotBuilt", ""),
     }
@@ -178,8 +201,12 @@ fn put_bad(text: &mut String, bad: &Bad) -> Result<(), Fail> {
     let (word, more) = words_of(bad);
     text.push_str(word)?;
     text.push_str(more)?;
-    if let Bad::Flaw { flaw, rule } = bad {
-        write!(text, "{flaw:?} {rule}")?;
+    match bad {
+        Bad::Flaw { flaw, rule } => write!(text, "{flaw:?} {rule}")?,
+        Bad::MissingClass { table, .. } | Bad::BadPrice { table, .. } => {
+            write!(text, " in {}", table.name())?;
+        }
+        _ => {}
     }
     Ok(())
 }
@@ -579,6 +606,42 @@ fn queries_of_meters(rt: HostRuntime) -> Result<(), Fail> {
     assert_requests(&rt, rt.alloc(), &METERS)
 }
 
+const PRICES: &str =
+    "[storage]\nSTANDARD = 6\nSTANDARD_IA = 5\nONEZONE_IA = 4\nGLACIER_IR = 3\nGLACIER = 2\n\
+DEEP_ARCHIVE = 1\n[transition]\nSTANDARD_IA = 0\nONEZONE_IA = 7\nGLACIER_IR = 8\nGLACIER = 9\nDEEP_ARCHIVE = 10\n";
+
+// TOML v1.1.0 for the bodies.
+const MONTHS: [Row; 14] = [
+    ("PUT /tariff", PRICES, "SetTariff 6 5 4 3 2 1 0 7 8 9 10"),
+    ("GET /tariff", "", "Tariff"),
+    ("GET /tariff", "[", "Tariff"),
+    // The body goes as it stands to the reader of tariffs, an empty one too.
+    ("PUT /tariff", "{\"storage\":{}}", "NotToml"),
+    ("PUT /tariff", "", "MissingClass STANDARD in storage"),
+    (
+        "PUT /tariff",
+        "[storage]\nSTANDARD = -1\n",
+        "BadPrice STANDARD in storage",
+    ),
+    (
+        "PUT /tariff",
+        "[storage]\n[transition]\nSTANDARD = 1\n",
+        "TariffField STANDARD",
+    ),
+    ("POST /months/2024-02/close", "", "Close 2024/2"),
+    ("POST /months/2024-13/close", "", "NotAMonth"),
+    ("POST /months/1969-12/close", "", "NotAMonth"),
+    ("GET /months/2099-12/report", "", "Report 2099/12"),
+    ("GET /months/1970-01/report", "x", "Report 1970/1"),
+    ("GET /months/2100-01/report", "", "NotAMonth"),
+    ("GET /months/2024-1/report", "", "NotAMonth"),
+];
+
+#[test]
+fn requests_for_prices_and_months(rt: HostRuntime) -> Result<(), Fail> {
+    assert_requests(&rt, rt.alloc(), &MONTHS)
+}
+
 const NOT_SERVED: [Row; 22] = [
     // Neither a route nor a method that is served.
     ("put /buckets/logs", "", "NotBuilt"),
@@ -600,10 +663,9 @@ const NOT_SERVED: [Row; 22] = [
     ("POST /buckets/logs/due", "", "NotBuilt"),
     ("PUT /buckets/logs/meters/2024-01", "", "NotBuilt"),
     ("PUT /buckets/logs/objects/", "{\"size\":5}", "NotBuilt"),
-    // Not served yet.
-    ("GET /tariff", "", "NotBuilt"),
-    ("POST /months/2024-01/close", "", "NotBuilt"),
-    ("GET /months/2024-01/report", "", "NotBuilt"),
+    ("DELETE /tariff", "", "NotBuilt"),
+    ("GET /months/2024-13/close", "", "NotBuilt"),
+    ("PUT /months/2024-01/report", "", "NotBuilt"),
 ];
 
 #[test]

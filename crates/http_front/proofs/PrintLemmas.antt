@@ -13,7 +13,11 @@ use Rattle.meter_journal.specs.declared.fault.OpenFault.{OpenFault}
 use Rattle.meter_journal.specs.declared.fault.OpenFault.TheVariants as opening
 use Rattle.desk_core.specs.declared.fault.DeskFault.{DeskFault}
 use Rattle.desk_core.specs.declared.fault.DeskFault.TheVariants as faults
-use Rattle.http_front.specs.Texts.{error_reply, no_memory_text, named_text, field_text, rule_text, damaged_text, open_status, fault_status}
+use Rattle.class_rules.specs.Classes.{class_name}
+use Rattle.class_rules.specs.declared.class.Class.{Class}
+use Rattle.tariff.specs.Reading.{table_name}
+use Rattle.tariff.specs.declared.fault.TariffTable.{TariffTable}
+use Rattle.http_front.specs.Texts.{error_reply, no_memory_text, named_text, field_text, rule_text, price_text, damaged_text, open_status, fault_status}
 
 -- ---- numbers
 
@@ -91,6 +95,11 @@ pub rule_is : (error : List ℕ) (number rule : ℕ)
     → codes "{\"error\":" ++ (quoted error ++ (codes ",\"number\":" ++ (decimal number ++ (codes ",\"rule\":" ++ (decimal rule ++ codes "}"))))) ≡ rule_text error number rule
 unfolding serde_json_on_literals rule_text
 rule_is error number rule = refl
+
+pub price_is : (error : List ℕ) (number : ℕ) (table : TariffTable) (class : Class)
+    → codes "{\"class\":" ++ (quoted (class_name class) ++ (codes ",\"error\":" ++ (quoted error ++ (codes ",\"number\":" ++ (decimal number ++ (codes ",\"table\":" ++ (quoted (table_name table) ++ codes "}"))))))) ≡ price_text error number table class
+unfolding serde_json_on_literals price_text
+price_is error number table class = refl
 
 pub damaged_is : (offset : ℕ) → codes "{\"error\":\"Damaged\",\"number\":" ++ (decimal 112 ++ (codes ",\"offset\":" ++ (decimal offset ++ codes "}"))) ≡ damaged_text offset
 unfolding serde_json_on_literals damaged_text

@@ -1,5 +1,6 @@
 -- What a session does: its exchanges are the messages of the stream in order, and what was said are their texts.
-use Rattle.std.specs.Prelude.{◌≡◌, ◌⊎◌, ℕ, Bool, true, false, List, [], ◌∷◌, ◌++◌, take, length, All, Option, Result, Ok, Err, option_map}
+use Rattle.std.specs.Prelude.{◌≡◌, ◌⊎◌, ℕ, Bool, true, false, List, [], ◌∷◌, ◌++◌, take, length, All, option_map}
+use Rattle.std.specs.Prelude.{Option, Result, Ok, Err}
 use Rattle.std.specs.Io.KnownBytes.{Appends, IsAtEnd}
 use Rattle.office_types.specs.declared.command.Ask.{Ask}
 use Rattle.desk_core.specs.Answers.{Answer, Call}
@@ -50,7 +51,7 @@ abbrev pub IsLong : Result Answer DeskFault → Type 0
 IsLong (Ok answer) = IsShort answer.reply → ⊥
 IsLong (Err fault) = ⊥
 
--- these were said whole, and the last exchange is an answer for whose text there was no memory: this stands in its place
+-- these were said whole, and this in place of the last exchange, an answer for whose text there was no memory
 pub record IsUnsaid (exchanges whole : List Exchange) (written instead : List ℕ) : Type 0 where
   pub last : Call
   pub are : exchanges ≡ whole ++ answered last ∷ []

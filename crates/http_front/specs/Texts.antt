@@ -3,14 +3,19 @@ use Rattle.std.specs.Prelude.{ℕ, List, [], ◌∷◌, codes, Result, Ok, Err}
 use Rattle.std.specs.List.{flat_map}
 use Rattle.serde_json.specs.Data.{string}
 use Rattle.serde_json.specs.Written.{compact_text}
+use Rattle.class_rules.specs.Classes.{class_name}
+use Rattle.class_rules.specs.declared.class.Class.{Class}
 use Rattle.rules_core.specs.declared.flaw.RuleFlaw.{RuleFlaw}
 use Rattle.rules_core.specs.declared.flaw.RuleFlaw.TheVariants as flaws
+use Rattle.tariff.specs.Reading.{table_name}
+use Rattle.tariff.specs.declared.fault.TariffTable.{TariffTable}
 use Rattle.http_bodies.specs.Flaws.{BodyFlaw, bad_body, bad_size, unsupported_class, bad_tags}
 use Rattle.http_text.specs.Replies.{whole, error_data, error_text, reply_with, answer_text}
 use Rattle.http_asks.specs.Faults.{refused_of}
 use Rattle.http_asks.specs.Meaning.{Refused, not_a_date, not_midnight, not_a_month, bad_bucket_name, bad_key}
 use Rattle.http_asks.specs.Meaning.{flaw_in, not_json, unknown_field, wrong_shape}
 use Rattle.http_asks.specs.Meaning.{no_such_version, no_such_upload, bad_part, flawed, not_built}
+use Rattle.http_asks.specs.Meaning.{not_toml, missing_class, bad_price, tariff_field}
 use Rattle.meter_journal.specs.declared.fault.OpenFault.{OpenFault}
 use Rattle.meter_journal.specs.declared.fault.OpenFault.TheVariants as opening
 use Rattle.desk_core.specs.Answers.{Answer}
@@ -32,7 +37,7 @@ not_built_text = error_reply 501 (codes "NotBuilt") 119
 
 -- ---- a message that is refused
 
--- the body tells a name, the field that is wrong, or the place of a rule
+-- the body tells a name, the field that is wrong, the place of a rule, or a class and the table of a tariff
 unfoldable pub named_text : List ℕ → ℕ → List ℕ → List ℕ
 named_text error number name = compact_text (error_data error number ((codes "name", string name) ∷ []))
 
@@ -41,6 +46,11 @@ field_text error number field = compact_text (error_data error number ((codes "f
 
 unfoldable pub rule_text : List ℕ → ℕ → ℕ → List ℕ
 rule_text error number rule = compact_text (error_data error number ((codes "rule", whole rule) ∷ []))
+
+unfoldable pub price_text : List ℕ → ℕ → TariffTable → Class → List ℕ
+price_text error number table class =
+    compact_text (error_data error number
+    ((codes "class", string (class_name class)) ∷ (codes "table", string (table_name table)) ∷ []))
 
 -- the conditions of rules, by name and by number
 abbrev pub flaw_name : RuleFlaw → List ℕ
@@ -96,6 +106,10 @@ refused_body (wrong_shape field) = field_text (codes "WrongShape") 42 field
 refused_body no_such_version = error_text (codes "NoSuchVersion") 51
 refused_body no_such_upload = error_text (codes "NoSuchUpload") 60
 refused_body bad_part = error_text (codes "BadPart") 61
+refused_body not_toml = error_text (codes "NotToml") 70
+refused_body (missing_class table class) = price_text (codes "MissingClass") 71 table class
+refused_body (bad_price table class) = price_text (codes "BadPrice") 72 table class
+refused_body (tariff_field name) = named_text (codes "UnknownField") 73 name
 refused_body (flawed flaw) = flaw_body flaw
 refused_body not_built = error_text (codes "NotBuilt") 119
 

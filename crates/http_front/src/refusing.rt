@@ -3,15 +3,18 @@ ghost use Rattle.std.specs.Prelude.{◌≡◌, ◌++◌, IfOk};
 ghost use Rattle.http_asks.specs.Faults.{refused_of};
 ghost use Rattle.http_text.specs.Replies.{head_text};
 ghost use Rattle.http_text.specs.Room.{Puts};
-ghost use Rattle.http_front.specs.Texts.{bad_text, bad_text_of, field_text, flaw_name, flaw_number, named_text, refused_body, refused_status, rule_text};
+ghost use Rattle.http_front.specs.Texts.{bad_text, bad_text_of, refused_body, refused_status};
+ghost use Rattle.http_front.specs.Texts.{field_text, flaw_name, flaw_number, named_text, price_text, rule_text};
 
 use crate::bad::Bad;
 use crate::printing::print_call;
+use class_rules::Class;
 use http::StatusCode;
 use http_text::{put, put_error, put_head, put_number, put_quoted};
 use office_base::NoMemory;
 use rules_core::RuleFlaw;
 use std::alloc::Global;
+use tariff::TariffTable;
 
 fn status(bad: &http_asks::Bad) -> StatusCode
     ensures { result ≡ refused_status (refused_of bad.now) }
@@ -107,6 +110,28 @@ fn put_flaw(room: &mut [u8], at: usize, flaw: RuleFlaw, rule: u32) -> usize
     put(room, at, b"}")
 }
 
+// What a table of a tariff has for a class, where it is no price.
+fn put_price(
+    room: &mut [u8],
+    at: usize,
+    error: &str,
+    number: u64,
+    table: TariffTable,
+    class: Class,
+) -> usize
+    ensures { Puts room.old at room.new result (price_text error.now number table class) }
+{
+    let at = put(room, at, b"{\"class\":");
+    let at = put_quoted(room, at, class.name().as_bytes());
+    let at = put(room, at, b",\"error\":");
+    let at = put_quoted(room, at, error.as_bytes());
+    let at = put(room, at, b",\"number\":");
+    let at = put_number(room, at, number);
+    let at = put(room, at, b",\"table\":");
+    let at = put_quoted(room, at, table.name().as_bytes());
+    put(room, at, b"}")
+}
+
 fn put_body(room: &mut [u8], at: usize, bad: &http_asks::Bad) -> usize
     ensures { Puts room.old at room.new result (refused_body (refused_of bad.now)) }
 {
@@ -128,6 +153,14 @@ fn put_body(room: &mut [u8], at: usize, bad: &http_asks::Bad) -> usize
         http_asks::Bad::NoSuchVersion => put_error(room, at, "NoSuchVersion", 51),
         http_asks::Bad::NoSuchUpload => put_error(room, at, "NoSuchUpload", 60),
         http_asks::Bad::BadPart => put_error(room, at, "BadPart", 61),
+        http_asks::Bad::NotToml => put_error(room, at, "NotToml", 70),
+        http_asks::Bad::MissingClass { table, class } => {
+            put_price(room, at, "MissingClass", 71, *table, *class)
+        }
+        http_asks::Bad::BadPrice { table, class } => {
+            put_price(room, at, "BadPrice", 72, *table, *class)
+        }
+        http_asks::Bad::TariffField { name } => put_named(room, at, "UnknownField", 73, name),
         http_asks::Bad::BadBody { field } => put_field(room, at, "BadBody", 123, field),
         http_asks::Bad::NotBuilt => put_error(room, at, "NotBuilt", 119),
     }

@@ -1,12 +1,16 @@
 use super::*;
+use class_rules::Class;
 use desk_core::{Acked, Desk, DeskFault, ListClock};
 use disk_core::{Disk, FileNo, MemoryDisk};
+use http_text::is_short;
 use meter_journal::OpenFault;
 use office_base::BucketName;
 use office_types::{Ask, Command};
+use rules_core::RuleFlaw;
 use std::alloc::Global;
 use std::process::Abort;
 use std::test::Fail;
+use tariff::TariffTable;
 
 const MADE: &[u8] =
     b"HTTP/1.1 201 Created\r\ncontent-type: application/json\r\ncontent-length: 17\r\n\r\n{\"bucket\":\"logs\"}";
@@ -189,6 +193,90 @@ fn faults_and_refusals_are_printed_exactly(rt: HostRuntime) -> Result<(), Fail> 
     Ok(())
 }
 
+// Refusals that tell no text of the message. RFC 9110, "Status Codes".
+const REFUSALS: [(http_asks::Bad, &[u8], &[u8], &[u8]); 10] = [
+    (
+        http_asks::Bad::NotADate,
+        b"400 Bad Request",
+        b"31",
+        b"{\"error\":\"NotADate\",\"number\":2}",
+    ),
+    (
+        http_asks::Bad::NotMidnight,
+        b"400 Bad Request",
+        b"34",
+        b"{\"error\":\"NotMidnight\",\"number\":3}",
+    ),
+    (
+        http_asks::Bad::Flaw {
+            flaw: RuleFlaw::MarkerRule,
+            rule: 1,
+        },
+        b"400 Bad Request",
+        b"43",
+        b"{\"error\":\"MarkerRule\",\"number\":32,\"rule\":1}",
+    ),
+    (
+        http_asks::Bad::NotJson,
+        b"400 Bad Request",
+        b"31",
+        b"{\"error\":\"NotJson\",\"number\":40}",
+    ),
+    (
+        http_asks::Bad::NoSuchVersion,
+        b"404 Not Found",
+        b"37",
+        b"{\"error\":\"NoSuchVersion\",\"number\":51}",
+    ),
+    (
+        http_asks::Bad::NoSuchUpload,
+        b"404 Not Found",
+        b"36",
+        b"{\"error\":\"NoSuchUpload\",\"number\":60}",
+    ),
+    (
+        http_asks::Bad::BadPart,
+        b"409 Conflict",
+        b"31",
+        b"{\"error\":\"BadPart\",\"number\":61}",
+    ),
+    (
+        http_asks::Bad::NotToml,
+        b"400 Bad Request",
+        b"31",
+        b"{\"error\":\"NotToml\",\"number\":70}",
+    ),
+    (
+        http_asks::Bad::MissingClass {
+            table: TariffTable::Storage,
+            class: Class::Glacier,
+        },
+        b"400 Bad Request",
+        b"72",
+        b"{\"class\":\"GLACIER\",\"error\":\"MissingClass\",\"number\":71,\"table\":\"storage\"}",
+    ),
+    (
+        http_asks::Bad::BadPrice {
+            table: TariffTable::Transition,
+            class: Class::StandardIa,
+        },
+        b"400 Bad Request",
+        b"75",
+        b"{\"class\":\"STANDARD_IA\",\"error\":\"BadPrice\",\"number\":72,\"table\":\"transition\"}",
+    ),
+];
+
+#[test]
+fn refusals_are_printed_exactly(rt: HostRuntime) -> Result<(), Fail> {
+    let alloc = rt.alloc();
+    let kind: &[u8] = b"\r\ncontent-type: application/json\r\ncontent-length: ";
+    for (bad, status, size, body) in REFUSALS {
+        let reply = joined(alloc, &[b"HTTP/1.1 ", status, kind, size, GAP, body])?;
+        assert_printed(&rt, alloc, &Bad::Message(bad), &reply);
+    }
+    Ok(())
+}
+
 // How often the same bucket is asked for, the cut, what fails, and how the session ends.
 const FAILURES: [(&[&[u8]], usize, Failing, SessionEnd, &[&[u8]]); 5] = [
     (
@@ -315,7 +403,7 @@ fn what_is_not_served_is_the_last(rt: HostRuntime) -> Result<(), Fail> {
 }
 
 // A message that is refused, and the size and the text of the reply's body.
-const REFUSED: [(&[u8], &[u8], &[u8]); 9] = [
+const REFUSED: [(&[u8], &[u8], &[u8]); 10] = [
     (
         b"GET /buckets/logs/meters/2024-13 HTTP/1.1\r\n\r\n",
         b"32",
@@ -352,6 +440,11 @@ const REFUSED: [(&[u8], &[u8], &[u8]); 9] = [
         b"PUT /buckets/logs/objects/k HTTP/1.1\r\nContent-Length: 2\r\n\r\n[]",
         b"43",
         b"{\"error\":\"BadBody\",\"field\":\"\",\"number\":123}",
+    ),
+    (
+        b"PUT /tariff HTTP/1.1\r\nContent-Length: 5\r\n\r\nx = 1",
+        b"47",
+        b"{\"error\":\"UnknownField\",\"name\":\"x\",\"number\":73}",
     ),
 ];
 
@@ -498,6 +591,7 @@ fn made(alloc: Global) -> Result<Acked, Fail> {
 fn a_query_is_printed_as_a_reply(rt: HostRuntime) -> Result<(), Fail> {
     let alloc = rt.alloc();
     let acked = made(alloc)?;
+    assert!(rt; is_short(acked.reply()));
     let mut room = [0u8; 200];
     assert!(rt; print_reply(&mut room, &acked) == Ok(MADE.len()));
     assert!(rt; room.starts_with(MADE));

@@ -29,4 +29,5 @@ charges lines = sum_by (λ (line : ReportLine). line.charge) lines
 
 -- a row for each line, between the header and the total
 unfoldable pub report_csv : List ReportLine → List ℕ
-report_csv lines = flat_map (row_text default_writer) (header_row ∷ map line_row lines ++ total_row (charges lines) ∷ [])
+report_csv lines =
+    flat_map (row_text default_writer) (header_row ∷ map line_row lines ++ total_row (charges lines) ∷ [])

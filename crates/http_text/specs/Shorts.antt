@@ -1,7 +1,8 @@
 -- Answers by how long their text may be.
 use Rattle.std.specs.Prelude.{Result, Ok, Err}
 use Rattle.office_types.specs.declared.reply.Reply.{Reply}
-use Rattle.office_types.specs.declared.reply.Reply.TheVariants.{RulesShown, StackShown, UploadShown, TariffShown, Report}
+use Rattle.office_types.specs.declared.reply.Reply.TheVariants.{RulesShown, StackShown, UploadShown, TariffShown}
+use Rattle.office_types.specs.declared.reply.Reply.TheVariants.{Report}
 use Rattle.office_types.specs.declared.refusal.Refusal.{Refusal}
 
 -- the replies to commands, and what a bucket holds and used

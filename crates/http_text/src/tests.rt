@@ -1,5 +1,4 @@
 ghost use Rattle.office_types.specs.Fits.{AnswerFits, ReplyFits};
-ghost use Rattle.http_text.specs.Shorts.{IsShort, IsShortReply};
 ghost use Rattle.std.specs.Prelude.{IfOk};
 
 use super::*;
@@ -26,9 +25,9 @@ fn is_printed(
     status: &str,
     body: &str,
 ) -> Result<(), Fail>
-    requires fits { AnswerFits answer.now }
-    requires short { IsShort answer.now }
+    requires { AnswerFits answer.now }
 {
+    assert!(rt; is_short(answer), "{body}");
     let mut room = vec![in alloc; 0u8; 16384]?;
     let size = put_answer(&mut room, answer);
     let wanted = format!(in alloc; "HTTP/1.1 {status}{HEADERS}{}\r\n\r\n{body}", body.len())?;
@@ -363,6 +362,7 @@ fn the_longest_action(rt: HostRuntime) -> Result<(), Fail> {
     let kind = ActionKind::Transition(Class::DeepArchive);
     let target = Target::Version(id(18_446_744_073_709_551_615)?);
     let answer = Ok(chosen(alloc, kind, &key, target, &rule, None)?);
+    assert!(rt; is_short(&answer));
     let mut room = vec![in alloc; 0u8; 16384]?;
     // 1,024 and 255 bytes of six characters each, and what stands between them.
     assert_eq!(rt; put_answer(&mut room, &answer), 7_881);

@@ -5,6 +5,8 @@ mod init;
 #[cfg(test)]
 mod lifecycle_sessions;
 mod lines;
+#[cfg(test)]
+mod month_sessions;
 mod program;
 mod run;
 mod serve;

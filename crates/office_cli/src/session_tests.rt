@@ -4,6 +4,7 @@ use crate::lifecycle_sessions::{
     ABORT, COLDER, CONFIGURATION, CONFLICT, CONFLICT_VERSIONS, LATE, LONE_MARKER, NEWER_KEPT,
     PAST_DATE,
 };
+use crate::month_sessions::{CLOSING, MONTH, NOT_OVER, TARIFF};
 use crate::tests::{command_at, disk_of};
 use crate::version_sessions::{EARLY, MARKER, NULL_VERSION, UNVERSIONED, UPLOAD};
 use http_front::MemoryReplies;
@@ -47,8 +48,13 @@ fn input_of(alloc: Global, steps: &[Step]) -> Result<Vec<u8>, Fail> {
 fn wanted_of(alloc: Global, steps: &[Step]) -> Result<Vec<u8>, Fail> {
     let mut wanted = Vec::new(alloc);
     for step in steps {
+        let media = if step.4.starts_with("{") {
+            "application/json"
+        } else {
+            "text/csv"
+        };
         let text = format!(in alloc;
-            "HTTP/1.1 {}\r\ncontent-type: application/json\r\ncontent-length: {}\r\n\r\n{}",
+            "HTTP/1.1 {}\r\ncontent-type: {media}\r\ncontent-length: {}\r\n\r\n{}",
             step.3,
             step.4.len(),
             step.4
@@ -113,6 +119,10 @@ fn sessions_are_answered_as_their_rows_say(rt: HostRuntime) -> Result<(), Fail> 
         LONE_MARKER,
         ABORT,
         PAST_DATE,
+        TARIFF,
+        MONTH,
+        CLOSING,
+        NOT_OVER,
     ] {
         check(&rt, alloc, steps, 1000)?;
         // Each message over a journal that is opened anew.

@@ -26,4 +26,4 @@ pub returns-clause-stands : goal.returns-clause-stands
 returns-clause-stands c =
     let key = c.args.key.now in
     subst (λ (o : Option Version). OnOk c.book_move.result ((books : Books) → StandsFor c.args.meters.now (book_of books) → MayHaveStay key o books
-        → StandsFor c.book_move.new.meters (book_of (books_moved key o c.args.to c.args.at books)))) c.in-Some.ensures c.book_move.ensures.stands
+    → StandsFor c.book_move.new.meters (book_of (books_moved key o c.args.to c.args.at books)))) c.in-Some.ensures c.book_move.ensures.stands

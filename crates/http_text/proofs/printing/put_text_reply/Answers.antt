@@ -1,4 +1,3 @@
-use Rattle.http_text.specs.Replies.{head_with}
 use Rattle.http_text.proofs.RoomLemmas.{puts_then}
 use Rattle.http_text.proofs.printing.put_text_reply.Goals as goal
 

@@ -1,5 +1,4 @@
-use Rattle.std.proofs.Common.{◌≡◌, ◌+◌, take, drop, Some, sum_by}
-use Rattle.office_types.specs.declared.reply.ReportLine.{ReportLine}
+use Rattle.std.proofs.Common.{◌≡◌, ◌+◌, take, drop, Some}
 use Rattle.http_text.specs.Reports.{charges}
 use Rattle.http_text.specs.Sheets.{IsReady, held}
 use Rattle.http_text.proofs.ReportLemmas.{rows_of}

@@ -2,7 +2,7 @@ use Rattle.std.proofs.Common.{◌+◌, [], ◌∷◌, true, drop, map}
 use Rattle.std.proofs.lemmas.List.{drop_all}
 use Rattle.serde_json.specs.View.{items_of}
 use Rattle.serde_json.specs.Written.{items_text}
-use Rattle.http_text.specs.Bodies.{noncurrent_version, version_text}
+use Rattle.http_text.specs.Bodies.{noncurrent_version}
 use Rattle.http_text.proofs.Going.{going_on, going_end}
 use Rattle.http_text.proofs.LongTexts.{version_left}
 use Rattle.http_text.proofs.stack_body.put_noncurrent.Goals as goal

@@ -2,7 +2,7 @@ use Rattle.std.proofs.Common.{◌+◌, drop, [], ◌∷◌, true, false}
 use Rattle.std.proofs.lemmas.List.{drop_all}
 use Rattle.serde_json.specs.Written.{members_text}
 use Rattle.office_base.specs.Tags.{tags_of}
-use Rattle.http_text.proofs.Going.{going_start, going_on, going_end, row, tag_left, tags_in_row}
+use Rattle.http_text.proofs.Going.{going_on, going_end, row, tag_left, tags_in_row}
 use Rattle.http_text.proofs.RoomLemmas.{puts_then, puts_same}
 use Rattle.http_text.proofs.tag_body.put_pairs.Goals as goal
 

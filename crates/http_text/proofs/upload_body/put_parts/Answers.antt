@@ -1,9 +1,9 @@
-use Rattle.std.proofs.Common.{◌∙◌, List, ℕ, [], ◌∷◌, true, false, map, ap, subst}
+use Rattle.std.proofs.Common.{◌∙◌, List, ℕ, [], ◌∷◌, true, false, map, ap}
 use Rattle.serde_json.specs.View.{items_of}
 use Rattle.serde_json.specs.Written.{items_text}
 use Rattle.uploads.specs.declared.part.Part.{Part}
 use Rattle.http_text.specs.Bodies.{part_data}
-use Rattle.http_text.proofs.Going.{Going, going_on, going_end, part_left}
+use Rattle.http_text.proofs.Going.{going_on, going_end, part_left}
 use Rattle.http_text.proofs.LongTexts.{parts_is}
 use Rattle.http_text.proofs.RoomLemmas.{puts_then, puts_same}
 use Rattle.http_text.proofs.upload_body.put_parts.Goals as goal
