@@ -13,7 +13,7 @@ MODE, DEFAULT_MODE = "TransitionDefaultMinimumObjectSize", "all_storage_classes_
 # What a request or a reply has around a configuration: boto3, the AWS command line, and its --cli-input-json.
 ENVELOPE = ("ResponseMetadata", "Bucket", "ExpectedBucketOwner", "ChecksumAlgorithm", "ContentMD5")
 # A moment as boto3 shows it where its reply is printed and not written as JSON.
-SHOWN = re.compile(r"datetime\.datetime\((\d+), (\d+), (\d+), (\d+), (\d+)(?:, tzinfo=\w*(?:tz|timezone|dateutil\.tz\.)\w*(?:\.utc|\(\)))?\)")
+SHOWN = re.compile(r"datetime\.datetime\((\d+), (\d+), (\d+), (\d+), (\d+), tzinfo=[\w.]*utc(?:\(\))?\)")
 
 
 def text_of(path):
@@ -121,6 +121,8 @@ def filter_of(rule):
         return found
     found = dict(found.get("And", found))
     tags = found.pop("Tags", [])
+    if isinstance(tags, list) and all(isinstance(it, dict) for it in tags):
+        tags = sorted(tags, key=lambda it: str(it.get("Key")))
     if not found.get("Prefix"):
         found.pop("Prefix", None)
     if len(found) + len(tags) > 1:
