@@ -92,7 +92,8 @@ def cases(to, client):
     check("Terraform, newer values", [{
         "ID": "d", "Status": "Disabled", "Filter": {"Tag": {"Key": "k", "Value": "v"}},
         "Transitions": [{"Date": "2030-01-01T00:00:00.000Z", "StorageClass": "DEEP_ARCHIVE"}]}], rules("new"))
-    for name, text in (("as Python prints it", REPLY), ("as JSON", REPLY.replace("datetime.datetime(2030, 1, 1, 0, 0, tzinfo=tzutc())",
+    for name, text in (("as Python prints it", REPLY), ("in another zone", REPLY.replace("datetime.datetime(2030, 1, 1, 0, 0, tzinfo=tzutc())",
+                                                                                         "'2030-01-01T05:30:00+05:30'")), ("as JSON", REPLY.replace("datetime.datetime(2030, 1, 1, 0, 0, tzinfo=tzutc())",
                                                                                  "'2030-01-01 00:00:00+00:00'").replace("'", '"'))):
         run("boto", "remove", "d", "--yes")
         check(f"boto3, {name}, status", 0, run("boto", "--yes", "set", file("reply", text))[0])

@@ -12,8 +12,8 @@ CLASSES = ("STANDARD_IA", "ONEZONE_IA", "GLACIER_IR", "GLACIER", "DEEP_ARCHIVE")
 MODE, DEFAULT_MODE = "TransitionDefaultMinimumObjectSize", "all_storage_classes_128K"
 # What a request or a reply has around a configuration: boto3, the AWS command line, and its --cli-input-json.
 ENVELOPE = ("ResponseMetadata", "Bucket", "ExpectedBucketOwner", "ChecksumAlgorithm", "ContentMD5")
-# A moment as boto3 shows it where its reply is printed and not written as JSON.
-SHOWN = re.compile(r"datetime\.datetime\((\d+), (\d+), (\d+), (\d+), (\d+), tzinfo=[\w.]*utc(?:\(\))?\)")
+# A moment as boto3 shows it where its reply is printed and not written as JSON; tzlocal() is the zone of this machine.
+SHOWN = re.compile(r"datetime\.datetime\((\d+), (\d+), (\d+), (\d+), (\d+), tzinfo=[\w.]*(utc|tzlocal)(?:\(\))?\)")
 
 
 def text_of(path):
@@ -28,6 +28,13 @@ def text_of(path):
         raise Stop(3, f"{path}: {fault.strerror}") from None
 
 
+def moment_shown(found):
+    """A moment that Python shows, as a text in UTC."""
+    *parts, zone = found.groups()
+    moment = datetime.datetime(*map(int, parts), tzinfo=datetime.timezone.utc if zone == "utc" else None)
+    return repr(moment.astimezone(datetime.timezone.utc).isoformat())
+
+
 def value_of(path, text):
     """What a text says: JSON, or a reply of boto3 as Python prints it."""
     try:
@@ -35,10 +42,9 @@ def value_of(path, text):
     except (ValueError, RecursionError) as fault:
         why = fault
     if text.lstrip()[:2] in ("{'", "['", "[{"):
-        dated = SHOWN.sub(lambda it: "'{:04}-{:02}-{:02}T{:02}:{:02}:00Z'".format(*map(int, it.groups())), text)
         try:
-            return ast.literal_eval(dated.strip())
-        except (ValueError, SyntaxError, RecursionError, MemoryError):
+            return ast.literal_eval(SHOWN.sub(moment_shown, text).strip())
+        except (ValueError, OverflowError, SyntaxError, RecursionError, MemoryError):
             pass
     raise Stop(3, f"{path}: no JSON: {why}")
 
@@ -75,13 +81,22 @@ def document_of(path, bucket, address=None):
 
 
 def with_dates(found):
-    """The same, where a date with a blank before its time, as Python writes it, has a T there."""
+    """The same, with the dates of a zone in UTC, and with a T before their times."""
     if isinstance(found, list):
         return [with_dates(it) for it in found]
     if isinstance(found, dict):
-        return {name: re.sub(r"^(\d{4}-\d\d-\d\d) (?=\d)", r"\1T", it) if name == "Date" and isinstance(it, str) else with_dates(it)
-                for name, it in found.items()}
+        return {name: in_utc(it) if name == "Date" and isinstance(it, str) else with_dates(it) for name, it in found.items()}
     return found
+
+
+def in_utc(text):
+    """A date of another zone, or with a blank before its time, as the same moment in UTC; all else as it stands."""
+    try:
+        moment = datetime.datetime.fromisoformat(text)
+        other = moment.tzinfo is not None and (moment.utcoffset() or " " in text)
+        return moment.astimezone(datetime.timezone.utc).isoformat() if other else text
+    except (ValueError, OverflowError):
+        return text
 
 
 def missing(found, place=""):
@@ -97,8 +112,6 @@ def missing(found, place=""):
             yield f"{at}: {it!r}: {why}"
         elif name == "Date" and isinstance(it, str) and re.match(r"(2[1-9]|[3-9]\d)\d\d-", it):
             yield f"{at}: {it!r}: the last day is 2099-12-31"
-        elif name == "Date" and isinstance(it, str) and re.search(r"T.*[+-](?!00:?00)\d\d:?\d\d$", it):
-            yield f"{at}: {it!r}: write the same midnight in UTC"
         elif name in ("Transition", "NoncurrentVersionTransition"):
             yield f"{at}: of the older XML API; write the list {name}s"
         else:
