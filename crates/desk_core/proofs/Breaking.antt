@@ -11,7 +11,8 @@ use Rattle.office_types.specs.declared.reply.Reply.TheVariants.{NothingDue}
 use Rattle.office_types.specs.declared.refusal.Refusal.{Refusal}
 use Rattle.office_types.specs.declared.refusal.Refusal.TheVariants as refusals
 use Rattle.plain_office.proofs.Runs.{early_refused}
-use Rattle.office_machine.specs.Standing.{Records, StandsForOffice, Does, most_commands}
+use Rattle.bucket_account.specs.Standing.{most_commands}
+use Rattle.office_machine.specs.Standing.{Records, StandsForOffice, Does}
 use Rattle.meter_journal.specs.declared.fault.OpenFault.{OpenFault}
 use Rattle.meter_journal.specs.declared.fault.OpenFault.TheVariants as faults
 use Rattle.entry_codec.specs.Spelling.{Fits, spelling}

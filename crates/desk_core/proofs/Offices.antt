@@ -12,7 +12,8 @@ use Rattle.office_types.specs.declared.reply.Reply.TheVariants.{NothingDue}
 use Rattle.office_types.specs.declared.refusal.Refusal.{Refusal}
 use Rattle.office_types.specs.declared.refusal.Refusal.TheVariants.{NoMemory}
 use Rattle.plain_office.proofs.Runs.{IsStep, accepted_by, refused_by, nothing_by, step_refused, step_nothing, run_more, run_none}
-use Rattle.office_machine.specs.Standing.{Records, StandsForOffice, Does, accepted_after, most_commands}
+use Rattle.bucket_account.specs.Standing.{most_commands}
+use Rattle.office_machine.specs.Standing.{Records, StandsForOffice, Does, accepted_after}
 use Rattle.entry_codec.specs.Spelling.{spelling}
 use Rattle.entry_codec.proofs.Sizes.{spelling_long}
 use Rattle.meter_journal.specs.History.{framed, whole, header, end_gate}

@@ -8,7 +8,7 @@ ghost use Rattle.office_types.specs.declared.command.Entry.{Entry};
 ghost use Rattle.office_types.specs.declared.reply.Reply.TheVariants.{NothingDue};
 ghost use Rattle.plain_office.specs.Run.{accept, is_not_before};
 ghost use Rattle.plain_office.specs.Step.{is_accepted};
-ghost use Rattle.office_machine.specs.Standing.{most_commands};
+ghost use Rattle.bucket_account.specs.Standing.{most_commands};
 ghost use Rattle.meter_journal.specs.Reading.{IsMade, HasStoreCause};
 ghost use Rattle.desk_core.specs.Asking.{Reopens, IsOffice, Unopened};
 ghost use Rattle.desk_core.specs.Breaking.{HasReplayed, ReplayFails, OpenFails, IsBroken};

@@ -18,3 +18,8 @@ pub returns-in-NoSuchVersion : goal.returns-in-NoSuchVersion
 returns-in-NoSuchVersion c =
     let put = c.put_error-in-NoSuchVersion in
     subst (λ (bad : Bad). Puts c.args.room.now c.args.at put.new.room put.result (refused_body (refused_of bad))) (sym c.in-NoSuchVersion.is) put.ensures.puts
+
+pub returns-in-TariffField : goal.returns-in-TariffField
+returns-in-TariffField c =
+    let put = c.put_named-in-TariffField in
+    subst (λ (bad : Bad). Puts c.args.room.now c.args.at put.new.room put.result (refused_body (refused_of bad))) (sym c.in-TariffField.is) (rw c.deref-in-TariffField.ensures at put.ensures)

@@ -5,7 +5,8 @@ use Rattle.plain_office.specs.Office.{Office}
 use Rattle.plain_office.specs.Run.{entry_at}
 use Rattle.plain_office.specs.Step.{step}
 use Rattle.plain_office.proofs.Runs.{accepted_reply}
-use Rattle.office_machine.specs.Standing.{StandsForOffice, Does, accepted_after, most_commands}
+use Rattle.bucket_account.specs.Standing.{most_commands}
+use Rattle.office_machine.specs.Standing.{StandsForOffice, Does, accepted_after}
 use Rattle.meter_journal.specs.History.{header, end_gate, IsAtRest}
 use Rattle.desk_core.specs.Desk.{Parts}
 use Rattle.desk_core.specs.Keeping.{Adds}
