@@ -114,6 +114,7 @@ class Run:
         if reply != {"action": "none"}:
             entry = now.to_bytes(8, "big") + bytes([kind]) + place(name) + fields
             self.journal += len(entry).to_bytes(4, "big") + entry + b"\xa5"
+            self.last = now
         return method, target, body, reply
 
     def queries(self):
@@ -159,6 +160,7 @@ def differences(seed):
         run.now += run.draw.choice((0, 1, 3_600_000, DAY // 2, run.draw.randint(0, 12 * DAY)))
         run.command()
     (folder / "office-data/journal").write_bytes(run.journal[:-1] + b"\0")
+    run.now = run.last  # the clock is before it
     asked = [run.command() for _ in range(20)]
     asked += [("GET", target, None, wanted) for target, wanted in run.queries()]
     ended = subprocess.run([PROGRAM, "run"], cwd=folder, input=b"".join(message(*it[:3]) for it in asked), capture_output=True, timeout=60, check=False)
