@@ -577,13 +577,14 @@ fn what_is_not_served_ends_the_session(rt: HostRuntime) -> Result<(), Fail> {
         ("PUT /buckets/logs/", ""),
         ("PUT /buckets/logs?a", ""),
         ("PUT buckets/logs", ""),
-        ("GET /buckets/logs/objects/a", ""),
+        ("POST /buckets/logs/objects/a", ""),
         ("PUT /buckets/logs/objects/", "{\"size\":1}"),
-        (
-            "PUT /buckets/logs/objects/a",
-            "{\"size\":1,\"tags\":{\"a\":\"b\"}}",
-        ),
+        ("GET /buckets/logs/versions/1/a", ""),
+        ("POST /buckets/logs/versioning", ""),
+        ("GET /buckets/logs/act", ""),
         ("PUT /buckets/logs/meters/2024-01", ""),
+        ("DELETE /tariff", ""),
+        ("GET /months/2024-01/close", ""),
     ] {
         let mut input = request(alloc, line, body)?;
         input.extend_from_slice(SHOW)?;
