@@ -1,5 +1,7 @@
 // Whole sessions, message by message: what each is answered at which moment. The values come from the tables of
 // docs/LIFECYCLE.md and docs/FORMATS.md, computed by hand.
+ghost use Rattle.std.specs.Prelude.{◌<◌};
+
 use crate::lifecycle_sessions::{
     ABORT, COLDER, CONFIGURATION, CONFLICT, CONFLICT_VERSIONS, LATE, LONE_MARKER, NEWER_KEPT,
     PAST_DATE,
