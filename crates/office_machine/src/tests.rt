@@ -572,16 +572,23 @@ const A_DATE_IN_THE_PAST: [Row; 5] = [
 ];
 
 #[test]
-fn what_is_due_is_done_in_order(rt: HostRuntime) -> Result<(), Fail> {
-    for rows in [
-        &EXPIRED[..],
-        &MOVED_AND_EXPIRED,
-        &ONE_NEWER_KEPT,
-        &A_DATE_IN_THE_PAST,
-    ] {
-        assert_rows(&rt, rt.alloc(), rows)?;
-    }
-    Ok(())
+fn a_removal_goes_first(rt: HostRuntime) -> Result<(), Fail> {
+    assert_rows(&rt, rt.alloc(), &EXPIRED)
+}
+
+#[test]
+fn a_move_goes_before_a_marker(rt: HostRuntime) -> Result<(), Fail> {
+    assert_rows(&rt, rt.alloc(), &MOVED_AND_EXPIRED)
+}
+
+#[test]
+fn one_newer_version_is_kept(rt: HostRuntime) -> Result<(), Fail> {
+    assert_rows(&rt, rt.alloc(), &ONE_NEWER_KEPT)
+}
+
+#[test]
+fn a_date_in_the_past_acts_at_once(rt: HostRuntime) -> Result<(), Fail> {
+    assert_rows(&rt, rt.alloc(), &A_DATE_IN_THE_PAST)
 }
 
 // A GiB in STANDARD for the whole of January.
@@ -672,23 +679,4 @@ const PARTS: [Row; 8] = [
 #[test]
 fn parts_of_an_upload(rt: HostRuntime) -> Result<(), Fail> {
     assert_rows(&rt, rt.alloc(), &PARTS)
-}
-
-#[test]
-fn a_thousand_buckets(rt: HostRuntime) -> Result<(), Fail> {
-    let alloc = rt.alloc();
-    let mut tried = Tried::new(alloc);
-    for number in 0u64..2_000 {
-        let name = format!(in alloc; "bucket-{}", 1_000 - number % 1_000)?;
-        let wanted = if number < 1_000 { MADE } else { EXISTS };
-        assert_eq!(rt;
-            tried.turn(&rt, alloc, 100, Wish::Make(&name))?,
-            wanted,
-            "{name}"
-        );
-    }
-    let full = Heard::Full(What::Buckets, 1_000);
-    assert_eq!(rt; tried.turn(&rt, alloc, 101, Wish::Make("one-more"))?, full);
-    assert_eq!(rt; tried.last_ms(), Some(100));
-    Ok(())
 }

@@ -75,7 +75,7 @@ pub(crate) enum Heard {
     // Another command was done.
     Done,
     // How many versions.
-    Shown(u32),
+    Shown(u64),
     Metered(Used),
     // The quantity and the charge of the report's one line.
     Billed(u128, u128),
@@ -321,7 +321,7 @@ fn answer_of(said: &Result<Reply, Refusal>, ms: u64, wish: Wish<'_>) -> Heard {
         }
         (Reply::StackShown { key, stack }, Wish::Versions(_, asked)) => {
             (
-                Heard::Shown(stack.versions().len() as u32),
+                Heard::Shown(stack.versions().len() as u64),
                 key.bytes() == asked.as_bytes(),
             )
         }
@@ -338,7 +338,7 @@ fn answer_of(said: &Result<Reply, Refusal>, ms: u64, wish: Wish<'_>) -> Heard {
             Wish::Show(name),
         ) => {
             (
-                Heard::Shown(*versions),
+                Heard::Shown(u64::from(*versions)),
                 bucket.text() == name && *rules == 0 && *uploads == 0,
             )
         }
