@@ -2,7 +2,6 @@ use crate::trial::{Heard, Order, Tried, Used, Wish};
 use class_rules::Class;
 use due_core::{ActionKind, Target};
 use office_base::VersionId;
-use office_types::What;
 use std::alloc::Global;
 use std::process::Abort;
 use std::test::Fail;
