@@ -9,7 +9,5 @@ mod queries;
 mod reports;
 #[cfg(test)]
 mod tests;
-#[cfg(test)]
-mod trial;
 
 pub use office::Office;

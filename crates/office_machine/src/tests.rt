@@ -1,8 +1,13 @@
-use crate::trial::{Heard, Order, Tried, Used, Wish};
+ghost use Rattle.std.specs.Prelude.{◌≡◌};
+ghost use Rattle.plain_office.specs.Run.{is_not_before};
+
+use super::*;
 use class_rules::Class;
-use due_core::{ActionKind, Target};
-use office_base::VersionId;
+use moments::{Moment, Month};
+use office_base::{BucketName, Key, Size, Tags, VersionId};
+use office_types::{ClassMeters, Command, Query, Refusal, Reply, What};
 use std::alloc::Global;
+use std::marker::Model;
 use std::process::Abort;
 use std::test::Fail;
 
@@ -10,6 +15,255 @@ use std::test::Fail;
 const NEW_YEAR: u64 = 1_704_067_200_000;
 
 const DAY: u64 = 86_400_000;
+
+// What an office is asked, of a bucket with this name.
+#[derive(Clone, Copy, Debug)]
+enum Wish<'a> {
+    Make(&'a str),
+    // A put under this key, of this many bytes.
+    Put(&'a str, &'a str, u64, Class),
+    // A put of one byte under this key, with this many tags.
+    Tagged(&'a str, &'a str, u64),
+    Show(&'a str),
+    // The meters of this month of a year.
+    Meters(&'a str, u16, u8),
+}
+
+// What was used of STANDARD and STANDARD_IA in byte-milliseconds, and the early quantity of the latter; nothing else.
+#[derive(Clone, Copy, Debug, PartialEq, Eq)]
+struct Used {
+    standard: u128,
+    infrequent: u128,
+    early: u128,
+}
+
+// What was answered.
+#[derive(Clone, Copy, Debug, PartialEq, Eq)]
+enum Heard {
+    Made,
+    Stored,
+    // How many versions.
+    Shown(u32),
+    Metered(Used),
+    Exists,
+    Missing,
+    Full(What, u64),
+    // Another refusal, or a reply to something else.
+    Other,
+}
+
+fn month_of(year: u16, number: u8) -> Result<Month, Fail> {
+    match Month::of(year, number) {
+        Some(month) => Ok(month),
+        None => Err(Fail::new("no month")),
+    }
+}
+
+// An office to which few commands have led.
+#[derive(Drop)]
+struct Tried {
+    office: Office,
+    asked: u64,
+}
+
+impl Model for Tried {
+    ghost use Rattle.std.specs.Prelude.{◌≤◌};
+    ghost use Rattle.office_machine.specs.Standing.{Records};
+
+    ghost Value = { Records };
+
+    ghost view = { λ t. t.office };
+
+    ghost invariant = { λ t. t.office.accepted ≤ t.asked };
+}
+
+// As many tags, with different keys.
+fn tags(alloc: Global, number: u64) -> Result<Tags, Fail> {
+    let mut pairs = Vec::new(alloc);
+    for n in 0..number {
+        pairs.push((format!(in alloc; "key-{n}")?, format!(in alloc; "value")?))?;
+    }
+    Ok(Tags::read(alloc, pairs)?)
+}
+
+impl Tried {
+    fn new(alloc: Global) -> Tried {
+        Tried {
+            office: Office::new(alloc),
+            asked: 0,
+        }
+    }
+
+    // Does what is wished, and gives what was answered.
+    fn turn(
+        &mut self,
+        rt: &impl Abort,
+        alloc: Global,
+        ms: u64,
+        wish: Wish<'_>,
+    ) -> Result<Heard, Fail> {
+        let (Wish::Make(name)
+        | Wish::Put(name, ..)
+        | Wish::Tagged(name, ..)
+        | Wish::Show(name)
+        | Wish::Meters(name, ..)) = wish;
+        let bucket = BucketName::read(alloc, name)?;
+        let moment = Moment::of(ms)?;
+        let said = match wish {
+            Wish::Make(_) => self.ask(rt, moment, &Command::CreateBucket { bucket }),
+            Wish::Put(_, key, size, class) => {
+                let command = Command::Put {
+                    bucket,
+                    key: Key::read(alloc, key.as_bytes())?,
+                    size: Size::of(size)?,
+                    class,
+                    tags: tags(alloc, 0)?,
+                };
+                self.ask(rt, moment, &command)
+            }
+            Wish::Tagged(_, key, number) => {
+                let command = Command::Put {
+                    bucket,
+                    key: Key::read(alloc, key.as_bytes())?,
+                    size: Size::of(1)?,
+                    class: Class::Standard,
+                    tags: tags(alloc, number)?,
+                };
+                self.ask(rt, moment, &command)
+            }
+            Wish::Show(_) => self.show(rt, moment, &Query::Bucket(bucket)),
+            Wish::Meters(_, year, number) => {
+                self.show(rt, moment, &Query::Meters(bucket, month_of(year, number)?))
+            }
+        };
+        Ok(answer_of(&said, ms, wish))
+    }
+
+    fn ask(
+        &mut self,
+        rt: &impl Abort,
+        moment: Moment,
+        command: &Command,
+    ) -> Result<Reply, Refusal> {
+        assert!(rt; self.is_later(moment));
+        assert!(rt; self.asked < 1_000_000);
+        self.asked += 1;
+        self.office.apply(moment, command)
+    }
+
+    fn show(&self, rt: &impl Abort, moment: Moment, query: &Query) -> Result<Reply, Refusal> {
+        assert!(rt; self.is_later(moment));
+        self.office.answer(moment, query)
+    }
+
+    // The moment is not before the last one.
+    fn is_later(&self, moment: Moment) -> bool
+        ensures { result ≡ is_not_before self.now.last moment }
+    {
+        match self.office.last() {
+            Some(last) => last.ms() <= moment.ms(),
+            None => true,
+        }
+    }
+
+    fn last_ms(&self) -> Option<u64> {
+        match self.office.last() {
+            Some(last) => Some(last.ms()),
+            None => None,
+        }
+    }
+}
+
+fn answer_of(said: &Result<Reply, Refusal>, ms: u64, wish: Wish<'_>) -> Heard {
+    let reply = match said {
+        Ok(reply) => reply,
+        Err(refusal) => return refused(refusal),
+    };
+    let (what, is_so) = match (reply, wish) {
+        (Reply::BucketMade { bucket }, Wish::Make(name)) => (Heard::Made, bucket.text() == name),
+        (Reply::Stored { moment, version }, Wish::Put(..) | Wish::Tagged(..)) => {
+            (
+                Heard::Stored,
+                moment.ms() == ms && *version == VersionId::Null,
+            )
+        }
+        (
+            Reply::BucketShown {
+                bucket,
+                versions,
+                rules,
+                uploads,
+                ..
+            },
+            Wish::Show(name),
+        ) => {
+            (
+                Heard::Shown(*versions),
+                bucket.text() == name && *rules == 0 && *uploads == 0,
+            )
+        }
+        (
+            Reply::MetersShown {
+                bucket,
+                month,
+                classes,
+            },
+            Wish::Meters(name, year, number),
+        ) => {
+            let is_month = month.year() == year && month.month() == number;
+            (metered(classes), is_month && bucket.text() == name)
+        }
+        _ => (Heard::Other, true),
+    };
+    if is_so { what } else { Heard::Other }
+}
+
+fn refused(refusal: &Refusal) -> Heard {
+    match refusal {
+        Refusal::BucketExists => Heard::Exists,
+        Refusal::NoSuchBucket => Heard::Missing,
+        Refusal::Full { what, limit } => Heard::Full(*what, *limit),
+        _ => Heard::Other,
+    }
+}
+
+fn metered(meters: &[ClassMeters; 6]) -> Heard {
+    let used = Used {
+        standard: meters[0].byte_ms,
+        infrequent: meters[1].byte_ms,
+        early: meters[1].early_byte_ms,
+    };
+    let classes = [
+        Class::Standard,
+        Class::StandardIa,
+        Class::OnezoneIa,
+        Class::GlacierIr,
+        Class::Glacier,
+        Class::DeepArchive,
+    ];
+    for (meters, class) in meters.iter().zip(classes) {
+        if *meters != used.of(class) {
+            return Heard::Other;
+        }
+    }
+    Heard::Metered(used)
+}
+
+impl Used {
+    fn of(self, class: Class) -> ClassMeters {
+        let (byte_ms, early_byte_ms) = match class {
+            Class::Standard => (self.standard, 0),
+            Class::StandardIa => (self.infrequent, self.early),
+            _ => (0, 0),
+        };
+        ClassMeters {
+            class,
+            byte_ms,
+            early_byte_ms,
+            moves: 0,
+        }
+    }
+}
 
 // The moment, what is wished then, what is answered, and the moment of the last accepted command after it.
 type Row = (u64, Wish<'static>, Heard, u64);
@@ -221,8 +475,8 @@ const LEFT_EARLY: [Row; 4] = [
     ),
     (
         NEW_YEAR + 10 * DAY,
-        DELETE_A,
-        Heard::Done,
+        Wish::Put("logs", "a", 0, STANDARD),
+        Heard::Stored,
         NEW_YEAR + 10 * DAY,
     ),
     (
@@ -282,400 +536,21 @@ fn puts_with_tags(rt: HostRuntime) -> Result<(), Fail> {
     assert_rows(&rt, rt.alloc(), &TAGGED)
 }
 
-const KEY_A: Wish<'static> = Wish::Versions("logs", "a");
-
-const ENABLE: Wish<'static> = Wish::Do("logs", Order::Keep(true));
-
-const SUSPEND: Wish<'static> = Wish::Do("logs", Order::Keep(false));
-
-const ACT: Wish<'static> = Wish::Do("logs", Order::Act);
-
-const DELETE_A: Wish<'static> = Wish::Do("logs", Order::Delete("a"));
-
-const NULL_A: Wish<'static> = Wish::Do("logs", Order::Remove("a", "null"));
-
-const JANUARY: Wish<'static> = Wish::Meters("logs", 2024, 1);
-
-// A delete marker under a key of one byte is billed as one byte.
-const A_MARKER: [Row; 8] = [
-    (NEW_YEAR, Wish::Make("logs"), MADE, NEW_YEAR),
-    (NEW_YEAR, ENABLE, Heard::Done, NEW_YEAR),
-    (NEW_YEAR, DELETE_A, Heard::Marked(1), NEW_YEAR),
-    (NEW_YEAR, KEY_A, Heard::Shown(1), NEW_YEAR),
-    (
-        NEW_YEAR + DAY,
-        JANUARY,
-        Heard::Metered(Used {
-            standard: 86_400_000,
-            infrequent: 0,
-            early: 0,
-        }),
-        NEW_YEAR,
-    ),
-    (
-        NEW_YEAR + DAY,
-        Wish::Do("logs", Order::Remove("a", "1")),
-        Heard::Done,
-        NEW_YEAR + DAY,
-    ),
-    (NEW_YEAR + DAY, KEY_A, Heard::NoKey, NEW_YEAR + DAY),
-    (
-        NEW_YEAR + 2 * DAY,
-        JANUARY,
-        Heard::Metered(Used {
-            standard: 86_400_000,
-            infrequent: 0,
-            early: 0,
-        }),
-        NEW_YEAR + DAY,
-    ),
-];
-
-const A_NULL_VERSION_REPLACED: [Row; 11] = [
-    (NEW_YEAR, Wish::Make("logs"), MADE, NEW_YEAR),
-    (
-        NEW_YEAR,
-        Wish::Put("logs", "a", 200_000, Class::StandardIa),
-        Heard::Stored,
-        NEW_YEAR,
-    ),
-    (NEW_YEAR, ENABLE, Heard::Done, NEW_YEAR),
-    (
-        NEW_YEAR,
-        Wish::Put("logs", "a", 0, STANDARD),
-        Heard::Numbered(1),
-        NEW_YEAR,
-    ),
-    (NEW_YEAR, SUSPEND, Heard::Done, NEW_YEAR),
-    (
-        NEW_YEAR + 10 * DAY,
-        Wish::Put("logs", "a", 0, STANDARD),
-        Heard::Stored,
-        NEW_YEAR + 10 * DAY,
-    ),
-    (
-        NEW_YEAR + 10 * DAY,
-        KEY_A,
-        Heard::Shown(2),
-        NEW_YEAR + 10 * DAY,
-    ),
-    (
-        NEW_YEAR + 10 * DAY,
-        JANUARY,
-        Heard::Metered(Used {
-            standard: 0,
-            infrequent: 172_800_000_000_000,
-            early: 345_600_000_000_000,
-        }),
-        NEW_YEAR + 10 * DAY,
-    ),
-    (
-        NEW_YEAR + 10 * DAY,
-        NULL_A,
-        Heard::Done,
-        NEW_YEAR + 10 * DAY,
-    ),
-    (
-        NEW_YEAR + 11 * DAY,
-        NULL_A,
-        Heard::NoVersion,
-        NEW_YEAR + 10 * DAY,
-    ),
-    (
-        NEW_YEAR + 11 * DAY,
-        KEY_A,
-        Heard::Shown(1),
-        NEW_YEAR + 10 * DAY,
-    ),
-];
-
 #[test]
-fn markers_and_versions(rt: HostRuntime) -> Result<(), Fail> {
-    assert_rows(&rt, rt.alloc(), &A_MARKER)?;
-    assert_rows(&rt, rt.alloc(), &A_NULL_VERSION_REPLACED)
-}
-
-// 2024-02-01 and 2024-04-01 00:00 UTC.
-const FEBRUARY: u64 = 1_706_745_600_000;
-
-const APRIL: u64 = 1_711_929_600_000;
-
-const EXPIRES: &str =
-    "{\"Rules\":[{\"Status\":\"Enabled\",\"Filter\":{\"Prefix\":\"\"},\"Expiration\":{\"Days\":9}}]}";
-
-const CLOSE: Wish<'static> = Wish::Do("logs", Order::Close(2024, 1));
-
-// Nine days after the year began.
-const TENTH: u64 = NEW_YEAR + 9 * DAY;
-
-const CLOSING: [Row; 10] = [
-    (NEW_YEAR, Wish::Make("logs"), MADE, NEW_YEAR),
-    (
-        NEW_YEAR,
-        Wish::Do("logs", Order::Prices),
-        Heard::Done,
-        NEW_YEAR,
-    ),
-    (
-        NEW_YEAR,
-        Wish::Do("logs", Order::Rules(EXPIRES)),
-        Heard::Done,
-        NEW_YEAR,
-    ),
-    (
-        NEW_YEAR,
-        Wish::Put("logs", "a", 1, STANDARD),
-        Heard::Stored,
-        NEW_YEAR,
-    ),
-    (FEBRUARY - 1, CLOSE, Heard::NotOver(FEBRUARY), NEW_YEAR),
-    (
-        FEBRUARY,
-        CLOSE,
-        Heard::Due(Target::Version(VersionId::Null)),
-        NEW_YEAR,
-    ),
-    (
-        FEBRUARY,
-        ACT,
-        Heard::Acted(ActionKind::Remove, TENTH),
-        FEBRUARY,
-    ),
-    (FEBRUARY + 1, CLOSE, Heard::Done, FEBRUARY + 1),
-    (FEBRUARY + 2, CLOSE, Heard::Closed, FEBRUARY + 1),
-    (
-        APRIL,
-        Wish::Do("logs", Order::Close(2024, 3)),
-        Heard::Open(2),
-        FEBRUARY + 1,
-    ),
-];
-
-const NOTHING_DUE: [Row; 3] = [
-    (5, Wish::Make("logs"), MADE, 5),
-    (6, ACT, Heard::Nothing, 5),
-    (6, CLOSE, Heard::NotOver(FEBRUARY), 5),
-];
-
-#[test]
-fn months_are_closed_in_order(rt: HostRuntime) -> Result<(), Fail> {
-    assert_rows(&rt, rt.alloc(), &CLOSING)?;
-    assert_rows(&rt, rt.alloc(), &NOTHING_DUE)
-}
-
-// 2023-12-10 09:00 UTC; thirty days later, at the next midnight; and 2024-01-08 10:00 UTC.
-const PUT_AT: u64 = 1_702_198_800_000;
-
-const DUE_AT: u64 = 1_704_844_800_000;
-
-const EIGHTH: u64 = 1_704_708_000_000;
-
-const MOVE_AND_EXPIRE: &str =
-    "{\"Rules\":[{\"ID\":\"r1\",\"Status\":\"Enabled\",\"Filter\":{\"Prefix\":\"\"},\
-    \"Transitions\":[{\"Days\":30,\"StorageClass\":\"STANDARD_IA\"}]},\
-    {\"ID\":\"r2\",\"Status\":\"Enabled\",\"Filter\":{\"Prefix\":\"\"},\"Expiration\":{\"Days\":30}}]}";
-
-const PAST: &str = "{\"Rules\":[{\"Status\":\"Enabled\",\"Filter\":{\"Prefix\":\"\"},\
-    \"Expiration\":{\"Date\":\"2024-01-05T00:00:00.000Z\"}}]}";
-
-const OLD_VERSIONS: &str = "{\"Rules\":[{\"Status\":\"Enabled\",\"Filter\":{\"Prefix\":\"\"},\
-    \"NoncurrentVersionExpiration\":{\"NoncurrentDays\":30,\"NewerNoncurrentVersions\":1}}]}";
-
-const REMOVED: Heard = Heard::Acted(ActionKind::Remove, DUE_AT);
-
-const MILLION: Wish<'static> = Wish::Put("logs", "a", 1_000_000, STANDARD);
-
-const EXPIRED: [Row; 5] = [
-    (PUT_AT, Wish::Make("logs"), MADE, PUT_AT),
-    (
-        PUT_AT,
-        Wish::Do("logs", Order::Rules(MOVE_AND_EXPIRE)),
-        Heard::Done,
-        PUT_AT,
-    ),
-    (PUT_AT, MILLION, Heard::Stored, PUT_AT),
-    (DUE_AT, ACT, REMOVED, DUE_AT),
-    (DUE_AT + 1, ACT, Heard::Nothing, DUE_AT),
-];
-
-const MOVED_AND_EXPIRED: [Row; 8] = [
-    (PUT_AT, Wish::Make("logs"), MADE, PUT_AT),
-    (PUT_AT, ENABLE, Heard::Done, PUT_AT),
-    (
-        PUT_AT,
-        Wish::Do("logs", Order::Rules(MOVE_AND_EXPIRE)),
-        Heard::Done,
-        PUT_AT,
-    ),
-    (PUT_AT, MILLION, Heard::Numbered(1), PUT_AT),
-    (
-        DUE_AT,
-        ACT,
-        Heard::Acted(ActionKind::Transition(Class::StandardIa), DUE_AT),
-        DUE_AT,
-    ),
-    (
-        DUE_AT,
-        ACT,
-        Heard::Acted(ActionKind::Marker, DUE_AT),
-        DUE_AT,
-    ),
-    (DUE_AT, ACT, Heard::Nothing, DUE_AT),
-    (DUE_AT, KEY_A, Heard::Shown(2), DUE_AT),
-];
-
-const ONE_NEWER_KEPT: [Row; 11] = [
-    (PUT_AT, Wish::Make("logs"), MADE, PUT_AT),
-    (PUT_AT, ENABLE, Heard::Done, PUT_AT),
-    (
-        PUT_AT,
-        Wish::Do("logs", Order::Rules(OLD_VERSIONS)),
-        Heard::Done,
-        PUT_AT,
-    ),
-    (PUT_AT, MILLION, Heard::Numbered(1), PUT_AT),
-    (PUT_AT, MILLION, Heard::Numbered(2), PUT_AT),
-    (PUT_AT, MILLION, Heard::Numbered(3), PUT_AT),
-    (PUT_AT, MILLION, Heard::Numbered(4), PUT_AT),
-    (DUE_AT, ACT, REMOVED, DUE_AT),
-    (DUE_AT, ACT, REMOVED, DUE_AT),
-    (DUE_AT, ACT, Heard::Nothing, DUE_AT),
-    (DUE_AT, KEY_A, Heard::Shown(2), DUE_AT),
-];
-
-const A_DATE_IN_THE_PAST: [Row; 5] = [
-    (NEW_YEAR, Wish::Make("logs"), MADE, NEW_YEAR),
-    (
-        NEW_YEAR,
-        Wish::Do("logs", Order::Rules(PAST)),
-        Heard::Done,
-        NEW_YEAR,
-    ),
-    (EIGHTH, MILLION, Heard::Stored, EIGHTH),
-    (
-        EIGHTH,
-        ACT,
-        Heard::Acted(ActionKind::Remove, EIGHTH),
-        EIGHTH,
-    ),
-    (
-        EIGHTH + DAY,
-        JANUARY,
-        Heard::Metered(Used {
-            standard: 0,
-            infrequent: 0,
-            early: 0,
-        }),
-        EIGHTH,
-    ),
-];
-
-#[test]
-fn a_removal_goes_first(rt: HostRuntime) -> Result<(), Fail> {
-    assert_rows(&rt, rt.alloc(), &EXPIRED)
-}
-
-#[test]
-fn a_move_goes_before_a_marker(rt: HostRuntime) -> Result<(), Fail> {
-    assert_rows(&rt, rt.alloc(), &MOVED_AND_EXPIRED)
-}
-
-#[test]
-fn one_newer_version_is_kept(rt: HostRuntime) -> Result<(), Fail> {
-    assert_rows(&rt, rt.alloc(), &ONE_NEWER_KEPT)
-}
-
-#[test]
-fn a_date_in_the_past_acts_at_once(rt: HostRuntime) -> Result<(), Fail> {
-    assert_rows(&rt, rt.alloc(), &A_DATE_IN_THE_PAST)
-}
-
-// A GiB in STANDARD for the whole of January.
-const BILLED: [Row; 5] = [
-    (NEW_YEAR, Wish::Make("logs"), MADE, NEW_YEAR),
-    (
-        NEW_YEAR,
-        Wish::Put("logs", "a", 1_073_741_824, STANDARD),
-        Heard::Stored,
-        NEW_YEAR,
-    ),
-    (
-        FEBRUARY,
-        Wish::Report("logs", 2024, 1),
-        Heard::NoTariff,
-        NEW_YEAR,
-    ),
-    (
-        FEBRUARY,
-        Wish::Do("logs", Order::Prices),
-        Heard::Done,
-        FEBRUARY,
-    ),
-    (
-        FEBRUARY + DAY,
-        Wish::Report("logs", 2024, 1),
-        Heard::Billed(2_875_910_101_401_600_000, 23_000),
-        FEBRUARY,
-    ),
-];
-
-#[test]
-fn a_report_of_one_line(rt: HostRuntime) -> Result<(), Fail> {
-    assert_rows(&rt, rt.alloc(), &BILLED)
-}
-
-// Parts of a Glacier upload are stored in STANDARD.
-const PARTS: [Row; 8] = [
-    (NEW_YEAR, Wish::Make("logs"), MADE, NEW_YEAR),
-    (
-        NEW_YEAR,
-        Wish::Do("logs", Order::Start("a", Class::Glacier)),
-        Heard::Done,
-        NEW_YEAR,
-    ),
-    (
-        NEW_YEAR,
-        Wish::Do("logs", Order::Complete(1)),
-        Heard::NoParts,
-        NEW_YEAR,
-    ),
-    (
-        NEW_YEAR,
-        Wish::Do("logs", Order::Part(1, 1, 1_000)),
-        Heard::Done,
-        NEW_YEAR,
-    ),
-    (
-        NEW_YEAR,
-        Wish::Do("logs", Order::Part(1, 1, 1_000)),
-        Heard::Done,
-        NEW_YEAR,
-    ),
-    (
-        NEW_YEAR,
-        Wish::Do("logs", Order::Part(1, 10_001, 1_000)),
-        Heard::BadPart,
-        NEW_YEAR,
-    ),
-    (
-        NEW_YEAR + DAY,
-        JANUARY,
-        Heard::Metered(Used {
-            standard: 86_400_000_000,
-            infrequent: 0,
-            early: 0,
-        }),
-        NEW_YEAR,
-    ),
-    (
-        NEW_YEAR + DAY,
-        Wish::Do("logs", Order::Complete(1)),
-        Heard::Stored,
-        NEW_YEAR + DAY,
-    ),
-];
-
-#[test]
-fn parts_of_an_upload(rt: HostRuntime) -> Result<(), Fail> {
-    assert_rows(&rt, rt.alloc(), &PARTS)
+fn a_thousand_buckets(rt: HostRuntime) -> Result<(), Fail> {
+    let alloc = rt.alloc();
+    let mut tried = Tried::new(alloc);
+    for number in 0u64..2_000 {
+        let name = format!(in alloc; "bucket-{}", 1_000 - number % 1_000)?;
+        let wanted = if number < 1_000 { MADE } else { EXISTS };
+        assert_eq!(rt;
+            tried.turn(&rt, alloc, 100, Wish::Make(&name))?,
+            wanted,
+            "{name}"
+        );
+    }
+    let full = Heard::Full(What::Buckets, 1_000);
+    assert_eq!(rt; tried.turn(&rt, alloc, 101, Wish::Make("one-more"))?, full);
+    assert_eq!(rt; tried.last_ms(), Some(100));
+    Ok(())
 }
