@@ -366,7 +366,7 @@ const NOT_SERVED: [&[u8]; 7] = [
     b"DELETE /buckets/logs HTTP/1.1\r\n\r\n",
     b"PUT /bucket/logs HTTP/1.1\r\n\r\n",
     b"PUT /buckets/logs HTTP/1.1\r\nTransfer-Encoding: chunked\r\n\r\n",
-    b"PUT /buckets/logs/objects/k HTTP/1.1\r\nContent-Length: 27\r\n\r\n{\"size\":1,\"tags\":{\"a\":\"x\"}}",
+    b"POST /buckets/logs HTTP/1.1\r\n\r\n",
     b"PUT /buckets/logs HTTP/1.1\r\nHost:",
     b"\x01\x02",
 ];
