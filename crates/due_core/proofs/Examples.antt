@@ -13,12 +13,13 @@ use Rattle.stacks.specs.declared.version.Kind.TheVariants as kind
 use Rattle.due_core.specs.Buckets.{BucketRecord}
 use Rattle.due_core.specs.RuleActions.{version_actions}
 use Rattle.due_core.specs.Candidates.{eligible, candidates}
-use Rattle.due_core.specs.Choice.{choice}
+use Rattle.due_core.specs.Choice.{choice, IsQueue}
 use Rattle.due_core.specs.declared.action.ActionKind.{ActionKind}
 use Rattle.due_core.specs.declared.action.ActionKind.TheVariants as action
 use Rattle.due_core.specs.declared.action.Action.{Action}
 use Rattle.due_core.specs.declared.action.Candidate.{Candidate}
 use Rattle.due_core.specs.declared.action.Target.TheVariants as target
+use Rattle.due_core.proofs.Queue.{two_turned, two_kept}
 
 -- ---- words
 
@@ -200,3 +201,28 @@ none_yet : choice (bucket versioning.Enabled (expires ∷ moves ∷ aborts ∷ r
     (object 3 ∷ object 1 ∷ [])) 1_390_089_599_999 ≡ None
 unfolding choice candidates eligible version_actions
 none_yet = refl
+
+-- ---- the queue
+
+-- a transition and an expiration that are due at one midnight (S3 User Guide, "Examples of S3 Lifecycle
+-- configurations": conflicting lifecycle rules)
+abbrev moves_once : Rule
+moves_once = record no_action { transitions = record { when = when.Days 3; to = class.Glacier } ∷ [] }
+
+abbrev both : Versioning → BucketRecord
+both versioning = bucket versioning (expires ∷ moves_once ∷ []) (object 1 ∷ [])
+
+abbrev moving : Candidate
+moving = record { action = on_version (action.Transition class.Glacier) 1 2 in_three_days; age = 0 }
+
+-- where versions are kept the transition goes before the marker, though the marker's rule stands before it
+move_then_marker : IsQueue (candidates (both versioning.Enabled) in_three_days)
+    (moving.action ∷ on_version action.Marker 1 1 in_three_days ∷ [])
+unfolding candidates eligible version_actions
+move_then_marker = two_turned moving (on_oldest action.Marker 1 in_three_days) refl
+
+-- where none are kept the removal comes first
+removal_then_move : IsQueue (candidates (both versioning.Unversioned) in_three_days)
+    (on_version action.Remove 1 1 in_three_days ∷ moving.action ∷ [])
+unfolding candidates eligible version_actions
+removal_then_move = two_kept (on_oldest action.Remove 1 in_three_days) moving refl

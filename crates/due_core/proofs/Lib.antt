@@ -4,4 +4,5 @@ pub mod Loops
 pub mod Pass
 pub mod Places
 pub mod Precedence
+pub mod Queue
 pub mod RuleCount

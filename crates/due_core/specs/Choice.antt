@@ -1,9 +1,10 @@
 -- Which candidate comes first (S3 User Guide, "Examples of S3 Lifecycle configurations": conflicting lifecycle
 -- rules).
-use Rattle.std.specs.Prelude.{◌≡◌, ℕ, Bool, List, [], ◌∷◌, Option, Some, None, option_map, Contains, All, false}
+use Rattle.std.specs.Prelude.{◌≡◌, ℕ, Bool, List, [], ◌∷◌, map, Option, Some, None, option_map, Contains, All, false}
 use Rattle.std.specs.declared.cmp.Ordering.{Ordering}
 use Rattle.std.specs.Ordering.{nat_cmp, ordering_then, is_lt}
 use Rattle.std.specs.List.{best_of}
+use Rattle.std.specs.List.Sorted.{IsPermutation, IsSortedBy, IsStableBy}
 use Rattle.office_base.specs.Maps.{bytes_cmp}
 use Rattle.class_rules.specs.Classes.{rank_of}
 use Rattle.due_core.specs.Buckets.{BucketRecord}
@@ -52,3 +53,16 @@ IsLeast {X} before xs (Some x) = Contains xs x × All (λ y. before y x ≡ fals
 -- the action that a bucket's next run of its rules does at a moment
 unfoldable pub choice : BucketRecord → ℕ → Option Action
 choice bucket t = option_map (λ candidate. candidate.action) (least comes_before (candidates bucket t))
+
+-- the second list has the candidates of the first, and none stands behind one that it comes before; two of which none
+-- comes before the other stand as they stood
+pub record IsInOrder (found ordered : List Candidate) : Type 0 where
+  pub same : IsPermutation found ordered
+  pub sorted : IsSortedBy comes_before ordered
+  pub stable : IsStableBy comes_before found ordered
+
+-- the actions of candidates, in their order
+pub record IsQueue (found : List Candidate) (queue : List Action) : Type 0 where
+  pub ordered : List Candidate
+  pub in_order : IsInOrder found ordered
+  pub actions : queue ≡ map (λ candidate. candidate.action) ordered

@@ -1,5 +1,5 @@
--- How the first of the candidates is found in one pass: what is the first so far, with the next one looked at.
-use Rattle.std.specs.Prelude.{ℕ, ◌-◌, ◌==◌, ◌++◌, max, List, [], fold, flat_map, nat_lt, nat_le, Option, Some, None, if◌then◌else◌}
+-- How the candidates are searched in one pass: what is kept so far, with the next one looked at.
+use Rattle.std.specs.Prelude.{ℕ, ◌-◌, ◌==◌, ◌++◌, max, List, [], ◌∷◌, fold, flat_map, nat_lt, nat_le, Option, Some, None, if◌then◌else◌}
 use Rattle.std.specs.List.{enumerate_from}
 use Rattle.moments.specs.Time.{end_of_time}
 use Rattle.rules_core.specs.Matching.{matches_upload}
@@ -23,13 +23,34 @@ abbrev pub sooner : Option Candidate → Candidate → Candidate
 sooner None next = next
 sooner (Some best) next = if comes_before next best then next else best
 
--- one whose moment has come is looked at
-abbrev pub with_come : ℕ → Option Candidate → Candidate → Option Candidate
-with_come t best next = if nat_le next.action.since t then Some (sooner best next) else best
+-- what is kept of the candidates whose moment has come: the first so far, or all where they are wanted
+pub record Kept : Type 0 where
+  pub first : Option Candidate
+  pub all : Option (List Candidate)
 
--- the first of those that have come, among what was found before and these
-abbrev pub first_come : ℕ → Option Candidate → List Candidate → Option Candidate
-first_come t best candidates = fold (with_come t) best candidates
+-- nothing yet, where the first is wanted
+abbrev pub nothing : Kept
+nothing = record { first = None; all = None }
+
+-- nothing yet, where all are wanted
+abbrev pub none_of_all : Kept
+none_of_all = record { first = None; all = Some [] }
+
+abbrev pub took_by : Option Candidate → Option (List Candidate) → Candidate → Kept
+took_by first None next = record { first = Some (sooner first next); all = None }
+took_by first (Some all) next = record { first = first; all = Some (all ++ next ∷ []) }
+
+-- one more is kept
+abbrev pub took : Kept → Candidate → Kept
+took kept next = took_by kept.first kept.all next
+
+-- one whose moment has come is kept
+abbrev pub with_come : ℕ → Kept → Candidate → Kept
+with_come t kept next = if nat_le next.action.since t then took kept next else kept
+
+-- what is kept after these
+abbrev pub with_each : ℕ → Kept → List Candidate → Kept
+with_each t kept candidates = fold (with_come t) kept candidates
 
 -- a target and a rule that matches it, before which moment no action on it stands, and the moment of the search
 pub record Aim : Type 0 where
@@ -53,12 +74,12 @@ aimed aim due = record {
 }
 
 -- an action that the rule asks for is looked at, unless it is never due
-abbrev pub with_due : Aim → Option Candidate → DueAction → Option Candidate
-with_due aim best due = if nat_lt due.1 end_of_time then with_come aim.t best (aimed aim due) else best
+abbrev pub with_due : Aim → Kept → DueAction → Kept
+with_due aim kept due = if nat_lt due.1 end_of_time then with_come aim.t kept (aimed aim due) else kept
 
--- the first of those that have come, among what was found before and what the rule asks for
-abbrev pub first_due : Aim → Option Candidate → List DueAction → Option Candidate
-first_due aim best asked = fold (with_due aim) best asked
+-- what is kept after what the rule asks for
+abbrev pub with_each_due : Aim → Kept → List DueAction → Kept
+with_each_due aim kept asked = fold (with_due aim) kept asked
 
 -- ---- the candidates in the order of the search: each version or upload, and each rule with its place from 1
 

@@ -1,14 +1,15 @@
 // What one rule asks of one version or upload.
-ghost use Rattle.std.specs.Prelude.{◌≡◌, ◌∷◌, ◌-◌, ◌==◌, [], map, if◌then◌else◌};
+ghost use Rattle.std.specs.Prelude.{◌≡◌, ◌∷◌, ◌-◌, ◌==◌, [], map, IfOk, if◌then◌else◌};
 ghost use Rattle.moments.specs.Time.{due, next_midnight};
 ghost use Rattle.due_core.specs.RuleActions.{expirations, expiring, expiration_actions, transition_actions, noncurrent_removals, noncurrent_transitions, lone_marker_actions, keeps_newer, admits_move, due_when, version_actions, upload_actions};
-ghost use Rattle.due_core.specs.Search.{first_due, asked_of_object};
+ghost use Rattle.due_core.specs.Search.{with_each_due, asked_of_object};
 
-use crate::found::{Found, with_come};
+use crate::found::Found;
+use crate::kept::Kept;
 use crate::{ActionKind, Target};
 use class_rules::{Class, may_go};
 use moments::{Moment, due_after, up};
-use office_base::{Key, Size};
+use office_base::{Key, NoMemory, Size};
 use rules_core::{Expiration, Rule, SizeMode, Transition, When, size_admits};
 use stacks::{Kind, Version, Versioning};
 use std::marker::Model;
@@ -101,8 +102,8 @@ fn expiring(versioning: Versioning) -> ActionKind
 
 impl<'a> Aim<'a> {
     // Looks at an action that is due at a moment. It does not stand before its target or the rules changed.
-    fn at(&self, best: Option<Found<'a>>, kind: ActionKind, due: Moment) -> Option<Found<'a>>
-        ensures { result ≡ first_due self.now best.entry ((kind, due) ∷ []) }
+    fn at(&self, kept: &mut Kept<'a>, kind: ActionKind, due: Moment) -> Result<(), NoMemory>
+        ensures { IfOk result (λ _. kept.new ≡ with_each_due self.now kept.old ((kind, due) ∷ [])) }
     {
         let since = if due.ms() < self.not_before.ms() {
             self.not_before
@@ -117,231 +118,231 @@ impl<'a> Aim<'a> {
             since,
             age: self.age,
         };
-        with_come(best, found, self.t)
+        kept.look(found, self.t)
     }
 
     // Looks at an action that is due so many days after a moment.
     fn in_days(
         &self,
-        best: Option<Found<'a>>,
+        kept: &mut Kept<'a>,
         kind: ActionKind,
         from: Moment,
         days: u32,
-    ) -> Option<Found<'a>>
-        ensures { result ≡ first_due self.now best.entry ((kind, due from days) ∷ []) }
+    ) -> Result<(), NoMemory>
+        ensures { IfOk result (λ _. kept.new ≡ with_each_due self.now kept.old ((kind, due from days) ∷ [])) }
     {
         match due_after(from, days) {
-            Ok(due) => self.at(best, kind, due),
-            Err(_) => best,
+            Ok(due) => self.at(kept, kind, due),
+            Err(_) => Ok(()),
         }
     }
 
     // Looks at an action that is due by days after the creation, or at a date.
     fn expiring(
         &self,
-        best: Option<Found<'a>>,
+        kept: &mut Kept<'a>,
         kind: ActionKind,
         created: Moment,
         expiration: &Expiration,
-    ) -> Option<Found<'a>>
-        ensures { result
-            ≡ first_due self.now best.entry (map (λ at. (kind, at)) (expirations created expiration.now)) }
+    ) -> Result<(), NoMemory>
+        ensures { IfOk result (λ _. kept.new
+            ≡ with_each_due self.now kept.old (map (λ at. (kind, at)) (expirations created expiration.now))) }
     {
-        let by_days = match expiration.days {
-            Some(days) => self.in_days(best, kind, created, days),
-            None => best,
-        };
+        if let Some(days) = expiration.days {
+            self.in_days(kept, kind, created, days)?;
+        }
         match expiration.date {
-            Some(date) => self.at(by_days, kind, date),
-            None => by_days,
+            Some(date) => self.at(kept, kind, date),
+            None => Ok(()),
         }
     }
 
     // Looks at one move of a current object.
     fn transition(
         &self,
-        best: Option<Found<'a>>,
+        kept: &mut Kept<'a>,
         mode: SizeMode,
         rule: &Rule,
         object: &Held,
         created: Moment,
         transition: &Transition,
-    ) -> Option<Found<'a>>
-        ensures { result ≡ first_due self.now best.entry
+    ) -> Result<(), NoMemory>
+        ensures { IfOk result (λ _. kept.new ≡ with_each_due self.now kept.old
             (if admits_move mode rule.now.filter object.now.class object.now.size transition.now.to
-            then (ActionKind.Transition transition.now.to, due_when created transition.now.when) ∷ [] else []) }
+            then (ActionKind.Transition transition.now.to, due_when created transition.now.when) ∷ [] else [])) }
     {
         if !object.admits(mode, rule, transition.to) {
-            return best;
+            return Ok(());
         }
         let kind = ActionKind::Transition(transition.to);
         match transition.when {
-            When::Days(days) => self.in_days(best, kind, created, days),
-            When::Date(date) => self.at(best, kind, date),
+            When::Days(days) => self.in_days(kept, kind, created, days),
+            When::Date(date) => self.at(kept, kind, date),
         }
     }
 
     // Looks at the moves of a current object.
     fn transitions(
         &self,
-        best: Option<Found<'a>>,
+        kept: &mut Kept<'a>,
         mode: SizeMode,
         rule: &Rule,
         object: &Held,
         created: Moment,
-    ) -> Option<Found<'a>>
-        ensures { result ≡ first_due self.now best.entry
-            (transition_actions mode rule.now object.now.size object.now.class created) }
+    ) -> Result<(), NoMemory>
+        ensures { IfOk result (λ _. kept.new ≡ with_each_due self.now kept.old
+            (transition_actions mode rule.now object.now.size object.now.class created)) }
     {
-        let mut first = best;
         for transition in rule.transitions.as_slice() {
-            first = self.transition(first, mode, rule, object, created, transition);
+            self.transition(kept, mode, rule, object, created, transition)?;
         }
-        first
+        Ok(())
     }
 
     // Looks at the moves of a noncurrent object.
     fn noncurrent_moves(
         &self,
-        best: Option<Found<'a>>,
+        kept: &mut Kept<'a>,
         mode: SizeMode,
         rule: &Rule,
         object: &Held,
         newer: u64,
         ceased: Moment,
-    ) -> Option<Found<'a>>
-        ensures { result ≡ first_due self.now best.entry
-            (noncurrent_transitions mode rule.now object.now.size object.now.class newer ceased) }
+    ) -> Result<(), NoMemory>
+        ensures { IfOk result (λ _. kept.new ≡ with_each_due self.now kept.old
+            (noncurrent_transitions mode rule.now object.now.size object.now.class newer ceased)) }
     {
-        let mut first = best;
         for step in rule.noncurrent_moves.as_slice() {
             if keeps_newer(step.newer, newer) && object.admits(mode, rule, step.to) {
                 let kind = ActionKind::Transition(step.to);
-                first = self.in_days(first, kind, ceased, step.days);
+                self.in_days(kept, kind, ceased, step.days)?;
             }
         }
-        first
+        Ok(())
     }
 
     // Looks at the removal of a noncurrent version.
     fn noncurrent_removal(
         &self,
-        best: Option<Found<'a>>,
+        kept: &mut Kept<'a>,
         rule: &Rule,
         newer: u64,
         ceased: Moment,
-    ) -> Option<Found<'a>>
-        ensures { result ≡ first_due self.now best.entry (noncurrent_removals rule.now newer ceased) }
+    ) -> Result<(), NoMemory>
+        ensures { IfOk result (λ _. kept.new
+            ≡ with_each_due self.now kept.old (noncurrent_removals rule.now newer ceased)) }
     {
         match rule.noncurrent_expiration {
             Some(expiration) => {
                 if keeps_newer(expiration.newer, newer) {
-                    self.in_days(best, ActionKind::Remove, ceased, expiration.days)
+                    self.in_days(kept, ActionKind::Remove, ceased, expiration.days)
                 } else {
-                    best
+                    Ok(())
                 }
             }
-            None => best,
+            None => Ok(()),
         }
     }
 
     // Looks at what ends a current object.
     fn expiration(
         &self,
-        best: Option<Found<'a>>,
+        kept: &mut Kept<'a>,
         versioning: Versioning,
         rule: &Rule,
         created: Moment,
-    ) -> Option<Found<'a>>
-        ensures { result ≡ first_due self.now best.entry (expiration_actions versioning rule.now created) }
+    ) -> Result<(), NoMemory>
+        ensures { IfOk result (λ _. kept.new
+            ≡ with_each_due self.now kept.old (expiration_actions versioning rule.now created)) }
     {
         match &rule.expiration {
-            Some(expiration) => self.expiring(best, expiring(versioning), created, expiration),
-            None => best,
+            Some(expiration) => self.expiring(kept, expiring(versioning), created, expiration),
+            None => Ok(()),
         }
     }
 
     // Looks at what removes a delete marker that is the only version of its key.
     fn lone_marker(
         &self,
-        best: Option<Found<'a>>,
+        kept: &mut Kept<'a>,
         rule: &Rule,
         created: Moment,
         changed: Moment,
-    ) -> Option<Found<'a>>
-        ensures { result ≡ first_due self.now best.entry (lone_marker_actions rule.now created changed) }
+    ) -> Result<(), NoMemory>
+        ensures { IfOk result (λ _. kept.new
+            ≡ with_each_due self.now kept.old (lone_marker_actions rule.now created changed)) }
     {
         match &rule.expiration {
             Some(expiration) => {
-                let first = self.expiring(best, ActionKind::Remove, created, expiration);
+                self.expiring(kept, ActionKind::Remove, created, expiration)?;
                 if expiration.lone_marker {
-                    self.at_midnight(first, ActionKind::Remove, changed)
+                    self.at_midnight(kept, ActionKind::Remove, changed)
                 } else {
-                    first
+                    Ok(())
                 }
             }
-            None => best,
+            None => Ok(()),
         }
     }
 
     // Looks at an action that is due at the midnight that is not before a moment.
     fn at_midnight(
         &self,
-        best: Option<Found<'a>>,
+        kept: &mut Kept<'a>,
         kind: ActionKind,
         from: Moment,
-    ) -> Option<Found<'a>>
-        ensures { result ≡ first_due self.now best.entry ((kind, next_midnight from) ∷ []) }
+    ) -> Result<(), NoMemory>
+        ensures { IfOk result (λ _. kept.new ≡ with_each_due self.now kept.old ((kind, next_midnight from) ∷ [])) }
     {
         match up(from) {
-            Ok(due) => self.at(best, kind, due),
-            Err(_) => best,
+            Ok(due) => self.at(kept, kind, due),
+            Err(_) => Ok(()),
         }
     }
 
     // Looks at all that a rule asks of an object with so many newer versions.
     fn object(
         &self,
-        best: Option<Found<'a>>,
+        kept: &mut Kept<'a>,
         setting: &Setting,
         rule: &Rule,
         object: &Held,
         version: &Version,
         newer: u64,
-    ) -> Option<Found<'a>>
-        ensures { result ≡ first_due self.now best.entry
-            (asked_of_object setting.now rule.now object.now version.now newer) }
+    ) -> Result<(), NoMemory>
+        ensures { IfOk result (λ _. kept.new ≡ with_each_due self.now kept.old
+            (asked_of_object setting.now rule.now object.now version.now newer)) }
     {
         if newer == 0 {
-            let first = self.expiration(best, setting.versioning, rule, version.created);
-            return self.transitions(first, setting.mode, rule, object, version.created);
+            self.expiration(kept, setting.versioning, rule, version.created)?;
+            return self.transitions(kept, setting.mode, rule, object, version.created);
         }
         let ceased = version.ceased;
-        let first = self.noncurrent_removal(best, rule, newer - 1, ceased);
-        self.noncurrent_moves(first, setting.mode, rule, object, newer - 1, ceased)
+        self.noncurrent_removal(kept, rule, newer - 1, ceased)?;
+        self.noncurrent_moves(kept, setting.mode, rule, object, newer - 1, ceased)
     }
 
     // Looks at all that a rule asks of a delete marker.
     fn marker(
         &self,
-        best: Option<Found<'a>>,
+        kept: &mut Kept<'a>,
         rule: &Rule,
         placed: &Placed<'a>,
         changed: Moment,
-    ) -> Option<Found<'a>>
-        ensures { result ≡ first_due self.now best.entry
+    ) -> Result<(), NoMemory>
+        ensures { IfOk result (λ _. kept.new ≡ with_each_due self.now kept.old
             (if placed.now.newer == 0
             then (if placed.now.older == 0 then lone_marker_actions rule.now placed.now.version.created changed else [])
-            else noncurrent_removals rule.now (placed.now.newer - 1) placed.now.version.ceased) }
+            else noncurrent_removals rule.now (placed.now.newer - 1) placed.now.version.ceased)) }
     {
         if placed.newer == 0 {
             if placed.older == 0 {
-                self.lone_marker(best, rule, placed.version.created, changed)
+                self.lone_marker(kept, rule, placed.version.created, changed)
             } else {
-                best
+                Ok(())
             }
         } else {
-            self.noncurrent_removal(best, rule, placed.newer - 1, placed.version.ceased)
+            self.noncurrent_removal(kept, rule, placed.newer - 1, placed.version.ceased)
         }
     }
 
@@ -349,14 +350,14 @@ impl<'a> Aim<'a> {
     #[tactic(auto, unfolding(crate::specs::RuleActions::version_actions))]
     pub(crate) fn version(
         &self,
-        best: Option<Found<'a>>,
+        kept: &mut Kept<'a>,
         setting: &Setting,
         rule: &Rule,
         placed: &Placed<'a>,
         changed: Moment,
-    ) -> Option<Found<'a>>
-        ensures { result ≡ first_due self.now best.entry
-            (version_actions setting.now.versioning setting.now.mode changed rule.now placed.now) }
+    ) -> Result<(), NoMemory>
+        ensures { IfOk result (λ _. kept.new ≡ with_each_due self.now kept.old
+            (version_actions setting.now.versioning setting.now.mode changed rule.now placed.now)) }
     {
         match &placed.version.kind {
             Kind::Object { size, class, .. } => {
@@ -364,24 +365,24 @@ impl<'a> Aim<'a> {
                     size: *size,
                     class: *class,
                 };
-                self.object(best, setting, rule, &object, placed.version, placed.newer)
+                self.object(kept, setting, rule, &object, placed.version, placed.newer)
             }
-            Kind::Marker => self.marker(best, rule, placed, changed),
+            Kind::Marker => self.marker(kept, rule, placed, changed),
         }
     }
 
     /// Looks at what a rule asks of an upload.
     pub(crate) fn upload(
         &self,
-        best: Option<Found<'a>>,
+        kept: &mut Kept<'a>,
         rule: &Rule,
         upload: &Upload,
-    ) -> Option<Found<'a>>
-        ensures { result ≡ first_due self.now best.entry (upload_actions rule.now upload.now) }
+    ) -> Result<(), NoMemory>
+        ensures { IfOk result (λ _. kept.new ≡ with_each_due self.now kept.old (upload_actions rule.now upload.now)) }
     {
         match rule.abort_days {
-            Some(days) => self.in_days(best, ActionKind::Abort, upload.started(), days),
-            None => best,
+            Some(days) => self.in_days(kept, ActionKind::Abort, upload.started(), days),
+            None => Ok(()),
         }
     }
 }

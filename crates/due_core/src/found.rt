@@ -1,7 +1,7 @@
 // The first of the candidates that were looked at.
 ghost use Rattle.std.specs.Prelude.{◌≡◌, IfOk};
 ghost use Rattle.due_core.specs.Choice.{kind_place, coldness, precedence, comes_before};
-ghost use Rattle.due_core.specs.Search.{sooner, with_come};
+ghost use Rattle.due_core.specs.Search.{sooner};
 
 use crate::{Action, ActionKind, Target};
 use class_rules::rank;
@@ -54,8 +54,8 @@ fn coldness(kind: ActionKind) -> u8
     }
 }
 
-// Own rule: by the moment, the kind, the key, the older version or the lower upload, the colder class, the rule.
-fn precedence(a: &Found<'_>, b: &Found<'_>) -> Ordering
+/// Own rule: by the moment, the kind, the key, the older version or the lower upload, the colder class, the rule.
+pub(crate) fn precedence(a: &Found<'_>, b: &Found<'_>) -> Ordering
     ensures { result ≡ precedence a.now b.now }
 {
     match a.since.ms().cmp(&b.since.ms()) {
@@ -80,7 +80,8 @@ fn comes_before(a: &Found<'_>, b: &Found<'_>) -> bool
     precedence(a, b).is_lt()
 }
 
-fn sooner<'a>(best: Option<Found<'a>>, next: Found<'a>) -> Found<'a>
+/// The earlier one of the first so far and the next.
+pub(crate) fn sooner<'a>(best: Option<Found<'a>>, next: Found<'a>) -> Found<'a>
     ensures { result ≡ sooner best.entry next.entry }
 {
     match best {
@@ -92,21 +93,6 @@ fn sooner<'a>(best: Option<Found<'a>>, next: Found<'a>) -> Found<'a>
             }
         }
         None => next,
-    }
-}
-
-/// Looks at the next candidate: it is the first one if its moment has come, and it comes before the first so far.
-pub(crate) fn with_come<'a>(
-    best: Option<Found<'a>>,
-    next: Found<'a>,
-    t: Moment,
-) -> Option<Found<'a>>
-    ensures { result ≡ with_come t best.entry next.entry }
-{
-    if next.since.ms() <= t.ms() {
-        Some(sooner(best, next))
-    } else {
-        best
     }
 }
 

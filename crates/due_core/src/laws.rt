@@ -1,7 +1,7 @@
 // What the definitions mean, as laws.
 ghost use Rattle.std.specs.Prelude.{◌≡◌, ◌≤◌, ℕ, List, Some};
 ghost use Rattle.due_core.specs.Buckets.{BucketRecord};
-ghost use Rattle.due_core.specs.Choice.{choice, comes_before, least, IsLeast};
+ghost use Rattle.due_core.specs.Choice.{choice, comes_before, least, IsLeast, IsQueue};
 ghost use Rattle.due_core.specs.declared.action.Action.{Action};
 ghost use Rattle.due_core.specs.declared.action.Candidate.{Candidate};
 
@@ -16,4 +16,10 @@ pub fn the_choice_is_the_least()
 pub fn the_choice_stays()
     ensures { (bucket : BucketRecord) (t u : ℕ) (action : Action) → t ≤ u
         → choice bucket t ≡ Some action → choice bucket u ≡ Some action }
+{}
+
+/// States that a list of candidates has one queue alone.
+pub fn the_queue_is_one()
+    ensures { (candidates : List Candidate) (queue other : List Action) → IsQueue candidates queue
+        → IsQueue candidates other → queue ≡ other }
 {}

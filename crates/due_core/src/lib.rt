@@ -1,16 +1,17 @@
-//! Which lifecycle actions are due in a bucket, and which of them comes first.
+//! Which lifecycle actions are due in a bucket, and in which order they are done.
 #![tactic(auto)]
 
 mod action;
 mod asked;
 mod bucket;
-mod candidates;
 mod found;
+mod kept;
 mod laws;
 #[cfg(test)]
 mod tests;
+mod walk;
 
 pub use action::{Action, ActionKind, Candidate, Target};
 pub use bucket::Bucket;
-pub use candidates::chosen;
-pub use laws::{the_choice_is_the_least, the_choice_stays};
+pub use laws::{the_choice_is_the_least, the_choice_stays, the_queue_is_one};
+pub use walk::{candidates, chosen};

@@ -267,3 +267,23 @@ fn what_is_chosen(rt: HostRuntime) -> Result<(), Fail> {
     }
     Ok(())
 }
+
+// A transition and an expiration that come at one midnight, in their order: the S3 User Guide's conflicting rules.
+#[test]
+fn what_is_listed(rt: HostRuntime) -> Result<(), Fail> {
+    let alloc = rt.alloc();
+    for row in &ROWS[2..4] {
+        let mut shown = Vec::new(alloc);
+        for action in candidates(alloc, &bucket(alloc, row)?, Moment::of(row.t)?)? {
+            shown.push((action.kind, action.rule, action.since.ms()))?;
+        }
+        let moved = (ActionKind::Transition(Class::StandardIa), 1, DUE);
+        match row.versioning {
+            Versioning::Unversioned => {
+                assert_eq!(rt; &shown[..], &[(ActionKind::Remove, 2, DUE), moved][..]);
+            }
+            _ => assert_eq!(rt; &shown[..], &[moved, (ActionKind::Marker, 2, DUE)][..]),
+        }
+    }
+    Ok(())
+}

@@ -1,6 +1,6 @@
 use Rattle.std.proofs.Common.{◌∙◌, ap, map, filter}
 use Rattle.due_core.specs.RuleActions.{admits_move, due_when}
-use Rattle.due_core.specs.Search.{first_due, with_due}
+use Rattle.due_core.specs.Search.{with_each_due, with_due}
 use Rattle.due_core.specs.declared.action.ActionKind.TheVariants.{Transition}
 use Rattle.due_core.proofs.Loops.{end, picked_map}
 use Rattle.due_core.proofs.asked.Aim.transitions.Goals as goal
@@ -13,6 +13,6 @@ returns c =
     let picked = picked_map (λ transition. admits_move c.args.mode c.args.rule.now.filter object.class object.size transition.to)
     (λ transition. (Transition transition.to, due_when c.args.created transition.when)) items in
     end (with_due aim) _ _ _ items _ c.loop-transition-test.false c.loop-transition.invariant
-    ∙ ap (λ asked. first_due aim c.args.best asked) picked
-    ∙ ap (λ moves. first_due aim c.args.best (map (λ transition. (Transition transition.to, due_when c.args.created transition.when))
+    ∙ ap (λ asked. with_each_due aim c.args.kept.now asked) picked
+    ∙ ap (λ moves. with_each_due aim c.args.kept.now (map (λ transition. (Transition transition.to, due_when c.args.created transition.when))
     (filter (λ transition. admits_move c.args.mode c.args.rule.now.filter object.class object.size transition.to) moves))) c.as_slice-transition-items.ensures

@@ -1,9 +1,9 @@
 use Rattle.std.proofs.Common.{refl, ap, ◌∙◌, flat_map}
 use Rattle.due_core.specs.RuleActions.{placed_from}
-use Rattle.due_core.specs.Search.{first_come, with_come, version_candidates}
+use Rattle.due_core.specs.Search.{with_each, with_come, version_candidates}
 use Rattle.due_core.proofs.Loops.{placed_turn, placed_end}
 use Rattle.due_core.proofs.Places.{placed, older_left}
-use Rattle.due_core.proofs.candidates.stack.Goals as goal
+use Rattle.due_core.proofs.walk.stack.Goals as goal
 
 pub loop-i-preserved : goal.loop-i-preserved
 loop-i-preserved c =
@@ -14,12 +14,12 @@ loop-i-preserved c =
     let older = older_left versions i in
     placed_turn (with_come t) asked placed_from placed
     (λ _. refl) (λ _ _ _. refl) _ _ _ versions i i c.index-versions-i.result c.loop-i-test.true c.index-versions-i.is c.loop-i.invariant
-    (c.version-first.ensures ∙ ap (λ n. first_come t c.loop-i.first (asked (record { version = c.index-versions-i.result; newer = i; older = n }))) older)
+    (c.in_ok-version.ensures ∙ ap (λ n. with_each t c.loop-i.kept (asked (record { version = c.index-versions-i.result; newer = i; older = n }))) older)
 
 pub returns : goal.returns
 returns c =
     let t = c.args.setting.now.t in
     placed_end (with_come t) (version_candidates c.args.setting.now c.args.rules.now c.args.key.now c.changed-changed.result) placed_from placed
     (λ _. refl) (λ _ _ _. refl) _ _ c.versions-versions.result.now c.loop-i.i c.loop-i.i c.loop-i-test.false c.loop-i.invariant
-    ∙ ap (λ changed. first_come t c.args.best (flat_map (version_candidates c.args.setting.now c.args.rules.now c.args.key.now changed) (placed_from 0 c.versions-versions.result.now))) c.changed-changed.ensures
-    ∙ ap (λ versions. first_come t c.args.best (flat_map (version_candidates c.args.setting.now c.args.rules.now c.args.key.now c.args.stack.now.changed) (placed_from 0 versions))) c.versions-versions.ensures.same
+    ∙ ap (λ changed. with_each t c.args.kept.now (flat_map (version_candidates c.args.setting.now c.args.rules.now c.args.key.now changed) (placed_from 0 c.versions-versions.result.now))) c.changed-changed.ensures
+    ∙ ap (λ versions. with_each t c.args.kept.now (flat_map (version_candidates c.args.setting.now c.args.rules.now c.args.key.now c.args.stack.now.changed) (placed_from 0 versions))) c.versions-versions.ensures.same
