@@ -1,18 +1,14 @@
 -- Accounts in memory and the plain office's side by side.
 use Rattle.std.proofs.Common.{◌≡◌, ℕ, suc, List, [], ◌∷◌, length, refl, ap, sym, ◌∙◌, Bool, true, false, cond, subst}
 use Rattle.std.specs.Prelude.{Option, Some, None}
-use Rattle.std.specs.Bool.{IsTrue}
 use Rattle.std.specs.declared.cmp.Ordering.{Ordering}
 use Rattle.std.specs.declared.cmp.Ordering.TheVariants.{Less, Equal, Greater}
-use Rattle.std.specs.Ordering.{match_ordering, is_eq, is_lt, ordering_reverse}
+use Rattle.std.specs.Ordering.{match_ordering}
 use Rattle.std.specs.Map.{set_value}
 use Rattle.std.specs.BTreeMap.{is_at}
-use Rattle.std.proofs.lemmas.Cmp.{nat_list_cmp_total}
 use Rattle.std.proofs.lemmas.Map.Steps.{set_value_same}
 use Rattle.office_base.specs.Maps.{bytes_cmp, at_name, with_name, Rises}
 use Rattle.plain_office.specs.Office.{Account}
-use Rattle.office_laws.proofs.Lists.{held_every}
-use Rattle.office_laws.proofs.Maps.{by_name, found, less_of}
 use Rattle.bucket_account.specs.Counting.{AccountRecord}
 use Rattle.bucket_account.specs.Standing.{StandsForAccount}
 use Rattle.bucket_account.proofs.SetAt.{set_is_with}

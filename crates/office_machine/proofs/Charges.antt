@@ -1,5 +1,5 @@
 -- The charges of a report are small.
-use Rattle.std.proofs.Common.{◌≡◌, ℕ, ◌+◌, ◌*◌, ◌/◌, ◌^◌, ◌<◌, ◌≤◌, arith}
+use Rattle.std.proofs.Common.{ℕ, ◌*◌, ◌^◌, ◌<◌, ◌≤◌, arith}
 use Rattle.std.proofs.Math.Nat.{div-le_of_le-mul}
 use Rattle.std.proofs.lemmas.Nat.{mul-le}
 use Rattle.tariff.specs.Charges.{gib_month, charge_of, move_charge_of}

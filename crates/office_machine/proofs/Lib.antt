@@ -1,5 +1,6 @@
 pub mod Accounts
 pub mod Charges
+pub mod Lateness
 pub mod Months
 pub mod Offices
 pub mod Room

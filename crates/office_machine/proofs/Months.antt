@@ -1,13 +1,13 @@
 -- The closing of months, told by what stands in the office.
-use Rattle.std.proofs.Common.{◌≡◌, ℕ, ◌<◌, ◌≤◌, List, [], ◌∷◌, ◌++◌, map, refl, ap, sym, ◌∙◌, arith}
-use Rattle.std.specs.Prelude.{Option, Some, None, Result, Ok, Err}
-use Rattle.moments.specs.Months.{months, month_end, first_day}
+use Rattle.std.proofs.Common.{◌≡◌, ℕ, ◌<◌, ◌≤◌, List, [], ◌∷◌, ◌++◌, map, refl, ap, ◌∙◌, arith}
+use Rattle.std.specs.Prelude.{Option, Some, None, Ok, Err}
+use Rattle.moments.specs.Months.{months, month_end}
 use Rattle.moments.specs.Time.{end_of_time}
 use Rattle.moments.proofs.Calendar.{first_day_small}
 use Rattle.tariff.specs.Prices.{Prices}
 use Rattle.due_core.specs.declared.action.Action.{Action}
 use Rattle.plain_office.specs.Office.{Office, Account}
-use Rattle.plain_office.specs.Step.{Outcome, due_before, unless_due, close, accepted, settled, outcome, step}
+use Rattle.plain_office.specs.Step.{due_before, unless_due, close, accepted, settled, outcome, step}
 use Rattle.office_types.specs.declared.command.Command.TheVariants as command
 use Rattle.office_types.specs.declared.reply.Reply.TheVariants as reply
 use Rattle.office_types.specs.declared.refusal.Refusal.{Refusal}
@@ -15,7 +15,6 @@ use Rattle.office_types.specs.declared.refusal.Refusal.TheVariants.{DueActions}
 use Rattle.bucket_account.specs.Counting.{AccountRecord}
 use Rattle.office_machine.specs.Closing.{closing_with, unbooked, first_due, due_refusal}
 use Rattle.office_machine.specs.Standing.{StandForAccounts}
-use Rattle.office_machine.proofs.Steps.{Answer}
 
 pub month_fits : (month : ℕ) → month < months → month_end month ≤ end_of_time
 month_fits month among = let small = first_day_small month among in omega (arith, small)

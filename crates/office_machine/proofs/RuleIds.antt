@@ -1,6 +1,6 @@
 -- The ids of a configuration's rules are short.
-use Rattle.std.proofs.Common.{◌≡◌, ℕ, zero, suc, ◌+◌, ◌≤◌, List, [], ◌∷◌, ◌++◌, length, refl, sym, ap, subst, Bool, true, false, lit<}
-use Rattle.std.specs.Prelude.{Option, Some, None, slice_get, nat_lt}
+use Rattle.std.proofs.Common.{◌≡◌, ℕ, zero, suc, ◌+◌, ◌≤◌, List, [], ◌∷◌, ◌++◌, length, subst, false, lit<}
+use Rattle.std.specs.Prelude.{Some, None, slice_get, nat_lt}
 use Rattle.std.proofs.lemmas.Bool.{ltb-false}
 use Rattle.office_base.specs.Tags.{char_count}
 use Rattle.rules_core.specs.Conditions.{breaks, flaw_of, first_flaw_after}

@@ -1,5 +1,5 @@
 -- What the parts of closing a month give, in the words of the plain office.
-use Rattle.std.specs.Prelude.{ℕ, List, [], ◌∷◌, ◌++◌, map, Option, option_map, Result, Ok, Err}
+use Rattle.std.specs.Prelude.{ℕ, List, [], ◌∷◌, ◌++◌, map, Option, option_map, Result}
 use Rattle.moments.specs.Months.{month_end}
 use Rattle.tariff.specs.Prices.{Prices}
 use Rattle.due_core.specs.declared.action.Action.{Action}

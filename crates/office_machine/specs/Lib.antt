@@ -1,4 +1,5 @@
 pub mod Asking
 pub mod Closing
+pub mod Lateness
 pub mod Lines
 pub mod Standing

@@ -1,5 +1,5 @@
 -- What the office in memory stands for: it keeps records, totals and counts, where the plain office has lists.
-use Rattle.std.specs.Prelude.{◌≡◌, ◌⊎◌, ℕ, ◌+◌, ◌^◌, List, [], ◌∷◌, Option, Result, Err, if◌then◌else◌}
+use Rattle.std.specs.Prelude.{◌≡◌, ◌⊎◌, ℕ, ◌+◌, List, [], ◌∷◌, Option, Result, Err, if◌then◌else◌}
 use Rattle.std.specs.List.{AllByRecursion}
 use Rattle.tariff.specs.Prices.{Prices}
 use Rattle.plain_office.specs.Office.{Office, Account}

@@ -1,15 +1,21 @@
 // The office.
-ghost use Rattle.std.specs.Prelude.{◌≡◌, ◌⊎◌, ◌<◌, ℕ, Err, IsTrue};
+ghost use Rattle.std.specs.Prelude.{◌≡◌, ◌⊎◌, ◌<◌, ℕ, List, Ok, Err, IsTrue, option_copied, option_map};
+ghost use Rattle.office_base.specs.Maps.{at_name};
 ghost use Rattle.plain_office.specs.Office as plain;
 ghost use Rattle.plain_office.specs.Office.{empty_office};
 ghost use Rattle.plain_office.specs.Step.{step};
 ghost use Rattle.plain_office.specs.Answers.{answer};
 ghost use Rattle.plain_office.specs.Run.{is_not_before};
+ghost use Rattle.plain_office.specs.Orderly.{IsOrderly, SizeFits};
 ghost use Rattle.office_types.specs.Fits.{AnswerFits};
+ghost use Rattle.bucket_account.specs.Counting.{AccountRecord};
 ghost use Rattle.bucket_account.specs.Standing.{most_commands};
 ghost use Rattle.office_machine.specs.Standing.{StandsForOffice, Does, accepted_after};
+ghost use Rattle.office_machine.specs.Lateness.{LeavesLaterSweeps, HasEmptySweep, LeavesOthers};
+ghost use Rattle.office_machine.specs.Lateness.{AsksClosedMonth, KeepsClosedMonths};
 
 use bucket_account::{Account, Counts, NOTHING};
+use due_core::Bucket;
 use moments::{Moment, Month};
 use office_base::BucketName;
 use office_types::{Command, Query, Refusal, Reply};
@@ -86,6 +92,19 @@ impl Office {
         self.last
     }
 
+    /// Reads the records of a bucket; None where there is none of this name. Takes no memory.
+    ///
+    /// Cost: one search of the buckets.
+    pub fn bucket(&self, name: &BucketName) -> Option<&Bucket>
+        ensures records { option_copied result
+            ≡ option_map (λ (account : AccountRecord). account.bucket) (at_name name.now self.now.accounts) }
+    {
+        match self.accounts.get(name) {
+            Some(account) => Some(account.bucket()),
+            None => None,
+        }
+    }
+
     /// Does a command at a moment, and answers it. `t` is not before the moment of the last accepted command.
     ///
     /// Cost: one search of the buckets and one of what the command names in its bucket; `Act` and `Close` read all
@@ -102,6 +121,28 @@ impl Office {
         ensures step { (p : plain.Office) → StandsForOffice self.old p → Does (step t command.now p) p self.new result }
         ensures accepted { self.new.accepted ≡ accepted_after result self.old.accepted }
         ensures fits { AnswerFits result }
+        ensures late { (p : plain.Office) (name : List ℕ) → StandsForOffice self.old p → command.now ≡ Command.Act name
+            → (q : plain.Office) × StandsForOffice self.new q × LeavesLaterSweeps name t p q }
+        ensures nothing_due { (p : plain.Office) (name : List ℕ) → StandsForOffice self.old p
+            → command.now ≡ Command.Act name → result ≡ Ok Reply.NothingDue
+            → StandsForOffice self.new p × HasEmptySweep name t p }
+        ensures elsewhere { (p : plain.Office) → StandsForOffice self.old p
+            → (q : plain.Office) × StandsForOffice self.new q × LeavesOthers command.now p q }
+        ensures closed { (p : plain.Office) → StandsForOffice self.old p
+            → (q : plain.Office) × StandsForOffice self.new q × KeepsClosedMonths p q }
+        ensures orderly { (p : plain.Office) → StandsForOffice self.old p
+            → (q : plain.Office) × StandsForOffice self.new q × IsOrderly q }
+    {
+        self.do_command(t, command)
+    }
+
+    fn do_command(&mut self, t: Moment, command: &Command) -> Result<Reply, Refusal>
+        requires later { IsTrue (is_not_before self.old.last t) }
+        requires few { self.old.accepted < most_commands }
+        ensures step { (p : plain.Office) → StandsForOffice self.old p → Does (step t command.now p) p self.new result }
+        ensures accepted { self.new.accepted ≡ accepted_after result self.old.accepted }
+        ensures fits { AnswerFits result }
+        ensures size { SizeFits command.now }
     {
         match command {
             Command::CreateBucket { bucket } => self.create_bucket(t, bucket),
@@ -132,6 +173,17 @@ impl Office {
     ///
     /// Each is the refusal that the plain office gives, tested in its order; or `NoMemory`: memory ran out.
     pub fn answer(&self, t: Moment, query: &Query) -> Result<Reply, Refusal>
+        requires later { IsTrue (is_not_before self.now.last t) }
+        ensures reply { (p : plain.Office) → StandsForOffice self.now p
+            → (result ≡ answer t query.now p) ⊎ (result ≡ Err Refusal.NoMemory) }
+        ensures fits { AnswerFits result }
+        ensures closed { (p : plain.Office) (u : ℕ) → StandsForOffice self.now p → AsksClosedMonth u t query.now p
+            → (result ≡ answer u query.now p) ⊎ (result ≡ Err Refusal.NoMemory) }
+    {
+        self.reply_to(t, query)
+    }
+
+    fn reply_to(&self, t: Moment, query: &Query) -> Result<Reply, Refusal>
         requires later { IsTrue (is_not_before self.now.last t) }
         ensures reply { (p : plain.Office) → StandsForOffice self.now p
             → (result ≡ answer t query.now p) ⊎ (result ≡ Err Refusal.NoMemory) }

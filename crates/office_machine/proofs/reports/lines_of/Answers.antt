@@ -1,4 +1,4 @@
-use Rattle.std.proofs.Common.{◌≡◌, ◌+◌, ◌*◌, ◌≤◌, ℕ, List, ◌∷◌, length, sym, ap, ◌∙◌, subst, arith, add-one}
+use Rattle.std.proofs.Common.{◌≡◌, ◌+◌, ℕ, List, ◌∷◌, length, sym, ap, ◌∙◌, subst, arith, add-one}
 use Rattle.bucket_account.specs.Counting.{AccountRecord}
 use Rattle.office_machine.proofs.Rows.{IsListing, went_on}
 use Rattle.office_machine.proofs.reports.lines_of.Goals as goal

@@ -1,10 +1,9 @@
-use Rattle.std.proofs.Common.{◌≡◌, ℕ, ◌+◌, List, [], ◌∷◌, ◌++◌, sym, ap, subst, ◌∙◌, true, false, cond}
-use Rattle.std.specs.Prelude.{Option, None, Result, Ok, Err, Some, is_ok, is_err}
+use Rattle.std.proofs.Common.{◌≡◌, ℕ, ◌+◌, [], ◌∷◌, ◌++◌, sym, subst, ◌∙◌, true, false, cond}
+use Rattle.std.specs.Prelude.{None, Result, Ok, Err, Some, is_ok, is_err}
 use Rattle.moments.specs.Months.{month_end}
 use Rattle.plain_office.specs.Office.{Office}
 use Rattle.plain_office.specs.Run.{is_not_before}
 use Rattle.plain_office.specs.Step.{step}
-use Rattle.tariff.specs.Prices.{Prices}
 use Rattle.office_types.specs.declared.command.Command.TheVariants as command
 use Rattle.office_types.specs.declared.reply.Reply.{Reply}
 use Rattle.office_types.specs.declared.reply.Reply.TheVariants.{Closed}

@@ -1,5 +1,5 @@
-use Rattle.std.proofs.Common.{◌≡◌, ◌+◌, ◌*◌, ◌^◌, ◌<◌, ◌≤◌, ℕ, List, inl, ap, sym, ◌∙◌, subst, arith, true}
-use Rattle.std.specs.Prelude.{Some, None, Ok}
+use Rattle.std.proofs.Common.{◌≡◌, ◌^◌, ◌<◌, List, inl, ap, sym, ◌∙◌, subst, arith, true}
+use Rattle.std.specs.Prelude.{Ok}
 use Rattle.plain_office.specs.Run.{is_not_before}
 use Rattle.office_types.specs.declared.reply.Reply.TheVariants.{Report}
 use Rattle.office_types.specs.declared.reply.ReportLine.{ReportLine}

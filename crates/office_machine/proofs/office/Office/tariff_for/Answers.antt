@@ -1,4 +1,4 @@
-use Rattle.std.proofs.Common.{◌≡◌, ap, ◌∙◌, sym, subst, List, ℕ}
+use Rattle.std.proofs.Common.{ap, ◌∙◌, sym, subst}
 use Rattle.std.specs.Prelude.{Option}
 use Rattle.tariff.specs.Prices.{Prices}
 use Rattle.office_machine.specs.Asking.{kept_prices, closed_at}
