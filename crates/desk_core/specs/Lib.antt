@@ -6,6 +6,7 @@ pub mod Clocks
 pub mod Desk
 pub mod Histories
 pub mod Keeping
+pub mod Looking
 pub mod Numbers
 pub mod Offices
 pub mod Opening

@@ -3,12 +3,15 @@ ghost use Rattle.std.specs.Prelude.{◌≡◌, ◌⊎◌, ◌<◌, ◌≤◌, �
 ghost use Rattle.office_base.specs.Faults.{Rose};
 ghost use Rattle.disk_core.specs.Kept.{Narrower};
 ghost use Rattle.disk_core.specs.Moments.{KeepsTo};
+ghost use Rattle.moments.specs.Time.{end_of_time};
+ghost use Rattle.office_types.specs.Fits.{AnswerFits};
 ghost use Rattle.office_types.specs.declared.command.Entry.{Entry};
 ghost use Rattle.desk_core.specs.Answers.{Call};
 ghost use Rattle.desk_core.specs.Asking.{IsOffice, HasCauses, Unopened};
 ghost use Rattle.desk_core.specs.Breaking.{OpenFails};
 ghost use Rattle.desk_core.specs.Desk.{Parts, DeskView, parts_of, StandsFor, GoesOn, TellsFault, IsNumber, IsLast, IsStamped, stale_after};
 ghost use Rattle.desk_core.specs.Histories.{HasAcceptedHistory};
+ghost use Rattle.desk_core.specs.Looking.{IsReadAfter};
 ghost use Rattle.desk_core.specs.Opening.{Opens};
 ghost use Rattle.desk_core.specs.Serving.{Opened};
 
@@ -18,7 +21,7 @@ use crate::engine::Engine;
 use crate::fault::{DeskFault, SaveFault};
 use disk_core::Disk;
 use meter_journal::OpenFault;
-use office_types::Ask;
+use office_types::{Ask, Query, Refusal, Reply};
 use std::alloc::Global;
 use std::marker::Model;
 
@@ -155,6 +158,24 @@ impl<D: Disk + Drop, C: Clock + Drop> Desk<D, C> {
         let said = self.engine.ask(ask);
         self.stale = is_stale(self.stale, &said);
         said
+    }
+
+    /// Answers a query as of a number that its clock told before, or as of the moment of the last accepted command, where that
+    /// is later. The desk is not stale, and the number is below the end of time. Asks neither the disk nor the clock, and
+    /// changes nothing.
+    ///
+    /// # Errors
+    ///
+    /// Each is the refusal that the office gives; or `NoMemory`: memory ran out.
+    pub fn look(&self, told: u64, query: &Query) -> Result<Reply, Refusal>
+        requires fresh { self.now.stale ≡ false }
+        requires begun { told < end_of_time }
+        ensures reads { (opened : Opened) (calls : List Call)
+            → StandsFor D.honest D.state D.moment D.had_since D.fault_count opened calls self.now
+            → IsReadAfter D.honest opened calls told query.now result }
+        ensures fits { AnswerFits result }
+    {
+        self.engine.look(told, query)
     }
 
     /// Tells whether the journal has to be opened again: a call answered `StoreFault` or `Broken`, and none since then an

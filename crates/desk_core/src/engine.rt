@@ -13,6 +13,8 @@ ghost use Rattle.desk_core.specs.Calls.{moment_after};
 ghost use Rattle.desk_core.specs.Desk.{Parts, Holds, IsReady, IsNumber, IsLast, IsStamped, stale_after};
 ghost use Rattle.desk_core.specs.Asking.{PassesLimit, HasCauses};
 ghost use Rattle.desk_core.specs.Histories.{IsSound};
+ghost use Rattle.desk_core.specs.Looking.{IsRead};
+ghost use Rattle.desk_core.specs.Offices.{StandsAfter};
 ghost use Rattle.desk_core.specs.Keeping.{Adds, Keeps, Answers, Asks};
 
 use crate::acked::Acked;
@@ -195,6 +197,19 @@ impl<D: Disk + Drop, C: Clock + Drop> Engine<D, C> {
                 Refusal::NoMemory => Err(DeskFault::NoMemory),
                 refused => Ok(self.answer(moment.ms(), told, Err(refused))),
             },
+        }
+    }
+
+    // Answers a query as of a number that the clock told before.
+    pub(crate) fn look(&self, told: u64, query: &Query) -> Result<Reply, Refusal>
+        requires begun { told < end_of_time }
+
+        ensures reads { (history : List Entry) → StandsAfter history self.now.office → IsRead told query.now history result }
+        ensures fits { AnswerFits result }
+    {
+        match Moment::of(moment_for(told, self.office.last())) {
+            Ok(moment) => self.office.answer(moment, query),
+            Err(_) => unreachable!(),
         }
     }
 

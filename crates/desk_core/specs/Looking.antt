@@ -1,0 +1,26 @@
+-- What is read of an office as of a number that its clock told before.
+use Rattle.std.specs.Prelude.{◌≡◌, ◌⊎◌, ℕ, Bool, List, Some, Result, Err}
+use Rattle.disk_core.specs.Files.{State}
+use Rattle.plain_office.specs.Answers.{answer}
+use Rattle.plain_office.specs.Office.{Office}
+use Rattle.plain_office.specs.Run.{run}
+use Rattle.office_types.specs.declared.command.Entry.{Entry}
+use Rattle.office_types.specs.declared.command.Query.{Query}
+use Rattle.office_types.specs.declared.reply.Reply.{Reply}
+use Rattle.office_types.specs.declared.refusal.Refusal.{Refusal}
+use Rattle.office_types.specs.declared.refusal.Refusal.TheVariants.{NoMemory}
+use Rattle.desk_core.specs.Answers.{Call}
+use Rattle.desk_core.specs.Calls.{Legal, moment_after}
+use Rattle.desk_core.specs.Serving.{Opened}
+
+-- the reply of the plain office after this history to a query, as of the later of the number and the last moment
+pub record IsRead (told : ℕ) (query : Query) (history : List Entry) (reply : Result Reply Refusal) : Type 0 where
+  pub plain : Office
+  pub is_run : run history ≡ Some plain
+  pub answered : (reply ≡ answer (moment_after told plain.last) query plain) ⊎ (reply ≡ Err NoMemory)
+
+-- it is of a history to which these calls lead
+abbrev pub IsReadAfter : Bool → Opened → List Call → ℕ → Query → Result Reply Refusal → Type 0
+IsReadAfter honest opened calls told query reply =
+    (history : List Entry) × Legal honest opened.limit opened.faults calls opened.history history
+    × IsRead told query history reply
