@@ -2,7 +2,6 @@
 use Rattle.std.specs.Prelude.{◌≡◌, [], ◌∷◌, codes, refl, Some, None, Ok, Err}
 use Rattle.std.specs.Fmt.{digits}
 use Rattle.jiff_core.specs.Calendar.{days_of_months}
-use Rattle.csv.specs.Writing.{escaped, fields_text, is_blank}
 use Rattle.serde_json.proofs.OnLiterals.{serde_json_on_literals}
 use Rattle.moments.specs.Months.{first_day, months_over}
 use Rattle.moments.specs.Texts.{moment_text}
@@ -13,10 +12,8 @@ use Rattle.rules_json.specs.Printing.{printed}
 use Rattle.stacks.specs.declared.version.Kind.TheVariants.{Object, Marker}
 use Rattle.due_core.specs.declared.action.ActionKind.TheVariants as action
 use Rattle.due_core.specs.declared.action.Target.TheVariants as target
-use Rattle.office_types.specs.declared.reply.LineKind.TheVariants.{Storage}
-use Rattle.office_types.specs.declared.reply.Reply.TheVariants.{Chosen, NothingDue, RulesShown, StackShown, UploadShown, TariffShown, Report}
+use Rattle.office_types.specs.declared.reply.Reply.TheVariants.{Chosen, NothingDue, RulesShown, StackShown, UploadShown, TariffShown}
 use Rattle.office_types.specs.declared.refusal.Refusal.TheVariants.{MonthNotOver, DueActions}
-use Rattle.http_text.specs.Reports.{report_csv}
 use Rattle.http_text.specs.Replies.{body_text, answer_text, head_text, reply_with}
 
 nothing_due : answer_text (Ok NothingDue) ≡ codes "HTTP/1.1 200 OK\r\ncontent-type: application/json\r\ncontent-length: 17\r\n\r\n{\"action\":\"none\"}"
@@ -70,16 +67,3 @@ prices = refl
 rules : (configuration : Configuration) → body_text (Ok (RulesShown configuration)) ≡ printed configuration
 unfolding body_text printed
 rules configuration = refl
-
--- one GiB in STANDARD for the whole of January 2024
-january_report : body_text (Ok (Report ((record {
-  bucket = codes "logs";
-  kind = Storage;
-  class = Standard;
-  quantity = 2_875_910_101_401_600_000;
-  price = 23_000;
-  charge = 23_000;
-}) ∷ [])))
-    ≡ codes "bucket,line,class,quantity,price,charge\nlogs,storage,STANDARD,2875910101401600000,23000,23000\n,total,,,,23000\n"
-unfolding body_text report_csv escaped fields_text is_blank digits
-january_report = refl

@@ -1,7 +1,6 @@
 mod Examples
 pub mod Going
 pub mod LongTexts
-pub mod ReportLemmas
 pub mod RoomLemmas
 pub mod Small
 pub mod Statuses

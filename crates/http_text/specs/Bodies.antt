@@ -25,7 +25,7 @@ use Rattle.office_types.specs.declared.reply.Reply.TheVariants.{BucketShown, Rul
 use Rattle.office_types.specs.declared.reply.Reply.TheVariants.{MetersShown, TariffShown, Report}
 use Rattle.http_text.specs.Json.{json_object, array_of, whole, digits_of, moment_data, id_data, tags_data}
 use Rattle.http_text.specs.Names.{month_text, versioning_name, action_name}
-use Rattle.http_text.specs.Reports.{report_csv}
+use Rattle.usage_report.specs.Csv.{report_csv}
 
 -- a body: JSON, or the text of a report
 pub data Body : Type 0 where

@@ -8,7 +8,6 @@ mod meters;
 mod price_body;
 mod printing;
 mod refusals;
-mod report_body;
 mod room;
 mod stack_body;
 mod tag_body;

@@ -5,12 +5,11 @@ ghost use Rattle.office_types.specs.Fits.{AnswerFits};
 ghost use Rattle.office_types.specs.declared.reply.Reply.TheVariants.{RulesShown, Report};
 ghost use Rattle.http_text.specs.Replies.{answer_text, body_text, head_text, head_with};
 ghost use Rattle.http_text.specs.Replies.{refusal_status, reply_status, status_of};
-ghost use Rattle.http_text.specs.Reports.{charges};
+ghost use Rattle.usage_report.specs.Lines.{charges};
 ghost use Rattle.http_text.specs.Room.{Puts};
 ghost use Rattle.http_text.specs.Shorts.{IsInParts, IsShort, IsShortReply};
 
 use crate::body::put_body;
-use crate::report_body::report_text;
 use crate::room::{put, put_number};
 use http::StatusCode;
 use office_base::NoMemory;
@@ -18,6 +17,7 @@ use office_types::{Refusal, Reply, ReportLine};
 use rules_core::RuleSet;
 use rules_json::print_rules;
 use std::alloc::Global;
+use usage_report::report_csv;
 
 fn reply_status(reply: &Reply) -> StatusCode
     ensures { result ≡ reply_status reply.now }
@@ -202,7 +202,7 @@ fn print_report(alloc: Global, lines: &[ReportLine]) -> Result<Vec<u8>, NoMemory
     requires { charges lines.now < 2 ^ 128 }
     ensures text { IfOk result (λ v. v.items ≡ answer_text (Ok (Report lines.now))) }
 {
-    let body = report_text(alloc, lines)?;
+    let body = report_csv(alloc, lines)?;
     print_text(alloc, "text/csv", &body)
 }
 

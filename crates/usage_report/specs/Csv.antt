@@ -1,16 +1,10 @@
 -- The report of a month as CSV (RFC 4180, but lines end in a line feed).
 use Rattle.std.specs.Prelude.{ℕ, List, [], ◌∷◌, ◌++◌, map, codes, decimal}
-use Rattle.std.specs.List.{flat_map, sum_by}
+use Rattle.std.specs.List.{flat_map}
 use Rattle.csv.specs.Writing.{row_text, default_writer}
 use Rattle.class_rules.specs.Classes.{class_name}
-use Rattle.office_types.specs.declared.reply.LineKind.{LineKind}
-use Rattle.office_types.specs.declared.reply.LineKind.TheVariants.{Storage, Early, Transitions}
 use Rattle.office_types.specs.declared.reply.ReportLine.{ReportLine}
-
-abbrev pub line_name : LineKind → List ℕ
-line_name Storage = codes "storage"
-line_name Early = codes "early"
-line_name Transitions = codes "transitions"
+use Rattle.usage_report.specs.Lines.{line_name, charges}
 
 abbrev pub header_row : List (List ℕ)
 header_row = codes "bucket" ∷ codes "line" ∷ codes "class" ∷ codes "quantity" ∷ codes "price" ∷ codes "charge" ∷ []
@@ -23,9 +17,6 @@ line_row line =
 -- the sum of the charges, in a row without a bucket
 abbrev pub total_row : ℕ → List (List ℕ)
 total_row total = [] ∷ codes "total" ∷ [] ∷ [] ∷ [] ∷ decimal total ∷ []
-
-abbrev pub charges : List ReportLine → ℕ
-charges lines = sum_by (λ (line : ReportLine). line.charge) lines
 
 -- a row for each line, between the header and the total
 unfoldable pub report_csv : List ReportLine → List ℕ

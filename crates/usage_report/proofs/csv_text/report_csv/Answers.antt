@@ -4,9 +4,10 @@ use Rattle.std.proofs.lemmas.List.Sums.{sum_by-drop_more}
 use Rattle.std.specs.Io.KnownBytes.{append_known}
 use Rattle.csv.specs.Writing.{default_writer, row_text}
 use Rattle.office_types.specs.declared.reply.ReportLine.{ReportLine}
-use Rattle.http_text.specs.Reports.{charges, header_row, line_row, total_row}
-use Rattle.http_text.proofs.ReportLemmas.{rows_of, no_rows, more_rows, all_rows, written_text}
-use Rattle.http_text.proofs.report_body.report_text.Goals as goal
+use Rattle.usage_report.specs.Lines.{charges}
+use Rattle.usage_report.specs.Csv.{header_row, line_row, total_row}
+use Rattle.usage_report.proofs.CsvRows.{rows_of, no_rows, more_rows, all_rows, written_text}
+use Rattle.usage_report.proofs.csv_text.report_csv.Goals as goal
 
 pub loop-line-init : goal.loop-line-init
 loop-line-init c = (

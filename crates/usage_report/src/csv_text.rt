@@ -1,14 +1,15 @@
-// The report of a month, as CSV.
-ghost use Rattle.std.specs.Prelude.{◌≡◌, ◌<◌, ◌^◌, [], ◌∷◌, map, Some, IfOk, OnOk, decimal, sum_by};
+// The report of a month as CSV.
+ghost use Rattle.std.specs.Prelude.{◌≡◌, ◌<◌, ◌^◌, [], ◌∷◌, map, Some, IfOk, OnOk, decimal};
 ghost use Rattle.std.specs.Io.KnownBytes.{append_known};
 ghost use Rattle.csv.specs.Writing.{default_writer, row_text};
-ghost use Rattle.office_types.specs.declared.reply.ReportLine.{ReportLine};
-ghost use Rattle.http_text.specs.Reports.{header_row, line_name, line_row, report_csv, total_row};
-ghost use Rattle.http_text.specs.Sheets.{IsReady, held};
+ghost use Rattle.usage_report.specs.Lines.{charges};
+ghost use Rattle.usage_report.specs.Csv.{header_row, line_row, report_csv, total_row};
+ghost use Rattle.usage_report.specs.Sheets.{IsReady, held};
 
+use crate::names::line_name;
 use csv::{Writer, WriterBuilder};
 use office_base::NoMemory;
-use office_types::{LineKind, ReportLine};
+use office_types::ReportLine;
 use std::alloc::Global;
 
 type Sheet = Writer<Vec<u8>>;
@@ -29,16 +30,6 @@ fn put_row(sheet: &mut Sheet, fields: &[&[u8]]) -> Result<(), NoMemory>
     match sheet.write_fields(fields) {
         Ok(()) => Ok(()),
         Err(_) => Err(NoMemory),
-    }
-}
-
-fn line_name(kind: LineKind) -> &'static str
-    ensures { result.now ≡ line_name kind }
-{
-    match kind {
-        LineKind::Storage => "storage",
-        LineKind::Early => "early",
-        LineKind::Transitions => "transitions",
     }
 }
 
@@ -113,11 +104,17 @@ fn finish(sheet: Sheet) -> Result<Vec<u8>, NoMemory>
     }
 }
 
-/// Writes the lines of a report and their total.
+/// Writes the lines of a report and their total as CSV (RFC 4180, but lines end in a line feed), with the header
+/// `bucket,line,class,quantity,price,charge`. Quantities are in byte-milliseconds, those of transitions a number of objects;
+/// prices and charges are in units.
 ///
 /// Cost: a pass over the lines, and memory for the text.
-pub(crate) fn report_text(alloc: Global, lines: &[ReportLine]) -> Result<Vec<u8>, NoMemory>
-    requires { sum_by (λ (line : ReportLine). line.charge) lines.now < 2 ^ 128 }
+///
+/// # Errors
+///
+/// `NoMemory`: memory ran out.
+pub fn report_csv(alloc: Global, lines: &[ReportLine]) -> Result<Vec<u8>, NoMemory>
+    requires { charges lines.now < 2 ^ 128 }
     ensures { IfOk result (λ v. v.items ≡ report_csv lines.now) }
 {
     let mut sheet = start(alloc);

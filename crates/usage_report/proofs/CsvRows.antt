@@ -6,7 +6,8 @@ use Rattle.std.proofs.lemmas.Grind.{flat_map-append}
 use Rattle.std.proofs.lemmas.List.{map_more}
 use Rattle.csv.specs.Writing.{default_writer, row_text}
 use Rattle.office_types.specs.declared.reply.ReportLine.{ReportLine}
-use Rattle.http_text.specs.Reports.{header_row, line_row, total_row, charges, report_csv}
+use Rattle.usage_report.specs.Lines.{charges}
+use Rattle.usage_report.specs.Csv.{header_row, line_row, total_row, report_csv}
 
 -- the header and these lines
 pub rows_of : List ReportLine → List ℕ

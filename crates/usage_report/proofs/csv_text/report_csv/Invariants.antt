@@ -1,8 +1,8 @@
 use Rattle.std.proofs.Common.{◌≡◌, ◌+◌, take, drop, Some}
-use Rattle.http_text.specs.Reports.{charges}
-use Rattle.http_text.specs.Sheets.{IsReady, held}
-use Rattle.http_text.proofs.ReportLemmas.{rows_of}
-use Rattle.http_text.proofs.report_body.report_text.Given as goal
+use Rattle.usage_report.specs.Lines.{charges}
+use Rattle.usage_report.specs.Sheets.{IsReady, held}
+use Rattle.usage_report.proofs.CsvRows.{rows_of}
+use Rattle.usage_report.proofs.csv_text.report_csv.Given as goal
 
 abbrev pub invariant-loop-line : goal.invariant-loop-line
 invariant-loop-line l =

@@ -1,0 +1,3 @@
+mod CsvRows
+mod Examples
+mod TableLines

@@ -1,0 +1,4 @@
+pub mod Csv
+pub mod Lines
+pub mod Sheets
+pub mod Tables

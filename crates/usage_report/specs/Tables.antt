@@ -1,0 +1,30 @@
+-- The report of a month as a table to read (own): a line of text for each line of the report, and one for the total.
+use Rattle.std.specs.Prelude.{ℕ, ◌-◌, List, [], ◌∷◌, ◌++◌, length, replicate, codes, decimal}
+use Rattle.std.specs.List.{flat_map}
+use Rattle.class_rules.specs.Classes.{class_name}
+use Rattle.office_types.specs.declared.reply.ReportLine.{ReportLine}
+use Rattle.usage_report.specs.Lines.{line_name, charges}
+
+-- a text at the left or at the right of a column of so many characters; a longer one stands as it is
+abbrev pub left : ℕ → List ℕ → List ℕ
+left width text = text ++ replicate (width - length text) 32
+
+abbrev pub right : ℕ → List ℕ → List ℕ
+right width text = replicate (width - length text) 32 ++ text
+
+-- the columns of a line, a space between two
+unfoldable pub table_line : List ℕ → List ℕ → List ℕ → List ℕ → ℕ → List ℕ
+table_line bucket kind class quantity charge =
+    left 24 bucket ++ 32 ∷ left 12 kind ++ 32 ∷ left 14 class ++ 32 ∷ right 28 quantity
+    ++ 32 ∷ right 16 (decimal charge) ++ 10 ∷ []
+
+abbrev pub line_text : ReportLine → List ℕ
+line_text line =
+    table_line line.bucket (line_name line.kind) (class_name line.class) (decimal line.quantity) line.charge
+
+-- the sum of the charges, in a line without a bucket
+abbrev pub total_text : ℕ → List ℕ
+total_text total = table_line [] (codes "total") [] [] total
+
+unfoldable pub report_text : List ReportLine → List ℕ
+report_text lines = flat_map line_text lines ++ total_text (charges lines)

@@ -1,0 +1,11 @@
+//! The report of what a month costs, as CSV and as a table to read.
+#![tactic(auto)]
+
+mod csv_text;
+mod names;
+mod table;
+#[cfg(test)]
+mod tests;
+
+pub use csv_text::report_csv;
+pub use table::report_text;
