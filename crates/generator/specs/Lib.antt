@@ -1,0 +1,6 @@
+pub mod Clocks
+pub mod Drafts
+pub mod Draws
+pub mod Generated
+pub mod Places
+pub mod Working

@@ -1,0 +1,77 @@
+-- The desk of a load while its commands are made, and what its buckets hold.
+use Rattle.std.specs.Prelude.{◌≡◌, ℕ, zero, suc, ◌+◌, ◌<◌, true, false, List, length, Option, Some, None, Result, Ok, Err}
+use Rattle.disk_core.specs.declared.memory.MemoryDisk.{MemoryDisk}
+use Rattle.disk_core.specs.Memory.{memory_state}
+use Rattle.office_base.specs.Maps.{at_name}
+use Rattle.office_types.specs.declared.command.Entry.{Entry}
+use Rattle.office_types.specs.declared.reply.Reply.{Reply}
+use Rattle.office_types.specs.declared.reply.Reply.TheVariants.{BucketShown, NothingDue}
+use Rattle.office_types.specs.declared.refusal.Refusal.{Refusal}
+use Rattle.due_core.specs.Buckets.{BucketRecord}
+use Rattle.plain_office.specs.Office.{Office, Account}
+use Rattle.plain_office.specs.Counts.{version_count}
+use Rattle.meter_journal.specs.History.{header, end_gate}
+use Rattle.desk_core.specs.Desk.{DeskView, parts_of, Holds}
+use Rattle.generator.specs.Drafts.{name_of}
+use Rattle.generator.specs.Places.{place_after}
+use Rattle.generator.specs.Generated.{Progress, progress}
+use Rattle.generator.specs.declared.clock.PlaceClock.{PlaceClock}
+use Rattle.generator.specs.declared.work.Answers.{Answers}
+use Rattle.generator.specs.declared.work.Kept.{Kept}
+use Rattle.generator.specs.declared.work.Work.{Work}
+
+-- the desk holds the journal of these entries, and its clock has told the number and as many moments behind it
+pub record Stands (number told : ℕ) (history : List Entry) (desk : DeskView MemoryDisk PlaceClock) : Type 0 where
+  pub holds : Holds true memory_state history (parts_of desk)
+  pub fresh : desk.stale ≡ false
+  pub number_is : desk.clock.number ≡ number
+  pub told_is : desk.clock.place.made ≡ told
+
+-- the commands were answered so
+pub record AreAnswers (answers : Answers) (progress : Progress) : Type 0 where
+  pub accepted : answers.accepted ≡ length progress.accepted
+  pub refused : answers.refused ≡ progress.refused
+  pub nothing : answers.nothing ≡ progress.nothing
+
+-- one more was answered so
+abbrev pub IsNoted : Answers → Result Reply Refusal → Answers → Type 0
+IsNoted old (Err refusal) new = new ≡ record old { refused = old.refused + 1 }
+IsNoted old (Ok NothingDue) new = new ≡ record old { nothing = old.nothing + 1 }
+IsNoted old (Ok reply) new = new ≡ record old { accepted = old.accepted + 1 }
+
+-- the first commands of its number were made, as many as its place says
+pub record IsWork (work : Work) : Type 0 where
+  pub place : work.place ≡ place_after work.number work.place.made
+  pub stands : Stands work.number work.place.made (progress work.number work.place.made).accepted work.desk
+  pub answers : AreAnswers work.answers (progress work.number work.place.made)
+
+-- ---- what is kept
+
+-- of a bucket that may be there; one that is not holds nothing
+abbrev pub counts_of : (BucketRecord → ℕ) → Option Account → ℕ
+counts_of count None = 0
+counts_of count (Some account) = count account.bucket
+
+-- of one of the buckets
+abbrev pub in_bucket : (BucketRecord → ℕ) → ℕ → Office → ℕ
+in_bucket count bucket office = counts_of count (at_name (name_of bucket) office.accounts)
+
+-- in the first buckets, this many
+abbrev pub in_buckets : (BucketRecord → ℕ) → ℕ → Office → ℕ
+in_buckets count zero office = 0
+in_buckets count (suc n) office = in_buckets count n office + in_bucket count n office
+
+abbrev pub upload_count : BucketRecord → ℕ
+upload_count bucket = length bucket.uploads
+
+-- the versions and uploads that a reply shows of a bucket; any other shows none
+abbrev pub shown_in : Result Reply Refusal → ℕ × ℕ
+shown_in (Ok (BucketShown bucket rules uploads versioning versions)) = (versions, uploads)
+shown_in (Ok reply) = (0, 0)
+shown_in (Err refusal) = (0, 0)
+
+-- behind these commands the first buckets hold so much, and there the journal ends
+pub record AreKept (buckets : ℕ) (progress : Progress) (kept : Kept) : Type 0 where
+  pub versions : kept.versions ≡ in_buckets version_count buckets progress.office
+  pub uploads : kept.uploads ≡ in_buckets upload_count buckets progress.office
+  pub position : 0 < buckets → kept.position ≡ end_gate header progress.accepted
