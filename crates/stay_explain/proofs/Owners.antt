@@ -1,0 +1,56 @@
+-- Owners are compared by their keys' bytes, and then by their items: two that compare equal are the same.
+use Rattle.std.proofs.Common.{◌≡◌, refl, ap, sym, true}
+use Rattle.std.specs.declared.cmp.Ordering.{Ordering}
+use Rattle.std.specs.declared.cmp.Ordering.TheVariants.{Less, Equal, Greater}
+use Rattle.std.specs.declared.cmp.Ord.Ghosts.{cmp}
+use Rattle.std.specs.Ordering.{is_eq, nat_cmp, ordering_then}
+use Rattle.std.specs.BTreeMap.{is_at}
+use Rattle.std.proofs.lemmas.Cmp.{tied_itself}
+use Rattle.std.proofs.lemmas.Map.Lookups.{CmpEqualImpliesEq, exact_unsigned, exact_bytes}
+use Rattle.stay_explain.specs.declared.row.Item.{Item}
+use Rattle.stay_explain.specs.declared.row.Item.TheVariants.{Null, Number, Part}
+use Rattle.stay_explain.specs.declared.row.Owner.{Owner}
+use Rattle.stay_explain.specs.contracts.row.OwnerOrd.TheImpl as owner_order
+use Rattle.stay_explain.specs.contracts.row.ItemOrd.TheImpl as item_order
+use denote.Param.{read}
+
+abbrev pub item_cmp : Item → Item → Ordering
+item_cmp = read cmp item_order.ghosts
+
+abbrev pub owner_cmp : Owner → Owner → Ordering
+owner_cmp = read cmp owner_order.ghosts
+
+both_equal : (a b : Ordering) → ordering_then a b ≡ Equal → (a ≡ Equal) × (b ≡ Equal)
+both_equal Less b h = absurd cc
+both_equal Equal b h = (refl, h)
+both_equal Greater b h = absurd cc
+
+item_exact : CmpEqualImpliesEq item_cmp
+item_exact Null Null h = refl
+item_exact Null (Number n) h = absurd cc
+item_exact Null (Part u p) h = absurd cc
+item_exact (Number m) Null h = absurd cc
+item_exact (Number m) (Number n) h = ap Number (exact_unsigned m n h)
+item_exact (Number m) (Part u p) h = absurd cc
+item_exact (Part v q) Null h = absurd cc
+item_exact (Part v q) (Number n) h = absurd cc
+item_exact (Part v q) (Part u p) h =
+    let e = both_equal (nat_cmp v u) (nat_cmp q p) h in
+    λ i. Part (exact_unsigned v u e.0 i) (exact_unsigned q p e.1 i)
+
+owner_exact : CmpEqualImpliesEq owner_cmp
+owner_exact a b h =
+    let e = both_equal _ (item_cmp a.item b.item) h in
+    λ i. record { key = exact_bytes a.key b.key e.0 i; item = item_exact a.item b.item e.1 i }
+
+equal_of : (o : Ordering) → is_eq o ≡ true → o ≡ Equal
+equal_of Less h = absurd cc
+equal_of Equal h = refl
+equal_of Greater h = absurd cc
+
+-- the owner that is searched, and no other
+pub owner_is : (owner other : Owner) → is_at (owner_cmp owner) other ≡ true → other ≡ owner
+owner_is owner other h = sym (owner_exact owner other (equal_of (owner_cmp owner other) h))
+
+pub owner_itself : (owner : Owner) → is_at (owner_cmp owner) owner ≡ true
+owner_itself owner = ap is_eq (tied_itself owner_order.Laws.total-law owner)

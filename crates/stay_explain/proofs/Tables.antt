@@ -1,0 +1,96 @@
+-- The tables of the stays of accounts, and what begins has no open stay.
+use Rattle.std.proofs.Common.{◌≡◌, ℕ, ◌+◌, ◌≤◌, List, [], ◌∷◌, ◌++◌, length, map, filter, refl, ap, sym, ◌∙◌, Bool, true, false, cond, arith, length-append}
+use Rattle.std.specs.Prelude.{Option, Some, None, option_map, option_to_list}
+use Rattle.std.specs.Str.{bytes_eq}
+use Rattle.std.specs.declared.cmp.Ordering.{Ordering}
+use Rattle.std.specs.declared.cmp.Ordering.TheVariants.{Less, Equal, Greater}
+use Rattle.std.specs.Ordering.{match_ordering}
+use Rattle.std.specs.Map.{set_value}
+use Rattle.std.specs.BTreeMap.{is_at}
+use Rattle.std.proofs.lemmas.Bool.{and_from}
+use Rattle.std.proofs.lemmas.List.Elements.{filter-append}
+use Rattle.class_rules.specs.declared.class.Class.{Class}
+use Rattle.office_base.specs.Maps.{bytes_cmp, at_name, with_name, at_number}
+use Rattle.stacks.specs.Stacks.{version_at}
+use Rattle.uploads.specs.Uploads.{UploadRecord}
+use Rattle.due_core.specs.Buckets.{BucketRecord}
+use Rattle.accrual.specs.Books.{open_stay}
+use Rattle.plain_office.specs.Office.{Account, Item, of_version, of_part, Booked}
+use Rattle.plain_office.specs.Books.{is_open_stay, same_item}
+use Rattle.plain_office.specs.Changes.{versions_of}
+use Rattle.plain_office.specs.Orderly.{HasOpenStays, stays_expected, part_stays_expected, stay_of_version, stay_of_part}
+use Rattle.office_laws.proofs.Maps.{bytes_itself}
+use Rattle.office_laws.proofs.Stays.{item_itself}
+use Rattle.stay_explain.specs.Plans.{Plan, stays_by, after_begin, after_ends, BeginsFree, IsFree}
+use Rattle.stay_explain.specs.Table.{stays_of}
+use Rattle.stay_explain.specs.Ledgers.{Tables}
+
+-- ---- the tables of accounts
+
+map_pick : (name : List ℕ) (account : Account) (o : Ordering) (e : List ℕ × Account) (es rest : List (List ℕ × Account)) (others : Tables) → map stays_of rest ≡ others
+    → map stays_of (match_ordering o ((name, account) ∷ e ∷ es) ((e.0, account) ∷ es) (e ∷ rest))
+    ≡ match_ordering o ((name, account.books.stays) ∷ stays_of e ∷ map stays_of es) ((e.0, account.books.stays) ∷ map stays_of es) (stays_of e ∷ others)
+map_pick name account Less e es rest others h = refl
+map_pick name account Equal e es rest others h = refl
+map_pick name account Greater e es rest others h = ap (λ (l : Tables). stays_of e ∷ l) h
+
+pub map_with : (name : List ℕ) (account : Account) (es : List (List ℕ × Account)) → map stays_of (with_name name account es) ≡ with_name name account.books.stays (map stays_of es)
+map_with name account [] = refl
+map_with name account (e ∷ es) = map_pick name account (bytes_cmp name e.0) e es (with_name name account es) (with_name name account.books.stays (map stays_of es)) (map_with name account es)
+
+set_pick : (b : Bool) (e : List ℕ × Account) (account : Account) (es rest : List (List ℕ × Account)) (others : Tables) → others ≡ map stays_of rest
+    → cond b ((e.0, account.books.stays) ∷ map stays_of es) (stays_of e ∷ others) ≡ map stays_of (cond b ((e.0, account) ∷ es) (e ∷ rest))
+set_pick true e account es rest others h = refl
+set_pick false e account es rest others h = ap (λ (l : Tables). stays_of e ∷ l) h
+
+pub set_map : (test : List ℕ → Bool) (account : Account) (es : List (List ℕ × Account)) → set_value test (map stays_of es) account.books.stays ≡ map stays_of (set_value test es account)
+set_map test account [] = refl
+set_map test account (e ∷ es) = set_pick (test e.0) e account es (set_value test es account) (set_value test (map stays_of es) account.books.stays) (set_map test account es)
+
+at_pick : (b : Bool) (e : Account) (o : Option (List Booked)) (q : Option Account) → o ≡ option_map (λ (a : Account). a.books.stays) q
+    → cond b (Some e.books.stays) o ≡ option_map (λ (a : Account). a.books.stays) (cond b (Some e) q)
+at_pick true e o q h = refl
+at_pick false e o q h = h
+
+pub at_map : (name : List ℕ) (es : List (List ℕ × Account)) → at_name name (map stays_of es) ≡ option_map (λ (a : Account). a.books.stays) (at_name name es)
+at_map name [] = refl
+at_map name (e ∷ es) = at_pick (is_at (bytes_cmp name) e.0) e.1 (at_name name (map stays_of es)) (at_name name es) (at_map name es)
+
+-- ---- what begins has no open stay, where it alone is open afterwards
+
+few_option : {X : Type 0} (o : Option X) → length (option_to_list o) ≤ 1
+few_option None = omega arith
+few_option (Some x) = omega arith
+
+few_either : (b : Bool) (l : List Booked) → length l ≤ 1 → length (cond b l []) ≤ 1
+few_either true l h = h
+few_either false l h = omega arith
+
+few_part : (key : List ℕ) (number place : ℕ) (o : Option UploadRecord) → length (part_stays_expected key number place o) ≤ 1
+few_part key number place None = omega arith
+few_part key number place (Some upload) = few_either (bytes_eq key upload.key) _ (few_option (option_map (stay_of_part number upload place) (at_number place upload.parts)))
+
+few_expected : (bucket : BucketRecord) (key : List ℕ) (item : Item) → length (stays_expected bucket key item) ≤ 1
+few_expected bucket key (of_version id) = few_option (option_map (stay_of_version key) (version_at id (versions_of key bucket)))
+few_expected bucket key (of_part number place) = few_part key number place (at_number number bucket.uploads)
+
+none_left : (xs : List Booked) → length xs + 1 ≤ 1 → xs ≡ []
+none_left [] h = refl
+none_left (x ∷ xs) h = absurd (omega (arith, h))
+
+free_at : (key : List ℕ) (o : Option (Item × List (Class × ℕ))) (at : ℕ) (ended : List Booked) (after : Account) → HasOpenStays after → after.books.stays ≡ after_begin key o at ended → IsFree key o ended
+free_at key None at ended after has is = tt
+free_at key (Some begun) at ended after has is =
+    let test = is_open_stay key begun.0 in
+    let begins : Booked = (record { key = key; item = begun.0 }, open_stay begun.1 at) in
+    let passes : test begins ≡ true = and_from (bytes_eq key key) (same_item begun.0 begun.0) (bytes_itself key) (item_itself begun.0) in
+    let one : filter test (begins ∷ []) ≡ begins ∷ [] = rw passes refl in
+    let all : filter test ended ++ begins ∷ [] ≡ stays_expected after.bucket key begun.0 =
+    ap (λ (l : List Booked). filter test ended ++ l) (sym one) ∙ sym (filter-append test ended (begins ∷ [])) ∙ ap (filter test) (sym is) ∙ has key begun.0 in
+    let few = few_expected after.bucket key begun.0 in
+    let long = ap (λ (l : List Booked). length l) all in
+    let parts = length-append (filter test ended) (begins ∷ []) in
+    none_left (filter test ended) (omega (arith, few, long, parts))
+
+pub free_by : (plan : Plan) (stays : List Booked) (after : Account) → HasOpenStays after → after.books.stays ≡ stays_by plan stays → BeginsFree plan stays
+free_by plan stays after has is = free_at plan.key plan.begins plan.at (after_ends plan.key plan.ends plan.at stays) after has is

@@ -1,0 +1,78 @@
+-- The office in memory after a history, and the stays of each of its buckets.
+use Rattle.std.specs.Prelude.{◌≡◌, ◌⊎◌, ℕ, List, [], map, length, Option, Some, None, IfSome}
+use Rattle.std.specs.Map.{set_value}
+use Rattle.std.specs.BTreeMap.{is_at}
+use Rattle.office_base.specs.Maps.{bytes_cmp, at_name, with_name}
+use Rattle.office_types.specs.declared.command.Command.{Command}
+use Rattle.office_types.specs.declared.command.Command.TheVariants as command
+use Rattle.office_types.specs.declared.command.Entry.{Entry}
+use Rattle.office_laws.specs.Commands.{bucket_of}
+use Rattle.plain_office.specs.Office.{Office, Booked}
+use Rattle.plain_office.specs.Run.{run, accept}
+use Rattle.bucket_account.specs.Counting.{AccountRecord}
+use Rattle.office_machine.specs.Standing.{Records, StandsForOffice}
+use Rattle.stay_explain.specs.Plans.{Plan, plan_of, stays_by, BeginsFree}
+use Rattle.stay_explain.specs.Table.{stays_of}
+use Rattle.stay_explain.specs.declared.fault.ExplainFault.{ExplainFault}
+use Rattle.stay_explain.specs.declared.fault.ExplainFault.TheVariants as faults
+
+-- the stays of each bucket, under its name
+abbrev pub Tables : Type 0
+Tables = List (List ℕ × List Booked)
+
+-- what contracts see of a ledger
+pub record LedgerRecord : Type 0 where
+  pub office : Records
+  pub tables : Tables
+
+-- the office stands for the one after the history and counts its entries, and the tables are the stays of its buckets
+pub record IsLedgerOf (history : List Entry) (ledger : LedgerRecord) : Type 0 where
+  pub plain : Office
+  pub is_run : run history ≡ Some plain
+  pub stands : StandsForOffice ledger.office plain
+  pub counted : ledger.office.accepted ≡ length history
+  pub tables : ledger.tables ≡ map stays_of plain.accounts
+
+-- ---- what an entry books
+
+abbrev pub plan_at : ℕ → Command → Option AccountRecord → Option Plan
+plan_at t asked None = None
+plan_at t asked (Some account) = plan_of t asked account.bucket
+
+abbrev pub plan_in : ℕ → Command → Option (List ℕ) → List (List ℕ × AccountRecord) → Option Plan
+plan_in t asked None accounts = None
+plan_in t asked (Some name) accounts = plan_at t asked (at_name name accounts)
+
+-- what a command plans in the bucket that it names
+abbrev pub planned : ℕ → Command → List (List ℕ × AccountRecord) → Option Plan
+planned t asked accounts = plan_in t asked (bucket_of asked) accounts
+
+abbrev pub table_by : Plan → Option (List Booked) → List ℕ → Tables → Tables
+table_by plan None name tables = tables
+table_by plan (Some stays) name tables = set_value (is_at (bytes_cmp name)) tables (stays_by plan stays)
+
+abbrev pub tables_by : Option (List ℕ) → Option Plan → Tables → Tables
+tables_by None plan tables = tables
+tables_by (Some name) None tables = tables
+tables_by (Some name) (Some plan) tables = table_by plan (at_name name tables) name tables
+
+-- a bucket that is made has no stays yet; any other command books its plan in its bucket
+abbrev pub tables_after : Command → Option Plan → Tables → Tables
+tables_after (command.CreateBucket name) plan tables = with_name name [] tables
+tables_after other plan tables = tables_by (bucket_of other) plan tables
+
+abbrev pub IsFreeIn : Option (List ℕ) → Option Plan → Tables → Type 0
+IsFreeIn None plan tables = Unit {0}
+IsFreeIn (Some name) None tables = Unit {0}
+IsFreeIn (Some name) (Some plan) tables = IfSome (at_name name tables) (λ stays. BeginsFree plan stays)
+
+-- what the plan begins has no open stay
+abbrev pub IsBookable : Command → Option Plan → Tables → Type 0
+IsBookable (command.CreateBucket name) plan tables = Unit {0}
+IsBookable other plan tables = IsFreeIn (bucket_of other) plan tables
+
+-- why an entry at a gate is not taken
+abbrev pub IsNotTaken : LedgerRecord → Entry → ExplainFault → ℕ → Type 0
+IsNotTaken ledger entry fault gate =
+    (fault ≡ faults.NoMemory) ⊎ ((fault ≡ faults.Damaged gate)
+    × ((history : List Entry) (is : IsLedgerOf history ledger) → accept is.plain entry ≡ None))

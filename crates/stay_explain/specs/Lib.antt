@@ -1,0 +1,6 @@
+pub mod Explaining
+pub mod Ledgers
+pub mod Plans
+pub mod Rows
+pub mod Sheets
+pub mod Table

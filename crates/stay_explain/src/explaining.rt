@@ -1,0 +1,91 @@
+// Explaining a journal.
+ghost use Rattle.std.specs.Prelude.{◌≡◌, ◌<◌, ◌≤◌, ◌++◌, ◌∷◌, [], ℕ, List, Err, IfErr, IfOk, OnOk};
+ghost use Rattle.office_types.specs.declared.command.Entry.{Entry};
+ghost use Rattle.meter_journal.specs.History.{HasHistory};
+ghost use Rattle.meter_journal.specs.Reading.{Frame, HeadGives, IsMade};
+ghost use Rattle.meter_journal.specs.Reading as reading;
+ghost use Rattle.stay_explain.specs.Explaining.{Fails, IsFaultAt, IsTableOf};
+ghost use Rattle.bucket_account.specs.Standing.{most_commands};
+ghost use Rattle.stay_explain.specs.Ledgers.{IsLedgerOf, IsNotTaken};
+
+use crate::fault::ExplainFault;
+use crate::ledger::Ledger;
+use crate::printing::table_text;
+use meter_journal::{OpenFault, frame, made};
+use office_base::NoMemory;
+use office_types::Entry;
+use std::alloc::Global;
+
+/// The place of the first gate.
+const FIRST: u64 = 10;
+
+fn fault_of(fault: OpenFault) -> ExplainFault
+    requires { fault ≡ OpenFault.StoreFault → ⊥ }
+    ensures head { (file : List ℕ) → HeadGives {T = ℕ} (Err fault) file → Fails result file }
+    ensures damaged { (gate : ℕ) (frame : Frame) → reading.Fails fault gate frame → IsFaultAt result gate frame }
+{
+    match fault {
+        OpenFault::NotMade => ExplainFault::NotMade,
+        OpenFault::Foreign => ExplainFault::Foreign,
+        OpenFault::Damaged { offset } => ExplainFault::Damaged { offset },
+        OpenFault::StoreFault | OpenFault::NoMemory => ExplainFault::NoMemory,
+    }
+}
+
+/// Takes the entry at this gate.
+fn take(ledger: &mut Ledger, alloc: Global, entry: Entry, gate: u64) -> Result<(), ExplainFault>
+    requires known { (history : List Entry) × IsLedgerOf history ledger.old }
+    requires few { ledger.old.office.accepted < most_commands }
+    ensures ok { OnOk result ((history : List Entry) → IsLedgerOf history ledger.old
+        → IsLedgerOf (history ++ entry ∷ []) ledger.new) }
+    ensures fault { IfErr result (λ fault. IsNotTaken ledger.old entry fault gate) }
+{
+    ledger.take(alloc, &entry, gate)
+}
+
+/// Reads the entries of a made journal, and books their stays.
+fn read(alloc: Global, journal: &[u8]) -> Result<Ledger, ExplainFault>
+    requires made { IsMade journal.now }
+    ensures read { IfOk result (λ ledger. (history : List Entry) × HasHistory history journal.now
+        × IsLedgerOf history ledger) }
+    ensures fails { IfErr result (λ fault. Fails fault journal.now) }
+{
+    let mut ledger = Ledger::new(alloc);
+    let mut gate = FIRST;
+    'reading: loop {
+        match frame(alloc, journal, gate) {
+            Ok(Some((entry, next))) => {
+                if let Err(fault) = take(&mut ledger, alloc, entry, gate) {
+                    return Err(fault);
+                }
+                gate = next;
+            }
+            Ok(None) => return Ok(ledger),
+            Err(fault) => return Err(fault_of(fault)),
+        }
+    }
+}
+
+/// Prints the table of stays of a journal: a CSV of every interval in which a version or a part was billed.
+///
+/// Buckets stand in byte order of their names, the stays of a bucket in the order in which they were opened, and a
+/// stay's own line before its line in STANDARD.
+/// `workers` is how many buckets may be worked at once; the table is the same for every number.
+///
+/// # Errors
+///
+/// `NotMade`, `Foreign` and `Damaged`: as at the opening of a desk over these bytes. `NoMemory`: memory ran out.
+pub fn explain(alloc: Global, journal: &[u8], workers: u32) -> Result<Vec<u8>, ExplainFault>
+    requires workers { (1 ≤ workers) × (workers ≤ 64) }
+    ensures table { IfOk result (λ text. IsTableOf journal.now text.items) }
+    ensures fault { IfErr result (λ fault. Fails fault journal.now) }
+{
+    if let Err(fault) = made(journal) {
+        return Err(fault_of(fault));
+    }
+    let ledger = read(alloc, journal)?;
+    match table_text(alloc, ledger.tables()) {
+        Ok(text) => Ok(text),
+        Err(NoMemory) => Err(ExplainFault::NoMemory),
+    }
+}

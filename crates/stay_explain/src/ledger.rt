@@ -1,0 +1,186 @@
+// The office after the entries that were read, and the stays of each of its buckets.
+ghost use Rattle.std.specs.Prelude.{◌≡◌, ◌⊎◌, ◌<◌, ◌++◌, ◌∷◌, [], ℕ, List, IfErr, IfOk, IfSome, OnOk, Ok, true};
+ghost use Rattle.office_base.specs.Maps.{at_name, with_name};
+ghost use Rattle.office_types.specs.declared.command.Entry.{Entry};
+ghost use Rattle.office_types.specs.declared.reply.Reply.TheVariants.{NothingDue};
+ghost use Rattle.plain_office.specs.Run.{is_not_before};
+ghost use Rattle.plain_office.specs.Step.{is_accepted};
+ghost use Rattle.bucket_account.specs.Standing.{most_commands};
+ghost use Rattle.stay_explain.specs.Plans.{BeginsFree};
+ghost use Rattle.stay_explain.specs.Ledgers.{IsLedgerOf, IsNotTaken, IsBookable, planned, table_by, tables_after};
+
+use crate::booking::{Booking, plan};
+use crate::fault::ExplainFault;
+use crate::naming::bucket_of;
+use crate::stays::Stays;
+use moments::Moment;
+use office_base::{BucketName, NoMemory};
+use office_machine::Office;
+use office_types::{Command, Entry, Refusal, Reply};
+use std::alloc::Global;
+use std::collections::BTreeMap;
+use std::marker::Model;
+
+/// The office after some entries, and the stays of each bucket.
+#[derive(Drop)]
+pub struct Ledger {
+    office: Office,
+    tables: BTreeMap<BucketName, Stays>,
+}
+
+impl Model for Ledger {
+    ghost use Rattle.stay_explain.specs.Ledgers.{LedgerRecord};
+
+    ghost Value = { LedgerRecord };
+
+    ghost view = { λ l. record { office = l.office; tables = l.tables.entries } };
+}
+
+fn is_in_order(last: Option<Moment>, at: Moment) -> bool
+    ensures { result ≡ is_not_before last at }
+{
+    match last {
+        Some(last) => last.ms() <= at.ms(),
+        None => true,
+    }
+}
+
+/// Why the entry at this gate is not taken: the office does not accept it, or memory ran out.
+fn refused(refusal: Refusal, gate: u64) -> ExplainFault
+    ensures memory { refusal ≡ Refusal.NoMemory → result ≡ ExplainFault.NoMemory }
+    ensures damaged { (refusal ≡ Refusal.NoMemory → ⊥) → result ≡ ExplainFault.Damaged gate }
+{
+    match refusal {
+        Refusal::NoMemory => ExplainFault::NoMemory,
+        _ => ExplainFault::Damaged { offset: gate },
+    }
+}
+
+/// What the entry at this gate comes to that the office answers so: an act that finds nothing due is no entry.
+fn taken(reply: &Reply, gate: u64) -> Result<(), ExplainFault>
+    ensures ok { OnOk result (is_accepted (Ok reply.now) ≡ true) }
+    ensures damaged { IfErr result (λ e. (e ≡ ExplainFault.Damaged gate) × (reply.now ≡ NothingDue)) }
+{
+    match reply {
+        Reply::NothingDue => Err(ExplainFault::Damaged { offset: gate }),
+        _ => Ok(()),
+    }
+}
+
+/// Makes the stays of a bucket that is made.
+fn open_table(
+    tables: &mut BTreeMap<BucketName, Stays>,
+    alloc: Global,
+    name: &BucketName,
+) -> Result<(), NoMemory>
+    ensures { OnOk result (tables.new.entries ≡ with_name name.now [] tables.old.entries) }
+{
+    let Ok(kept) = name.copy() else {
+        return Err(NoMemory);
+    };
+    match tables.insert(kept, Stays::new(alloc)) {
+        Ok(_) => Ok(()),
+        Err(_) => Err(NoMemory),
+    }
+}
+
+fn book_in(
+    tables: &mut BTreeMap<BucketName, Stays>,
+    name: &BucketName,
+    booking: &Booking,
+) -> Result<(), NoMemory>
+    requires free { IfSome (at_name name.now tables.old.entries) (λ stays. BeginsFree booking.now stays) }
+    ensures { OnOk result (tables.new.entries
+        ≡ table_by booking.now (at_name name.now tables.old.entries) name.now tables.old.entries) }
+{
+    match tables.get_mut(name) {
+        Some(stays) => stays.book(booking),
+        None => Ok(()),
+    }
+}
+
+/// Books what a command does in the stays of its bucket.
+fn book(
+    tables: &mut BTreeMap<BucketName, Stays>,
+    alloc: Global,
+    command: &Command,
+    booking: &Option<Booking>,
+) -> Result<(), NoMemory>
+    requires free { IsBookable command.now booking.now tables.old.entries }
+    ensures { OnOk result (tables.new.entries ≡ tables_after command.now booking.now tables.old.entries) }
+{
+    if let Command::CreateBucket { bucket } = command {
+        return open_table(tables, alloc, bucket);
+    }
+    match (bucket_of(command), booking) {
+        (Some(name), Some(booking)) => book_in(tables, name, booking),
+        _ => Ok(()),
+    }
+}
+
+impl Ledger {
+    /// Gives the ledger of no entries. Takes no memory.
+    pub(crate) fn new(alloc: Global) -> Ledger
+        ensures empty { IsLedgerOf [] result }
+    {
+        Ledger {
+            office: Office::new(alloc),
+            tables: BTreeMap::new(alloc),
+        }
+    }
+
+    pub(crate) fn tables(&self) -> &BTreeMap<BucketName, Stays>
+        ensures { result.now.entries ≡ self.now.tables }
+    {
+        &self.tables
+    }
+
+    // What the command of an entry books, as the bucket stands before it.
+    fn booking_of(&self, alloc: Global, entry: &Entry) -> Result<Option<Booking>, NoMemory>
+        ensures { IfOk result (λ made. made ≡ planned entry.now.moment entry.now.command self.now.office.accounts) }
+    {
+        let Some(name) = bucket_of(&entry.command) else {
+            return Ok(None);
+        };
+        match self.office.bucket(name) {
+            Some(bucket) => plan(alloc, bucket, entry.moment, &entry.command),
+            None => Ok(None),
+        }
+    }
+
+    /// Takes the entry at this gate: the office does its command, and its stays are booked.
+    ///
+    /// # Errors
+    ///
+    /// `Damaged` at the gate: the office does not accept the entry at its place. `NoMemory`: memory ran out.
+    pub(crate) fn take(
+        &mut self,
+        alloc: Global,
+        entry: &Entry,
+        gate: u64,
+    ) -> Result<(), ExplainFault>
+        requires known { (history : List Entry) × IsLedgerOf history self.old }
+        requires few { self.old.office.accepted < most_commands }
+        ensures ok { OnOk result ((history : List Entry) → IsLedgerOf history self.old
+            → IsLedgerOf (history ++ entry.now ∷ []) self.new) }
+        ensures fault { IfErr result (λ fault. IsNotTaken self.old entry.now fault gate) }
+    {
+        if !is_in_order(self.office.last(), entry.moment) {
+            return Err(ExplainFault::Damaged { offset: gate });
+        }
+        let Ok(booking) = self.booking_of(alloc, entry) else {
+            return Err(ExplainFault::NoMemory);
+        };
+        let reply = match self.office.apply(entry.moment, &entry.command) {
+            Ok(reply) => reply,
+            Err(refusal) => return Err(refused(refusal, gate)),
+        };
+        if let Err(fault) = taken(&reply, gate) {
+            return Err(fault);
+        }
+        match book(&mut self.tables, alloc, &entry.command, &booking) {
+            Ok(()) => Ok(()),
+            Err(NoMemory) => Err(ExplainFault::NoMemory),
+        }
+    }
+}
