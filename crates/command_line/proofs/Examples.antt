@@ -1,8 +1,9 @@
 -- Some command lines, computed.
-use Rattle.std.proofs.Common.{◌≡◌, refl, [], ◌∷◌, codes, Some, None}
+use Rattle.std.proofs.Common.{◌≡◌, refl, [], ◌∷◌, codes, Some, None, true, false}
 use Rattle.std.specs.Fmt.{digits}
+use Rattle.moments.specs.Dates.{is_month, begins_with_month}
 use Rattle.clap.proofs.OnLiterals.{clap_on_literals}
-use Rattle.command_line.specs.Lines.{asked, init, run, serve}
+use Rattle.command_line.specs.Lines.{asked, init, run, serve, report}
 
 pub init_read : asked (codes "init" ∷ []) ≡ Some init
 unfolding clap_on_literals asked digits
@@ -67,3 +68,19 @@ leading_zero = refl
 pub listen_twice : asked (codes "serve" ∷ codes "--listen=a" ∷ codes "--listen=b" ∷ []) ≡ None
 unfolding clap_on_literals asked digits
 listen_twice = refl
+
+pub report_read : asked (codes "report" ∷ codes "2024-01" ∷ []) ≡ Some (report 648 false)
+unfolding clap_on_literals asked digits is_month begins_with_month
+report_read = refl
+
+pub report_as_text : asked (codes "report" ∷ codes "--text" ∷ codes "2099-12" ∷ []) ≡ Some (report 1559 true)
+unfolding clap_on_literals asked digits is_month begins_with_month
+report_as_text = refl
+
+pub no_such_month : asked (codes "report" ∷ codes "2024-13" ∷ []) ≡ None
+unfolding clap_on_literals asked digits is_month begins_with_month
+no_such_month = refl
+
+pub report_of_nothing : asked (codes "report" ∷ []) ≡ None
+unfolding clap_on_literals asked digits
+report_of_nothing = refl

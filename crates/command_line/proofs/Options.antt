@@ -1,10 +1,10 @@
--- What the options of `serve` ask for.
-use Rattle.std.proofs.Common.{◌≡◌, ◌∙◌, sym, ap, refl, ℕ, List, Option, Some, None, option_map, codes, Bor}
+-- What the options of subcommands ask for.
+use Rattle.std.proofs.Common.{◌≡◌, ◌∙◌, sym, ap, refl, ℕ, Bool, List, Option, Some, None, option_map, option_and_then, codes, Bor}
 use Rattle.clap.specs.Walk.{Row, rows_of}
 use Rattle.clap.specs.Matches.{first_value}
 use Rattle.clap.specs.declared.parser.matches.Found.{Found}
 use Rattle.clap.proofs.WalkLemmas.{first_value-rows}
-use Rattle.command_line.specs.Lines.{serve, number_or, serve_of, given, workers_of, connections_of}
+use Rattle.command_line.specs.Lines.{serve, report, explain, gen, number_in, number_or, most_seed, most_commands, serve_of, report_of, explain_of, gen_of, month_of_text, is_set, given, workers_of, connections_of}
 
 -- what clap gives for an option is what the words gave it
 pub given_is : (found : Found) (name : List ℕ) (text : Option (Bor (List ℕ))) → option_map (λ t. t.now) text ≡ first_value found name → given (rows_of found) name ≡ option_map (λ t. t.now) text
@@ -27,3 +27,39 @@ no_connections rows listen workers some works none = rw (some, works, none) refl
 pub serves : (rows : List Row) (listen : List ℕ) (workers connections : ℕ) → given rows (codes "listen") ≡ Some listen → workers_of rows ≡ Some workers → connections_of rows ≡ Some connections
     → serve_of rows ≡ Some (serve listen workers connections)
 serves rows listen workers connections some works connects = rw (some, works, connects) refl
+
+pub no_month : (rows : List Row) → given rows (codes "month") ≡ None → report_of rows ≡ None
+no_month rows none = rw none refl
+
+pub wrong_month : (rows : List Row) (text : List ℕ) → given rows (codes "month") ≡ Some text → month_of_text text ≡ None → report_of rows ≡ None
+wrong_month rows text some none = rw (some, none) refl
+
+pub reports : (rows : List Row) (text : List ℕ) (month : ℕ) (set : Bool) → given rows (codes "month") ≡ Some text → month_of_text text ≡ Some month → set ≡ is_set (given rows (codes "text"))
+    → report_of rows ≡ Some (report month set)
+reports rows text month set some names is = rw (some, names, is) refl
+
+-- ---- explain
+
+pub no_explain : (rows : List Row) → workers_of rows ≡ None → explain_of rows ≡ None
+no_explain rows none = rw none refl
+
+pub explains : (rows : List Row) (workers : ℕ) → workers_of rows ≡ Some workers → explain_of rows ≡ Some (explain workers)
+explains rows workers works = rw works refl
+
+-- ---- gen
+
+-- what clap gives for a word is what the words gave it, and its number is the number that was read
+pub word_is : (found : Found) (name : List ℕ) (most : ℕ) (text : Option (Bor (List ℕ))) (number : Option ℕ) → option_map (λ t. t.now) text ≡ first_value found name
+    → number ≡ option_and_then (number_in 0 most) (option_map (λ t. t.now) text) → option_and_then (number_in 0 most) (given (rows_of found) name) ≡ number
+word_is found name most text number is read = ap (option_and_then (number_in 0 most)) (given_is found name text is) ∙ sym read
+
+pub no_number : (rows : List Row) → option_and_then (number_in 0 most_seed) (given rows (codes "number")) ≡ None → gen_of rows ≡ None
+no_number rows none = rw none refl
+
+pub no_count : (rows : List Row) (number : ℕ) → option_and_then (number_in 0 most_seed) (given rows (codes "number")) ≡ Some number
+    → option_and_then (number_in 0 most_commands) (given rows (codes "count")) ≡ None → gen_of rows ≡ None
+no_count rows number some none = rw (some, none) refl
+
+pub generates : (rows : List Row) (number count : ℕ) → option_and_then (number_in 0 most_seed) (given rows (codes "number")) ≡ Some number
+    → option_and_then (number_in 0 most_commands) (given rows (codes "count")) ≡ Some count → gen_of rows ≡ Some (gen number count)
+generates rows number count some counts = rw (some, counts) refl

@@ -1,15 +1,16 @@
 -- What holds of command lines.
-use Rattle.std.specs.Prelude.{◌≡◌, ◌↔◌, ℕ, ◌^◌, ◌<◌, ◌≤◌, List, Some, decimal}
-use Rattle.command_line.specs.Lines.{asked, number_to, serve}
+use Rattle.std.specs.Prelude.{◌≡◌, ◌↔◌, ◌⊎◌, ℕ, ◌^◌, ◌<◌, ◌≤◌, List, Some, decimal}
+use Rattle.command_line.specs.Lines.{asked, number_in, serve, explain}
 
 -- a text is the number n exactly where it is its decimal digits and n lies in the range
 abbrev pub HasExactNumbers : Type 0
 HasExactNumbers =
-    (most n : ℕ) (text : List ℕ) → most < 2 ^ 64
-    → (number_to most text ≡ Some n) ↔ ((text ≡ decimal n) × (1 ≤ n) × (n ≤ most))
+    (least most n : ℕ) (text : List ℕ) → most < 2 ^ 64
+    → (number_in least most text ≡ Some n) ↔ ((text ≡ decimal n) × (least ≤ n) × (n ≤ most))
 
--- each line that asks for service has 1 to 64 workers
+-- each line that asks for service, or for the table of stays, has 1 to 64 workers
 abbrev pub HasFewWorkers : Type 0
 HasFewWorkers =
     (words : List (List ℕ)) (listen : List ℕ) (workers connections : ℕ)
-    → asked words ≡ Some (serve listen workers connections) → (0 < workers) × (workers ≤ 64)
+    → (asked words ≡ Some (serve listen workers connections)) ⊎ (asked words ≡ Some (explain workers))
+    → (0 < workers) × (workers ≤ 64)

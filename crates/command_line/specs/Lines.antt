@@ -1,8 +1,10 @@
 -- What the words of a command line ask for. A word is text, as its bytes.
-use Rattle.std.specs.Prelude.{ℕ, ◌-◌, ◌^◌, ◌&&◌, nat_le, List, Option, Some, None, option_map, option_and_then, codes}
+use Rattle.std.specs.Prelude.{ℕ, ◌-◌, ◌^◌, ◌&&◌, nat_le, Bool, false, List, Option, Some, None, option_map, option_and_then, codes}
 use Rattle.std.specs.Prelude.{decimal, string_bytes, if◌then◌else◌}
 use Rattle.std.specs.Str.{bytes_eq}
 use Rattle.std.specs.Str.Parse.{digits_value}
+use Rattle.moments.specs.Months.{month_number}
+use Rattle.moments.specs.Dates.{is_month, year_in, month_in}
 use Rattle.clap.specs.Walk.{Row, first_of, is_empty}
 use Rattle.clap.specs.Words.{found_of, rows_of, subcommand_of, subcommand_rows_of}
 use Rattle.clap.specs.Faults.{fault_of}
@@ -11,31 +13,48 @@ use Rattle.command_line.specs.Words.{office_words}
 use Rattle.command_line.specs.declared.line.CommandLine.{CommandLine}
 use Rattle.command_line.specs.declared.line.CommandLine.TheVariants as command_line
 
--- what a command line asks for: that the journal is made; a run; or service at an address, by so many workers, each of
--- which ends after so many connections
+-- what a command line asks for: that the journal is made; a run; service at an address, by so many workers, each of
+-- which ends after so many connections; the report of a month, as text or as CSV; the table of stays, by so many workers; or a
+-- load of so many commands that are generated of a number
 pub data Line : Type 0 where
   init : Line
   run : Line
   serve : List ℕ → ℕ → ℕ → Line
+  report : ℕ → Bool → Line
+  explain : ℕ → Line
+  gen : ℕ → ℕ → Line
 
 -- a line that was read
 abbrev pub line_of : CommandLine → Line
 line_of command_line.Init = init
 line_of command_line.Run = run
 line_of (command_line.Serve listen workers connections) = serve (string_bytes listen) workers connections
+line_of (command_line.Report asked) = report asked.month asked.as_text
+line_of (command_line.Explain workers) = explain workers
+line_of (command_line.Gen number count) = gen number count
 
 -- ---- numbers
 
--- the number from 1 to `most` whose decimal digits the text is: it has no sign and no leading zero
-abbrev pub number_to : ℕ → List ℕ → Option ℕ
-number_to most text =
+-- the number in a range whose decimal digits the text is: it has no sign and no leading zero
+abbrev pub number_in : ℕ → ℕ → List ℕ → Option ℕ
+number_in least most text =
     let n = digits_value 10 text in
-    if bytes_eq text (decimal n) && (nat_le 1 n && nat_le n most) then Some n else None
+    if bytes_eq text (decimal n) && (nat_le least n && nat_le n most) then Some n else None
+
+abbrev pub number_to : ℕ → List ℕ → Option ℕ
+number_to most text = number_in 1 most text
 
 -- the same of an option's text, and a default where the option was not given
 abbrev pub number_or : ℕ → ℕ → Option (List ℕ) → Option ℕ
 number_or default most None = Some default
 number_or default most (Some text) = number_to most text
+
+-- the numbers that a load is generated of, and how many commands at most (own)
+abbrev pub most_seed : ℕ
+most_seed = 2 ^ 64 - 1
+
+abbrev pub most_commands : ℕ
+most_commands = 1_000_000
 
 abbrev pub most_workers : ℕ
 most_workers = 64
@@ -64,12 +83,38 @@ serve_of rows =
     option_and_then (λ listen. option_and_then (λ workers. option_map (λ connections. serve listen workers connections)
     (connections_of rows)) (workers_of rows)) (given rows (codes "listen"))
 
+-- the month that a text names, where it names one
+abbrev pub month_of_text : List ℕ → Option ℕ
+month_of_text text = if is_month text then Some (month_number (year_in text) (month_in text)) else None
+
+-- clap keeps this text for a flag that was given
+abbrev pub is_set : Option (List ℕ) → Bool
+is_set None = false
+is_set (Some text) = bytes_eq text (codes "true")
+
+abbrev pub report_of : List Row → Option Line
+report_of rows =
+    option_map (λ month. report month (is_set (given rows (codes "text"))))
+    (option_and_then month_of_text (given rows (codes "month")))
+
+abbrev pub explain_of : List Row → Option Line
+explain_of rows = option_map explain (workers_of rows)
+
+abbrev pub gen_of : List Row → Option Line
+gen_of rows =
+    option_and_then (λ number. option_map (gen number)
+    (option_and_then (number_in 0 most_commands) (given rows (codes "count"))))
+    (option_and_then (number_in 0 most_seed) (given rows (codes "number")))
+
 -- what a subcommand asks for, by its name and what was given to its options
 abbrev pub command_of : List ℕ × List Row → Option Line
 command_of (name, rows) =
     if bytes_eq name (codes "init") then Some init
     else (if bytes_eq name (codes "run") then Some run
-    else (if bytes_eq name (codes "serve") then serve_of rows else None))
+    else (if bytes_eq name (codes "serve") then serve_of rows
+    else (if bytes_eq name (codes "report") then report_of rows
+    else (if bytes_eq name (codes "explain") then explain_of rows
+    else (if bytes_eq name (codes "gen") then gen_of rows else None)))))
 
 -- what the words behind the program's name ask for, where they are a command line
 unfoldable pub asked : List (List ℕ) → Option Line

@@ -6,7 +6,7 @@ use Rattle.clap.specs.Words.{is_broken}
 use Rattle.clap.specs.declared.builder.arg.Arg.{Arg}
 use Rattle.clap.specs.declared.builder.command.Command.{Command}
 use Rattle.clap.specs.declared.builder.command.Command.TheViews.{out-Command}
-use Rattle.clap.specs.declared.builder.action.ArgAction.TheVariants.{Set}
+use Rattle.clap.specs.declared.builder.action.ArgAction.TheVariants.{Set, SetTrue}
 
 -- an option `--name VALUE` or `--name=VALUE`, and one that must be given
 abbrev pub option : Text → Rule
@@ -14,6 +14,14 @@ option name = record (new_rule name) { long = Some name; action = Some Set }
 
 abbrev pub needed_option : Text → Rule
 needed_option name = record (option name) { required = true }
+
+-- a word that must be given, at its place
+abbrev pub needed_word : Text → Rule
+needed_word name = record (new_rule name) { action = Some Set; required = true }
+
+-- an option `--name` without a value
+abbrev pub flag : Text → Rule
+flag name = record (new_rule name) { long = Some name; action = Some SetTrue }
 
 -- a subcommand with these options
 abbrev pub subcommand : Text → List Rule → Shape
@@ -28,6 +36,15 @@ run_words = subcommand (codes "run") []
 abbrev pub serve_words : Shape
 serve_words = subcommand (codes "serve")
     (needed_option (codes "listen") ∷ option (codes "workers") ∷ option (codes "connections") ∷ [])
+
+abbrev pub report_words : Shape
+report_words = subcommand (codes "report") (needed_word (codes "month") ∷ flag (codes "text") ∷ [])
+
+abbrev pub explain_words : Shape
+explain_words = subcommand (codes "explain") (option (codes "workers") ∷ [])
+
+abbrev pub gen_words : Shape
+gen_words = subcommand (codes "gen") (needed_word (codes "number") ∷ needed_word (codes "count") ∷ [])
 
 -- the command without its subcommands: one must be given, and words ask for no help and for no version
 abbrev pub office_top : App
@@ -46,7 +63,7 @@ office_top = record {
 abbrev pub office_words : App
 office_words = record {
   top = record office_top.top { is_leaf = false };
-  subs = init_words ∷ run_words ∷ serve_words ∷ [];
+  subs = init_words ∷ run_words ∷ serve_words ∷ report_words ∷ explain_words ∷ gen_words ∷ [];
 }
 
 -- ---- commands in memory

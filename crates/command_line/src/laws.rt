@@ -6,7 +6,7 @@ pub fn exact_numbers()
     ensures { HasExactNumbers }
 {}
 
-/// States that each line that asks for service has 1 to 64 workers.
+/// States that each line that asks for service, or for the table of stays, has 1 to 64 workers.
 pub fn workers_in_range()
     ensures { HasFewWorkers }
 {}

@@ -9,4 +9,4 @@ mod tests;
 mod words;
 
 pub use laws::{exact_numbers, workers_in_range};
-pub use line::{CommandLine, LineFault, read_line};
+pub use line::{CommandLine, LineFault, ReportAsked, read_line};

@@ -1,11 +1,12 @@
 // What a command line asks for.
-ghost use Rattle.std.specs.Prelude.{◌≡◌, ◌≢◌, Some, None, IfOk, IsErrOf, map, string_bytes};
-ghost use Rattle.command_line.specs.Lines.{asked, asked_by, command_of, line_of, options_of, serve_of};
+ghost use Rattle.std.specs.Prelude.{◌≡◌, ◌≢◌, Some, None, ◌≤◌, IfOk, IfSome, IsErrOf, map, string_bytes, option_map, option_and_then};
+ghost use Rattle.command_line.specs.Lines.{asked, asked_by, command_of, line_of, options_of, serve_of, report_of, explain_of, gen_of, month_of_text, is_set, number_in};
 
-use crate::numbers::number_of;
+use crate::numbers::{number, number_of};
 use crate::words::office;
 use clap::ArgMatches;
 use clap::error::ErrorKind;
+use moments::{Month, read_month};
 use std::alloc::{AllocError, Global};
 
 /// The most workers that serve.
@@ -13,6 +14,9 @@ const MOST_WORKERS: u32 = 64;
 
 /// How many workers serve where none are told. Own rule: a small machine has as many processors.
 const WORKERS: u32 = 4;
+
+/// The most commands of a load. Own rule: a journal keeps as many.
+const MOST_COMMANDS: u64 = 1_000_000;
 
 /// The most connections of a worker, and how many where none are told. Own rule: no worker serves as many in practice.
 const CONNECTIONS: u32 = u32::MAX;
@@ -33,6 +37,28 @@ pub enum CommandLine {
         /// After how many connections each worker ends, from 1 on.
         connections: u32,
     },
+    /// What a month costs: `report MONTH [--text]`.
+    Report(ReportAsked),
+    /// The table of stays: `explain [--workers N]`.
+    Explain {
+        /// How many workers make it, from 1 to 64.
+        workers: u32,
+    },
+    /// A load: `gen NUMBER COUNT`.
+    Gen {
+        /// What it is generated of.
+        number: u64,
+        /// How many commands it has, up to 1,000,000.
+        count: u32,
+    },
+}
+
+/// Which report a command line asks for.
+#[derive(Debug, Drop)]
+pub struct ReportAsked {
+    pub month: Month,
+    /// As a table to read, in place of CSV.
+    pub as_text: bool,
 }
 
 /// Why words are not read.
@@ -105,7 +131,89 @@ fn named(alloc: Global, name: &str, given: &ArgMatches) -> Result<CommandLine, L
     if name == "serve" {
         return serve(alloc, given);
     }
+    if name == "report" {
+        return report(given);
+    }
+    if name == "explain" {
+        return explain(given);
+    }
+    if name == "gen" {
+        return generate(given);
+    }
     Err(LineFault::NotALine)
+}
+
+// The month that a text names.
+fn month(text: &str) -> Option<Month>
+    ensures { result ≡ month_of_text text.now }
+{
+    read_month(text).ok()
+}
+
+// Whether a flag was given, by what clap keeps of it.
+fn is_set(text: Option<&str>) -> bool
+    ensures { result ≡ is_set (option_map (λ t. t.now) text.entry) }
+{
+    match text {
+        Some(text) => text == "true",
+        None => false,
+    }
+}
+
+// What the words of `report` ask for.
+fn report(given: &ArgMatches) -> Result<CommandLine, LineFault>
+    ensures read { IfOk result (λ line. report_of (options_of given.now) ≡ Some (line_of line)) }
+    ensures refused { IsErrOf result LineFault.NotALine → report_of (options_of given.now) ≡ None }
+{
+    let Some(text) = given.get_str("month") else {
+        return Err(LineFault::NotALine);
+    };
+    let Some(month) = month(text) else {
+        return Err(LineFault::NotALine);
+    };
+    Ok(CommandLine::Report(ReportAsked {
+        month,
+        as_text: is_set(given.get_str("text")),
+    }))
+}
+
+// What the options of `explain` ask for.
+fn explain(given: &ArgMatches) -> Result<CommandLine, LineFault>
+    ensures read { IfOk result (λ line. explain_of (options_of given.now) ≡ Some (line_of line)) }
+    ensures refused { IsErrOf result LineFault.NotALine → explain_of (options_of given.now) ≡ None }
+{
+    match number_of(given.get_str("workers"), WORKERS, MOST_WORKERS) {
+        Some(workers) => Ok(CommandLine::Explain { workers }),
+        None => Err(LineFault::NotALine),
+    }
+}
+
+// The number that a word gives, where there is one.
+fn number_given(text: Option<&str>, most: u64) -> Option<u64>
+    ensures exact { result ≡ option_and_then (number_in 0 most) (option_map (λ t. t.now) text.entry) }
+    ensures within { IfSome result (λ n. n ≤ most) }
+{
+    match text {
+        Some(text) => number(text, 0, most),
+        None => None,
+    }
+}
+
+// What the words of `gen` ask for.
+fn generate(given: &ArgMatches) -> Result<CommandLine, LineFault>
+    ensures read { IfOk result (λ line. gen_of (options_of given.now) ≡ Some (line_of line)) }
+    ensures refused { IsErrOf result LineFault.NotALine → gen_of (options_of given.now) ≡ None }
+{
+    let Some(number) = number_given(given.get_str("number"), u64::MAX) else {
+        return Err(LineFault::NotALine);
+    };
+    let Some(count) = number_given(given.get_str("count"), MOST_COMMANDS) else {
+        return Err(LineFault::NotALine);
+    };
+    Ok(CommandLine::Gen {
+        number,
+        count: count as u32,
+    })
 }
 
 // What the options of `serve` ask for.

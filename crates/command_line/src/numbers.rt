@@ -1,7 +1,7 @@
 // Numbers as they are written in words.
-ghost use Rattle.std.specs.Prelude.{◌≡◌, option_map};
+ghost use Rattle.std.specs.Prelude.{◌≡◌, ◌≤◌, option_map, IfSome, codes};
 ghost use Rattle.office_base.specs.Versions.{begins_with_number};
-ghost use Rattle.command_line.specs.Lines.{number_to, number_or};
+ghost use Rattle.command_line.specs.Lines.{number_in, number_or};
 
 // Whether the first byte is a digit from 1 to 9.
 fn begins_with_digit_above_zero(text: &[u8]) -> bool
@@ -13,15 +13,26 @@ fn begins_with_digit_above_zero(text: &[u8]) -> bool
     }
 }
 
-// Reads a number from 1 to `most`, in digits without a leading zero.
-fn number(text: &str, most: u32) -> Option<u32>
-    ensures { result ≡ number_to most text.now }
+// Zero, where it is in a range from this number on.
+fn zero_from(least: u64, most: u64) -> Option<u64>
+    ensures { result ≡ number_in least most (codes "0") }
 {
+    if least == 0 { Some(0) } else { None }
+}
+
+/// Reads a number in a range, in digits without a leading zero.
+pub(crate) fn number(text: &str, least: u64, most: u64) -> Option<u64>
+    ensures exact { result ≡ number_in least most text.now }
+    ensures within { IfSome result (λ n. n ≤ most) }
+{
+    if text == "0" {
+        return zero_from(least, most);
+    }
     if !begins_with_digit_above_zero(text.as_bytes()) {
         return None;
     }
-    match text.parse::<u32>() {
-        Ok(number) if number <= most => Some(number),
+    match text.parse::<u64>() {
+        Ok(number) if least <= number && number <= most => Some(number),
         Ok(_) => None,
         Err(_) => None,
     }
@@ -32,7 +43,10 @@ pub(crate) fn number_of(text: Option<&str>, default: u32, most: u32) -> Option<u
     ensures { result ≡ number_or default most (option_map (λ t. t.now) text.entry) }
 {
     match text {
-        Some(text) => number(text, most),
+        Some(text) => match number(text, 1, most as u64) {
+            Some(number) => Some(number as u32),
+            None => None,
+        },
         None => Some(default),
     }
 }

@@ -3,7 +3,7 @@ use std::alloc::Global;
 use std::test::Fail;
 
 // Words, one space between two, and what they are read as.
-const LINES: [(&str, &str); 26] = [
+const LINES: [(&str, &str); 51] = [
     ("init", "Ok(Init)"),
     ("run", "Ok(Run)"),
     (
@@ -22,6 +22,43 @@ const LINES: [(&str, &str); 26] = [
         "serve --listen a --workers 1 --connections 1",
         "Ok(Serve { listen: \"a\", workers: 1, connections: 1 })",
     ),
+    (
+        "report 2024-01",
+        "Ok(Report(ReportAsked { month: Month { number: 648 }, as_text: false }))",
+    ),
+    (
+        "report --text 1970-01",
+        "Ok(Report(ReportAsked { month: Month { number: 0 }, as_text: true }))",
+    ),
+    (
+        "report 2099-12 --text",
+        "Ok(Report(ReportAsked { month: Month { number: 1559 }, as_text: true }))",
+    ),
+    ("explain", "Ok(Explain { workers: 4 })"),
+    ("explain --workers 64", "Ok(Explain { workers: 64 })"),
+    ("gen 1 4", "Ok(Gen { number: 1, count: 4 })"),
+    ("gen 0 0", "Ok(Gen { number: 0, count: 0 })"),
+    (
+        "gen 18446744073709551615 1000000",
+        "Ok(Gen { number: 18446744073709551615, count: 1000000 })",
+    ),
+    ("explain --workers 0", "Err(NotALine)"),
+    ("explain 4", "Err(NotALine)"),
+    ("gen", "Err(NotALine)"),
+    ("gen 1", "Err(NotALine)"),
+    ("gen 1 1000001", "Err(NotALine)"),
+    ("gen 18446744073709551616 0", "Err(NotALine)"),
+    ("gen 01 4", "Err(NotALine)"),
+    ("gen +1 4", "Err(NotALine)"),
+    ("gen 1 4 5", "Err(NotALine)"),
+    ("report", "Err(NotALine)"),
+    ("report --text", "Err(NotALine)"),
+    ("report 2024-13", "Err(NotALine)"),
+    ("report 1969-12", "Err(NotALine)"),
+    ("report 2024-1", "Err(NotALine)"),
+    ("report 2024-01 2024-02", "Err(NotALine)"),
+    ("report 2024-01 --text=true", "Err(NotALine)"),
+    ("report 2024-01 --text --text", "Err(NotALine)"),
     ("", "Err(NotALine)"),
     ("Init", "Err(NotALine)"),
     ("ini", "Err(NotALine)"),

@@ -2,7 +2,7 @@
 ghost use Rattle.std.specs.Prelude.{◌≡◌, IfOk, false};
 ghost use Rattle.clap.specs.Walk.{rule_of};
 ghost use Rattle.clap.specs.Simple.{new_shape};
-ghost use Rattle.command_line.specs.Words.{option, needed_option, run_words, init_words, serve_words, alone};
+ghost use Rattle.command_line.specs.Words.{option, needed_option, needed_word, flag, run_words, init_words, serve_words, report_words, explain_words, gen_words, alone};
 ghost use Rattle.command_line.specs.Words.{office_top, office_words, IsCommand, GetsOption, GetsSubcommand};
 
 use clap::{Arg, ArgAction, Command};
@@ -22,6 +22,22 @@ fn needed_option<'a>(alloc: Global, name: &'a str) -> Arg<'a>
     ensures local { result.global ≡ false }
 {
     option(alloc, name).required(true)
+}
+
+// A word that must be given, at its place.
+fn needed_word<'a>(alloc: Global, name: &'a str) -> Arg<'a>
+    ensures rule { rule_of result ≡ needed_word name.entry.now }
+    ensures local { result.global ≡ false }
+{
+    Arg::new(alloc, name).action(ArgAction::Set).required(true)
+}
+
+// An option without a value.
+fn flag<'a>(alloc: Global, name: &'a str) -> Arg<'a>
+    ensures rule { rule_of result ≡ flag name.entry.now }
+    ensures local { result.global ≡ false }
+{
+    Arg::new(alloc, name).long(name).action(ArgAction::SetTrue)
 }
 
 // A subcommand without options.
@@ -55,6 +71,29 @@ fn serve<'a>(alloc: Global) -> Result<Command<'a>, AllocError>
     with_option(command, option(alloc, "connections"))
 }
 
+// `report MONTH [--text]`.
+fn report<'a>(alloc: Global) -> Result<Command<'a>, AllocError>
+    ensures { IfOk result (IsCommand (alone report_words)) }
+{
+    let command = with_option(bare(alloc, "report"), needed_word(alloc, "month"))?;
+    with_option(command, flag(alloc, "text"))
+}
+
+// `explain [--workers N]`.
+fn explain<'a>(alloc: Global) -> Result<Command<'a>, AllocError>
+    ensures { IfOk result (IsCommand (alone explain_words)) }
+{
+    with_option(bare(alloc, "explain"), option(alloc, "workers"))
+}
+
+// `gen NUMBER COUNT`.
+fn generate<'a>(alloc: Global) -> Result<Command<'a>, AllocError>
+    ensures { IfOk result (IsCommand (alone gen_words)) }
+{
+    let command = with_option(bare(alloc, "gen"), needed_word(alloc, "number"))?;
+    with_option(command, needed_word(alloc, "count"))
+}
+
 // The command without its subcommands.
 fn top<'a>(alloc: Global) -> Command<'a>
     ensures { IsCommand office_top result }
@@ -73,5 +112,8 @@ pub(crate) fn office<'a>(alloc: Global) -> Result<Command<'a>, AllocError>
 {
     let command = with_subcommand(top(alloc), bare(alloc, "init"))?;
     let command = with_subcommand(command, bare(alloc, "run"))?;
-    with_subcommand(command, serve(alloc)?)
+    let command = with_subcommand(command, serve(alloc)?)?;
+    let command = with_subcommand(command, report(alloc)?)?;
+    let command = with_subcommand(command, explain(alloc)?)?;
+    with_subcommand(command, generate(alloc)?)
 }

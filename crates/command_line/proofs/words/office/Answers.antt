@@ -1,6 +1,6 @@
 use Rattle.std.proofs.lemmas.Result.{IfOk-weaker}
 use Rattle.clap.specs.Simple.{with_subcommand}
-use Rattle.command_line.specs.Words.{alone, init_words, run_words, serve_words, office_top}
+use Rattle.command_line.specs.Words.{alone, init_words, run_words, serve_words, report_words, explain_words, gen_words, office_top}
 use Rattle.command_line.proofs.words.office.Goals as goal
 
 pub returns : goal.returns
@@ -9,4 +9,10 @@ returns c =
     let runs = with_subcommand inits run_words in
     let one = c.in_ok-command.ensures office_top (alone init_words) c.top.ensures c.bare.ensures in
     let two = c.in_ok-command-2.ensures inits (alone run_words) one c.bare-2.ensures in
-    IfOk-weaker c.with_subcommand-3.result _ _ (λ _ h. h runs (alone serve_words) two c.in_ok-serve.ensures) c.with_subcommand-3.ensures
+    let serves = with_subcommand runs serve_words in
+    let three = c.in_ok-command-3.ensures runs (alone serve_words) two c.in_ok-serve.ensures in
+    let reports = with_subcommand serves report_words in
+    let four = c.in_ok-command-4.ensures serves (alone report_words) three c.in_ok-report.ensures in
+    let explains = with_subcommand reports explain_words in
+    let five = c.in_ok-command-5.ensures reports (alone explain_words) four c.in_ok-explain.ensures in
+    IfOk-weaker c.with_subcommand-6.result _ _ (λ _ h. h explains (alone gen_words) five c.in_ok-generate.ensures) c.with_subcommand-6.ensures
