@@ -1,4 +1,5 @@
 pub mod Answering
 pub mod Done
 pub mod MadeSo
+pub mod MonthTold
 pub mod Soundness

@@ -1,5 +1,5 @@
 -- What making a journal did.
-use Rattle.std.proofs.Common.{◌≡◌, ℕ, List, [], ◌∷◌, length, get_or, map, ◌<◌, ◌≤◌, refl, sym, ap, ◌∙◌, arith}
+use Rattle.std.proofs.Common.{◌≡◌, ℕ, List, [], refl, arith}
 use Rattle.disk_core.specs.Files.{State, synced_file}
 use Rattle.plain_office.proofs.Runs.{run_none}
 use Rattle.meter_journal.specs.History.{header, IsAtRest}

@@ -1,8 +1,8 @@
 -- A disk whose images have histories keeps to such images.
-use Rattle.std.proofs.Common.{⊎_elim, inl, inr, ℕ, Bool, List, subst, sym}
-use Rattle.std.specs.Prelude.{IsTrue, Option}
+use Rattle.std.proofs.Common.{◌≡◌, ⊎_elim, inl, inr, refl, ℕ, Bool, List, subst, sym}
+use Rattle.std.specs.Prelude.{IsTrue}
 use Rattle.disk_core.specs.declared.disk.Disk as disks
-use Rattle.disk_core.specs.Files.{State, IsImage}
+use Rattle.disk_core.specs.Files.{State}
 use Rattle.disk_core.specs.Kept.{Narrower}
 use Rattle.disk_core.specs.Moments.{KeepsTo}
 use Rattle.disk_core.proofs.Time.{weakened, joined}
@@ -16,7 +16,13 @@ use Rattle.desk_core.specs.Runs.{Outside, AnswersCalls}
 use Rattle.desk_core.specs.Serving.{Recoverable}
 use Rattle.http_front.specs.declared.replies.Replies as sinks
 use Rattle.office_cli.specs.Making.{Inits}
-use Rattle.office_cli.specs.Running.{Surroundings, under, journal_limit, Refuses, Starts}
+use Rattle.office_cli.specs.Explaining.{Explains}
+use Rattle.office_cli.specs.Reporting.{TellsMonth}
+use Rattle.office_cli.specs.Running.{Surroundings, Refuses, Starts}
+
+-- what is not touched is narrow
+pub untouched_narrow : (s new : State) → new ≡ s → Narrower s new
+untouched_narrow s new is = subst (Narrower s) (sym is) (record { journal = λ image own. own; slot0 = refl; slot1 = refl })
 
 -- ---- what is read has a history
 
@@ -34,7 +40,7 @@ module _ {D C W : Type 0} (d : disks.Ghosts D) (k : clocks.Ghosts C) (w : sinks.
   abbrev StaysSound : D → D → Type 0
   StaysSound old new = KeepsTo d.state d.moment d.had_since old new IsSound
 
-  calls_sound : (limit : ℕ) (old new : Outside D C) (calls : List Call) → IsSound (d.state old.disk) → AnswersCalls d k limit old new calls → StaysSound old.disk new.disk
+  pub calls_sound : (limit : ℕ) (old new : Outside D C) (calls : List Call) → IsSound (d.state old.disk) → AnswersCalls d k limit old new calls → StaysSound old.disk new.disk
   calls_sound limit old new calls sound a =
       let kept = a.disk tells in
       joined d.state d.moment d.had_since old.disk kept.opening new.disk (Narrower (d.state old.disk)) (Recoverable a.opened calls) IsSound
@@ -44,15 +50,25 @@ module _ {D C W : Type 0} (d : disks.Ghosts D) (k : clocks.Ghosts C) (w : sinks.
   refused_sound old new status sound r =
       weakened d.state d.moment d.had_since old.disk new.disk (Narrower (d.state old.disk)) IsSound (λ s narrow. narrow_sound (d.state old.disk) s sound narrow) (r.any_moment tells)
 
+  pub reported_sound : (month : ℕ) (as_text : Bool) (first : ℕ) (old new : Surroundings D C W) (status : ℕ) → IsSound (d.state old.disk) → TellsMonth d k w month as_text first old new status
+      → StaysSound old.disk new.disk
+  reported_sound month as_text first old new status sound r =
+      weakened d.state d.moment d.had_since old.disk new.disk (Narrower (d.state old.disk)) IsSound (λ s narrow. narrow_sound (d.state old.disk) s sound narrow) (r.any_moment tells)
+
+  pub explained_sound : (old new : Surroundings D C W) (status : ℕ) → IsSound (d.state old.disk) → Explains d k w old new status → StaysSound old.disk new.disk
+  explained_sound old new status sound (inl told) =
+      weakened d.state d.moment d.had_since old.disk new.disk (Narrower (d.state old.disk)) IsSound (λ s narrow. narrow_sound (d.state old.disk) s sound narrow) (told.any_moment tells)
+  explained_sound old new status sound (inr refused) = refused_sound old new status sound refused
+
   -- also where nothing is touched
-  pub starts_sound : (left_alone : Type 0) (answers : Surroundings D C W → Surroundings D C W → ℕ → Type 0)
-      → ((old new : Surroundings D C W) (status : ℕ) → answers old new status → (calls : List Call) × AnswersCalls d k journal_limit (under old) (under new) calls)
+  pub starts_sound : (left_alone : Type 0) (answers : ℕ → Surroundings D C W → Surroundings D C W → ℕ → Type 0)
+      → ((first : ℕ) (old new : Surroundings D C W) (status : ℕ) → IsSound (d.state old.disk) → answers first old new status → StaysSound old.disk new.disk)
       → (old new : Surroundings D C W) (status : ℕ) → IsSound (d.state old.disk) → StaysSound old.disk old.disk → Starts d k w left_alone answers old new status → StaysSound old.disk new.disk
-  starts_sound left_alone answers calls_of old new status sound still starts =
+  starts_sound left_alone answers keeps old new status sound still starts =
       let first : Surroundings D C W = record { disk = old.disk; clock = starts.clock; out = old.out } in
       ⊎_elim
       (λ does. ⊎_elim
-      (λ answered. let c = calls_of first new status answered in calls_sound journal_limit (under first) (under new) c.0 sound c.1)
+      (λ answered. keeps starts.first first new status sound answered)
       (λ refused. refused_sound first new status sound refused.0) does.1)
       (λ ends. subst (λ (disk : D). StaysSound old.disk disk) (sym ends.1.untouched) still) starts.does
 

@@ -50,9 +50,13 @@ IsWorkersStatus status = (end : WorkerEnd) × (stale : Bool) × (status ≡ work
 abbrev pub IsServeStatus : ℕ → Type 0
 IsServeStatus status = IsWorkersStatus status ⊎ ((fault : OpenFault) × (status ≡ fault_status fault))
 
--- that of a command that was done, but for want of memory and an input that is too long
+-- of a report: one of those, or that there is no tariff
+abbrev pub IsReportStatus : ℕ → Type 0
+IsReportStatus status = (status ≡ 10) ⊎ IsRunStatus status
+
+-- that of a command that was done, but for want of memory, an input that is too long, and a report without a tariff
 abbrev pub IsDone : ℕ → Type 0
-IsDone status = (status ≡ 0) ⊎ ((status ≡ 6) ⊎ (status ≡ 9))
+IsDone status = (status ≡ 0) ⊎ ((status ≡ 6) ⊎ ((status ≡ 9) ⊎ (status ≡ 10)))
 
 -- ---- lines
 
@@ -71,6 +75,10 @@ usage_note = line (codes "usage: office init; run; serve --listen A [--workers N
 -- of a clock that is at its end
 unfoldable pub clock_note : List ℕ
 clock_note = line (codes "clock: at its end")
+
+-- of a report where no tariff is set
+unfoldable pub tariff_note : List ℕ
+tariff_note = line (codes "report: no tariff")
 
 -- of the end of a session, with a desk that is stale then or not; nothing where all was done
 unfoldable pub end_note : SessionEnd → Bool → List ℕ

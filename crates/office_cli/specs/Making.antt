@@ -1,6 +1,5 @@
 -- What making a journal does.
-use Rattle.std.specs.Prelude.{◌≡◌, ◌⊎◌, ℕ, false, List, [], take, IsTrue}
-use Rattle.std.specs.Io.KnownBytes.{Appends}
+use Rattle.std.specs.Prelude.{◌≡◌, ◌⊎◌, ℕ, List, [], IsTrue}
 use Rattle.disk_core.specs.declared.disk.Disk as disks
 use Rattle.disk_core.specs.Files.{State, IsImage, synced_file}
 use Rattle.disk_core.specs.Kept.{Narrower}
@@ -13,29 +12,20 @@ use Rattle.meter_journal.specs.declared.making.Made.{Made}
 use Rattle.meter_journal.specs.declared.making.Made.TheVariants as mades
 use Rattle.desk_core.specs.Histories.{HasAcceptedHistory}
 use Rattle.http_front.specs.declared.replies.Replies as sinks
-use Rattle.http_front.specs.declared.answering.SessionEnd.TheVariants.{WriteFault}
-use Rattle.office_cli.specs.Lines.{made_line, fault_status, fault_note, end_note}
-use Rattle.office_cli.specs.Running.{IsNoted, EndsWithNote}
+use Rattle.office_cli.specs.Lines.{made_line, fault_status, fault_note}
+use Rattle.office_cli.specs.Running.{IsNoted, IsPutOut}
 
 -- a journal that was not made is made and empty, in each image; one that was made stays as it was read
 abbrev pub IsMadeSo : Made → State → State → Type 0
 IsMadeSo mades.Now old new = IsNotMade old.journal.seen × ((image : List ℕ) → IsImage new.journal image → HasAcceptedHistory [] image)
 IsMadeSo mades.Before old new = IsMade old.journal.seen × (new.journal ≡ synced_file old.journal.seen)
 
-module _ {W : Type 0} (w : sinks.Ghosts W) where
-  -- this was said, or a front of it was lost
-  abbrev pub IsPutOut : Made → W → W → ℕ → Type 0
-  IsPutOut made old new status =
-      ((status ≡ 0) × Appends (w.texts old) (w.texts new) (made_line made) × (w.noted new ≡ w.noted old))
-      ⊎ ((status ≡ 4) × ((n : ℕ) × Appends (w.texts old) (w.texts new) (take n (made_line made)))
-      × EndsWithNote w old new status (end_note WriteFault false))
-
 module _ {D W : Type 0} (d : disks.Ghosts D) (w : sinks.Ghosts W) where
   -- it is there, and this was put out
   pub record Makes (old new : D) (out_old out_new : W) (status : ℕ) : Type 0 where
     pub made : Made
     pub is_made : IsTrue d.honest → IsMadeSo made (d.state old) (d.state new)
-    pub told : IsPutOut w made out_old out_new status
+    pub told : IsPutOut w (made_line made) out_old out_new status
 
   -- it was not made, and nothing was put out
   pub record Fails (old new : D) (out_old out_new : W) (status : ℕ) : Type 0 where

@@ -1,5 +1,5 @@
 -- What the commands of the program do.
-use Rattle.std.specs.Prelude.{◌≡◌, ◌⊎◌, ℕ, ◌-◌, ◌^◌, ◌<◌, ◌≤◌, ◌+◌, ◌*◌, min, Bool, true, false, List, [], ◌∷◌, length, Option, option_map, IsTrue}
+use Rattle.std.specs.Prelude.{◌≡◌, ◌⊎◌, ℕ, ◌-◌, ◌^◌, ◌<◌, ◌≤◌, ◌+◌, ◌*◌, min, Bool, true, false, List, [], ◌∷◌, length, take, Option, option_map, IsTrue}
 use Rattle.std.specs.Io.KnownBytes.{Appends}
 use Rattle.moments.specs.Time.{end_of_time}
 use Rattle.office_base.specs.Faults.{Rose}
@@ -15,7 +15,7 @@ use Rattle.http_front.specs.Counts.{Reading, IsHeldBack}
 use Rattle.http_front.specs.Exchanges.{Exchange, calls_of, moments_of, Hears}
 use Rattle.http_front.specs.Session.{IsWritten, LacksBy}
 use Rattle.http_front.specs.declared.answering.SessionEnd.{SessionEnd}
-use Rattle.http_front.specs.declared.answering.SessionEnd.TheVariants.{NoMemory}
+use Rattle.http_front.specs.declared.answering.SessionEnd.TheVariants.{NoMemory, WriteFault}
 use Rattle.serving.specs.declared.port.Port as ports
 use Rattle.serving.specs.declared.worker.WorkerEnd.{WorkerEnd}
 use Rattle.serving.specs.Serving.{Log, log_calls, AreOfWorkers}
@@ -59,6 +59,20 @@ module _ {W : Type 0} (w : sinks.Ghosts W) where
     pub lost : status ≡ 4 → Rose (w.faults old) (w.faults behind)
     pub silent : IsSilent behind new
     pub note : IsNoted behind new text
+
+module _ {W : Type 0} (w : sinks.Ghosts W) where
+  -- this text was said; or a front of it was, and the rest was lost
+  abbrev pub IsPutOut : List ℕ → W → W → ℕ → Type 0
+  IsPutOut text old new status =
+      ((status ≡ 0) × Appends (w.texts old) (w.texts new) text × (w.noted new ≡ w.noted old))
+      ⊎ ((status ≡ 4) × ((n : ℕ) × Appends (w.texts old) (w.texts new) (take n text))
+      × EndsWithNote w old new status (end_note WriteFault false))
+
+  -- memory ran out: nothing was said
+  pub record RunsOut (old new : W) (status : ℕ) : Type 0 where
+    pub status_is : status ≡ 6
+    pub silent : IsSilent w old new
+    pub note : IsNoted w old new (end_note NoMemory false)
 
 module _ {D C W : Type 0} (w : sinks.Ghosts W) where
   -- Memory ran out before the words were read: disk and clock were not touched, and nothing was said.
@@ -125,24 +139,24 @@ module _ {D C W : Type 0} (d : disks.Ghosts D) (k : clocks.Ghosts C) (w : sinks.
 
   -- The clock tells a number before the disk is touched. Where that is below the end of time the office is opened and answers, or
   -- it is not opened. Where it is not opened, and where the clock is at its end, what the asks come from is left alone.
-  pub record Starts (left_alone : Type 0) (answers : Surroundings D C W → Surroundings D C W → ℕ → Type 0)
+  pub record Starts (left_alone : Type 0) (answers : ℕ → Surroundings D C W → Surroundings D C W → ℕ → Type 0)
       (old new : Surroundings D C W) (status : ℕ) : Type 0 where
     pub first : ℕ
     pub clock : C
     pub once : k.count clock ≡ min (k.count old.clock + 1) (2 ^ 64 - 1)
     pub is_last : k.last clock ≡ first
     pub told_first : k.count clock < 2 ^ 64 - 1 → Appends (k.told old.clock) (k.told clock) (first ∷ [])
-    pub does : ((first < end_of_time) × (answers (around old.disk clock old.out) new status
+    pub does : ((first < end_of_time) × (answers first (around old.disk clock old.out) new status
         ⊎ (Refuses (around old.disk clock old.out) new status × left_alone)))
         ⊎ ((end_of_time ≤ first) × Ends (around old.disk clock old.out) new status × left_alone)
 
   -- what `run` does with the messages of a stream that it reads, or leaves alone
   abbrev pub Runs : Type 0 → Reading → Surroundings D C W → Surroundings D C W → ℕ → Type 0
-  Runs left_alone read = Starts left_alone (AnswersStream read)
+  Runs left_alone read = Starts left_alone (λ first. AnswersStream read)
 
   -- what `serve` does with connections of a port, or leaves it alone
   abbrev pub Serves : Type 0 → (WorkerEnd → Log → Type 0) → Surroundings D C W → Surroundings D C W → ℕ → Type 0
-  Serves left_alone connected = Starts left_alone (AnswersWorkers connected)
+  Serves left_alone connected = Starts left_alone (λ first. AnswersWorkers connected)
 
 module _ {P Source Replies : Type 0} (p : ports.Ghosts P Source Replies) where
   -- The port gave and ended as many connections as the workers served, all where all was done; and where it tells them they are

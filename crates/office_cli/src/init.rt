@@ -3,29 +3,13 @@ ghost use Rattle.std.specs.Prelude.{◌≡◌, ◌≤◌, IsTrue};
 ghost use Rattle.office_base.specs.Faults.{Rose};
 ghost use Rattle.meter_journal.specs.Reading.{IsForeign};
 ghost use Rattle.office_cli.specs.Lines.{IsRunStatus};
-ghost use Rattle.office_cli.specs.Making.{IsPutOut, Inits};
+ghost use Rattle.office_cli.specs.Making.{Inits};
 
-use crate::lines::{OUTPUT, end_line, made_text, note_fault, note_line, open_status};
+use crate::lines::{made_text, note_fault, open_status};
+use crate::saying::say;
 use disk_core::Disk;
-use http_front::{Replies, SessionEnd};
-use meter_journal::{Made, create};
-
-// Says that the journal is there, and answers the status.
-fn say_made<W: Replies>(out: &mut W, made: Made) -> u8
-    ensures told { IsPutOut W.Replies made out.old out.new result }
-    ensures unsaid { (W.said out.new ≡ W.said out.old) × (W.moments out.new ≡ W.moments out.old) }
-    ensures later { W.faults out.old ≤ W.faults out.new }
-    ensures write_fault { result ≡ 4 → Rose (W.faults out.old) (W.faults out.new) }
-    ensures unnoted { result ≡ 0 → W.noted out.new ≡ W.noted out.old }
-{
-    match out.text(made_text(made)) {
-        Ok(()) => 0,
-        Err(_) => {
-            note_line(out, end_line(SessionEnd::WriteFault, false));
-            OUTPUT
-        }
-    }
-}
+use http_front::Replies;
+use meter_journal::create;
 
 // Makes the journal where it is not made, and says so.
 pub(crate) fn init<W: Replies, D: Disk>(out: &mut W, disk: &mut D) -> u8
@@ -41,7 +25,7 @@ pub(crate) fn init<W: Replies, D: Disk>(out: &mut W, disk: &mut D) -> u8
     ensures unnoted { result ≡ 0 → W.noted out.new ≡ W.noted out.old }
 {
     match create(disk) {
-        Ok(made) => say_made(out, made),
+        Ok(made) => say(out, made_text(made)),
         Err(fault) => {
             note_fault(out, fault);
             open_status(fault)

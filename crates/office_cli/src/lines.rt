@@ -2,7 +2,7 @@
 ghost use Rattle.std.specs.Prelude.{false, ◌≡◌, ◌+◌, ◌≤◌, ◌++◌, length, take};
 ghost use Rattle.http_front.specs.declared.answering.SessionEnd.TheVariants.{NoMemory};
 ghost use Rattle.meter_journal.specs.declared.fault.OpenFault.TheVariants.{Damaged};
-ghost use Rattle.office_cli.specs.Lines.{status_of, fault_status, workers_status, made_line, usage_note, clock_note, end_note, fault_note, workers_note};
+ghost use Rattle.office_cli.specs.Lines.{status_of, fault_status, workers_status, made_line, usage_note, clock_note, tariff_note, end_note, fault_note, workers_note};
 ghost use Rattle.office_cli.specs.Running.{IsNoted, IsSilent};
 
 use http_front::{Replies, SessionEnd};
@@ -18,6 +18,9 @@ pub(crate) const MEMORY: u8 = 6;
 
 /// The status where a text could not be said.
 pub(crate) const OUTPUT: u8 = 4;
+
+/// The status of a report where no tariff is set.
+pub(crate) const NO_TARIFF: u8 = 10;
 
 /// The status where the clock is at its end.
 pub(crate) const CLOCK_END: u8 = 8;
@@ -83,6 +86,13 @@ pub(crate) fn clock_line() -> &'static [u8]
     ensures { result.now ≡ clock_note }
 {
     b"clock: at its end\n"
+}
+
+#[tactic(auto, unfolding(crate::specs::Lines::tariff_note))]
+pub(crate) fn tariff_line() -> &'static [u8]
+    ensures { result.now ≡ tariff_note }
+{
+    b"report: no tariff\n"
 }
 
 #[tactic(auto, unfolding(crate::specs::Lines::end_note))]

@@ -5,21 +5,25 @@ mod init;
 #[cfg(test)]
 mod lifecycle_sessions;
 mod lines;
+mod load;
 #[cfg(test)]
 mod month_sessions;
 mod program;
+mod report;
 mod run;
+mod saying;
 mod serve;
 #[cfg(test)]
 mod serve_tests;
 #[cfg(test)]
 mod session_tests;
+mod stays;
 #[cfg(test)]
 mod tests;
 #[cfg(test)]
 mod version_sessions;
 
-use command_line::read_line;
+use command_line::{CommandLine, read_line};
 use desk_core::SystemClock;
 use disk_core::FileDisk;
 use http_front::WriterReplies;
@@ -74,14 +78,23 @@ fn open_files<R: Files<File = File>>(rt: &R) -> Option<FileDisk> {
     Some(FileDisk::new(Some(journal), first, second))
 }
 
-// The disk of a command. It has no files where the words are no command, a file might get the number of a standard stream, or the
+// Whether the words ask for something that works on the files.
+fn asks_for_files<R: Alloc<A = Global>>(rt: &R, words: &[String]) -> bool {
+    match read_line(rt.alloc(), words) {
+        Ok(CommandLine::Gen { .. }) => false,
+        Ok(_) => true,
+        Err(_) => false,
+    }
+}
+
+// The disk of a command. It has no files where the words ask for none, a file might get the number of a standard stream, or the
 // files cannot be opened.
 fn open_disk<R: Files<File = File> + Alloc<A = Global>>(
     rt: &R,
     words: &[String],
     held: bool,
 ) -> FileDisk {
-    if !held || read_line(rt.alloc(), words).is_err() {
+    if !held || !asks_for_files(rt, words) {
         return FileDisk::new(None, None, None);
     }
     match open_files(rt) {

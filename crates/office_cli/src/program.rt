@@ -1,5 +1,5 @@
 // The program over any source, replies, disk, clock and port.
-ghost use Rattle.std.specs.Prelude.{◌≡◌, ◌≤◌, ◌⊎◌, ℕ, List, Some, None, false, IsSome, IsTrue, map, string_bytes};
+ghost use Rattle.std.specs.Prelude.{◌≡◌, ◌≤◌, ◌⊎◌, ℕ, Bool, List, Some, None, false, IsSome, IsTrue, map, string_bytes};
 ghost use Rattle.http_wire.specs.Held.{take_limit};
 ghost use Rattle.http_front.specs.Counts.{Gave, reading};
 ghost use Rattle.office_base.specs.Faults.{Rose};
@@ -7,16 +7,22 @@ ghost use Rattle.disk_core.specs.Moments.{KeepsTo};
 ghost use Rattle.office_types.specs.declared.command.Entry.{Entry};
 ghost use Rattle.desk_core.specs.Histories.{HasAcceptedHistory, IsSound};
 ghost use Rattle.meter_journal.specs.Reading.{IsForeign};
-ghost use Rattle.command_line.specs.Lines.{asked, Line, init as init_line, run as run_line, serve as serve_line};
+ghost use Rattle.command_line.specs.Lines.{asked, Line, init as init_line, run as run_line, serve as serve_line, report as report_line, explain as explain_line, gen as gen_line};
 ghost use Rattle.http_front.specs.declared.answering.SessionEnd.TheVariants.{NoMemory};
-ghost use Rattle.office_cli.specs.Lines.{usage_note, end_note, IsRunStatus, IsServeStatus, IsDone};
+ghost use Rattle.office_cli.specs.Lines.{usage_note, end_note, IsReportStatus, IsServeStatus, IsDone};
 ghost use Rattle.office_cli.specs.Making.{Inits};
+ghost use Rattle.office_cli.specs.Explaining.{Explains};
+ghost use Rattle.office_cli.specs.Loading.{TellsLoad};
+ghost use Rattle.office_cli.specs.Reporting.{Reports};
 ghost use Rattle.office_cli.specs.Running.{around, IsNoted, IsSilent, IsUnread, Connects, IsBalanced, Runs, Serves};
 
 use crate::init::init;
 use crate::lines::{MEMORY, USAGE, end_line, note_line, usage};
+use crate::load::load;
+use crate::report::report;
 use crate::run::run;
 use crate::serve::serve;
+use crate::stays::stays;
 use command_line::{CommandLine, LineFault, read_line};
 use desk_core::Clock;
 use disk_core::Disk;
@@ -68,19 +74,22 @@ fn refuse_line<W: Replies>(out: &mut W, fault: LineFault) -> u8
     }
 }
 
-/// Does one command of the program: `init`, `run` or `serve`. The words are those behind the program's name.
+/// Does one command of the program: `init`, `run`, `serve`, `report`, `explain` or `gen`. The words are those behind the program's name.
 ///
 /// `init` makes the journal where it is not made, and says whether it was. `run` asks the clock once, opens the office over the
 /// journal, answers the messages of the input in order, each once its effect is durable, and closes the office. `serve` does the
 /// same with the messages of connections: it asks the clock once, opens the office, listens, has workers answer the connections side
-/// by side, each up to so many of them, and closes the office. A line on a fault goes to the notes.
+/// by side, each up to so many of them, and closes the office. `report` asks the clock once, opens the office, and prints what a
+/// month costs, as of that number or of the last accepted command, where that is later; it writes nothing to the journal. `explain`
+/// reads the journal and prints every stay of it, from which a bill can be checked by hand. `gen` makes commands that are generated
+/// of a number, on a disk in memory, and prints how many were accepted. A line on a fault goes to the notes.
 ///
 /// The status is 0 where all was done; 1 where the words are no command line; 2 where the disk did not do a call, at
 /// `init` or at the opening, or in a call since which no other ask was answered; 3 where the
 /// input could not be read; 4 where a text could not be said; 5 where the journal is not made, foreign or damaged; 6 where
-/// memory ran out; 7 where the port did not listen or gave no connection; 8 where the first number that the clock told a `run` or a
-/// `serve` is not below the end of time, 4,102,444,800,000 milliseconds, and then nothing else was done; 9 where 2^40 bytes of input
-/// were taken and more is needed. A connection that fails, or in whose session memory runs out, ends alone and gives no status.
+/// memory ran out; 7 where the port did not listen or gave no connection; 8 where the first number that the clock told a `run`, a
+/// `serve` or a `report` is not below the end of time, 4,102,444,800,000 milliseconds, and then nothing else was done; 9 where 2^40
+/// bytes of input were taken and more is needed; 10 where a report has no tariff. A connection that fails, or in whose session memory runs out, ends alone and gives no status.
 pub fn office<S, W, D, C, P, G, R>(
     rt: &R,
     alloc: Global,
@@ -120,6 +129,25 @@ where
         ⊎ (IsUnread W.Replies (around disk clock out.old) (around result.disk result.clock out.new) result.status
         × (input.new ≡ input.old) × (port.new ≡ port.old)) }
 
+    // What report does.
+    ensures report { (month : ℕ) (as_text : Bool)
+        → asked (map string_bytes words.now) ≡ Some (report_line month as_text)
+        → Reports D.Disk C.Clock W.Replies month as_text (around disk clock out.old)
+        (around result.disk result.clock out.new) result.status
+        ⊎ IsUnread W.Replies (around disk clock out.old) (around result.disk result.clock out.new) result.status }
+
+    // What explain does.
+    ensures explain { (workers : ℕ) → asked (map string_bytes words.now) ≡ Some (explain_line workers)
+        → Explains D.Disk C.Clock W.Replies (around disk clock out.old)
+        (around result.disk result.clock out.new) result.status
+        ⊎ IsUnread W.Replies (around disk clock out.old) (around result.disk result.clock out.new) result.status }
+
+    // What gen does. It touches neither the disk nor the clock.
+    ensures load { (number count : ℕ) → asked (map string_bytes words.now) ≡ Some (gen_line number count)
+        → (TellsLoad W.Replies number count out.old out.new result.status
+        × (result.disk ≡ disk) × (result.clock ≡ clock))
+        ⊎ IsUnread W.Replies (around disk clock out.old) (around result.disk result.clock out.new) result.status }
+
     // What init does.
     ensures init { asked (map string_bytes words.now) ≡ Some init_line
         → (Inits D.Disk W.Replies disk result.disk out.old out.new result.status × (result.clock ≡ clock))
@@ -134,10 +162,13 @@ where
         ⊎ (IsUnread W.Replies (around disk clock out.old) (around result.disk result.clock out.new) result.status
         × (input.new ≡ input.old) × (port.new ≡ port.old)) }
 
-    // Replies to messages of the input are said by a run alone, and other texts by init alone.
+    // Replies to messages of the input are said by a run alone, and no other texts by a run and by serve.
     ensures unsaid { (asked (map string_bytes words.now) ≡ Some run_line → ⊥) → (W.said out.new ≡ W.said out.old)
         × (W.moments out.new ≡ W.moments out.old) }
-    ensures no_text { (asked (map string_bytes words.now) ≡ Some init_line → ⊥) → W.texts out.new ≡ W.texts out.old }
+    ensures no_text { (asked (map string_bytes words.now) ≡ Some run_line)
+        ⊎ ((listen : List ℕ) × (workers : ℕ) × (connections : ℕ)
+        × (asked (map string_bytes words.now) ≡ Some (serve_line listen workers connections)))
+        → W.texts out.new ≡ W.texts out.old }
 
     // Nothing is noted where all was done.
     ensures unnoted { result.status ≡ 0 → W.noted out.new ≡ W.noted out.old }
@@ -153,7 +184,9 @@ where
 
     // The causes of the statuses.
     ensures statuses { (result.status ≡ 1)
-        ⊎ ((result.status ≡ 8) ⊎ (IsRunStatus result.status ⊎ IsServeStatus result.status)) }
+        ⊎ ((result.status ≡ 8) ⊎ (IsReportStatus result.status ⊎ IsServeStatus result.status)) }
+    ensures tariff { result.status ≡ 10 → (month : ℕ) × (as_text : Bool)
+        × (asked (map string_bytes words.now) ≡ Some (report_line month as_text)) }
     ensures clock_end { result.status ≡ 8 → asked (map string_bytes words.now) ≡ Some init_line → ⊥ }
     ensures disk_fault { result.status ≡ 2 → Rose (D.fault_count disk) (D.fault_count result.disk) }
     ensures read_fault { result.status ≡ 3 → Rose (S.faults input.old) (S.faults input.new) }
@@ -208,6 +241,16 @@ where
             workers,
             connections,
         ),
+        Ok(CommandLine::Report(asked)) => report(alloc, out, disk, clock, &asked),
+        Ok(CommandLine::Explain { workers }) => stays(alloc, out, disk, clock, workers),
+        Ok(CommandLine::Gen { number, count }) => {
+            let status = load(alloc, out, number, count);
+            End {
+                status,
+                disk,
+                clock,
+            }
+        }
         Err(fault) => {
             let status = refuse_line(out, fault);
             End {

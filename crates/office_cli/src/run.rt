@@ -1,5 +1,5 @@
 // Answering the messages of a stream.
-ghost use Rattle.std.specs.Prelude.{◌≡◌, ◌≤◌, ◌⊎◌, ◌<◌, ◌+◌, ◌-◌, ◌^◌, ◌∷◌, [], min, ℕ, List, Option, false, IsOk, IsTrue};
+ghost use Rattle.std.specs.Prelude.{◌≡◌, ◌≤◌, ◌⊎◌, ◌<◌, ◌+◌, ◌-◌, ◌^◌, ◌∷◌, [], min, ℕ, List, Option, None, IfSome, false, IsOk, IsTrue};
 ghost use Rattle.std.specs.Io.KnownBytes.{Appends};
 ghost use Rattle.moments.specs.Time.{end_of_time};
 ghost use Rattle.office_base.specs.Faults.{Rose};
@@ -120,6 +120,17 @@ fn work<S: Source, W: Replies, D: Disk + Drop, C: Clock + Drop>(
     }
 }
 
+// The next number of the clock, where it is below the end of time.
+pub(crate) fn first_moment<C: Clock>(clock: &mut C) -> Option<Moment>
+    ensures once { C.count clock.new ≡ min (C.count clock.old + 1) (2 ^ 64 - 1) }
+    ensures told { C.count clock.new < 2 ^ 64 - 1
+        → Appends (C.told clock.old) (C.told clock.new) (C.last clock.new ∷ []) }
+    ensures begun { IfSome result (λ moment. (moment ≡ C.last clock.new) × (moment < end_of_time)) }
+    ensures ended { result ≡ None → end_of_time ≤ C.last clock.new }
+{
+    Moment::of(clock.now()).ok()
+}
+
 // Whether the next number of the clock is below the end of time.
 pub(crate) fn has_begun<C: Clock>(clock: &mut C) -> bool
     ensures once { C.count clock.new ≡ min (C.count clock.old + 1) (2 ^ 64 - 1) }
@@ -128,7 +139,7 @@ pub(crate) fn has_begun<C: Clock>(clock: &mut C) -> bool
     ensures begun { IsTrue result → C.last clock.new < end_of_time }
     ensures ended { result ≡ false → end_of_time ≤ C.last clock.new }
 {
-    Moment::of(clock.now()).is_ok()
+    first_moment(clock).is_some()
 }
 
 // Notes that the clock is at its end.

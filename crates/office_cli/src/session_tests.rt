@@ -7,8 +7,9 @@ use crate::lifecycle_sessions::{
     PAST_DATE,
 };
 use crate::month_sessions::{CLOSING, MONTH, NOT_OVER, TARIFF};
-use crate::tests::{command_at, disk_of};
+use crate::tests::{USAGE, command_at, disk_of};
 use crate::version_sessions::{EARLY, MARKER, NULL_VERSION, UNVERSIONED, UPLOAD};
+use disk_core::MemoryDisk;
 use http_front::MemoryReplies;
 use http_wire::MemorySource;
 use std::alloc::Global;
@@ -76,13 +77,13 @@ fn clock_of(alloc: Global, steps: &[Step]) -> Result<Vec<u64>, Fail> {
     Ok(moments)
 }
 
-// Runs a session in runs of so many messages, each over what the one before left on the disk.
+// Runs a session in runs of so many messages, each over what the one before left on the disk, and gives the disk.
 fn check<R: Threads + Wait + Sync + Abort>(
     rt: &R,
     alloc: Global,
     steps: &[Step],
     size: usize,
-) -> Result<(), Fail>
+) -> Result<MemoryDisk, Fail>
     requires { 0 < size }
 {
     let mut disk = disk_of(alloc, EMPTY, &[])?;
@@ -100,8 +101,128 @@ fn check<R: Threads + Wait + Sync + Abort>(
         );
         disk = ran.disk;
     }
-    Ok(())
+    Ok(disk)
 }
+
+// After a session: the words of a command, the clock's number, and its status, text and note.
+type Command = (
+    &'static [Step],
+    &'static [&'static str],
+    u64,
+    u8,
+    &'static str,
+    &'static [u8],
+);
+
+const GEN_FOUR: &str =
+    "commands 4 accepted 4 refused 0 nothing 0 versions 0 uploads 0 journal 95\n";
+
+const GEN_NONE: &str =
+    "commands 0 accepted 0 refused 0 nothing 0 versions 0 uploads 0 journal 11\n";
+
+const ONE_STAY: &str =
+    "bucket,key,item,class,bytes,from,to\nlogs,a,v:null,STANDARD,1,2024-01-01T00:00:00.000Z,open\n";
+
+const ONE_OBJECT: &[Step] = &[
+    (
+        NEW_YEAR,
+        "PUT /buckets/logs",
+        "",
+        "201 Created",
+        "{\"bucket\":\"logs\"}",
+    ),
+    (
+        NEW_YEAR,
+        "PUT /buckets/logs/objects/a",
+        "{\"size\":1}",
+        "201 Created",
+        "{\"moment\":\"2024-01-01T00:00:00.000Z\",\"version\":\"null\"}",
+    ),
+];
+
+const COMMANDS: [Command; 14] = [
+    (
+        &[],
+        &["report", "2024-01"],
+        NEW_YEAR,
+        10,
+        "",
+        b"report: no tariff\n",
+    ),
+    (
+        TARIFF,
+        &["report", "2024-01"],
+        NEW_YEAR,
+        0,
+        "bucket,line,class,quantity,price,charge\n,total,,,,0\n",
+        b"",
+    ),
+    (
+        MONTH,
+        &["report", "2024-01"],
+        NEW_YEAR + 40 * DAY,
+        0,
+        "bucket,line,class,quantity,price,charge\nlogs,storage,STANDARD,2875910101401600000,23000,\
+         23000\nrest,storage,STANDARD,2678400000,23000,0\n,total,,,,23000\n",
+        b"",
+    ),
+    // As of the last accepted command, where the clock's number is before it. A day of a month of 31 at 46,000 a GiB-month.
+    (
+        MONTH,
+        &["report", "2024-02", "--text"],
+        NEW_YEAR,
+        0,
+        "                         total                                                                   0\n",
+        b"",
+    ),
+    (
+        MONTH,
+        &["report", "--text", "2024-02"],
+        NEW_YEAR + 32 * DAY,
+        0,
+        "logs                     storage      STANDARD                  92771293593600000             1586\n\
+         rest                     storage      STANDARD                           86400000                0\n\
+         \x20                        total                                                                1586\n",
+        b"",
+    ),
+    (MONTH, &["report", "2024-13"], NEW_YEAR, 1, "", USAGE),
+    (MONTH, &["report"], NEW_YEAR, 1, "", USAGE),
+    (
+        MONTH,
+        &["report", "2024-01"],
+        4_102_444_800_000,
+        8,
+        "",
+        b"clock: at its end\n",
+    ),
+    (&[], &["gen", "1", "4"], NEW_YEAR, 0, GEN_FOUR, b""),
+    (&[], &["gen", "1", "0"], NEW_YEAR, 0, GEN_NONE, b""),
+    (&[], &["gen", "1", "1000001"], NEW_YEAR, 1, "", USAGE),
+    (
+        &[],
+        &["explain"],
+        NEW_YEAR,
+        0,
+        "bucket,key,item,class,bytes,from,to\n",
+        b"",
+    ),
+    (
+        ONE_OBJECT,
+        &["explain", "--workers", "1"],
+        NEW_YEAR,
+        0,
+        ONE_STAY,
+        b"",
+    ),
+    (
+        ONE_OBJECT,
+        &["explain", "--workers", "4"],
+        NEW_YEAR,
+        0,
+        ONE_STAY,
+        b"",
+    ),
+];
 
 #[test]
 fn sessions_are_answered_as_their_rows_say(rt: HostRuntime) -> Result<(), Fail> {
@@ -129,6 +250,41 @@ fn sessions_are_answered_as_their_rows_say(rt: HostRuntime) -> Result<(), Fail> 
         check(&rt, alloc, steps, 1000)?;
         // Each message over a journal that is opened anew.
         check(&rt, alloc, steps, 1)?;
+    }
+    Ok(())
+}
+
+// One command over what a session left: it changes nothing.
+fn check_command<R: Threads + Wait + Sync + Abort>(
+    rt: &R,
+    alloc: Global,
+    command: &Command,
+) -> Result<(), Fail> {
+    let disk = check(rt, alloc, command.0, 1000)?;
+    let source = MemorySource::new(Vec::new(alloc), 1, Vec::new(alloc));
+    let out = MemoryReplies::new(alloc, Vec::new(alloc));
+    let ran = command_at(rt, alloc, command.1, &[command.2], source, out, disk)?;
+    assert!(rt; ran.status == command.3, "{:?}: {}", command.1, ran.status);
+    assert!(rt;
+        ran.said.as_slice() == command.4.as_bytes(),
+        "{:?}: {:?}",
+        command.1,
+        ran.said
+    );
+    assert!(rt;
+        ran.noted.as_slice() == command.5,
+        "{:?}: {:?}",
+        command.1,
+        ran.noted
+    );
+    Ok(())
+}
+
+#[test]
+fn commands_print_what_their_rows_say(rt: HostRuntime) -> Result<(), Fail> {
+    let alloc = rt.alloc();
+    for command in &COMMANDS {
+        check_command(&rt, alloc, command)?;
     }
     Ok(())
 }

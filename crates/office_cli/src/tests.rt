@@ -34,7 +34,7 @@ const FAILED: &[u8] =
 const FAILED_TWICE: &[u8] =
     b"HTTP/1.1 503 Service Unavailable\r\ncontent-type: application/json\r\ncontent-length: 35\r\n\r\n{\"error\":\"StoreFault\",\"number\":114}HTTP/1.1 503 Service Unavailable\r\ncontent-type: application/json\r\ncontent-length: 35\r\n\r\n{\"error\":\"StoreFault\",\"number\":114}";
 
-const USAGE: &[u8] =
+pub(crate) const USAGE: &[u8] =
     b"usage: office init; run; serve --listen A [--workers N] [--connections K]; report MONTH [--text]; explain [--workers N]; gen NUMBER COUNT\n";
 
 const PUT: &[u8] = b"PUT /buckets/logs HTTP/1.1\r\nHost: x\r\n\r\n";
@@ -74,7 +74,7 @@ const RUN: &[&str] = &["run"];
 pub(crate) struct Ran {
     pub(crate) status: u8,
     pub(crate) said: Vec<u8>,
-    noted: Vec<u8>,
+    pub(crate) noted: Vec<u8>,
     pub(crate) disk: MemoryDisk,
 }
 

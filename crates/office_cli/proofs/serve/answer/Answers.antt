@@ -1,10 +1,9 @@
-use Rattle.std.proofs.Common.{◌≡◌, Bool, List, ℕ, inr, sym, subst}
-use Rattle.office_base.specs.Faults.{Rose}
+use Rattle.std.proofs.Common.{◌≡◌, Bool, inr, sym, subst}
 use Rattle.desk_core.specs.Runs.{AnswersCalls, outside}
 use Rattle.serving.specs.Serving.{log_calls}
 use Rattle.office_cli.specs.Lines.{workers_status, workers_note}
 use Rattle.office_cli.specs.Running.{journal_limit, IsNoted}
-use Rattle.office_cli.proofs.Answering.{two_stale_workers, seven_failed, zero_done}
+use Rattle.office_cli.proofs.Answering.{zero_done}
 use Rattle.office_cli.proofs.serve.answer.Goals as goal
 
 pub returns-clause-answers : goal.returns-clause-answers

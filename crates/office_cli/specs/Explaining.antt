@@ -1,0 +1,23 @@
+-- What the table of stays prints.
+use Rattle.std.specs.Prelude.{◌≡◌, ◌⊎◌, ℕ, List, IsTrue}
+use Rattle.disk_core.specs.declared.disk.Disk as disks
+use Rattle.disk_core.specs.Kept.{Narrower}
+use Rattle.disk_core.specs.Moments.{KeepsTo}
+use Rattle.desk_core.specs.declared.clock.Clock as clocks
+use Rattle.stay_explain.specs.Explaining.{IsTableOf}
+use Rattle.http_front.specs.declared.replies.Replies as sinks
+use Rattle.office_cli.specs.Running.{Surroundings, IsPutOut, Refuses}
+
+module _ {D C W : Type 0} (d : disks.Ghosts D) (k : clocks.Ghosts C) (w : sinks.Ghosts W) where
+  -- The journal file was read: what is said is the table of stays of its history, from which a bill can be checked by hand (own).
+  -- Nothing is written, and the clock tells no number.
+  pub record TellsTable (old new : Surroundings D C W) (status : ℕ) : Type 0 where
+    pub text : List ℕ
+    pub table : IsTrue d.honest → IsTableOf (d.state old.disk).journal.seen text
+    pub any_moment : IsTrue d.honest → KeepsTo d.state d.moment d.had_since old.disk new.disk (Narrower (d.state old.disk))
+    pub clock : new.clock ≡ old.clock
+    pub told : IsPutOut w text old.out new.out status
+
+  -- so `explain` does, or the journal is refused as at an opening
+  abbrev pub Explains : Surroundings D C W → Surroundings D C W → ℕ → Type 0
+  Explains old new status = TellsTable old new status ⊎ Refuses d k w old new status

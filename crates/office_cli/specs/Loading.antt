@@ -1,0 +1,20 @@
+-- What a generated load prints.
+use Rattle.std.specs.Prelude.{◌⊎◌, ℕ, List, ◌++◌, codes, decimal}
+use Rattle.generator.specs.Generated.{tally}
+use Rattle.generator.specs.declared.tally.Tally.{Tally}
+use Rattle.http_front.specs.declared.replies.Replies as sinks
+use Rattle.office_cli.specs.Lines.{line}
+use Rattle.office_cli.specs.Running.{IsPutOut, RunsOut}
+
+-- the counts, in one line (own)
+unfoldable pub tally_line : Tally → List ℕ
+tally_line counts = line (
+    codes "commands " ++ decimal counts.made ++ codes " accepted " ++ decimal counts.accepted
+    ++ codes " refused " ++ decimal counts.refused ++ codes " nothing " ++ decimal counts.nothing
+    ++ codes " versions " ++ decimal counts.versions ++ codes " uploads " ++ decimal counts.uploads
+    ++ codes " journal " ++ decimal counts.journal)
+
+-- the line of so many commands that are generated of a number is said, or memory ran out
+abbrev pub TellsLoad : {W : Type 0} → sinks.Ghosts W → ℕ → ℕ → W → W → ℕ → Type 0
+TellsLoad w number count old new status =
+    IsPutOut w (tally_line (tally number count)) old new status ⊎ RunsOut w old new status
