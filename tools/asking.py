@@ -5,6 +5,7 @@ import getpass
 import http.client
 import json
 import os
+import re
 import sys
 import typing
 import urllib.parse
@@ -15,8 +16,34 @@ PROXY = {401: "login or password is wrong", 403: "the login may not ask this", 4
          503: "no server behind the proxy", 504: "no reply behind the proxy"}
 
 
+# Where standard error is closed a note goes nowhere, and not to standard output.
+sys.stderr = sys.stderr or open(os.devnull, "w", encoding="utf-8")
+
+
 class Stop(Exception):
     """The status and the note with which a tool ends."""
+
+
+def run(name, main, stopped=(2, "stopped; the same words go on")):
+    """Runs a tool, and ends with its status; `stopped` is the one where somebody ends it at a terminal."""
+    try:
+        sys.exit(main())
+    except Stop as stop:
+        status, note = stop.args
+    except KeyboardInterrupt:
+        status, note = stopped
+    print(f"{name}: {note}", file=sys.stderr)
+    sys.exit(status)
+
+
+def say(text):
+    """Writes to standard output. Status 4 where it cannot be written."""
+    try:
+        if sys.stdout is None:
+            raise Stop(4, "standard output: closed")
+        print(text, end="", flush=True)
+    except OSError as fault:
+        raise Stop(4, f"standard output: {fault.strerror}") from None
 
 
 def words_of(name, about, epilog):
@@ -69,9 +96,8 @@ class Office:
         kind = http.client.HTTPSConnection if server.scheme == "https" else http.client.HTTPConnection
         self.link = kind(server.host, server.port, timeout=patience)
 
-    def ask(self, method, target, body=None):
-        """The status of the reply and its body, an object. Status 2 where there is no reply, or none of the program."""
-        sent = None if body is None else json.dumps(body, separators=(",", ":")).encode()
+    def exchange(self, method, target, sent=None):
+        """The status of the reply, its content type and the bytes of its body. Status 2 where there is no reply."""
         try:
             self.link.request(method, target, sent, self.fields)
             reply = self.link.getresponse()
@@ -82,17 +108,67 @@ class Office:
             raise Stop(2, f"no reply from {self.name} to {method} {target}: {how}") from None
         if reply.status == 501:
             self.link.close()
+        return reply.status, reply.getheader("content-type", ""), said
+
+    def object_of(self, method, target, status, said):
+        """The body of a reply, an object. Status 2 where it is none of the program."""
         try:
             found = json.loads(said)
-        except ValueError:
+            if b"\\u" in said:
+                json.dumps(found, ensure_ascii=False).encode()  # half a pair of code units is no character
+        except (ValueError, RecursionError):
             found = None
-        if not isinstance(found, dict) and reply.status in PROXY:
-            raise Stop(2, f"{self.name} refuses {method} {target}: {reply.status} {PROXY[reply.status]}")
+        if not isinstance(found, dict) and status in PROXY:
+            raise Stop(2, f"{self.name} refuses {method} {target}: {status} {PROXY[status]}")
         if not isinstance(found, dict):
-            raise Stop(2, f"what answers at {self.name} is not the program: {method} {target} has status {reply.status}")
-        return reply.status, found
+            raise Stop(2, f"what answers at {self.name} is not the program: {method} {target} has status {status}")
+        return found
+
+    def ask(self, method, target, body=None):
+        """The status of the reply and its body, an object. Status 2 where there is no reply, or none of the program."""
+        sent = None if body is None else json.dumps(body, separators=(",", ":")).encode()
+        status, _, said = self.exchange(method, target, sent)
+        return status, self.object_of(method, target, status, said)
+
+    def ask_csv(self, target):
+        """The status of the reply and its body: where it is 200 the text of a CSV, else an object."""
+        status, kind, said = self.exchange("GET", target)
+        if status == 200 and kind.partition(";")[0].strip().lower() == "text/csv":
+            try:
+                return status, said.decode()
+            except ValueError:
+                raise Stop(2, f"what answers at {self.name} is not the program: GET {target} is not UTF-8") from None
+        if status == 200:
+            raise Stop(2, f"what answers at {self.name} is not the program: GET {target} is no CSV")
+        return status, self.object_of("GET", target, status, said)
+
+
+def text_in(found, name):
+    """A text of a reply, on one line. Status 2 where it is none."""
+    text = found.get(name)
+    if not isinstance(text, str) or not text.isprintable():
+        raise Stop(2, f"a reply is none of the program: its {name} is {json.dumps(text)[:80]}")
+    return text
+
+
+def number_in(found, name, kind=int):
+    """A whole number of a reply, which stands there as a number, or as a text of digits. Status 2 where it is none."""
+    value = found.get(name)
+    if not isinstance(value, kind) or isinstance(value, bool) or not re.fullmatch("0|[1-9][0-9]{0,38}", str(value), re.ASCII):
+        raise Stop(2, f"a reply is none of the program: its {name} is {json.dumps(value)[:80]}")
+    return int(value)
+
+
+def meters_in(found):
+    """The class, byte-milliseconds, early ones and moves of each class of a bucket. Status 2 where a reply has none."""
+    classes = found.get("classes")
+    if not isinstance(classes, list) or not classes or not all(isinstance(it, dict) for it in classes):
+        raise Stop(2, "a reply is none of the program: it has no list of classes")
+    return [(text_in(it, "class"), number_in(it, "byte_ms", str), number_in(it, "early_byte_ms", str), number_in(it, "moves"))
+            for it in classes]
 
 
 def reason(status, found):
     """A refusal in words."""
-    return f"{status} {found.get('error', 'without a reason')}"
+    error = found.get("error")
+    return f"{status} {error if isinstance(error, str) and error.isprintable() else 'without a reason'}"

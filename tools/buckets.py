@@ -5,7 +5,7 @@ import os
 import pathlib
 import subprocess
 
-from asking import Stop
+from asking import Stop, say
 
 
 def add_names(words):
@@ -36,10 +36,7 @@ def names_of(given):
 def write(text, out):
     """Puts the text in place of the file, whole; - is standard output."""
     if out == "-":
-        try:
-            print(text, end="", flush=True)
-        except OSError as fault:
-            raise Stop(4, f"standard output: {fault.strerror}") from None
+        say(text)
         return
     part = f"{out}.part"
     if os.path.exists(out) and not os.path.isfile(out):

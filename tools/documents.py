@@ -1,7 +1,9 @@
 """Reads lifecycle configurations as other programs print them, and says what this program does not have, for lifecycle."""
 import ast
+import bisect
 import datetime
 import json
+import json.scanner
 import re
 import sys
 
@@ -14,6 +16,27 @@ MODE, DEFAULT_MODE = "TransitionDefaultMinimumObjectSize", "all_storage_classes_
 ENVELOPE = ("ResponseMetadata", "Bucket", "ExpectedBucketOwner", "ChecksumAlgorithm", "ContentMD5")
 # A moment as boto3 shows it where its reply is printed and not written as JSON; tzlocal() is the zone of this machine.
 SHOWN = re.compile(r"datetime\.datetime\((\d+), (\d+), (\d+), (\d+), (\d+), tzinfo=[\w.]*(utc|tzlocal)(?:\(\))?\)")
+
+
+class Text(str):
+    """A text in a JSON file, which knows its line."""
+    line = None
+
+
+class Lines(json.JSONDecoder):
+    """Reads JSON whose texts know their lines."""
+
+    def __init__(self, text):
+        super().__init__()
+        ends = [place for place, it in enumerate(text) if it == "\n"]
+
+        def placed(read, end, strict):
+            found, after = json.decoder.scanstring(read, end, strict)
+            found = Text(found)
+            found.line = bisect.bisect_left(ends, end) + 1
+            return found, after
+        self.parse_string = placed
+        self.scan_once = json.scanner.py_make_scanner(self)
 
 
 def text_of(path):
@@ -38,7 +61,7 @@ def moment_shown(found):
 def value_of(path, text):
     """What a text says: JSON, or a reply of boto3 as Python prints it."""
     try:
-        return json.loads(text)
+        return Lines(text).decode(text)
     except (ValueError, RecursionError) as fault:
         why = fault
     if text.lstrip()[:2] in ("{'", "['", "[{"):
@@ -49,18 +72,26 @@ def value_of(path, text):
     raise Stop(3, f"{path}: no JSON: {why}")
 
 
+def rules_of_terraform(path, found, bucket, address):
+    """The document in a state or a plan of Terraform."""
+    resources = resources_of(found)
+    if address:
+        chosen = [it for it in resources if it["address"] == address]
+    else:
+        chosen = resources if len(resources) == 1 else [it for it in resources if it["values"].get("bucket") == bucket]
+    if len(chosen) != 1:
+        known = ", ".join(it["address"] for it in resources) or "none"
+        raise Stop(3, f"{path}: which lifecycle configuration? Name it with --resource; there are: {known}")
+    return configuration_of(chosen[0]["values"])
+
+
 def rules_in(path, found, bucket, address):
     """The document in what a file says, without its envelope."""
     if isinstance(found, dict) and "format_version" in found:
-        resources = resources_of(found)
-        if address:
-            chosen = [it for it in resources if it["address"] == address]
-        else:
-            chosen = resources if len(resources) == 1 else [it for it in resources if it["values"].get("bucket") == bucket]
-        if len(chosen) != 1:
-            known = ", ".join(it["address"] for it in resources) or "none"
-            raise Stop(3, f"{path}: which lifecycle configuration? Name it with --resource; there are: {known}")
-        return configuration_of(chosen[0]["values"])
+        try:
+            return rules_of_terraform(path, found, bucket, address)
+        except (AttributeError, KeyError, TypeError, ValueError):
+            raise Stop(3, f"{path}: this is no state and no plan as `terraform show -json` prints them") from None
     if isinstance(found, list):
         found = {"Rules": found}
     if isinstance(found, dict):
@@ -99,8 +130,12 @@ def in_utc(text):
         return text
 
 
+def line_of(text):
+    return f"line {text.line}: " if isinstance(text, Text) else ""
+
+
 def missing(found, place=""):
-    """What this program does not have, each with its place."""
+    """What this program does not have, each with its place, and its line where it has one."""
     if isinstance(found, list):
         for number, it in enumerate(found):
             yield from missing(it, f"{place}[{number}]")
@@ -109,9 +144,9 @@ def missing(found, place=""):
         if name == "StorageClass" and isinstance(it, str) and it not in CLASSES:
             why = {"INTELLIGENT_TIERING": "objects move in it by reads, which are not seen here",
                    "STANDARD": "nothing moves to it"}.get(it, f"the classes to move to are {', '.join(CLASSES)}")
-            yield f"{at}: {it!r}: {why}"
+            yield f"{line_of(it)}{at}: {it!r}: {why}"
         elif name == "Date" and isinstance(it, str) and re.match(r"(2[1-9]|[3-9]\d)\d\d-", it):
-            yield f"{at}: {it!r}: the last day is 2099-12-31"
+            yield f"{line_of(it)}{at}: {it!r}: the last day is 2099-12-31"
         elif name in ("Transition", "NoncurrentVersionTransition"):
             yield f"{at}: of the older XML API; write the list {name}s"
         else:
@@ -134,8 +169,9 @@ def filter_of(rule):
         return found
     found = dict(found.get("And", found))
     tags = found.pop("Tags", [])
-    if isinstance(tags, list) and all(isinstance(it, dict) for it in tags):
-        tags = sorted(tags, key=lambda it: str(it.get("Key")))
+    if not isinstance(tags, list) or not all(isinstance(it, dict) for it in tags):
+        return rule["Filter"]
+    tags = sorted(tags, key=lambda it: str(it.get("Key")))
     if not found.get("Prefix"):
         found.pop("Prefix", None)
     if len(found) + len(tags) > 1:

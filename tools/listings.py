@@ -13,6 +13,7 @@ from asking import Stop
 CURRENT, NONCURRENT, MARKER, SECOND = "objects", "noncurrent versions", "delete markers", "second rows of a key"
 LEFT_OUT = (NONCURRENT, MARKER, SECOND)
 FIRST = datetime.datetime(1, 1, 1, tzinfo=datetime.timezone.utc)
+PARTS = ("Versions", "Contents", "DeleteMarkers")
 OTHER_FORMATS = {b"ORC": "ORC", b"PAR1": "Parquet", b"PK": "a zip archive"}
 
 
@@ -94,8 +95,8 @@ def read_csv(path, text, given):
             latest = field.get("islatest", "").strip().lower() != "false"
             kind = MARKER if is_true(field.get("isdeletemarker", "")) else CURRENT if latest else NONCURRENT
             size = field["size"].strip()
-            if kind != MARKER and not (size.isascii() and size.isdigit()):
-                raise Stop(3, f"{where}: the size is {size!r}")
+            if kind != MARKER and not (size.isascii() and size.isdigit() and len(size) < 40):
+                raise Stop(3, f"{where}: the size is {size[:40]!r}")
             bucket = field.get("bucket") or given.bucket
             if not bucket or (given.bucket and bucket != given.bucket):
                 raise Stop(3, f"{where}: the bucket is {bucket!r}, and --bucket is {given.bucket!r}")
@@ -118,14 +119,18 @@ def read_json(path, text, given):
     if found.get("IsTruncated") or found.get("NextToken") or found.get("CommonPrefixes"):
         raise Stop(3, f"{path}: the listing is not whole; list again without --no-paginate, --max-items and --delimiter")
     bucket = found.get("Name") or given.bucket
+    if not isinstance(bucket, (str, type(None))) or not all(isinstance(found.get(it) or [], list) for it in PARTS):
+        raise Stop(3, f"{path}: this is no listing of versions: its Name is no text, or one of {', '.join(PARTS)} is no list")
     if not bucket or (given.bucket and bucket != given.bucket):
         raise Stop(3, f"{path}: " + (f"the listing is of '{bucket}'" if bucket else "which bucket? Give --bucket NAME"))
     yield Row(bucket, None, None, None, CURRENT, path)
-    for part in ("Versions", "Contents", "DeleteMarkers"):
+    for part in PARTS:
         for place, it in enumerate(found.get(part) or [], 1):
             where = f"{path}: {part} {place}"
             if not isinstance(it, dict) or not isinstance(it.get("Key"), str):
                 raise Stop(3, f"{where}: without a Key")
+            if not all(isinstance(it.get(name) or "", str) for name in ("VersionId", "StorageClass")):
+                raise Stop(3, f"{where}: its VersionId or StorageClass is no text")
             latest = it.get("IsLatest") is not False
             kind = MARKER if part == "DeleteMarkers" else CURRENT if latest else NONCURRENT
             size = it.get("Size")

@@ -1,4 +1,6 @@
 """What the program refuses of a lifecycle configuration, in words, for lifecycle."""
+from asking import reason
+
 CONDITIONS = {
     20: "there are more than 1,000 rules",
     21: "its id has more than 255 characters",
@@ -52,9 +54,11 @@ def whose(found, rules):
 
 def in_words(status, found, document):
     """A refusal, with the id of the rule that it is about."""
-    code = f"({status} {found.get('error', 'without a reason')}, number {found.get('number', 'none')})"
+    if not isinstance(found.get("number"), int):
+        return f"refused: {reason(status, found)}"
+    code = f"({reason(status, found)}, number {found['number']})"
     rules, place = (document or {}).get("Rules", []), found.get("rule")
-    if found.get("number") in CONDITIONS:
+    if found["number"] in CONDITIONS:
         why = CONDITIONS[found["number"]]
         if isinstance(place, int) and 0 < place <= len(rules):
             return f"refused: rule {rules[place - 1].get('ID') or f'rule-{place}'!r}, the {place}. of {len(rules)}: {why} {code}"

@@ -2,7 +2,7 @@
 import datetime
 import urllib.parse
 
-from asking import reason
+from asking import meters_in, number_in, reason, text_in
 
 HELP = {
     "office_up": "Whether the server of the office gave replies.",
@@ -22,9 +22,9 @@ def label(text):
     return '"' + text.replace("\\", "\\\\").replace('"', '\\"').replace("\n", "\\n") + '"'
 
 
-def seconds(text):
+def seconds(byte_ms):
     """Byte-milliseconds as byte-seconds, without rounding."""
-    digits = text.rjust(4, "0")
+    digits = str(byte_ms).rjust(4, "0")
     return f"{digits[:-3]}.{digits[-3:]}"
 
 
@@ -55,13 +55,13 @@ class Reading:
                 return self.add("office_bucket_up", 0, bucket=name)
         self.add("office_bucket_up", 1, bucket=name)
         for field in ("versions", "rules", "uploads"):
-            self.add(f"office_bucket_{field}", replies[0][1][field], bucket=name)
+            self.add(f"office_bucket_{field}", number_in(replies[0][1], field), bucket=name)
         for _, found in replies[1:]:
-            for it in found["classes"]:
-                labels = {"bucket": name, "class": it["class"], "month": found["month"]}
-                self.add("office_storage_byte_seconds_total", seconds(it["byte_ms"]), **labels)
-                self.add("office_early_deletion_byte_seconds_total", seconds(it["early_byte_ms"]), **labels)
-                self.add("office_transitions_total", it["moves"], **labels)
+            for storage_class, stored, early, moves in meters_in(found):
+                labels = {"bucket": name, "class": storage_class, "month": text_in(found, "month")}
+                self.add("office_storage_byte_seconds_total", seconds(stored), **labels)
+                self.add("office_early_deletion_byte_seconds_total", seconds(early), **labels)
+                self.add("office_transitions_total", moves, **labels)
 
     def text(self):
         lines = []

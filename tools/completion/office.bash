@@ -5,10 +5,17 @@ _office() {
     COMPREPLY=()
     # readline cuts words at '=' and ':' too.
     if [ "$COMP_CWORD" = 1 ]; then
-        mapfile -t COMPREPLY < <(compgen -W 'init run serve' -- "$word")
+        mapfile -t COMPREPLY < <(compgen -W 'init run serve report explain gen' -- "$word")
         return
     fi
-    [ "${COMP_WORDS[1]}" = serve ] || return
+    if [ "${COMP_WORDS[1]}" = report ]; then
+        mapfile -t COMPREPLY < <(compgen -W '--text' -- "$word")
+        return
+    fi
+    case ${COMP_WORDS[1]} in
+    serve | explain) ;;
+    *) return ;;
+    esac
     case $before in
     --listen)
         mapfile -t COMPREPLY < <(compgen -W '127.0.0.1:8080 [::1]:8080' -- "$word")
@@ -21,7 +28,9 @@ _office() {
     --connections | = | :) return ;;
     esac
     # Each option is given at most once.
-    for option in --listen --workers --connections; do
+    local options='--listen --workers --connections'
+    [ "${COMP_WORDS[1]}" = serve ] || options=--workers
+    for option in $options; do
         case " ${COMP_WORDS[*]:2:COMP_CWORD-2} " in
         *" $option "*) ;;
         *) left="$left $option" ;;
@@ -35,7 +44,7 @@ _office_tool() {
     local word=${COMP_WORDS[COMP_CWORD]} before=${COMP_WORDS[COMP_CWORD - 1]} choices=
     COMPREPLY=()
     case $before in
-    --to)
+    --to | --server)
         mapfile -t COMPREPLY < <(compgen -W 'http://127.0.0.1:8080' -- "$word")
         return
         ;;
@@ -46,7 +55,8 @@ _office_tool() {
     --bucket | --most | --resource | --schema | --suspended | = | :) return ;;
     esac
     case $word,$1 in
-    -*,office-act-all) choices='--to --bucket --buckets --journal --most --dry-run --help' ;;
+    -*,office-act-all) choices='--to --run --bucket --buckets --journal --most --dry-run --help' ;;
+    -*,office-month-end) choices='--server --bucket --buckets --journal --most --folder --help' ;;
     -*,office-lifecycle) choices='--to --bucket --resource --yes --help' ;;
     -*,office-import-inventory)
         choices='--to --out --schema --bucket --keys --current --suspended --names --state --help'
@@ -66,4 +76,4 @@ _office_tool() {
 }
 
 complete -F _office office
-complete -F _office_tool office-act-all office-lifecycle office-import-inventory
+complete -F _office_tool office-act-all office-month-end office-lifecycle office-import-inventory

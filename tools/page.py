@@ -1,0 +1,93 @@
+"""The HTML of what a month used and costs, for usage-page."""
+import html
+
+from entries import CLASSES
+from months import gib_months
+
+STYLE = """\
+:root { color-scheme: light dark; font: 16px/1.4 system-ui, sans-serif }
+body { margin: 2rem auto; max-width: 72rem; padding: 0 1rem }
+table { border-collapse: collapse; margin: 2rem 0; width: 100% }
+caption { font-size: 1.2rem; font-weight: 600; padding: .5rem 0; text-align: left }
+th, td { border-bottom: 1px solid #8886; padding: .3rem .6rem; text-align: left; overflow-wrap: anywhere }
+th.n, td.n { font-variant-numeric: tabular-nums; text-align: right; white-space: nowrap }
+tfoot th, tfoot td { border-top: 2px solid; font-weight: 600 }
+meter { width: 8rem }
+@media print { body { margin: 0; max-width: none } }
+"""
+
+
+def grouped(number):
+    """A number with its exact value beside it, for readers that are programs."""
+    return f'<data value="{number}">{number:,}</data>'
+
+
+def months(byte_ms, month):
+    """Byte-milliseconds in GiB-months."""
+    value = gib_months(byte_ms, month)
+    whole, _, rest = value.partition(".")
+    return f'<data value="{value}">{int(whole):,}.{rest}</data>'
+
+
+def share(charge, total):
+    """How much of the total a charge is, as a bar."""
+    permille = charge * 1000 // total if total else 0
+    return f'<meter min="0" max="1000" value="{permille}">{permille / 10}%</meter>'
+
+
+def cells(texts, numbers):
+    """A row: texts that are escaped here, and numbers that are spelled already."""
+    first, *rest = (html.escape(it) for it in texts)
+    return (f'<tr><th scope="row">{first}</th>' + "".join(f"<td>{it}</td>" for it in rest)
+            + "".join(f'<td class="n">{it}</td>' for it in numbers) + "</tr>\n")
+
+
+def table(name, caption, texts, numbers, rows, foot):
+    """A table with columns of texts and of numbers; `foot` is its last row."""
+    head = "".join(f'<th scope="col">{it}</th>' for it in texts) + "".join(f'<th scope="col" class="n">{it}</th>' for it in numbers)
+    return (f'<table id="{name}">\n<caption>{html.escape(caption)}</caption>\n<thead><tr>{head}</tr></thead>\n'
+            f"<tbody>\n{''.join(rows)}</tbody>\n<tfoot>{foot}</tfoot>\n</table>\n")
+
+
+def sums(names, of, report, meters):
+    """By name what was stored, early, moved and charged; `of` is the place of the name in a meter's bucket and class."""
+    found = {name: [0, 0, 0, 0] for name in names}
+    for key, it in meters.items():
+        for place, quantity in enumerate(it):
+            found[key[of]][place] += quantity
+    for line in report.lines:
+        found[(line.bucket, line.storage_class)[of]][3] += line.charge
+    return found
+
+
+def summary(name, caption, column, found, total, month):
+    """A table of sums by name, with their own sum last."""
+    def numbers(stored, early, moves, charge):
+        return [months(stored, month), months(early, month), grouped(moves), grouped(charge), share(charge, total)]
+    rows = [cells([it], numbers(*of)) for it, of in found.items()]
+    whole = [sum(it[place] for it in found.values()) for place in range(4)]
+    return table(name, caption, [column], ["stored, GiB-months", "early, GiB-months", "moves", "charge", "share"],
+                 rows, cells(["total"], numbers(*whole)))
+
+
+def page_of(month, report, meters):
+    """The page, whole."""
+    buckets = sorted({it for it, _ in meters}, key=str.encode)
+    used = {it for _, it in meters}
+    classes = [it for it in CLASSES if it in used] + sorted(used - set(CLASSES))
+    lines = [cells([line.bucket, line.kind, line.storage_class], map(grouped, (line.quantity, line.price, line.charge)))
+             for line in report.lines]
+    by_bucket, by_class = (sums(names, of, report, meters) for of, names in enumerate((buckets, classes)))
+    return (f'<!DOCTYPE html>\n<html lang="en">\n<head>\n<meta charset="utf-8">\n'
+            "<meta http-equiv=\"Content-Security-Policy\" content=\"default-src 'none'; style-src 'unsafe-inline'\">\n"
+            '<meta name="viewport" content="width=device-width, initial-scale=1">\n'
+            f"<title>Storage in {month}</title>\n<style>\n{STYLE}</style>\n</head>\n<body>\n"
+            f'<h1>Storage in <time datetime="{month}">{month}</time></h1>\n'
+            f'<p>Charge: <strong id="total">{grouped(report.total)}</strong> units. Buckets with use: {len(buckets)}. A GiB-month is '
+            "2<sup>30</sup> bytes for the days of this month; early is what is owed for objects that left their class too early.</p>\n"
+            + summary("buckets", "By bucket", "bucket", by_bucket, report.total, month)
+            + summary("classes", "By storage class", "class", by_class, report.total, month)
+            + table("lines", "Lines of the report", ["bucket", "line", "class"],
+                    ["quantity (byte-milliseconds, moves)", "price", "charge"], lines,
+                    cells(["total", "", ""], ["", "", grouped(report.total)]))
+            + "</body>\n</html>\n")

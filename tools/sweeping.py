@@ -1,0 +1,90 @@
+"""Does what is due in buckets, action by action, and counts it; for act-all and month-end."""
+import argparse
+import json
+import sys
+import time
+import urllib.parse
+
+from asking import Stop, reason
+
+KINDS = ("remove", "transition", "marker", "abort")
+
+
+class Sweep:
+    """What is counted on the way over the buckets."""
+
+    def __init__(self, tool, names):
+        self.tool, self.names, self.done, self.refused, self.left = tool, names, 0, 0, []
+        self.counts, self.begun = dict.fromkeys(KINDS, 0), time.monotonic()
+        self.told = self.begun
+
+    def note(self, text):
+        print(f"{self.tool}: {text}", file=sys.stderr, flush=True)
+
+    def refuse(self, name, status, found):
+        """A refusal of one bucket; a fault of the server ends all."""
+        if status in (500, 501, 503):
+            raise Stop(2, f"bucket {name}: {reason(status, found)}")
+        self.refused += 1
+        self.note(f"bucket {name}: {reason(status, found)}")
+
+    def count(self, found):
+        if found.get("action") not in KINDS:
+            raise Stop(2, f"a reply is none of the program: {json.dumps(found)[:80]}")
+        self.counts[found["action"]] += 1
+
+    def told_now(self):
+        """How far it is, in one line."""
+        actions, seconds = sum(self.counts.values()), max(time.monotonic() - self.begun, 0.001)
+        kinds = ", ".join(f"{kind} {count}" for kind, count in self.counts.items())
+        return (f"{self.done} of {len(self.names)} buckets, refused {self.refused}; actions {actions}: {kinds}; "
+                f"{actions / seconds:.0f} a second")
+
+    def tell(self):
+        """Says every two seconds at a terminal how far it is."""
+        if sys.stderr.isatty() and time.monotonic() > self.told + 2:
+            self.told = time.monotonic()
+            self.note(self.told_now())
+
+
+def target_of(name, word):
+    return f"/buckets/{urllib.parse.quote(name, safe='')}/{word}"
+
+
+def act(office, sweep, name, most):
+    """Does what is due in one bucket, at most so many actions."""
+    for done in range(most + 1):
+        # At the bound it is only asked whether more is due.
+        status, found = office.ask(*(("POST", target_of(name, "act")) if done < most else ("GET", target_of(name, "due"))))
+        if status != 200:
+            return sweep.refuse(name, status, found)
+        if found.get("action") == "none":
+            break
+        if done == most:
+            sweep.left.append(name)
+        else:
+            sweep.count(found)
+        sweep.tell()
+    sweep.done += 1
+
+
+def act_on_all(office, sweep, most):
+    """Does what is due in all buckets of the sweep, and says at the end, however it comes, what was done."""
+    try:
+        for name in sweep.names:
+            act(office, sweep, name, most)
+    finally:
+        left = f"; more is due in {', '.join(sweep.left)}" if sweep.left else ""
+        sweep.note(sweep.told_now() + left)
+
+
+def count_of(text):
+    if not (text.isascii() and text.isdigit() and int(text) > 0):
+        raise argparse.ArgumentTypeError(f"'{text}' is no number from 1 on")
+    return int(text)
+
+
+def add_most(words):
+    """The word that bounds a sweep."""
+    words.add_argument("--most", metavar="N", type=count_of, default=1_000_000,
+                       help="at most so many actions of a bucket; 1000000 if not given")
