@@ -43,6 +43,13 @@ sleep 2
 example meters.http
 check 'two seconds later' "$(quantity byte_ms STANDARD 2147483648)" 2000 120000
 check 'what is owed stays' "$(quantity early_byte_ms STANDARD_IA 1073741824)" 2591940000 2592000000
+example bill.http
+check 'prices are set' "$(grep -a -c '{"tariff":"set"}' said)" 1 1
+"$program" report "$(date -u +%Y-%m)" >said
+check 'status of report' "$?" 0 0
+check 'charge of what 1 GiB in STANDARD_IA owes' "$(sed -n 's/^backups,early,STANDARD_IA,.*,12500,//p' said)" 12000 13500
+"$program" explain >said
+check 'stays' "$(grep -a -c '^backups,monday.tar,v:null,' said)" 2 2
 check 'files' "$(cd office-data && echo journal check.0 check.1 | xargs ls | grep -c .)" 3 3
 
 echo "$passed passed, $failed failed"

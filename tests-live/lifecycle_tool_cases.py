@@ -104,9 +104,14 @@ def cases(to, client):
     status, _, notes = run("boto", "--yes", "set", file("wrong.json", wrong))
     check("what the program does not have, status", 6, status)
     check("what the program does not have, each with its place", [
-        "lifecycle: Rules[0].Transitions[0].StorageClass: 'INTELLIGENT_TIERING': objects move in it by reads, which are not seen here",
-        "lifecycle: Rules[0].Transitions[1].StorageClass: 'COLD': the classes to move to are STANDARD_IA, ONEZONE_IA, GLACIER_IR, GLACIER, "
-        "DEEP_ARCHIVE", "lifecycle: Rules[1].Expiration.Date: '2100-01-01T00:00:00Z': the last day is 2099-12-31"], notes.splitlines()[:3])
+        "lifecycle: line 1: Rules[0].Transitions[0].StorageClass: 'INTELLIGENT_TIERING': objects move in it by reads, which are not seen here",
+        "lifecycle: line 1: Rules[0].Transitions[1].StorageClass: 'COLD': the classes to move to are STANDARD_IA, ONEZONE_IA, GLACIER_IR, "
+        "GLACIER, DEEP_ARCHIVE", "lifecycle: line 1: Rules[1].Expiration.Date: '2100-01-01T00:00:00Z': the last day is 2099-12-31"],
+          notes.splitlines()[:3])
+    text = json.dumps(wrong, indent=1)
+    notes = run("boto", "--yes", "set", file("lines.json", text))[2].splitlines()
+    check("each with its line", [[place + 1 for place, it in enumerate(text.splitlines()) if value in it]
+                                 for value in ("INTELLIGENT", "COLD", "2100")], [[int(it.split()[2][:-1])] for it in notes[:3]])
     check("nothing was sent", ["d"], ids("boto"))
     refused = (({"ID": "a", "Status": "Enabled"}, "rule 'a', the 1. of 1: it has no action (400 NoAction, number 23)"),
                ({**RULE, "Expire": {}}, "in rule 'logs': there is no field 'Expire' (400 UnknownField, number 41)"),

@@ -38,7 +38,7 @@ if has man && man --warnings -l "$page" >shown 2>warned && grep -q . shown; then
     check 'man --warnings' '' "$(cat warned)"
 fi
 check 'each status of docs/FORMATS.md is in the man page' \
-    "$(sed -n '/^## Statuses/,/^## Versions/s/^| \([0-9][0-9]*\) |.*/\1/p' "$root/docs/FORMATS.md" | tr '\n' ' ')" \
+    "$(sed -n '/^## Statuses/,/^## [A-RT-Z]/s/^| \([0-9][0-9]*\) |.*/\1/p' "$root/docs/FORMATS.md" | tr '\n' ' ')" \
     "$(sed -n 's/^\.It \([0-9][0-9]*\)$/\1/p' "$page" | tr '\n' ' ')"
 
 # The status of the program with these words, in a folder without a journal: 1 where they are no command line.
@@ -55,7 +55,7 @@ if has bash; then
         bash -c '. "$0"; COMP_WORDS=("$@"); COMP_CWORD=$(($# - 1)); _office; echo "${COMPREPLY[*]}"' \
             "$root/tools/completion/office.bash" "$@"
     }
-    check 'bash: words' 'init run serve' "$(complete_bash office '')"
+    check 'bash: words' 'init run serve report explain gen' "$(complete_bash office '')"
     check 'bash: a word begun' 'serve' "$(complete_bash office s)"
     check 'bash: options' '--listen --workers --connections' "$(complete_bash office serve '')"
     check 'bash: options that are left' '--workers --connections' "$(complete_bash office serve --listen 127.0.0.1:1 '')"
@@ -66,15 +66,17 @@ if has bash; then
             "$root/tools/completion/office.bash" "$@"
     }
     check 'bash: words of a tool' 'get set add edit remove' "$(complete_tool office-lifecycle --bucket logs '' | tr -d '\n')"
-    for tool in act-all lifecycle import-inventory; do
+    for tool in act-all month-end lifecycle import-inventory; do
         for option in $(complete_tool "office-$tool" --); do
             check "$tool knows $option" yes "$("$root/tools/$tool" --help | grep -q -e "$option" && echo yes)"
         done
     done
+    check 'bash: options of report' '--text' "$(complete_bash office report 2026-11 '')"
+    check 'bash: options of explain' '--workers' "$(complete_bash office explain '')"
     check 'bash: nothing behind run' '' "$(complete_bash office run '')"
     for word in $(complete_bash office ''); do
         case $word in
-        serve) ;;
+        serve | report | gen) ;;
         *) check "the program knows $word" no "$([ "$(status_of "$word")" = 1 ] && echo yes || echo no)" ;;
         esac
         rm -rf none
@@ -97,7 +99,7 @@ if has zsh; then
     shows() {
         timeout 20 zsh -f "$root/tests-live/complete.zsh" "$root/tools/completion" "$@"
     }
-    check 'zsh: words' 1 "$(shows '' 'serve  -- answer the requests' | grep -c -e 'serve  -- answer the requests')"
+    check 'zsh: words' 1 "$(shows '' 'serve    -- answer the requests' | grep -c -e 'serve    -- answer the requests')"
     check 'zsh: an option begun' 1 "$(shows 'serve --c' 'serve --connections' | grep -c -e 'serve --connections')"
     check 'zsh: nothing behind run' 0 "$(shows 'run ' '' | grep -c -e '--')"
 fi

@@ -47,9 +47,18 @@ if ! openssl req -x509 -newkey rsa:2048 -nodes -days 1 -subj /CN=office.example 
     echo 'skipped: openssl makes no certificate here'
     exit 0
 fi
+# Starts the server behind, and waits until it answers.
+start() {
+    "$program" serve --listen "127.0.0.1:$behind" --workers 1 2>notes &
+    server=$!
+    for _ in 1 2 3 4 5 6 7 8 9 10 11 12 13 14 15 16 17 18 19 20; do
+        curl --silent --noproxy '*' --output reply "http://127.0.0.1:$behind/buckets/none" && break
+        sleep 0.1
+    done
+}
+
 "$program" init >said
-"$program" serve --listen "127.0.0.1:$behind" --workers 1 2>notes &
-server=$!
+start
 check 'nginx -t' 0 "$(nginx -p "$work" -c "$work/nginx.conf" -t 2>tested; echo $?)"
 nginx -p "$work" -c "$work/nginx.conf" -g 'daemon off;' 2>noted &
 proxy=$!
@@ -84,6 +93,10 @@ for who in anna:secret-of-anna:201:201:200:200 ben:secret-of-ben:403:403:200:200
         ask "$login" "$at/meters/$month")"
 done
 check 'what was put is there once' '"versions":1' "$(ask anna:secret-of-anna "$at" >code; grep -o '"versions":[0-9]*' reply)"
+root_at=https://office.example:$front
+check 'billing reads a report, as the program answers without prices' 409 "$(ask clerk:secret-of-clerk "$root_at/months/$month/report")"
+check 'billing closes no month and sets no prices' '403 403' \
+    "$(ask clerk:secret-of-clerk -X POST "$root_at/months/$month/close") $(ask clerk:secret-of-clerk -X PUT "$root_at/tariff")"
 check 'billing by a path that nginx reads as meters' 403 "$(ask clerk:secret-of-clerk "$at/objects/../meters/$month")"
 check 'billing with a query behind the path' 403 "$(ask clerk:secret-of-clerk "$at/meters/$month?x")"
 check 'reading with a method of its own' 403 "$(ask ben:secret-of-ben -X PATCH "$at")"
@@ -138,9 +151,7 @@ kill "$slow" 2>/dev/null
 kill -9 "$server"
 wait "$server" 2>/dev/null
 check 'a server that was killed' 502 "$(ask ben:secret-of-ben "$at")"
-"$program" serve --listen "127.0.0.1:$behind" --workers 1 2>notes &
-server=$!
-sleep 0.3
+start
 check 'and started again' 200 "$(ask ben:secret-of-ben "$at")"
 check 'the log has who asked, twice' 2 "$(grep -c " clerk \"GET /buckets/logs/meters/$month\" 200 " access.log)"
 

@@ -1,82 +1,40 @@
 #!/usr/bin/env python3
 """Stands in for the program where it is not built, for the cases of the tools: `init`, and `serve --listen HOST:PORT`.
 
-It answers a part of the requests of docs/FORMATS.md by the plain model of plain_office.py, and keeps nothing on disk.
+It answers a part of the requests of docs/FORMATS.md by the plain models of plain_office.py and plain_months.py. It reads the
+journal of its folder where there is one, which the cases spelled by hand, and writes nothing to it.
 """
-import datetime
 import http.server
 import json
 import pathlib
 import re
 import sys
+import threading
 import time
+import types
 import urllib.parse
 
 sys.dont_write_bytecode = True
 from model_words import configuration, stack_of  # noqa: E402
+from plain_months import Months, tariff_of  # noqa: E402
 from plain_office import CLASSES, Bucket, Refused, text_of  # noqa: E402
+from stand_in_journal import replay  # noqa: E402
+from stand_in_rules import refuse, rule_of  # noqa: E402
 
-STATUS = {"NoSuchBucket": 404, "NoRules": 404, "NoSuchKey": 404, "NoSuchVersion": 404, "BucketExists": 409, "NotEnabledBefore": 409}
-buckets, last = {}, [0]
+STATUS = {"NoSuchBucket": 404, "NoRules": 404, "NoSuchKey": 404, "NoSuchVersion": 404, "BucketExists": 409, "NotEnabledBefore": 409,
+          "MonthNotOver": 409, "DueActions": 409, "AlreadyClosed": 409, "EarlierMonthOpen": 409, "NoTariff": 409,
+          "NotBuilt": 501}
+it_all = types.SimpleNamespace(buckets={}, months=Months(), last=0)
+buckets, months, turn = it_all.buckets, it_all.months, threading.Lock()
 
 
 def now():
     """The moment of the clock, which does not fall."""
-    last[0] = max(last[0], time.time_ns() // 1_000_000)
-    return last[0]
+    it_all.last = max(it_all.last, time.time_ns() // 1_000_000)
+    return it_all.last
 
 
-def refuse(error, number, **more):
-    raise Refused(error, number, more)
-
-
-def moment_of(text):
-    """A date of a rule; refused where it is past 2099."""
-    if not re.fullmatch(r"\d{4}-\d\d-\d\d(T00:00:00(\.0+)?(Z|[+-]00:00))?", text) or text[:4] > "2099":
-        refuse("NotADate", 2)
-    day = datetime.date.fromisoformat(text[:10])
-    return (day - datetime.date(1970, 1, 1)).days * 86_400_000
-
-
-def moved(target):
-    if target not in CLASSES:
-        refuse("UnsupportedClass", 43, name=target)
-    return target
-
-
-FIELDS = {"ID", "Status", "Prefix", "Filter", "Expiration", "Transitions", "NoncurrentVersionExpiration",
-          "NoncurrentVersionTransitions", "AbortIncompleteMultipartUpload"}
-
-
-def rule_of(place, found):
-    """A rule of a document as the model has it; only what the cases ask for is checked."""
-    for name in sorted(set(found) - FIELDS):
-        refuse("UnknownField", 41, name=name)
-    if found.get("Status") not in ("Enabled", "Disabled"):
-        refuse("WrongShape", 42, field="Status")
-    which = found.get("Filter", {"Prefix": found.get("Prefix", "")})
-    which = {**which, **which.get("And", {})}
-    rule = {"id": found.get("ID") or f"rule-{place}", "enabled": found["Status"] == "Enabled", "prefix": which.get("Prefix", ""),
-            "tags": [(it["Key"], it["Value"]) for it in [*which.get("Tags", []), *([which["Tag"]] if "Tag" in which else [])]],
-            "greater": which.get("ObjectSizeGreaterThan"), "less": which.get("ObjectSizeLessThan")}
-    ends = {name: value for name, value in found.get("Expiration", {}).items() if value is not False}
-    rule.update({"days": ends["Days"]} if "Days" in ends else {}, **({"date": moment_of(ends["Date"])} if "Date" in ends else {}))
-    if ends.get("ExpiredObjectDeleteMarker"):
-        rule["lone_marker"] = True
-    if "Transitions" in found:
-        rule["moves"] = [(it["Days"], moved(it["StorageClass"])) for it in found["Transitions"] if "Days" in it]
-        rule["date_moves"] = [(moment_of(it["Date"]), moved(it["StorageClass"])) for it in found["Transitions"] if "Date" in it]
-    if "NoncurrentVersionExpiration" in found:
-        gone = found["NoncurrentVersionExpiration"]
-        rule["noncurrent"] = (gone["NoncurrentDays"], gone.get("NewerNoncurrentVersions"))
-    if "AbortIncompleteMultipartUpload" in found:
-        rule["abort"] = found["AbortIncompleteMultipartUpload"]["DaysAfterInitiation"]
-    if len(rule) == 6:
-        refuse("NoAction", 23, rule=place)
-    return rule
-
-
-def rules_of(bucket, body):
+def rules_of(bucket, body, moment=None):
     for name in sorted(set(body) - {"Rules", "TransitionDefaultMinimumObjectSize"}):
         refuse("UnknownField", 41, name=name)
     if not isinstance(body.get("Rules"), list):
@@ -85,7 +43,7 @@ def rules_of(bucket, body):
     for place, rule in enumerate(rules):
         if rule["id"] in [it["id"] for it in rules[:place]]:
             refuse("DoubleId", 22, rule=place + 1)
-    bucket.rules, bucket.rules_since = rules, now()
+    bucket.rules, bucket.rules_since = rules, moment or now()
     bucket.mode = body.get("TransitionDefaultMinimumObjectSize", "all_storage_classes_128K")
     return 200, {"rules": len(rules)}
 
@@ -97,11 +55,32 @@ def key_of(rest):
         refuse("BadKey", 11)
 
 
+def month_of(text):
+    if not re.fullmatch(r"(19[7-9]\d|20\d\d)-(0[1-9]|1[0-2])", text):
+        refuse("NotAMonth", 4)
+    return text
+
+
+def ask_month(method, month, word):
+    """What is answered to the closing of a month, or its report."""
+    if (method, word) == ("POST", "close"):
+        return 200, months.close(month_of(month), buckets, now())
+    return (200, months.report(month_of(month), buckets, now())) if (method, word) == ("GET", "report") else refuse("NotBuilt", 119)
+
+
+def ask_tariff(method, sent):
+    """What is answered to new prices, or to the question for them."""
+    if method == "GET":
+        return (200, months.tariff) if months.tariff else refuse("NoTariff", 88)
+    months.tariff = tariff_of(sent.decode())
+    return 200, {"tariff": "set"}
+
+
 def ask(method, name, word, rest, body):
     """What is answered: a status, and a body."""
     if not re.fullmatch(r"[a-z0-9][a-z0-9.-]{1,61}[a-z0-9]", name):
         refuse("BadBucketName", 10)
-    key = key_of(rest) if word == "objects" else None
+    key = key_of(rest) if word == "objects" else month_of(rest) if word == "meters" else None
     if word == "objects" and method == "PUT" and body.get("size", 0) > 5 << 40:
         refuse("BadSize", 13)
     if word == "objects" and method == "PUT" and body.get("class", "STANDARD") not in CLASSES:
@@ -144,6 +123,7 @@ ROUTES = {
         key, body["size"], body.get("class", "STANDARD"), body.get("tags", {}), now())}),
     ("DELETE", "objects"): lambda it, name, key, _: (200, it.delete(key, now())),
     ("GET", "objects"): lambda it, name, key, _: (200, stack_of(it, key)) if key in it.stacks else refuse("NoSuchKey", 50),
+    ("GET", "meters"): lambda it, name, month, _: (200, {"bucket": name, "classes": it.meters(month, now()), "month": month}),
     ("POST", "act"): lambda it, *_: (200, it.act(now())), ("GET", "due"): lambda it, *_: (200, it.shown(it.choice(now()))),
 }
 
@@ -153,17 +133,27 @@ class Handler(http.server.BaseHTTPRequestHandler):
 
     def answer(self):
         sent = self.rfile.read(int(self.headers.get("Content-Length", 0)))
-        parts = self.path.split("/", 4)
-        name, word, rest = (*parts[2:], "", "")[:3]
+        first, name, word, rest = (*self.path.split("/", 4)[1:], "", "", "")[:4]
         try:
-            status, found = ask(self.command, name, word, rest, json.loads(sent or b"{}"))
+            with turn:
+                if first == "months":
+                    status, found = ask_month(self.command, name, word)
+                elif first == "tariff":
+                    status, found = ask_tariff(self.command, sent)
+                else:
+                    status, found = ask(self.command, name, word, rest, json.loads(sent or b"{}"))
+                if self.command != "GET" and found != {"action": "none"}:
+                    months.accepted(now())
         except Refused as refusal:
             error, number, *more = refusal.args
             status, found = STATUS.get(error, 400), {"error": error, "number": number, **(more[0] if more else {})}
         except KeyError:
             status, found = 501, {"error": "NotBuilt", "number": 119}
-        text = json.dumps(found, sort_keys=True, separators=(",", ":"), ensure_ascii=False).encode()
-        self.wfile.write(f"HTTP/1.1 {status} x\r\ncontent-type: application/json\r\ncontent-length: {len(text)}\r\n\r\n".encode() + text)
+        kind, text = "text/csv", found
+        if not isinstance(found, str):
+            kind, text = "application/json", json.dumps(found, sort_keys=True, separators=(",", ":"), ensure_ascii=False)
+        text = text.encode()
+        self.wfile.write(f"HTTP/1.1 {status} x\r\ncontent-type: {kind}\r\ncontent-length: {len(text)}\r\n\r\n".encode() + text)
 
     do_GET = do_PUT = do_POST = do_DELETE = answer
     log_message = staticmethod(lambda *_: None)
@@ -173,6 +163,9 @@ if sys.argv[1:2] == ["init"]:
     pathlib.Path("office-data").mkdir(exist_ok=True)
 elif sys.argv[1:3] == ["serve", "--listen"]:
     HOST, _, PORT = sys.argv[3].rpartition(":")
+    JOURNAL = pathlib.Path("office-data/journal")
+    if JOURNAL.exists():
+        replay(JOURNAL, it_all, rules_of)
     http.server.ThreadingHTTPServer((HOST, int(PORT)), Handler).serve_forever()
 else:
     sys.exit(1)

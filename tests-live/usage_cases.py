@@ -1,38 +1,22 @@
 """The cases of usage.sh: python3 usage_cases.py PROGRAM TOOLS FOLDER. Ends with 1 where one failed."""
 import datetime
-import struct
 
 from serve_client import Server
-from tool_cases import CLASSES, FOLDER, PROGRAM, check, finish, new_folder, run_tool
+from spelled import DAY, GIB, create, journal, put
+from tool_cases import FOLDER, PROGRAM, check, finish, new_folder, run_tool
 
-GIB, DAY = 2 ** 30, 86_400_000
 HEAD = "bucket,month,class,gib_months,early_gib_months,moves,byte_ms,early_byte_ms"
 
 
-def text(of):
-    return struct.pack(">H", len(of)) + of.encode()
-
-
-def frame(day, kind, fields):
-    """A frame without the gate before it: an entry of this day of January 2024, and an open gate; by docs/FORMATS.md."""
-    entry = struct.pack(">QB", 1_704_067_200_000 + (day - 1) * DAY, kind) + fields
-    return struct.pack(">I", len(entry)) + entry + b"\xa5"
-
-
-def put(day, key, size, name):
-    return frame(day, 5, text("old") + text(key) + struct.pack(">QBB", size, CLASSES.index(name), 0))
-
-
-def journal():
+def january_2024():
     """One GiB in STANDARD from January 1 on; one in STANDARD_IA on January 16, that one in STANDARD replaces on January 26."""
-    frames = [frame(1, 1, text("old")), frame(1, 1, text("none")), put(1, "a", GIB, "STANDARD"), put(16, "b", GIB, "STANDARD_IA"),
-              put(26, "b", GIB, "STANDARD")]
-    return b"\xa5METERJRN1\xa5" + b"".join(frames)[:-1] + b"\x00"
+    return journal(create(1, "old"), create(1, "none"), put(1, "old", "a", GIB), put(16, "old", "b", GIB, "STANDARD_IA"),
+                   put(26, "old", "b", GIB))
 
 
 folder = new_folder("served")
 path = folder / "office-data" / "journal"
-path.write_bytes(journal())
+path.write_bytes(january_2024())
 with Server(PROGRAM, folder) as server:
     server.client().socket.close()
     to = f"http://127.0.0.1:{server.port}"
