@@ -41,21 +41,27 @@ pub(crate) const TARIFF: &[Step] = &[
     (
         NEW_YEAR,
         "PUT /tariff",
-        "[storage]\nSTANDARD = 1048577\nSTANDARD_IA = 0\nONEZONE_IA = 0\nGLACIER_IR = 0\nGLACIER = 0\nDEEP_ARCHIVE = 0\n[transition]\nSTANDARD_IA = 0\nONEZONE_IA = 0\nGLACIER_IR = 0\nGLACIER = 0\nDEEP_ARCHIVE = 0\n",
+        "[storage]\nSTANDARD = 1048577\nSTANDARD_IA = 0\nONEZONE_IA = 0\n\
+         GLACIER_IR = 0\nGLACIER = 0\nDEEP_ARCHIVE = 0\n\
+         [transition]\nSTANDARD_IA = 0\nONEZONE_IA = 0\nGLACIER_IR = 0\nGLACIER = 0\nDEEP_ARCHIVE = 0\n",
         "400 Bad Request",
         "{\"class\":\"STANDARD\",\"error\":\"BadPrice\",\"number\":72,\"table\":\"storage\"}",
     ),
     (
         NEW_YEAR,
         "PUT /tariff",
-        "[storage]\nSTANDARD = 1048576\nSTANDARD_IA = 0\nONEZONE_IA = 0\nGLACIER_IR = 0\nGLACIER = 0\nDEEP_ARCHIVE = 0\n[transition]\nSTANDARD_IA = 0\nONEZONE_IA = 0\nGLACIER_IR = 0\nGLACIER = 0\nDEEP_ARCHIVE = 0\n",
+        "[storage]\nSTANDARD = 1048576\nSTANDARD_IA = 0\nONEZONE_IA = 0\n\
+         GLACIER_IR = 0\nGLACIER = 0\nDEEP_ARCHIVE = 0\n\
+         [transition]\nSTANDARD_IA = 0\nONEZONE_IA = 0\nGLACIER_IR = 0\nGLACIER = 0\nDEEP_ARCHIVE = 0\n",
         "200 OK",
         "{\"tariff\":\"set\"}",
     ),
     (
         NEW_YEAR,
         "PUT /tariff",
-        "[storage]\nSTANDARD = 23000\nSTANDARD_IA = 0\nONEZONE_IA = 0\nGLACIER_IR = 0\nGLACIER = 0\nDEEP_ARCHIVE = 0\n[transition]\nSTANDARD_IA = 0\nONEZONE_IA = 0\nGLACIER_IR = 0\nGLACIER = 0\nDEEP_ARCHIVE = 0\n",
+        "[storage]\nSTANDARD = 23000\nSTANDARD_IA = 0\nONEZONE_IA = 0\n\
+         GLACIER_IR = 0\nGLACIER = 0\nDEEP_ARCHIVE = 0\n\
+         [transition]\nSTANDARD_IA = 0\nONEZONE_IA = 0\nGLACIER_IR = 0\nGLACIER = 0\nDEEP_ARCHIVE = 0\n",
         "200 OK",
         "{\"tariff\":\"set\"}",
     ),
@@ -89,7 +95,9 @@ pub(crate) const MONTH: &[Step] = &[
     (
         NEW_YEAR,
         "PUT /tariff",
-        "[storage]\nSTANDARD = 23000\nSTANDARD_IA = 0\nONEZONE_IA = 0\nGLACIER_IR = 0\nGLACIER = 0\nDEEP_ARCHIVE = 0\n[transition]\nSTANDARD_IA = 0\nONEZONE_IA = 0\nGLACIER_IR = 0\nGLACIER = 0\nDEEP_ARCHIVE = 0\n",
+        "[storage]\nSTANDARD = 23000\nSTANDARD_IA = 0\nONEZONE_IA = 0\n\
+         GLACIER_IR = 0\nGLACIER = 0\nDEEP_ARCHIVE = 0\n\
+         [transition]\nSTANDARD_IA = 0\nONEZONE_IA = 0\nGLACIER_IR = 0\nGLACIER = 0\nDEEP_ARCHIVE = 0\n",
         "200 OK",
         "{\"tariff\":\"set\"}",
     ),
@@ -132,7 +140,9 @@ pub(crate) const MONTH: &[Step] = &[
     (
         NEW_YEAR + 31 * DAY,
         "PUT /tariff",
-        "[storage]\nSTANDARD = 46000\nSTANDARD_IA = 0\nONEZONE_IA = 0\nGLACIER_IR = 0\nGLACIER = 0\nDEEP_ARCHIVE = 0\n[transition]\nSTANDARD_IA = 0\nONEZONE_IA = 0\nGLACIER_IR = 0\nGLACIER = 0\nDEEP_ARCHIVE = 0\n",
+        "[storage]\nSTANDARD = 46000\nSTANDARD_IA = 0\nONEZONE_IA = 0\n\
+         GLACIER_IR = 0\nGLACIER = 0\nDEEP_ARCHIVE = 0\n\
+         [transition]\nSTANDARD_IA = 0\nONEZONE_IA = 0\nGLACIER_IR = 0\nGLACIER = 0\nDEEP_ARCHIVE = 0\n",
         "200 OK",
         "{\"tariff\":\"set\"}",
     ),
@@ -186,7 +196,9 @@ pub(crate) const CLOSING: &[Step] = &[
     (
         NEW_YEAR + 31 * DAY,
         "PUT /tariff",
-        "[storage]\nSTANDARD = 1\nSTANDARD_IA = 0\nONEZONE_IA = 0\nGLACIER_IR = 0\nGLACIER = 0\nDEEP_ARCHIVE = 0\n[transition]\nSTANDARD_IA = 0\nONEZONE_IA = 0\nGLACIER_IR = 0\nGLACIER = 0\nDEEP_ARCHIVE = 0\n",
+        "[storage]\nSTANDARD = 1\nSTANDARD_IA = 0\nONEZONE_IA = 0\n\
+         GLACIER_IR = 0\nGLACIER = 0\nDEEP_ARCHIVE = 0\n\
+         [transition]\nSTANDARD_IA = 0\nONEZONE_IA = 0\nGLACIER_IR = 0\nGLACIER = 0\nDEEP_ARCHIVE = 0\n",
         "200 OK",
         "{\"tariff\":\"set\"}",
     ),
