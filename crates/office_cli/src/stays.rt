@@ -4,12 +4,12 @@ ghost use Rattle.office_base.specs.Faults.{Rose};
 ghost use Rattle.meter_journal.specs.Reading.{HasStoreCause};
 ghost use Rattle.disk_core.specs.Moments.{Untouched};
 ghost use Rattle.office_types.specs.declared.command.Entry.{Entry};
-ghost use Rattle.stay_explain.specs.Explaining.{Fails, IsTableOf};
+ghost use Rattle.stay_explain.specs.Explaining.{Fails};
 ghost use Rattle.desk_core.specs.Breaking.{OpenFails};
 ghost use Rattle.desk_core.specs.Histories.{HasAcceptedHistory};
 ghost use Rattle.office_cli.specs.Lines.{IsRunStatus};
 ghost use Rattle.office_cli.specs.Running.{around};
-ghost use Rattle.office_cli.specs.Explaining.{Explains};
+ghost use Rattle.office_cli.specs.Explaining.{Explains, ReadsTable};
 
 use crate::program::End;
 use crate::run::refuse;
@@ -37,7 +37,7 @@ fn open_fault(fault: ExplainFault) -> OpenFault
 // Reads the journal, and gives the table of its stays.
 fn table<D: Disk>(alloc: Global, disk: &mut D, workers: u32) -> Result<Vec<u8>, OpenFault>
     requires few { (1 ≤ workers) × (workers ≤ 64) }
-    ensures table { IsTrue D.honest → IfOk result (λ text. IsTableOf (D.state disk.old).journal.seen text.items) }
+    ensures table { IfOk result (λ text. ReadsTable D.Disk disk.old text.items) }
     ensures fails { IsTrue D.honest → IfErr result (λ fault. OpenFails fault (D.state disk.old).journal.seen) }
     ensures untouched { IsTrue D.honest → Untouched D.state D.moment D.had_since disk.old disk.new }
     ensures cause { HasStoreCause (D.fault_count disk.old) (D.fault_count disk.new) result }
