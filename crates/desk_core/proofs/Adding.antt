@@ -2,7 +2,7 @@
 use Rattle.std.proofs.Common.{◌≡◌, inl, inr, ℕ, ◌+◌, ◌^◌, ◌≤◌, Bool, true, false, List, [], ◌∷◌, ◌++◌, length, Option, Some, None, Result, Ok, Err, refl, sym, ap, ◌∙◌, subst, arith, length-append}
 use Rattle.std.specs.Prelude.{IsTrue}
 use Rattle.office_base.specs.Faults.{Rose}
-use Rattle.disk_core.specs.Files.{State}
+use Rattle.disk_core.specs.declared.disk.Disk as disks
 use Rattle.disk_core.specs.Moments.{KeepsTo}
 use Rattle.plain_office.specs.Answers.{answer}
 use Rattle.plain_office.specs.Office.{Office}
@@ -38,11 +38,11 @@ end_by old new place bytes before e is spelled at = omega (arith, is, ap length 
 accepted_as : (one other : Result Reply Refusal) (b : Bool) → one ≡ other → is_accepted other ≡ b → is_accepted one ≡ b
 accepted_as one other b same is = ap (λ (x : Result Reply Refusal). is_accepted x) same ∙ is
 
-module _ {D C : Type 0} (honest : Bool) (state : D → State) (moment : D → ℕ) (had_since : D → ℕ → State → Type 0) (fault_count : D → ℕ) where
+module _ {D C : Type 0} (d : disks.Ghosts D) where
   abbrev made : ℕ → ℕ → Result Reply Refusal → Parts D C → Answer
-  made t number reply desk = record { moment = t; told = number; reply = reply; position = desk.gate; disk_moment = moment desk.disk }
+  made t number reply desk = record { moment = t; told = number; reply = reply; position = desk.gate; disk_moment = d.moment desk.disk }
 
-  is_made : (t m number : ℕ) (reply : Result Reply Refusal) (desk : Parts D C) (said : Answer) → m ≡ t → said ≡ made m number reply desk → IsAnswerOf moment t number desk said
+  is_made : (t m number : ℕ) (reply : Result Reply Refusal) (desk : Parts D C) (said : Answer) → m ≡ t → said ≡ made m number reply desk → IsAnswerOf d.moment t number desk said
   is_made t m number reply desk said at same = record {
     moment = ap (λ (a : Answer). a.moment) same ∙ at;
     told = ap (λ (a : Answer). a.told) same;
@@ -50,37 +50,37 @@ module _ {D C : Type 0} (honest : Bool) (state : D → State) (moment : D → �
     disk_moment = ap (λ (a : Answer). a.disk_moment) same;
   }
 
-  module _ (t number : ℕ) (before : List Entry) (old : Parts D C) (hold : Holds honest state before old) where
+  module _ (t number : ℕ) (before : List Entry) (old : Parts D C) (hold : Holds d before old) where
     -- a desk that holds the same office, and the same disk and journal
-    stayed_as : (new : Parts D C) → Holds honest state before (record old { office = new.office }) → new.disk ≡ old.disk → new.gate ≡ old.gate → new.limit ≡ old.limit → Stays honest state moment had_since fault_count before old new
+    stayed_as : (new : Parts D C) → Holds d before (record old { office = new.office }) → new.disk ≡ old.disk → new.gate ≡ old.gate → new.limit ≡ old.limit → Stays d before old new
     stayed_as new same disk gate limit = record {
       holds = record {
         office = same.office;
         end = gate ∙ hold.end;
         limit = subst (λ (n : ℕ). n ≤ 2 ^ 45) (sym limit) hold.limit;
-        at_rest = λ tells. subst (λ (d : D). IsAtRest header (state d) new.gate before) (sym disk) (subst (λ (k : ℕ). IsAtRest header (state old.disk) k before) (sym gate) (hold.at_rest tells));
+        at_rest = λ tells. subst (λ (z : D). IsAtRest header (d.state z) new.gate before) (sym disk) (subst (λ (k : ℕ). IsAtRest header (d.state old.disk) k before) (sym gate) (hold.at_rest tells));
       };
       disk = disk;
     }
 
     -- the same desk, but for its clock
-    pub stayed : Stays honest state moment had_since fault_count before old old
+    pub stayed : Stays d before old old
     stayed = record { holds = hold; disk = λ i. old.disk }
 
-    pub ended : (said : Answer) → said ≡ made t number (Err (ClockEnd t)) old → IsEnded honest state moment had_since fault_count t number before old old (Ok said)
+    pub ended : (said : Answer) → said ≡ made t number (Err (ClockEnd t)) old → IsEnded d t number before old old (Ok said)
     ended said same = (is_made t t number (Err (ClockEnd t)) old said refl same, ap (λ (a : Answer). a.reply) same, stayed)
 
     -- ---- a query
 
     pub queried : (m : ℕ) (query : Query) (reply : Result Reply Refusal) (said : Answer) → m ≡ t → reply ≡ answer t query hold.office.plain → said ≡ made m number reply old
-        → Keeps honest state moment had_since fault_count t number (ask.Query query) hold.office.plain before old old (Ok said)
+        → Keeps d t number (ask.Query query) hold.office.plain before old old (Ok said)
     queried m query reply said at is same = (is_made t m number reply old said at same, (ap (λ (a : Answer). a.reply) same ∙ is, stayed))
 
     -- ---- a command
 
     module _ (command : Command) where
       abbrev Keeping : Parts D C → Result Answer DeskFault → Type 0
-      Keeping new said = Keeps honest state moment had_since fault_count t number (ask.Command command) hold.office.plain before old new said
+      Keeping new said = Keeps d t number (ask.Command command) hold.office.plain before old new said
 
       abbrev entry : Entry
       entry = entry_at t command
@@ -90,13 +90,13 @@ module _ {D C : Type 0} (honest : Bool) (state : D → State) (moment : D → �
 
       -- in between each image has the entry or has it not
       abbrev Run : D → D → Type 0
-      Run first x = KeepsTo state moment had_since first x (BeforeOrAfter header before entry (state first))
+      Run first x = KeepsTo d.state d.moment d.had_since first x (BeforeOrAfter header before entry (d.state first))
 
       module _ (fits : old.gate + 6 + length (spelling entry) ≤ old.limit) where
         pub added : (mid new : Parts D C) (reply : Reply) (said : Result Answer DeskFault) → is_accepted (Ok reply) ≡ true → IsTrue (is_not_before old.office.last t)
             → ((p : Office) → StandsForOffice old.office p → Does (step t command p) p mid.office (Ok reply))
             → mid.office.accepted ≡ accepted_after (Ok reply) old.office.accepted → mid.disk ≡ old.disk → new.office ≡ mid.office → new.limit ≡ old.limit
-            → Adds honest state moment had_since fault_count t number (Ok reply) before entry mid new said → Keeping new said
+            → Adds d t number (Ok reply) before entry mid new said → Keeping new said
         added mid new reply (Ok said) accepts later all counted same office limit adds =
             let does = all hold.office.plain hold.office.stands in
             let replied : said.reply ≡ Ok reply = ap (λ (a : Answer). a.reply) adds.0 in
@@ -114,7 +114,7 @@ module _ {D C : Type 0} (honest : Bool) (state : D → State) (moment : D → �
                       limit = subst (λ (n : ℕ). n ≤ 2 ^ 45) (sym limit) hold.limit;
                       at_rest = λ tells. (adds.2 tells).0;
                     };
-                    run = λ tells. subst (λ (d : D). Run d new.disk) same (adds.2 tells).1;
+                    run = λ tells. subst (λ (z : D). Run z new.disk) same (adds.2 tells).1;
                   },
                 ),
               ),
@@ -129,8 +129,8 @@ module _ {D C : Type 0} (honest : Bool) (state : D → State) (moment : D → �
               taken hold.office.plain entry mid.office reply accepts (subst (λ (last : Option ℕ). IsTrue (is_not_before last t)) hold.office.stands.last later)
                   (all hold.office.plain hold.office.stands),
             );
-            run = λ tells. subst (λ (d : D). Run d new.disk) same (adds.3 tells);
-            rose = subst (λ (d : D). Rose (fault_count d) (fault_count new.disk)) same adds.2;
+            run = λ tells. subst (λ (z : D). Run z new.disk) same (adds.3 tells);
+            rose = subst (λ (z : D). Rose (d.fault_count z) (d.fault_count new.disk)) same adds.2;
           },
         )
         added mid new reply (Err (faults.StoreFault None count)) accepts later all counted same office limit adds = absurd adds
@@ -139,7 +139,7 @@ module _ {D C : Type 0} (honest : Bool) (state : D → State) (moment : D → �
         added mid new reply (Err faults.NoMemory) accepts later all counted same office limit adds = absurd adds
 
         unaccepted_stays : (new : Parts D C) (reply : Result Reply Refusal) → is_accepted reply ≡ false → Does expected hold.office.plain new.office reply → new.office.accepted ≡ accepted_after reply old.office.accepted
-            → new.disk ≡ old.disk → new.gate ≡ old.gate → new.limit ≡ old.limit → Stays honest state moment had_since fault_count before old new
+            → new.disk ≡ old.disk → new.gate ≡ old.gate → new.limit ≡ old.limit → Stays d before old new
         unaccepted_stays new reply not_accepted does counted disk gate limit =
             stayed_as new (record { office = same_after before entry old.office new.office reply hold.office not_accepted does counted; end = hold.end; limit = hold.limit; at_rest = hold.at_rest }) disk gate limit
 

@@ -2,6 +2,7 @@
 use Rattle.std.proofs.Common.{◌≡◌, ◌⊎◌, inl, inr, ℕ, ◌≤◌, Bool, true, false, List, [], ◌∷◌, ◌++◌, Some, None, Option, Result, Ok, Err, refl, sym, ◌∙◌, subst, arith}
 use Rattle.std.specs.Prelude.{IsTrue, IsSome}
 use Rattle.office_base.specs.Faults.{Rose}
+use Rattle.disk_core.specs.declared.disk.Disk as disks
 use Rattle.disk_core.specs.Files.{State, IsImage}
 use Rattle.disk_core.specs.Kept.{Narrower}
 use Rattle.disk_core.specs.Moments.{KeepsTo}
@@ -52,62 +53,62 @@ no_broken at broken (inl is) = absurd (subst IsBroken is broken)
 no_broken at broken (inr is) = absurd (subst IsBroken is broken)
 
 -- where each image has a history, what is read is no broken journal
-pub sound_unbroken : {D C : Type 0} (honest : Bool) (state : D → State) (moment : D → ℕ) (had_since : D → ℕ → State → Type 0) (fault_count : D → ℕ) (stale : Bool) (old new : Parts D C) (fault : DeskFault) (at : OpenFault)
-    → IsImage (state old.disk).journal (state old.disk).journal.seen → Unopened honest state moment had_since fault_count stale old new (Err fault) → IsTrue honest → IsSound (state old.disk) → answer_err fault ≡ answer_err (faults.Broken at) → ⊥
-sound_unbroken honest state moment had_since fault_count stale old new fault at own u tells sound is =
-    let why = subst (λ (r : Result Answer DeskFault). IsUnopened honest state fault_count old.disk new.disk r) is u.why in
-    let seen = (state old.disk).journal.seen in
+pub sound_unbroken : {D C : Type 0} (d : disks.Ghosts D) (stale : Bool) (old new : Parts D C) (fault : DeskFault) (at : OpenFault)
+    → IsImage (d.state old.disk).journal (d.state old.disk).journal.seen → Unopened d stale old new (Err fault) → IsTrue d.honest → IsSound (d.state old.disk) → answer_err fault ≡ answer_err (faults.Broken at) → ⊥
+sound_unbroken d stale old new fault at own u tells sound is =
+    let why = subst (λ (r : Result Answer DeskFault). IsUnopened d old.disk new.disk r) is u.why in
+    let seen = (d.state old.disk).journal.seen in
     let has = sound seen own in
     no_broken at why.0 (never_fails at has.0 seen has.1 (why.1 tells))
 
-module _ {D : Type 0} {C : Type 0} (honest : Bool) (state : D → State) (moment : D → ℕ) (had_since : D → ℕ → State → Type 0) (fault_count : D → ℕ)
-    (counts_now : (disk : D) (t : ℕ) → t ≤ moment disk → had_since disk t (state disk))
-    (only_now : (disk : D) (s : State) → had_since disk (moment disk) s → s ≡ state disk)
-    (since_earlier : (disk : D) (t u : ℕ) (s : State) → t ≤ u → had_since disk u s → had_since disk t s)
-    (own : IsTrue honest → (disk : D) → IsImage (state disk).journal (state disk).journal.seen) where
+module _ {D : Type 0} {C : Type 0} (d : disks.Ghosts D)
+    (counts_now : (disk : D) (t : ℕ) → t ≤ d.moment disk → d.had_since disk t (d.state disk))
+    (only_now : (disk : D) (s : State) → d.had_since disk (d.moment disk) s → s ≡ d.state disk)
+    (since_earlier : (disk : D) (t u : ℕ) (s : State) → t ≤ u → d.had_since disk u s → d.had_since disk t s)
+    (own : IsTrue d.honest → (disk : D) → IsImage (d.state disk).journal (d.state disk).journal.seen) where
   abbrev Stands : Opened → List Call → DeskView D C → Type 0
-  Stands opened calls desk = StandsFor honest state moment had_since fault_count opened calls desk
+  Stands opened calls desk = StandsFor d opened calls desk
 
   abbrev At : Opened → List Call → Parts D C → Type 0
-  At opened calls parts = StandsAt honest state moment had_since fault_count opened calls parts
+  At opened calls parts = StandsAt d opened calls parts
 
   module _ (desk : DeskView D C) (opened : Opened) (calls : List Call) (s : Stands opened calls desk) where
     abbrev last : ℕ
     last = last_faults opened.faults calls
 
     abbrev Rule : List Entry → Type 0
-    Rule history = Legal honest opened.limit opened.faults calls opened.history history
+    Rule history = Legal d.honest opened.limit opened.faults calls opened.history history
 
     -- a desk that is not stale
     pub stands_fresh : desk.stale ≡ false → At opened calls (parts_of desk)
     stands_fresh fresh = let h = s.holds fresh in record { limit = s.limit; faults = s.faults; history = h.0; legal = h.1; holds = h.2; serves = s.serves }
 
     -- one that opened its journal again
-    module _ (office : Parts D C) (stale : desk.stale ≡ true) (again : Reopens honest state moment had_since fault_count (parts_of desk) office) where
+    module _ (office : Parts D C) (stale : desk.stale ≡ true) (again : Reopens d (parts_of desk) office) where
       led : Rule again.history
-      led = by_honesty honest
-          (λ tells. honest_legal honest opened.limit opened.faults calls opened.history again.history tells ((s.serves tells).whole (state desk.disk).journal.seen again.history (own tells desk.disk) (again.read tells)))
+      led = by_honesty d.honest
+          (λ tells. honest_legal d.honest opened.limit opened.faults calls opened.history again.history tells ((s.serves tells).whole (d.state desk.disk).journal.seen again.history (own tells desk.disk) (again.read tells)))
           (λ not. s.lost not stale again.history (some_run again.history again.holds.office.plain again.holds.office.is_run))
 
       pub stands_again : At opened calls office
       stands_again = record {
         limit = again.limit ∙ s.limit;
-        faults = (omega (arith, again.later, s.faults.0), told_all calls (fault_count desk.disk) (fault_count office.disk) again.later s.faults.1);
+        faults = (omega (arith, again.later, s.faults.0), told_all calls (d.fault_count desk.disk) (d.fault_count office.disk) again.later s.faults.1);
         history = again.history;
         legal = led;
         holds = again.holds;
-        serves = λ tells. narrowed state moment had_since fault_count counts_now only_now since_earlier opened desk.disk office.disk calls (s.serves tells) (again.any_moment tells) again.later;
+        serves = λ tells. narrowed d counts_now only_now since_earlier opened desk.disk office.disk calls (s.serves tells) (again.any_moment tells) again.later;
       }
 
-      pub run_again : (new : DeskView D C) (call : Call) → GoesOn honest state moment had_since fault_count opened (calls ++ call ∷ []) office.disk new → GoesOn honest state moment had_since fault_count opened (calls ++ call ∷ []) desk.disk new
+      pub run_again : (new : DeskView D C) (call : Call) → GoesOn d opened (calls ++ call ∷ []) office.disk new → GoesOn d opened (calls ++ call ∷ []) desk.disk new
       run_again new call goes = record {
         stands = goes.stands;
-        any_moment = λ tells. joined state moment had_since desk.disk office.disk new.disk (Recoverable opened calls) (Recoverable opened (calls ++ call ∷ [])) (Recoverable opened (calls ++ call ∷ []))
+        any_moment = λ tells. joined d.state d.moment d.had_since desk.disk office.disk new.disk (Recoverable opened calls) (Recoverable opened (calls ++ call ∷ [])) (Recoverable opened (calls ++ call ∷ []))
             (recoverable_more opened calls (call ∷ [])) (λ t p. p)
-            (narrowed_run state moment had_since fault_count counts_now only_now since_earlier opened desk.disk office.disk calls (s.serves tells) (again.any_moment tells)) (goes.any_moment tells);
+            (narrowed_run d counts_now only_now since_earlier opened desk.disk office.disk calls (s.serves tells) (again.any_moment tells)) (goes.any_moment tells);
         slots = λ tells.
             let run = again.any_moment tells in
-            joined state moment had_since desk.disk office.disk new.disk (Narrower (state desk.disk)) (KeepsSlots (state office.disk)) (KeepsSlots (state desk.disk))
+            joined d.state d.moment d.had_since desk.disk office.disk new.disk (Narrower (d.state desk.disk)) (KeepsSlots (d.state office.disk)) (KeepsSlots (d.state desk.disk))
             (λ t narrow. (narrow.slot0, narrow.slot1)) (λ t keeps. (keeps.0 ∙ run.now.slot0, keeps.1 ∙ run.now.slot1)) run (goes.slots tells);
       }
 
@@ -121,15 +122,15 @@ module _ {D : Type 0} {C : Type 0} (honest : Bool) (state : D → State) (moment
       kept_by b call legal history some = run_of history some (λ p is. one_legal b opened.limit last call history history p is (legal p history))
 
       -- want of memory leaves a stale desk stale
-      pub stays_stale : (new : Parts D C) → desk.stale ≡ true → GoesOn honest state moment had_since fault_count opened (calls ++ call_of faults.NoMemory ∷ []) desk.disk (view_of new false)
-          → GoesOn honest state moment had_since fault_count opened (calls ++ call_of faults.NoMemory ∷ []) desk.disk (view_of new true)
+      pub stays_stale : (new : Parts D C) → desk.stale ≡ true → GoesOn d opened (calls ++ call_of faults.NoMemory ∷ []) desk.disk (view_of new false)
+          → GoesOn d opened (calls ++ call_of faults.NoMemory ∷ []) desk.disk (view_of new true)
       stays_stale new stale goes = record {
         stands = record {
           limit = goes.stands.limit;
           faults = goes.stands.faults;
           holds = λ fine. absurd (still_true true refl fine);
-          lost = λ not is history some. legal_append honest opened.limit opened.faults calls (call_of faults.NoMemory ∷ []) opened.history history history (s.lost not stale history some)
-              (kept_by honest (call_of faults.NoMemory) (λ p h. refl) history some);
+          lost = λ not is history some. legal_append d.honest opened.limit opened.faults calls (call_of faults.NoMemory ∷ []) opened.history history history (s.lost not stale history some)
+              (kept_by d.honest (call_of faults.NoMemory) (λ p h. refl) history some);
           serves = goes.stands.serves;
         };
         any_moment = goes.any_moment;
@@ -137,8 +138,8 @@ module _ {D : Type 0} {C : Type 0} (honest : Bool) (state : D → State) (moment
       }
 
       -- the journal could not be opened again
-      module _ (new : DeskView D C) (fault : DeskFault) (stale : desk.stale ≡ true) (stays : new.stale ≡ true) (same_limit : new.limit ≡ desk.limit) (later : fault_count desk.disk ≤ fault_count new.disk)
-          (run_is : IsTrue honest → KeepsTo state moment had_since desk.disk new.disk (Narrower (state desk.disk))) where
+      module _ (new : DeskView D C) (fault : DeskFault) (stale : desk.stale ≡ true) (stays : new.stale ≡ true) (same_limit : new.limit ≡ desk.limit) (later : d.fault_count desk.disk ≤ d.fault_count new.disk)
+          (run_is : IsTrue d.honest → KeepsTo d.state d.moment d.had_since desk.disk new.disk (Narrower (d.state desk.disk))) where
         abbrev call : Call
         call = call_of fault
 
@@ -148,38 +149,38 @@ module _ {D : Type 0} {C : Type 0} (honest : Bool) (state : D → State) (moment
         not_acked : (answer : Answer) → call.said ≡ Ok answer → ⊥
         not_acked answer is = absurd cc
 
-        pub unopened_by : Legally honest → (IsTrue honest → Legally true) → IsToldBy (fault_count new.disk) call.said
-            → GoesOn honest state moment had_since fault_count opened (calls ++ call ∷ []) desk.disk new
+        pub unopened_by : Legally d.honest → (IsTrue d.honest → Legally true) → IsToldBy (d.fault_count new.disk) call.said
+            → GoesOn d opened (calls ++ call ∷ []) desk.disk new
         unopened_by legal legal_true told = record {
           stands = record {
             limit = same_limit ∙ s.limit;
-            faults = (omega (arith, later, s.faults.0), told_more calls call (fault_count desk.disk) (fault_count new.disk) later s.faults.1 told);
+            faults = (omega (arith, later, s.faults.0), told_more calls call (d.fault_count desk.disk) (d.fault_count new.disk) later s.faults.1 told);
             holds = λ fine. absurd (still_true new.stale stays fine);
-            lost = λ not is history some. legal_append honest opened.limit opened.faults calls (call ∷ []) opened.history history history (s.lost not stale history some) (kept_by honest call legal history some);
-            serves = λ tells. idle state moment had_since fault_count counts_now only_now since_earlier opened new.disk calls call
-                (narrowed state moment had_since fault_count counts_now only_now since_earlier opened desk.disk new.disk calls (s.serves tells) (run_is tells) later)
+            lost = λ not is history some. legal_append d.honest opened.limit opened.faults calls (call ∷ []) opened.history history history (s.lost not stale history some) (kept_by d.honest call legal history some);
+            serves = λ tells. idle d counts_now only_now since_earlier opened new.disk calls call
+                (narrowed d counts_now only_now since_earlier opened desk.disk new.disk calls (s.serves tells) (run_is tells) later)
                 not_acked (λ history has. kept_by true call (legal_true tells) history has.has.accepted) told;
           };
-          any_moment = λ tells. run_more state moment had_since fault_count counts_now only_now since_earlier opened desk.disk new.disk calls (call ∷ [])
-              (narrowed_run state moment had_since fault_count counts_now only_now since_earlier opened desk.disk new.disk calls (s.serves tells) (run_is tells));
-          slots = λ tells. weakened state moment had_since desk.disk new.disk (Narrower (state desk.disk)) (KeepsSlots (state desk.disk)) (λ t narrow. (narrow.slot0, narrow.slot1)) (run_is tells);
+          any_moment = λ tells. run_more d counts_now only_now since_earlier opened desk.disk new.disk calls (call ∷ [])
+              (narrowed_run d counts_now only_now since_earlier opened desk.disk new.disk calls (s.serves tells) (run_is tells));
+          slots = λ tells. weakened d.state d.moment d.had_since desk.disk new.disk (Narrower (d.state desk.disk)) (KeepsSlots (d.state desk.disk)) (λ t narrow. (narrow.slot0, narrow.slot1)) (run_is tells);
         }
 
-        rose_last : (count : ℕ) → Rose (fault_count desk.disk) (fault_count new.disk) × (count ≡ fault_count new.disk) → Rose last count
-        rose_last count why = subst (λ (k : ℕ). Rose last k) (sym why.1) (rose_from last (fault_count desk.disk) (fault_count new.disk) (last_below opened.faults (fault_count desk.disk) calls s.faults.0 s.faults.1) why.0)
+        rose_last : (count : ℕ) → Rose (d.fault_count desk.disk) (d.fault_count new.disk) × (count ≡ d.fault_count new.disk) → Rose last count
+        rose_last count why = subst (λ (k : ℕ). Rose last k) (sym why.1) (rose_from last (d.fault_count desk.disk) (d.fault_count new.disk) (last_below opened.faults (d.fault_count desk.disk) calls s.faults.0 s.faults.1) why.0)
 
         -- an honest disk has no broken journal
-        pub not_broken : (at : OpenFault) → IsBroken at → (IsTrue honest → OpenFails at (state desk.disk).journal.seen) → IsTrue honest → ⊥
+        pub not_broken : (at : OpenFault) → IsBroken at → (IsTrue d.honest → OpenFails at (d.state desk.disk).journal.seen) → IsTrue d.honest → ⊥
         not_broken at broken fails tells =
-            let seen = (state desk.disk).journal.seen in
-            let recovers = (s.serves tells).left (moment desk.disk) (state desk.disk) seen (s.serves tells).later (omega arith) (counts_now desk.disk (moment desk.disk) (omega arith)) (own tells desk.disk) in
+            let seen = (d.state desk.disk).journal.seen in
+            let recovers = (s.serves tells).left (d.moment desk.disk) (d.state desk.disk) seen (s.serves tells).later (omega arith) (counts_now desk.disk (d.moment desk.disk) (omega arith)) (own tells desk.disk) in
             no_broken at broken (never_fails at recovers.history seen recovers.has (fails tells))
 
       -- ---- one call more
 
       -- that no office answers
-      pub unopened_call : (new : Parts D C) (fault : DeskFault) → Unopened honest state moment had_since fault_count desk.stale (parts_of desk) new (Err fault)
-          → GoesOn honest state moment had_since fault_count opened (calls ++ call_of fault ∷ []) desk.disk (view_of new desk.stale)
+      pub unopened_call : (new : Parts D C) (fault : DeskFault) → Unopened d desk.stale (parts_of desk) new (Err fault)
+          → GoesOn d opened (calls ++ call_of fault ∷ []) desk.disk (view_of new desk.stale)
       unopened_call new (faults.StoreFault None count) u =
           let seat = view_of new desk.stale in
           let fault = faults.StoreFault None count in
@@ -199,7 +200,7 @@ module _ {D : Type 0} {C : Type 0} (honest : Bool) (state : D → State) (moment
       all said = calls ++ record { ask = question; said = said } ∷ []
 
       abbrev Goes : Parts D C → Result Answer DeskFault → Bool → Type 0
-      Goes new said is = GoesOn honest state moment had_since fault_count opened (all said) desk.disk (view_of new is)
+      Goes new said is = GoesOn d opened (all said) desk.disk (view_of new is)
 
       -- want of memory alone leaves a stale desk stale
       restaled : (new : Parts D C) (said : Result Answer DeskFault) → desk.stale ≡ true → Goes new said (stale_after false said) → Goes new said (stale_after true said)
@@ -210,14 +211,14 @@ module _ {D : Type 0} {C : Type 0} (honest : Bool) (state : D → State) (moment
       restaled new (Err faults.NoMemory) stale goes = stays_stale new stale goes
 
       -- that this office answers
-      pub asked_call : (office new : Parts D C) (number : ℕ) (said : Result Answer DeskFault) → IsOffice honest state moment had_since fault_count desk.stale (parts_of desk) office
-          → new.limit ≡ office.limit → fault_count office.disk ≤ fault_count new.disk → Asks honest state moment had_since fault_count number question office new said → Goes new said (stale_after desk.stale said)
+      pub asked_call : (office new : Parts D C) (number : ℕ) (said : Result Answer DeskFault) → IsOffice d desk.stale (parts_of desk) office
+          → new.limit ≡ office.limit → d.fault_count office.disk ≤ d.fault_count new.disk → Asks d number question office new said → Goes new said (stale_after desk.stale said)
       asked_call office new number said (inl (fresh, same)) limit later asks =
           let stands = subst (λ (x : Parts D C). At opened calls x) (sym same) (stands_fresh fresh) in
-          let goes = submitted honest state moment had_since fault_count counts_now only_now since_earlier own office new opened calls number question said stands limit later asks in
+          let goes = submitted d counts_now only_now since_earlier own office new opened calls number question said stands limit later asks in
           subst (λ (b : Bool). Goes new said (stale_after b said)) (sym fresh)
-          (subst (λ (x : Parts D C). GoesOn honest state moment had_since fault_count opened (all said) x.disk (view_of new (stale_after false said))) same goes)
+          (subst (λ (x : Parts D C). GoesOn d opened (all said) x.disk (view_of new (stale_after false said))) same goes)
       asked_call office new number said (inr (stale, again)) limit later asks =
-          let goes = submitted honest state moment had_since fault_count counts_now only_now since_earlier own office new opened calls number question said (stands_again office stale again) limit later asks in
+          let goes = submitted d counts_now only_now since_earlier own office new opened calls number question said (stands_again office stale again) limit later asks in
           subst (λ (b : Bool). Goes new said (stale_after b said)) (sym stale)
           (restaled new said stale (run_again office stale again (view_of new (stale_after false said)) (record { ask = question; said = said }) goes))

@@ -1,6 +1,7 @@
 -- Why a journal is not opened.
-use Rattle.std.proofs.Common.{◌≡◌, ◌⊎◌, ℕ, ◌+◌, ◌<◌, ◌≤◌, ◌^◌, List, [], ◌∷◌, ◌++◌, length, get_or, Bool, false, sym, ap, ◌∙◌, subst, refl, Option, Some, None, Ok, Err, inl, inr, ⊎_elim, arith}
+use Rattle.std.proofs.Common.{◌≡◌, ◌⊎◌, ℕ, ◌+◌, ◌<◌, ◌≤◌, ◌^◌, List, [], ◌∷◌, ◌++◌, length, get_or, false, sym, ap, ◌∙◌, subst, refl, Option, Some, None, Ok, Err, inl, inr, ⊎_elim, arith}
 use Rattle.std.specs.Prelude.{IsTrue, IsSome, option_and_then}
+use Rattle.disk_core.specs.declared.disk.Disk as disks
 use Rattle.disk_core.specs.Files.{State, File, synced_file}
 use Rattle.plain_office.specs.Office.{Office, empty_office}
 use Rattle.plain_office.specs.Step.{step}
@@ -28,12 +29,12 @@ use Rattle.desk_core.proofs.Adding.{end_more}
 use Rattle.desk_core.proofs.Offices.{few, nothing_taken, not_taken as refused}
 
 -- the entries up to this gate were read, on every disk; on an honest one they are those of its journal file
-pub record HasRead {D : Type 0} (honest : Bool) (state : D → State) (disk : D) (gate : ℕ) (office : Records) : Type 0 where
+pub record HasRead {D : Type 0} (d : disks.Ghosts D) (disk : D) (gate : ℕ) (office : Records) : Type 0 where
   pub history : List Entry
   pub office_is : StandsAfter history office
   pub end : gate ≡ end_gate header history
   pub small : gate ≤ 2 ^ 45
-  pub prefix : IsTrue honest → (file : List ℕ) → (state disk).journal ≡ synced_file file → IsMade file → HasPrefix header history gate file
+  pub prefix : IsTrue d.honest → (file : List ℕ) → (d.state disk).journal ≡ synced_file file → IsMade file → HasPrefix header history gate file
 
 -- why an entry is not taken
 abbrev pub IsNotTaken : Records → Entry → OpenFault → ℕ → Type 0
@@ -64,8 +65,8 @@ end_none : end_gate header [] ≡ 10
 unfolding whole
 end_none = refl
 
-module _ {D : Type 0} (honest : Bool) (state : D → State) where
-  pub none_read : (disk : D) (gate : ℕ) (office : Records) → gate ≡ 10 → StandsAfter [] office → HasRead honest state disk gate office
+module _ {D : Type 0} (d : disks.Ghosts D) where
+  pub none_read : (disk : D) (gate : ℕ) (office : Records) → gate ≡ 10 → StandsAfter [] office → HasRead d disk gate office
   none_read disk gate office first empty = record {
     history = [];
     office_is = empty;
@@ -74,9 +75,9 @@ module _ {D : Type 0} (honest : Bool) (state : D → State) where
     prefix = λ tells file on_disk made. subst (λ (k : ℕ). HasPrefix header [] k file) (sym first) (read_start header [] 10 file refl (made_head file made) refl);
   }
 
-  pub one_read : (disk mid : D) (gate next : ℕ) (office after : Records) (o : Option Entry) (e : Entry) → HasRead honest state disk gate office → (IsTrue honest → state mid ≡ state disk)
-      → (IsTrue honest → (i : ℕ) → get_or (state disk).journal.seen i 0 < 256) → o ≡ Some e → (IsTrue honest → NextGives (Ok o) gate next (frame_at gate (state mid).journal.seen)) → Advances (Ok o) gate next
-      → next ≤ 2 ^ 45 → ((history : List Entry) → StandsAfter history office → StandsAfter (history ++ e ∷ []) after) → HasRead honest state disk next after
+  pub one_read : (disk mid : D) (gate next : ℕ) (office after : Records) (o : Option Entry) (e : Entry) → HasRead d disk gate office → (IsTrue d.honest → d.state mid ≡ d.state disk)
+      → (IsTrue d.honest → (i : ℕ) → get_or (d.state disk).journal.seen i 0 < 256) → o ≡ Some e → (IsTrue d.honest → NextGives (Ok o) gate next (frame_at gate (d.state mid).journal.seen)) → Advances (Ok o) gate next
+      → next ≤ 2 ^ 45 → ((history : List Entry) → StandsAfter history office → StandsAfter (history ++ e ∷ []) after) → HasRead d disk next after
   one_read disk mid gate next office after o e read same bytes is gives advances small taken =
       let passed : Fits e × (next ≡ gate + 5 + length (spelling e)) = subst (λ (x : Option Entry). Advances (Ok x) gate next) is advances in
       record {
@@ -84,20 +85,20 @@ module _ {D : Type 0} (honest : Bool) (state : D → State) where
         office_is = taken read.history read.office_is;
         end = omega (arith, passed.1, read.end, end_more header read.history e);
         small = small;
-        prefix = λ tells file on_disk made. read_more header (state disk) (state mid) file read.history (read.history ++ e ∷ []) gate next o e (same tells) on_disk (bytes tells) (read.prefix tells file on_disk made) is (gives tells) refl;
+        prefix = λ tells file on_disk made. read_more header (d.state disk) (d.state mid) file read.history (read.history ++ e ∷ []) gate next o e (same tells) on_disk (bytes tells) (read.prefix tells file on_disk made) is (gives tells) refl;
       }
 
-  pub all_read : (disk mid new : D) (gate next : ℕ) (office : Records) (o : Option Entry) → HasRead honest state disk gate office → (IsTrue honest → state mid ≡ state disk) → (IsTrue honest → state new ≡ state mid)
-      → o ≡ None → (IsTrue honest → NextGives (Ok o) gate next (frame_at gate (state mid).journal.seen)) → Advances (Ok o) gate next → HasReplayed honest state disk new next office
+  pub all_read : (disk mid new : D) (gate next : ℕ) (office : Records) (o : Option Entry) → HasRead d disk gate office → (IsTrue d.honest → d.state mid ≡ d.state disk) → (IsTrue d.honest → d.state new ≡ d.state mid)
+      → o ≡ None → (IsTrue d.honest → NextGives (Ok o) gate next (frame_at gate (d.state mid).journal.seen)) → Advances (Ok o) gate next → HasReplayed d disk new next office
   all_read disk mid new gate next office o read same still is gives advances = record {
     history = read.history;
     office_is = read.office_is;
     end = subst (λ (x : Option Entry). Advances (Ok x) gate next) is advances ∙ read.end;
-    at_rest = λ tells file on_disk made. read_end header (state disk) (state mid) (state new) file read.history gate next o (same tells) (still tells) on_disk (read.prefix tells file on_disk made) is (gives tells);
+    at_rest = λ tells file on_disk made. read_end header (d.state disk) (d.state mid) (d.state new) file read.history gate next o (same tells) (still tells) on_disk (read.prefix tells file on_disk made) is (gives tells);
   }
 
   -- the next entry is taken as far as the office can count
-  pub few_read : (disk : D) (gate : ℕ) (office : Records) → HasRead honest state disk gate office → office.accepted < most_commands
+  pub few_read : (disk : D) (gate : ℕ) (office : Records) → HasRead d disk gate office → office.accepted < most_commands
   few_read disk gate office read = few read.history office gate read.office_is read.end read.small
 
 -- ---- why reading fails

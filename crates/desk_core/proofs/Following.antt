@@ -40,13 +40,13 @@ one_number (Err faults.NoMemory) a b c rest (inr is) more = (is.0 ∷ rest, inr 
 
 module _ {D C : Type 0} (d : disks.Ghosts D) (k : clocks.Ghosts C) where
   abbrev pub Step : DeskView D C → Ask → Result Answer DeskFault → DeskView D C → Type 0
-  Step old question said new = Submits d.honest d.state d.moment d.had_since d.fault_count k.count k.last k.told old question said new
+  Step old question said new = Submits d k old question said new
 
   abbrev pub Path : DeskView D C → List Call → DeskView D C → Type 0
   Path old calls new = Moves Step old calls new
 
   abbrev Stands : Opened → List Call → DeskView D C → Type 0
-  Stands opened calls desk = StandsFor d.honest d.state d.moment d.had_since d.fault_count opened calls desk
+  Stands opened calls desk = StandsFor d opened calls desk
 
   -- ---- counts
 

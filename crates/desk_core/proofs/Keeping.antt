@@ -2,6 +2,7 @@
 use Rattle.std.proofs.Common.{◌≡◌, inl, inr, ⊎_elim, ℕ, ◌≤◌, Bool, true, List, [], ◌∷◌, ◌++◌, Option, Some, Result, Ok, Err, refl, sym, subst, arith}
 use Rattle.std.specs.Prelude.{IsSome, IsSomeAnd}
 use Rattle.office_base.specs.Faults.{Rose}
+use Rattle.disk_core.specs.declared.disk.Disk as disks
 use Rattle.disk_core.specs.Files.{State, IsImage}
 use Rattle.disk_core.specs.Moments.{KeepsTo}
 use Rattle.disk_core.proofs.Time.{started, weakened}
@@ -50,67 +51,67 @@ rest_image s gate before p rest is image has = record { entries = each_image hea
 pub unique : (h before : List Entry) (image : List ℕ) → HasAcceptedHistory h image → HasEntries header before image → h ≡ before
 unique h before image has entries = entries_unique header h before image has.entries entries
 
-module _ {D : Type 0} (state : D → State) (moment : D → ℕ) (had_since : D → ℕ → State → Type 0) (fault_count : D → ℕ)
-    (counts_now : (disk : D) (t : ℕ) → t ≤ moment disk → had_since disk t (state disk))
-    (only_now : (disk : D) (s : State) → had_since disk (moment disk) s → s ≡ state disk)
-    (since_earlier : (disk : D) (t u : ℕ) (s : State) → t ≤ u → had_since disk u s → had_since disk t s) where
+module _ {D : Type 0} (d : disks.Ghosts D)
+    (counts_now : (disk : D) (t : ℕ) → t ≤ d.moment disk → d.had_since disk t (d.state disk))
+    (only_now : (disk : D) (s : State) → d.had_since disk (d.moment disk) s → s ≡ d.state disk)
+    (since_earlier : (disk : D) (t u : ℕ) (s : State) → t ≤ u → d.had_since disk u s → d.had_since disk t s) where
   -- ---- what a call makes of the disk, where the journal lay at rest on it
 
-  module _ (old : D) (gate : ℕ) (before : List Entry) (p : Office) (rest : IsAtRest header (state old) gate before) (is_run : run before ≡ Some p) (reads : IsImage (state old).journal (state old).journal.seen)
+  module _ (old : D) (gate : ℕ) (before : List Entry) (p : Office) (rest : IsAtRest header (d.state old) gate before) (is_run : run before ≡ Some p) (reads : IsImage (d.state old).journal (d.state old).journal.seen)
       (limit last : ℕ) (call : Call) where
     abbrev Rule : List Entry → Type 0
     Rule after = Legal true limit last (call ∷ []) before after
 
     abbrev In : State → Type 0
-    In s = InCall state moment had_since fault_count old limit last call before s
+    In s = InCall d old limit last call before s
 
-    settled : HasImageOf (state old) before
-    settled = record { image = (state old).journal.seen; is_image = reads; has = rest_image (state old) gate before p rest is_run (state old).journal.seen reads }
+    settled : HasImageOf (d.state old) before
+    settled = record { image = (d.state old).journal.seen; is_image = reads; has = rest_image (d.state old) gate before p rest is_run (d.state old).journal.seen reads }
 
-    still : In (state old)
+    still : In (d.state old)
     still = record {
-      sound = λ image is. (before, rest_image (state old) gate before p rest is_run image is);
+      sound = λ image is. (before, rest_image (d.state old) gate before p rest is_run image is);
       each = λ image h is has. inl (record { image = image; is_image = is; has = has });
     }
 
-    pub makes_still : (new : D) → new ≡ old → Rule before → IsKept state moment had_since fault_count new call.said → IsToldBy (fault_count new) call.said → Makes state moment had_since fault_count old new limit last call
+    pub makes_still : (new : D) → new ≡ old → Rule before → IsKept d new call.said → IsToldBy (d.fault_count new) call.said → Makes d old new limit last call
     makes_still new same rule kept told = record {
       settled = before;
       is_settled = settled;
-      run = subst (λ (d : D). KeepsTo state moment had_since old d In) (sym same) (started state moment had_since old In (only_now old) still);
+      run = subst (λ (z : D). KeepsTo d.state d.moment d.had_since old z In) (sym same) (started d.state d.moment d.had_since old In (only_now old) still);
       done = λ image h is has.
-          let here = subst (λ (d : D). IsImage (state d).journal image) same is in
-          subst Rule (sym (unique h before image has (each_image header (state old) gate before rest image here))) rule;
+          let here = subst (λ (z : D). IsImage (d.state z).journal image) same is in
+          subst Rule (sym (unique h before image has (each_image header (d.state old) gate before rest image here))) rule;
       kept = kept;
-      faults = (subst (λ (d : D). fault_count old ≤ fault_count d) (sym same) (omega arith), told);
+      faults = (subst (λ (z : D). d.fault_count old ≤ d.fault_count z) (sym same) (omega arith), told);
     }
 
     module _ (entry : Entry) (q : Office) (is_more : run (before ++ entry ∷ []) ≡ Some q) (grown : Rule (before ++ entry ∷ [])) where
-      in_call : (s : State) → BeforeOrAfter header before entry (state old) s → In s
+      in_call : (s : State) → BeforeOrAfter header before entry (d.state old) s → In s
       in_call s both = record {
         sound = λ image is. ⊎_elim (λ (e : HasEntries header before image). (before, record { entries = e; accepted = some_run before p is_run }))
             (λ (e : HasEntries header (before ++ entry ∷ []) image). (before ++ entry ∷ [], record { entries = e; accepted = some_run (before ++ entry ∷ []) q is_more })) (both.journal image is);
-        each = λ image h is has. ⊎_elim (λ (e : HasEntries header before image). inl (subst (λ (x : List Entry). HasImageOf (state old) x) (sym (unique h before image has e)) settled))
+        each = λ image h is has. ⊎_elim (λ (e : HasEntries header before image). inl (subst (λ (x : List Entry). HasImageOf (d.state old) x) (sym (unique h before image has e)) settled))
             (λ (e : HasEntries header (before ++ entry ∷ []) image). inr (subst Rule (sym (unique h (before ++ entry ∷ []) image has e)) grown)) (both.journal image is);
       }
 
-      pub makes_grown : (new : D) (end : ℕ) → KeepsTo state moment had_since old new (BeforeOrAfter header before entry (state old)) → IsAtRest header (state new) end (before ++ entry ∷ [])
-          → IsKept state moment had_since fault_count new call.said → (fault_count old ≤ fault_count new) × IsToldBy (fault_count new) call.said → Makes state moment had_since fault_count old new limit last call
+      pub makes_grown : (new : D) (end : ℕ) → KeepsTo d.state d.moment d.had_since old new (BeforeOrAfter header before entry (d.state old)) → IsAtRest header (d.state new) end (before ++ entry ∷ [])
+          → IsKept d new call.said → (d.fault_count old ≤ d.fault_count new) × IsToldBy (d.fault_count new) call.said → Makes d old new limit last call
       makes_grown new end kept_to rest_new kept told = record {
         settled = before;
         is_settled = settled;
-        run = weakened state moment had_since old new (BeforeOrAfter header before entry (state old)) In in_call kept_to;
-        done = λ image h is has. subst Rule (sym (unique h (before ++ entry ∷ []) image has (each_image header (state new) end (before ++ entry ∷ []) rest_new image is))) grown;
+        run = weakened d.state d.moment d.had_since old new (BeforeOrAfter header before entry (d.state old)) In in_call kept_to;
+        done = λ image h is has. subst Rule (sym (unique h (before ++ entry ∷ []) image has (each_image header (d.state new) end (before ++ entry ∷ []) rest_new image is))) grown;
         kept = kept;
         faults = told;
       }
 
-      pub makes_failed : (new : D) → Rule before → KeepsTo state moment had_since old new (BeforeOrAfter header before entry (state old))
-          → IsKept state moment had_since fault_count new call.said → (fault_count old ≤ fault_count new) × IsToldBy (fault_count new) call.said → Makes state moment had_since fault_count old new limit last call
+      pub makes_failed : (new : D) → Rule before → KeepsTo d.state d.moment d.had_since old new (BeforeOrAfter header before entry (d.state old))
+          → IsKept d new call.said → (d.fault_count old ≤ d.fault_count new) × IsToldBy (d.fault_count new) call.said → Makes d old new limit last call
       makes_failed new rule kept_to kept told = record {
         settled = before;
         is_settled = settled;
-        run = weakened state moment had_since old new (BeforeOrAfter header before entry (state old)) In in_call kept_to;
+        run = weakened d.state d.moment d.had_since old new (BeforeOrAfter header before entry (d.state old)) In in_call kept_to;
         done = λ image h is has. ⊎_elim (λ (e : HasEntries header before image). subst Rule (sym (unique h before image has e)) rule)
             (λ (e : HasEntries header (before ++ entry ∷ []) image). subst Rule (sym (unique h (before ++ entry ∷ []) image has e)) grown) (kept_to.now.journal image is);
         kept = kept;

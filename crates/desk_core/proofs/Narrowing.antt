@@ -2,6 +2,7 @@
 use Rattle.std.proofs.Common.{◌≡◌, inl, inr, ⊎_elim, ℕ, ◌≤◌, true, List, [], ◌∷◌, ◌++◌, take, length, Ok, sym, subst, arith, length-append}
 use Rattle.std.proofs.lemmas.Bool.{cases_lt}
 use Rattle.std.proofs.lemmas.List.{take-append-le}
+use Rattle.disk_core.specs.declared.disk.Disk as disks
 use Rattle.disk_core.specs.Files.{State, IsImage}
 use Rattle.disk_core.specs.Kept.{Narrower}
 use Rattle.disk_core.specs.Moments.{KeepsTo}
@@ -32,25 +33,25 @@ recoverable_more opened calls more s has image is =
     let front = has image is in
     (front.0, front.1, front.2, most_more calls more front.1 front.3, legal_more opened calls more front.1 front.0 front.3 front.4)
 
-module _ {D : Type 0} (state : D → State) (moment : D → ℕ) (had_since : D → ℕ → State → Type 0) (fault_count : D → ℕ)
-    (counts_now : (disk : D) (t : ℕ) → t ≤ moment disk → had_since disk t (state disk))
-    (only_now : (disk : D) (s : State) → had_since disk (moment disk) s → s ≡ state disk)
-    (since_earlier : (disk : D) (t u : ℕ) (s : State) → t ≤ u → had_since disk u s → had_since disk t s) where
+module _ {D : Type 0} (d : disks.Ghosts D)
+    (counts_now : (disk : D) (t : ℕ) → t ≤ d.moment disk → d.had_since disk t (d.state disk))
+    (only_now : (disk : D) (s : State) → d.had_since disk (d.moment disk) s → s ≡ d.state disk)
+    (since_earlier : (disk : D) (t u : ℕ) (s : State) → t ≤ u → d.had_since disk u s → d.had_since disk t s) where
   abbrev Serving : Opened → D → List Call → Type 0
-  Serving = Serves state moment had_since fault_count
+  Serving = Serves d
 
-  pub run_more : (opened : Opened) (first disk : D) (calls more : List Call) → KeepsTo state moment had_since first disk (Recoverable opened calls) → KeepsTo state moment had_since first disk (Recoverable opened (calls ++ more))
+  pub run_more : (opened : Opened) (first disk : D) (calls more : List Call) → KeepsTo d.state d.moment d.had_since first disk (Recoverable opened calls) → KeepsTo d.state d.moment d.had_since first disk (Recoverable opened (calls ++ more))
   run_more opened first disk calls more run =
-      weakened state moment had_since first disk (Recoverable opened calls) (Recoverable opened (calls ++ more)) (recoverable_more opened calls more) run
+      weakened d.state d.moment d.had_since first disk (Recoverable opened calls) (Recoverable opened (calls ++ more)) (recoverable_more opened calls more) run
 
   -- ---- a disk with fewer images
 
-  module _ (opened : Opened) (old new : D) (calls : List Call) (serves : Serving opened old calls) (run : KeepsTo state moment had_since old new (Narrower (state old))) where
-    old_now : (image : List ℕ) (t : ℕ) → opened.moment ≤ t → t ≤ moment old → IsImage (state old).journal image → Recovers opened calls t image
-    old_now image t since le is = serves.left t (state old) image since le (counts_now old t le) is
+  module _ (opened : Opened) (old new : D) (calls : List Call) (serves : Serving opened old calls) (run : KeepsTo d.state d.moment d.had_since old new (Narrower (d.state old))) where
+    old_now : (image : List ℕ) (t : ℕ) → opened.moment ≤ t → t ≤ d.moment old → IsImage (d.state old).journal image → Recovers opened calls t image
+    old_now image t since le is = serves.left t (d.state old) image since le (counts_now old t le) is
 
     -- by the old disk's moment each acknowledgement was given
-    at_any_time : (t : ℕ) (image : List ℕ) → Recovers opened calls (moment old) image → Recovers opened calls t image
+    at_any_time : (t : ℕ) (image : List ℕ) → Recovers opened calls (d.moment old) image → Recovers opened calls t image
     at_any_time t image was = record {
       history = was.history;
       has = was.has;
@@ -60,15 +61,15 @@ module _ {D : Type 0} (state : D → State) (moment : D → ℕ) (had_since : D 
       acked = λ place answer is le. was.acked place answer is (serves.told place answer is).1;
     }
 
-    left_narrower : (t : ℕ) (s : State) (image : List ℕ) → opened.moment ≤ t → had_since new t s → IsImage s.journal image → Recovers opened calls t image
-    left_narrower t s image since had is = elim (cases_lt (moment old) t) [
+    left_narrower : (t : ℕ) (s : State) (image : List ℕ) → opened.moment ≤ t → d.had_since new t s → IsImage s.journal image → Recovers opened calls t image
+    left_narrower t s image since had is = elim (cases_lt (d.moment old) t) [
       | inl later ↦
-          let narrow = run.each s (since_earlier new (moment old) t s (omega (arith, later)) had) in
-          at_any_time t image (old_now image (moment old) serves.later (omega arith) (narrow.journal image is))
+          let narrow = run.each s (since_earlier new (d.moment old) t s (omega (arith, later)) had) in
+          at_any_time t image (old_now image (d.moment old) serves.later (omega arith) (narrow.journal image is))
       | inr le ↦ ⊎_elim (λ was. serves.left t s image since le was is) (λ narrow. old_now image t since le (narrow.journal image is)) (run.before t s le had)
     ]
 
-    agrees_narrower : (place : ℕ) (answer : Answer) → IsAckedAt calls place answer → Agrees state moment had_since fault_count new answer
+    agrees_narrower : (place : ℕ) (answer : Answer) → IsAckedAt calls place answer → Agrees d new answer
     agrees_narrower place answer is =
         let was = serves.agrees place answer is in
         let le = (serves.told place answer is).1 in
@@ -76,26 +77,26 @@ module _ {D : Type 0} (state : D → State) (moment : D → ℕ) (had_since : D 
           entries = was.entries;
           place = was.place;
           kept = λ s image history had is_image stands. ⊎_elim (λ before. was.kept s image history before is_image stands)
-              (λ narrow. was.kept (state old) image history (counts_now old answer.disk_moment le) (narrow.journal image is_image) stands) (run.before answer.disk_moment s le had);
+              (λ narrow. was.kept (d.state old) image history (counts_now old answer.disk_moment le) (narrow.journal image is_image) stands) (run.before answer.disk_moment s le had);
         }
 
     -- what a crash of the old disk would have left is in each image of the new one, but for one entry at its end
-    steady_old : (t : ℕ) (s : State) (image : List ℕ) (h : List Entry) → opened.moment ≤ t → t ≤ moment old → had_since old t s → IsImage s.journal image → HasAcceptedHistory h image
-        → (image_now : List ℕ) (now : List Entry) → IsImage (state new).journal image_now → HasAcceptedHistory now image_now → BeginsButOne h now
+    steady_old : (t : ℕ) (s : State) (image : List ℕ) (h : List Entry) → opened.moment ≤ t → t ≤ d.moment old → d.had_since old t s → IsImage s.journal image → HasAcceptedHistory h image
+        → (image_now : List ℕ) (now : List Entry) → IsImage (d.state new).journal image_now → HasAcceptedHistory now image_now → BeginsButOne h now
     steady_old t s image h since le had is stands image_now now is_now stands_now =
         serves.steady t s image h since le had is stands image_now now (run.now.journal image_now is_now) stands_now
 
-    steady_narrower : (t : ℕ) (s : State) (image : List ℕ) (h : List Entry) → opened.moment ≤ t → had_since new t s → IsImage s.journal image → HasAcceptedHistory h image
-        → (image_now : List ℕ) (now : List Entry) → IsImage (state new).journal image_now → HasAcceptedHistory now image_now → BeginsButOne h now
-    steady_narrower t s image h since had is stands image_now now is_now stands_now = elim (cases_lt (moment old) t) [
+    steady_narrower : (t : ℕ) (s : State) (image : List ℕ) (h : List Entry) → opened.moment ≤ t → d.had_since new t s → IsImage s.journal image → HasAcceptedHistory h image
+        → (image_now : List ℕ) (now : List Entry) → IsImage (d.state new).journal image_now → HasAcceptedHistory now image_now → BeginsButOne h now
+    steady_narrower t s image h since had is stands image_now now is_now stands_now = elim (cases_lt (d.moment old) t) [
       | inl later ↦
-          let narrow = run.each s (since_earlier new (moment old) t s (omega (arith, later)) had) in
-          steady_old (moment old) (state old) image h serves.later (omega arith) (counts_now old (moment old) (omega arith)) (narrow.journal image is) stands image_now now is_now stands_now
+          let narrow = run.each s (since_earlier new (d.moment old) t s (omega (arith, later)) had) in
+          steady_old (d.moment old) (d.state old) image h serves.later (omega arith) (counts_now old (d.moment old) (omega arith)) (narrow.journal image is) stands image_now now is_now stands_now
       | inr le ↦ ⊎_elim (λ was. steady_old t s image h since le was is stands image_now now is_now stands_now)
-          (λ narrow. steady_old t (state old) image h since le (counts_now old t le) (narrow.journal image is) stands image_now now is_now stands_now) (run.before t s le had)
+          (λ narrow. steady_old t (d.state old) image h since le (counts_now old t le) (narrow.journal image is) stands image_now now is_now stands_now) (run.before t s le had)
     ]
 
-    pub narrowed : fault_count old ≤ fault_count new → Serving opened new calls
+    pub narrowed : d.fault_count old ≤ d.fault_count new → Serving opened new calls
     narrowed counts = record {
       later = omega (arith, serves.later, run.later);
       left = λ t s image since le had is. left_narrower t s image since had is;
@@ -103,16 +104,16 @@ module _ {D : Type 0} (state : D → State) (moment : D → ℕ) (had_since : D 
       whole = λ image history is stands. serves.whole image history (run.now.journal image is) stands;
       steady = λ t s image h since le had is stands image_now now is_now stands_now. steady_narrower t s image h since had is stands image_now now is_now stands_now;
       told = λ place answer is. let was = serves.told place answer is in (was.0, omega (arith, was.1, run.later));
-      faults = (omega (arith, serves.faults.0, counts), told_all calls (fault_count old) (fault_count new) counts serves.faults.1);
+      faults = (omega (arith, serves.faults.0, counts), told_all calls (d.fault_count old) (d.fault_count new) counts serves.faults.1);
     }
 
-    narrower_front : (s : State) → Narrower (state old) s → Recoverable opened calls s
+    narrower_front : (s : State) → Narrower (d.state old) s → Recoverable opened calls s
     narrower_front s narrow image is =
-        let was = old_now image (moment old) serves.later (omega arith) (narrow.journal image is) in
+        let was = old_now image (d.moment old) serves.later (omega arith) (narrow.journal image is) in
         (was.history, was.count, was.has, was.most, was.legal)
 
-    pub narrowed_run : KeepsTo state moment had_since old new (Recoverable opened calls)
-    narrowed_run = weakened state moment had_since old new (Narrower (state old)) (Recoverable opened calls) narrower_front run
+    pub narrowed_run : KeepsTo d.state d.moment d.had_since old new (Recoverable opened calls)
+    narrowed_run = weakened d.state d.moment d.had_since old new (Narrower (d.state old)) (Recoverable opened calls) narrower_front run
 
   -- ---- a call that changes nothing
 
@@ -130,7 +131,7 @@ module _ {D : Type 0} (state : D → State) (moment : D → ℕ) (had_since : D 
       acked = λ place answer is le. was.acked place answer (before_it place answer is) le;
     }
 
-    pub idle : ((history : List Entry) → HasImageOf (state disk) history → Legal true opened.limit (last_faults opened.faults calls) (call ∷ []) history history) → IsToldBy (fault_count disk) call.said → Serving opened disk (calls ++ call ∷ [])
+    pub idle : ((history : List Entry) → HasImageOf (d.state disk) history → Legal true opened.limit (last_faults opened.faults calls) (call ∷ []) history history) → IsToldBy (d.fault_count disk) call.said → Serving opened disk (calls ++ call ∷ [])
     idle stays told = record {
       later = serves.later;
       left = λ t s image since le had is. recovers_idle t image (serves.left t s image since le had is);
@@ -140,5 +141,5 @@ module _ {D : Type 0} (state : D → State) (moment : D → ℕ) (had_since : D 
           (stays history (record { image = image; is_image = is; has = stands }));
       steady = serves.steady;
       told = λ place answer is. serves.told place answer (before_it place answer is);
-      faults = (serves.faults.0, told_more calls call (fault_count disk) (fault_count disk) (omega arith) serves.faults.1 told);
+      faults = (serves.faults.0, told_more calls call (d.fault_count disk) (d.fault_count disk) (omega arith) serves.faults.1 told);
     }

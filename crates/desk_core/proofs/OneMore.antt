@@ -4,6 +4,7 @@ use Rattle.std.specs.Prelude.{IsSomeAnd}
 use Rattle.std.proofs.lemmas.Bool.{cases_lt}
 use Rattle.std.proofs.lemmas.List.{take-append-le, take_all, append-nil}
 use Rattle.moments.specs.Time.{end_of_time}
+use Rattle.disk_core.specs.declared.disk.Disk as disks
 use Rattle.disk_core.specs.Files.{State, IsImage}
 use Rattle.disk_core.specs.Moments.{KeepsTo}
 use Rattle.disk_core.proofs.Time.{weakened}
@@ -33,27 +34,27 @@ abbrev pub last_faults : ℕ → List Call → ℕ
 last_faults told [] = told
 last_faults told (call ∷ calls) = last_faults (faults_after told call.said) calls
 
-module _ {D : Type 0} (state : D → State) (moment : D → ℕ) (had_since : D → ℕ → State → Type 0) (fault_count : D → ℕ) where
+module _ {D : Type 0} (d : disks.Ghosts D) where
   -- in a call each image has the history on which it settled, one from before, or what the call made of the settled one
   pub record InCall (old : D) (limit last : ℕ) (call : Call) (settled : List Entry) (s : State) : Type 0 where
     pub sound : IsSound s
-    pub each : (image : List ℕ) (history : List Entry) → IsImage s.journal image → HasAcceptedHistory history image → HasImageOf (state old) history ⊎ Legal true limit last (call ∷ []) settled history
+    pub each : (image : List ℕ) (history : List Entry) → IsImage s.journal image → HasAcceptedHistory history image → HasImageOf (d.state old) history ⊎ Legal true limit last (call ∷ []) settled history
 
   -- the acknowledgement has the moment of the return, where all images have one history, which ends at its position
   abbrev pub IsKept : D → Result Answer DeskFault → Type 0
   IsKept new (Ok answer) =
-      (answer.disk_moment ≡ moment new) × (entries : List Entry) × (end_gate header entries ≡ answer.position)
-      × ((image : List ℕ) (history : List Entry) → IsImage (state new).journal image → HasAcceptedHistory history image → history ≡ entries)
+      (answer.disk_moment ≡ d.moment new) × (entries : List Entry) × (end_gate header entries ≡ answer.position)
+      × ((image : List ℕ) (history : List Entry) → IsImage (d.state new).journal image → HasAcceptedHistory history image → history ≡ entries)
   IsKept new (Err fault) = Unit {0}
 
   -- what a call does to the disk, as the plain office has it
   pub record Makes (old new : D) (limit last : ℕ) (call : Call) : Type 0 where
     pub settled : List Entry
-    pub is_settled : HasImageOf (state old) settled
-    pub run : KeepsTo state moment had_since old new (InCall old limit last call settled)
-    pub done : (image : List ℕ) (history : List Entry) → IsImage (state new).journal image → HasAcceptedHistory history image → Legal true limit last (call ∷ []) settled history
+    pub is_settled : HasImageOf (d.state old) settled
+    pub run : KeepsTo d.state d.moment d.had_since old new (InCall old limit last call settled)
+    pub done : (image : List ℕ) (history : List Entry) → IsImage (d.state new).journal image → HasAcceptedHistory history image → Legal true limit last (call ∷ []) settled history
     pub kept : IsKept new call.said
-    pub faults : (fault_count old ≤ fault_count new) × IsToldBy (fault_count new) call.said
+    pub faults : (d.fault_count old ≤ d.fault_count new) × IsToldBy (d.fault_count new) call.said
 
 -- ---- legal lists
 
@@ -150,15 +151,15 @@ pub told_more : (calls : List Call) (call : Call) (before now : ℕ) → before 
 told_more [] call before now le all here = (here, tt)
 told_more (c ∷ calls) call before now le all here = (told_later c.said before now le all.0, told_more calls call before now le all.1 here)
 
-module _ {D : Type 0} (state : D → State) (moment : D → ℕ) (had_since : D → ℕ → State → Type 0) (fault_count : D → ℕ)
-    (counts_now : (disk : D) (t : ℕ) → t ≤ moment disk → had_since disk t (state disk))
-    (only_now : (disk : D) (s : State) → had_since disk (moment disk) s → s ≡ state disk)
-    (since_earlier : (disk : D) (t u : ℕ) (s : State) → t ≤ u → had_since disk u s → had_since disk t s) where
+module _ {D : Type 0} (d : disks.Ghosts D)
+    (counts_now : (disk : D) (t : ℕ) → t ≤ d.moment disk → d.had_since disk t (d.state disk))
+    (only_now : (disk : D) (s : State) → d.had_since disk (d.moment disk) s → s ≡ d.state disk)
+    (since_earlier : (disk : D) (t u : ℕ) (s : State) → t ≤ u → d.had_since disk u s → d.had_since disk t s) where
   abbrev Serving : Opened → D → List Call → Type 0
-  Serving = Serves state moment had_since fault_count
+  Serving = Serves d
 
   abbrev Making : D → D → ℕ → ℕ → Call → Type 0
-  Making = Makes state moment had_since fault_count
+  Making = Makes d
 
   module _ (opened : Opened) (old new : D) (calls : List Call) (call : Call) (serves : Serving opened old calls) (makes : Making old new opened.limit (last_faults opened.faults calls) call) where
     abbrev all : List Call
@@ -173,29 +174,29 @@ module _ {D : Type 0} (state : D → State) (moment : D → ℕ) (had_since : D 
     abbrev Rule : List Call → List Entry → Type 0
     Rule list history = Legal true opened.limit opened.faults list opened.history history
 
-    whole_of_old : (history : List Entry) → HasImageOf (state old) history → Rule calls history
+    whole_of_old : (history : List Entry) → HasImageOf (d.state old) history → Rule calls history
     whole_of_old history has = serves.whole has.image history has.is_image has.has
 
-    whole_of_new : (before history : List Entry) → HasImageOf (state old) before → Legal true opened.limit (last_faults opened.faults calls) (call ∷ []) before history → Rule all history
+    whole_of_new : (before history : List Entry) → HasImageOf (d.state old) before → Legal true opened.limit (last_faults opened.faults calls) (call ∷ []) before history → Rule all history
     whole_of_new before history has one = legal_append true opened.limit opened.faults calls (call ∷ []) opened.history before history (whole_of_old before has) one
 
     abbrev Last : ℕ
     Last = last_faults opened.faults calls
 
-    whole_at_return : (image : List ℕ) (history : List Entry) → IsImage (state new).journal image → HasAcceptedHistory history image → Rule all history
+    whole_at_return : (image : List ℕ) (history : List Entry) → IsImage (d.state new).journal image → HasAcceptedHistory history image → Rule all history
     whole_at_return image history is stands = whole_of_new makes.settled history makes.is_settled (makes.done image history is stands)
 
     all_of_new : (history : List Entry) → Rule all history → Rule (take (length calls + 1) all) history
     all_of_new history rule = subst (λ (list : List Call). Rule list history) (sym (take_all (length calls + 1) all (omega (arith, size)))) rule
 
     -- nothing that was acknowledged later counts
-    not_this : (answer : Answer) (t : ℕ) → t < moment new → call.said ≡ Ok answer → answer.disk_moment ≤ t → ⊥
-    not_this answer t lt is le = let kept = subst (λ (said : Result Answer DeskFault). IsKept state moment had_since fault_count new said) is makes.kept in omega (arith, kept.0, lt, le)
+    not_this : (answer : Answer) (t : ℕ) → t < d.moment new → call.said ≡ Ok answer → answer.disk_moment ≤ t → ⊥
+    not_this answer t lt is le = let kept = subst (λ (said : Result Answer DeskFault). IsKept d new said) is makes.kept in omega (arith, kept.0, lt, le)
 
-    in_old : (answer : Answer) (place t : ℕ) → t < moment new → IsAckedAt all place answer → answer.disk_moment ≤ t → IsAckedAt calls place answer
+    in_old : (answer : Answer) (place t : ℕ) → t < d.moment new → IsAckedAt all place answer → answer.disk_moment ≤ t → IsAckedAt calls place answer
     in_old answer place t lt is le = ⊎_elim (λ old_one. old_one) (λ this. absurd (not_this answer t lt this le)) (acked_split calls call place answer is)
 
-    recovers_old : (t : ℕ) (image : List ℕ) (history : List Entry) → t < moment new → HasAcceptedHistory history image → HasImageOf (state old) history → Recovers opened all t image
+    recovers_old : (t : ℕ) (image : List ℕ) (history : List Entry) → t < d.moment new → HasAcceptedHistory history image → HasImageOf (d.state old) history → Recovers opened all t image
     recovers_old t image history lt stands has = record {
       history = history;
       has = stands;
@@ -215,14 +216,14 @@ module _ {D : Type 0} (state : D → State) (moment : D → ℕ) (had_since : D 
       acked = λ place answer is le. omega (arith, size, acked_inside all place answer is);
     }
 
-    recovers_by : (t : ℕ) (image : List ℕ) (history : List Entry) → t < moment new → HasAcceptedHistory history image → HasImageOf (state old) history ⊎ Legal true opened.limit Last (call ∷ []) makes.settled history → Recovers opened all t image
+    recovers_by : (t : ℕ) (image : List ℕ) (history : List Entry) → t < d.moment new → HasAcceptedHistory history image → HasImageOf (d.state old) history ⊎ Legal true opened.limit Last (call ∷ []) makes.settled history → Recovers opened all t image
     recovers_by t image history lt stands (inl has) = recovers_old t image history lt stands has
     recovers_by t image history lt stands (inr one) = recovers_whole t image history stands (whole_of_new makes.settled history makes.is_settled one)
 
-    in_call : (t : ℕ) (s : State) (image : List ℕ) → t < moment new → IsImage s.journal image → InCall state moment had_since fault_count old opened.limit Last call makes.settled s → Recovers opened all t image
+    in_call : (t : ℕ) (s : State) (image : List ℕ) → t < d.moment new → IsImage s.journal image → InCall d old opened.limit Last call makes.settled s → Recovers opened all t image
     in_call t s image lt is call_has = let sound = call_has.sound image is in recovers_by t image sound.0 lt sound.1 (call_has.each image sound.0 is sound.1)
 
-    from_old : (t : ℕ) (image : List ℕ) → t < moment new → Recovers opened calls t image → Recovers opened all t image
+    from_old : (t : ℕ) (image : List ℕ) → t < d.moment new → Recovers opened calls t image → Recovers opened all t image
     from_old t image lt was = record {
       history = was.history;
       has = was.has;
@@ -232,30 +233,30 @@ module _ {D : Type 0} (state : D → State) (moment : D → ℕ) (had_since : D 
       acked = λ place answer is le. was.acked place answer (in_old answer place t lt is le) le;
     }
 
-    at_return : (t : ℕ) (image : List ℕ) → IsImage (state new).journal image → Recovers opened all t image
+    at_return : (t : ℕ) (image : List ℕ) → IsImage (d.state new).journal image → Recovers opened all t image
     at_return t image is = let sound = makes.run.now.sound image is in recovers_whole t image sound.0 sound.1 (whole_at_return image sound.0 is sound.1)
 
-    left_now : (t : ℕ) (s : State) (image : List ℕ) → t ≤ moment new → moment new ≤ t → had_since new t s → IsImage s.journal image → Recovers opened all t image
+    left_now : (t : ℕ) (s : State) (image : List ℕ) → t ≤ d.moment new → d.moment new ≤ t → d.had_since new t s → IsImage s.journal image → Recovers opened all t image
     left_now t s image le ge had is =
-        at_return t image (subst (λ (x : State). IsImage x.journal image) (only_now new s (since_earlier new (moment new) t s ge had)) is)
+        at_return t image (subst (λ (x : State). IsImage x.journal image) (only_now new s (since_earlier new (d.moment new) t s ge had)) is)
 
-    left_before : (t : ℕ) (s : State) (image : List ℕ) → opened.moment ≤ t → t < moment new → had_since new t s → IsImage s.journal image → Recovers opened all t image
-    left_before t s image since lt had is = elim (cases_lt (moment old) t) [
-      | inl in_it ↦ in_call t s image lt is (makes.run.each s (since_earlier new (moment old) t s (omega (arith, in_it)) had))
+    left_before : (t : ℕ) (s : State) (image : List ℕ) → opened.moment ≤ t → t < d.moment new → d.had_since new t s → IsImage s.journal image → Recovers opened all t image
+    left_before t s image since lt had is = elim (cases_lt (d.moment old) t) [
+      | inl in_it ↦ in_call t s image lt is (makes.run.each s (since_earlier new (d.moment old) t s (omega (arith, in_it)) had))
       | inr le ↦ ⊎_elim (λ was. from_old t image lt (serves.left t s image since le was is)) (λ now. in_call t s image lt is now) (makes.run.before t s le had)
     ]
 
-    begins_in_call : (entries history : List Entry) → ((h : List Entry) → HasImageOf (state old) h → Begins entries h) → HasImageOf (state old) history ⊎ Legal true opened.limit Last (call ∷ []) makes.settled history → Begins entries history
+    begins_in_call : (entries history : List Entry) → ((h : List Entry) → HasImageOf (d.state old) h → Begins entries h) → HasImageOf (d.state old) history ⊎ Legal true opened.limit Last (call ∷ []) makes.settled history → Begins entries history
     begins_in_call entries history of_old (inl has) = of_old history has
     begins_in_call entries history of_old (inr one) =
         begins_then entries makes.settled history (of_old makes.settled makes.is_settled) (begins_grown makes.settled history (call_grows opened.limit Last call makes.settled history one))
 
-    agrees_still : (place : ℕ) (answer : Answer) → IsAckedAt calls place answer → Agrees state moment had_since fault_count new answer
+    agrees_still : (place : ℕ) (answer : Answer) → IsAckedAt calls place answer → Agrees d new answer
     agrees_still place answer is =
         let was = serves.agrees place answer is in
         let le = (serves.told place answer is).1 in
-        let of_old : (history : List Entry) → HasImageOf (state old) history → Begins was.entries history =
-        λ history has. was.kept (state old) has.image history (counts_now old answer.disk_moment le) has.is_image has.has in
+        let of_old : (history : List Entry) → HasImageOf (d.state old) history → Begins was.entries history =
+        λ history has. was.kept (d.state old) has.image history (counts_now old answer.disk_moment le) has.is_image has.has in
         record {
           entries = was.entries;
           place = was.place;
@@ -265,46 +266,46 @@ module _ {D : Type 0} (state : D → State) (moment : D → ℕ) (had_since : D 
 
     -- ---- what is there stays, but for one entry
 
-    old_but_one : (h b : List Entry) → HasImageOf (state old) h → HasImageOf (state old) b → BeginsButOne h b
-    old_but_one h b has base = serves.steady (moment old) (state old) has.image h serves.later (omega arith) (counts_now old (moment old) (omega arith)) has.is_image has.has base.image b base.is_image base.has
+    old_but_one : (h b : List Entry) → HasImageOf (d.state old) h → HasImageOf (d.state old) b → BeginsButOne h b
+    old_but_one h b has base = serves.steady (d.moment old) (d.state old) has.image h serves.later (omega arith) (counts_now old (d.moment old) (omega arith)) has.is_image has.has base.image b base.is_image base.has
 
     -- from what each history before the call begins with but for one, to the return
-    but_one_at_return : (h now : List Entry) → ((b : List Entry) → HasImageOf (state old) b → BeginsButOne h b) → Legal true opened.limit Last (call ∷ []) makes.settled now → BeginsButOne h now
+    but_one_at_return : (h now : List Entry) → ((b : List Entry) → HasImageOf (d.state old) b → BeginsButOne h b) → Legal true opened.limit Last (call ∷ []) makes.settled now → BeginsButOne h now
     but_one_at_return h now each done =
         but_one_then h makes.settled now (each makes.settled makes.is_settled) (begins_grown makes.settled now (call_grows opened.limit Last call makes.settled now done))
 
-    but_one_in_call : (h now : List Entry) → HasImageOf (state old) h ⊎ Legal true opened.limit Last (call ∷ []) makes.settled h → Legal true opened.limit Last (call ∷ []) makes.settled now → BeginsButOne h now
+    but_one_in_call : (h now : List Entry) → HasImageOf (d.state old) h ⊎ Legal true opened.limit Last (call ∷ []) makes.settled h → Legal true opened.limit Last (call ∷ []) makes.settled now → BeginsButOne h now
     but_one_in_call h now (inl has) done = but_one_at_return h now (λ b base. old_but_one h b has base) done
     but_one_in_call h now (inr one) done =
         grown_but_one makes.settled h now (call_grows opened.limit Last call makes.settled h one) (begins_grown makes.settled now (call_grows opened.limit Last call makes.settled now done))
 
-    steady_call : (s : State) (image : List ℕ) (h : List Entry) → InCall state moment had_since fault_count old opened.limit Last call makes.settled s → IsImage s.journal image → HasAcceptedHistory h image
-        → (image_now : List ℕ) (now : List Entry) → IsImage (state new).journal image_now → HasAcceptedHistory now image_now → BeginsButOne h now
+    steady_call : (s : State) (image : List ℕ) (h : List Entry) → InCall d old opened.limit Last call makes.settled s → IsImage s.journal image → HasAcceptedHistory h image
+        → (image_now : List ℕ) (now : List Entry) → IsImage (d.state new).journal image_now → HasAcceptedHistory now image_now → BeginsButOne h now
     steady_call s image h has is stands image_now now is_now stands_now =
         but_one_in_call h now (has.each image h is stands) (makes.done image_now now is_now stands_now)
 
-    steady_new : (t : ℕ) (s : State) (image : List ℕ) (h : List Entry) → opened.moment ≤ t → had_since new t s → IsImage s.journal image → HasAcceptedHistory h image
-        → (image_now : List ℕ) (now : List Entry) → IsImage (state new).journal image_now → HasAcceptedHistory now image_now → BeginsButOne h now
-    steady_new t s image h since had is stands image_now now is_now stands_now = elim (cases_lt (moment old) t) [
-      | inl in_it ↦ steady_call s image h (makes.run.each s (since_earlier new (moment old) t s (omega (arith, in_it)) had)) is stands image_now now is_now stands_now
+    steady_new : (t : ℕ) (s : State) (image : List ℕ) (h : List Entry) → opened.moment ≤ t → d.had_since new t s → IsImage s.journal image → HasAcceptedHistory h image
+        → (image_now : List ℕ) (now : List Entry) → IsImage (d.state new).journal image_now → HasAcceptedHistory now image_now → BeginsButOne h now
+    steady_new t s image h since had is stands image_now now is_now stands_now = elim (cases_lt (d.moment old) t) [
+      | inl in_it ↦ steady_call s image h (makes.run.each s (since_earlier new (d.moment old) t s (omega (arith, in_it)) had)) is stands image_now now is_now stands_now
       | inr le ↦ ⊎_elim
           (λ was. but_one_at_return h now
           (λ b base. serves.steady t s image h since le was is stands base.image b base.is_image base.has) (makes.done image_now now is_now stands_now))
           (λ in_it. steady_call s image h in_it is stands image_now now is_now stands_now) (makes.run.before t s le had)
     ]
 
-    agrees_now : (answer : Answer) → call.said ≡ Ok answer → Agrees state moment had_since fault_count new answer
+    agrees_now : (answer : Answer) → call.said ≡ Ok answer → Agrees d new answer
     agrees_now answer is =
-        let kept = subst (λ (said : Result Answer DeskFault). IsKept state moment had_since fault_count new said) is makes.kept in
+        let kept = subst (λ (said : Result Answer DeskFault). IsKept d new said) is makes.kept in
         record {
           entries = kept.1;
           place = kept.2;
           kept = λ s image history had is_image stands.
-              let same = only_now new s (since_earlier new (moment new) answer.disk_moment s (omega (arith, kept.0)) had) in
+              let same = only_now new s (since_earlier new (d.moment new) answer.disk_moment s (omega (arith, kept.0)) had) in
               ([], kept.3 image history (subst (λ (x : State). IsImage x.journal image) same is_image) stands ∙ sym (append-nil kept.1));
         }
 
-    recoverable_in : (s : State) → InCall state moment had_since fault_count old opened.limit Last call makes.settled s → Recoverable opened all s
+    recoverable_in : (s : State) → InCall d old opened.limit Last call makes.settled s → Recoverable opened all s
     recoverable_in s call_has image is =
         let sound = call_has.sound image is in
         ⊎_elim
@@ -318,13 +319,13 @@ module _ {D : Type 0} (state : D → State) (moment : D → ℕ) (had_since : D 
         (λ one. (sound.0, length calls + 1, sound.1, omega (arith, size), all_of_new sound.0 (whole_of_new makes.settled sound.0 makes.is_settled one)))
         (call_has.each image sound.0 is sound.1)
 
-    pub recoverable : KeepsTo state moment had_since old new (Recoverable opened all)
-    recoverable = weakened state moment had_since old new (InCall state moment had_since fault_count old opened.limit Last call makes.settled) (Recoverable opened all) recoverable_in makes.run
+    pub recoverable : KeepsTo d.state d.moment d.had_since old new (Recoverable opened all)
+    recoverable = weakened d.state d.moment d.had_since old new (InCall d old opened.limit Last call makes.settled) (Recoverable opened all) recoverable_in makes.run
 
     pub one_more : Serving opened new all
     one_more = record {
       later = omega (arith, serves.later, makes.run.later);
-      left = λ t s image since le had is. elim (cases_lt t (moment new)) [
+      left = λ t s image since le had is. elim (cases_lt t (d.moment new)) [
         | inl lt ↦ left_before t s image since lt had is
         | inr ge ↦ left_now t s image le ge had is
       ];
@@ -333,25 +334,25 @@ module _ {D : Type 0} (state : D → State) (moment : D → ℕ) (had_since : D 
       steady = λ t s image h since le had is stands image_now now is_now stands_now. steady_new t s image h since had is stands image_now now is_now stands_now;
       told = λ place answer is. ⊎_elim
           (λ before. let was = serves.told place answer before in (was.0, omega (arith, was.1, makes.run.later)))
-          (λ this. let kept = subst (λ (said : Result Answer DeskFault). IsKept state moment had_since fault_count new said) this makes.kept in (omega (arith, kept.0, serves.later, makes.run.later), omega (arith, kept.0)))
+          (λ this. let kept = subst (λ (said : Result Answer DeskFault). IsKept d new said) this makes.kept in (omega (arith, kept.0, serves.later, makes.run.later), omega (arith, kept.0)))
           (acked_split calls call place answer is);
-      faults = (omega (arith, serves.faults.0, makes.faults.0), told_more calls call (fault_count old) (fault_count new) makes.faults.0 serves.faults.1 makes.faults.1);
+      faults = (omega (arith, serves.faults.0, makes.faults.0), told_more calls call (d.fault_count old) (d.fault_count new) makes.faults.0 serves.faults.1 makes.faults.1);
     }
 
   -- at the return of an opening whose disk has one history
-  pub starts : (opened : Opened) (disk : D) → IsSound (state disk)
-      → ((image : List ℕ) (history : List Entry) → IsImage (state disk).journal image → HasAcceptedHistory history image → history ≡ opened.history)
-      → opened.moment ≡ moment disk → opened.faults ≡ fault_count disk → Serving opened disk []
+  pub starts : (opened : Opened) (disk : D) → IsSound (d.state disk)
+      → ((image : List ℕ) (history : List Entry) → IsImage (d.state disk).journal image → HasAcceptedHistory history image → history ≡ opened.history)
+      → opened.moment ≡ d.moment disk → opened.faults ≡ d.fault_count disk → Serving opened disk []
   starts opened disk sound one at counts = record {
     later = omega (arith, at);
     left = λ t s image since le had is.
-        let here = subst (λ (x : State). IsImage x.journal image) (only_now disk s (since_earlier disk (moment disk) t s (omega (arith, since, at)) had)) is in
+        let here = subst (λ (x : State). IsImage x.journal image) (only_now disk s (since_earlier disk (d.moment disk) t s (omega (arith, since, at)) had)) is in
         let found = sound image here in
         record { history = found.0; has = found.1; count = 0; most = omega arith; legal = one image found.0 here found.1; acked = λ place answer none le. absurd none };
     agrees = λ place answer none. absurd none;
     whole = λ image history is stands. one image history is stands;
     steady = λ t s image h since le had is stands image_now now is_now stands_now.
-        let here = subst (λ (x : State). IsImage x.journal image) (only_now disk s (since_earlier disk (moment disk) t s (omega (arith, since, at)) had)) is in
+        let here = subst (λ (x : State). IsImage x.journal image) (only_now disk s (since_earlier disk (d.moment disk) t s (omega (arith, since, at)) had)) is in
         inl ([], one image_now now is_now stands_now ∙ sym (one image h here stands) ∙ sym (append-nil h));
     told = λ place answer none. absurd none;
     faults = (omega (arith, counts), tt);

@@ -1,6 +1,7 @@
 -- A journal that was opened, and the desk over it.
-use Rattle.std.proofs.Common.{◌≡◌, ℕ, ◌≤◌, ◌^◌, Bool, false, length, Result, Ok, Err, refl, sym, ap, ◌∙◌, subst, arith}
+use Rattle.std.proofs.Common.{◌≡◌, ℕ, ◌≤◌, ◌^◌, false, length, Result, Ok, Err, refl, sym, ap, ◌∙◌, subst, arith}
 use Rattle.std.specs.Prelude.{IsTrue, OnOk, IfErr}
+use Rattle.disk_core.specs.declared.disk.Disk as disks
 use Rattle.disk_core.specs.Files.{State, File, IsImage, synced_file}
 use Rattle.disk_core.specs.Kept.{Narrower}
 use Rattle.disk_core.specs.Moments.{KeepsTo, Untouched}
@@ -26,45 +27,45 @@ pub on_fault : {P Q : OpenFault → Type 0} (r : Result Unit OpenFault) → ((e 
 on_fault (Ok x) f p = p
 on_fault (Err e) f p = f e p
 
-module _ {D : Type 0} {C : Type 0} (honest : Bool) (state : D → State) (moment : D → ℕ) (had_since : D → ℕ → State → Type 0) (fault_count : D → ℕ)
-    (only_now : (disk : D) (s : State) → had_since disk (moment disk) s → s ≡ state disk)
-    (counts_now : (disk : D) (t : ℕ) → t ≤ moment disk → had_since disk t (state disk))
-    (since_earlier : (disk : D) (t u : ℕ) (s : State) → t ≤ u → had_since disk u s → had_since disk t s)
-    (own : IsTrue honest → (disk : D) → IsImage (state disk).journal (state disk).journal.seen) where
+module _ {D : Type 0} {C : Type 0} (d : disks.Ghosts D)
+    (only_now : (disk : D) (s : State) → d.had_since disk (d.moment disk) s → s ≡ d.state disk)
+    (counts_now : (disk : D) (t : ℕ) → t ≤ d.moment disk → d.had_since disk t (d.state disk))
+    (since_earlier : (disk : D) (t u : ℕ) (s : State) → t ≤ u → d.had_since disk u s → d.had_since disk t s)
+    (own : IsTrue d.honest → (disk : D) → IsImage (d.state disk).journal (d.state disk).journal.seen) where
   -- all entries of the journal were read
-  pub reopened : (old office : Parts D C) (begun : D) (size : ℕ) → HasReplayed honest state begun office.disk office.gate office.office → office.limit ≡ old.limit → old.limit ≤ 2 ^ 45 → office.clock ≡ old.clock
-      → (IsTrue honest → IsMade (state old.disk).journal.seen × (size ≡ length (state begun).journal.seen) × ((state begun).journal ≡ synced_file (state old.disk).journal.seen))
-      → (IsTrue honest → KeepsTo state moment had_since old.disk begun (Narrower (state old.disk))) → (IsTrue honest → Untouched state moment had_since begun office.disk) → fault_count old.disk ≤ fault_count office.disk
-      → Reopens honest state moment had_since fault_count old office
+  pub reopened : (old office : Parts D C) (begun : D) (size : ℕ) → HasReplayed d begun office.disk office.gate office.office → office.limit ≡ old.limit → old.limit ≤ 2 ^ 45 → office.clock ≡ old.clock
+      → (IsTrue d.honest → IsMade (d.state old.disk).journal.seen × (size ≡ length (d.state begun).journal.seen) × ((d.state begun).journal ≡ synced_file (d.state old.disk).journal.seen))
+      → (IsTrue d.honest → KeepsTo d.state d.moment d.had_since old.disk begun (Narrower (d.state old.disk))) → (IsTrue d.honest → Untouched d.state d.moment d.had_since begun office.disk) → d.fault_count old.disk ≤ d.fault_count office.disk
+      → Reopens d old office
   reopened old office begun size read limit_is small clock_is begin run untouched later = record {
     history = read.history;
     holds = record { office = read.office_is; end = read.end; limit = subst (λ (n : ℕ). n ≤ 2 ^ 45) (sym limit_is) small; at_rest = rests };
     read = λ tells. subst (HasAcceptedHistory read.history) (seen_is tells)
-        (rest_image (state office.disk) office.gate read.history read.office_is.plain (rests tells) read.office_is.is_run (state office.disk).journal.seen (own tells office.disk));
-    any_moment = λ tells. then_untouched state moment had_since old.disk begun office.disk (Narrower (state old.disk)) (run tells) (untouched tells);
+        (rest_image (d.state office.disk) office.gate read.history read.office_is.plain (rests tells) read.office_is.is_run (d.state office.disk).journal.seen (own tells office.disk));
+    any_moment = λ tells. then_untouched d.state d.moment d.had_since old.disk begun office.disk (Narrower (d.state old.disk)) (run tells) (untouched tells);
     clock = clock_is;
     limit = limit_is;
     later = later;
   }
     where
-      rests : IsTrue honest → IsAtRest header (state office.disk) office.gate read.history
-      rests tells = let b = begin tells in read.at_rest tells (state old.disk).journal.seen b.2 b.0
+      rests : IsTrue d.honest → IsAtRest header (d.state office.disk) office.gate read.history
+      rests tells = let b = begin tells in read.at_rest tells (d.state old.disk).journal.seen b.2 b.0
 
-      seen_is : IsTrue honest → (state office.disk).journal.seen ≡ (state old.disk).journal.seen
+      seen_is : IsTrue d.honest → (d.state office.disk).journal.seen ≡ (d.state old.disk).journal.seen
       seen_is tells = ap (λ (s : State). s.journal.seen) (untouched tells).now ∙ ap (λ (f : File). f.seen) (begin tells).2
 
   -- the desk over them stands for no call yet
-  pub opened : (old office : Parts D C) → Reopens honest state moment had_since fault_count old office → Opens honest state moment had_since fault_count old.disk old.clock old.limit (view_of office false)
+  pub opened : (old office : Parts D C) → Reopens d old office → Opens d old.disk old.clock old.limit (view_of office false)
   opened old office again = record {
     history = again.history;
     stands = record {
       limit = refl;
       faults = (omega arith, tt);
-      holds = λ _. (again.history, refl, same_parts honest state again.history office false again.holds);
+      holds = λ _. (again.history, refl, same_parts d again.history office false again.holds);
       lost = λ not is. absurd (still_true false is refl);
-      serves = λ tells. starts state moment had_since fault_count counts_now only_now since_earlier (opened_with moment fault_count again.history (view_of office false)) office.disk
-          (λ image is. (again.history, rest_image (state office.disk) office.gate again.history again.holds.office.plain (again.holds.at_rest tells) again.holds.office.is_run image is))
-          (λ image history is other. unique history again.history image other (each_image header (state office.disk) office.gate again.history (again.holds.at_rest tells) image is)) refl refl;
+      serves = λ tells. starts d counts_now only_now since_earlier (opened_with d again.history (view_of office false)) office.disk
+          (λ image is. (again.history, rest_image (d.state office.disk) office.gate again.history again.holds.office.plain (again.holds.at_rest tells) again.holds.office.is_run image is))
+          (λ image history is other. unique history again.history image other (each_image header (d.state office.disk) office.gate again.history (again.holds.at_rest tells) image is)) refl refl;
     };
     fresh = refl;
     limit_is = again.limit;

@@ -31,9 +31,9 @@ module _ {D C : Type 0} (d : disks.Ghosts D) (k : clocks.Ghosts C)
     (own : IsTrue d.honest → (disk : D) → IsImage (d.state disk).journal (d.state disk).journal.seen) where
   -- a history to which the calls lead, and which the desk holds if it is not stale
   abbrev Led : Opened → List Call → DeskView D C → Type 0
-  Led opened calls desk = (history : List Entry) × Legal d.honest opened.limit opened.faults calls opened.history history × (desk.stale ≡ false → Holds d.honest d.state history (parts_of desk))
+  Led opened calls desk = (history : List Entry) × Legal d.honest opened.limit opened.faults calls opened.history history × (desk.stale ≡ false → Holds d history (parts_of desk))
 
-  led_stale : (opened : Opened) (calls : List Call) (desk : DeskView D C) → StandsFor d.honest d.state d.moment d.had_since d.fault_count opened calls desk → desk.stale ≡ true → Led opened calls desk
+  led_stale : (opened : Opened) (calls : List Call) (desk : DeskView D C) → StandsFor d opened calls desk → desk.stale ≡ true → Led opened calls desk
   led_stale opened calls desk s stale = by_honesty d.honest
       (λ tells.
       let seen = (d.state desk.disk).journal.seen in
@@ -42,14 +42,14 @@ module _ {D C : Type 0} (d : disks.Ghosts D) (k : clocks.Ghosts C)
       (recovers.history, honest_legal d.honest opened.limit opened.faults calls opened.history recovers.history tells (serves.whole seen recovers.history (own tells desk.disk) recovers.has), λ fresh. absurd (still_true desk.stale stale fresh)))
       (λ not. ([], s.lost not stale [] (some_run [] empty_office run_none), λ fresh. absurd (still_true desk.stale stale fresh)))
 
-  led : (opened : Opened) (calls : List Call) (desk : DeskView D C) → StandsFor d.honest d.state d.moment d.had_since d.fault_count opened calls desk → Led opened calls desk
+  led : (opened : Opened) (calls : List Call) (desk : DeskView D C) → StandsFor d opened calls desk → Led opened calls desk
   led opened calls desk s = by_bool desk.stale (λ stale. led_stale opened calls desk s stale) (λ fresh. let h = s.holds fresh in (h.0, h.1, λ _. h.2))
     where
       by_bool : {P : Type 0} (b : Bool) → (b ≡ true → P) → (b ≡ false → P) → P
       by_bool true is_true is_false = is_true refl
       by_bool false is_true is_false = is_false refl
 
-  keeps_histories : (opened : Opened) (calls : List Call) (disk : D) → Serves d.state d.moment d.had_since d.fault_count opened disk calls → KeepsHistories d opened disk
+  keeps_histories : (opened : Opened) (calls : List Call) (disk : D) → Serves d opened disk calls → KeepsHistories d opened disk
   keeps_histories opened calls disk serves t s image from to had is =
       let r = serves.left t s image from to had is in (
         r.history,
@@ -58,10 +58,10 @@ module _ {D C : Type 0} (d : disks.Ghosts D) (k : clocks.Ghosts C)
         λ at_end last is_now has. serves.steady t s image r.history from to had is r.has at_end last is_now has,
       )
 
-  keeps_calls : (disk : D) (clock : C) (limit : ℕ) (old new : DeskView D C) (calls : List Call) (opens : Opens d.honest d.state d.moment d.had_since d.fault_count disk clock limit old)
-      (followed : Followed d k old.disk (opened_with d.moment d.fault_count opens.history old) calls new)
-      → Path d k old calls new → (history : List Entry) → (new.stale ≡ false → Holds d.honest d.state history (parts_of new)) → IsTrue d.honest
-      → KeepsCalls d disk new.disk (opened_with d.moment d.fault_count opens.history old) calls history
+  keeps_calls : (disk : D) (clock : C) (limit : ℕ) (old new : DeskView D C) (calls : List Call) (opens : Opens d disk clock limit old)
+      (followed : Followed d k old.disk (opened_with d opens.history old) calls new)
+      → Path d k old calls new → (history : List Entry) → (new.stale ≡ false → Holds d history (parts_of new)) → IsTrue d.honest
+      → KeepsCalls d disk new.disk (opened_with d opens.history old) calls history
   keeps_calls disk clock limit old new calls opens followed path history holds tells = record {
     read = opens.read tells;
     only = λ first each. entries_unique header opens.history first (d.state disk).journal.seen (opens.read tells).entries (each (d.state disk).journal.seen (own tells disk)).entries;
@@ -70,7 +70,7 @@ module _ {D C : Type 0} (d : disks.Ghosts D) (k : clocks.Ghosts C)
     before = opens.any_moment tells;
     since = followed.ran tells;
     serves = followed.stands.serves tells;
-    steady = keeps_histories (opened_with d.moment d.fault_count opens.history old) calls new.disk (followed.stands.serves tells);
+    steady = keeps_histories (opened_with d opens.history old) calls new.disk (followed.stands.serves tells);
     all = λ fresh image is.
         let h = holds (stale_is d k old new calls path ∙ ap (λ (b : Bool). stale_by b calls) opens.fresh ∙ fresh) in
         rest_image (d.state new.disk) new.gate history h.office.plain (h.at_rest tells) h.office.is_run image is;
@@ -82,10 +82,10 @@ module _ {D C : Type 0} (d : disks.Ghosts D) (k : clocks.Ghosts C)
 
   -- an office that was opened answers the calls by which its desk moved
   pub answers_calls : (disk : D) (clock : C) (limit : ℕ) (old new : DeskView D C) (calls : List Call)
-      → Opens d.honest d.state d.moment d.had_since d.fault_count disk clock limit old → Path d k old calls new
+      → Opens d disk clock limit old → Path d k old calls new
       → AnswersCalls d k limit (outside disk clock) (outside new.disk new.clock) calls
   answers_calls disk clock limit old new calls opens path =
-      let opened = opened_with d.moment d.fault_count opens.history old in
+      let opened = opened_with d opens.history old in
       let followed = follow d k counts_now only_now opened old new calls opens.stands path in
       let lead = led opened calls new followed.stands in
       record {
@@ -100,5 +100,5 @@ module _ {D C : Type 0} (d : disks.Ghosts D) (k : clocks.Ghosts C)
 
   -- which is stale at its end where the calls left it so
   pub ends_stale : (disk : D) (clock : C) (limit : ℕ) (old new : DeskView D C) (calls : List Call)
-      → Opens d.honest d.state d.moment d.had_since d.fault_count disk clock limit old → Path d k old calls new → new.stale ≡ stale_by false calls
+      → Opens d disk clock limit old → Path d k old calls new → new.stale ≡ stale_by false calls
   ends_stale disk clock limit old new calls opens path = stale_is d k old new calls path ∙ ap (λ (b : Bool). stale_by b calls) opens.fresh

@@ -3,6 +3,7 @@ use Rattle.std.proofs.Common.{◌≡◌, inl, inr, ⊎_elim, ℕ, ◌+◌, ◌<�
 use Rattle.std.specs.Prelude.{IsTrue}
 use Rattle.office_base.specs.Faults.{Rose}
 use Rattle.moments.specs.Time.{end_of_time}
+use Rattle.disk_core.specs.declared.disk.Disk as disks
 use Rattle.disk_core.specs.Files.{State, IsImage}
 use Rattle.disk_core.specs.Moments.{KeepsTo}
 use Rattle.disk_core.proofs.Time.{started, weakened}
@@ -40,9 +41,9 @@ pub still_true : (b : Bool) → b ≡ true → b ≡ false → ⊥
 still_true true is not = absurd cc
 still_true false is not = absurd cc
 
-module _ {D : Type 0} {C : Type 0} (honest : Bool) (state : D → State) (moment : D → ℕ) (had_since : D → ℕ → State → Type 0) (fault_count : D → ℕ) where
+module _ {D : Type 0} {C : Type 0} (d : disks.Ghosts D) where
   module _ (b : Bool) (limit counted t number : ℕ) (question : Ask) (office : Office) (said : Answer) (before after : List Entry) (new : Parts D C)
-      (at : t ≡ moment_after number office.last) (made : IsAnswerOf moment t number new said) (end : new.gate ≡ end_gate header after) where
+      (at : t ≡ moment_after number office.last) (made : IsAnswerOf d.moment t number new said) (end : new.gate ≡ end_gate header after) where
     at_moment : said.moment ≡ moment_after said.told office.last
     at_moment = made.moment ∙ at ∙ ap (λ (n : ℕ). moment_after n office.last) (sym made.told)
 
@@ -66,25 +67,25 @@ module _ {D : Type 0} {C : Type 0} (honest : Bool) (state : D → State) (moment
 abbrev pub view_of : {D C : Type 0} → Parts D C → Bool → DeskView D C
 view_of parts stale = record { disk = parts.disk; clock = parts.clock; office = parts.office; gate = parts.gate; limit = parts.limit; stale = stale }
 
-pub same_parts : {D C : Type 0} (honest : Bool) (state : D → State) (history : List Entry) (parts : Parts D C) (stale : Bool) → Holds honest state history parts → Holds honest state history (parts_of (view_of parts stale))
-same_parts honest state history parts stale h = record { office = h.office; end = h.end; limit = h.limit; at_rest = h.at_rest }
+pub same_parts : {D C : Type 0} (d : disks.Ghosts D) (history : List Entry) (parts : Parts D C) (stale : Bool) → Holds d history parts → Holds d history (parts_of (view_of parts stale))
+same_parts d history parts stale h = record { office = h.office; end = h.end; limit = h.limit; at_rest = h.at_rest }
 
 -- an office over its journal stands for a list of calls since the opening of its desk
-pub record StandsAt {D C : Type 0} (honest : Bool) (state : D → State) (moment : D → ℕ) (had_since : D → ℕ → State → Type 0) (fault_count : D → ℕ) (opened : Opened) (calls : List Call) (parts : Parts D C) : Type 0 where
+pub record StandsAt {D C : Type 0} (d : disks.Ghosts D) (opened : Opened) (calls : List Call) (parts : Parts D C) : Type 0 where
   pub limit : parts.limit ≡ opened.limit
-  pub faults : (opened.faults ≤ fault_count parts.disk) × AreToldBy (fault_count parts.disk) calls
+  pub faults : (opened.faults ≤ d.fault_count parts.disk) × AreToldBy (d.fault_count parts.disk) calls
   pub history : List Entry
-  pub legal : Legal honest opened.limit opened.faults calls opened.history history
-  pub holds : Holds honest state history parts
-  pub serves : IsTrue honest → Serves state moment had_since fault_count opened parts.disk calls
+  pub legal : Legal d.honest opened.limit opened.faults calls opened.history history
+  pub holds : Holds d history parts
+  pub serves : IsTrue d.honest → Serves d opened parts.disk calls
 
-module _ {D : Type 0} {C : Type 0} (honest : Bool) (state : D → State) (moment : D → ℕ) (had_since : D → ℕ → State → Type 0) (fault_count : D → ℕ)
-    (counts_now : (disk : D) (t : ℕ) → t ≤ moment disk → had_since disk t (state disk))
-    (only_now : (disk : D) (s : State) → had_since disk (moment disk) s → s ≡ state disk)
-    (since_earlier : (disk : D) (t u : ℕ) (s : State) → t ≤ u → had_since disk u s → had_since disk t s)
-    (own : IsTrue honest → (disk : D) → IsImage (state disk).journal (state disk).journal.seen) where
+module _ {D : Type 0} {C : Type 0} (d : disks.Ghosts D)
+    (counts_now : (disk : D) (t : ℕ) → t ≤ d.moment disk → d.had_since disk t (d.state disk))
+    (only_now : (disk : D) (s : State) → d.had_since disk (d.moment disk) s → s ≡ d.state disk)
+    (since_earlier : (disk : D) (t u : ℕ) (s : State) → t ≤ u → d.had_since disk u s → d.had_since disk t s)
+    (own : IsTrue d.honest → (disk : D) → IsImage (d.state disk).journal (d.state disk).journal.seen) where
   abbrev Stands : Opened → List Call → Parts D C → Type 0
-  Stands opened calls parts = StandsAt honest state moment had_since fault_count opened calls parts
+  Stands opened calls parts = StandsAt d opened calls parts
 
   at_clock : (opened : Opened) (calls : List Call) (parts : Parts D C) (clock : C) → Stands opened calls parts → Stands opened calls (record parts { clock = clock })
   at_clock opened calls parts clock s = record {
@@ -96,54 +97,54 @@ module _ {D : Type 0} {C : Type 0} (honest : Bool) (state : D → State) (moment
     serves = s.serves;
   }
 
-  module _ (old new : Parts D C) (same_limit : new.limit ≡ old.limit) (later : fault_count old.disk ≤ fault_count new.disk) (opened : Opened) (calls : List Call) (s : Stands opened calls old) where
+  module _ (old new : Parts D C) (same_limit : new.limit ≡ old.limit) (later : d.fault_count old.disk ≤ d.fault_count new.disk) (opened : Opened) (calls : List Call) (s : Stands opened calls old) where
     abbrev last : ℕ
     last = last_faults opened.faults calls
 
     abbrev Next : Call → Type 0
-    Next call = GoesOn honest state moment had_since fault_count opened (calls ++ call ∷ []) old.disk (view_of new (stale_after false call.said))
+    Next call = GoesOn d opened (calls ++ call ∷ []) old.disk (view_of new (stale_after false call.said))
 
-    grown_by : (call : Call) (after : List Entry) → ((b : Bool) → Legal b opened.limit last (call ∷ []) s.history after) → (stale_after false call.said ≡ false → Holds honest state after new)
-        → ((IsTrue honest → ⊥) → stale_after false call.said ≡ true → (history : List Entry) → Legal honest opened.limit last (call ∷ []) s.history history) → IsToldBy (fault_count new.disk) call.said
-        → (IsTrue honest → KeepsTo state moment had_since old.disk new.disk (KeepsSlots (state old.disk))) → (IsTrue honest → Makes state moment had_since fault_count old.disk new.disk opened.limit last call) → Next call
+    grown_by : (call : Call) (after : List Entry) → ((b : Bool) → Legal b opened.limit last (call ∷ []) s.history after) → (stale_after false call.said ≡ false → Holds d after new)
+        → ((IsTrue d.honest → ⊥) → stale_after false call.said ≡ true → (history : List Entry) → Legal d.honest opened.limit last (call ∷ []) s.history history) → IsToldBy (d.fault_count new.disk) call.said
+        → (IsTrue d.honest → KeepsTo d.state d.moment d.had_since old.disk new.disk (KeepsSlots (d.state old.disk))) → (IsTrue d.honest → Makes d old.disk new.disk opened.limit last call) → Next call
     grown_by call after rule holds lost told slots makes = record {
       stands = record {
         limit = same_limit ∙ s.limit;
-        faults = (omega (arith, later, s.faults.0), told_more calls call (fault_count old.disk) (fault_count new.disk) later s.faults.1 told);
-        holds = λ fine. (after, legal_append honest opened.limit opened.faults calls (call ∷ []) opened.history s.history after s.legal (rule honest), same_parts honest state after new (stale_after false call.said) (holds fine));
-        lost = λ not is history some. legal_append honest opened.limit opened.faults calls (call ∷ []) opened.history s.history history s.legal (lost not is history);
-        serves = λ tells. one_more state moment had_since fault_count counts_now only_now since_earlier opened old.disk new.disk calls call (s.serves tells) (makes tells);
+        faults = (omega (arith, later, s.faults.0), told_more calls call (d.fault_count old.disk) (d.fault_count new.disk) later s.faults.1 told);
+        holds = λ fine. (after, legal_append d.honest opened.limit opened.faults calls (call ∷ []) opened.history s.history after s.legal (rule d.honest), same_parts d after new (stale_after false call.said) (holds fine));
+        lost = λ not is history some. legal_append d.honest opened.limit opened.faults calls (call ∷ []) opened.history s.history history s.legal (lost not is history);
+        serves = λ tells. one_more d counts_now only_now since_earlier opened old.disk new.disk calls call (s.serves tells) (makes tells);
       };
-      any_moment = λ tells. recoverable state moment had_since fault_count counts_now only_now since_earlier opened old.disk new.disk calls call (s.serves tells) (makes tells);
+      any_moment = λ tells. recoverable d counts_now only_now since_earlier opened old.disk new.disk calls call (s.serves tells) (makes tells);
       slots = slots;
     }
 
     -- the slots stay while an entry is added
-    adding_keeps : (before : List Entry) (entry : Entry) → KeepsTo state moment had_since old.disk new.disk (BeforeOrAfter header before entry (state old.disk)) → KeepsTo state moment had_since old.disk new.disk (KeepsSlots (state old.disk))
-    adding_keeps before entry run = weakened state moment had_since old.disk new.disk (BeforeOrAfter header before entry (state old.disk)) (KeepsSlots (state old.disk)) (λ t both. (both.slot0, both.slot1)) run
+    adding_keeps : (before : List Entry) (entry : Entry) → KeepsTo d.state d.moment d.had_since old.disk new.disk (BeforeOrAfter header before entry (d.state old.disk)) → KeepsTo d.state d.moment d.had_since old.disk new.disk (KeepsSlots (d.state old.disk))
+    adding_keeps before entry run = weakened d.state d.moment d.had_since old.disk new.disk (BeforeOrAfter header before entry (d.state old.disk)) (KeepsSlots (d.state old.disk)) (λ t both. (both.slot0, both.slot1)) run
 
-    abbrev held : Holds honest state s.history old
+    abbrev held : Holds d s.history old
     held = s.holds
 
     abbrev plain : Office
     plain = held.office.plain
 
     -- a call that wrote nothing
-    still_by : (call : Call) → stale_after false call.said ≡ false → new.disk ≡ old.disk → Holds honest state s.history new → ((b : Bool) → IsLegal b opened.limit last call.ask call.said plain s.history s.history) → IsToldBy (fault_count new.disk) call.said
-        → (IsTrue honest → IsKept state moment had_since fault_count new.disk call.said) → Next call
+    still_by : (call : Call) → stale_after false call.said ≡ false → new.disk ≡ old.disk → Holds d s.history new → ((b : Bool) → IsLegal b opened.limit last call.ask call.said plain s.history s.history) → IsToldBy (d.fault_count new.disk) call.said
+        → (IsTrue d.honest → IsKept d new.disk call.said) → Next call
     still_by call fine same holds legal told kept =
         let rule : (b : Bool) → Legal b opened.limit last (call ∷ []) s.history s.history = λ b. one_legal b opened.limit last call s.history s.history plain held.office.is_run (legal b) in
         grown_by call s.history rule (λ _. holds) (λ not is. absurd (still_true (stale_after false call.said) is fine)) told
-        (λ _. subst (λ (d : D). KeepsTo state moment had_since old.disk d (KeepsSlots (state old.disk))) (sym same) (started state moment had_since old.disk (KeepsSlots (state old.disk)) (only_now old.disk) (refl, refl))) (λ tells.
-        makes_still state moment had_since fault_count counts_now only_now since_earlier old.disk old.gate s.history plain (held.at_rest tells) held.office.is_run (own tells old.disk) opened.limit last call new.disk same (rule true) (kept tells) told)
+        (λ _. subst (λ (z : D). KeepsTo d.state d.moment d.had_since old.disk z (KeepsSlots (d.state old.disk))) (sym same) (started d.state d.moment d.had_since old.disk (KeepsSlots (d.state old.disk)) (only_now old.disk) (refl, refl))) (λ tells.
+        makes_still d counts_now only_now since_earlier old.disk old.gate s.history plain (held.at_rest tells) held.office.is_run (own tells old.disk) opened.limit last call new.disk same (rule true) (kept tells) told)
 
-    kept_at : (after : List Entry) (t number : ℕ) (said : Answer) → Holds honest state after new → IsAnswerOf moment t number new said
-        → IsTrue honest → IsKept state moment had_since fault_count new.disk (Ok said)
+    kept_at : (after : List Entry) (t number : ℕ) (said : Answer) → Holds d after new → IsAnswerOf d.moment t number new said
+        → IsTrue d.honest → IsKept d new.disk (Ok said)
     kept_at after t number said holds made tells = (
       made.disk_moment,
       after,
       sym (made.position ∙ holds.end),
-      λ image h is has. unique h after image has (each_image header (state new.disk) new.gate after (holds.at_rest tells) image is),
+      λ image h is has. unique h after image has (each_image header (d.state new.disk) new.gate after (holds.at_rest tells) image is),
     )
 
     abbrev asked : Ask → Result Answer DeskFault → Call
@@ -154,20 +155,20 @@ module _ {D : Type 0} {C : Type 0} (honest : Bool) (state : D → State) (moment
       at_plain = at ∙ ap (λ (o : Option ℕ). moment_after number o) held.office.stands.last
 
       -- an answer with which nothing was written
-      answered_still : (question : Ask) (said : Answer) → IsAnswerOf moment t number new said → new.disk ≡ old.disk → Holds honest state s.history new
+      answered_still : (question : Ask) (said : Answer) → IsAnswerOf d.moment t number new said → new.disk ≡ old.disk → Holds d s.history new
           → ((b : Bool) → IsLegal b opened.limit last question (Ok said) plain s.history s.history) → Next (asked question (Ok said))
       answered_still question said made disk holds legal = still_by (asked question (Ok said)) refl disk holds legal tt (kept_at s.history t number said holds made)
 
-      ended_call : (question : Ask) (said : Result Answer DeskFault) → end_of_time ≤ t → IsEnded honest state moment had_since fault_count t number s.history old new said → Next (asked question said)
+      ended_call : (question : Ask) (said : Result Answer DeskFault) → end_of_time ≤ t → IsEnded d t number s.history old new said → Next (asked question said)
       ended_call question (Ok said) past ended =
           answered_still question said ended.0 ended.2.disk ended.2.holds
-          (λ b. past_end honest state moment had_since fault_count b opened.limit last t number question plain said s.history s.history new at_plain ended.0 ended.2.holds.end past ended.1 refl)
+          (λ b. past_end d b opened.limit last t number question plain said s.history s.history new at_plain ended.0 ended.2.holds.end past ended.1 refl)
       ended_call question (Err fault) past ended = absurd ended
 
       module _ (lt : t < end_of_time) where
-        abbrev legal_at : (question : Ask) (said : Answer) (after : List Entry) → IsAnswerOf moment t number new said → new.gate ≡ end_gate header after
+        abbrev legal_at : (question : Ask) (said : Answer) (after : List Entry) → IsAnswerOf d.moment t number new said → new.gate ≡ end_gate header after
             → IsReply opened.limit t question plain said.reply s.history after → (b : Bool) → IsLegal b opened.limit last question (Ok said) plain s.history after
-        legal_at question said after made end is b = answered honest state moment had_since fault_count b opened.limit last t number question plain said s.history after new at_plain made end lt is
+        legal_at question said after made end is b = answered d b opened.limit last t number question plain said s.history after new at_plain made end lt is
 
         module _ (command : Command) where
           abbrev e : Entry
@@ -176,34 +177,34 @@ module _ {D : Type 0} {C : Type 0} (honest : Bool) (state : D → State) (moment
           room : old.gate + 6 + length (spelling e) ≤ old.limit → end_gate header s.history + 6 + length (spelling e) ≤ opened.limit
           room fits = omega (arith, fits, held.end, s.limit)
 
-          grown : (said : Answer) → IsAnswerOf moment t number new said → said.reply ≡ (step t command plain).1 → old.gate + 6 + length (spelling e) ≤ old.limit → IsTrue (is_accepted said.reply)
-              → Grows honest state moment had_since fault_count s.history e old new → Next (asked (ask.Command command) (Ok said))
+          grown : (said : Answer) → IsAnswerOf d.moment t number new said → said.reply ≡ (step t command plain).1 → old.gate + 6 + length (spelling e) ≤ old.limit → IsTrue (is_accepted said.reply)
+              → Grows d s.history e old new → Next (asked (ask.Command command) (Ok said))
           grown said made reply fits accepted grows =
               let call = asked (ask.Command command) (Ok said) in
               let after = s.history ++ e ∷ [] in
               let rule : (b : Bool) → Legal b opened.limit last (call ∷ []) s.history after = λ b. one_legal b opened.limit last call s.history after plain held.office.is_run
               (legal_at (ask.Command command) said after made grows.holds.end (reply, inl (accepted, refl), room fits) b) in
               grown_by call after rule (λ _. grows.holds) (λ not is. absurd (still_true false is refl)) tt (λ tells. adding_keeps s.history e (grows.run tells)) (λ tells.
-              makes_grown state moment had_since fault_count counts_now only_now since_earlier old.disk old.gate s.history plain (held.at_rest tells) held.office.is_run (own tells old.disk) opened.limit last call
+              makes_grown d counts_now only_now since_earlier old.disk old.gate s.history plain (held.at_rest tells) held.office.is_run (own tells old.disk) opened.limit last call
               e grows.holds.office.plain grows.holds.office.is_run (rule true) new.disk new.gate (grows.run tells) (grows.holds.at_rest tells)
               (kept_at after t number said grows.holds made tells) (later, tt))
 
-          failed : (count : ℕ) → count ≡ fault_count new.disk → Fails honest state moment had_since fault_count plain s.history e old new
+          failed : (count : ℕ) → count ≡ d.fault_count new.disk → Fails d plain s.history e old new
               → Next (asked (ask.Command command) (Err (faults.StoreFault (Some number) count)))
           failed count is fails =
               let call = asked (ask.Command command) (Err (faults.StoreFault (Some number) count)) in
-              let rose : Rose last count = subst (λ (k : ℕ). Rose last k) (sym is) (rose_from last (fault_count old.disk) (fault_count new.disk) (last_below opened.faults (fault_count old.disk) calls s.faults.0 s.faults.1) fails.rose) in
+              let rose : Rose last count = subst (λ (k : ℕ). Rose last k) (sym is) (rose_from last (d.fault_count old.disk) (d.fault_count new.disk) (last_below opened.faults (d.fault_count old.disk) calls s.faults.0 s.faults.1) fails.rose) in
               let rule : (b : Bool) → Legal b opened.limit last (call ∷ []) s.history s.history = λ b. one_legal b opened.limit last call s.history s.history plain held.office.is_run (tt, rose, λ _. inl refl) in
               let accepted : IsTrue (is_accepted (step t command plain).1) = fails.accepted plain held.office.stands in
               let there : IsKeptAt (moment_after number plain.last) (ask.Command command) plain s.history (s.history ++ e ∷ []) =
               subst (λ (m : ℕ). (m < end_of_time) × IsTrue (is_accepted (step m command plain).1) × (s.history ++ e ∷ [] ≡ s.history ++ entry_at m command ∷ [])) at_plain (lt, accepted, refl) in
               let kept = one_legal true opened.limit last call s.history (s.history ++ e ∷ []) plain held.office.is_run (tt, rose, λ _. inr there) in
-              let told : IsToldBy (fault_count new.disk) call.said = omega (arith, is) in
-              grown_by call s.history rule (λ not. absurd (still_true true refl not)) (λ not _ history. one_legal honest opened.limit last call s.history history plain held.office.is_run (tt, rose, λ tells. absurd (not tells))) told (λ tells. adding_keeps s.history e (fails.run tells)) (λ tells.
-              makes_failed state moment had_since fault_count counts_now only_now since_earlier old.disk old.gate s.history plain (held.at_rest tells) held.office.is_run (own tells old.disk) opened.limit last call
+              let told : IsToldBy (d.fault_count new.disk) call.said = omega (arith, is) in
+              grown_by call s.history rule (λ not. absurd (still_true true refl not)) (λ not _ history. one_legal d.honest opened.limit last call s.history history plain held.office.is_run (tt, rose, λ tells. absurd (not tells))) told (λ tells. adding_keeps s.history e (fails.run tells)) (λ tells.
+              makes_failed d counts_now only_now since_earlier old.disk old.gate s.history plain (held.at_rest tells) held.office.is_run (own tells old.disk) opened.limit last call
               e fails.next.0 (run_more s.history e plain fails.next.0 held.office.is_run fails.next.1) kept new.disk (rule true) (fails.run tells) tt (later, told))
 
-        done : (question : Ask) (said : Answer) → IsAnswerOf moment t number new said → IsDone honest state moment had_since fault_count t question plain s.history old new said.reply
+        done : (question : Ask) (said : Answer) → IsAnswerOf d.moment t number new said → IsDone d t question plain s.history old new said.reply
             → Next (asked question (Ok said))
         done (ask.Command command) said made is = ⊎_elim (λ grew. grown command said made is.0 is.1 grew.0 grew.1)
             (λ stayed. answered_still (ask.Command command) said made stayed.1.disk stayed.1.holds
@@ -211,12 +212,12 @@ module _ {D : Type 0} {C : Type 0} (honest : Bool) (state : D → State) (moment
         done (ask.Query query) said made is =
             answered_still (ask.Query query) said made is.1.disk is.1.holds (legal_at (ask.Query query) said s.history made is.1.holds.end (is.0, refl))
 
-        failed_call : (question : Ask) (count : ℕ) → count ≡ fault_count new.disk → HasFailed honest state moment had_since fault_count t question plain s.history old new
+        failed_call : (question : Ask) (count : ℕ) → count ≡ d.fault_count new.disk → HasFailed d t question plain s.history old new
             → Next (asked question (Err (faults.StoreFault (Some number) count)))
         failed_call (ask.Command command) count is fails = failed command count is fails
         failed_call (ask.Query query) count is fails = absurd fails
 
-        kept_call : (question : Ask) (said : Result Answer DeskFault) → Keeps honest state moment had_since fault_count t number question plain s.history old new said → Next (asked question said)
+        kept_call : (question : Ask) (said : Result Answer DeskFault) → Keeps d t number question plain s.history old new said → Next (asked question said)
         kept_call question (Ok said) keeps = done question said keeps.0 keeps.1
         kept_call question (Err (faults.StoreFault (Some told) count)) keeps =
             subst (λ (n : ℕ). Next (asked question (Err (faults.StoreFault (Some n) count)))) (sym keeps.0) (failed_call question count keeps.1 keeps.2)
@@ -227,14 +228,14 @@ module _ {D : Type 0} {C : Type 0} (honest : Bool) (state : D → State) (moment
         kept_call question (Err (faults.Broken fault)) keeps = absurd keeps
         kept_call question (Err faults.NoMemory) keeps = still_by (asked question (Err faults.NoMemory)) refl keeps.disk keeps.holds (λ b. refl) tt (λ tells. tt)
 
-      pub answers_call : (question : Ask) (said : Result Answer DeskFault) → Answers honest state moment had_since fault_count t number question plain s.history old new said → Next (asked question said)
+      pub answers_call : (question : Ask) (said : Result Answer DeskFault) → Answers d t number question plain s.history old new said → Next (asked question said)
       answers_call question said (inl in_time) = kept_call in_time.0 question said in_time.1
       answers_call question said (inr past) = ended_call question said past.0 past.1
 
   -- a call of which the clock told its number
-  pub submitted : (old new : Parts D C) (opened : Opened) (calls : List Call) (number : ℕ) (question : Ask) (said : Result Answer DeskFault) → Stands opened calls old → new.limit ≡ old.limit → fault_count old.disk ≤ fault_count new.disk
-      → Asks honest state moment had_since fault_count number question old new said
-      → GoesOn honest state moment had_since fault_count opened (calls ++ record { ask = question; said = said } ∷ []) old.disk (view_of new (stale_after false said))
+  pub submitted : (old new : Parts D C) (opened : Opened) (calls : List Call) (number : ℕ) (question : Ask) (said : Result Answer DeskFault) → Stands opened calls old → new.limit ≡ old.limit → d.fault_count old.disk ≤ d.fault_count new.disk
+      → Asks d number question old new said
+      → GoesOn d opened (calls ++ record { ask = question; said = said } ∷ []) old.disk (view_of new (stale_after false said))
   unfolding at_clock
   submitted old new opened calls number question said s limit later asks =
       let told = record old { clock = asks.clock } in

@@ -1,9 +1,10 @@
 -- What the answer to an ask tells of its call.
-use Rattle.std.proofs.Common.{◌≡◌, ◌⊎◌, inl, inr, ⊎_elim, ℕ, ◌+◌, ◌-◌, ◌^◌, ◌<◌, ◌≤◌, min, Bool, true, false, List, [], ◌∷◌, ◌++◌, Some, None, Option, Result, Ok, Err, refl, sym, ap, ◌∙◌, subst, arith}
+use Rattle.std.proofs.Common.{◌≡◌, ◌⊎◌, inl, inr, ⊎_elim, ℕ, ◌+◌, ◌-◌, ◌^◌, ◌<◌, ◌≤◌, min, true, false, List, [], ◌∷◌, ◌++◌, Some, None, Option, Result, Ok, Err, refl, sym, ap, ◌∙◌, subst, arith}
 use Rattle.std.specs.Prelude.{IsTrue}
 use Rattle.std.specs.Io.KnownBytes.{Appends}
 use Rattle.office_base.specs.Faults.{Rose}
 use Rattle.moments.specs.Time.{end_of_time}
+use Rattle.disk_core.specs.declared.disk.Disk as disks
 use Rattle.disk_core.specs.Files.{State}
 use Rattle.disk_core.specs.Kept.{Narrower}
 use Rattle.plain_office.specs.Office.{Office}
@@ -14,6 +15,7 @@ use Rattle.office_types.specs.declared.command.Ask.TheVariants as ask
 use Rattle.office_types.specs.declared.command.Entry.{Entry}
 use Rattle.office_types.specs.declared.reply.Reply.{Reply}
 use Rattle.office_types.specs.declared.refusal.Refusal.{Refusal}
+use Rattle.desk_core.specs.declared.clock.Clock as clocks
 use Rattle.desk_core.specs.declared.fault.DeskFault.{DeskFault}
 use Rattle.desk_core.specs.declared.fault.DeskFault.TheVariants as faults
 use Rattle.desk_core.specs.Answers.{Answer}
@@ -30,20 +32,20 @@ use Rattle.desk_core.proofs.Standing.{still_true}
 accepted_not : (reply : Result Reply Refusal) → IsTrue (is_accepted reply) → is_accepted reply ≡ false → ⊥
 accepted_not reply is not = still_true (is_accepted reply) is not
 
-module _ {D : Type 0} {C : Type 0} (honest : Bool) (state : D → State) (moment : D → ℕ) (had_since : D → ℕ → State → Type 0) (fault_count : D → ℕ)
+module _ {D : Type 0} {C : Type 0} (d : disks.Ghosts D)
     (t number : ℕ) (question : Ask) (office : Office) (before : List Entry) (old new : Parts D C) where
   abbrev Kept : Result Answer DeskFault → Type 0
-  Kept said = Keeps honest state moment had_since fault_count t number question office before old new said
+  Kept said = Keeps d t number question office before old new said
 
   abbrev Ended : Result Answer DeskFault → Type 0
-  Ended said = IsEnded honest state moment had_since fault_count t number before old new said
+  Ended said = IsEnded d t number before old new said
 
   abbrev Asked : Result Answer DeskFault → Type 0
-  Asked said = Answers honest state moment had_since fault_count t number question office before old new said
+  Asked said = Answers d t number question office before old new said
 
   -- ---- the answer's numbers
 
-  pub stamped : (said : Result Answer DeskFault) → Asked said → IsStamped said new.gate (moment new.disk)
+  pub stamped : (said : Result Answer DeskFault) → Asked said → IsStamped said new.gate (d.moment new.disk)
   stamped (Ok said) (inl in_time) = (in_time.1.0.position, in_time.1.0.disk_moment)
   stamped (Ok said) (inr past) = (past.1.0.position, past.1.0.disk_moment)
   stamped (Err fault) asked = tt
@@ -91,9 +93,9 @@ module _ {D : Type 0} {C : Type 0} (honest : Bool) (state : D → State) (moment
 
 -- ---- the disk, and causes in it
 
-module _ {D : Type 0} {C : Type 0} (honest : Bool) (state : D → State) (moment : D → ℕ) (had_since : D → ℕ → State → Type 0) (fault_count : D → ℕ)
+module _ {D : Type 0} {C : Type 0} (d : disks.Ghosts D)
     (t number : ℕ) (office : Office) (before : List Entry) (old new : Parts D C) where
-  done_leaves : (question : Ask) (said : Answer) → IsDone honest state moment had_since fault_count t question office before old new said.reply → LeavesDisk (Ok said) question old.disk new.disk
+  done_leaves : (question : Ask) (said : Answer) → IsDone d t question office before old new said.reply → LeavesDisk (Ok said) question old.disk new.disk
   done_leaves (ask.Command command) said is = λ not. ⊎_elim (λ grew. absurd (accepted_not said.reply grew.0 not)) (λ stayed. stayed.1.disk) is.2
   done_leaves (ask.Query query) said is = is.1.disk
 
@@ -101,68 +103,68 @@ module _ {D : Type 0} {C : Type 0} (honest : Bool) (state : D → State) (moment
   ended_leaves (ask.Command command) said same = λ not. same
   ended_leaves (ask.Query query) said same = same
 
-  kept_leaves : (question : Ask) (said : Result Answer DeskFault) → Keeps honest state moment had_since fault_count t number question office before old new said → LeavesDisk said question old.disk new.disk
+  kept_leaves : (question : Ask) (said : Result Answer DeskFault) → Keeps d t number question office before old new said → LeavesDisk said question old.disk new.disk
   kept_leaves question (Ok said) keeps = done_leaves question said keeps.1
   kept_leaves question (Err (faults.StoreFault told count)) keeps = tt
   kept_leaves question (Err faults.JournalFull) keeps = keeps.1.disk
   kept_leaves question (Err (faults.Broken fault)) keeps = absurd keeps
   kept_leaves question (Err faults.NoMemory) keeps = keeps.disk
 
-  pub leaves : (question : Ask) (said : Result Answer DeskFault) → Answers honest state moment had_since fault_count t number question office before old new said → LeavesDisk said question old.disk new.disk
+  pub leaves : (question : Ask) (said : Result Answer DeskFault) → Answers d t number question office before old new said → LeavesDisk said question old.disk new.disk
   leaves question said (inl in_time) = kept_leaves question said in_time.1
   leaves question (Ok said) (inr past) = ended_leaves question said past.1.2.disk
   leaves question (Err fault) (inr past) = absurd past.1
 
-  failed_reason : (question : Ask) → t < end_of_time → HasFailed honest state moment had_since fault_count t question office before old new → Rose (fault_count old.disk) (fault_count new.disk) × IsAcceptedAt t question old.office
+  failed_reason : (question : Ask) → t < end_of_time → HasFailed d t question office before old new → Rose (d.fault_count old.disk) (d.fault_count new.disk) × IsAcceptedAt t question old.office
   failed_reason (ask.Command command) lt fails = (fails.rose, (lt, fails.accepted))
   failed_reason (ask.Query query) lt fails = absurd fails
 
-  pub reason : (question : Ask) (said : Result Answer DeskFault) → t ≡ moment_after number old.office.last → Answers honest state moment had_since fault_count t number question office before old new said
-      → HasStoreReason said question old.office (fault_count old.disk) (fault_count new.disk)
+  pub reason : (question : Ask) (said : Result Answer DeskFault) → t ≡ moment_after number old.office.last → Answers d t number question office before old new said
+      → HasStoreReason said question old.office (d.fault_count old.disk) (d.fault_count new.disk)
   reason question (Ok said) at answers = tt
   reason question (Err (faults.StoreFault (Some told) count)) at answers =
-      let kept = in_time_of honest state moment had_since fault_count t number question office before old new (faults.StoreFault (Some told) count) answers in
+      let kept = in_time_of d t number question office before old new (faults.StoreFault (Some told) count) answers in
       let why = failed_reason question kept.0 kept.1.2 in
       (why.0, kept.1.1, subst (λ (m : ℕ). IsAcceptedAt m question old.office) (at ∙ ap (λ (n : ℕ). moment_after n old.office.last) (sym kept.1.0)) why.1)
   reason question (Err (faults.StoreFault None count)) at answers =
-      absurd (in_time_of honest state moment had_since fault_count t number question office before old new (faults.StoreFault None count) answers).1
+      absurd (in_time_of d t number question office before old new (faults.StoreFault None count) answers).1
   reason question (Err faults.JournalFull) at answers = tt
   reason question (Err (faults.Broken fault)) at answers =
-      absurd (in_time_of honest state moment had_since fault_count t number question office before old new (faults.Broken fault) answers).1
+      absurd (in_time_of d t number question office before old new (faults.Broken fault) answers).1
   reason question (Err faults.NoMemory) at answers = tt
 
   -- ---- a further call
 
-  done_holds : (question : Ask) (said : Answer) → IsDone honest state moment had_since fault_count t question office before old new said.reply → (history : List Entry) × Holds honest state history new
+  done_holds : (question : Ask) (said : Answer) → IsDone d t question office before old new said.reply → (history : List Entry) × Holds d history new
   done_holds (ask.Command command) said is = ⊎_elim (λ grew. (before ++ entry_at t command ∷ [], grew.1.holds)) (λ stayed. (before, stayed.1.holds)) is.2
   done_holds (ask.Query query) said is = (before, is.1.holds)
 
-  kept_holds : (question : Ask) (said : Result Answer DeskFault) → stale_after false said ≡ false → Keeps honest state moment had_since fault_count t number question office before old new said
-      → (history : List Entry) × Holds honest state history new
+  kept_holds : (question : Ask) (said : Result Answer DeskFault) → stale_after false said ≡ false → Keeps d t number question office before old new said
+      → (history : List Entry) × Holds d history new
   kept_holds question (Ok said) fine keeps = done_holds question said keeps.1
   kept_holds question (Err (faults.StoreFault told count)) fine keeps = absurd (still_true true refl fine)
   kept_holds question (Err faults.JournalFull) fine keeps = (before, keeps.1.holds)
   kept_holds question (Err (faults.Broken fault)) fine keeps = absurd keeps
   kept_holds question (Err faults.NoMemory) fine keeps = (before, keeps.holds)
 
-  pub ready_on : (question : Ask) (said : Result Answer DeskFault) → stale_after false said ≡ false → Answers honest state moment had_since fault_count t number question office before old new said
-      → (history : List Entry) × Holds honest state history new
+  pub ready_on : (question : Ask) (said : Result Answer DeskFault) → stale_after false said ≡ false → Answers d t number question office before old new said
+      → (history : List Entry) × Holds d history new
   ready_on question said fine (inl in_time) = kept_holds question said fine in_time.1
   ready_on question (Ok said) fine (inr past) = (before, past.1.2.holds)
   ready_on question (Err fault) fine (inr past) = absurd past.1
 
 -- ---- histories of images
 
-pub holds_sound : {D C : Type 0} (honest : Bool) (state : D → State) (history : List Entry) (parts : Parts D C) → Holds honest state history parts → IsTrue honest → IsSound (state parts.disk)
-holds_sound honest state history parts holds tells image is =
-    (history, rest_image (state parts.disk) parts.gate history holds.office.plain (holds.at_rest tells) holds.office.is_run image is)
+pub holds_sound : {D C : Type 0} (d : disks.Ghosts D) (history : List Entry) (parts : Parts D C) → Holds d history parts → IsTrue d.honest → IsSound (d.state parts.disk)
+holds_sound d history parts holds tells image is =
+    (history, rest_image (d.state parts.disk) parts.gate history holds.office.plain (holds.at_rest tells) holds.office.is_run image is)
 
 pub narrower_sound : (first s : State) → IsSound first → Narrower first s → IsSound s
 narrower_sound first s sound narrow image is = sound image (narrow.journal image is)
 
-module _ {D : Type 0} {C : Type 0} (honest : Bool) (state : D → State) (moment : D → ℕ) (had_since : D → ℕ → State → Type 0) (fault_count : D → ℕ)
-    (t number : ℕ) (before : List Entry) (old new : Parts D C) (hold : Holds honest state before old) where
-  failed_sound : (question : Ask) → HasFailed honest state moment had_since fault_count t question hold.office.plain before old new → IsTrue honest → IsSound (state new.disk)
+module _ {D : Type 0} {C : Type 0} (d : disks.Ghosts D)
+    (t number : ℕ) (before : List Entry) (old new : Parts D C) (hold : Holds d before old) where
+  failed_sound : (question : Ask) → HasFailed d t question hold.office.plain before old new → IsTrue d.honest → IsSound (d.state new.disk)
   failed_sound (ask.Command command) fails tells = λ image is.
       let entry = entry_at t command in
       ⊎_elim (λ (e : HasEntries header before image). (before, record { entries = e; accepted = some_run before hold.office.plain hold.office.is_run }))
@@ -171,64 +173,64 @@ module _ {D : Type 0} {C : Type 0} (honest : Bool) (state : D → State) (moment
       ((fails.run tells).now.journal image is)
   failed_sound (ask.Query query) fails tells = absurd fails
 
-  pub sound_on : (question : Ask) (said : Result Answer DeskFault) → Answers honest state moment had_since fault_count t number question hold.office.plain before old new said → IsTrue honest → IsSound (state new.disk)
+  pub sound_on : (question : Ask) (said : Result Answer DeskFault) → Answers d t number question hold.office.plain before old new said → IsTrue d.honest → IsSound (d.state new.disk)
   sound_on question (Ok said) answers tells =
-      let on = ready_on honest state moment had_since fault_count t number hold.office.plain before old new question (Ok said) refl answers in
-      holds_sound honest state on.0 new on.1 tells
+      let on = ready_on d t number hold.office.plain before old new question (Ok said) refl answers in
+      holds_sound d on.0 new on.1 tells
   sound_on question (Err (faults.StoreFault (Some told) count)) answers tells =
-      failed_sound question (in_time_of honest state moment had_since fault_count t number question hold.office.plain before old new (faults.StoreFault (Some told) count) answers).1.2 tells
+      failed_sound question (in_time_of d t number question hold.office.plain before old new (faults.StoreFault (Some told) count) answers).1.2 tells
   sound_on question (Err (faults.StoreFault None count)) answers tells =
-      absurd (in_time_of honest state moment had_since fault_count t number question hold.office.plain before old new (faults.StoreFault None count) answers).1
+      absurd (in_time_of d t number question hold.office.plain before old new (faults.StoreFault None count) answers).1
   sound_on question (Err faults.JournalFull) answers tells =
-      let on = ready_on honest state moment had_since fault_count t number hold.office.plain before old new question (Err faults.JournalFull) refl answers in
-      holds_sound honest state on.0 new on.1 tells
+      let on = ready_on d t number hold.office.plain before old new question (Err faults.JournalFull) refl answers in
+      holds_sound d on.0 new on.1 tells
   sound_on question (Err (faults.Broken fault)) answers tells =
-      absurd (in_time_of honest state moment had_since fault_count t number question hold.office.plain before old new (faults.Broken fault) answers).1
+      absurd (in_time_of d t number question hold.office.plain before old new (faults.Broken fault) answers).1
   sound_on question (Err faults.NoMemory) answers tells =
-      let on = ready_on honest state moment had_since fault_count t number hold.office.plain before old new question (Err faults.NoMemory) refl answers in
-      holds_sound honest state on.0 new on.1 tells
+      let on = ready_on d t number hold.office.plain before old new question (Err faults.NoMemory) refl answers in
+      holds_sound d on.0 new on.1 tells
 
 -- ---- a call of which the clock told its number
 
-module _ {D : Type 0} {C : Type 0} (honest : Bool) (state : D → State) (moment : D → ℕ) (had_since : D → ℕ → State → Type 0) (fault_count : D → ℕ)
-    (number : ℕ) (question : Ask) (old new : Parts D C) (said : Result Answer DeskFault) (asks : Asks honest state moment had_since fault_count number question old new said) (ready : IsReady honest state old) where
+module _ {D : Type 0} {C : Type 0} (d : disks.Ghosts D)
+    (number : ℕ) (question : Ask) (old new : Parts D C) (said : Result Answer DeskFault) (asks : Asks d number question old new said) (ready : IsReady d old) where
   abbrev told : Parts D C
   told = record old { clock = asks.clock }
 
   abbrev before : List Entry
   before = ready.0
 
-  abbrev hold : Holds honest state before told
+  abbrev hold : Holds d before told
   hold = record { office = ready.1.office; end = ready.1.end; limit = ready.1.limit; at_rest = ready.1.at_rest }
 
-  abbrev one : Answers honest state moment had_since fault_count asks.t number question hold.office.plain before told new said
+  abbrev one : Answers d asks.t number question hold.office.plain before told new said
   one = asks.answers before hold
 
-  pub stamped_by : IsStamped said new.gate (moment new.disk)
-  stamped_by = stamped honest state moment had_since fault_count asks.t number question hold.office.plain before told new said one
+  pub stamped_by : IsStamped said new.gate (d.moment new.disk)
+  stamped_by = stamped d asks.t number question hold.office.plain before told new said one
 
   pub numbered_by : (a b : Option (List ℕ)) → Appends a b (number ∷ []) → IsNumber a b said
-  numbered_by a b more = numbered honest state moment had_since fault_count asks.t number question hold.office.plain before told new a b said more one
+  numbered_by a b more = numbered d asks.t number question hold.office.plain before told new a b said more one
 
   pub last_by : IsLast number said
-  last_by = last_told honest state moment had_since fault_count asks.t number question hold.office.plain before told new number said refl one
+  last_by = last_told d asks.t number question hold.office.plain before told new number said refl one
 
-  pub ready_by : stale_after false said ≡ false → IsReady honest state new
-  ready_by fine = ready_on honest state moment had_since fault_count asks.t number hold.office.plain before told new question said fine one
+  pub ready_by : stale_after false said ≡ false → IsReady d new
+  ready_by fine = ready_on d asks.t number hold.office.plain before told new question said fine one
 
-  pub tells_by : (count last : C → ℕ) → last new.clock ≡ number → count new.clock ≡ min (count old.clock + 1) (2 ^ 64 - 1)
-      → (PassesLimit (moment_after (last new.clock) old.office.last) old.gate old.limit question → (said ≡ Err faults.JournalFull) ⊎ (said ≡ Err faults.NoMemory)) → HasCauses fault_count count last old question said new
-  tells_by count last last_is once full =
-      let now_is : asks.t ≡ moment_after (last new.clock) old.office.last = asks.at ∙ ap (λ (n : ℕ). moment_after n old.office.last) (sym last_is) in
+  pub tells_by : (k : clocks.Ghosts C) → k.last new.clock ≡ number → k.count new.clock ≡ min (k.count old.clock + 1) (2 ^ 64 - 1)
+      → (PassesLimit (moment_after (k.last new.clock) old.office.last) old.gate old.limit question → (said ≡ Err faults.JournalFull) ⊎ (said ≡ Err faults.NoMemory)) → HasCauses d k old question said new
+  tells_by k last_is once full =
+      let now_is : asks.t ≡ moment_after (k.last new.clock) old.office.last = asks.at ∙ ap (λ (n : ℕ). moment_after n old.office.last) (sym last_is) in
       record {
         once = once;
-        quiet = leaves honest state moment had_since fault_count asks.t number hold.office.plain before told new question said one;
-        reason = reason honest state moment had_since fault_count asks.t number hold.office.plain before told new question said asks.at one;
-        ended = subst (λ (t : ℕ). end_of_time ≤ t → IsClockEnd t said) now_is (λ past. ended_so honest state moment had_since fault_count asks.t number question hold.office.plain before told new said past one);
+        quiet = leaves d asks.t number hold.office.plain before told new question said one;
+        reason = reason d asks.t number hold.office.plain before told new question said asks.at one;
+        ended = subst (λ (t : ℕ). end_of_time ≤ t → IsClockEnd t said) now_is (λ past. ended_so d asks.t number question hold.office.plain before told new said past one);
         full = full;
         full_alone = subst (λ (t : ℕ). said ≡ Err faults.JournalFull → PassesLimit t old.gate old.limit question) now_is
-            (full_alone honest state moment had_since fault_count asks.t number question hold.office.plain before told new said one);
+            (full_alone d asks.t number question hold.office.plain before told new said one);
       }
 
-  pub sound_by : IsTrue honest → IsSound (state new.disk)
-  sound_by tells = sound_on honest state moment had_since fault_count asks.t number before told new hold question said one tells
+  pub sound_by : IsTrue d.honest → IsSound (d.state new.disk)
+  sound_by tells = sound_on d asks.t number before told new hold question said one tells

@@ -1,12 +1,13 @@
 -- The calls by which a desk is reached are legal, and one turn adds one call.
-use Rattle.std.proofs.Common.{ℕ, Bool, Option, List, [], ◌∷◌, ◌++◌, Result, refl, sym, subst}
+use Rattle.std.proofs.Common.{List, [], ◌∷◌, ◌++◌, Result, refl, sym, subst}
 use Rattle.std.proofs.lemmas.List.{map-append}
-use Rattle.disk_core.specs.Files.{State}
+use Rattle.disk_core.specs.declared.disk.Disk as disks
 use Rattle.office_types.specs.declared.command.Ask.{Ask}
 use Rattle.desk_core.specs.Answers.{Answer, Call}
 use Rattle.desk_core.specs.Asking.{Submits}
 use Rattle.desk_core.specs.Desk.{DeskView}
 use Rattle.desk_core.specs.Turns.{Moves, calls_from, Reaches}
+use Rattle.desk_core.specs.declared.clock.Clock as clocks
 use Rattle.desk_core.specs.declared.fault.DeskFault.{DeskFault}
 
 -- one call more
@@ -15,14 +16,13 @@ pub moves_on : {T : Type 0} (moves : T → Ask → Result Answer DeskFault → T
 moves_on moves first old new [] call same step = (new, subst (λ t. moves t call.ask call.said new) same step, refl)
 moves_on moves first old new (head ∷ calls) call path step = (path.0, path.1, moves_on moves path.0 old new calls call path.2 step)
 
-module _ {D C : Type 0} (honest : Bool) (state : D → State) (moment : D → ℕ) (had_since : D → ℕ → State → Type 0) (fault_count : D → ℕ)
-    (count last : C → ℕ) (told : C → Option (List ℕ)) where
+module _ {D C : Type 0} (d : disks.Ghosts D) (k : clocks.Ghosts C) where
   abbrev Step : DeskView D C → Ask → Result Answer DeskFault → DeskView D C → Type 0
-  Step = Submits honest state moment had_since fault_count count last told
+  Step = Submits d k
 
   pub reaches_on : (first old new : DeskView D C) (pairs : List (Ask × Result Answer DeskFault)) (ask : Ask) (said : Result Answer DeskFault)
-      → Reaches honest state moment had_since fault_count count last told first old pairs → Step old ask said new
-      → Reaches honest state moment had_since fault_count count last told first new (pairs ++ (ask, said) ∷ [])
+      → Reaches d k first old pairs → Step old ask said new
+      → Reaches d k first new (pairs ++ (ask, said) ∷ [])
   reaches_on first old new pairs ask said path step =
       subst (λ (calls : List Call). Moves Step first calls new) (sym (map-append (λ pair. record { ask = pair.0; said = pair.1 }) pairs ((ask, said) ∷ [])))
       (moves_on Step first old new (calls_from pairs) (record { ask = ask; said = said }) path step)

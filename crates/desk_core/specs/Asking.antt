@@ -1,7 +1,7 @@
 -- What a call tells of the office that answers it, and how a stale desk comes to one.
-use Rattle.std.specs.Prelude.{◌≡◌, ◌⊎◌, ℕ, ◌+◌, ◌-◌, ◌^◌, ◌<◌, ◌≤◌, min, Bool, true, false, List, [], ◌∷◌, ◌++◌, length, Option, Some, None, Result, Ok, Err, IsTrue}
+use Rattle.std.specs.Prelude.{◌≡◌, ◌⊎◌, ℕ, ◌+◌, ◌-◌, ◌^◌, ◌<◌, ◌≤◌, min, Bool, true, false, List, [], ◌∷◌, ◌++◌, length, Some, None, Result, Ok, Err, IsTrue}
 use Rattle.office_base.specs.Faults.{Rose}
-use Rattle.disk_core.specs.Files.{State}
+use Rattle.disk_core.specs.declared.disk.Disk as disks
 use Rattle.disk_core.specs.Kept.{Narrower}
 use Rattle.disk_core.specs.Moments.{KeepsTo}
 use Rattle.moments.specs.Time.{end_of_time}
@@ -21,6 +21,7 @@ use Rattle.desk_core.specs.Histories.{HasAcceptedHistory}
 use Rattle.desk_core.specs.Breaking.{IsBroken, OpenFails}
 use Rattle.desk_core.specs.Desk.{Parts, DeskView, parts_of, Holds, StandsFor, GoesOn, IsNumber, IsLast, IsStamped, TellsFault, stale_after}
 use Rattle.desk_core.specs.Serving.{Opened}
+use Rattle.desk_core.specs.declared.clock.Clock as clocks
 use Rattle.desk_core.specs.declared.fault.DeskFault.{DeskFault}
 use Rattle.desk_core.specs.declared.fault.DeskFault.TheVariants as faults
 
@@ -64,39 +65,40 @@ IsClockEnd t (Ok answer) = answer.reply ≡ Err (ClockEnd t)
 IsClockEnd t (Err fault) = ⊥
 
 -- what a call tells of the office that answers it, where the clock's last number is then this
-pub record HasCauses {D C : Type 0} (fault_count : D → ℕ) (count : C → ℕ) (last : C → ℕ) (office : Parts D C) (question : Ask) (said : Result Answer DeskFault) (new : Parts D C) : Type 0 where
+pub record HasCauses {D C : Type 0} (d : disks.Ghosts D) (k : clocks.Ghosts C) (office : Parts D C) (question : Ask)
+    (said : Result Answer DeskFault) (new : Parts D C) : Type 0 where
   -- the clock is asked once
-  pub once : count new.clock ≡ min (count office.clock + 1) (2 ^ 64 - 1)
+  pub once : k.count new.clock ≡ min (k.count office.clock + 1) (2 ^ 64 - 1)
   pub quiet : LeavesDisk said question office.disk new.disk
-  pub reason : HasStoreReason said question office.office (fault_count office.disk) (fault_count new.disk)
+  pub reason : HasStoreReason said question office.office (d.fault_count office.disk) (d.fault_count new.disk)
   -- from the end of time on this is the answer to every ask
-  pub ended : end_of_time ≤ moment_after (last new.clock) office.office.last → IsClockEnd (moment_after (last new.clock) office.office.last) said
+  pub ended : end_of_time ≤ moment_after (k.last new.clock) office.office.last → IsClockEnd (moment_after (k.last new.clock) office.office.last) said
   -- where the command's frame would pass the limit nothing else is told, but want of memory, and nowhere else is the journal called full
-  pub full : PassesLimit (moment_after (last new.clock) office.office.last) office.gate office.limit question → (said ≡ Err faults.JournalFull) ⊎ (said ≡ Err faults.NoMemory)
-  pub full_alone : said ≡ Err faults.JournalFull → PassesLimit (moment_after (last new.clock) office.office.last) office.gate office.limit question
+  pub full : PassesLimit (moment_after (k.last new.clock) office.office.last) office.gate office.limit question → (said ≡ Err faults.JournalFull) ⊎ (said ≡ Err faults.NoMemory)
+  pub full_alone : said ≡ Err faults.JournalFull → PassesLimit (moment_after (k.last new.clock) office.office.last) office.gate office.limit question
 
 -- ---- opening again
 
 -- why it could not be opened again, in the words of a call
-abbrev pub IsUnopened : {D : Type 0} → Bool → (D → State) → (D → ℕ) → D → D → Result Answer DeskFault → Type 0
-IsUnopened honest state fault_count old new (Err (faults.StoreFault None count)) = Rose (fault_count old) (fault_count new) × (count ≡ fault_count new)
-IsUnopened honest state fault_count old new (Err (faults.Broken fault)) = IsBroken fault × (IsTrue honest → OpenFails fault (state old).journal.seen)
-IsUnopened honest state fault_count old new (Err faults.NoMemory) = Unit {0}
-IsUnopened honest state fault_count old new (Err (faults.StoreFault (Some number) count)) = ⊥
-IsUnopened honest state fault_count old new (Err faults.JournalFull) = ⊥
-IsUnopened honest state fault_count old new (Ok answer) = ⊥
+abbrev pub IsUnopened : {D : Type 0} → disks.Ghosts D → D → D → Result Answer DeskFault → Type 0
+IsUnopened d old new (Err (faults.StoreFault None count)) = Rose (d.fault_count old) (d.fault_count new) × (count ≡ d.fault_count new)
+IsUnopened d old new (Err (faults.Broken fault)) = IsBroken fault × (IsTrue d.honest → OpenFails fault (d.state old).journal.seen)
+IsUnopened d old new (Err faults.NoMemory) = Unit {0}
+IsUnopened d old new (Err (faults.StoreFault (Some number) count)) = ⊥
+IsUnopened d old new (Err faults.JournalFull) = ⊥
+IsUnopened d old new (Ok answer) = ⊥
 
-module _ {D C : Type 0} (honest : Bool) (state : D → State) (moment : D → ℕ) (had_since : D → ℕ → State → Type 0) (fault_count : D → ℕ) where
+module _ {D C : Type 0} (d : disks.Ghosts D) where
   -- The journal was opened again: the office is the one after a history, on an honest disk that of the bytes that its
   -- journal file reads, and every image since is one that it had.
   pub record Reopens (old office : Parts D C) : Type 0 where
     pub history : List Entry
-    pub holds : Holds honest state history office
-    pub read : IsTrue honest → HasAcceptedHistory history (state old.disk).journal.seen
-    pub any_moment : IsTrue honest → KeepsTo state moment had_since old.disk office.disk (Narrower (state old.disk))
+    pub holds : Holds d history office
+    pub read : IsTrue d.honest → HasAcceptedHistory history (d.state old.disk).journal.seen
+    pub any_moment : IsTrue d.honest → KeepsTo d.state d.moment d.had_since old.disk office.disk (Narrower (d.state old.disk))
     pub clock : office.clock ≡ old.clock
     pub limit : office.limit ≡ old.limit
-    pub later : fault_count old.disk ≤ fault_count office.disk
+    pub later : d.fault_count old.disk ≤ d.fault_count office.disk
 
   -- the office that answers a call: that of the desk, and of a stale desk the one that is opened again
   abbrev pub IsOffice : Bool → Parts D C → Parts D C → Type 0
@@ -105,30 +107,30 @@ module _ {D C : Type 0} (honest : Bool) (state : D → State) (moment : D → �
   -- no office answers a call of a stale desk: its journal could not be opened again, and the clock is not asked
   pub record Unopened (stale : Bool) (old new : Parts D C) (said : Result Answer DeskFault) : Type 0 where
     pub is_stale : stale ≡ true
-    pub why : IsUnopened honest state fault_count old.disk new.disk said
+    pub why : IsUnopened d old.disk new.disk said
     pub clock : new.clock ≡ old.clock
-    pub any_moment : IsTrue honest → KeepsTo state moment had_since old.disk new.disk (Narrower (state old.disk))
+    pub any_moment : IsTrue d.honest → KeepsTo d.state d.moment d.had_since old.disk new.disk (Narrower (d.state old.disk))
     pub limit : new.limit ≡ old.limit
-    pub later : fault_count old.disk ≤ fault_count new.disk
+    pub later : d.fault_count old.disk ≤ d.fault_count new.disk
 
 -- ---- a call
 
 -- What a call does: whatever list of calls the desk stood for, it stands for that list with this call at its end. The office
 -- that answers is the desk's own, or of a stale desk one that was opened again, where it could be.
-pub record Submits {D C : Type 0} (honest : Bool) (state : D → State) (moment : D → ℕ) (had_since : D → ℕ → State → Type 0) (fault_count : D → ℕ)
-    (count last : C → ℕ) (told : C → Option (List ℕ)) (old : DeskView D C) (question : Ask) (said : Result Answer DeskFault) (new : DeskView D C) : Type 0 where
-  pub stands : (opened : Opened) (calls : List Call) → StandsFor honest state moment had_since fault_count opened calls old
-      → GoesOn honest state moment had_since fault_count opened (calls ++ record { ask = question; said = said } ∷ []) old.disk new
-  pub causes : Unopened honest state moment had_since fault_count old.stale (parts_of old) (parts_of new) said
-      ⊎ ((office : Parts D C) × IsOffice honest state moment had_since fault_count old.stale (parts_of old) office × HasCauses fault_count count last office question said (parts_of new))
-  pub not_broken : IsTrue honest → (fault : OpenFault) → said ≡ Err (faults.Broken fault) → ⊥
-  pub number : count new.clock < 2 ^ 64 - 1 → IsNumber (told old.clock) (told new.clock) said
-  pub last_told : IsLast (last new.clock) said
-  pub stamped : IsStamped said new.gate (moment new.disk)
-  pub cause : TellsFault said (fault_count old.disk) (fault_count new.disk)
+pub record Submits {D C : Type 0} (d : disks.Ghosts D) (k : clocks.Ghosts C) (old : DeskView D C) (question : Ask)
+    (said : Result Answer DeskFault) (new : DeskView D C) : Type 0 where
+  pub stands : (opened : Opened) (calls : List Call) → StandsFor d opened calls old
+      → GoesOn d opened (calls ++ record { ask = question; said = said } ∷ []) old.disk new
+  pub causes : Unopened d old.stale (parts_of old) (parts_of new) said
+      ⊎ ((office : Parts D C) × IsOffice d old.stale (parts_of old) office × HasCauses d k office question said (parts_of new))
+  pub not_broken : IsTrue d.honest → (fault : OpenFault) → said ≡ Err (faults.Broken fault) → ⊥
+  pub number : k.count new.clock < 2 ^ 64 - 1 → IsNumber (k.told old.clock) (k.told new.clock) said
+  pub last_told : IsLast (k.last new.clock) said
+  pub stamped : IsStamped said new.gate (d.moment new.disk)
+  pub cause : TellsFault said (d.fault_count old.disk) (d.fault_count new.disk)
   pub stale : new.stale ≡ stale_after old.stale said
   -- a desk grows stale only where the disk failed
-  pub grows_stale : new.stale ≡ true → (old.stale ≡ true) ⊎ Rose (fault_count old.disk) (fault_count new.disk)
+  pub grows_stale : new.stale ≡ true → (old.stale ≡ true) ⊎ Rose (d.fault_count old.disk) (d.fault_count new.disk)
   pub limit : new.limit ≡ old.limit
-  pub clock_later : count old.clock ≤ count new.clock
-  pub disk_later : fault_count old.disk ≤ fault_count new.disk
+  pub clock_later : k.count old.clock ≤ k.count new.clock
+  pub disk_later : d.fault_count old.disk ≤ d.fault_count new.disk

@@ -1,6 +1,7 @@
 -- Why a journal is not opened, and what was read of one.
-use Rattle.std.specs.Prelude.{◌≡◌, ◌⊎◌, ℕ, Bool, List, Some, None, IsTrue}
-use Rattle.disk_core.specs.Files.{State, synced_file}
+use Rattle.std.specs.Prelude.{◌≡◌, ◌⊎◌, ℕ, List, Some, None, IsTrue}
+use Rattle.disk_core.specs.declared.disk.Disk as disks
+use Rattle.disk_core.specs.Files.{synced_file}
 use Rattle.plain_office.specs.Office.{Office}
 use Rattle.plain_office.specs.Run.{run, accept}
 use Rattle.office_types.specs.declared.command.Entry.{Entry}
@@ -39,11 +40,11 @@ ReplayFails faults.StoreFault file = Unit {0}
 ReplayFails faults.NoMemory file = Unit {0}
 
 -- all entries were read
-pub record HasReplayed {D : Type 0} (honest : Bool) (state : D → State) (old new : D) (gate : ℕ) (office : Records) : Type 0 where
+pub record HasReplayed {D : Type 0} (d : disks.Ghosts D) (old new : D) (gate : ℕ) (office : Records) : Type 0 where
   pub history : List Entry
   pub office_is : StandsAfter history office
   pub end : gate ≡ end_gate header history
-  pub at_rest : IsTrue honest → (file : List ℕ) → (state old).journal ≡ synced_file file → IsMade file → IsAtRest header (state new) gate history
+  pub at_rest : IsTrue d.honest → (file : List ℕ) → (d.state old).journal ≡ synced_file file → IsMade file → IsAtRest header (d.state new) gate history
 
 -- the bytes are no journal, or a damaged one
 abbrev pub IsBroken : OpenFault → Type 0

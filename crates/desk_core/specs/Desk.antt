@@ -2,7 +2,7 @@
 use Rattle.std.specs.Prelude.{◌≡◌, ◌⊎◌, ℕ, ◌^◌, ◌≤◌, Bool, true, false, List, [], ◌∷◌, Option, Some, None, Result, Ok, Err, IsTrue, IsSome}
 use Rattle.std.specs.Io.KnownBytes.{Appends}
 use Rattle.office_base.specs.Faults.{Rose}
-use Rattle.disk_core.specs.Files.{State}
+use Rattle.disk_core.specs.declared.disk.Disk as disks
 use Rattle.disk_core.specs.Moments.{KeepsTo}
 use Rattle.plain_office.specs.Run.{run}
 use Rattle.office_types.specs.declared.command.Entry.{Entry}
@@ -38,15 +38,15 @@ parts_of desk = record { disk = desk.disk; clock = desk.clock; office = desk.off
 
 -- the office is the one after this history, and the gate the end of its journal, whose limit is at most 2^45 bytes; an
 -- honest disk holds that journal, synced
-pub record Holds {D C : Type 0} (honest : Bool) (state : D → State) (history : List Entry) (parts : Parts D C) : Type 0 where
+pub record Holds {D C : Type 0} (d : disks.Ghosts D) (history : List Entry) (parts : Parts D C) : Type 0 where
   pub office : StandsAfter history parts.office
   pub end : parts.gate ≡ end_gate header history
   pub limit : parts.limit ≤ 2 ^ 45
-  pub at_rest : IsTrue honest → IsAtRest header (state parts.disk) parts.gate history
+  pub at_rest : IsTrue d.honest → IsAtRest header (d.state parts.disk) parts.gate history
 
 -- so it is of some history
-abbrev pub IsReady : {D C : Type 0} → Bool → (D → State) → Parts D C → Type 0
-IsReady honest state parts = (history : List Entry) × Holds honest state history parts
+abbrev pub IsReady : {D C : Type 0} → disks.Ghosts D → Parts D C → Type 0
+IsReady d parts = (history : List Entry) × Holds d history parts
 
 -- Whether a desk is stale after a call: the journal has to be opened again after a fault of the store, and where it broke.
 -- Want of memory leaves the desk as it was.
@@ -60,21 +60,21 @@ stale_after stale (Err faults.NoMemory) = stale
 -- The desk stands for a list of calls since its opening. They are legal, and a desk that is not stale holds a history to
 -- which they lead. An honest disk serves them at every moment; one that does not tell what it holds may hold any history
 -- once the desk is stale.
-pub record StandsFor {D C : Type 0} (honest : Bool) (state : D → State) (moment : D → ℕ) (had_since : D → ℕ → State → Type 0) (fault_count : D → ℕ)
+pub record StandsFor {D C : Type 0} (d : disks.Ghosts D)
     (opened : Opened) (calls : List Call) (desk : DeskView D C) : Type 0 where
   pub limit : desk.limit ≡ opened.limit
-  pub faults : (opened.faults ≤ fault_count desk.disk) × AreToldBy (fault_count desk.disk) calls
-  pub holds : desk.stale ≡ false → (history : List Entry) × Legal honest opened.limit opened.faults calls opened.history history × Holds honest state history (parts_of desk)
-  pub lost : (IsTrue honest → ⊥) → desk.stale ≡ true → (history : List Entry) → IsSome (run history) → Legal honest opened.limit opened.faults calls opened.history history
-  pub serves : IsTrue honest → Serves state moment had_since fault_count opened desk.disk calls
+  pub faults : (opened.faults ≤ d.fault_count desk.disk) × AreToldBy (d.fault_count desk.disk) calls
+  pub holds : desk.stale ≡ false → (history : List Entry) × Legal d.honest opened.limit opened.faults calls opened.history history × Holds d history (parts_of desk)
+  pub lost : (IsTrue d.honest → ⊥) → desk.stale ≡ true → (history : List Entry) → IsSome (run history) → Legal d.honest opened.limit opened.faults calls opened.history history
+  pub serves : IsTrue d.honest → Serves d opened desk.disk calls
 
 -- the desk went on from this disk: it stands for these calls, and at every moment since, each image has the history
 -- after some number of the first of them
-pub record GoesOn {D C : Type 0} (honest : Bool) (state : D → State) (moment : D → ℕ) (had_since : D → ℕ → State → Type 0) (fault_count : D → ℕ)
+pub record GoesOn {D C : Type 0} (d : disks.Ghosts D)
     (opened : Opened) (calls : List Call) (first : D) (desk : DeskView D C) : Type 0 where
-  pub stands : StandsFor honest state moment had_since fault_count opened calls desk
-  pub any_moment : IsTrue honest → KeepsTo state moment had_since first desk.disk (Recoverable opened calls)
-  pub slots : IsTrue honest → KeepsTo state moment had_since first desk.disk (KeepsSlots (state first))
+  pub stands : StandsFor d opened calls desk
+  pub any_moment : IsTrue d.honest → KeepsTo d.state d.moment d.had_since first desk.disk (Recoverable opened calls)
+  pub slots : IsTrue d.honest → KeepsTo d.state d.moment d.had_since first desk.disk (KeepsSlots (d.state first))
 
 -- One number was told for an answer and for a full journal, and for a fault of the store the one that stands in it, if
 -- any. None was told where the journal broke; where memory ran out one may have been.

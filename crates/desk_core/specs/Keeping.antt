@@ -1,8 +1,8 @@
 -- What a call does once its moment is told.
-use Rattle.std.specs.Prelude.{◌≡◌, ◌⊎◌, ℕ, ◌+◌, ◌<◌, ◌≤◌, Bool, false, List, [], ◌∷◌, ◌++◌, length, Some, None, Result, Ok, Err, IsTrue}
+use Rattle.std.specs.Prelude.{◌≡◌, ◌⊎◌, ℕ, ◌+◌, ◌<◌, ◌≤◌, false, List, [], ◌∷◌, ◌++◌, length, Some, None, Result, Ok, Err, IsTrue}
 use Rattle.office_base.specs.Faults.{Rose}
 use Rattle.moments.specs.Time.{end_of_time}
-use Rattle.disk_core.specs.Files.{State}
+use Rattle.disk_core.specs.declared.disk.Disk as disks
 use Rattle.disk_core.specs.Moments.{KeepsTo}
 use Rattle.plain_office.specs.Answers.{answer}
 use Rattle.plain_office.specs.Office.{Office}
@@ -31,15 +31,15 @@ pub record IsAnswerOf {D C : Type 0} (disk_time : D → ℕ) (t number : ℕ) (n
   pub position : said.position ≡ new.gate
   pub disk_moment : said.disk_moment ≡ disk_time new.disk
 
-module _ {D C : Type 0} (honest : Bool) (state : D → State) (moment : D → ℕ) (had_since : D → ℕ → State → Type 0) (fault_count : D → ℕ) where
+module _ {D C : Type 0} (d : disks.Ghosts D) where
   -- the history grew by the entry, and in between each image had it or had it not
   pub record Grows (before : List Entry) (entry : Entry) (old new : Parts D C) : Type 0 where
-    pub holds : Holds honest state (before ++ entry ∷ []) new
-    pub run : IsTrue honest → KeepsTo state moment had_since old.disk new.disk (BeforeOrAfter header before entry (state old.disk))
+    pub holds : Holds d (before ++ entry ∷ []) new
+    pub run : IsTrue d.honest → KeepsTo d.state d.moment d.had_since old.disk new.disk (BeforeOrAfter header before entry (d.state old.disk))
 
   -- nothing was written
   pub record Stays (before : List Entry) (old new : Parts D C) : Type 0 where
-    pub holds : Holds honest state before new
+    pub holds : Holds d before new
     pub disk : new.disk ≡ old.disk
 
   -- the disk failed while the entry was added
@@ -47,18 +47,18 @@ module _ {D C : Type 0} (honest : Bool) (state : D → State) (moment : D → �
     pub accepted : (plain : Office) → StandsForOffice old.office plain
         → IsTrue (is_accepted (step entry.moment entry.command plain).1)
     pub next : (after : Office) × (accept office entry ≡ Some after)
-    pub run : IsTrue honest → KeepsTo state moment had_since old.disk new.disk (BeforeOrAfter header before entry (state old.disk))
-    pub rose : Rose (fault_count old.disk) (fault_count new.disk)
+    pub run : IsTrue d.honest → KeepsTo d.state d.moment d.had_since old.disk new.disk (BeforeOrAfter header before entry (d.state old.disk))
+    pub rose : Rose (d.fault_count old.disk) (d.fault_count new.disk)
 
   -- what adding the entry of a command does, to which this is the reply: the entry is there, or the disk failed
   abbrev pub Adds : ℕ → ℕ → Result Reply Refusal → List Entry → Entry → Parts D C → Parts D C → Result Answer DeskFault → Type 0
   Adds t number reply before entry old new (Ok said) =
-      (said ≡ record { moment = t; told = number; reply = reply; position = new.gate; disk_moment = moment new.disk })
+      (said ≡ record { moment = t; told = number; reply = reply; position = new.gate; disk_moment = d.moment new.disk })
       × (new.gate ≡ end_gate header (before ++ entry ∷ []))
-      × (IsTrue honest → IsAtRest header (state new.disk) new.gate (before ++ entry ∷ []) × KeepsTo state moment had_since old.disk new.disk (BeforeOrAfter header before entry (state old.disk)))
+      × (IsTrue d.honest → IsAtRest header (d.state new.disk) new.gate (before ++ entry ∷ []) × KeepsTo d.state d.moment d.had_since old.disk new.disk (BeforeOrAfter header before entry (d.state old.disk)))
   Adds t number reply before entry old new (Err (faults.StoreFault (Some told) count)) =
-      (told ≡ number) × (count ≡ fault_count new.disk) × Rose (fault_count old.disk) (fault_count new.disk)
-      × (IsTrue honest → KeepsTo state moment had_since old.disk new.disk (BeforeOrAfter header before entry (state old.disk)))
+      (told ≡ number) × (count ≡ d.fault_count new.disk) × Rose (d.fault_count old.disk) (d.fault_count new.disk)
+      × (IsTrue d.honest → KeepsTo d.state d.moment d.had_since old.disk new.disk (BeforeOrAfter header before entry (d.state old.disk)))
   Adds t number reply before entry old new (Err (faults.StoreFault None count)) = ⊥
   Adds t number reply before entry old new (Err faults.JournalFull) = ⊥
   Adds t number reply before entry old new (Err (faults.Broken fault)) = ⊥
@@ -79,9 +79,9 @@ module _ {D C : Type 0} (honest : Bool) (state : D → State) (moment : D → �
 
   -- what an ask does before the end of time, on the plain office after this history
   abbrev pub Keeps : ℕ → ℕ → Ask → Office → List Entry → Parts D C → Parts D C → Result Answer DeskFault → Type 0
-  Keeps t number question office before old new (Ok said) = IsAnswerOf moment t number new said × IsDone t question office before old new said.reply
+  Keeps t number question office before old new (Ok said) = IsAnswerOf d.moment t number new said × IsDone t question office before old new said.reply
   Keeps t number question office before old new (Err (faults.StoreFault (Some told) count)) =
-      (told ≡ number) × (count ≡ fault_count new.disk) × HasFailed t question office before old new
+      (told ≡ number) × (count ≡ d.fault_count new.disk) × HasFailed t question office before old new
   Keeps t number question office before old new (Err (faults.StoreFault None count)) = ⊥
   Keeps t number question office before old new (Err faults.JournalFull) = PassesLimit t old.gate old.limit question × Stays before old new
   Keeps t number question office before old new (Err (faults.Broken fault)) = ⊥
@@ -89,7 +89,7 @@ module _ {D C : Type 0} (honest : Bool) (state : D → State) (moment : D → �
 
   -- from the end of time on the ask is answered so, and nothing is written
   abbrev pub IsEnded : ℕ → ℕ → List Entry → Parts D C → Parts D C → Result Answer DeskFault → Type 0
-  IsEnded t number before old new (Ok said) = IsAnswerOf moment t number new said × (said.reply ≡ Err (ClockEnd t)) × Stays before old new
+  IsEnded t number before old new (Ok said) = IsAnswerOf d.moment t number new said × (said.reply ≡ Err (ClockEnd t)) × Stays before old new
   IsEnded t number before old new (Err fault) = ⊥
 
   -- what an ask does
@@ -102,4 +102,4 @@ module _ {D C : Type 0} (honest : Bool) (state : D → State) (moment : D → �
     pub t : ℕ
     pub at : t ≡ moment_after number old.office.last
     pub clock : C
-    pub answers : (before : List Entry) (hold : Holds honest state before (record old { clock = clock })) → Answers t number question hold.office.plain before (record old { clock = clock }) new said
+    pub answers : (before : List Entry) (hold : Holds d before (record old { clock = clock })) → Answers t number question hold.office.plain before (record old { clock = clock }) new said

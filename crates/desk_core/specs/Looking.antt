@@ -1,6 +1,5 @@
 -- What is read of an office as of a number that its clock told before.
 use Rattle.std.specs.Prelude.{◌≡◌, ◌⊎◌, ℕ, Bool, List, Some, Result, Err}
-use Rattle.disk_core.specs.Files.{State}
 use Rattle.plain_office.specs.Answers.{answer}
 use Rattle.plain_office.specs.Office.{Office}
 use Rattle.plain_office.specs.Run.{run}

@@ -41,7 +41,7 @@ module _ {D : Type 0} (d : disks.Ghosts D) where
     -- from the opening on each image has the history after some number of the first calls
     pub since : KeepsTo d.state d.moment d.had_since opening new (Recoverable opened calls)
     -- and each call that was acknowledged by then is among them
-    pub serves : Serves d.state d.moment d.had_since d.fault_count opened new calls
+    pub serves : Serves d opened new calls
     -- no history is lost, but for a last entry
     pub steady : KeepsHistories opened new
     -- at the return, where the desk is not stale

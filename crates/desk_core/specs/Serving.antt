@@ -1,5 +1,6 @@
 -- What a disk owes to the calls of a desk: what a crash at any moment since its opening leaves of them.
 use Rattle.std.specs.Prelude.{◌≡◌, ℕ, zero, suc, ◌<◌, ◌≤◌, true, List, [], ◌∷◌, take, length, Ok, Err, Result}
+use Rattle.disk_core.specs.declared.disk.Disk as disks
 use Rattle.disk_core.specs.Files.{State, IsImage}
 use Rattle.office_types.specs.declared.command.Entry.{Entry}
 use Rattle.meter_journal.specs.History.{header, end_gate}
@@ -65,25 +66,25 @@ Recoverable opened calls s = (image : List ℕ) → IsImage s.journal image → 
 abbrev pub KeepsSlots : State → State → Type 0
 KeepsSlots first s = (s.slot0 ≡ first.slot0) × (s.slot1 ≡ first.slot1)
 
-module _ {D : Type 0} (state : D → State) (moment : D → ℕ) (had_since : D → ℕ → State → Type 0) (fault_count : D → ℕ) where
+module _ {D : Type 0} (d : disks.Ghosts D) where
   -- From an answer's moment on the history of every image begins with the same entries, which end at its position.
   pub record Agrees (disk : D) (answer : Answer) : Type 0 where
     pub entries : List Entry
     pub place : end_gate header entries ≡ answer.position
-    pub kept : (s : State) (image : List ℕ) (history : List Entry) → had_since disk answer.disk_moment s → IsImage s.journal image → HasAcceptedHistory history image
+    pub kept : (s : State) (image : List ℕ) (history : List Entry) → d.had_since disk answer.disk_moment s → IsImage s.journal image → HasAcceptedHistory history image
         → Begins entries history
 
   -- What holds of an honest disk since the opening, whatever was asked and answered.
   pub record Serves (opened : Opened) (disk : D) (calls : List Call) : Type 0 where
-    pub later : opened.moment ≤ moment disk
+    pub later : opened.moment ≤ d.moment disk
     -- at every moment since the opening, and of every image
-    pub left : (t : ℕ) (s : State) (image : List ℕ) → opened.moment ≤ t → t ≤ moment disk → had_since disk t s → IsImage s.journal image → Recovers opened calls t image
+    pub left : (t : ℕ) (s : State) (image : List ℕ) → opened.moment ≤ t → t ≤ d.moment disk → d.had_since disk t s → IsImage s.journal image → Recovers opened calls t image
     pub agrees : (place : ℕ) (answer : Answer) → IsAckedAt calls place answer → Agrees disk answer
     -- of every image now the calls are all there
-    pub whole : (image : List ℕ) (history : List Entry) → IsImage (state disk).journal image → HasAcceptedHistory history image → Legal true opened.limit opened.faults calls opened.history history
+    pub whole : (image : List ℕ) (history : List Entry) → IsImage (d.state disk).journal image → HasAcceptedHistory history image → Legal true opened.limit opened.faults calls opened.history history
     -- what a crash would have left is there still, but for one entry at its end
-    pub steady : (t : ℕ) (s : State) (image : List ℕ) (history : List Entry) → opened.moment ≤ t → t ≤ moment disk → had_since disk t s → IsImage s.journal image → HasAcceptedHistory history image
-        → (image_now : List ℕ) (history_now : List Entry) → IsImage (state disk).journal image_now → HasAcceptedHistory history_now image_now → BeginsButOne history history_now
+    pub steady : (t : ℕ) (s : State) (image : List ℕ) (history : List Entry) → opened.moment ≤ t → t ≤ d.moment disk → d.had_since disk t s → IsImage s.journal image → HasAcceptedHistory history image
+        → (image_now : List ℕ) (history_now : List Entry) → IsImage (d.state disk).journal image_now → HasAcceptedHistory history_now image_now → BeginsButOne history history_now
     -- no moment or count that was told is one to come
-    pub told : (place : ℕ) (answer : Answer) → IsAckedAt calls place answer → (opened.moment ≤ answer.disk_moment) × (answer.disk_moment ≤ moment disk)
-    pub faults : (opened.faults ≤ fault_count disk) × AreToldBy (fault_count disk) calls
+    pub told : (place : ℕ) (answer : Answer) → IsAckedAt calls place answer → (opened.moment ≤ answer.disk_moment) × (answer.disk_moment ≤ d.moment disk)
+    pub faults : (opened.faults ≤ d.fault_count disk) × AreToldBy (d.fault_count disk) calls

@@ -1,6 +1,6 @@
 -- Calls of a desk, one after another, as threads make them in turns.
-use Rattle.std.specs.Prelude.{◌≡◌, ℕ, Bool, Option, List, [], ◌∷◌, map, Result}
-use Rattle.disk_core.specs.Files.{State}
+use Rattle.std.specs.Prelude.{◌≡◌, List, [], ◌∷◌, map, Result}
+use Rattle.disk_core.specs.declared.disk.Disk as disks
 use Rattle.office_types.specs.declared.command.Ask.{Ask}
 use Rattle.office_types.specs.declared.command.Entry.{Entry}
 use Rattle.desk_core.specs.Answers.{Answer, Call}
@@ -8,6 +8,7 @@ use Rattle.desk_core.specs.Asking.{Submits}
 use Rattle.desk_core.specs.Calls.{Legal}
 use Rattle.desk_core.specs.Desk.{DeskView, StandsFor}
 use Rattle.desk_core.specs.Serving.{Opened}
+use Rattle.desk_core.specs.declared.clock.Clock as clocks
 use Rattle.desk_core.specs.declared.fault.DeskFault.{DeskFault}
 
 module _ {T : Type 0} (moves : T → Ask → Result Answer DeskFault → T → Type 0) where
@@ -20,13 +21,13 @@ module _ {T : Type 0} (moves : T → Ask → Result Answer DeskFault → T → T
 abbrev pub calls_from : List (Ask × Result Answer DeskFault) → List Call
 calls_from = map (λ pair. record { ask = pair.0; said = pair.1 })
 
-module _ {D C : Type 0} (honest : Bool) (state : D → State) (moment : D → ℕ) (had_since : D → ℕ → State → Type 0) (fault_count : D → ℕ) where
+module _ {D C : Type 0} (d : disks.Ghosts D) where
   -- by these calls, in order, the first desk becomes this one
-  abbrev pub Reaches : (C → ℕ) → (C → ℕ) → (C → Option (List ℕ)) → DeskView D C → DeskView D C → List (Ask × Result Answer DeskFault) → Type 0
-  Reaches count last told first desk pairs = Moves (Submits honest state moment had_since fault_count count last told) first (calls_from pairs) desk
+  abbrev pub Reaches : clocks.Ghosts C → DeskView D C → DeskView D C → List (Ask × Result Answer DeskFault) → Type 0
+  Reaches k first desk pairs = Moves (Submits d k) first (calls_from pairs) desk
 
   -- these calls are legal since the opening of the first desk, whichever opening it stands for with no call
   abbrev pub LegalSince : DeskView D C → List (Ask × Result Answer DeskFault) → Type 0
   LegalSince first pairs =
-      (opened : Opened) → StandsFor honest state moment had_since fault_count opened [] first
-      → (history : List Entry) × Legal honest opened.limit opened.faults (calls_from pairs) opened.history history
+      (opened : Opened) → StandsFor d opened [] first
+      → (history : List Entry) × Legal d.honest opened.limit opened.faults (calls_from pairs) opened.history history

@@ -1,5 +1,6 @@
 // A desk: an office over its journal that opens it again after a fault.
-ghost use Rattle.std.specs.Prelude.{◌≡◌, ◌⊎◌, ◌<◌, ◌≤◌, ◌-◌, ◌^◌, ◌++◌, ◌∷◌, [], List, true, false, IsTrue, IsOk, IfOk, IfErr, Err};
+ghost use Rattle.std.specs.Prelude.{◌≡◌, ◌⊎◌, ◌<◌, ◌≤◌, ◌-◌, ◌^◌, ◌++◌, ◌∷◌};
+ghost use Rattle.std.specs.Prelude.{[], List, true, false, IsTrue, IsOk, IfOk, IfErr, Err};
 ghost use Rattle.office_base.specs.Faults.{Rose};
 ghost use Rattle.disk_core.specs.Kept.{Narrower};
 ghost use Rattle.disk_core.specs.Moments.{KeepsTo};
@@ -7,9 +8,10 @@ ghost use Rattle.moments.specs.Time.{end_of_time};
 ghost use Rattle.office_types.specs.Fits.{AnswerFits};
 ghost use Rattle.office_types.specs.declared.command.Entry.{Entry};
 ghost use Rattle.desk_core.specs.Answers.{Call};
-ghost use Rattle.desk_core.specs.Asking.{IsOffice, HasCauses, Unopened};
+ghost use Rattle.desk_core.specs.Asking.{IsOffice, HasCauses, Submits, Unopened};
 ghost use Rattle.desk_core.specs.Breaking.{OpenFails};
-ghost use Rattle.desk_core.specs.Desk.{Parts, DeskView, parts_of, StandsFor, GoesOn, TellsFault, IsNumber, IsLast, IsStamped, stale_after};
+ghost use Rattle.desk_core.specs.Desk.{Parts, DeskView, parts_of, StandsFor, GoesOn};
+ghost use Rattle.desk_core.specs.Desk.{TellsFault, IsNumber, IsLast, IsStamped, stale_after};
 ghost use Rattle.desk_core.specs.Histories.{HasAcceptedHistory};
 ghost use Rattle.desk_core.specs.Looking.{IsReadAfter};
 ghost use Rattle.desk_core.specs.Opening.{Opens};
@@ -44,7 +46,7 @@ impl<D: Disk + Drop, C: Clock + Drop> Model for Desk<D, C> {
     ghost view = { λ d. record { disk = d.engine.disk; clock = d.engine.clock; office = d.engine.office; gate = d.engine.gate; limit = d.engine.limit; stale = d.stale } };
 
     // A desk that is not stale holds its journal as it was read, and each image of an honest disk has a history.
-    ghost invariant = { λ d. (d.stale ≡ false → IsReady D.honest D.state d.engine) × (IsTrue D.honest → IsSound (D.state d.engine.disk)) };
+    ghost invariant = { λ d. (d.stale ≡ false → IsReady D.Disk d.engine) × (IsTrue D.honest → IsSound (D.state d.engine.disk)) };
 }
 
 // Whether the journal has to be opened again after a call.
@@ -83,17 +85,19 @@ impl<D: Disk + Drop, C: Clock + Drop> Desk<D, C> {
         requires { limit ≤ 2 ^ 45 }
 
         // The desk stands for no call yet, from a history on; of an honest disk, that of the bytes that it reads.
-        ensures opens { IfOk result (λ desk. Opens D.honest D.state D.moment D.had_since D.fault_count disk clock limit desk) }
+        ensures opens { IfOk result (λ desk. Opens D.Disk disk clock limit desk) }
 
         // Where it is not opened, the bytes that are read tell why, but for a failing disk and want of memory.
         ensures fails { IsTrue D.honest → IfErr result (λ e. OpenFails e.0 (D.state disk).journal.seen) }
 
         // So it is opened where they have a history.
-        ensures sound { IsTrue D.honest → (history : List Entry) → HasAcceptedHistory history (D.state disk).journal.seen
+        ensures sound { IsTrue D.honest → (history : List Entry)
+            → HasAcceptedHistory history (D.state disk).journal.seen
             → IfErr result (λ e. (e.0 ≡ OpenFault.StoreFault) ⊎ (e.0 ≡ OpenFault.NoMemory)) }
 
         // Then each image of the disk is one that it had, at every moment of the call.
-        ensures any_moment { IsTrue D.honest → IfErr result (λ e. KeepsTo D.state D.moment D.had_since disk e.1 (Narrower (D.state disk))) }
+        ensures any_moment { IsTrue D.honest
+            → IfErr result (λ e. KeepsTo D.state D.moment D.had_since disk e.1 (Narrower (D.state disk))) }
         ensures clock { IfErr result (λ e. e.2 ≡ clock) }
         ensures later { IfErr result (λ e. D.fault_count disk ≤ D.fault_count e.1) }
         ensures fault { IfErr result (λ e. e.0 ≡ OpenFault.StoreFault → Rose (D.fault_count disk) (D.fault_count e.1)) }
@@ -113,41 +117,54 @@ impl<D: Disk + Drop, C: Clock + Drop> Desk<D, C> {
 
     /// Answers an ask, once its effect is on the disk.
     ///
-    /// A stale desk opens its journal again first, as `open` does. The moment of the call is the later of the clock's
-    /// number and the moment of the last accepted command (own rule: time does not go back, whatever a clock tells).
-    /// Where that is not below the end of time, the answer is `ClockEnd`, and nothing is done. A command that the office
-    /// accepts is added to the journal before it is answered; a query changes nothing and makes no call of the disk.
-    /// Cost: what the office needs, and for an accepted command the journal's append: four writes and two syncs. On a
-    /// stale desk also that of opening.
+    /// A stale desk opens its journal again first, as `open` does. The moment of the call is the later of the
+    /// clock's number and the moment of the last accepted command (own rule: time does not go back, whatever a
+    /// clock tells). Where that is not below the end of time, the answer is `ClockEnd`, and nothing is done. A
+    /// command that the office accepts is added to the journal before it is answered; a query changes nothing and
+    /// makes no call of the disk. Cost: what the office needs, and for an accepted command the journal's append:
+    /// four writes and two syncs. On a stale desk also that of opening.
     ///
     /// # Errors
     ///
-    /// `NoMemory`: memory ran out; a stale desk stays stale. `JournalFull`: the command's frame would pass the journal's
-    /// limit, whether or not the office would accept the command. In both no record is changed. `StoreFault`:
-    /// the disk did not do a call; the command, which the office accepts, is in the journal as a whole or not at all, or
-    /// the journal could not be opened again, and the clock was not asked; the desk is stale. `Broken`: the journal was
-    /// opened again, and is not made, foreign or damaged; the desk stays stale. An honest disk has no such journal.
+    /// `NoMemory`: memory ran out; a stale desk stays stale. `JournalFull`: the command's frame would pass the
+    /// journal's limit, whether or not the office would accept the command. In both no record is changed.
+    /// `StoreFault`: the disk did not do a call; the command, which the office accepts, is in the journal as a
+    /// whole or not at all, or the journal could not be opened again, and the clock was not asked; the desk is
+    /// stale. `Broken`: the journal was opened again, and is not made, foreign or damaged; the desk stays stale. An
+    /// honest disk has no such journal.
     pub fn submit(&mut self, ask: &Ask) -> Result<Acked, DeskFault>
         // Whatever list of calls the desk stood for, it stands for that list with this call at its end, and each
+        // image of the disk at every moment of the call has the history after some number of its first calls. The
+        // office that answers is the desk's own, or of a stale desk one that was opened again, where it could be.
+        ensures submits { Submits D.Disk C.Clock self.old ask.now result self.new }
+    {
+        self.answer_current(ask)
+    }
+
+    // Answers an ask, from a stale desk once its journal was opened again: the fields of `Submits`, one by one.
+    fn answer_current(&mut self, ask: &Ask) -> Result<Acked, DeskFault>
+        // Whatever list of calls the desk stood for, it stands for that list with this call at its end, and each
         // image of the disk at every moment of the call has the history after some number of its first calls.
-        ensures stands { (opened : Opened) (calls : List Call) → StandsFor D.honest D.state D.moment D.had_since D.fault_count opened calls self.old
-            → GoesOn D.honest D.state D.moment D.had_since D.fault_count opened (calls ++ record { ask = ask.now; said = result } ∷ []) self.old.disk self.new }
+        ensures stands { (opened : Opened) (calls : List Call) → StandsFor D.Disk opened calls self.old
+            → GoesOn D.Disk opened (calls ++ record { ask = ask.now; said = result } ∷ []) self.old.disk self.new }
 
         // The office that answers is the desk's own, or of a stale desk one that was opened again, where it could be.
-        ensures causes { Unopened D.honest D.state D.moment D.had_since D.fault_count self.old.stale (parts_of self.old) (parts_of self.new) result
-            ⊎ ((office : Parts D C) × IsOffice D.honest D.state D.moment D.had_since D.fault_count self.old.stale (parts_of self.old) office
-            × HasCauses D.fault_count C.count C.last office ask.now result (parts_of self.new)) }
+        ensures causes { Unopened D.Disk self.old.stale (parts_of self.old) (parts_of self.new) result
+            ⊎ ((office : Parts D C) × IsOffice D.Disk self.old.stale (parts_of self.old) office
+            × HasCauses D.Disk C.Clock office ask.now result (parts_of self.new)) }
 
         // So an honest disk has no broken journal.
         ensures not_broken { IsTrue D.honest → (fault : OpenFault) → (result ≡ Err (DeskFault.Broken fault) → ⊥) }
 
-        ensures number { C.count self.new.clock < 2 ^ 64 - 1 → IsNumber (C.told self.old.clock) (C.told self.new.clock) result }
+        ensures number { C.count self.new.clock < 2 ^ 64 - 1
+            → IsNumber (C.told self.old.clock) (C.told self.new.clock) result }
         ensures last_told { IsLast (C.last self.new.clock) result }
         ensures stamped { IsStamped result self.new.gate (D.moment self.new.disk) }
         ensures cause { TellsFault result (D.fault_count self.old.disk) (D.fault_count self.new.disk) }
         ensures stale { self.new.stale ≡ stale_after self.old.stale result }
         // A desk grows stale only where the disk failed.
-        ensures grows_stale { self.new.stale ≡ true → (self.old.stale ≡ true) ⊎ Rose (D.fault_count self.old.disk) (D.fault_count self.new.disk) }
+        ensures grows_stale { self.new.stale ≡ true → (self.old.stale ≡ true)
+            ⊎ Rose (D.fault_count self.old.disk) (D.fault_count self.new.disk) }
         ensures limit { self.new.limit ≡ self.old.limit }
         ensures clock_later { C.count self.old.clock ≤ C.count self.new.clock }
         ensures disk_later { D.fault_count self.old.disk ≤ D.fault_count self.new.disk }
@@ -160,9 +177,9 @@ impl<D: Disk + Drop, C: Clock + Drop> Desk<D, C> {
         said
     }
 
-    /// Answers a query as of a number that its clock told before, or as of the moment of the last accepted command, where that
-    /// is later. The desk is not stale, and the number is below the end of time. Asks neither the disk nor the clock, and
-    /// changes nothing.
+    /// Answers a query as of a number that its clock told before, or as of the moment of the last accepted command,
+    /// where that is later. The desk is not stale, and the number is below the end of time. Asks neither the disk
+    /// nor the clock, and changes nothing.
     ///
     /// # Errors
     ///
@@ -171,23 +188,23 @@ impl<D: Disk + Drop, C: Clock + Drop> Desk<D, C> {
         requires fresh { self.now.stale ≡ false }
         requires begun { told < end_of_time }
         ensures reads { (opened : Opened) (calls : List Call)
-            → StandsFor D.honest D.state D.moment D.had_since D.fault_count opened calls self.now
+            → StandsFor D.Disk opened calls self.now
             → IsReadAfter D.honest opened calls told query.now result }
         ensures fits { AnswerFits result }
     {
         self.engine.look(told, query)
     }
 
-    /// Tells whether the journal has to be opened again: a call answered `StoreFault` or `Broken`, and none since then an
-    /// `Acked` or `JournalFull`. Takes no memory.
+    /// Tells whether the journal has to be opened again: a call answered `StoreFault` or `Broken`, and none since
+    /// then an `Acked` or `JournalFull`. Takes no memory.
     pub fn stale(&self) -> bool
         ensures { result ≡ self.now.stale }
     {
         self.stale
     }
 
-    /// Ends the work of the desk, and gives the disk and the clock back. No checkpoint is kept yet, so it makes no call of
-    /// the disk and answers `Ok`.
+    /// Ends the work of the desk, and gives the disk and the clock back. No checkpoint is kept yet, so it makes no
+    /// call of the disk and answers `Ok`.
     pub fn finish(self) -> (D, C, Result<(), SaveFault>)
         ensures disk { result.0 ≡ self.disk }
         ensures clock { result.1 ≡ self.clock }

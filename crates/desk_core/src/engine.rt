@@ -1,5 +1,6 @@
 // An office over its journal.
-ghost use Rattle.std.specs.Prelude.{min, ◌≡◌, ◌⊎◌, ◌+◌, ◌-◌, ◌<◌, ◌≤◌, ◌^◌, ◌++◌, ◌∷◌, [], ℕ, List, length, true, false, IsTrue, Some, None, Ok, Err, IfOk, IfErr, OnOk, IsErrOf};
+ghost use Rattle.std.specs.Prelude.{min, ◌≡◌, ◌⊎◌, ◌+◌, ◌-◌, ◌<◌, ◌≤◌, ◌^◌, ◌++◌, ◌∷◌, [], ℕ};
+ghost use Rattle.std.specs.Prelude.{List, length, true, false, IsTrue, Some, None, Ok, Err, IfOk, IfErr, OnOk, IsErrOf};
 ghost use Rattle.office_base.specs.Faults.{Rose};
 ghost use Rattle.moments.specs.Time.{end_of_time};
 ghost use Rattle.office_types.specs.declared.command.Entry.{Entry};
@@ -108,11 +109,13 @@ impl<D: Disk + Drop, C: Clock + Drop> Engine<D, C> {
         requires reply_fits { ReplyFits reply }
         requires entry { IsEntry bytes.now }
         requires fits { self.old.gate + 6 + length bytes.now ≤ self.old.limit }
-        requires at_rest { IsTrue D.honest → (before : List Entry) × IsAtRest header (D.state self.old.disk) self.old.gate before }
+        requires at_rest { IsTrue D.honest → (before : List Entry)
+            × IsAtRest header (D.state self.old.disk) self.old.gate before }
 
-        ensures adds { (before : List Entry) (e : Entry) → Fits e → bytes.now ≡ spelling e → self.old.gate ≡ end_gate header before
+        ensures adds { (before : List Entry) (e : Entry) → Fits e → bytes.now ≡ spelling e
+            → self.old.gate ≡ end_gate header before
             → (IsTrue D.honest → IsAtRest header (D.state self.old.disk) self.old.gate before)
-            → Adds D.honest D.state D.moment D.had_since D.fault_count moment told (Ok reply) before e self.old self.new result }
+            → Adds D.Disk moment told (Ok reply) before e self.old self.new result }
         ensures office { self.new.office ≡ self.old.office }
         ensures clock { self.new.clock ≡ self.old.clock }
         ensures limit { self.new.limit ≡ self.old.limit }
@@ -142,10 +145,10 @@ impl<D: Disk + Drop, C: Clock + Drop> Engine<D, C> {
         requires entry { Fits (entry_at moment command.now) }
         requires later { IsTrue (is_not_before self.old.office.last moment) }
         requires fits { self.old.gate + 6 + length bytes.now ≤ self.old.limit }
-        requires ready { IsReady D.honest D.state self.old }
+        requires ready { IsReady D.Disk self.old }
 
-        ensures keeps { (before : List Entry) (hold : Holds D.honest D.state before self.old)
-            → Keeps D.honest D.state D.moment D.had_since D.fault_count moment told (ask_of.Command command.now) hold.office.plain before self.old self.new result }
+        ensures keeps { (before : List Entry) (hold : Holds D.Disk before self.old)
+            → Keeps D.Disk moment told (ask_of.Command command.now) hold.office.plain before self.old self.new result }
         ensures clock { self.new.clock ≡ self.old.clock }
         ensures limit { self.new.limit ≡ self.old.limit }
         ensures later { D.fault_count self.old.disk ≤ D.fault_count self.new.disk }
@@ -165,11 +168,12 @@ impl<D: Disk + Drop, C: Clock + Drop> Engine<D, C> {
     // Does a command at a moment, where its frame fits.
     fn command(&mut self, moment: Moment, told: u64, command: &Command) -> Result<Acked, DeskFault>
         requires later { IsTrue (is_not_before self.old.office.last moment) }
-        requires ready { IsReady D.honest D.state self.old }
+        requires ready { IsReady D.Disk self.old }
 
-        ensures keeps { (before : List Entry) (hold : Holds D.honest D.state before self.old)
-            → Keeps D.honest D.state D.moment D.had_since D.fault_count moment told (ask_of.Command command.now) hold.office.plain before self.old self.new result }
-        ensures full { PassesLimit moment self.old.gate self.old.limit (ask_of.Command command.now) → (result ≡ Err DeskFault.JournalFull) ⊎ (result ≡ Err DeskFault.NoMemory) }
+        ensures keeps { (before : List Entry) (hold : Holds D.Disk before self.old)
+            → Keeps D.Disk moment told (ask_of.Command command.now) hold.office.plain before self.old self.new result }
+        ensures full { PassesLimit moment self.old.gate self.old.limit (ask_of.Command command.now)
+            → (result ≡ Err DeskFault.JournalFull) ⊎ (result ≡ Err DeskFault.NoMemory) }
         ensures clock { self.new.clock ≡ self.old.clock }
         ensures limit { self.new.limit ≡ self.old.limit }
         ensures later { D.fault_count self.old.disk ≤ D.fault_count self.new.disk }
@@ -186,10 +190,10 @@ impl<D: Disk + Drop, C: Clock + Drop> Engine<D, C> {
     // Answers a query at a moment.
     fn query(&self, moment: Moment, told: u64, query: &Query) -> Result<Acked, DeskFault>
         requires later { IsTrue (is_not_before self.now.office.last moment) }
-        requires ready { IsReady D.honest D.state self.now }
+        requires ready { IsReady D.Disk self.now }
 
-        ensures keeps { (before : List Entry) (hold : Holds D.honest D.state before self.now)
-            → Keeps D.honest D.state D.moment D.had_since D.fault_count moment told (ask_of.Query query.now) hold.office.plain before self.now self.now result }
+        ensures keeps { (before : List Entry) (hold : Holds D.Disk before self.now)
+            → Keeps D.Disk moment told (ask_of.Query query.now) hold.office.plain before self.now self.now result }
     {
         match self.office.answer(moment, query) {
             Ok(reply) => Ok(self.answer(moment.ms(), told, Ok(reply))),
@@ -204,7 +208,8 @@ impl<D: Disk + Drop, C: Clock + Drop> Engine<D, C> {
     pub(crate) fn look(&self, told: u64, query: &Query) -> Result<Reply, Refusal>
         requires begun { told < end_of_time }
 
-        ensures reads { (history : List Entry) → StandsAfter history self.now.office → IsRead told query.now history result }
+        ensures reads { (history : List Entry) → StandsAfter history self.now.office
+            → IsRead told query.now history result }
         ensures fits { AnswerFits result }
     {
         match Moment::of(moment_for(told, self.office.last())) {
@@ -216,11 +221,12 @@ impl<D: Disk + Drop, C: Clock + Drop> Engine<D, C> {
     // Answers an ask at a moment, which may be past the end of time.
     fn submit_at(&mut self, moment: u64, told: u64, ask: &Ask) -> Result<Acked, DeskFault>
         requires later { IsTrue (is_not_before self.old.office.last moment) }
-        requires ready { IsReady D.honest D.state self.old }
+        requires ready { IsReady D.Disk self.old }
 
-        ensures answers { (before : List Entry) (hold : Holds D.honest D.state before self.old)
-            → Answers D.honest D.state D.moment D.had_since D.fault_count moment told ask.now hold.office.plain before self.old self.new result }
-        ensures full { PassesLimit moment self.old.gate self.old.limit ask.now → (result ≡ Err DeskFault.JournalFull) ⊎ (result ≡ Err DeskFault.NoMemory) }
+        ensures answers { (before : List Entry) (hold : Holds D.Disk before self.old)
+            → Answers D.Disk moment told ask.now hold.office.plain before self.old self.new result }
+        ensures full { PassesLimit moment self.old.gate self.old.limit ask.now → (result ≡ Err DeskFault.JournalFull)
+            ⊎ (result ≡ Err DeskFault.NoMemory) }
         ensures clock { self.new.clock ≡ self.old.clock }
         ensures limit { self.new.limit ≡ self.old.limit }
         ensures later { D.fault_count self.old.disk ≤ D.fault_count self.new.disk }
@@ -236,15 +242,16 @@ impl<D: Disk + Drop, C: Clock + Drop> Engine<D, C> {
 
     // Asks the clock, and answers at its number.
     pub(crate) fn ask(&mut self, ask: &Ask) -> Result<Acked, DeskFault>
-        requires ready { IsReady D.honest D.state self.old }
+        requires ready { IsReady D.Disk self.old }
 
-        ensures asks { Asks D.honest D.state D.moment D.had_since D.fault_count (C.last self.new.clock) ask.now self.old self.new result }
-        ensures tells { HasCauses D.fault_count C.count C.last self.old ask.now result self.new }
-        ensures number { C.count self.new.clock < 2 ^ 64 - 1 → IsNumber (C.told self.old.clock) (C.told self.new.clock) result }
+        ensures asks { Asks D.Disk (C.last self.new.clock) ask.now self.old self.new result }
+        ensures tells { HasCauses D.Disk C.Clock self.old ask.now result self.new }
+        ensures number { C.count self.new.clock < 2 ^ 64 - 1
+            → IsNumber (C.told self.old.clock) (C.told self.new.clock) result }
         ensures last { IsLast (C.last self.new.clock) result }
         ensures stamped { IsStamped result self.new.gate (D.moment self.new.disk) }
         // It takes a further call, but after a fault of the store.
-        ensures ready { stale_after false result ≡ false → IsReady D.honest D.state self.new }
+        ensures ready { stale_after false result ≡ false → IsReady D.Disk self.new }
         // Each image of the disk has a history.
         ensures sound { IsTrue D.honest → IsSound (D.state self.new.disk) }
         ensures limit { self.new.limit ≡ self.old.limit }

@@ -14,8 +14,8 @@ pub enum DeskFault {
     /// 113: the command's frame would pass the journal's limit, whether or not the office would accept it. No
     /// record changed.
     JournalFull,
-    /// The journal was opened again in this call, and is not made, foreign or damaged. The desk stays stale. An honest disk
-    /// has no such journal.
+    /// The journal was opened again in this call, and is not made, foreign or damaged. The desk stays stale. An
+    /// honest disk has no such journal.
     Broken(OpenFault),
     /// 115: memory ran out. No record changed, and a stale desk stays stale.
     NoMemory,

@@ -1,5 +1,6 @@
 // Opening a journal again.
-ghost use Rattle.std.specs.Prelude.{◌≡◌, ◌⊎◌, ◌+◌, ◌<◌, ◌≤◌, ◌^◌, ◌++◌, ◌∷◌, [], ℕ, List, length, true, IsTrue, Some, None, Ok, Err, IfErr, IfOk, OnOk, IsErrOf};
+ghost use Rattle.std.specs.Prelude.{◌≡◌, ◌⊎◌, ◌+◌, ◌<◌, ◌≤◌, ◌^◌, ◌++◌, ◌∷◌, [], ℕ, List};
+ghost use Rattle.std.specs.Prelude.{length, true, IsTrue, Some, None, Ok, Err, IfErr, IfOk, OnOk, IsErrOf};
 ghost use Rattle.office_base.specs.Faults.{Rose};
 ghost use Rattle.disk_core.specs.Files.{synced_file};
 ghost use Rattle.disk_core.specs.Kept.{Narrower};
@@ -83,8 +84,9 @@ fn replay<D: Disk>(
     requires empty { StandsAfter [] office.old }
     requires first { journal.old.gate ≡ 10 }
 
-    ensures read { OnOk result (HasReplayed D.honest D.state journal.old.disk journal.new.disk journal.new.gate office.new) }
-    ensures fails { IsTrue D.honest → (file : List ℕ) → (D.state journal.old.disk).journal ≡ synced_file file → IsMade file → IfErr result (λ e. ReplayFails e file) }
+    ensures read { OnOk result (HasReplayed D.Disk journal.old.disk journal.new.disk journal.new.gate office.new) }
+    ensures fails { IsTrue D.honest → (file : List ℕ) → (D.state journal.old.disk).journal ≡ synced_file file
+        → IsMade file → IfErr result (λ e. ReplayFails e file) }
     ensures untouched { IsTrue D.honest → Untouched D.state D.moment D.had_since journal.old.disk journal.new.disk }
     ensures limit { journal.new.limit ≡ journal.old.limit }
     ensures cause { HasStoreCause (D.fault_count journal.old.disk) (D.fault_count journal.new.disk) result }
@@ -109,9 +111,10 @@ impl<D: Disk + Drop, C: Clock + Drop> Engine<D, C> {
     // Syncs and reads the journal file from its first gate on, and makes the changes of its entries again on an empty
     // office. Nothing is written, and the clock tells no number.
     pub(crate) fn open(&mut self) -> Result<(), OpenFault>
-        ensures opens { OnOk result (Reopens D.honest D.state D.moment D.had_since D.fault_count self.old self.new) }
+        ensures opens { OnOk result (Reopens D.Disk self.old self.new) }
         ensures fails { IsTrue D.honest → IfErr result (λ e. OpenFails e (D.state self.old.disk).journal.seen) }
-        ensures any_moment { IsTrue D.honest → KeepsTo D.state D.moment D.had_since self.old.disk self.new.disk (Narrower (D.state self.old.disk)) }
+        ensures any_moment { IsTrue D.honest
+            → KeepsTo D.state D.moment D.had_since self.old.disk self.new.disk (Narrower (D.state self.old.disk)) }
         ensures clock { self.new.clock ≡ self.old.clock }
         ensures limit { self.new.limit ≡ self.old.limit }
         ensures cause { HasStoreCause (D.fault_count self.old.disk) (D.fault_count self.new.disk) result }
@@ -126,9 +129,10 @@ impl<D: Disk + Drop, C: Clock + Drop> Engine<D, C> {
 
     // Opens the journal of a stale desk again, before a call.
     pub(crate) fn refresh(&mut self, stale: bool) -> Result<(), DeskFault>
-        ensures office { OnOk result (IsOffice D.honest D.state D.moment D.had_since D.fault_count stale self.old self.new) }
-        ensures any_moment { IsTrue D.honest → KeepsTo D.state D.moment D.had_since self.old.disk self.new.disk (Narrower (D.state self.old.disk)) }
-        ensures unopened { IfErr result (λ fault. Unopened D.honest D.state D.moment D.had_since D.fault_count stale self.old self.new (Err fault)) }
+        ensures office { OnOk result (IsOffice D.Disk stale self.old self.new) }
+        ensures any_moment { IsTrue D.honest
+            → KeepsTo D.state D.moment D.had_since self.old.disk self.new.disk (Narrower (D.state self.old.disk)) }
+        ensures unopened { IfErr result (λ fault. Unopened D.Disk stale self.old self.new (Err fault)) }
     {
         if !stale {
             return Ok(());
@@ -142,7 +146,8 @@ impl<D: Disk + Drop, C: Clock + Drop> Engine<D, C> {
     // What a call says whose journal could not be opened again.
     pub(crate) fn unopened(&self, fault: OpenFault) -> DeskFault
         ensures broken { IsBroken fault → result ≡ DeskFault.Broken fault }
-        ensures store { fault ≡ OpenFault.StoreFault → result ≡ DeskFault.StoreFault None (D.fault_count self.now.disk) }
+        ensures store { fault ≡ OpenFault.StoreFault
+            → result ≡ DeskFault.StoreFault None (D.fault_count self.now.disk) }
         ensures memory { fault ≡ OpenFault.NoMemory → result ≡ DeskFault.NoMemory }
     {
         match fault {

@@ -15,11 +15,11 @@ impl<D: Disk + Drop, C: Clock + Drop> Turned for Desk<D, C> {
 
     type Say = Result<Acked, DeskFault>;
 
-    ghost stands = { Reaches D.honest D.state D.moment D.had_since D.fault_count C.count C.last C.told };
+    ghost stands = { Reaches D.Disk C.Clock };
 
-    ghost lawful = { LegalSince D.honest D.state D.moment D.had_since D.fault_count };
+    ghost lawful = { LegalSince D.Disk };
 
-    ghost is_lawful = { legal_since D.honest D.state D.moment D.had_since D.fault_count C.count C.last C.told D.counts_now D.reads_image };
+    ghost is_lawful = { legal_since _ _ D.counts_now D.reads_image };
 
     fn take(&mut self, ask: &Ask) -> Result<Acked, DeskFault> {
         self.submit(ask)

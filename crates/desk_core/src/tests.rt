@@ -147,8 +147,8 @@ fn answer(desk: &mut Desk<MemoryDisk, ListClock>, ask: &Ask) -> (Said, bool) {
 // A wish, with what the desk says and whether it is stale then.
 type Turn = (Wish, Said, bool);
 
-// Opens a desk over this disk and a clock that tells these numbers, takes the turns, and gives the disk back, with the fault where
-// the desk is not opened.
+// Opens a desk over this disk and a clock that tells these numbers, takes the turns, and gives the disk back, with
+// the fault where the desk is not opened.
 fn take_turns(
     rt: &impl Abort,
     alloc: Global,

@@ -5,7 +5,7 @@ use Rattle.std.specs.Option.{ok_or}
 use Rattle.std.specs.Io.KnownBytes.{Appends}
 use Rattle.moments.specs.Time.{end_of_time}
 use Rattle.office_base.specs.Maps.{at_name}
-use Rattle.disk_core.specs.Memory.{memory_state}
+use Rattle.disk_core.specs.contracts.memory.MemoryDiskDisk.TheImpl as memory
 use Rattle.disk_core.specs.declared.memory.MemoryDisk.{MemoryDisk}
 use Rattle.office_types.specs.declared.command.Ask.{Ask}
 use Rattle.office_types.specs.declared.command.Ask.TheVariants as ask
@@ -44,7 +44,7 @@ use Rattle.generator.proofs.Progress.{last_of, runs, last_within, last_before, e
 -- the desk answered, and its clock told the moment of one command more
 pub next_asked : {E : Type 0} (number told : ℕ) (history : List Entry) (question : Ask) (old new : DeskView MemoryDisk PlaceClock) (r : Result Answer E)
     → told < 2 ^ 33 → Stands number told history old
-    → IfOk r (λ said. (after : List Entry) × IsSomeAnd (run history) (λ office. IsAnswered old.limit question office said history after) × Holds true memory_state after (parts_of new))
+    → IfOk r (λ said. (after : List Entry) × IsSomeAnd (run history) (λ office. IsAnswered old.limit question office said history after) × Holds memory.ghosts after (parts_of new))
     → OnOk r (new.stale ≡ false)
     → OnOk r (new.clock.place.made + 1 ≡ min (old.clock.place.made + 1 + 1) (2 ^ 64 - 1))
     → (new.clock.place.made + 1 < 2 ^ 64 - 1 → IfOk r (λ said. Appends (Some (numbers_told old.clock.number old.clock.place.made)) (Some (numbers_told new.clock.number new.clock.place.made)) (said.told ∷ [])))

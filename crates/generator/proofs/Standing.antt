@@ -1,12 +1,14 @@
 -- A desk that holds a history answers one call.
 use Rattle.std.proofs.Common.{◌≡◌, ℕ, ◌+◌, ◌-◌, ◌^◌, ◌≤◌, min, Bool, false, List, [], ◌∷◌, ◌++◌, Ok, refl, sym, ap, ◌∙◌, subst, arith, inl, inr, ⊎_elim}
 use Rattle.std.specs.Prelude.{◌⊎◌, IsTrue, IsSomeAnd}
+use Rattle.disk_core.specs.declared.disk.Disk as disks
 use Rattle.disk_core.specs.Files.{State, IsImage}
 use Rattle.office_types.specs.declared.command.Ask.{Ask}
 use Rattle.office_types.specs.declared.command.Entry.{Entry}
 use Rattle.plain_office.specs.Run.{run}
 use Rattle.meter_journal.specs.History.{header, IsAtRest}
 use Rattle.meter_journal.proofs.History.{each_image}
+use Rattle.desk_core.specs.declared.clock.Clock as clocks
 use Rattle.desk_core.specs.Answers.{Answer, Call}
 use Rattle.desk_core.specs.Asking.{IsOffice, HasCauses, Unopened}
 use Rattle.desk_core.specs.Calls.{IsAnswered}
@@ -17,49 +19,49 @@ use Rattle.desk_core.proofs.Keeping.{rest_image, unique}
 use Rattle.desk_core.proofs.OneMore.{starts}
 use Rattle.desk_core.proofs.Standing.{still_true}
 
-module _ {D : Type 0} {C : Type 0} (honest : Bool) (state : D → State) (moment : D → ℕ) (had_since : D → ℕ → State → Type 0) (fault_count : D → ℕ)
-    (only_now : (disk : D) (s : State) → had_since disk (moment disk) s → s ≡ state disk)
-    (counts_now : (disk : D) (t : ℕ) → t ≤ moment disk → had_since disk t (state disk))
-    (since_earlier : (disk : D) (t u : ℕ) (s : State) → t ≤ u → had_since disk u s → had_since disk t s) where
+module _ {D : Type 0} {C : Type 0} (d : disks.Ghosts D)
+    (only_now : (disk : D) (s : State) → d.had_since disk (d.moment disk) s → s ≡ d.state disk)
+    (counts_now : (disk : D) (t : ℕ) → t ≤ d.moment disk → d.had_since disk t (d.state disk))
+    (since_earlier : (disk : D) (t u : ℕ) (s : State) → t ≤ u → d.had_since disk u s → d.had_since disk t s) where
   -- it stands for no call since now
-  stands_now : (history : List Entry) (desk : DeskView D C) → desk.stale ≡ false → Holds honest state history (parts_of desk)
-      → StandsFor honest state moment had_since fault_count (opened_with moment fault_count history desk) [] desk
+  stands_now : (history : List Entry) (desk : DeskView D C) → desk.stale ≡ false → Holds d history (parts_of desk)
+      → StandsFor d (opened_with d history desk) [] desk
   stands_now history desk fresh holds = record {
     limit = refl;
     faults = (omega arith, tt);
     holds = λ _. (history, refl, holds);
     lost = λ not is. absurd (still_true desk.stale is fresh);
-    serves = λ tells. starts state moment had_since fault_count counts_now only_now since_earlier (opened_with moment fault_count history desk) desk.disk
-        (λ image is. (history, rest_image (state desk.disk) desk.gate history holds.office.plain (holds.at_rest tells) holds.office.is_run image is))
-        (λ image other is has. unique other history image has (each_image header (state desk.disk) desk.gate history (holds.at_rest tells) image is)) refl refl;
+    serves = λ tells. starts d counts_now only_now since_earlier (opened_with d history desk) desk.disk
+        (λ image is. (history, rest_image (d.state desk.disk) desk.gate history holds.office.plain (holds.at_rest tells) holds.office.is_run image is))
+        (λ image other is has. unique other history image has (each_image header (d.state desk.disk) desk.gate history (holds.at_rest tells) image is)) refl refl;
   }
 
   -- the office of its history answers, and it holds the history after the call
-  pub asked : (history : List Entry) (desk new : DeskView D C) (question : Ask) (said : Answer) → desk.stale ≡ false → new.stale ≡ false → Holds honest state history (parts_of desk)
-      → ((opened : Opened) (calls : List Call) → StandsFor honest state moment had_since fault_count opened calls desk
-      → GoesOn honest state moment had_since fault_count opened (calls ++ record { ask = question; said = Ok said } ∷ []) desk.disk new)
-      → (after : List Entry) × IsSomeAnd (run history) (λ office. IsAnswered desk.limit question office said history after) × Holds honest state after (parts_of new)
+  pub asked : (history : List Entry) (desk new : DeskView D C) (question : Ask) (said : Answer) → desk.stale ≡ false → new.stale ≡ false → Holds d history (parts_of desk)
+      → ((opened : Opened) (calls : List Call) → StandsFor d opened calls desk
+      → GoesOn d opened (calls ++ record { ask = question; said = Ok said } ∷ []) desk.disk new)
+      → (after : List Entry) × IsSomeAnd (run history) (λ office. IsAnswered desk.limit question office said history after) × Holds d after (parts_of new)
   asked history desk new question said fresh fresh_new holds stands =
-      let goes = stands (opened_with moment fault_count history desk) [] (stands_now history desk fresh holds) in
+      let goes = stands (opened_with d history desk) [] (stands_now history desk fresh holds) in
       let found = goes.stands.holds fresh_new in
       let legal = found.1 in
       (found.0, subst (λ (after : List Entry). IsSomeAnd (run history) (λ office. IsAnswered desk.limit question office said history after)) (sym legal.2) legal.1, found.2)
 
   -- and asks its clock once
-  pub asked_once : (count last : C → ℕ) (desk new : DeskView D C) (question : Ask) (said : Answer) → desk.stale ≡ false
-      → Unopened honest state moment had_since fault_count desk.stale (parts_of desk) (parts_of new) (Ok said)
-      ⊎ ((office : Parts D C) × IsOffice honest state moment had_since fault_count desk.stale (parts_of desk) office × HasCauses fault_count count last office question (Ok said) (parts_of new))
-      → count new.clock ≡ min (count desk.clock + 1) (2 ^ 64 - 1)
-  asked_once count last desk new question said fresh (inl unopened) = absurd (still_true desk.stale unopened.is_stale fresh)
-  asked_once count last desk new question said fresh (inr (office, is, causes)) =
+  pub asked_once : (k : clocks.Ghosts C) (desk new : DeskView D C) (question : Ask) (said : Answer) → desk.stale ≡ false
+      → Unopened d desk.stale (parts_of desk) (parts_of new) (Ok said)
+      ⊎ ((office : Parts D C) × IsOffice d desk.stale (parts_of desk) office × HasCauses d k office question (Ok said) (parts_of new))
+      → k.count new.clock ≡ min (k.count desk.clock + 1) (2 ^ 64 - 1)
+  asked_once k desk new question said fresh (inl unopened) = absurd (still_true desk.stale unopened.is_stale fresh)
+  asked_once k desk new question said fresh (inr (office, is, causes)) =
       ⊎_elim
-      (λ own. causes.once ∙ ap (λ (parts : Parts D C). min (count parts.clock + 1) (2 ^ 64 - 1)) own.1)
+      (λ own. causes.once ∙ ap (λ (parts : Parts D C). min (k.count parts.clock + 1) (2 ^ 64 - 1)) own.1)
       (λ again. absurd (still_true desk.stale again.0 fresh)) is
 
   -- a desk that was opened over a journal without entries holds none
-  pub opened_empty : (disk : D) (clock : C) (limit : ℕ) (desk : DeskView D C) → IsImage (state disk).journal (state disk).journal.seen → IsTrue honest → IsAtRest header (state disk) 10 []
-      → Opens honest state moment had_since fault_count disk clock limit desk → Holds honest state [] (parts_of desk)
+  pub opened_empty : (disk : D) (clock : C) (limit : ℕ) (desk : DeskView D C) → IsImage (d.state disk).journal (d.state disk).journal.seen → IsTrue d.honest → IsAtRest header (d.state disk) 10 []
+      → Opens d disk clock limit desk → Holds d [] (parts_of desk)
   opened_empty disk clock limit desk own tells rest opens =
       let found = opens.stands.holds opens.fresh in
-      let none : opens.history ≡ [] = unique opens.history [] (state disk).journal.seen (opens.read tells) (each_image header (state disk) 10 [] rest (state disk).journal.seen own) in
-      subst (λ (history : List Entry). Holds honest state history (parts_of desk)) (found.1 ∙ none) found.2
+      let none : opens.history ≡ [] = unique opens.history [] (d.state disk).journal.seen (opens.read tells) (each_image header (d.state disk) 10 [] rest (d.state disk).journal.seen own) in
+      subst (λ (history : List Entry). Holds d history (parts_of desk)) (found.1 ∙ none) found.2

@@ -1,7 +1,7 @@
 -- A load, from its first command to its last one.
 use Rattle.std.proofs.Common.{◌≡◌, ℕ, suc, ◌+◌, ◌^◌, ◌<◌, List, [], ap, sym, ◌∙◌, subst, arith}
+use Rattle.disk_core.specs.contracts.memory.MemoryDiskDisk.TheImpl as memory
 use Rattle.std.specs.Prelude.{true, false}
-use Rattle.disk_core.specs.Memory.{memory_state}
 use Rattle.office_types.specs.declared.command.Ask.TheVariants as ask
 use Rattle.office_types.specs.declared.command.Command.{Command}
 use Rattle.office_types.specs.declared.command.Entry.{Entry}
@@ -28,7 +28,7 @@ is_work w number n is made =
 
 -- before the first command
 pub begun : (w : Work) (number : ℕ) → w.number ≡ number → w.place ≡ place_before number → w.answers ≡ record { accepted = 0; refused = 0; nothing = 0 }
-    → Holds true memory_state [] (parts_of w.desk) → w.desk.stale ≡ false → w.desk.clock.number ≡ number → w.desk.clock.place.made ≡ 0
+    → Holds memory.ghosts [] (parts_of w.desk) → w.desk.stale ≡ false → w.desk.clock.number ≡ number → w.desk.clock.place.made ≡ 0
     → IsWork w × (w.number ≡ number) × (w.place.made ≡ 0)
 begun w number is place answers holds fresh clock made =
     let none : w.place.made ≡ 0 = ap (λ (p : Place). p.made) place in (

@@ -1,7 +1,7 @@
 -- The desk of a load while its commands are made, and what its buckets hold.
 use Rattle.std.specs.Prelude.{◌≡◌, ℕ, zero, suc, ◌+◌, ◌<◌, true, false, List, length, Option, Some, None, Result, Ok, Err}
+use Rattle.disk_core.specs.contracts.memory.MemoryDiskDisk.TheImpl as memory
 use Rattle.disk_core.specs.declared.memory.MemoryDisk.{MemoryDisk}
-use Rattle.disk_core.specs.Memory.{memory_state}
 use Rattle.office_base.specs.Maps.{at_name}
 use Rattle.office_types.specs.declared.command.Entry.{Entry}
 use Rattle.office_types.specs.declared.reply.Reply.{Reply}
@@ -22,7 +22,7 @@ use Rattle.generator.specs.declared.work.Work.{Work}
 
 -- the desk holds the journal of these entries, and its clock has told the number and as many moments behind it
 pub record Stands (number told : ℕ) (history : List Entry) (desk : DeskView MemoryDisk PlaceClock) : Type 0 where
-  pub holds : Holds true memory_state history (parts_of desk)
+  pub holds : Holds memory.ghosts history (parts_of desk)
   pub fresh : desk.stale ≡ false
   pub number_is : desk.clock.number ≡ number
   pub told_is : desk.clock.place.made ≡ told

@@ -1,7 +1,8 @@
 // Where the generator stands between two commands.
 ghost use Rattle.std.specs.Prelude.{◌≡◌, ◌<◌, ◌-◌, ◌^◌, ℕ};
 ghost use Rattle.generator.specs.Draws.{draw, next_state, state_after};
-ghost use Rattle.generator.specs.Places.{place_before, class_at, first_draft, draft_of, draws_of, kind_at, drawn, draft_at, next_place};
+ghost use Rattle.generator.specs.Places.{place_before, class_at, first_draft, draft_of};
+ghost use Rattle.generator.specs.Places.{draws_of, kind_at, drawn, draft_at, next_place};
 
 use crate::draft::Draft;
 use crate::draws::Draws;

@@ -1,5 +1,6 @@
 // Making generated commands on a desk.
-ghost use Rattle.std.specs.Prelude.{◌≡◌, ◌+◌, ◌-◌, ◌^◌, ◌<◌, ◌≤◌, ◌∷◌, [], min, ℕ, List, false, IsTrue, OnOk, IfOk, IsSomeAnd};
+ghost use Rattle.std.specs.Prelude.{◌≡◌, ◌+◌, ◌-◌, ◌^◌, ◌<◌, ◌≤◌, ◌∷◌, []};
+ghost use Rattle.std.specs.Prelude.{min, ℕ, List, false, IsTrue, OnOk, IfOk, IsSomeAnd};
 ghost use Rattle.std.specs.Io.KnownBytes.{Appends};
 ghost use Rattle.office_types.specs.declared.command.Entry.{Entry};
 ghost use Rattle.plain_office.specs.Run.{run};
@@ -73,11 +74,11 @@ pub(crate) struct Work {
 
 // Asks a desk that is not stale. One over a disk that does not fail lacks nothing but memory.
 fn ask<D: Disk + Drop, C: Clock + Drop>(desk: &mut Desk<D, C>, ask: &Ask) -> Result<Acked, NoMemory>
-    ensures answers { (history : List Entry) → Holds D.honest D.state history (parts_of desk.old)
+    ensures answers { (history : List Entry) → Holds D.Disk history (parts_of desk.old)
         → desk.old.stale ≡ false
         → IfOk result (λ said. (after : List Entry)
         × IsSomeAnd (run history) (λ office. IsAnswered desk.old.limit ask.now office said history after)
-        × Holds D.honest D.state after (parts_of desk.new)) }
+        × Holds D.Disk after (parts_of desk.new)) }
     ensures fresh { OnOk result (desk.new.stale ≡ false) }
     ensures once { desk.old.stale ≡ false
         → OnOk result (C.count desk.new.clock ≡ min (C.count desk.old.clock + 1) (2 ^ 64 - 1)) }
@@ -107,7 +108,7 @@ fn open<D: Disk + Drop, C: Clock + Drop>(
     mut disk: D,
     clock: C,
 ) -> Result<Desk<D, C>, NoMemory>
-    ensures holds { IsTrue D.honest → IfOk result (λ desk. Holds D.honest D.state [] (parts_of desk)) }
+    ensures holds { IsTrue D.honest → IfOk result (λ desk. Holds D.Disk [] (parts_of desk)) }
     ensures fresh { IfOk result (λ desk. desk.stale ≡ false) }
     ensures clock { IfOk result (λ desk. desk.clock ≡ clock) }
 {

@@ -1,5 +1,6 @@
 // One message of a session and its answer.
-ghost use Rattle.std.specs.Prelude.{◌≡◌, ◌≤◌, ◌<◌, ◌+◌, ◌⊎◌, ℕ, List, Option, take, length, true, false, OnOk, IfOk, IfErr, IsErrOf, IsOk, Ok, Err, Some};
+ghost use Rattle.std.specs.Prelude.{◌≡◌, ◌≤◌, ◌<◌, ◌+◌, ◌⊎◌, ℕ, List, Option, take, length};
+ghost use Rattle.std.specs.Prelude.{true, false, OnOk, IfOk, IfErr, IsErrOf, IsOk, Ok, Err, Some};
 ghost use Rattle.std.specs.Io.KnownBytes.{Appends, prepend_known};
 ghost use Rattle.office_base.specs.Faults.{Rose, HasCause};
 ghost use Rattle.desk_core.specs.declared.fault.DeskFault.{DeskFault};
@@ -44,7 +45,8 @@ pub enum SessionEnd {
 fn say<W: Replies>(out: &mut W, bad: &Bad, bytes: &[u8]) -> Result<(), SessionEnd>
     requires { bytes.now ≡ bad_text_of bad.now }
     ensures ok { OnOk result (Appends (W.said out.old) (W.said out.new) bytes.now) }
-    ensures err { IfErr result (λ e. (e ≡ SessionEnd.WriteFault) × ((n : ℕ) × Appends (W.said out.old) (W.said out.new) (take n bytes.now))) }
+    ensures err { IfErr result (λ e. (e ≡ SessionEnd.WriteFault) × ((n : ℕ)
+        × Appends (W.said out.old) (W.said out.new) (take n bytes.now))) }
     ensures moments { W.moments out.new ≡ W.moments out.old }
     ensures texts { W.texts out.new ≡ W.texts out.old }
     ensures noted { W.noted out.new ≡ W.noted out.old }
@@ -59,7 +61,8 @@ fn say<W: Replies>(out: &mut W, bad: &Bad, bytes: &[u8]) -> Result<(), SessionEn
 // Says that memory ran out, as the last text of a session.
 pub(crate) fn say_no_memory<W: Replies>(out: &mut W) -> SessionEnd
     ensures said { ((result ≡ SessionEnd.NoMemory) × Appends (W.said out.old) (W.said out.new) no_memory_text)
-        ⊎ ((result ≡ SessionEnd.WriteFault) × ((n : ℕ) × Appends (W.said out.old) (W.said out.new) (take n no_memory_text))) }
+        ⊎ ((result ≡ SessionEnd.WriteFault) × ((n : ℕ)
+        × Appends (W.said out.old) (W.said out.new) (take n no_memory_text))) }
     ensures moments { W.moments out.new ≡ W.moments out.old }
     ensures texts { W.texts out.new ≡ W.texts out.old }
     ensures noted { W.noted out.new ≡ W.noted out.old }
@@ -76,7 +79,8 @@ pub(crate) fn say_no_memory<W: Replies>(out: &mut W) -> SessionEnd
 fn say_short<W: Replies>(out: &mut W, room: &mut [u8], acked: &Acked) -> Result<(), SessionEnd>
     requires room { 16384 ≤ length room.old }
     requires short { IsShort acked.now.reply }
-    ensures said { IsSaid (W.said out.old) (W.said out.new) (W.moments out.old) (W.moments out.new) (Ok acked.now) result }
+    ensures said { IsSaid (W.said out.old) (W.said out.new) (W.moments out.old) (W.moments out.new)
+        (Ok acked.now) result }
     ensures room { 16384 ≤ length room.new }
     ensures texts { W.texts out.new ≡ W.texts out.old }
     ensures noted { W.noted out.new ≡ W.noted out.old }
@@ -95,7 +99,8 @@ fn say_short<W: Replies>(out: &mut W, room: &mut [u8], acked: &Acked) -> Result<
 #[tactic(auto, using(crate::proofs::SaidLemmas::said_instead))]
 fn say_long<W: Replies>(alloc: Global, out: &mut W, acked: &Acked) -> Result<(), SessionEnd>
     requires long { ¬ (IsShort acked.now.reply) }
-    ensures said { IsSaid (W.said out.old) (W.said out.new) (W.moments out.old) (W.moments out.new) (Ok acked.now) result }
+    ensures said { IsSaid (W.said out.old) (W.said out.new) (W.moments out.old) (W.moments out.new)
+        (Ok acked.now) result }
     ensures texts { W.texts out.new ≡ W.texts out.old }
     ensures noted { W.noted out.new ≡ W.noted out.old }
     ensures later { W.faults out.old ≤ W.faults out.new }
@@ -117,7 +122,8 @@ fn say_reply<W: Replies>(
     acked: &Acked,
 ) -> Result<(), SessionEnd>
     requires room { 16384 ≤ length room.old }
-    ensures said { IsSaid (W.said out.old) (W.said out.new) (W.moments out.old) (W.moments out.new) (Ok acked.now) result }
+    ensures said { IsSaid (W.said out.old) (W.said out.new) (W.moments out.old) (W.moments out.new)
+        (Ok acked.now) result }
     ensures room { 16384 ≤ length room.new }
     ensures texts { W.texts out.new ≡ W.texts out.old }
     ensures noted { W.noted out.new ≡ W.noted out.old }
@@ -168,7 +174,8 @@ fn answer<W: Replies, T: Teller>(
     teller: &mut T,
 ) -> Result<(), SessionEnd>
     requires room { 16384 ≤ length room.old }
-    ensures answers { Answers T.moves teller.old teller.new (W.said out.old) (W.said out.new) (W.moments out.old) (W.moments out.new) ask.now result }
+    ensures answers { Answers T.moves teller.old teller.new (W.said out.old) (W.said out.new) (W.moments out.old)
+        (W.moments out.new) ask.now result }
     ensures room { 16384 ≤ length room.new }
     ensures texts { W.texts out.new ≡ W.texts out.old }
     ensures noted { W.noted out.new ≡ W.noted out.old }
@@ -198,8 +205,10 @@ fn say_bad<W: Replies>(alloc: Global, out: &mut W, bad: http_asks::Bad) -> Resul
 }
 
 fn say_stop<W: Replies>(out: &mut W, stop: Stop) -> SessionEnd
-    ensures said { (stop ≡ Stop.NoMemory) → ((result ≡ SessionEnd.NoMemory) × Appends (W.said out.old) (W.said out.new) no_memory_text)
-        ⊎ ((result ≡ SessionEnd.WriteFault) × ((n : ℕ) × Appends (W.said out.old) (W.said out.new) (take n no_memory_text))) }
+    ensures said { (stop ≡ Stop.NoMemory) → ((result ≡ SessionEnd.NoMemory)
+        × Appends (W.said out.old) (W.said out.new) no_memory_text)
+        ⊎ ((result ≡ SessionEnd.WriteFault) × ((n : ℕ)
+        × Appends (W.said out.old) (W.said out.new) (take n no_memory_text))) }
     ensures read_fault { (stop ≡ Stop.ReadFault) → (result ≡ SessionEnd.ReadFault) × (W.said out.new ≡ W.said out.old) }
     ensures spent { (stop ≡ Stop.Spent) → (result ≡ SessionEnd.Spent) × (W.said out.new ≡ W.said out.old) }
     ensures moments { W.moments out.new ≡ W.moments out.old }
@@ -238,7 +247,8 @@ fn answer_heard<W: Replies, T: Teller>(
         → OnItem {E = Stop} (Ok heard) (IsHeldBack rest left)
         → Went T.moves teller.old teller.new (W.said out.old) (W.said out.new) (W.moments out.old) (W.moments out.new)
         (reading stream left) rest total result }
-    ensures item { (stream rest : Option (List ℕ)) (few many : ℕ) → Tells stream heard rest → OnItem {E = Stop} (Ok heard) (few < many) → OnOk result (few < many) }
+    ensures item { (stream rest : Option (List ℕ)) (few many : ℕ) → Tells stream heard rest
+        → OnItem {E = Stop} (Ok heard) (few < many) → OnOk result (few < many) }
     ensures room { 16384 ≤ length room.new }
     ensures texts { W.texts out.new ≡ W.texts out.old }
     ensures noted { W.noted out.new ≡ W.noted out.old }
@@ -270,9 +280,11 @@ pub(crate) fn answer_one<R: Source, W: Replies, T: Teller>(
     teller: &mut T,
 ) -> Result<(), SessionEnd>
     requires room { 16384 ≤ length room.old }
-    ensures goes_on { OnOk result (Talked T.moves teller.old teller.new (W.said out.old) (W.said out.new) (W.moments out.old) (W.moments out.new)
+    ensures goes_on { OnOk result (Talked T.moves teller.old teller.new (W.said out.old) (W.said out.new)
+        (W.moments out.old) (W.moments out.new)
         (prepend_known reader.old.bytes (R.left source.old)) (prepend_known reader.new.bytes (R.left source.new))) }
-    ensures closed { IfErr result (λ end. Closed T.moves teller.old teller.new (W.said out.old) (W.said out.new) (W.moments out.old) (W.moments out.new)
+    ensures closed { IfErr result (λ end. Closed T.moves teller.old teller.new (W.said out.old) (W.said out.new)
+        (W.moments out.old) (W.moments out.new)
         (reading (prepend_known reader.old.bytes (R.left source.old)) (R.left source.new))
         (total_of reader.old.taken (R.left source.old)) end) }
     ensures room { 16384 ≤ length room.new }

@@ -7,7 +7,7 @@ use office_types::Ask;
 impl<D: Disk + Drop, C: Clock + Drop> Teller for Desk<D, C> {
     ghost use Rattle.desk_core.specs.Asking.{Submits};
 
-    ghost moves = { λ old ask said new. Submits D.honest D.state D.moment D.had_since D.fault_count C.count C.last C.told old ask said new };
+    ghost moves = { λ old ask said new. Submits D.Disk C.Clock old ask said new };
 
     fn ask(&mut self, ask: &Ask) -> Result<Acked, DeskFault> {
         self.submit(ask)

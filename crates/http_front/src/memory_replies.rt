@@ -22,8 +22,9 @@ pub struct MemoryReplies {
 }
 
 impl MemoryReplies {
-    /// Makes replies in which nothing was said. The calls of `say`, `say_bad` and `text` whose numbers are in `failing`,
-    /// counted together from 1, fail, and nothing of them is kept; so does a call for which memory runs out.
+    /// Makes replies in which nothing was said. The calls of `say`, `say_bad` and `text` whose numbers are in
+    /// `failing`, counted together from 1, fail, and nothing of them is kept; so does a call for which memory runs
+    /// out.
     pub fn new(alloc: Global, failing: Vec<u64>) -> Self
         ensures said { ⟦<MemoryReplies as Replies>⟧.said result ≡ Some [] }
         ensures moments { ⟦<MemoryReplies as Replies>⟧.moments result ≡ Some [] }

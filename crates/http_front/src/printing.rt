@@ -112,7 +112,8 @@ fn ended(room: &[u8], end: usize) -> Result<usize, NoRoom>
 /// `NoRoom`: the room is shorter than the text.
 pub fn print_reply(room: &mut [u8], acked: &Acked) -> Result<usize, NoRoom>
     requires short { IsShort acked.now.reply }
-    ensures text { IfOk result (λ size. (size ≡ length (answer_text acked.now.reply)) × (take size room.new ≡ answer_text acked.now.reply)) }
+    ensures text { IfOk result (λ size. (size ≡ length (answer_text acked.now.reply))
+        × (take size room.new ≡ answer_text acked.now.reply)) }
     ensures fits { OnOk result (length (answer_text acked.now.reply) ≤ length room.old) }
     ensures no_room { OnErr result (length room.old < length (answer_text acked.now.reply)) }
     ensures enough { 16384 ≤ length room.old → IsOk result }
@@ -134,14 +135,15 @@ pub fn print_query(alloc: Global, acked: &Acked) -> Result<Vec<u8>, NoMemory>
     print_answer(alloc, acked.reply())
 }
 
-/// Prints the reply of a call without an answer of the office to the front of a room, and answers how many bytes it has.
-/// Takes no memory; 16,384 bytes of room are always enough.
+/// Prints the reply of a call without an answer of the office to the front of a room, and answers how many bytes it
+/// has. Takes no memory; 16,384 bytes of room are always enough.
 ///
 /// # Errors
 ///
 /// `NoRoom`: the room is shorter than the text.
 pub fn print_fault(room: &mut [u8], fault: &DeskFault) -> Result<usize, NoRoom>
-    ensures text { IfOk result (λ size. (size ≡ length (fault_text fault.now)) × (take size room.new ≡ fault_text fault.now)) }
+    ensures text { IfOk result (λ size. (size ≡ length (fault_text fault.now))
+        × (take size room.new ≡ fault_text fault.now)) }
     ensures fits { OnOk result (length (fault_text fault.now) ≤ length room.old) }
     ensures no_room { OnErr result (length room.old < length (fault_text fault.now)) }
     ensures enough { 16384 ≤ length room.old → IsOk result }

@@ -168,7 +168,8 @@ fn put_body(room: &mut [u8], at: usize, bad: &http_asks::Bad) -> usize
 
 // Writes the reply, whose head says that the body has so many bytes, at the front of a room.
 fn put_reply(room: &mut [u8], bad: &http_asks::Bad, size: usize) -> usize
-    ensures { Puts room.old 0 room.new result (head_text (refused_status (refused_of bad.now)) size ++ refused_body (refused_of bad.now)) }
+    ensures { Puts room.old 0 room.new result (head_text (refused_status (refused_of bad.now)) size ++ refused_body
+        (refused_of bad.now)) }
 {
     let at = put_head(room, 0, status(bad), size);
     put_body(room, at, bad)

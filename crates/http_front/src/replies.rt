@@ -106,10 +106,14 @@ impl<W: Write + Drop, N: Write + Drop> WriterReplies<W, N> {
 
     // Writes a text to the first writer.
     fn put(&mut self, bytes: &[u8]) -> Result<(), Failed>
-        ensures written { OnOk result (Appends (W.contents (out_of self.old)) (W.contents (out_of self.new)) bytes.now) }
-        ensures written_part { OnErr result ((n : ℕ) × Appends (W.contents (out_of self.old)) (W.contents (out_of self.new)) (take n bytes.now)) }
-        ensures noted { ⟦<WriterReplies<W, N> as Replies>⟧.noted self.new ≡ ⟦<WriterReplies<W, N> as Replies>⟧.noted self.old }
-        ensures cause { HasCause (⟦<WriterReplies<W, N> as Replies>⟧.faults self.old) (⟦<WriterReplies<W, N> as Replies>⟧.faults self.new) result }
+        ensures written { OnOk result (Appends (W.contents (out_of self.old)) (W.contents
+            (out_of self.new)) bytes.now) }
+        ensures written_part { OnErr result ((n : ℕ)
+            × Appends (W.contents (out_of self.old)) (W.contents (out_of self.new)) (take n bytes.now)) }
+        ensures noted { ⟦<WriterReplies<W, N> as Replies>⟧.noted self.new
+            ≡ ⟦<WriterReplies<W, N> as Replies>⟧.noted self.old }
+        ensures cause { HasCause (⟦<WriterReplies<W, N> as Replies>⟧.faults self.old)
+            (⟦<WriterReplies<W, N> as Replies>⟧.faults self.new) result }
     {
         match put_all(&mut self.out, bytes) {
             Ok(()) => Ok(()),
@@ -150,15 +154,25 @@ impl<W: Write + Drop, N: Write + Drop> Replies for WriterReplies<W, N> {
 
     fn say(&mut self, acked: &Acked, bytes: &[u8]) -> Result<(), Failed>
         requires { bytes.now ≡ answer_text acked.now.reply }
-        ensures written { OnOk result (Appends (W.contents (out_of self.old)) (W.contents (out_of self.new)) bytes.now) }
-        ensures written_part { OnErr result ((n : ℕ) × Appends (W.contents (out_of self.old)) (W.contents (out_of self.new)) (take n bytes.now)) }
-        ensures said { OnOk result (Appends (⟦<WriterReplies<W, N> as Replies>⟧.said self.old) (⟦<WriterReplies<W, N> as Replies>⟧.said self.new) bytes.now) }
-        ensures part { OnErr result ((n : ℕ) × Appends (⟦<WriterReplies<W, N> as Replies>⟧.said self.old) (⟦<WriterReplies<W, N> as Replies>⟧.said self.new) (take n bytes.now)) }
-        ensures moments { OnOk result (Appends (⟦<WriterReplies<W, N> as Replies>⟧.moments self.old) (⟦<WriterReplies<W, N> as Replies>⟧.moments self.new) (acked.now.disk_moment ∷ [])) }
-        ensures unsaid { OnErr result (⟦<WriterReplies<W, N> as Replies>⟧.moments self.new ≡ ⟦<WriterReplies<W, N> as Replies>⟧.moments self.old) }
-        ensures texts { ⟦<WriterReplies<W, N> as Replies>⟧.texts self.new ≡ ⟦<WriterReplies<W, N> as Replies>⟧.texts self.old }
-        ensures noted { ⟦<WriterReplies<W, N> as Replies>⟧.noted self.new ≡ ⟦<WriterReplies<W, N> as Replies>⟧.noted self.old }
-        ensures cause { HasCause (⟦<WriterReplies<W, N> as Replies>⟧.faults self.old) (⟦<WriterReplies<W, N> as Replies>⟧.faults self.new) result }
+        ensures written { OnOk result (Appends (W.contents (out_of self.old)) (W.contents
+            (out_of self.new)) bytes.now) }
+        ensures written_part { OnErr result ((n : ℕ)
+            × Appends (W.contents (out_of self.old)) (W.contents (out_of self.new)) (take n bytes.now)) }
+        ensures said { OnOk result (Appends (⟦<WriterReplies<W, N> as Replies>⟧.said self.old)
+            (⟦<WriterReplies<W, N> as Replies>⟧.said self.new) bytes.now) }
+        ensures part { OnErr result ((n : ℕ)
+            × Appends (⟦<WriterReplies<W, N> as Replies>⟧.said self.old)
+            (⟦<WriterReplies<W, N> as Replies>⟧.said self.new) (take n bytes.now)) }
+        ensures moments { OnOk result (Appends (⟦<WriterReplies<W, N> as Replies>⟧.moments self.old)
+            (⟦<WriterReplies<W, N> as Replies>⟧.moments self.new) (acked.now.disk_moment ∷ [])) }
+        ensures unsaid { OnErr result (⟦<WriterReplies<W, N> as Replies>⟧.moments self.new
+            ≡ ⟦<WriterReplies<W, N> as Replies>⟧.moments self.old) }
+        ensures texts { ⟦<WriterReplies<W, N> as Replies>⟧.texts self.new
+            ≡ ⟦<WriterReplies<W, N> as Replies>⟧.texts self.old }
+        ensures noted { ⟦<WriterReplies<W, N> as Replies>⟧.noted self.new
+            ≡ ⟦<WriterReplies<W, N> as Replies>⟧.noted self.old }
+        ensures cause { HasCause (⟦<WriterReplies<W, N> as Replies>⟧.faults self.old)
+            (⟦<WriterReplies<W, N> as Replies>⟧.faults self.new) result }
     {
         let _ = acked;
         self.put(bytes)
@@ -166,28 +180,46 @@ impl<W: Write + Drop, N: Write + Drop> Replies for WriterReplies<W, N> {
 
     fn say_bad(&mut self, bad: &Bad, bytes: &[u8]) -> Result<(), Failed>
         requires { bytes.now ≡ bad_text_of bad.now }
-        ensures written { OnOk result (Appends (W.contents (out_of self.old)) (W.contents (out_of self.new)) bytes.now) }
-        ensures written_part { OnErr result ((n : ℕ) × Appends (W.contents (out_of self.old)) (W.contents (out_of self.new)) (take n bytes.now)) }
-        ensures said { OnOk result (Appends (⟦<WriterReplies<W, N> as Replies>⟧.said self.old) (⟦<WriterReplies<W, N> as Replies>⟧.said self.new) bytes.now) }
-        ensures part { OnErr result ((n : ℕ) × Appends (⟦<WriterReplies<W, N> as Replies>⟧.said self.old) (⟦<WriterReplies<W, N> as Replies>⟧.said self.new) (take n bytes.now)) }
-        ensures moments { ⟦<WriterReplies<W, N> as Replies>⟧.moments self.new ≡ ⟦<WriterReplies<W, N> as Replies>⟧.moments self.old }
-        ensures texts { ⟦<WriterReplies<W, N> as Replies>⟧.texts self.new ≡ ⟦<WriterReplies<W, N> as Replies>⟧.texts self.old }
-        ensures noted { ⟦<WriterReplies<W, N> as Replies>⟧.noted self.new ≡ ⟦<WriterReplies<W, N> as Replies>⟧.noted self.old }
-        ensures cause { HasCause (⟦<WriterReplies<W, N> as Replies>⟧.faults self.old) (⟦<WriterReplies<W, N> as Replies>⟧.faults self.new) result }
+        ensures written { OnOk result (Appends (W.contents (out_of self.old)) (W.contents
+            (out_of self.new)) bytes.now) }
+        ensures written_part { OnErr result ((n : ℕ)
+            × Appends (W.contents (out_of self.old)) (W.contents (out_of self.new)) (take n bytes.now)) }
+        ensures said { OnOk result (Appends (⟦<WriterReplies<W, N> as Replies>⟧.said self.old)
+            (⟦<WriterReplies<W, N> as Replies>⟧.said self.new) bytes.now) }
+        ensures part { OnErr result ((n : ℕ)
+            × Appends (⟦<WriterReplies<W, N> as Replies>⟧.said self.old)
+            (⟦<WriterReplies<W, N> as Replies>⟧.said self.new) (take n bytes.now)) }
+        ensures moments { ⟦<WriterReplies<W, N> as Replies>⟧.moments self.new
+            ≡ ⟦<WriterReplies<W, N> as Replies>⟧.moments self.old }
+        ensures texts { ⟦<WriterReplies<W, N> as Replies>⟧.texts self.new
+            ≡ ⟦<WriterReplies<W, N> as Replies>⟧.texts self.old }
+        ensures noted { ⟦<WriterReplies<W, N> as Replies>⟧.noted self.new
+            ≡ ⟦<WriterReplies<W, N> as Replies>⟧.noted self.old }
+        ensures cause { HasCause (⟦<WriterReplies<W, N> as Replies>⟧.faults self.old)
+            (⟦<WriterReplies<W, N> as Replies>⟧.faults self.new) result }
     {
         let _ = bad;
         self.put(bytes)
     }
 
     fn text(&mut self, bytes: &[u8]) -> Result<(), Failed>
-        ensures written { OnOk result (Appends (W.contents (out_of self.old)) (W.contents (out_of self.new)) bytes.now) }
-        ensures written_part { OnErr result ((n : ℕ) × Appends (W.contents (out_of self.old)) (W.contents (out_of self.new)) (take n bytes.now)) }
-        ensures texts { OnOk result (Appends (⟦<WriterReplies<W, N> as Replies>⟧.texts self.old) (⟦<WriterReplies<W, N> as Replies>⟧.texts self.new) bytes.now) }
-        ensures part { OnErr result ((n : ℕ) × Appends (⟦<WriterReplies<W, N> as Replies>⟧.texts self.old) (⟦<WriterReplies<W, N> as Replies>⟧.texts self.new) (take n bytes.now)) }
-        ensures said { ⟦<WriterReplies<W, N> as Replies>⟧.said self.new ≡ ⟦<WriterReplies<W, N> as Replies>⟧.said self.old }
-        ensures moments { ⟦<WriterReplies<W, N> as Replies>⟧.moments self.new ≡ ⟦<WriterReplies<W, N> as Replies>⟧.moments self.old }
-        ensures noted { ⟦<WriterReplies<W, N> as Replies>⟧.noted self.new ≡ ⟦<WriterReplies<W, N> as Replies>⟧.noted self.old }
-        ensures cause { HasCause (⟦<WriterReplies<W, N> as Replies>⟧.faults self.old) (⟦<WriterReplies<W, N> as Replies>⟧.faults self.new) result }
+        ensures written { OnOk result (Appends (W.contents (out_of self.old)) (W.contents
+            (out_of self.new)) bytes.now) }
+        ensures written_part { OnErr result ((n : ℕ)
+            × Appends (W.contents (out_of self.old)) (W.contents (out_of self.new)) (take n bytes.now)) }
+        ensures texts { OnOk result (Appends (⟦<WriterReplies<W, N> as Replies>⟧.texts self.old)
+            (⟦<WriterReplies<W, N> as Replies>⟧.texts self.new) bytes.now) }
+        ensures part { OnErr result ((n : ℕ)
+            × Appends (⟦<WriterReplies<W, N> as Replies>⟧.texts self.old)
+            (⟦<WriterReplies<W, N> as Replies>⟧.texts self.new) (take n bytes.now)) }
+        ensures said { ⟦<WriterReplies<W, N> as Replies>⟧.said self.new
+            ≡ ⟦<WriterReplies<W, N> as Replies>⟧.said self.old }
+        ensures moments { ⟦<WriterReplies<W, N> as Replies>⟧.moments self.new
+            ≡ ⟦<WriterReplies<W, N> as Replies>⟧.moments self.old }
+        ensures noted { ⟦<WriterReplies<W, N> as Replies>⟧.noted self.new
+            ≡ ⟦<WriterReplies<W, N> as Replies>⟧.noted self.old }
+        ensures cause { HasCause (⟦<WriterReplies<W, N> as Replies>⟧.faults self.old)
+            (⟦<WriterReplies<W, N> as Replies>⟧.faults self.new) result }
     {
         self.put(bytes)
     }

@@ -28,7 +28,8 @@ fn go_on<R: Source, W: Replies, T: Teller>(
 ) -> SessionEnd
     requires room { 16384 ≤ length room.old }
     requires limit { reader.old.taken ≤ take_limit }
-    ensures closed { Closed T.moves teller.old teller.new (W.said out.old) (W.said out.new) (W.moments out.old) (W.moments out.new)
+    ensures closed { Closed T.moves teller.old teller.new (W.said out.old) (W.said out.new) (W.moments out.old)
+        (W.moments out.new)
         (reading (prepend_known reader.old.bytes (R.left source.old)) (R.left source.new))
         (total_of reader.old.taken (R.left source.old)) result }
     ensures given { Given reader.old.taken reader.new.taken (R.left source.old) (R.left source.new) }
@@ -50,12 +51,12 @@ fn go_on<R: Source, W: Replies, T: Teller>(
     }
 }
 
-/// Answers the messages of a stream in order, each before further bytes are awaited, up to the stream's end, to the last
-/// message of the session, or to the first one that is not served. A message that is refused is answered as the others are,
-/// and so is a call without an answer of the office; where memory ran out, its text is the last one of the session.
-/// It takes at most 2^40 = 1,099,511,627,776 bytes, and is `Spent` where it took as many, answered each message in them, and needs
-/// a further read.
-/// Takes its memory at the start, and for a message that of the message's own parts and of the text of its refusal.
+/// Answers the messages of a stream in order, each before further bytes are awaited, up to the stream's end, to the
+/// last message of the session, or to the first one that is not served. A message that is refused is answered as
+/// the others are, and so is a call without an answer of the office; where memory ran out, its text is the last one
+/// of the session. It takes at most 2^40 = 1,099,511,627,776 bytes, and is `Spent` where it took as many, answered
+/// each message in them, and needs a further read. Takes its memory at the start, and for a message that of the
+/// message's own parts and of the text of its refusal.
 pub fn session<R: Source, W: Replies, T: Teller>(
     alloc: Global,
     source: &mut R,

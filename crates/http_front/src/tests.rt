@@ -55,7 +55,8 @@ impl Teller for FullTeller {
     }
 }
 
-/// The calls that fail, each kind counted from 1: reads, texts said, an ask by the store, and one by want of memory (0: none).
+/// The calls that fail, each kind counted from 1: reads, texts said, an ask by the store, and one by want of memory
+/// (0: none).
 #[derive(Clone, Copy)]
 struct Failing {
     reads: &'static [u64],
@@ -79,8 +80,8 @@ fn joined(alloc: Global, pieces: &[&[u8]]) -> Result<Vec<u8>, Fail> {
     Ok(all)
 }
 
-/// Has one session over a stream, given in pieces, that is read in cuts of so many bytes, and looks at its end and at the replies,
-/// given in pieces.
+/// Has one session over a stream, given in pieces, that is read in cuts of so many bytes, and looks at its end and
+/// at the replies, given in pieces.
 fn assert_session(
     rt: &impl Abort,
     alloc: Global,

@@ -10,7 +10,7 @@ pub reading-init : goal.reading-init
 reading-init g c = record {
   known = c.requires.known;
   untouched = λ told. started g.D.Disk.state g.D.Disk.moment g.D.Disk.had_since c.args.journal.now.disk (λ s. s ≡ g.D.Disk.state c.args.journal.now.disk) (g.met.D.Disk.only_now c.args.journal.now.disk) refl;
-  read = none_read g.D.Disk.honest g.D.Disk.state c.args.journal.now.disk c.args.journal.now.gate c.args.office.now c.requires.first c.requires.empty;
+  read = none_read g.D.Disk c.args.journal.now.disk c.args.journal.now.gate c.args.office.now c.requires.first c.requires.empty;
   limit = refl;
   later = omega arith;
 }
@@ -21,7 +21,7 @@ reading-preserved g c =
     record {
       known = search rules;
       untouched = λ told. untouched_then d.state d.moment d.had_since c.args.journal.now.disk c.reading.journal.disk c.next.new.self.disk (c.reading.invariant.untouched told) (c.next.ensures.untouched told);
-      read = one_read d.honest d.state c.args.journal.now.disk c.reading.journal.disk c.reading.journal.gate c.next.new.self.gate c.reading.office c.take.new.office c.in-Ok.read c.in-Some.entry c.reading.invariant.read
+      read = one_read d c.args.journal.now.disk c.reading.journal.disk c.reading.journal.gate c.next.new.self.gate c.reading.office c.take.new.office c.in-Ok.read c.in-Some.entry c.reading.invariant.read
           (λ told. (c.reading.invariant.untouched told).now) (λ told. g.met.D.Disk.holds_bytes told c.args.journal.now.disk Journal) c.in-Some.is c.in-Ok.ensures.exact c.in-Ok.ensures.advances (search rules) c.in-Ok-take.ensures.ok;
       limit = search rules;
       later = omega (arith, c.reading.invariant.later, c.next.ensures.cause.later);
@@ -30,7 +30,7 @@ reading-preserved g c =
 pub returns-in-None-clause-read : goal.returns-in-None-clause-read
 returns-in-None-clause-read g c =
     let d = g.D.Disk in
-    all_read d.honest d.state c.args.journal.now.disk c.reading.journal.disk c.next.new.self.disk c.reading.journal.gate c.next.new.self.gate c.reading.office c.in-Ok.read c.reading.invariant.read
+    all_read d c.args.journal.now.disk c.reading.journal.disk c.next.new.self.disk c.reading.journal.gate c.next.new.self.gate c.reading.office c.in-Ok.read c.reading.invariant.read
     (λ told. (c.reading.invariant.untouched told).now) (λ told. (c.next.ensures.untouched told).now) c.in-None.is c.in-Ok.ensures.exact c.in-Ok.ensures.advances
 
 pub returns-in-Err-clause-fails : goal.returns-in-Err-clause-fails
@@ -52,4 +52,4 @@ returns-in-Err-take-clause-fails g c told file on_disk made =
 pub take-requires : goal.take-requires
 take-requires g c =
     let d = g.D.Disk in
-    record { few = few_read d.honest d.state c.args.journal.now.disk c.reading.journal.gate c.reading.office c.reading.invariant.read }
+    record { few = few_read d c.args.journal.now.disk c.reading.journal.gate c.reading.office c.reading.invariant.read }

@@ -7,7 +7,7 @@ abbrev pub invariant-reading : goal.invariant-reading
 invariant-reading g l = record {
   known : IsTrue g.D.Disk.honest → l.initial.end ≡ length (g.D.Disk.state l.journal.disk).journal.seen;
   untouched : IsTrue g.D.Disk.honest → Untouched g.D.Disk.state g.D.Disk.moment g.D.Disk.had_since l.initial.journal.disk l.journal.disk;
-  read : HasRead g.D.Disk.honest g.D.Disk.state l.initial.journal.disk l.journal.gate l.office;
+  read : HasRead g.D.Disk l.initial.journal.disk l.journal.gate l.office;
   limit : l.journal.limit ≡ l.initial.journal.limit;
   later : g.D.Disk.fault_count l.initial.journal.disk ≤ g.D.Disk.fault_count l.journal.disk;
 }

@@ -14,10 +14,10 @@ returns-in-Ok-clause-opens g c =
     let m = g.met.D.Disk in
     let over = c.over-engine.result in
     let engine = c.open.new.self in
-    let opens_over = opened d.honest d.state d.moment d.had_since d.fault_count m.only_now m.counts_now m.since_earlier (λ tells disk. m.reads_image tells disk Journal) over engine c.in-Ok.ensures.opens in
-    let on_disk = subst (λ (x : g.row.D.Denot). Opens d.honest d.state d.moment d.had_since d.fault_count x over.clock over.limit (view_of engine false)) c.over-engine.ensures.disk opens_over in
-    let on_clock = subst (λ (x : g.row.C.Denot). Opens d.honest d.state d.moment d.had_since d.fault_count c.args.disk x over.limit (view_of engine false)) c.over-engine.ensures.clock on_disk in
-    subst (λ (n : ℕ). Opens d.honest d.state d.moment d.had_since d.fault_count c.args.disk c.args.clock n (view_of engine false)) c.over-engine.ensures.limit on_clock
+    let opens_over = opened d m.only_now m.counts_now m.since_earlier (λ tells disk. m.reads_image tells disk Journal) over engine c.in-Ok.ensures.opens in
+    let on_disk = subst (λ (x : g.row.D.Denot). Opens d x over.clock over.limit (view_of engine false)) c.over-engine.ensures.disk opens_over in
+    let on_clock = subst (λ (x : g.row.C.Denot). Opens d c.args.disk x over.limit (view_of engine false)) c.over-engine.ensures.clock on_disk in
+    subst (λ (n : ℕ). Opens d c.args.disk c.args.clock n (view_of engine false)) c.over-engine.ensures.limit on_clock
 
 pub returns-in-Err-clause-sound : goal.returns-in-Err-clause-sound
 returns-in-Err-clause-sound g c told history has =
@@ -28,4 +28,4 @@ returns-in-Err-clause-sound g c told history has =
 pub invariant_of-result : goal.invariant_of-result
 invariant_of-result g c =
     let again = c.in-Ok.ensures.opens in
-    (λ _. (again.history, again.holds), λ tells. holds_sound g.D.Disk.honest g.D.Disk.state again.history c.open.new.self again.holds tells)
+    (λ _. (again.history, again.holds), λ tells. holds_sound g.D.Disk again.history c.open.new.self again.holds tells)

@@ -14,31 +14,31 @@ returns-clause-asks g c =
     let d = g.D.Disk in
     let P : Type 0 = Parts g.row.D.Denot g.row.C.Denot in
     let last_is : g.C.Clock.last c.submit_at.new.self.clock ≡ c.now-told.result = ap g.C.Clock.last c.submit_at.ensures.clock ∙ c.now-told.ensures.last in
-    subst (λ (n : ℕ). Asks d.honest d.state d.moment d.had_since d.fault_count n c.args.ask.now c.args.self.now c.submit_at.new.self c.submit_at.result) (sym last_is)
+    subst (λ (n : ℕ). Asks d n c.args.ask.now c.args.self.now c.submit_at.new.self c.submit_at.result) (sym last_is)
     (record {
       t = c.moment_for-moment.result;
       at = subst (λ (s : P). c.moment_for-moment.result ≡ moment_after c.now-told.result s.office.last) c.self.view_is
           (c.moment_for-moment.ensures.same ∙ ap (λ (o : Option ℕ). moment_after c.now-told.result o) c.last.ensures.same);
       clock = c.now-told.new.self;
-      answers = subst (λ (s : P). (before : List Entry) (hold : Holds d.honest d.state before (record s { clock = c.now-told.new.self }))
-          → Answers d.honest d.state d.moment d.had_since d.fault_count c.moment_for-moment.result c.now-told.result c.args.ask.now hold.office.plain before (record s { clock = c.now-told.new.self }) c.submit_at.new.self c.submit_at.result)
+      answers = subst (λ (s : P). (before : List Entry) (hold : Holds d before (record s { clock = c.now-told.new.self }))
+          → Answers d c.moment_for-moment.result c.now-told.result c.args.ask.now hold.office.plain before (record s { clock = c.now-told.new.self }) c.submit_at.new.self c.submit_at.result)
           c.self.view_is c.submit_at.ensures.answers;
     })
 
 pub returns-clause-stamped : goal.returns-clause-stamped
 returns-clause-stamped g c =
     let d = g.D.Disk in
-    stamped_by d.honest d.state d.moment d.had_since d.fault_count (g.C.Clock.last c.submit_at.new.self.clock) c.args.ask.now c.args.self.now c.submit_at.new.self c.submit_at.result (returns-clause-asks g c) c.requires.ready
+    stamped_by d (g.C.Clock.last c.submit_at.new.self.clock) c.args.ask.now c.args.self.now c.submit_at.new.self c.submit_at.result (returns-clause-asks g c) c.requires.ready
 
 pub returns-clause-last : goal.returns-clause-last
 returns-clause-last g c =
     let d = g.D.Disk in
-    last_by d.honest d.state d.moment d.had_since d.fault_count (g.C.Clock.last c.submit_at.new.self.clock) c.args.ask.now c.args.self.now c.submit_at.new.self c.submit_at.result (returns-clause-asks g c) c.requires.ready
+    last_by d (g.C.Clock.last c.submit_at.new.self.clock) c.args.ask.now c.args.self.now c.submit_at.new.self c.submit_at.result (returns-clause-asks g c) c.requires.ready
 
 pub returns-clause-ready : goal.returns-clause-ready
 returns-clause-ready g c fine =
     let d = g.D.Disk in
-    ready_by d.honest d.state d.moment d.had_since d.fault_count (g.C.Clock.last c.submit_at.new.self.clock) c.args.ask.now c.args.self.now c.submit_at.new.self c.submit_at.result (returns-clause-asks g c) c.requires.ready fine
+    ready_by d (g.C.Clock.last c.submit_at.new.self.clock) c.args.ask.now c.args.self.now c.submit_at.new.self c.submit_at.result (returns-clause-asks g c) c.requires.ready fine
 
 pub returns-clause-number : goal.returns-clause-number
 returns-clause-number g c small =
@@ -48,7 +48,7 @@ returns-clause-number g c small =
     let from = subst (λ (s : Parts g.row.D.Denot g.row.C.Denot). Appends (k.told s.clock) (k.told c.now-told.new.self) (c.now-told.result ∷ [])) c.self.view_is more in
     let both = subst (λ (x : g.row.C.Denot). Appends (k.told c.args.self.now.clock) (k.told x) (c.now-told.result ∷ [])) (sym c.submit_at.ensures.clock) from in
     let last_is : k.last c.submit_at.new.self.clock ≡ c.now-told.result = ap k.last c.submit_at.ensures.clock ∙ c.now-told.ensures.last in
-    numbered_by d.honest d.state d.moment d.had_since d.fault_count (k.last c.submit_at.new.self.clock) c.args.ask.now c.args.self.now c.submit_at.new.self c.submit_at.result (returns-clause-asks g c) c.requires.ready
+    numbered_by d (k.last c.submit_at.new.self.clock) c.args.ask.now c.args.self.now c.submit_at.new.self c.submit_at.result (returns-clause-asks g c) c.requires.ready
     (k.told c.args.self.now.clock) (k.told c.submit_at.new.self.clock) (subst (λ (n : ℕ). Appends (k.told c.args.self.now.clock) (k.told c.submit_at.new.self.clock) (n ∷ [])) (sym last_is) both)
 
 pub returns-clause-tells : goal.returns-clause-tells
@@ -62,10 +62,10 @@ returns-clause-tells g c =
     let now_is : c.moment_for-moment.result ≡ moment_after (k.last c.submit_at.new.self.clock) c.args.self.now.office.last = at ∙ ap (λ (n : ℕ). moment_after n c.args.self.now.office.last) (sym last_is) in
     let once : k.count c.submit_at.new.self.clock ≡ min (k.count c.args.self.now.clock + 1) (2 ^ 64 - 1) = ap k.count c.submit_at.ensures.clock ∙ subst (λ (s : P). k.count c.now-told.new.self ≡ min (k.count s.clock + 1) (2 ^ 64 - 1)) c.self.view_is c.now-told.ensures.count in
     let full = subst (λ (s : P). PassesLimit c.moment_for-moment.result s.gate s.limit c.args.ask.now → (c.submit_at.result ≡ Err JournalFull) ⊎ (c.submit_at.result ≡ Err NoMemory)) c.self.view_is c.submit_at.ensures.full in
-    tells_by d.honest d.state d.moment d.had_since d.fault_count (k.last c.submit_at.new.self.clock) c.args.ask.now c.args.self.now c.submit_at.new.self c.submit_at.result (returns-clause-asks g c) c.requires.ready
-    k.count k.last refl once (subst (λ (t : ℕ). PassesLimit t c.args.self.now.gate c.args.self.now.limit c.args.ask.now → (c.submit_at.result ≡ Err JournalFull) ⊎ (c.submit_at.result ≡ Err NoMemory)) now_is full)
+    tells_by d (k.last c.submit_at.new.self.clock) c.args.ask.now c.args.self.now c.submit_at.new.self c.submit_at.result (returns-clause-asks g c) c.requires.ready
+    k refl once (subst (λ (t : ℕ). PassesLimit t c.args.self.now.gate c.args.self.now.limit c.args.ask.now → (c.submit_at.result ≡ Err JournalFull) ⊎ (c.submit_at.result ≡ Err NoMemory)) now_is full)
 
 pub returns-clause-sound : goal.returns-clause-sound
 returns-clause-sound g c tells =
     let d = g.D.Disk in
-    sound_by d.honest d.state d.moment d.had_since d.fault_count (g.C.Clock.last c.submit_at.new.self.clock) c.args.ask.now c.args.self.now c.submit_at.new.self c.submit_at.result (returns-clause-asks g c) c.requires.ready tells
+    sound_by d (g.C.Clock.last c.submit_at.new.self.clock) c.args.ask.now c.args.self.now c.submit_at.new.self c.submit_at.result (returns-clause-asks g c) c.requires.ready tells

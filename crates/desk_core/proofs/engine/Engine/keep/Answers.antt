@@ -23,10 +23,10 @@ returns-in_default-clause-keeps g c before hold =
     let counted = subst (λ (s : P). c.apply.new.self.accepted ≡ accepted_after (Ok c.in-Ok.reply) s.office.accepted) c.self.view_is c.in-Ok.ensures.accepted in
     let end = subst (λ (s : P). s.gate ≡ end_gate header before) (sym c.self.view_is) hold.end in
     let rest : IsTrue d.honest → _ = λ tells. subst (λ (s : P). IsAtRest header (d.state s.disk) s.gate before) (sym c.self.view_is) (hold.at_rest tells) in
-    let adds = subst (λ (s : P). Adds d.honest d.state d.moment d.had_since d.fault_count c.args.moment c.args.told (Ok c.in-Ok.reply) before e (record s { office = c.apply.new.self }) c.add.new.self c.add.result)
+    let adds = subst (λ (s : P). Adds d c.args.moment c.args.told (Ok c.in-Ok.reply) before e (record s { office = c.apply.new.self }) c.add.new.self c.add.result)
     c.self.view_is (c.add.ensures.adds before e c.requires.entry c.requires.spelled end rest) in
     let fits = subst (λ (n : _). c.args.self.now.gate + 6 + n ≤ c.args.self.now.limit) (ap length c.requires.spelled) c.requires.fits in
-    added d.honest d.state d.moment d.had_since d.fault_count c.args.moment c.args.told before c.args.self.now hold c.args.command.now fits (record c.args.self.now { office = c.apply.new.self }) c.add.new.self c.in-Ok.reply c.add.result
+    added d c.args.moment c.args.told before c.args.self.now hold c.args.command.now fits (record c.args.self.now { office = c.apply.new.self }) c.add.new.self c.in-Ok.reply c.add.result
     (accepted_reply c.in-Ok.reply c.in_default.not-NothingDue) c.requires.later does counted refl c.add.ensures.office (c.add.ensures.limit ∙ ap (λ (s : P). s.limit) c.self.view_is) adds
 
 pub answer-requires-in_default-refusal-clause-enough : goal.answer-requires-in_default-refusal-clause-enough
@@ -39,7 +39,7 @@ returns-in-NothingDue-clause-keeps g c before hold =
     let does = subst (λ (s : P). (p : Office) → StandsForOffice s.office p → Does (step c.args.moment c.args.command.now p) p c.apply.new.self (Ok c.in-Ok.reply)) c.self.view_is c.in-Ok.ensures.step in
     let counted = subst (λ (s : P). c.apply.new.self.accepted ≡ accepted_after (Ok c.in-Ok.reply) s.office.accepted) c.self.view_is c.in-Ok.ensures.accepted in
     let fits = subst (λ (n : _). c.args.self.now.gate + 6 + n ≤ c.args.self.now.limit) (ap length c.requires.spelled) c.requires.fits in
-    unaccepted d.honest d.state d.moment d.had_since d.fault_count c.args.moment c.args.told before c.args.self.now hold c.args.command.now fits c.ms.result _ (Ok NothingDue) c.answer.result
+    unaccepted d c.args.moment c.args.told before c.args.self.now hold c.args.command.now fits c.ms.result _ (Ok NothingDue) c.answer.result
     c.ms.ensures.same refl (no_lack NothingDue)
     (subst (λ (r : Reply). Does (step c.args.moment c.args.command.now hold.office.plain) hold.office.plain c.apply.new.self (Ok r)) c.in-NothingDue.is (does hold.office.plain hold.office.stands))
     (subst (λ (r : Reply). c.apply.new.self.accepted ≡ accepted_after (Ok r) c.args.self.now.office.accepted) c.in-NothingDue.is counted)
@@ -52,7 +52,7 @@ returns-in-NoMemory-clause-keeps g c before hold =
     let does = subst (λ (s : P). (p : Office) → StandsForOffice s.office p → Does (step c.args.moment c.args.command.now p) p c.apply.new.self (Err c.in-Err.refusal)) c.self.view_is c.in-Err.ensures.step in
     let counted = subst (λ (s : P). c.apply.new.self.accepted ≡ accepted_after (Err c.in-Err.refusal) s.office.accepted) c.self.view_is c.in-Err.ensures.accepted in
     let fits = subst (λ (n : _). c.args.self.now.gate + 6 + n ≤ c.args.self.now.limit) (ap length c.requires.spelled) c.requires.fits in
-    wanting d.honest d.state d.moment d.had_since d.fault_count c.args.moment c.args.told before c.args.self.now hold c.args.command.now fits _ c.in-Err.refusal (does hold.office.plain hold.office.stands) counted
+    wanting d c.args.moment c.args.told before c.args.self.now hold c.args.command.now fits _ c.in-Err.refusal (does hold.office.plain hold.office.stands) counted
     (ap (λ (s : P). s.disk) c.self.view_is) (ap (λ (s : P). s.gate) c.self.view_is) (ap (λ (s : P). s.limit) c.self.view_is)
 
 pub returns-in_default-refusal-clause-keeps : goal.returns-in_default-refusal-clause-keeps
@@ -62,7 +62,7 @@ returns-in_default-refusal-clause-keeps g c before hold =
     let does = subst (λ (s : P). (p : Office) → StandsForOffice s.office p → Does (step c.args.moment c.args.command.now p) p c.apply.new.self (Err c.in-Err.refusal)) c.self.view_is c.in-Err.ensures.step in
     let counted = subst (λ (s : P). c.apply.new.self.accepted ≡ accepted_after (Err c.in-Err.refusal) s.office.accepted) c.self.view_is c.in-Err.ensures.accepted in
     let fits = subst (λ (n : _). c.args.self.now.gate + 6 + n ≤ c.args.self.now.limit) (ap length c.requires.spelled) c.requires.fits in
-    unaccepted d.honest d.state d.moment d.had_since d.fault_count c.args.moment c.args.told before c.args.self.now hold c.args.command.now fits c.ms-in_default-refusal.result _ (Err c.in-Err.refusal)
+    unaccepted d c.args.moment c.args.told before c.args.self.now hold c.args.command.now fits c.ms-in_default-refusal.result _ (Err c.in-Err.refusal)
     c.answer-in_default-refusal.result c.ms-in_default-refusal.ensures.same refl (other_lack c.in-Err.refusal c.in_default-refusal.not-NoMemory) (does hold.office.plain hold.office.stands) counted
     (ap (λ (s : P). s.disk) c.self.view_is) (ap (λ (s : P). s.gate) c.self.view_is) (ap (λ (s : P). s.limit) c.self.view_is) c.answer-in_default-refusal.ensures
 

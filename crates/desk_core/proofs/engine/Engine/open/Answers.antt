@@ -18,7 +18,7 @@ returns-clause-opens g c =
     let old : P = record { disk = inside.journal.disk; clock = inside.clock; office = inside.office; gate = inside.journal.gate; limit = inside.journal.limit } in
     let journal = c.replay.new.journal in
     let office : P = record { disk = journal.disk; clock = inside.clock; office = c.replay.new.office; gate = journal.gate; limit = journal.limit } in
-    on_done c.replay.result (λ read. subst (λ (s : P). Reopens d.honest d.state d.moment d.had_since d.fault_count s office) c.self.view_is
-    (reopened d.honest d.state d.moment d.had_since d.fault_count m.only_now m.counts_now m.since_earlier (λ tells disk. m.reads_image tells disk Journal) old office c.open.new.self.disk c.in-Ok.end
+    on_done c.replay.result (λ read. subst (λ (s : P). Reopens d s office) c.self.view_is
+    (reopened d m.only_now m.counts_now m.since_earlier (λ tells disk. m.reads_image tells disk Journal) old office c.open.new.self.disk c.in-Ok.end
     read (c.replay.ensures.limit ∙ c.in-Ok.ensures.limit) c.self.invariant refl c.in-Ok.ensures.ok c.in-Ok.ensures.any_moment c.replay.ensures.untouched (omega (arith, c.in-Ok.ensures.cause.later, c.replay.ensures.cause.later))))
     c.replay.ensures.read

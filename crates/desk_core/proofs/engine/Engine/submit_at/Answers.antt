@@ -7,13 +7,13 @@ use Rattle.desk_core.proofs.engine.Engine.submit_at.Goals as goal
 pub returns-in-Command-clause-answers : goal.returns-in-Command-clause-answers
 returns-in-Command-clause-answers g c before hold =
     let d = g.D.Disk in
-    let keeps = subst (λ (t : ℕ). Keeps d.honest d.state d.moment d.had_since d.fault_count t c.args.told (Command c.in-Command.command) hold.office.plain before c.args.self.now c.command.new.self c.command.result) c.in-Ok.ensures.ok.0
+    let keeps = subst (λ (t : ℕ). Keeps d t c.args.told (Command c.in-Command.command) hold.office.plain before c.args.self.now c.command.new.self c.command.result) c.in-Ok.ensures.ok.0
     (c.command.ensures.keeps before hold) in
-    inl (c.in-Ok.ensures.ok.1, subst (λ (q : Ask). Keeps d.honest d.state d.moment d.had_since d.fault_count c.args.moment c.args.told q hold.office.plain before c.args.self.now c.command.new.self c.command.result) (sym c.in-Command.is) keeps)
+    inl (c.in-Ok.ensures.ok.1, subst (λ (q : Ask). Keeps d c.args.moment c.args.told q hold.office.plain before c.args.self.now c.command.new.self c.command.result) (sym c.in-Command.is) keeps)
 
 pub returns-in-Query-clause-answers : goal.returns-in-Query-clause-answers
 returns-in-Query-clause-answers g c before hold =
     let d = g.D.Disk in
-    let keeps = subst (λ (t : ℕ). Keeps d.honest d.state d.moment d.had_since d.fault_count t c.args.told (Query c.in-Query.query) hold.office.plain before c.args.self.now c.args.self.now c.query.result) c.in-Ok.ensures.ok.0
+    let keeps = subst (λ (t : ℕ). Keeps d t c.args.told (Query c.in-Query.query) hold.office.plain before c.args.self.now c.args.self.now c.query.result) c.in-Ok.ensures.ok.0
     (c.query.ensures.keeps before hold) in
-    inl (c.in-Ok.ensures.ok.1, subst (λ (q : Ask). Keeps d.honest d.state d.moment d.had_since d.fault_count c.args.moment c.args.told q hold.office.plain before c.args.self.now c.args.self.now c.query.result) (sym c.in-Query.is) keeps)
+    inl (c.in-Ok.ensures.ok.1, subst (λ (q : Ask). Keeps d c.args.moment c.args.told q hold.office.plain before c.args.self.now c.args.self.now c.query.result) (sym c.in-Query.is) keeps)
