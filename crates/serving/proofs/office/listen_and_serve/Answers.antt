@@ -10,8 +10,8 @@ returns-in-Err-clause-serves g c =
     let d = g.D.Disk in
     let k = g.C.Clock in
     let told = g.P.Port.connections c.args.port.now in
-    subst (λ (after : Option (List Connection)). Serves (Submits d.honest d.state d.moment d.had_since d.fault_count k.count k.last k.told) c.args.workers c.args.desk c.args.desk told after) (sym c.listen.ensures.connections)
-    (none_serve (Submits d.honest d.state d.moment d.had_since d.fault_count k.count k.last k.told) c.args.workers c.args.desk c.args.desk told refl)
+    subst (λ (after : Option (List Connection)). Serves (Submits d k) c.args.workers c.args.desk c.args.desk told after) (sym c.listen.ensures.connections)
+    (none_serve (Submits d k) c.args.workers c.args.desk c.args.desk told refl)
 
 pub returns-in-Err-clause-counts : goal.returns-in-Err-clause-counts
 returns-in-Err-clause-counts g c = record {
