@@ -1,3 +1,4 @@
+pub mod Bindings
 pub mod Changed
 mod Examples
 pub mod Histories

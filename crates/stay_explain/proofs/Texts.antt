@@ -5,7 +5,8 @@ use Rattle.std.specs.Io.KnownBytes.{append_known}
 use Rattle.std.proofs.lemmas.Grind.{flat_map-append}
 use Rattle.csv.specs.Writing.{default_writer, row_text}
 use Rattle.plain_office.specs.Office.{Booked}
-use Rattle.stay_explain.specs.Table.{header_row, stay_rows, table_rows, tables_csv}
+use Rattle.stay_explain.specs.Pages.{rows_csv}
+use Rattle.stay_explain.specs.Table.{stay_rows, table_rows}
 
 abbrev pub text_of : List (List (List ℕ)) → List ℕ
 text_of rows = flat_map (row_text default_writer) rows
@@ -43,6 +44,6 @@ next_table text table tables =
 pub no_table : (text : Option (List ℕ)) → and_tables text [] ≡ text
 no_table text = known_none text
 
-pub first_table : (tables : List (List ℕ × List Booked)) → and_tables (append_known (Some []) (row_text default_writer header_row)) tables ≡ Some (tables_csv tables)
-unfolding tables_csv
+pub first_table : (tables : List (List ℕ × List Booked)) → and_tables (Some []) tables ≡ Some (rows_csv tables)
+unfolding rows_csv
 first_table tables = refl

@@ -10,11 +10,12 @@ ghost use Rattle.stay_explain.specs.Ledgers.{IsLedgerOf, IsNotTaken};
 
 use crate::fault::ExplainFault;
 use crate::ledger::Ledger;
-use crate::printing::table_text;
+use crate::working::table_text;
 use meter_journal::{OpenFault, frame, made};
 use office_base::NoMemory;
 use office_types::Entry;
 use std::alloc::Global;
+use std::thread::Threads;
 
 /// The place of the first gate.
 const FIRST: u64 = 10;
@@ -70,12 +71,17 @@ fn read(alloc: Global, journal: &[u8]) -> Result<Ledger, ExplainFault>
 ///
 /// Buckets stand in byte order of their names, the stays of a bucket in the order in which they were opened, and a
 /// stay's own line before its line in STANDARD.
-/// `workers` is how many buckets may be worked at once; the table is the same for every number.
+/// `workers` is how many threads may print buckets at once; the table is the same for every number.
 ///
 /// # Errors
 ///
 /// `NotMade`, `Foreign` and `Damaged`: as at the opening of a desk over these bytes. `NoMemory`: memory ran out.
-pub fn explain(alloc: Global, journal: &[u8], workers: u32) -> Result<Vec<u8>, ExplainFault>
+pub fn explain<R: Threads + Sync>(
+    rt: &R,
+    alloc: Global,
+    journal: &[u8],
+    workers: u32,
+) -> Result<Vec<u8>, ExplainFault>
     requires workers { (1 ≤ workers) × (workers ≤ 64) }
     ensures table { IfOk result (λ text. IsTableOf journal.now text.items) }
     ensures fault { IfErr result (λ fault. Fails fault journal.now) }
@@ -84,7 +90,7 @@ pub fn explain(alloc: Global, journal: &[u8], workers: u32) -> Result<Vec<u8>, E
         return Err(fault_of(fault));
     }
     let ledger = read(alloc, journal)?;
-    match table_text(alloc, ledger.tables()) {
+    match table_text(rt, alloc, ledger.tables(), workers) {
         Ok(text) => Ok(text),
         Err(NoMemory) => Err(ExplainFault::NoMemory),
     }

@@ -87,11 +87,11 @@ fn open_table(
 fn book_in(
     tables: &mut BTreeMap<BucketName, Stays>,
     name: &BucketName,
-    booking: &Booking,
+    booking: Booking,
 ) -> Result<(), NoMemory>
-    requires free { IfSome (at_name name.now tables.old.entries) (λ stays. BeginsFree booking.now stays) }
+    requires free { IfSome (at_name name.now tables.old.entries) (λ stays. BeginsFree booking stays) }
     ensures { OnOk result (tables.new.entries
-        ≡ table_by booking.now (at_name name.now tables.old.entries) name.now tables.old.entries) }
+        ≡ table_by booking (at_name name.now tables.old.entries) name.now tables.old.entries) }
 {
     match tables.get_mut(name) {
         Some(stays) => stays.book(booking),
@@ -104,10 +104,10 @@ fn book(
     tables: &mut BTreeMap<BucketName, Stays>,
     alloc: Global,
     command: &Command,
-    booking: &Option<Booking>,
+    booking: Option<Booking>,
 ) -> Result<(), NoMemory>
-    requires free { IsBookable command.now booking.now tables.old.entries }
-    ensures { OnOk result (tables.new.entries ≡ tables_after command.now booking.now tables.old.entries) }
+    requires free { IsBookable command.now booking tables.old.entries }
+    ensures { OnOk result (tables.new.entries ≡ tables_after command.now booking tables.old.entries) }
 {
     if let Command::CreateBucket { bucket } = command {
         return open_table(tables, alloc, bucket);
@@ -178,7 +178,7 @@ impl Ledger {
         if let Err(fault) = taken(&reply, gate) {
             return Err(fault);
         }
-        match book(&mut self.tables, alloc, &entry.command, &booking) {
+        match book(&mut self.tables, alloc, &entry.command, booking) {
             Ok(()) => Ok(()),
             Err(NoMemory) => Err(ExplainFault::NoMemory),
         }

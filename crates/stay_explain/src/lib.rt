@@ -7,11 +7,14 @@ mod explaining;
 mod fault;
 mod ledger;
 mod naming;
+mod pages;
 mod printing;
 mod row;
 mod stays;
+mod table;
 #[cfg(test)]
 mod tests;
+mod working;
 
 pub use explaining::explain;
 pub use fault::ExplainFault;

@@ -1,4 +1,4 @@
-// The table of stays, as CSV.
+// The rows of the table, as CSV.
 ghost use Rattle.std.specs.Prelude.{◌≡◌, ◌++◌, [], ◌∷◌, ℕ, List, map, Some, IfOk, OnOk, codes, decimal};
 ghost use Rattle.std.specs.List.{flat_map};
 ghost use Rattle.std.specs.Io.KnownBytes.{append_known};
@@ -8,16 +8,16 @@ ghost use Rattle.plain_office.specs.Office.{Booked};
 ghost use Rattle.stay_explain.specs.Rows.{item_of, booked_of};
 ghost use Rattle.stay_explain.specs.Sheets.{IsReady, held};
 ghost use Rattle.stay_explain.specs.Table.{end_text, header_row, item_text, line_row};
-ghost use Rattle.stay_explain.specs.Table.{stay_rows, table_rows, tables_csv};
+ghost use Rattle.stay_explain.specs.Table.{stay_rows, table_rows};
+ghost use Rattle.stay_explain.specs.Pages.{rows_csv};
 
 use crate::row::{Item, Row};
-use crate::stays::Stays;
+use crate::table::Table;
 use class_rules::Class;
 use csv::{Writer, WriterBuilder};
 use moments::{Moment, print_moment};
 use office_base::{BucketName, NoMemory};
 use std::alloc::{AllocError, Global};
-use std::collections::BTreeMap;
 
 type Sheet = Writer<Vec<u8>>;
 
@@ -202,6 +202,15 @@ fn put_stays(
     Ok(())
 }
 
+fn put_table(sheet: &mut Sheet, alloc: Global, table: &Table<'_>) -> Result<(), NoMemory>
+    requires { IsReady sheet.old }
+    ensures ready { OnOk result (IsReady sheet.new) }
+    ensures bytes { OnOk result (held sheet.new ≡ append_known (held sheet.old)
+        (flat_map (row_text default_writer) (table_rows table.now))) }
+{
+    put_stays(sheet, alloc, table.bucket, table.rows)
+}
+
 fn finish(sheet: Sheet) -> Result<Vec<u8>, NoMemory>
     ensures { IfOk result (λ v. held sheet ≡ Some v.items) }
 {
@@ -211,17 +220,22 @@ fn finish(sheet: Sheet) -> Result<Vec<u8>, NoMemory>
     }
 }
 
-/// Writes the header and the stays of each bucket.
-pub(crate) fn table_text(
-    alloc: Global,
-    tables: &BTreeMap<BucketName, Stays>,
-) -> Result<Vec<u8>, NoMemory>
-    ensures { IfOk result (λ text. text.items ≡ tables_csv tables.now.entries) }
+/// Prints the header.
+pub(crate) fn header_text(alloc: Global) -> Result<Vec<u8>, NoMemory>
+    ensures { IfOk result (λ text. text.items ≡ row_text default_writer header_row) }
 {
     let mut sheet = start(alloc);
     put_header(&mut sheet)?;
-    for (bucket, stays) in tables.iter() {
-        put_stays(&mut sheet, alloc, bucket, stays.rows())?;
+    finish(sheet)
+}
+
+/// Prints the stays of these buckets, without a header.
+pub(crate) fn rows_text(alloc: Global, tables: &[Table<'_>]) -> Result<Vec<u8>, NoMemory>
+    ensures { IfOk result (λ text. text.items ≡ rows_csv tables.now) }
+{
+    let mut sheet = start(alloc);
+    for table in tables {
+        put_table(&mut sheet, alloc, table)?;
     }
     finish(sheet)
 }

@@ -9,7 +9,7 @@ use crate::booking::Booking;
 use crate::row::{Item, Owner, Row};
 use class_rules::Lines;
 use moments::Moment;
-use office_base::{Key, NoMemory};
+use office_base::NoMemory;
 use std::alloc::Global;
 use std::collections::BTreeMap;
 use std::marker::Model;
@@ -35,11 +35,14 @@ impl Model for Stays {
     ghost invariant = { λ s. IsIndex s.rows.items (get ⟦<Owner as Ord>⟧.cmp s.places) };
 }
 
-fn owner_of(key: &Key, item: Item) -> Result<Owner, NoMemory>
-    ensures { IfOk result (λ owner. owner ≡ record { key = key.now; item = item }) }
+fn copy_of(owner: &Owner) -> Result<Owner, NoMemory>
+    ensures { IfOk result (λ copy. copy ≡ owner.now) }
 {
-    match key.copy() {
-        Ok(key) => Ok(Owner { key, item }),
+    match owner.key.copy() {
+        Ok(key) => Ok(Owner {
+            key,
+            item: owner.item,
+        }),
         Err(_) => Err(NoMemory),
     }
 }
@@ -62,26 +65,23 @@ impl Stays {
         self.rows.as_slice()
     }
 
-    /// Ends the open stay of an item under a key, where there is one. Cost: one search.
-    fn end(&mut self, key: &Key, item: Item, at: Moment) -> Result<(), NoMemory>
-        ensures { OnOk result (self.new ≡ end_stays key.now (item_of item) at self.old) }
+    /// Ends the open stay of an owner, where there is one. Cost: one search.
+    fn end(&mut self, owner: &Owner, at: Moment)
+        ensures { self.new ≡ end_stays owner.now.key (item_of owner.now.item) at self.old }
     {
-        let owner = owner_of(key, item)?;
-        if let Some(place) = self.places.remove(&owner) {
+        if let Some(place) = self.places.remove(owner) {
             if let Some(row) = self.rows.get_mut(place) {
                 row.to = Some(at);
             }
         }
-        Ok(())
     }
 
-    /// Begins a stay of an item under a key, which has none open. Cost: one search.
-    fn begin(&mut self, key: &Key, item: Item, lines: Lines, at: Moment) -> Result<(), NoMemory>
-        requires free { filter (is_open_stay key.now (item_of item)) self.old ≡ [] }
-        ensures { OnOk result (self.new ≡ begin_stay key.now (item_of item) (lines_of lines) at self.old) }
+    /// Begins a stay of an owner, which has none open. Cost: one search.
+    fn begin(&mut self, owner: Owner, lines: Lines, at: Moment) -> Result<(), NoMemory>
+        requires free { filter (is_open_stay owner.key (item_of owner.item)) self.old ≡ [] }
+        ensures { OnOk result (self.new ≡ begin_stay owner.key (item_of owner.item) (lines_of lines) at self.old) }
     {
-        let owner = owner_of(key, item)?;
-        let kept = owner_of(key, item)?;
+        let kept = copy_of(&owner)?;
         if self.rows.reserve(1).is_err() {
             return Err(NoMemory);
         }
@@ -100,15 +100,29 @@ impl Stays {
     }
 
     /// Books what an entry does: the ends in their order, and then what begins.
-    pub(crate) fn book(&mut self, booking: &Booking) -> Result<(), NoMemory>
-        requires free { BeginsFree booking.now self.old }
-        ensures { OnOk result (self.new ≡ stays_by booking.now self.old) }
+    pub(crate) fn book(&mut self, booking: Booking) -> Result<(), NoMemory>
+        requires free { BeginsFree booking self.old }
+        ensures { OnOk result (self.new ≡ stays_by booking self.old) }
     {
-        for item in &booking.ends {
-            self.end(&booking.key, *item, booking.at)?;
+        let Booking {
+            key,
+            ends,
+            begins,
+            at,
+        } = booking;
+        let mut owner = Owner {
+            key,
+            item: Item::Null,
+        };
+        for item in &ends {
+            owner.item = *item;
+            self.end(&owner, at);
         }
-        match booking.begins {
-            Some((item, lines)) => self.begin(&booking.key, item, lines, booking.at),
+        match begins {
+            Some((item, lines)) => {
+                owner.item = item;
+                self.begin(owner, lines, at)
+            }
             None => Ok(()),
         }
     }

@@ -1,3 +1,5 @@
+ghost use Rattle.std.specs.Prelude.{◌≤◌};
+
 use super::*;
 use class_rules::Class;
 use entry_codec::encode;
@@ -9,6 +11,7 @@ use rules_json::read_rules;
 use std::alloc::Global;
 use std::process::Abort;
 use std::test::Fail;
+use std::thread::Threads;
 
 // 2024-01-01 00:00 UTC, and the milliseconds of a day.
 const NEW_YEAR: u64 = 1_704_067_200_000;
@@ -175,19 +178,34 @@ fn journal(alloc: Global, wishes: &[(u64, Wish<'_>)]) -> Result<Vec<u8>, Fail> {
     Ok(bytes)
 }
 
-// The table of the journal of these commands is the header and this text, for 1 worker and for 4.
+// So many workers print this table of a journal.
+fn print(
+    rt: &(impl Abort + Threads + Sync),
+    alloc: Global,
+    bytes: &[u8],
+    workers: u32,
+    wanted: &str,
+) -> Result<(), Fail>
+    requires { (1 ≤ workers) × (workers ≤ 64) }
+{
+    let found = explain(rt, alloc, bytes, workers)?;
+    assert_eq!(rt; found.as_slice(), wanted.as_bytes());
+    Ok(())
+}
+
+// The table of the journal of these commands is the header and this text, for any number of workers.
 fn is_table(
-    rt: &impl Abort,
+    rt: &(impl Abort + Threads + Sync),
     alloc: Global,
     wishes: &[(u64, Wish<'_>)],
     text: &str,
 ) -> Result<(), Fail> {
     let bytes = journal(alloc, wishes)?;
     let wanted = format!(in alloc; "{HEADER}{text}")?;
-    let found = explain(alloc, &bytes, 1)?;
-    assert_eq!(rt; found.as_slice(), wanted.as_bytes());
-    let same = explain(alloc, &bytes, 4)?;
-    assert_eq!(rt; same.as_slice(), wanted.as_bytes());
+    print(rt, alloc, &bytes, 1, &wanted)?;
+    print(rt, alloc, &bytes, 2, &wanted)?;
+    print(rt, alloc, &bytes, 4, &wanted)?;
+    print(rt, alloc, &bytes, 64, &wanted)?;
     Ok(())
 }
 
@@ -243,6 +261,39 @@ fn tables(rt: HostRuntime) -> Result<(), Fail> {
     Ok(())
 }
 
+// Six buckets, of which one has half of the stays and one has none.
+#[test]
+fn many_buckets(rt: HostRuntime) -> Result<(), Fail> {
+    is_table(
+        &rt,
+        rt.alloc(),
+        &[
+            (0, Wish::Make("pond")),
+            (0, Wish::Make("barn")),
+            (0, Wish::Make("lake")),
+            (0, Wish::Make("yard")),
+            (0, Wish::Make("cave")),
+            (0, Wish::Make("well")),
+            (0, Wish::PutIn("yard", "k")),
+            (1, Wish::PutIn("pond", "k")),
+            (2, Wish::PutIn("lake", "k")),
+            (3, Wish::PutIn("lake", "k")),
+            (4, Wish::PutIn("lake", "m")),
+            (5, Wish::PutIn("barn", "k")),
+            (6, Wish::PutIn("lake", "k")),
+            (7, Wish::PutIn("cave", "k")),
+        ],
+        "barn,k,v:null,STANDARD,1,2024-01-01T00:00:00.005Z,open\n\
+         cave,k,v:null,STANDARD,1,2024-01-01T00:00:00.007Z,open\n\
+         lake,k,v:null,STANDARD,1,2024-01-01T00:00:00.002Z,2024-01-01T00:00:00.003Z\n\
+         lake,k,v:null,STANDARD,1,2024-01-01T00:00:00.003Z,2024-01-01T00:00:00.006Z\n\
+         lake,m,v:null,STANDARD,1,2024-01-01T00:00:00.004Z,open\n\
+         lake,k,v:null,STANDARD,1,2024-01-01T00:00:00.006Z,open\n\
+         pond,k,v:null,STANDARD,1,2024-01-01T00:00:00.001Z,open\n\
+         yard,k,v:null,STANDARD,1,2024-01-01T00:00:00.000Z,open\n",
+    )
+}
+
 #[test]
 fn parts_and_actions(rt: HostRuntime) -> Result<(), Fail> {
     let alloc = rt.alloc();
@@ -293,8 +344,13 @@ fn parts_and_actions(rt: HostRuntime) -> Result<(), Fail> {
     Ok(())
 }
 
-fn is_fault(rt: &impl Abort, alloc: Global, bytes: &[u8], fault: ExplainFault) -> Result<(), Fail> {
-    match explain(alloc, bytes, 1) {
+fn is_fault(
+    rt: &(impl Abort + Threads + Sync),
+    alloc: Global,
+    bytes: &[u8],
+    fault: ExplainFault,
+) -> Result<(), Fail> {
+    match explain(rt, alloc, bytes, 4) {
         Ok(_) => return Err(Fail::new("explained")),
         Err(found) => assert_eq!(rt; found, fault),
     }

@@ -12,6 +12,6 @@ pub invariant_of-self-in-Ok : goal.invariant_of-self-in-Ok
 invariant_of-self-in-Ok c =
     let o = c.in_ok-kept.kept in
     index_pushed c.self.inside.rows.items c.push_reserved.new.self.items _ _ o _ (owner_is o) (owner_itself o) c.self.invariant
-    c.len.result (search rules) c.in-Ok.ensures.updates.0 c.args.self.now c.self.view_is c.args.key.now c.args.item c.in_ok-kept.ensures c.requires.free
-    (record { owner = c.in_ok-owner.owner; lines = c.args.lines; from = c.args.at; to = None }) (c.in_ok-owner.ensures ∙ sym c.in_ok-kept.ensures) refl
-    (c.push_reserved.ensures.items ∙ ap (λ (l : List Row). l ++ record { owner = c.in_ok-owner.owner; lines = c.args.lines; from = c.args.at; to = None } ∷ []) c.reserve.ensures.items)
+    c.len.result (search rules) c.in-Ok.ensures.updates.0 c.args.self.now c.self.view_is c.args.owner.key c.args.owner.item c.in_ok-kept.ensures c.requires.free
+    (record { owner = c.args.owner; lines = c.args.lines; from = c.args.at; to = None }) (sym c.in_ok-kept.ensures) refl
+    (c.push_reserved.ensures.items ∙ ap (λ (l : List Row). l ++ record { owner = c.args.owner; lines = c.args.lines; from = c.args.at; to = None } ∷ []) c.reserve.ensures.items)

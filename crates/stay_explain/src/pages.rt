@@ -1,0 +1,168 @@
+// The pages of the table: the stays of some buckets that follow one another, which one worker prints.
+ghost use Rattle.std.specs.Prelude.{◌≡◌, ◌≤◌, ◌++◌, ◌∷◌, [], IfOk, OnOk};
+ghost use Rattle.stay_explain.specs.Pages.{rows_csv, tables_of};
+
+use crate::printing::rows_text;
+use crate::row::Row;
+use crate::stays::Stays;
+use crate::table::Table;
+use office_base::{BucketName, NoMemory};
+use std::alloc::Global;
+use std::collections::BTreeMap;
+use std::marker::Model;
+use std::mem;
+
+/// A page: the tables of some buckets that follow one another, and the text of their rows once it is printed.
+#[derive(Drop)]
+pub(crate) struct Page<'a> {
+    tables: Vec<Table<'a>>,
+    // None before the page is printed, and where memory ran out.
+    text: Option<Vec<u8>>,
+}
+
+impl<'a> Model for Page<'a> {
+    ghost use Rattle.std.specs.Prelude.{◌≡◌, IfSome};
+    ghost use Rattle.stay_explain.specs.Ledgers.{Tables};
+    ghost use Rattle.stay_explain.specs.Pages.{rows_csv};
+
+    ghost Value = { Tables };
+
+    ghost view = { λ p. p.tables.items };
+
+    ghost invariant = { λ p. IfSome p.text (λ text. text.items ≡ rows_csv p.tables.items) };
+}
+
+impl<'a> Page<'a> {
+    fn new(tables: Vec<Table<'a>>) -> Page<'a>
+        ensures { result ≡ tables.entry.items }
+    {
+        Page { tables, text: None }
+    }
+
+    /// Prints the rows of the tables.
+    pub(crate) fn print(&mut self, alloc: Global)
+        ensures { self.new ≡ self.old }
+    {
+        self.text = rows_text(alloc, &self.tables).ok();
+    }
+
+    /// Reads the rows of a page that was printed.
+    ///
+    /// # Errors
+    ///
+    /// `NoMemory`: memory ran out when it was printed.
+    pub(crate) fn text(&self) -> Result<&[u8], NoMemory>
+        ensures { IfOk result (λ rows. rows.now ≡ rows_csv self.now) }
+    {
+        match &self.text {
+            Some(rows) => Ok(rows.as_slice()),
+            None => Err(NoMemory),
+        }
+    }
+}
+
+/// How much of a worker's time a table costs: one for each stay, and one for the bucket.
+fn weight(rows: &[Row]) -> usize {
+    rows.len().saturating_add(1)
+}
+
+/// Pages that are filled one after another.
+#[derive(Drop)]
+struct Filling<'a> {
+    pages: Vec<Page<'a>>,
+    // What stands on the page that is being filled, and its weight.
+    tables: Vec<Table<'a>>,
+    weight: usize,
+}
+
+impl<'a> Model for Filling<'a> {
+    ghost use Rattle.std.specs.Prelude.{◌++◌};
+    ghost use Rattle.stay_explain.specs.Ledgers.{Tables};
+    ghost use Rattle.stay_explain.specs.Pages.{tables_of};
+
+    ghost Value = { Tables };
+
+    ghost view = { λ f. tables_of f.pages.items ++ f.tables.items };
+}
+
+impl<'a> Filling<'a> {
+    fn new(alloc: Global) -> Filling<'a>
+        ensures { result ≡ [] }
+    {
+        Filling {
+            pages: Vec::new(alloc),
+            tables: Vec::new(alloc),
+            weight: 0,
+        }
+    }
+
+    // Ends the page that is being filled.
+    fn end_page(&mut self, alloc: Global) -> Result<(), NoMemory>
+        ensures { OnOk result (self.new ≡ self.old) }
+    {
+        let tables = mem::replace(&mut self.tables, Vec::new(alloc));
+        self.weight = 0;
+        match self.pages.push(Page::new(tables)) {
+            Ok(()) => Ok(()),
+            Err(_) => Err(NoMemory),
+        }
+    }
+
+    // Adds a table, on a new page where the one that is being filled has this weight.
+    fn add(&mut self, alloc: Global, table: Table<'a>, limit: usize) -> Result<(), NoMemory>
+        ensures { OnOk result (self.new ≡ self.old ++ table.entry ∷ []) }
+    {
+        if self.weight >= limit {
+            self.end_page(alloc)?;
+        }
+        self.weight = self.weight.saturating_add(weight(table.rows));
+        match self.tables.push(table) {
+            Ok(()) => Ok(()),
+            Err(_) => Err(NoMemory),
+        }
+    }
+
+    // Gives the pages, also the one that is being filled.
+    fn finish(self) -> Result<Vec<Page<'a>>, NoMemory>
+        ensures { IfOk result (λ pages. tables_of pages.items ≡ self.entry) }
+    {
+        let Filling {
+            mut pages,
+            tables,
+            ..
+        } = self;
+        match pages.push(Page::new(tables)) {
+            Ok(()) => Ok(pages),
+            Err(_) => Err(NoMemory),
+        }
+    }
+}
+
+/// The weight that a page of these tables needs, so that there are no more pages than workers.
+fn limit(tables: &BTreeMap<BucketName, Stays>, workers: u32) -> usize
+    requires { 1 ≤ workers }
+{
+    let whole = tables.values().fold(
+        0,
+        |sum: usize, stays| sum.saturating_add(weight(stays.rows())),
+    );
+    whole.div_ceil(workers as usize)
+}
+
+/// Divides the tables into pages with about the same number of stays, no more pages than workers. No table is divided.
+pub(crate) fn divide(
+    alloc: Global,
+    tables: &BTreeMap<BucketName, Stays>,
+    workers: u32,
+) -> Result<Vec<Page<'_>>, NoMemory>
+    requires { 1 ≤ workers }
+    ensures { IfOk result (λ pages. tables_of pages.items ≡ tables.now.entries) }
+{
+    let limit = limit(tables, workers);
+    let mut pages = Filling::new(alloc);
+    for (bucket, stays) in tables.iter() {
+        let rows = stays.rows();
+        pages.add(alloc, Table { bucket, rows }, limit)?;
+    }
+    pages.finish()
+}
