@@ -1,35 +1,12 @@
 //! An office that keeps the records of an object store in a journal.
 #![tactic(auto)]
 
-mod init;
-#[cfg(test)]
-mod lifecycle_sessions;
-mod lines;
-mod load;
-#[cfg(test)]
-mod month_sessions;
-mod program;
-mod report;
-mod run;
-mod saying;
-mod serve;
-#[cfg(test)]
-mod serve_tests;
-#[cfg(test)]
-mod session_tests;
-mod stays;
-#[cfg(test)]
-mod tests;
-#[cfg(test)]
-mod version_sessions;
-
 use command_line::{CommandLine, read_line};
 use desk_core::SystemClock;
 use disk_core::FileDisk;
 use http_front::WriterReplies;
 use http_wire::ReaderSource;
-use lines::refuse_words;
-use program::office;
+use office_program::{office, refuse_words};
 use serving::{OpenGate, TcpPort};
 use std::alloc::{Alloc, Global};
 use std::fs::{self, File, OpenOptions};

@@ -1,0 +1,138 @@
+// The cases of a document. README.md says what each name means.
+use anyhow::{Context, Result, bail};
+use moments::read_date;
+use serde::Deserialize;
+use std::alloc::Global;
+use toml::Value;
+use toml_datetime::{Datetime, Offset};
+
+/// What a document has.
+#[derive(Drop, Deserialize)]
+#[serde(deny_unknown_fields)]
+pub struct Document {
+    pub case: Vec<Case>,
+}
+
+/// What is done over one disk, in the order of the fields.
+#[derive(Drop, Deserialize)]
+#[serde(deny_unknown_fields)]
+pub struct Case {
+    pub name: String,
+    /// The journal file at the start: `made`, or its bytes in hexadecimal digits; no bytes where it is missing.
+    pub journal: Option<String>,
+    /// The numbers of the disk's calls that fail, counted from 1, which is the write of the journal file.
+    #[serde(default)]
+    pub failing: Vec<u64>,
+    /// The sizes of the pieces in which input comes, in bytes: the whole is done for each.
+    #[serde(default)]
+    pub cuts: Vec<usize>,
+    #[serde(default)]
+    pub write: Vec<Write>,
+    #[serde(default)]
+    pub step: Vec<Step>,
+    #[serde(default)]
+    pub command: Vec<Command>,
+    /// Whether the bytes of the journal file are printed at the end.
+    #[serde(default)]
+    pub shown: bool,
+    pub stops: Option<Stops>,
+}
+
+/// A write to the journal file by another hand.
+#[derive(Drop, Deserialize)]
+#[serde(deny_unknown_fields)]
+pub struct Write {
+    /// The offset, in bytes.
+    pub at: u64,
+    /// The bytes, in hexadecimal digits.
+    pub bytes: String,
+    /// Whether the file is synced before.
+    #[serde(default)]
+    pub synced: bool,
+}
+
+/// A message of a session.
+#[derive(Drop, Deserialize)]
+#[serde(deny_unknown_fields)]
+pub struct Step {
+    /// What the clock tells.
+    pub at: Value,
+    /// The method and the target.
+    pub ask: String,
+    pub body: Option<String>,
+    /// The first and the last of the numbers for each of which the message is sent, in place of each `{n}` of it.
+    pub numbers: Option<[u64; 2]>,
+}
+
+/// One command of the program.
+#[derive(Drop, Deserialize)]
+#[serde(deny_unknown_fields)]
+pub struct Command {
+    pub words: Vec<String>,
+    /// What the clock tells, the last again and again.
+    pub clock: Vec<Value>,
+    pub input: Option<String>,
+    /// The numbers of the reads of the input that fail, counted from 1.
+    #[serde(default)]
+    pub failing_reads: Vec<u64>,
+    /// The numbers of the replies and other texts that fail to be said, counted from 1.
+    #[serde(default)]
+    pub failing_texts: Vec<u64>,
+    /// What the clients of the connections send, a text for each connection.
+    #[serde(default)]
+    pub connections: Vec<String>,
+    /// The numbers of the port's calls that fail, counted from 1, which is that it listens.
+    #[serde(default)]
+    pub failing_port: Vec<u64>,
+}
+
+/// Stops of the disk: what a message is answered over each image of the journal file.
+#[derive(Drop, Deserialize)]
+#[serde(deny_unknown_fields)]
+pub struct Stops {
+    /// The first and the last of the counts of the disk's calls after which it stops.
+    pub calls: [u64; 2],
+    /// What the clock tells.
+    pub at: Value,
+    /// The method and the target.
+    pub ask: String,
+}
+
+/// The bytes of two hexadecimal digits each; spaces count for nothing.
+pub fn bytes_of(alloc: Global, digits: &str) -> Result<Vec<u8>> {
+    let close = digits.replace(alloc, " ", "")?;
+    hex::decode(alloc, close.as_str()).context("hexadecimal digits")
+}
+
+/// Reads a number of the clock: a moment of TOML in UTC, a number of milliseconds since 1970, or the digits of one.
+pub fn number_of(alloc: Global, value: &Value) -> Result<u64> {
+    match value {
+        Value::Datetime(moment) => milliseconds(alloc, moment),
+        Value::Integer(number) => u64::try_from(*number).context("a number below 0"),
+        Value::String(digits) => digits.as_str().parse::<u64>().context("digits"),
+        _ => bail!("what the clock tells is no moment"),
+    }
+}
+
+fn milliseconds(alloc: Global, moment: &Datetime) -> Result<u64> {
+    let (Some(date), Some(time), Some(Offset::Z)) = (moment.date, moment.time, moment.offset) else {
+        bail!("a moment has a date, a time and the offset Z");
+    };
+    let day = format!(in alloc; "{:04}-{:02}-{:02}", date.year, date.month, date.day)?;
+    let Ok(midnight) = read_date(day.as_str()) else {
+        bail!("{day} is not before 2100");
+    };
+    let seconds = since_midnight(time.hour, time.minute, time.second.unwrap_or(0));
+    let thousandths = u64::from(time.nanosecond.unwrap_or(0)) / 1_000_000;
+    Ok(
+        midnight
+            .ms()
+            .saturating_add(seconds.saturating_mul(1000))
+            .saturating_add(thousandths),
+    )
+}
+
+// The seconds since a midnight.
+fn since_midnight(hour: u8, minute: u8, second: u8) -> u64 {
+    (hour as u64 * 60 + minute as u64) * 60 + second as u64
+}

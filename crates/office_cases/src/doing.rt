@@ -1,0 +1,305 @@
+// What is done in a case, in order, and what is printed of it.
+use crate::cases::{Case, Command, Step, Stops, number_of};
+use crate::running::{disk_of, given_command, given_messages, run, start};
+use crate::telling::{put_lines, put_times, tell, tell_others, tell_replies};
+use anyhow::{Result, bail};
+use disk_core::{Disk, FileNo, MemoryDisk};
+use meter_journal::read_all;
+use std::alloc::{AllocError, Global};
+use std::collections::BTreeMap;
+use std::fmt::Write;
+use std::sync::Wait;
+use std::thread::Threads;
+
+/// The size of the pieces in which input comes, in bytes, where a case says none.
+const CUT: usize = 8192;
+
+// The message of a step for a number, as a client sends it.
+fn message_of(alloc: Global, step: &Step, number: &str) -> Result<String> {
+    let ask = step.ask.as_str().replace(alloc, "{n}", number)?;
+    let body = match &step.body {
+        Some(body) => body.as_str().replace(alloc, "{n}", number)?,
+        None => String::new(alloc),
+    };
+    let length = body.len();
+    let text = format!(in alloc;
+        "{ask} HTTP/1.1\r\nHost: x\r\nContent-Length: {length}\r\n\r\n{body}"
+    )?;
+    Ok(text)
+}
+
+/// The messages of a session so far, and what was said to them.
+#[derive(Drop)]
+struct Session {
+    words: Vec<String>,
+    cut: usize,
+    input: String,
+    clock: Vec<u64>,
+    said: Vec<u8>,
+}
+
+impl Session {
+    fn new(alloc: Global, cut: usize) -> Result<Session, AllocError> {
+        let mut words = Vec::new(alloc);
+        words.push(String::from_str(alloc, "run")?)?;
+        Ok(Session {
+            words,
+            cut,
+            input: String::new(alloc),
+            clock: vec![in alloc; 0]?,
+            said: Vec::new(alloc),
+        })
+    }
+}
+
+// Adds the messages of a step to a session, and gives them.
+fn add_messages(alloc: Global, session: &mut Session, step: &Step, at: u64) -> Result<String> {
+    let [first, last] = step.numbers.unwrap_or([0, 0]);
+    let mut messages = String::new(alloc);
+    for n in first..=last {
+        let number = format!(in alloc; "{n}")?;
+        let message = message_of(alloc, step, number.as_str())?;
+        messages.push_str(message.as_str())?;
+        session.clock.push(at)?;
+    }
+    session.input.push_str(messages.as_str())?;
+    Ok(messages)
+}
+
+// Prints replies, those that are the same right behind one another once, with how often. Where they are numbered, from
+// the first number on, each has `{n}` in place of its own.
+fn put_counted(
+    page: &mut String,
+    alloc: Global,
+    numbered: bool,
+    first: u64,
+    replies: &[String],
+) -> Result<()> {
+    let mut last = String::new(alloc);
+    let mut times = 0u64;
+    for (place, reply) in replies.iter().enumerate() {
+        let told = if numbered {
+            let number = format!(in alloc; "{}", first.saturating_add(place as u64))?;
+            reply.as_str().replace(alloc, number.as_str(), "{n}")?
+        } else {
+            reply.clone()?
+        };
+        if told != last {
+            put_times(page, times, last.as_str())?;
+            last = told;
+            times = 0;
+        }
+        times = times.saturating_add(1);
+    }
+    put_times(page, times, last.as_str())?;
+    Ok(())
+}
+
+// Sends the messages of a step in a run of their own, and prints what they are answered. The first number of the clock
+// is that of the run itself.
+fn tell_step<R: Threads + Wait + Sync>(
+    rt: &R,
+    alloc: Global,
+    page: &mut String,
+    session: &mut Session,
+    step: &Step,
+    disk: MemoryDisk,
+) -> Result<MemoryDisk> {
+    let at = number_of(alloc, &step.at)?;
+    let messages = add_messages(alloc, session, step, at)?;
+    let clock = vec![in alloc; 0, at]?;
+    let given = given_messages(alloc, &session.words, clock, messages.as_str(), session.cut)?;
+    let ran = run(rt, alloc, given, disk);
+    session.said.extend_from_slice(ran.out.said())?;
+    writeln!(page, "  {}", step.ask)?;
+    let [first, _] = step.numbers.unwrap_or([0, 0]);
+    let replies = tell_replies(alloc, ran.out.said())?;
+    put_counted(page, alloc, step.numbers.is_some(), first, &replies)?;
+    let others = tell_others(alloc, &ran)?;
+    let others = others
+        .as_str()
+        .strip_prefix("status 0\n")
+        .unwrap_or(others.as_str());
+    put_lines(page, "    ", others)?;
+    Ok(ran.disk)
+}
+
+// Prints whether all messages in one run over another disk are answered the same, with the same journal in the end, and
+// gives that disk.
+fn tell_whole<R: Threads + Wait + Sync>(
+    rt: &R,
+    alloc: Global,
+    page: &mut String,
+    session: Session,
+    mut anew: MemoryDisk,
+    disk: MemoryDisk,
+) -> Result<MemoryDisk> {
+    let Session {
+        words,
+        cut,
+        input,
+        clock,
+        said,
+    } = session;
+    let given = given_messages(alloc, &words, clock, input.as_str(), cut)?;
+    let mut ran = run(rt, alloc, given, disk);
+    let journals = (read_all(alloc, &mut anew), read_all(alloc, &mut ran.disk));
+    let same = match &journals {
+        (Ok(first), Ok(second)) => first == second && ran.out.said() == said.as_slice(),
+        _ => false,
+    };
+    if same {
+        page.push_str("  in one run the same\n")?;
+    } else {
+        page.push_str("  in one run not the same\n")?;
+        put_lines(page, "    ", tell(alloc, &ran)?.as_str())?;
+    }
+    Ok(ran.disk)
+}
+
+fn tell_session<R: Threads + Wait + Sync>(
+    rt: &R,
+    alloc: Global,
+    page: &mut String,
+    case: &Case,
+    cut: usize,
+) -> Result<MemoryDisk> {
+    let disk = start(alloc, case)?;
+    if case.step.is_empty() {
+        return Ok(disk);
+    }
+    let mut session = Session::new(alloc, cut)?;
+    let mut anew = start(alloc, case)?;
+    for step in &case.step {
+        anew = tell_step(rt, alloc, page, &mut session, step, anew)?;
+    }
+    tell_whole(rt, alloc, page, session, anew, disk)
+}
+
+fn tell_command<R: Threads + Wait + Sync>(
+    rt: &R,
+    alloc: Global,
+    page: &mut String,
+    command: &Command,
+    cut: usize,
+    disk: MemoryDisk,
+) -> Result<MemoryDisk> {
+    let ran = run(rt, alloc, given_command(alloc, command, cut)?, disk);
+    writeln!(page, "  office {:?}", command.words)?;
+    put_lines(page, "    ", tell(alloc, &ran)?.as_str())?;
+    Ok(ran.disk)
+}
+
+// Prints what is left on the disk.
+fn tell_disk(alloc: Global, page: &mut String, case: &Case, disk: &mut MemoryDisk) -> Result<()> {
+    if !case.failing.is_empty() {
+        writeln!(page, "  faults of the disk: {}", disk.faults())?;
+    }
+    let Ok(journal) = read_all(alloc, disk) else {
+        page.push_str("  journal: not read\n")?;
+        return Ok(());
+    };
+    writeln!(page, "  journal: {} bytes", journal.len())?;
+    if case.shown {
+        for row in journal.chunks(16) {
+            writeln!(page, "    {}", hex::encode(alloc, row)?)?;
+        }
+    }
+    Ok(())
+}
+
+// How often each of these images comes.
+fn count_images(alloc: Global, images: Vec<Vec<u8>>) -> Result<BTreeMap<Vec<u8>, u64>> {
+    let mut counts = BTreeMap::new(alloc);
+    for image in images {
+        let times = counts.get(&image).copied().unwrap_or(0u64);
+        counts.insert(image, times.saturating_add(1))?;
+    }
+    Ok(counts)
+}
+
+// Prints what the message of these stops is answered over images of the journal, each answer once, with how often.
+fn tell_images<R: Threads + Wait + Sync>(
+    rt: &R,
+    alloc: Global,
+    page: &mut String,
+    stops: &Stops,
+    images: Vec<Vec<u8>>,
+) -> Result<()> {
+    let session = Session::new(alloc, CUT)?;
+    let message = format!(in alloc; "{} HTTP/1.1\r\nHost: x\r\n\r\n", stops.ask)?;
+    let at = number_of(alloc, &stops.at)?;
+    let mut tally = BTreeMap::new(alloc);
+    for (image, count) in &count_images(alloc, images)? {
+        let clock = vec![in alloc; at]?;
+        let given = given_messages(alloc, &session.words, clock, message.as_str(), CUT)?;
+        let ran = run(rt, alloc, given, disk_of(alloc, image, &[])?);
+        let told = tell(alloc, &ran)?;
+        let times = tally.get(&told).copied().unwrap_or(0u64);
+        tally.insert(told, times.saturating_add(*count))?;
+    }
+    for (told, times) in &tally {
+        put_times(page, *times, told.as_str())?;
+    }
+    Ok(())
+}
+
+fn tell_stops<R: Threads + Wait + Sync>(
+    rt: &R,
+    alloc: Global,
+    page: &mut String,
+    stops: &Stops,
+    disk: &MemoryDisk,
+) -> Result<()> {
+    let [first, last] = stops.calls;
+    for calls in first..=last {
+        let Ok(images) = disk.images(FileNo::Journal, calls) else {
+            bail!("no memory");
+        };
+        writeln!(
+            page,
+            "  after {calls} calls of the disk: {} images",
+            images.len()
+        )?;
+        tell_images(rt, alloc, page, stops, images)?;
+    }
+    Ok(())
+}
+
+// Does all of a case over input in pieces of this size.
+fn tell_pieces<R: Threads + Wait + Sync>(
+    rt: &R,
+    alloc: Global,
+    case: &Case,
+    cut: usize,
+) -> Result<String> {
+    let mut page = String::new(alloc);
+    let mut disk = tell_session(rt, alloc, &mut page, case, cut)?;
+    for command in &case.command {
+        disk = tell_command(rt, alloc, &mut page, command, cut, disk)?;
+    }
+    if let Some(stops) = &case.stops {
+        tell_stops(rt, alloc, &mut page, stops, &disk)?;
+    }
+    tell_disk(alloc, &mut page, case, &mut disk)?;
+    Ok(page)
+}
+
+/// Does a case, and gives what is printed of it.
+pub fn tell_case<R: Threads + Wait + Sync>(rt: &R, alloc: Global, case: &Case) -> Result<String> {
+    let mut page = format!(in alloc; "case: {}\n", case.name)?;
+    let (first, others) = match case.cuts.split_first() {
+        Some((first, others)) => (*first, others),
+        None => (CUT, &[][..]),
+    };
+    let told = tell_pieces(rt, alloc, case, first)?;
+    page.push_str(told.as_str())?;
+    for cut in others {
+        let again = tell_pieces(rt, alloc, case, *cut)?;
+        if again != told {
+            writeln!(page, "  not the same in pieces of {cut}")?;
+            put_lines(&mut page, "  ", again.as_str())?;
+        }
+    }
+    Ok(page)
+}

@@ -1,5 +1,0 @@
-pub mod Answering
-pub mod Done
-pub mod MadeSo
-pub mod MonthTold
-pub mod Soundness

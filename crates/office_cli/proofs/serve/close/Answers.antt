@@ -1,7 +1,0 @@
-use Rattle.std.proofs.Common.{◌∙◌, ap}
-use Rattle.office_cli.proofs.Answering.{zero_unnoted_workers}
-use Rattle.office_cli.proofs.serve.close.Goals as goal
-
-pub returns-clause-unnoted : goal.returns-clause-unnoted
-returns-clause-unnoted g c zero =
-    ap g.W.Replies.noted (c.note_line.ensures.noted.0 (c.served_line.ensures ∙ zero_unnoted_workers c.args.closed.end c.args.closed.stale c.served_status.result c.served_status.ensures zero))

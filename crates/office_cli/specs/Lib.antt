@@ -1,6 +1,0 @@
-pub mod Explaining
-pub mod Lines
-pub mod Loading
-pub mod Making
-pub mod Reporting
-pub mod Running

@@ -1,0 +1,36 @@
+-- What a command line touches, by what it asks for.
+use Rattle.std.proofs.Common.{◌≡◌, ◌⊎◌, ◌∙◌, ⊎_elim, sym, ℕ, Bool, List, Option, Some}
+use Rattle.command_line.specs.Lines.{Line, init, run, serve, report, explain, gen}
+use Rattle.http_front.specs.declared.replies.Replies as sinks
+use Rattle.office_program.specs.Commands.{IsServe, IsReport, TouchesOwn}
+
+-- ---- what a line is not
+
+module _ (line : Option Line) (asked : Line) (is : line ≡ Some asked) where
+  other_line : (other : Line) → (Some asked ≡ Some other → ⊥) → line ≡ Some other → ⊥
+  other_line other differ also = differ (sym is ∙ also)
+
+  pub not_run : (Some asked ≡ Some run → ⊥) → line ≡ Some run → ⊥
+  not_run = other_line run
+
+  pub not_init : (Some asked ≡ Some init → ⊥) → line ≡ Some init → ⊥
+  not_init = other_line init
+
+  pub not_serve : ((listen : List ℕ) (count connections : ℕ) → Some asked ≡ Some (serve listen count connections) → ⊥) → IsServe line → ⊥
+  not_serve differ also = differ also.0 also.1 also.2 (sym is ∙ also.3)
+
+-- ---- what is touched
+
+module _ {W : Type 0} (w : sinks.Ghosts W) (line : Option Line) (input_stays port_stays : Type 0) (old new : W) (status : ℕ) where
+  -- it prints texts, and leaves input and port
+  pub prints : (line ≡ Some run → ⊥) → (IsServe line → ⊥) → (w.said new ≡ w.said old) × (w.moments new ≡ w.moments old)
+      → (status ≡ 0 → w.noted new ≡ w.noted old) → input_stays → port_stays
+      → TouchesOwn w line input_stays port_stays old new status
+  prints no_run no_serve unsaid unnoted input port = record {
+    unsaid = λ _. unsaid;
+    no_text = λ is. absurd (⊎_elim no_run no_serve is);
+    unnoted = unnoted;
+    unread = λ _. input;
+    unused = λ _. port;
+    unopened = λ _. (input, port);
+  }

@@ -1,0 +1,275 @@
+use Rattle.std.proofs.Common.{◌≡◌, ⊎_elim, arith, inl, inr, refl, Err, map, string_bytes, Some, ap, ◌∙◌}
+use Rattle.command_line.specs.Lines.{line_of}
+use Rattle.command_line.specs.declared.line.CommandLine.{CommandLine}
+use Rattle.command_line.proofs.Ranges.{serve_in_range, explain_in_range}
+use Rattle.http_front.specs.Counts.{reading}
+use Rattle.http_front.specs.Exchanges.{calls_of}
+use Rattle.serving.specs.Serving.{log_calls}
+use Rattle.office_program.specs.Reporting.{TellsMonth}
+use Rattle.office_program.specs.Running.{around, under, journal_limit, AnswersStream, AnswersWorkers, Connects}
+use Rattle.office_program.proofs.Done.{said_is_run, init_not_explain, run_done, report_done, serve_done, init_not_run, init_not_report, init_not_serve}
+use Rattle.command_line.specs.declared.line.LineFault.TheVariants.{NotALine, NoMemory}
+use Rattle.office_program.proofs.Done.{run_none, serve_none, said_none, late_none, report_none}
+use Rattle.office_program.proofs.Done.{refusal_none, refusal_known, refusal_line}
+use Rattle.office_program.proofs.Owning.{not_run, not_init, not_serve, prints}
+use Rattle.office_program.proofs.Soundness.{not_foreign_there, init_sound, calls_sound, explained_sound, reported_sound, starts_sound}
+use Rattle.office_program.proofs.program.office.Goals as goal
+
+pub serve-requires-clause-few : goal.serve-requires-clause-few
+serve-requires-clause-few g c κs within = serve_in_range _ c.in-Ok-Serve.workers c.in-Ok-Serve.connections (map string_bytes c.args.words.now)
+    (c.in-Ok-Serve.ensures.read ∙ ap (λ (l : CommandLine). Some (line_of l)) c.in-Ok-Serve.field-0-is)
+
+pub returns-in-Ok-Init-clause-opened : goal.returns-in-Ok-Init-clause-opened
+returns-in-Ok-Init-clause-opened g c tells sound five =
+    let has = c.sound_now.ensures.reads tells sound in
+    not_foreign_there (g.D.Disk.state c.args.disk).journal.seen has.0 has.1 (c.init-status.ensures.foreign tells five)
+
+pub returns-in-Ok-Init-clause-sound : goal.returns-in-Ok-Init-clause-sound
+returns-in-Ok-Init-clause-sound g c tells sound =
+    let has = c.sound_now.ensures.reads tells sound in
+    init_sound g.D.Disk g.W.Replies tells c.init-status.result c.args.disk c.init-status.new.disk c.args.out.now c.init-status.new.out has.0 sound has.1 c.init-status.ensures.inits
+
+pub returns-in-Ok-Init-clause-complete : goal.returns-in-Ok-Init-clause-complete
+returns-in-Ok-Init-clause-complete g c tells some good none eight =
+    let e = c.init-status.ensures in
+    let file = (g.D.Disk.state c.args.disk).journal.seen in
+    run_done c.init-status.result (λ two. none.0 (e.disk_fault two))
+    (λ five. ⊎_elim
+    (λ sound. let has = c.sound_now.ensures.reads tells sound in not_foreign_there file has.0 has.1 (e.foreign tells five))
+    (λ other. other.1 (e.foreign tells five)) good)
+    e.not_read (λ four. none.2 (e.write_fault four)) e.statuses
+
+pub returns-in-Ok-Run-clause-sound : goal.returns-in-Ok-Run-clause-sound
+returns-in-Ok-Run-clause-sound g c tells sound =
+    let d = g.D.Disk in
+    let k = g.C.Clock in
+    let w = g.W.Replies in
+    starts_sound d k w tells (c.run.new.input ≡ c.args.input.now) (λ first. AnswersStream d k w (reading (g.S.Source.left c.args.input.now) (g.S.Source.left c.run.new.input)))
+    (λ first old new status sound a. calls_sound d k w tells journal_limit (under old) (under new) (calls_of a.exchanges) sound a.answers)
+    (around c.args.disk c.args.clock c.args.out.now) (around c.run.result.disk c.run.result.clock c.run.new.out) c.run.result.status sound (c.sound_now.ensures.still tells sound) c.run.ensures.runs
+
+pub returns-in-Ok-Run-clause-complete : goal.returns-in-Ok-Run-clause-complete
+returns-in-Ok-Run-clause-complete g c tells some good none eight =
+    let e = c.run.ensures in
+    run_done c.run.result.status (λ two. none.0 (e.disk_fault two))
+    (λ five. ⊎_elim
+    (λ sound. let has = c.sound_now.ensures.reads tells sound in e.sound tells has.0 has.1 five)
+    (λ other. init_not_run _ other.0 (c.in-Ok-Run.ensures.read ∙ ap (λ (l : CommandLine). Some (line_of l)) c.in-Ok-Run.field-0-is)) good)
+    (λ three. none.1 (e.read_fault three)) (λ four. none.2 (e.write_fault four)) (⊎_elim (λ is. absurd (eight is)) (λ is. is) e.statuses)
+
+pub returns-in-Ok-Serve-clause-sound : goal.returns-in-Ok-Serve-clause-sound
+returns-in-Ok-Serve-clause-sound g c tells sound =
+    let d = g.D.Disk in
+    let k = g.C.Clock in
+    let w = g.W.Replies in
+    starts_sound d k w tells (c.serve.new.port ≡ c.args.port.now) (λ first. AnswersWorkers d k w (Connects g.P.Port c.in-Ok-Serve.workers c.in-Ok-Serve.connections c.args.port.now c.serve.new.port))
+    (λ first old new status sound a. calls_sound d k w tells journal_limit (under old) (under new) (log_calls a.log) sound a.answers)
+    (around c.args.disk c.args.clock c.args.out.now) (around c.serve.result.disk c.serve.result.clock c.serve.new.out) c.serve.result.status sound (c.sound_now.ensures.still tells sound) c.serve.ensures.serves
+
+pub returns-in-Ok-Serve-clause-complete : goal.returns-in-Ok-Serve-clause-complete
+returns-in-Ok-Serve-clause-complete g c tells some good none eight =
+    let e = c.serve.ensures in
+    serve_done c.serve.result.status (λ two. none.0 (e.disk_fault two))
+    (λ five. ⊎_elim
+    (λ sound. let has = c.sound_now.ensures.reads tells sound in e.sound tells has.0 has.1 five)
+    (λ other. init_not_serve _ _ _ _ other.0 (c.in-Ok-Serve.ensures.read ∙ ap (λ (l : CommandLine). Some (line_of l)) c.in-Ok-Serve.field-0-is)) good)
+    (λ seven. none.3 (e.port_fault seven)) (⊎_elim (λ is. absurd (eight is)) (λ is. is) e.statuses)
+
+pub returns-in-Ok-Report-clause-sound : goal.returns-in-Ok-Report-clause-sound
+returns-in-Ok-Report-clause-sound g c tells sound =
+    let d = g.D.Disk in
+    let k = g.C.Clock in
+    let w = g.W.Replies in
+    let month = c.in-Ok-Report.asked.month in
+    let as_text = c.in-Ok-Report.asked.as_text in
+    starts_sound d k w tells (Unit {0}) (TellsMonth d k w month as_text) (reported_sound d k w tells month as_text)
+    (around c.args.disk c.args.clock c.args.out.now) (around c.report.result.disk c.report.result.clock c.report.new.out) c.report.result.status sound (c.sound_now.ensures.still tells sound) c.report.ensures.reports
+
+pub returns-in-Ok-Report-clause-complete : goal.returns-in-Ok-Report-clause-complete
+returns-in-Ok-Report-clause-complete g c tells some good none eight =
+    let e = c.report.ensures in
+    report_done c.report.result.status (λ two. none.0 (e.disk_fault two))
+    (λ five. ⊎_elim
+    (λ sound. let has = c.sound_now.ensures.reads tells sound in e.sound tells has.0 has.1 five)
+    (λ other. init_not_report _ _ _ other.0 (c.in-Ok-Report.ensures.read ∙ ap (λ (l : CommandLine). Some (line_of l)) c.in-Ok-Report.field-0-is)) good)
+    e.only.0 (λ four. none.2 (e.write_fault four)) (⊎_elim (λ is. absurd (eight is)) (λ is. is) e.statuses)
+
+pub returns-in-Ok-Explain-clause-sound : goal.returns-in-Ok-Explain-clause-sound
+returns-in-Ok-Explain-clause-sound g c tells sound =
+    explained_sound g.D.Disk g.C.Clock g.W.Replies tells
+    (around c.args.disk c.args.clock c.args.out.now) (around c.stays.result.disk c.stays.result.clock c.stays.new.out) c.stays.result.status sound c.stays.ensures.explains
+
+pub returns-in-Ok-Explain-clause-complete : goal.returns-in-Ok-Explain-clause-complete
+returns-in-Ok-Explain-clause-complete g c tells some good none eight =
+    let e = c.stays.ensures in
+    run_done c.stays.result.status (λ two. none.0 (e.disk_fault two))
+    (λ five. ⊎_elim
+    (λ sound. let has = c.sound_now.ensures.reads tells sound in e.sound tells has.0 has.1 five)
+    (λ other. init_not_explain _ _ other.0 (c.in-Ok-Explain.ensures.read ∙ ap (λ (l : CommandLine). Some (line_of l)) c.in-Ok-Explain.field-0-is)) good)
+    e.only.0 (λ four. none.2 (e.write_fault four)) e.statuses
+
+pub stays-requires-clause-few : goal.stays-requires-clause-few
+stays-requires-clause-few g c κs within =
+    let range = explain_in_range c.in-Ok-Explain.workers (map string_bytes c.args.words.now)
+    (c.in-Ok-Explain.ensures.read ∙ ap (λ (l : CommandLine). Some (line_of l)) c.in-Ok-Explain.field-0-is) in (omega (arith, range.0), range.1)
+
+pub returns-in-Ok-Gen-clause-complete : goal.returns-in-Ok-Gen-clause-complete
+returns-in-Ok-Gen-clause-complete g c tells some good none eight =
+    let e = c.load-status.ensures in
+    ⊎_elim (λ is. inl is) (⊎_elim (λ four. absurd (none.2 (e.write_fault four))) (λ six. inr (inl six))) e.statuses
+
+-- ---- what is touched
+
+pub returns-in-Ok-Init-clause-only : goal.returns-in-Ok-Init-clause-only
+returns-in-Ok-Init-clause-only g c =
+    let e = c.init-status.ensures in
+    let line = c.in-Ok-Init.ensures.read ∙ ap (λ (l : CommandLine). Some (line_of l)) c.in-Ok-Init.field-0-is in
+    prints g.W.Replies _ _ _ _ _ _ (not_run _ _ line (λ is. absurd cc)) (not_serve _ _ line (λ _ _ _ is. absurd cc)) e.unsaid e.unnoted refl refl
+
+pub returns-in-Ok-Report-clause-only : goal.returns-in-Ok-Report-clause-only
+returns-in-Ok-Report-clause-only g c =
+    let e = c.report.ensures in
+    let line = c.in-Ok-Report.ensures.read ∙ ap (λ (l : CommandLine). Some (line_of l)) c.in-Ok-Report.field-0-is in
+    prints g.W.Replies _ _ _ _ _ _ (not_run _ _ line (λ is. absurd cc)) (not_serve _ _ line (λ _ _ _ is. absurd cc)) e.unsaid e.unnoted refl refl
+
+pub returns-in-Ok-Explain-clause-only : goal.returns-in-Ok-Explain-clause-only
+returns-in-Ok-Explain-clause-only g c =
+    let e = c.stays.ensures in
+    let line = c.in-Ok-Explain.ensures.read ∙ ap (λ (l : CommandLine). Some (line_of l)) c.in-Ok-Explain.field-0-is in
+    prints g.W.Replies _ _ _ _ _ _ (not_run _ _ line (λ is. absurd cc)) (not_serve _ _ line (λ _ _ _ is. absurd cc)) e.unsaid e.unnoted refl refl
+
+pub returns-in-Ok-Gen-clause-only : goal.returns-in-Ok-Gen-clause-only
+returns-in-Ok-Gen-clause-only g c =
+    let e = c.load-status.ensures in
+    let line = c.in-Ok-Gen.ensures.read ∙ ap (λ (l : CommandLine). Some (line_of l)) c.in-Ok-Gen.field-0-is in
+    prints g.W.Replies _ _ _ _ _ _ (not_run _ _ line (λ is. absurd cc)) (not_serve _ _ line (λ _ _ _ is. absurd cc)) e.unsaid e.unnoted refl refl
+
+-- ---- causes
+
+pub returns-in-Ok-Init-clause-causes : goal.returns-in-Ok-Init-clause-causes
+returns-in-Ok-Init-clause-causes g c =
+    let e = c.init-status.ensures in
+    let line = c.in-Ok-Init.ensures.read ∙ ap (λ (l : CommandLine). Some (line_of l)) c.in-Ok-Init.field-0-is in
+    record {
+      known = inr (inr (inl (inr e.statuses)));
+      usage = λ one. absurd (run_none _ 1 refl e.statuses one);
+      disk_fault = e.disk_fault;
+      read_fault = λ three. absurd (e.not_read three);
+      write_fault = e.write_fault;
+      foreign_file = λ _ five tells. e.foreign tells five;
+      port_fault = λ seven. absurd (run_none _ 7 refl e.statuses seven);
+      port_done = λ _. omega arith;
+      clock_end = λ eight _. run_none _ 8 refl e.statuses eight;
+      input_spent = λ nine. absurd (e.not_spent nine);
+      no_tariff = λ ten. absurd (run_none _ 10 refl e.statuses ten);
+    }
+
+pub returns-in-Ok-Run-clause-causes : goal.returns-in-Ok-Run-clause-causes
+returns-in-Ok-Run-clause-causes g c =
+    let e = c.run.ensures in
+    let line = c.in-Ok-Run.ensures.read ∙ ap (λ (l : CommandLine). Some (line_of l)) c.in-Ok-Run.field-0-is in
+    record {
+      known = ⊎_elim (λ eight. inr (inl eight)) (λ is. inr (inr (inl (inr is)))) e.statuses;
+      usage = λ one. absurd (late_none _ 1 refl (run_none _ 1 refl) e.statuses one);
+      disk_fault = e.disk_fault;
+      read_fault = e.read_fault;
+      write_fault = e.write_fault;
+      foreign_file = λ is. absurd (not_init _ _ line (λ other. absurd cc) is);
+      port_fault = λ seven. absurd (late_none _ 7 refl (run_none _ 7 refl) e.statuses seven);
+      port_done = λ _. omega arith;
+      clock_end = λ _. not_init _ _ line (λ other. absurd cc);
+      input_spent = e.spent;
+      no_tariff = λ ten. absurd (late_none _ 10 refl (run_none _ 10 refl) e.statuses ten);
+    }
+
+pub returns-in-Ok-Serve-clause-causes : goal.returns-in-Ok-Serve-clause-causes
+returns-in-Ok-Serve-clause-causes g c =
+    let e = c.serve.ensures in
+    let line = c.in-Ok-Serve.ensures.read ∙ ap (λ (l : CommandLine). Some (line_of l)) c.in-Ok-Serve.field-0-is in
+    record {
+      known = ⊎_elim (λ eight. inr (inl eight)) (λ is. inr (inr (inr is))) e.statuses;
+      usage = λ one. absurd (late_none _ 1 refl (serve_none _ 1 refl) e.statuses one);
+      disk_fault = e.disk_fault;
+      read_fault = λ three. absurd (late_none _ 3 refl (serve_none _ 3 refl) e.statuses three);
+      write_fault = λ four. absurd (late_none _ 4 refl (serve_none _ 4 refl) e.statuses four);
+      foreign_file = λ is. absurd (not_init _ _ line (λ other. absurd cc) is);
+      port_fault = e.port_fault;
+      port_done = e.port_done;
+      clock_end = λ _. not_init _ _ line (λ other. absurd cc);
+      input_spent = λ nine. absurd (late_none _ 9 refl (serve_none _ 9 refl) e.statuses nine);
+      no_tariff = λ ten. absurd (late_none _ 10 refl (serve_none _ 10 refl) e.statuses ten);
+    }
+
+pub returns-in-Ok-Report-clause-causes : goal.returns-in-Ok-Report-clause-causes
+returns-in-Ok-Report-clause-causes g c =
+    let e = c.report.ensures in
+    let line = c.in-Ok-Report.ensures.read ∙ ap (λ (l : CommandLine). Some (line_of l)) c.in-Ok-Report.field-0-is in
+    record {
+      known = ⊎_elim (λ eight. inr (inl eight)) (λ is. inr (inr (inl is))) e.statuses;
+      usage = λ one. absurd (late_none _ 1 refl (report_none _ 1 refl refl) e.statuses one);
+      disk_fault = e.disk_fault;
+      read_fault = λ three. absurd (e.only.0 three);
+      write_fault = e.write_fault;
+      foreign_file = λ is. absurd (not_init _ _ line (λ other. absurd cc) is);
+      port_fault = λ seven. absurd (e.only.1.0 seven);
+      port_done = λ _. omega arith;
+      clock_end = λ _. not_init _ _ line (λ other. absurd cc);
+      input_spent = λ nine. absurd (e.only.1.1 nine);
+      no_tariff = λ _. (c.in-Ok-Report.asked.month, c.in-Ok-Report.asked.as_text, line);
+    }
+
+pub returns-in-Ok-Explain-clause-causes : goal.returns-in-Ok-Explain-clause-causes
+returns-in-Ok-Explain-clause-causes g c =
+    let e = c.stays.ensures in
+    let line = c.in-Ok-Explain.ensures.read ∙ ap (λ (l : CommandLine). Some (line_of l)) c.in-Ok-Explain.field-0-is in
+    record {
+      known = inr (inr (inl (inr e.statuses)));
+      usage = λ one. absurd (run_none _ 1 refl e.statuses one);
+      disk_fault = e.disk_fault;
+      read_fault = λ three. absurd (e.only.0 three);
+      write_fault = e.write_fault;
+      foreign_file = λ is. absurd (not_init _ _ line (λ other. absurd cc) is);
+      port_fault = λ seven. absurd (e.only.1.0 seven);
+      port_done = λ _. omega arith;
+      clock_end = λ eight _. run_none _ 8 refl e.statuses eight;
+      input_spent = λ nine. absurd (e.only.1.1 nine);
+      no_tariff = λ ten. absurd (run_none _ 10 refl e.statuses ten);
+    }
+
+pub returns-in-Ok-Gen-clause-causes : goal.returns-in-Ok-Gen-clause-causes
+returns-in-Ok-Gen-clause-causes g c =
+    let e = c.load-status.ensures in
+    let line = c.in-Ok-Gen.ensures.read ∙ ap (λ (l : CommandLine). Some (line_of l)) c.in-Ok-Gen.field-0-is in
+    record {
+      known = inr (inr (inl (inr (said_is_run _ e.statuses))));
+      usage = λ one. absurd (said_none _ 1 refl e.statuses one);
+      disk_fault = λ two. absurd (said_none _ 2 refl e.statuses two);
+      read_fault = λ three. absurd (said_none _ 3 refl e.statuses three);
+      write_fault = e.write_fault;
+      foreign_file = λ is. absurd (not_init _ _ line (λ other. absurd cc) is);
+      port_fault = λ seven. absurd (said_none _ 7 refl e.statuses seven);
+      port_done = λ _. omega arith;
+      clock_end = λ eight _. said_none _ 8 refl e.statuses eight;
+      input_spent = λ nine. absurd (said_none _ 9 refl e.statuses nine);
+      no_tariff = λ ten. absurd (said_none _ 10 refl e.statuses ten);
+    }
+
+pub returns-in-Err-clause-causes : goal.returns-in-Err-clause-causes
+returns-in-Err-clause-causes g c =
+    let r = c.refuse_line-status.ensures in
+    let one = λ (is : c.in-Err.fault ≡ NotALine). (r.usage is).0 in
+    let six = λ (is : c.in-Err.fault ≡ NoMemory). (r.memory is).0 in
+    let none = refusal_none c.in-Err.fault c.refuse_line-status.result one six in
+    record {
+      known = refusal_known c.in-Err.fault c.refuse_line-status.result one six;
+      usage = refusal_line c.in-Err.fault _ c.refuse_line-status.result (λ is. c.in-Err.ensures.refused (ap Err is)) six;
+      disk_fault = λ two. absurd (none 2 refl two);
+      read_fault = λ three. absurd (none 3 refl three);
+      write_fault = λ four. absurd (none 4 refl four);
+      foreign_file = λ _ five. absurd (none 5 refl five);
+      port_fault = λ seven. absurd (none 7 refl seven);
+      port_done = λ _. omega arith;
+      clock_end = λ eight _. none 8 refl eight;
+      input_spent = λ nine. absurd (none 9 refl nine);
+      no_tariff = λ ten. absurd (none 10 refl ten);
+    }

@@ -1,0 +1,52 @@
+use Rattle.std.proofs.Common.{◌≤◌, ◌∙◌, ℕ, List, sym, ap, subst, arith}
+use Rattle.std.specs.Prelude.{IsTrue}
+use Rattle.office_base.specs.Faults.{Rose}
+use Rattle.disk_core.specs.Files.{IsImage}
+use Rattle.disk_core.specs.declared.disk.FileNo.TheVariants.{Journal}
+use Rattle.desk_core.proofs.Following.{disk_later}
+use Rattle.http_front.specs.Counts.{reading}
+use Rattle.http_front.specs.Exchanges.{calls_of}
+use Rattle.office_program.specs.Running.{around, AnswersStream, IsNoted}
+use Rattle.office_program.proofs.Answering.{stream_answered, store_rose, zero_unnoted}
+use Rattle.office_program.proofs.run.answer.Goals as goal
+
+pub returns-clause-answers : goal.returns-clause-answers
+returns-clause-answers g c disk clock opens =
+    let d = g.D.Disk in
+    let w = g.W.Replies in
+    let k = g.C.Clock in
+    let m = g.met.D.Disk in
+    let own : IsTrue d.honest → (x : g.row.D.Denot) → IsImage (d.state x).journal (d.state x).journal.seen = λ tells x. m.reads_image tells x Journal in
+    let end = c.session-end.result in
+    let mid = c.session-end.new.out in
+    let new = c.note_line.new.out in
+    let desk = c.session-end.new.teller in
+    let read = reading (g.S.Source.left c.args.input.now) (g.S.Source.left c.session-end.new.source) in
+    let note = subst (λ (t : List ℕ). IsNoted w mid new t) c.end_line.ensures c.note_line.ensures.noted in
+    let answers = stream_answered d k w m.counts_now m.only_now own disk clock c.args.desk desk c.args.out.now mid new read end c.store_failed-store.result c.end_status.result
+    opens c.session-end.ensures.session c.note_line.ensures.silent c.session-end.ensures.texts c.session-end.ensures.noted c.session-end.ensures.write_fault note (c.store_failed-store.ensures c.finish-disk.ensures.saved ∙ c.stale-stale.ensures) c.end_status.ensures in
+    subst (λ (x : g.row.D.Denot). AnswersStream d k w read (around disk clock c.args.out.now) (around x c.finish-disk.result.1 new) c.end_status.result) (sym c.finish-disk.ensures.disk)
+    (subst (λ (x : g.row.C.Denot). AnswersStream d k w read (around disk clock c.args.out.now) (around desk.disk x new) c.end_status.result) (sym c.finish-disk.ensures.clock) answers)
+
+pub returns-clause-later : goal.returns-clause-later
+returns-clause-later g c =
+    let d = g.D.Disk in
+    let s = c.session-end.ensures.session in (
+      c.session-end.ensures.read_later,
+      omega (arith, c.session-end.ensures.write_later, c.note_line.ensures.later),
+      subst (λ (x : g.row.D.Denot). d.fault_count c.args.desk.disk ≤ d.fault_count x) (sym c.finish-disk.ensures.disk)
+          (disk_later d g.C.Clock c.args.desk c.session-end.new.teller (calls_of s.exchanges) s.moved),
+    )
+
+pub returns-clause-disk_fault : goal.returns-clause-disk_fault
+returns-clause-disk_fault g c two =
+    let d = g.D.Disk in
+    let s = c.session-end.ensures.session in
+    subst (λ (x : g.row.D.Denot). Rose (d.fault_count c.args.desk.disk) (d.fault_count x)) (sym c.finish-disk.ensures.disk)
+    (store_rose d g.C.Clock c.args.desk c.session-end.new.teller c.session-end.result c.store_failed-store.result c.end_status.result (calls_of s.exchanges) c.requires.fresh
+    (c.store_failed-store.ensures c.finish-disk.ensures.saved ∙ c.stale-stale.ensures) c.end_status.ensures two s.moved)
+
+pub returns-clause-unnoted : goal.returns-clause-unnoted
+returns-clause-unnoted g c zero =
+    ap g.W.Replies.noted (c.note_line.ensures.noted.0 (c.end_line.ensures ∙ zero_unnoted c.session-end.result c.store_failed-store.result c.end_status.result c.end_status.ensures zero))
+    ∙ c.session-end.ensures.noted

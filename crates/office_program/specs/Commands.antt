@@ -1,0 +1,81 @@
+-- What the program does with the words behind its name, whatever they ask for.
+use Rattle.std.specs.Prelude.{◌≡◌, ◌⊎◌, ◌≤◌, ℕ, Bool, String, List, Option, Some, None, map, string_bytes, IsTrue}
+use Rattle.office_base.specs.Faults.{Rose}
+use Rattle.command_line.specs.Lines.{Line, asked, init, run, serve, report}
+use Rattle.http_front.specs.declared.replies.Replies as sinks
+use Rattle.office_program.specs.Lines.{usage_note, IsReportStatus, IsServeStatus}
+use Rattle.office_program.specs.Running.{Surroundings, IsNoted, IsSilent, IsUnread}
+
+-- the command line that these words are, where they are one
+abbrev pub asks : {A : Type 0} → List (String A) → Option Line
+asks words = asked (map string_bytes words)
+
+-- it asks for service
+abbrev pub IsServe : Option Line → Type 0
+IsServe line = (listen : List ℕ) × (workers : ℕ) × (connections : ℕ) × (line ≡ Some (serve listen workers connections))
+
+-- it asks for a report
+abbrev pub IsReport : Option Line → Type 0
+IsReport line = (month : ℕ) × (as_text : Bool) × (line ≡ Some (report month as_text))
+
+-- ---- what is done
+
+module _ {D C W : Type 0} (w : sinks.Ghosts W) where
+  -- it is done, or memory ran out before the words were read
+  abbrev pub Obeys : Type 0 → (Surroundings D C W → Surroundings D C W → ℕ → Type 0)
+      → Surroundings D C W → Surroundings D C W → ℕ → Type 0
+  Obeys left_alone does old new status = does old new status ⊎ (IsUnread w old new status × left_alone)
+
+  -- words that are no command line touch nothing
+  pub record RefusesWords (old new : Surroundings D C W) (status : ℕ) : Type 0 where
+    pub status_is : status ≡ 1
+    pub untouched : (new.disk ≡ old.disk) × (new.clock ≡ old.clock)
+    pub silent : IsSilent w old.out new.out
+    pub note : IsNoted w old.out new.out usage_note
+
+-- ---- what is touched
+
+module _ {W : Type 0} (w : sinks.Ghosts W) where
+  -- Each command line touches only what is its own.
+  pub record TouchesOwn (line : Option Line) (input_stays port_stays : Type 0) (old new : W) (status : ℕ) : Type 0 where
+    -- replies are said by a run alone, and other texts by no run and no server
+    pub unsaid : (line ≡ Some run → ⊥) → (w.said new ≡ w.said old) × (w.moments new ≡ w.moments old)
+    pub no_text : (line ≡ Some run) ⊎ IsServe line → w.texts new ≡ w.texts old
+    -- nothing is noted where all was done
+    pub unnoted : status ≡ 0 → w.noted new ≡ w.noted old
+    -- the input is read by a run alone, the port used by a server alone, and neither where the journal was not opened
+    pub unread : (line ≡ Some run → ⊥) → input_stays
+    pub unused : (IsServe line → ⊥) → port_stays
+    pub unopened : (status ≡ 5) ⊎ (status ≡ 8) → input_stays × port_stays
+
+-- ---- causes
+
+-- how often each of what the program stands on has failed so far
+pub record FaultCounts : Type 0 where
+  pub disk : ℕ
+  pub input : ℕ
+  pub output : ℕ
+  pub port : ℕ
+
+abbrev pub faults : ℕ → ℕ → ℕ → ℕ → FaultCounts
+faults disk input output port = record { disk = disk; input = input; output = output; port = port }
+
+-- none of them failed meanwhile
+abbrev pub NoneFailed : FaultCounts → FaultCounts → Type 0
+NoneFailed old new =
+    (Rose old.disk new.disk → ⊥) × (Rose old.input new.input → ⊥) × (Rose old.output new.output → ⊥)
+    × (Rose old.port new.port → ⊥)
+
+-- Each status has its cause. The bytes of a journal that is not opened tell why (`Refuses`); `init` refuses a foreign one alone.
+pub record IsCaused (line : Option Line) (old new : FaultCounts) (foreign spent : Type 0) (status : ℕ) : Type 0 where
+  pub known : (status ≡ 1) ⊎ ((status ≡ 8) ⊎ (IsReportStatus status ⊎ IsServeStatus status))
+  pub usage : status ≡ 1 → line ≡ None
+  pub disk_fault : status ≡ 2 → Rose old.disk new.disk
+  pub read_fault : status ≡ 3 → Rose old.input new.input
+  pub write_fault : status ≡ 4 → Rose old.output new.output
+  pub foreign_file : line ≡ Some init → status ≡ 5 → foreign
+  pub port_fault : status ≡ 7 → Rose old.port new.port
+  pub port_done : status ≡ 0 → new.port ≤ old.port
+  pub clock_end : status ≡ 8 → line ≡ Some init → ⊥
+  pub input_spent : status ≡ 9 → spent
+  pub no_tariff : status ≡ 10 → IsReport line

@@ -1,0 +1,7 @@
+pub mod Commands
+pub mod Explaining
+pub mod Lines
+pub mod Loading
+pub mod Making
+pub mod Reporting
+pub mod Running

@@ -1,0 +1,170 @@
+-- What the commands of the program do.
+use Rattle.std.specs.Prelude.{◌≡◌, ◌⊎◌, ℕ, ◌-◌, ◌^◌, ◌<◌, ◌≤◌, ◌+◌, ◌*◌, min, Bool, true, false, List, [], ◌∷◌, length, take, Option, option_map, IsTrue}
+use Rattle.std.specs.Io.KnownBytes.{Appends}
+use Rattle.moments.specs.Time.{end_of_time}
+use Rattle.office_base.specs.Faults.{Rose}
+use Rattle.disk_core.specs.declared.disk.Disk as disks
+use Rattle.disk_core.specs.Kept.{Narrower}
+use Rattle.disk_core.specs.Moments.{KeepsTo}
+use Rattle.meter_journal.specs.declared.fault.OpenFault.{OpenFault}
+use Rattle.desk_core.specs.declared.clock.Clock as clocks
+use Rattle.desk_core.specs.Breaking.{OpenFails}
+use Rattle.desk_core.specs.Runs.{Outside, outside, AnswersCalls, stale_by}
+use Rattle.http_front.specs.declared.replies.Replies as sinks
+use Rattle.http_front.specs.Counts.{Reading, IsHeldBack}
+use Rattle.http_front.specs.Exchanges.{Exchange, calls_of, moments_of, Hears}
+use Rattle.http_front.specs.Session.{IsWritten, LacksBy}
+use Rattle.http_front.specs.declared.answering.SessionEnd.{SessionEnd}
+use Rattle.http_front.specs.declared.answering.SessionEnd.TheVariants.{NoMemory, WriteFault}
+use Rattle.serving.specs.declared.port.Port as ports
+use Rattle.serving.specs.declared.worker.WorkerEnd.{WorkerEnd}
+use Rattle.serving.specs.Serving.{Log, log_calls, AreOfWorkers}
+use Rattle.serving.specs.Works.{Counts, RoseBy}
+use Rattle.office_program.specs.Lines.{status_of, fault_status, workers_status, clock_note, end_note, fault_note, workers_note}
+
+-- the journal of the program has at most 2^30 bytes
+abbrev pub journal_limit : ℕ
+journal_limit = 1_073_741_824
+
+-- what a command works on and may change: a disk, a clock, and a sink of replies, other texts and notes
+pub record Surroundings (D C W : Type 0) : Type 0 where
+  pub disk : D
+  pub clock : C
+  pub out : W
+
+module _ {D C W : Type 0} where
+  abbrev pub around : D → C → W → Surroundings D C W
+  around disk clock out = record { disk = disk; clock = clock; out = out }
+
+  -- what stands under an office that is opened there
+  abbrev pub under : Surroundings D C W → Outside D C
+  under s = outside s.disk s.clock
+
+module _ {W : Type 0} (w : sinks.Ghosts W) where
+  -- the line was noted, or it was lost, as the count of faults tells; where it is empty, no call was made
+  abbrev pub IsNoted : W → W → List ℕ → Type 0
+  IsNoted old new text =
+      (text ≡ [] → new ≡ old) × (Appends (w.noted old) (w.noted new) text ⊎ Rose (w.faults old) (w.faults new))
+
+  -- no reply was said, and no other text
+  abbrev pub IsSilent : W → W → Type 0
+  IsSilent old new = (w.said new ≡ w.said old) × (w.moments new ≡ w.moments old) × (w.texts new ≡ w.texts old)
+
+  -- The line comes behind all that was said: nothing was noted before it, and where a text was lost (status 4) the count
+  -- of faults rose before it, so that it tells of the line alone.
+  pub record EndsWithNote (old new : W) (status : ℕ) (text : List ℕ) : Type 0 where
+    -- the sink in which all was said
+    pub behind : W
+    pub unnoted : w.noted behind ≡ w.noted old
+    pub lost : status ≡ 4 → Rose (w.faults old) (w.faults behind)
+    pub silent : IsSilent behind new
+    pub note : IsNoted behind new text
+
+module _ {W : Type 0} (w : sinks.Ghosts W) where
+  -- this text was said; or a front of it was, and the rest was lost
+  abbrev pub IsPutOut : List ℕ → W → W → ℕ → Type 0
+  IsPutOut text old new status =
+      ((status ≡ 0) × Appends (w.texts old) (w.texts new) text × (w.noted new ≡ w.noted old))
+      ⊎ ((status ≡ 4) × ((n : ℕ) × Appends (w.texts old) (w.texts new) (take n text))
+      × EndsWithNote w old new status (end_note WriteFault false))
+
+  -- memory ran out: nothing was said
+  pub record RunsOut (old new : W) (status : ℕ) : Type 0 where
+    pub status_is : status ≡ 6
+    pub silent : IsSilent w old new
+    pub note : IsNoted w old new (end_note NoMemory false)
+
+module _ {D C W : Type 0} (w : sinks.Ghosts W) where
+  -- Memory ran out before the words were read: disk and clock were not touched, and nothing was said.
+  pub record IsUnread (old new : Surroundings D C W) (status : ℕ) : Type 0 where
+    pub status_is : status ≡ 6
+    pub untouched : (new.disk ≡ old.disk) × (new.clock ≡ old.clock)
+    pub silent : IsSilent w old.out new.out
+    pub note : IsNoted w old.out new.out (end_note NoMemory false)
+
+module _ {D C W : Type 0} (d : disks.Ghosts D) (k : clocks.Ghosts C) (w : sinks.Ghosts W) where
+  -- ---- run
+
+  -- The office was opened: the messages of the stream, in order, were asked or refused; the office answered the calls that asked
+  -- them, and what was said are their texts, with the disk's moments of the answers that were said whole.
+  pub record AnswersStream (read : Reading) (old new : Surroundings D C W) (status : ℕ) : Type 0 where
+    pub exchanges : List Exchange
+    pub answers : AnswersCalls d k journal_limit (under old) (under new) (calls_of exchanges)
+    pub rest : Option (List ℕ)
+    pub closed : Bool
+    pub heard : Hears read.stream exchanges rest closed
+    pub end : SessionEnd
+    pub whole : List Exchange
+    pub written : List ℕ
+    pub said_all : Appends (w.said old.out) (w.said new.out) written
+    pub stamped : Appends (w.moments old.out) (w.moments new.out) (moments_of whole)
+    pub is_written : IsWritten (option_map length read.stream) end exchanges whole rest closed written
+    pub lacked : LacksBy end exchanges
+    pub behind : closed ≡ true → IsHeldBack rest read.left
+    pub no_text : w.texts new.out ≡ w.texts old.out
+    pub status_is : status ≡ status_of end (stale_by false (calls_of exchanges))
+    pub note : EndsWithNote w old.out new.out status (end_note end (stale_by false (calls_of exchanges)))
+
+  -- ---- serve
+
+  -- The office was opened, and workers served its port: the office answered one list of the calls of all of them.
+  pub record AnswersWorkers (connected : WorkerEnd → Log → Type 0) (old new : Surroundings D C W) (status : ℕ) : Type 0 where
+    pub log : Log
+    pub answers : AnswersCalls d k journal_limit (under old) (under new) (log_calls log)
+    pub end : WorkerEnd
+    pub connections : connected end log
+    pub silent : IsSilent w old.out new.out
+    pub status_is : status ≡ workers_status end (stale_by false (log_calls log))
+    pub note : IsNoted w old.out new.out (workers_note end (stale_by false (log_calls log)))
+
+  -- ---- both
+
+  -- The office was not opened: nothing was said or told, and each image is one that there was.
+  pub record Refuses (old new : Surroundings D C W) (status : ℕ) : Type 0 where
+    pub fault : OpenFault
+    pub why : IsTrue d.honest → OpenFails fault (d.state old.disk).journal.seen
+    pub any_moment : IsTrue d.honest → KeepsTo d.state d.moment d.had_since old.disk new.disk (Narrower (d.state old.disk))
+    pub clock : new.clock ≡ old.clock
+    pub silent : IsSilent w old.out new.out
+    pub status_is : status ≡ fault_status fault
+    pub note : IsNoted w old.out new.out (fault_note fault)
+
+  -- The clock is at its end: nothing was said or told, and the disk was not touched.
+  pub record Ends (old new : Surroundings D C W) (status : ℕ) : Type 0 where
+    pub status_is : status ≡ 8
+    pub untouched : new.disk ≡ old.disk
+    pub clock : new.clock ≡ old.clock
+    pub silent : IsSilent w old.out new.out
+    pub note : IsNoted w old.out new.out clock_note
+
+  -- The clock tells a number before the disk is touched. Where that is below the end of time the office is opened and answers, or
+  -- it is not opened. Where it is not opened, and where the clock is at its end, what the asks come from is left alone.
+  pub record Starts (left_alone : Type 0) (answers : ℕ → Surroundings D C W → Surroundings D C W → ℕ → Type 0)
+      (old new : Surroundings D C W) (status : ℕ) : Type 0 where
+    pub first : ℕ
+    pub clock : C
+    pub once : k.count clock ≡ min (k.count old.clock + 1) (2 ^ 64 - 1)
+    pub is_last : k.last clock ≡ first
+    pub told_first : k.count clock < 2 ^ 64 - 1 → Appends (k.told old.clock) (k.told clock) (first ∷ [])
+    pub does : ((first < end_of_time) × (answers first (around old.disk clock old.out) new status
+        ⊎ (Refuses (around old.disk clock old.out) new status × left_alone)))
+        ⊎ ((end_of_time ≤ first) × Ends (around old.disk clock old.out) new status × left_alone)
+
+  -- what `run` does with the messages of a stream that it reads, or leaves alone
+  abbrev pub Runs : Type 0 → Reading → Surroundings D C W → Surroundings D C W → ℕ → Type 0
+  Runs left_alone read = Starts left_alone (λ first. AnswersStream read)
+
+  -- what `serve` does with connections of a port, or leaves it alone
+  abbrev pub Serves : Type 0 → (WorkerEnd → Log → Type 0) → Surroundings D C W → Surroundings D C W → ℕ → Type 0
+  Serves left_alone connected = Starts left_alone (λ first. AnswersWorkers connected)
+
+module _ {P Source Replies : Type 0} (p : ports.Ghosts P Source Replies) where
+  -- The port gave and ended as many connections as the workers served, all where all was done; and where it tells them they are
+  -- those for which the calls of the list were made.
+  pub record Connects (workers connections : ℕ) (old new : P) (end : WorkerEnd) (log : Log) : Type 0 where
+    pub counts : Counts (workers * connections) end (p.given old) (p.given new) (p.ended old) (p.ended new)
+    pub divided : AreOfWorkers workers log (p.connections old) (p.connections new)
+
+  -- it is as it was, or was given back as many connections, ended, as it gave
+  abbrev pub IsBalanced : P → P → Type 0
+  IsBalanced old new = (new ≡ old) ⊎ ((n : ℕ) × RoseBy (p.given old) (p.given new) n × RoseBy (p.ended old) (p.ended new) n)

@@ -1,0 +1,17 @@
+//! The program over any source, replies, disk, clock and port.
+#![tactic(auto)]
+
+mod init;
+mod lines;
+mod load;
+mod program;
+mod report;
+mod run;
+mod saying;
+mod serve;
+#[cfg(test)]
+mod serve_tests;
+mod stays;
+
+pub use lines::refuse_words;
+pub use program::{End, JOURNAL_LIMIT, office};

@@ -1,0 +1,218 @@
+// The program over any source, replies, disk, clock and port.
+ghost use Rattle.std.specs.Prelude.{◌≡◌, ◌≤◌, ◌⊎◌, ℕ, Bool, List, Some, None, false, IsSome, IsTrue};
+ghost use Rattle.http_wire.specs.Held.{take_limit};
+ghost use Rattle.http_front.specs.Counts.{Gave, reading};
+ghost use Rattle.disk_core.specs.Moments.{KeepsTo};
+ghost use Rattle.office_types.specs.declared.command.Entry.{Entry};
+ghost use Rattle.desk_core.specs.Histories.{HasAcceptedHistory, IsSound};
+ghost use Rattle.meter_journal.specs.Reading.{IsForeign};
+ghost use Rattle.command_line.specs.Lines.{Line, init as init_line, run as run_line, serve as serve_line};
+ghost use Rattle.command_line.specs.Lines.{report as report_line, explain as explain_line, gen as gen_line};
+ghost use Rattle.http_front.specs.declared.answering.SessionEnd.TheVariants.{NoMemory};
+ghost use Rattle.office_program.specs.Commands.{asks, faults, Obeys, RefusesWords, TouchesOwn, IsCaused, NoneFailed};
+ghost use Rattle.office_program.specs.Lines.{usage_note, end_note, IsDone};
+ghost use Rattle.office_program.specs.Making.{InitsAlone};
+ghost use Rattle.office_program.specs.Explaining.{Explains};
+ghost use Rattle.office_program.specs.Loading.{Loads};
+ghost use Rattle.office_program.specs.Reporting.{Reports};
+ghost use Rattle.office_program.specs.Running.{around, IsNoted, IsSilent, Connects, IsBalanced, Runs, Serves};
+
+use crate::init::init;
+use crate::lines::{MEMORY, USAGE, end_line, note_line, usage};
+use crate::load::load;
+use crate::report::report;
+use crate::run::run;
+use crate::serve::serve;
+use crate::stays::stays;
+use command_line::{CommandLine, LineFault, read_line};
+use desk_core::Clock;
+use disk_core::Disk;
+use http_front::{Replies, SessionEnd};
+use http_wire::Source;
+use serving::{Gate, Port};
+use std::alloc::Global;
+use std::sync::Wait;
+use std::thread::Threads;
+
+/// How a command of the program ended, with what was handed in.
+#[derive(Drop)]
+pub struct End<D, C> {
+    /// The exit status.
+    pub status: u8,
+    pub disk: D,
+    pub clock: C,
+}
+
+/// The most bytes that the program's journal file has: 1 GiB. Own rule: an operator can read a journal of this size
+/// at once.
+pub const JOURNAL_LIMIT: u64 = 1_073_741_824;
+
+// States of a disk each of whose images has a history that what it reads has one, and that it has such images as
+// long as it is left alone. It does nothing.
+fn sound_now<D: Disk>(disk: &D)
+    ensures reads { IsTrue D.honest → IsSound (D.state disk.now) → (history : List Entry)
+        × HasAcceptedHistory history (D.state disk.now).journal.seen }
+    ensures still { IsTrue D.honest → IsSound (D.state disk.now)
+        → KeepsTo D.state D.moment D.had_since disk.now disk.now IsSound }
+{}
+
+// Notes that words are no command line, or that memory ran out before they were read, and answers the status.
+fn refuse_line<W: Replies>(out: &mut W, fault: LineFault) -> u8
+    ensures usage { fault ≡ LineFault.NotALine → (result ≡ 1) × IsNoted W.Replies out.old out.new usage_note }
+    ensures memory { fault ≡ LineFault.NoMemory → (result ≡ 6)
+        × IsNoted W.Replies out.old out.new (end_note NoMemory false) }
+    ensures silent { IsSilent W.Replies out.old out.new }
+    ensures later { W.faults out.old ≤ W.faults out.new }
+{
+    match fault {
+        LineFault::NotALine => {
+            note_line(out, usage());
+            USAGE
+        }
+        LineFault::NoMemory => {
+            note_line(out, end_line(SessionEnd::NoMemory, false));
+            MEMORY
+        }
+    }
+}
+
+/// Does one command of the program: `init`, `run`, `serve`, `report`, `explain` or `gen`. The words are those
+/// behind the program's name.
+///
+/// `init` makes the journal where it is not made, and says whether it was. `run` asks the clock once, opens the
+/// office over the journal, answers the messages of the input in order, each once its effect is durable, and closes
+/// the office. `serve` does the same with the messages of connections: it asks the clock once, opens the office,
+/// listens, has workers answer the connections side by side, each up to so many of them, and closes the office.
+/// `report` asks the clock once, opens the office, and prints what a month costs, as of that number or of the last
+/// accepted command, where that is later; it writes nothing to the journal. `explain` reads the journal and prints
+/// every stay of it, from which a bill can be checked by hand. `gen` makes commands that are generated of a number,
+/// on a disk in memory, and prints how many were accepted. A line on a fault goes to the notes.
+///
+/// The status is 0 where all was done; 1 where the words are no command line; 2 where the disk did not do a call,
+/// at `init` or at the opening, or in a call since which no other ask was answered; 3 where the input could not be
+/// read; 4 where a text could not be said; 5 where the journal is not made, foreign or damaged; 6 where memory ran
+/// out; 7 where the port did not listen or gave no connection; 8 where the first number that the clock told a
+/// `run`, a `serve` or a `report` is not below the end of time, 4,102,444,800,000 milliseconds, and then nothing
+/// else was done; 9 where 2^40 bytes of input were taken and more is needed; 10 where a report has no tariff. A
+/// connection that fails, or in whose session memory runs out, ends alone and gives no status.
+pub fn office<S, W, D, C, P, G, R>(
+    rt: &R,
+    alloc: Global,
+    words: &[String],
+    input: &mut S,
+    out: &mut W,
+    mut disk: D,
+    clock: C,
+    port: &mut P,
+    gate: &G,
+) -> End<D, C>
+where
+    S: Source,
+    W: Replies,
+    D: Disk + Drop + Send,
+    C: Clock + Drop + Send,
+    P: Port + Send,
+    P::Source: Send,
+    P::Replies: Send,
+    G: Gate + Sync,
+    R: Threads + Wait + Sync,
+
+    // What each word does, where memory suffices to read the words.
+    ensures run { asks words.now ≡ Some run_line → Obeys W.Replies (input.new ≡ input.old)
+        (Runs D.Disk C.Clock W.Replies (input.new ≡ input.old) (reading (S.left input.old) (S.left input.new)))
+        (around disk clock out.old) (around result.disk result.clock out.new) result.status }
+    ensures serve { (listen : List ℕ) (workers connections : ℕ)
+        → asks words.now ≡ Some (serve_line listen workers connections) → Obeys W.Replies (port.new ≡ port.old)
+        (Serves D.Disk C.Clock W.Replies (port.new ≡ port.old)
+        (Connects P.Port workers connections port.old port.new))
+        (around disk clock out.old) (around result.disk result.clock out.new) result.status }
+    ensures report { (month : ℕ) (as_text : Bool) → asks words.now ≡ Some (report_line month as_text)
+        → Obeys W.Replies (Unit {0}) (Reports D.Disk C.Clock W.Replies month as_text)
+        (around disk clock out.old) (around result.disk result.clock out.new) result.status }
+    ensures explain { (workers : ℕ) → asks words.now ≡ Some (explain_line workers)
+        → Obeys W.Replies (Unit {0}) (Explains D.Disk C.Clock W.Replies)
+        (around disk clock out.old) (around result.disk result.clock out.new) result.status }
+    ensures load { (number count : ℕ) → asks words.now ≡ Some (gen_line number count)
+        → Obeys W.Replies (Unit {0}) (Loads W.Replies number count)
+        (around disk clock out.old) (around result.disk result.clock out.new) result.status }
+    ensures init { asks words.now ≡ Some init_line → Obeys W.Replies (Unit {0}) (InitsAlone D.Disk W.Replies)
+        (around disk clock out.old) (around result.disk result.clock out.new) result.status }
+    ensures other { asks words.now ≡ None → Obeys W.Replies (Unit {0}) (RefusesWords W.Replies)
+        (around disk clock out.old) (around result.disk result.clock out.new) result.status }
+
+    // Each touches only what is its own, and each connection that the port gave was given back, ended, whatever the
+    // status.
+    ensures only { TouchesOwn W.Replies (asks words.now) (input.new ≡ input.old) (port.new ≡ port.old)
+        out.old out.new result.status }
+    ensures balanced { IsBalanced P.Port port.old port.new }
+
+    // Each status has its cause.
+    ensures causes { IsCaused (asks words.now)
+        (faults (D.fault_count disk) (S.faults input.old) (W.faults out.old) (P.faults port.old))
+        (faults (D.fault_count result.disk) (S.faults input.new) (W.faults out.new) (P.faults port.new))
+        (IsTrue D.honest → IsForeign (D.state disk).journal.seen)
+        (Gave (S.left input.old) (S.left input.new) take_limit) result.status }
+
+    // A disk each of whose images has a history is opened, and has such images at every moment.
+    ensures opened { IsTrue D.honest → IsSound (D.state disk) → result.status ≡ 5 → ⊥ }
+    ensures sound { IsTrue D.honest → IsSound (D.state disk)
+        → KeepsTo D.state D.moment D.had_since disk result.disk IsSound }
+
+    // A command line is done, on such a disk or for init on one that is not foreign, where nothing outside fails
+    // and the clock is not at its end.
+    ensures complete { IsTrue D.honest → IsSome (asks words.now)
+        → IsSound (D.state disk)
+        ⊎ ((asks words.now ≡ Some init_line) × (IsForeign (D.state disk).journal.seen → ⊥))
+        → NoneFailed (faults (D.fault_count disk) (S.faults input.old) (W.faults out.old) (P.faults port.old))
+        (faults (D.fault_count result.disk) (S.faults input.new) (W.faults out.new) (P.faults port.new))
+        → (result.status ≡ 8 → ⊥) → IsDone result.status }
+{
+    sound_now(&disk);
+    match read_line(alloc, words) {
+        Ok(CommandLine::Init) => {
+            let status = init(out, &mut disk);
+            End {
+                status,
+                disk,
+                clock,
+            }
+        }
+        Ok(CommandLine::Run) => run(alloc, input, out, disk, clock),
+        Ok(
+            CommandLine::Serve {
+                listen,
+                workers,
+                connections,
+            },
+        ) => serve(
+            rt,
+            alloc,
+            out,
+            disk,
+            clock,
+            port,
+            listen.as_str(),
+            gate,
+            workers,
+            connections,
+        ),
+        Ok(CommandLine::Report(asked)) => report(alloc, out, disk, clock, &asked),
+        Ok(CommandLine::Explain { workers }) => stays(rt, alloc, out, disk, clock, workers),
+        Ok(CommandLine::Gen { number, count }) => {
+            let status = load(alloc, out, number, count);
+            End {
+                status,
+                disk,
+                clock,
+            }
+        }
+        Err(fault) => {
+            let status = refuse_line(out, fault);
+            End {
+                status,
+                disk,
+                clock,
+            }
+        }
+    }
+}

@@ -1,0 +1,191 @@
+// Answering the messages of connections.
+ghost use Rattle.std.specs.Prelude.{◌≡◌, ◌≤◌, ◌⊎◌, ◌<◌, ℕ, List, false, IsTrue};
+ghost use Rattle.office_base.specs.Faults.{Rose};
+ghost use Rattle.office_types.specs.declared.command.Entry.{Entry};
+ghost use Rattle.desk_core.specs.Histories.{HasAcceptedHistory};
+ghost use Rattle.desk_core.specs.Opening.{Opens};
+ghost use Rattle.office_program.specs.Lines.{workers_status, workers_note, IsWorkersStatus, IsServeStatus};
+ghost use Rattle.office_program.specs.Running.{journal_limit, around, IsNoted, IsSilent};
+ghost use Rattle.office_program.specs.Running.{AnswersWorkers, Connects, IsBalanced, Refuses, Serves};
+
+use crate::lines::{note_line, served_line, served_status};
+use crate::program::{End, JOURNAL_LIMIT};
+use crate::run::{end_at_clock, has_begun, refuse};
+use desk_core::{Clock, Desk};
+use disk_core::Disk;
+use http_front::Replies;
+use serving::{Closed, Gate, Port, serve_office};
+use std::alloc::Global;
+use std::sync::Wait;
+use std::thread::Threads;
+
+// Notes how workers ended.
+fn close<W: Replies, D: Disk + Drop, C: Clock + Drop>(
+    out: &mut W,
+    closed: Closed<D, C>,
+) -> End<D, C>
+    ensures status { result.status ≡ workers_status closed.end closed.stale }
+    ensures disk { result.disk ≡ closed.disk }
+    ensures clock { result.clock ≡ closed.clock }
+    ensures silent { IsSilent W.Replies out.old out.new }
+    ensures noted { IsNoted W.Replies out.old out.new (workers_note closed.end closed.stale) }
+    ensures unnoted { result.status ≡ 0 → W.noted out.new ≡ W.noted out.old }
+    ensures later { W.faults out.old ≤ W.faults out.new }
+{
+    note_line(out, served_line(closed.end, closed.stale));
+    End {
+        status: served_status(closed.end, closed.stale),
+        disk: closed.disk,
+        clock: closed.clock,
+    }
+}
+
+// Has workers serve an open desk.
+fn answer<W, D, C, P, G, R>(
+    rt: &R,
+    alloc: Global,
+    out: &mut W,
+    desk: Desk<D, C>,
+    port: &mut P,
+    address: &str,
+    gate: &G,
+    workers: u32,
+    connections: u32,
+) -> End<D, C>
+where
+    W: Replies,
+    D: Disk + Drop + Send,
+    C: Clock + Drop + Send,
+    G: Gate + Sync,
+    R: Threads + Wait + Sync,
+    P: Port + Send,
+    P::Source: Send,
+    P::Replies: Send,
+    requires few { (0 < workers) × (workers ≤ 64) }
+    requires fresh { desk.stale ≡ false }
+
+    ensures answers { (disk : D) (clock : C)
+        → Opens D.Disk disk clock journal_limit desk
+        → AnswersWorkers D.Disk C.Clock W.Replies (Connects P.Port workers connections port.old port.new)
+        (around disk clock out.old) (around result.disk result.clock out.new) result.status }
+    ensures later { (W.faults out.old ≤ W.faults out.new) × (D.fault_count desk.disk ≤ D.fault_count result.disk) }
+    ensures statuses { IsWorkersStatus result.status }
+    ensures disk_fault { result.status ≡ 2 → Rose (D.fault_count desk.disk) (D.fault_count result.disk) }
+    ensures port_fault { result.status ≡ 7 → Rose (P.faults port.old) (P.faults port.new) }
+    ensures port_done { result.status ≡ 0 → P.faults port.new ≤ P.faults port.old }
+    ensures balanced { IsBalanced P.Port port.old port.new }
+    ensures unnoted { result.status ≡ 0 → W.noted out.new ≡ W.noted out.old }
+{
+    let closed = serve_office(rt, alloc, desk, port, address, gate, workers, connections);
+    close(out, closed)
+}
+
+// Opens the office, and has workers serve it.
+fn work<W, D, C, P, G, R>(
+    rt: &R,
+    alloc: Global,
+    out: &mut W,
+    disk: D,
+    clock: C,
+    port: &mut P,
+    address: &str,
+    gate: &G,
+    workers: u32,
+    connections: u32,
+) -> End<D, C>
+where
+    W: Replies,
+    D: Disk + Drop + Send,
+    C: Clock + Drop + Send,
+    G: Gate + Sync,
+    R: Threads + Wait + Sync,
+    P: Port + Send,
+    P::Source: Send,
+    P::Replies: Send,
+    requires few { (0 < workers) × (workers ≤ 64) }
+
+    ensures works { AnswersWorkers D.Disk C.Clock W.Replies (Connects P.Port workers connections port.old port.new)
+        (around disk clock out.old) (around result.disk result.clock out.new) result.status
+        ⊎ (Refuses D.Disk C.Clock W.Replies (around disk clock out.old) (around result.disk result.clock out.new)
+        result.status × (port.new ≡ port.old)) }
+    ensures sound { IsTrue D.honest → (history : List Entry)
+        → HasAcceptedHistory history (D.state disk).journal.seen → result.status ≡ 5 → ⊥ }
+    ensures unopened { result.status ≡ 5 → port.new ≡ port.old }
+    ensures later { (W.faults out.old ≤ W.faults out.new) × (D.fault_count disk ≤ D.fault_count result.disk) }
+    ensures statuses { IsServeStatus result.status }
+    ensures disk_fault { result.status ≡ 2 → Rose (D.fault_count disk) (D.fault_count result.disk) }
+    ensures port_fault { result.status ≡ 7 → Rose (P.faults port.old) (P.faults port.new) }
+    ensures port_done { result.status ≡ 0 → P.faults port.new ≤ P.faults port.old }
+    ensures balanced { IsBalanced P.Port port.old port.new }
+    ensures unnoted { result.status ≡ 0 → W.noted out.new ≡ W.noted out.old }
+{
+    match Desk::open(alloc, disk, clock, JOURNAL_LIMIT) {
+        Ok(desk) => answer(
+            rt,
+            alloc,
+            out,
+            desk,
+            port,
+            address,
+            gate,
+            workers,
+            connections,
+        ),
+        Err((fault, disk, clock)) => refuse(out, fault, disk, clock),
+    }
+}
+
+// Asks the clock once, and has workers serve where it is below the end of time.
+pub(crate) fn serve<W, D, C, P, G, R>(
+    rt: &R,
+    alloc: Global,
+    out: &mut W,
+    disk: D,
+    mut clock: C,
+    port: &mut P,
+    address: &str,
+    gate: &G,
+    workers: u32,
+    connections: u32,
+) -> End<D, C>
+where
+    W: Replies,
+    D: Disk + Drop + Send,
+    C: Clock + Drop + Send,
+    G: Gate + Sync,
+    R: Threads + Wait + Sync,
+    P: Port + Send,
+    P::Source: Send,
+    P::Replies: Send,
+    requires few { (0 < workers) × (workers ≤ 64) }
+
+    ensures serves { Serves D.Disk C.Clock W.Replies (port.new ≡ port.old)
+        (Connects P.Port workers connections port.old port.new)
+        (around disk clock out.old) (around result.disk result.clock out.new) result.status }
+    ensures sound { IsTrue D.honest → (history : List Entry)
+        → HasAcceptedHistory history (D.state disk).journal.seen → result.status ≡ 5 → ⊥ }
+    ensures unopened { (result.status ≡ 5) ⊎ (result.status ≡ 8) → port.new ≡ port.old }
+    ensures later { (W.faults out.old ≤ W.faults out.new) × (D.fault_count disk ≤ D.fault_count result.disk) }
+    ensures statuses { (result.status ≡ 8) ⊎ IsServeStatus result.status }
+    ensures disk_fault { result.status ≡ 2 → Rose (D.fault_count disk) (D.fault_count result.disk) }
+    ensures port_fault { result.status ≡ 7 → Rose (P.faults port.old) (P.faults port.new) }
+    ensures port_done { result.status ≡ 0 → P.faults port.new ≤ P.faults port.old }
+    ensures balanced { IsBalanced P.Port port.old port.new }
+    ensures unnoted { result.status ≡ 0 → W.noted out.new ≡ W.noted out.old }
+{
+    if !has_begun(&mut clock) {
+        return end_at_clock(out, disk, clock);
+    }
+    work(
+        rt,
+        alloc,
+        out,
+        disk,
+        clock,
+        port,
+        address,
+        gate,
+        workers,
+        connections,
+    )
+}

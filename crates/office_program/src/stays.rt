@@ -1,0 +1,93 @@
+// Printing the table of stays.
+ghost use Rattle.std.specs.Prelude.{◌≡◌, ◌≤◌, ◌⊎◌, ◌<◌, ℕ, List, IfOk, IfErr, IsTrue};
+ghost use Rattle.office_base.specs.Faults.{Rose};
+ghost use Rattle.meter_journal.specs.Reading.{HasStoreCause};
+ghost use Rattle.disk_core.specs.Moments.{Untouched};
+ghost use Rattle.office_types.specs.declared.command.Entry.{Entry};
+ghost use Rattle.stay_explain.specs.Explaining.{Fails};
+ghost use Rattle.desk_core.specs.Breaking.{OpenFails};
+ghost use Rattle.desk_core.specs.Histories.{HasAcceptedHistory};
+ghost use Rattle.office_program.specs.Lines.{IsRunStatus};
+ghost use Rattle.office_program.specs.Running.{around};
+ghost use Rattle.office_program.specs.Explaining.{Explains, ReadsTable};
+
+use crate::program::End;
+use crate::run::refuse;
+use crate::saying::say;
+use desk_core::Clock;
+use disk_core::Disk;
+use http_front::Replies;
+use meter_journal::{OpenFault, read_all};
+use stay_explain::{ExplainFault, explain};
+use std::alloc::Global;
+use std::thread::Threads;
+
+// Why a journal is not explained, in the words of an opening.
+fn open_fault(fault: ExplainFault) -> OpenFault
+    ensures fails { (file : List ℕ) → Fails fault file → OpenFails result file }
+    ensures bytes { result ≡ OpenFault.StoreFault → ⊥ }
+{
+    match fault {
+        ExplainFault::NotMade => OpenFault::NotMade,
+        ExplainFault::Foreign => OpenFault::Foreign,
+        ExplainFault::Damaged { offset } => OpenFault::Damaged { offset },
+        ExplainFault::NoMemory => OpenFault::NoMemory,
+    }
+}
+
+// Reads the journal, and gives the table of its stays.
+fn table<D: Disk, R: Threads + Sync>(
+    rt: &R,
+    alloc: Global,
+    disk: &mut D,
+    workers: u32,
+) -> Result<Vec<u8>, OpenFault>
+    requires few { (1 ≤ workers) × (workers ≤ 64) }
+    ensures table { IfOk result (λ text. ReadsTable D.Disk disk.old text.items) }
+    ensures fails { IsTrue D.honest → IfErr result (λ fault. OpenFails fault (D.state disk.old).journal.seen) }
+    ensures untouched { IsTrue D.honest → Untouched D.state D.moment D.had_since disk.old disk.new }
+    ensures cause { HasStoreCause (D.fault_count disk.old) (D.fault_count disk.new) result }
+{
+    match read_all(alloc, disk) {
+        Ok(bytes) => match explain(rt, alloc, &bytes, workers) {
+            Ok(text) => Ok(text),
+            Err(fault) => Err(open_fault(fault)),
+        },
+        Err(fault) => Err(fault),
+    }
+}
+
+// Says the table of stays, worked by up to so many threads.
+pub(crate) fn stays<W: Replies, D: Disk + Drop, C: Clock + Drop, R: Threads + Sync>(
+    rt: &R,
+    alloc: Global,
+    out: &mut W,
+    mut disk: D,
+    clock: C,
+    workers: u32,
+) -> End<D, C>
+    requires few { (1 ≤ workers) × (workers ≤ 64) }
+    ensures explains { Explains D.Disk C.Clock W.Replies (around disk clock out.old)
+        (around result.disk result.clock out.new) result.status }
+    ensures sound { IsTrue D.honest → (history : List Entry)
+        → HasAcceptedHistory history (D.state disk).journal.seen → result.status ≡ 5 → ⊥ }
+    ensures unsaid { (W.said out.new ≡ W.said out.old) × (W.moments out.new ≡ W.moments out.old) }
+    ensures later { (W.faults out.old ≤ W.faults out.new) × (D.fault_count disk ≤ D.fault_count result.disk) }
+    ensures statuses { IsRunStatus result.status }
+    ensures disk_fault { result.status ≡ 2 → Rose (D.fault_count disk) (D.fault_count result.disk) }
+    ensures write_fault { result.status ≡ 4 → Rose (W.faults out.old) (W.faults out.new) }
+    ensures only { (result.status ≡ 3 → ⊥) × ((result.status ≡ 7 → ⊥) × (result.status ≡ 9 → ⊥)) }
+    ensures unnoted { result.status ≡ 0 → W.noted out.new ≡ W.noted out.old }
+{
+    match table(rt, alloc, &mut disk, workers) {
+        Ok(text) => {
+            let status = say(out, &text);
+            End {
+                status,
+                disk,
+                clock,
+            }
+        }
+        Err(fault) => refuse(out, fault, disk, clock),
+    }
+}
