@@ -26,9 +26,7 @@ check() {
     fi
 }
 
-ports=$(python3 -c 'import socket
-held = [socket.create_server(("127.0.0.1", 0)) for _ in range(3)]
-print(*(it.getsockname()[1] for it in held))')
+ports=$(python3 -B "$root/tests-live/free_port.py" 3)
 # shellcheck disable=SC2086
 set -- $ports
 behind=$1

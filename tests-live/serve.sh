@@ -20,7 +20,7 @@ trap 'kill -9 $server $clients 2>/dev/null; rm -rf "$work"' EXIT
 
 # A port of this machine that nobody listens on.
 free_port() {
-    python3 -c 'import socket; s = socket.socket(); s.bind(("127.0.0.1", 0)); print(s.getsockname()[1])'
+    python3 -B "$(dirname -- "$cases")/free_port.py"
 }
 
 check() {

@@ -7,14 +7,7 @@ import subprocess
 import threading
 import time
 
-HOST = "127.0.0.1"
-
-
-def free_port():
-    """A port of this machine that nobody listens on."""
-    with socket.socket() as probe:
-        probe.bind((HOST, 0))
-        return probe.getsockname()[1]
+from free_port import HOST, free_port
 
 
 def request(method, target, body="", version="1.1", fields=""):
