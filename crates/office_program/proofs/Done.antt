@@ -1,7 +1,7 @@
 -- A command that met no fault is done.
 use Rattle.std.proofs.Common.{◌≡◌, ◌⊎◌, ◌∙◌, refl, sym, subst, inl, inr, arith, ℕ, List, [], ◌∷◌, Option, Some, None, Bool, true, false}
 use Rattle.std.specs.Prelude.{◌||◌, nat_eq, IsTrue}
-use Rattle.command_line.specs.Lines.{Line, init, run, serve, report, explain, gen}
+use Rattle.command_line.specs.Lines.{Line, init, run, serve, report, explain}
 use Rattle.command_line.specs.declared.line.LineFault.{LineFault}
 use Rattle.command_line.specs.declared.line.LineFault.TheVariants as refusals
 use Rattle.meter_journal.specs.declared.fault.OpenFault.{OpenFault}
@@ -73,6 +73,9 @@ said_is_report status (inr said) = inr (said_is_run status said)
 
 -- ---- which numbers are the statuses of each command
 
+absurd_true : true ≡ false → ⊥
+absurd_true is = absurd cc
+
 abbrev is_one_of : List ℕ → ℕ → Bool
 is_one_of [] n = false
 is_one_of (first ∷ rest) n = nat_eq first n || is_one_of rest n
@@ -93,9 +96,6 @@ module _ (p : ℕ → Bool) (status : ℕ) where
   -- a number that is none of them is not the status
   pub not_one : (n : ℕ) → p n ≡ false → IsTrue (p status) → status ≡ n → ⊥
   not_one n differs held is = absurd_true (sym (subst (λ (x : ℕ). IsTrue (p x)) is held) ∙ differs)
-    where
-      absurd_true : true ≡ false → ⊥
-      absurd_true is = absurd cc
 
 fault_is_run : (fault : OpenFault) (status : ℕ) → status ≡ fault_status fault → IsTrue (is_run_status status)
 fault_is_run faults.StoreFault status is = there is_run_status status 2 refl is
@@ -187,17 +187,11 @@ refusal_line refusals.NoMemory line status none six one = absurd (six_not_one st
 -- or the clock is at its end
 pub late_none : {P : Type 0} (status n : ℕ) → nat_eq 8 n ≡ false → (P → status ≡ n → ⊥) → (status ≡ 8) ⊎ P → status ≡ n → ⊥
 late_none status n other none (inl eight) is = absurd_true (sym (subst (λ (x : ℕ). nat_eq 8 x ≡ true) (sym eight ∙ is) refl) ∙ other)
-  where
-    absurd_true : true ≡ false → ⊥
-    absurd_true is = absurd cc
 late_none status n other none (inr holds) is = none holds is
 
 -- of a report
 pub report_none : (status n : ℕ) → is_run_status n ≡ false → nat_eq 10 n ≡ false → IsReportStatus status → status ≡ n → ⊥
 report_none status n differs other (inl ten) is = absurd_true (sym (subst (λ (x : ℕ). nat_eq 10 x ≡ true) (sym ten ∙ is) refl) ∙ other)
-  where
-    absurd_true : true ≡ false → ⊥
-    absurd_true is = absurd cc
 report_none status n differs other (inr holds) is = run_none status n differs holds is
 
 -- ---- words ask for one thing
@@ -213,18 +207,6 @@ init_not_run line first second = init_is_not_run (sym first ∙ second)
 
 pub init_not_serve : (line : Option Line) (listen : List ℕ) (count connections : ℕ) → line ≡ Some init → line ≡ Some (serve listen count connections) → ⊥
 init_not_serve line listen count connections first second = init_is_not_serve listen count connections (sym first ∙ second)
-
-report_is_not_run : (month : ℕ) (as_text : Bool) → Some (report month as_text) ≡ Some run → ⊥
-report_is_not_run month as_text is = absurd cc
-
-explain_is_not_run : (workers : ℕ) → Some (explain workers) ≡ Some run → ⊥
-explain_is_not_run workers is = absurd cc
-
-gen_is_not_run : (number count : ℕ) → Some (gen number count) ≡ Some run → ⊥
-gen_is_not_run number count is = absurd cc
-
-serve_is_not_run : (listen : List ℕ) (count connections : ℕ) → Some (serve listen count connections) ≡ Some run → ⊥
-serve_is_not_run listen count connections is = absurd cc
 
 init_is_not_report : (month : ℕ) (as_text : Bool) → Some init ≡ Some (report month as_text) → ⊥
 init_is_not_report month as_text is = absurd cc

@@ -1,8 +1,8 @@
 -- What a command line touches, by what it asks for.
-use Rattle.std.proofs.Common.{◌≡◌, ◌⊎◌, ◌∙◌, ⊎_elim, sym, ℕ, Bool, List, Option, Some}
-use Rattle.command_line.specs.Lines.{Line, init, run, serve, report, explain, gen}
+use Rattle.std.proofs.Common.{◌≡◌, ◌∙◌, ⊎_elim, sym, ℕ, List, Option, Some}
+use Rattle.command_line.specs.Lines.{Line, init, run, serve}
 use Rattle.http_front.specs.declared.replies.Replies as sinks
-use Rattle.office_program.specs.Commands.{IsServe, IsReport, TouchesOwn}
+use Rattle.office_program.specs.Commands.{IsServe, TouchesOwn}
 
 -- ---- what a line is not
 
