@@ -236,6 +236,17 @@ marked : answers (after empty_office with_logs)
 unfolding to_compute
 marked = refl
 
+-- a version that is put while versioning is suspended takes no number
+unnumbered : answers (after empty_office with_logs)
+    (at new_year (command.SetVersioning logs true) ∷ at new_year (put 1 class.Standard)
+    ∷ at new_year (command.SetVersioning logs false) ∷ at new_year (put 2 class.Standard)
+    ∷ at new_year (command.SetVersioning logs true) ∷ at new_year (put 3 class.Standard) ∷ [])
+    ≡ Ok (reply.VersioningSet versioning.Enabled) ∷ Ok (reply.Stored new_year (id.Number 1))
+    ∷ Ok (reply.VersioningSet versioning.Suspended) ∷ Ok (reply.Stored new_year id.Null)
+    ∷ Ok (reply.VersioningSet versioning.Enabled) ∷ Ok (reply.Stored new_year (id.Number 2)) ∷ []
+unfolding to_compute
+unnumbered = refl
+
 -- the versions of a key, as they are shown
 shown : answer new_year (query.Stack logs a)
     (after (after empty_office with_logs) (at new_year (command.SetVersioning logs true)
