@@ -1,20 +1,60 @@
 //! A blocking HTTP server over Rust's standard library, against which `serve.py` measures `office serve`.
 //!
 //!     rustc --edition 2021 -C opt-level=3 -o plain_server plain_server.rs
-//!     ./plain_server ADDRESS WORKERS
+//!     ./plain_server ADDRESS WORKERS [JOURNAL ENTRY_BYTES]
 //!
 //! Each worker accepts a connection and serves it to its end, as a worker of the office does. A message is read by
-//! hand: its method, its target, Content-Length and Connection. Two requests are answered, with the bytes that the
-//! office answers them with: `PUT /buckets/NAME` makes a bucket and `GET /buckets/NAME` tells it; everything else gets
-//! 501. The buckets lie in a map under a lock. Nothing is written to a disk. It serves until it is stopped.
+//! hand: its method, its target, Content-Length and Connection. Three requests are answered, with the bytes that the
+//! office answers them with: `PUT /buckets/NAME` makes a bucket, `GET /buckets/NAME` tells it, and with a JOURNAL
+//! `PUT /buckets/NAME/objects/KEY` counts an object; everything else gets 501. The buckets lie in a map under a lock.
+//! Under that lock an object's entry of ENTRY_BYTES is written to the new file JOURNAL as the office writes one: its
+//! length, the entry and a closed gate, a data sync, the gate, a data sync. What the entry says is not written. It
+//! serves until it is stopped.
 
 use std::collections::HashMap;
+use std::fs::File;
 use std::io::{Read, Write};
 use std::net::{TcpListener, TcpStream};
+use std::os::unix::fs::FileExt;
 use std::sync::Mutex;
 
-/// How many versions each bucket has, by its name.
-type Buckets = Mutex<HashMap<Vec<u8>, u64>>;
+/// A file of entries, each behind a gate of one byte that is opened once the entry is synced.
+struct Journal {
+    file: File,
+    end_gate: u64,
+    entry: Vec<u8>,
+}
+
+impl Journal {
+    fn append(&mut self) -> std::io::Result<()> {
+        let (gate, size) = (self.end_gate, self.entry.len() as u64);
+        self.file.write_all_at(&(size as u32).to_be_bytes(), gate + 1)?;
+        self.file.write_all_at(&self.entry, gate + 5)?;
+        self.file.write_all_at(&[0], gate + 5 + size)?;
+        self.file.sync_data()?;
+        self.file.write_all_at(&[0xA5], gate)?;
+        self.file.sync_data()?;
+        self.end_gate = gate + 5 + size;
+        Ok(())
+    }
+}
+
+#[derive(Default)]
+struct Office {
+    /// How many versions each bucket has, by its name.
+    versions: HashMap<Vec<u8>, u64>,
+    journal: Option<Journal>,
+}
+
+impl Office {
+    /// Counts an object and makes it durable, or tells of none where the bucket or the journal is missing.
+    fn put_object(&mut self, bucket: &[u8]) -> Option<std::io::Result<()>> {
+        let versions = self.versions.get_mut(bucket)?;
+        let journal = self.journal.as_mut()?;
+        *versions += 1;
+        Some(journal.append())
+    }
+}
 
 /// A message whose head is whole.
 struct Request<'a> {
@@ -81,24 +121,34 @@ fn parse(bytes: &[u8]) -> Parsed<'_> {
 }
 
 /// The status line's rest and the body of the answer.
-fn answer(method: &[u8], target: &[u8], buckets: &Buckets) -> (&'static str, String) {
-    let name = target.strip_prefix(b"/buckets/").unwrap_or_default();
+fn answer(method: &[u8], target: &[u8], office: &Mutex<Office>) -> (&'static str, String) {
+    let path = target.strip_prefix(b"/buckets/").unwrap_or_default();
+    let (name, object) = match path.iter().position(|&byte| byte == b'/') {
+        Some(at) => (&path[..at], path[at..].strip_prefix(b"/objects/")),
+        None => (path, None),
+    };
     let told = String::from_utf8_lossy(name);
-    let mut buckets = buckets.lock().unwrap();
-    match (method, buckets.get(name)) {
-        (b"GET", Some(versions)) if !name.is_empty() => {
+    let mut office = office.lock().unwrap();
+    match (method, office.versions.get(name), object) {
+        (b"PUT", _, Some(_)) => match office.put_object(name) {
+            Some(Ok(())) => {
+                ("201 Created", r#"{"moment":"2026-11-27T10:15:51.432Z","version":"null"}"#.to_string())
+            }
+            _ => ("503 Service Unavailable", r#"{"error":"StoreFault","number":101}"#.to_string()),
+        },
+        (b"GET", Some(versions), None) if name == path => {
             let rest = format!(r#""rules":0,"uploads":0,"versioning":"Unversioned","versions":{versions}}}"#);
             ("200 OK", format!(r#"{{"bucket":"{told}",{rest}"#))
         }
-        (b"PUT", None) if !name.is_empty() && !name.contains(&b'/') => {
-            buckets.insert(name.to_vec(), 0);
+        (b"PUT", None, None) if !name.is_empty() && name == path => {
+            office.versions.insert(name.to_vec(), 0);
             ("201 Created", format!(r#"{{"bucket":"{told}"}}"#))
         }
         _ => ("501 Not Implemented", r#"{"error":"NotBuilt","number":119}"#.to_string()),
     }
 }
 
-fn serve(mut stream: TcpStream, buckets: &Buckets) -> std::io::Result<()> {
+fn serve(mut stream: TcpStream, office: &Mutex<Office>) -> std::io::Result<()> {
     stream.set_nodelay(true)?;
     let mut room = vec![0u8; 65_536];
     let mut held = 0;
@@ -106,7 +156,7 @@ fn serve(mut stream: TcpStream, buckets: &Buckets) -> std::io::Result<()> {
     loop {
         match parse(&room[..held]) {
             Parsed::Whole(request) => {
-                let (status, body) = answer(request.method, request.target, buckets);
+                let (status, body) = answer(request.method, request.target, office);
                 let (size, keep) = (request.size, request.keep);
                 out.clear();
                 write!(out, "HTTP/1.1 {status}\r\ncontent-type: application/json\r\n")?;
@@ -130,18 +180,32 @@ fn serve(mut stream: TcpStream, buckets: &Buckets) -> std::io::Result<()> {
     }
 }
 
+/// The words of the command line: an address, a number of workers, and the journal where one is kept.
+fn read_words(words: &[String]) -> (&str, usize, Option<Journal>) {
+    let (address, workers, journal) = match words {
+        [address, workers] => (address, workers, None),
+        [address, workers, path, bytes] => {
+            let file = File::create_new(path).expect("JOURNAL");
+            file.sync_all().expect("JOURNAL");
+            let entry = vec![0x42; bytes.parse().expect("ENTRY_BYTES")];
+            (address, workers, Some(Journal { file, end_gate: 10, entry }))
+        }
+        _ => panic!("usage: plain_server ADDRESS WORKERS [JOURNAL ENTRY_BYTES]"),
+    };
+    (address, workers.parse().expect("WORKERS"), journal)
+}
+
 fn main() {
     let words: Vec<String> = std::env::args().skip(1).collect();
-    let [address, workers] = words.as_slice() else { panic!("usage: plain_server ADDRESS WORKERS") };
-    let workers: usize = workers.parse().expect("WORKERS");
+    let (address, workers, journal) = read_words(&words);
     let listener = TcpListener::bind(address).expect("listen");
-    let buckets = Buckets::default();
+    let office = Mutex::new(Office { journal, ..Office::default() });
     std::thread::scope(|scope| {
         for _ in 0..workers {
             scope.spawn(|| {
                 for stream in listener.incoming().flatten() {
                     // A connection that fails ends alone.
-                    let _ = serve(stream, &buckets);
+                    let _ = serve(stream, &office);
                 }
             });
         }

@@ -1,5 +1,5 @@
 #!/usr/bin/env python3
-"""Requests a second of `office serve`: queries against a plain server, durable puts against what the disk allows.
+"""Requests a second of `office serve`: queries and durable puts against a plain server, puts against what the disk allows.
 
     python3 bench/serve.py PROGRAM [FOLDER] [ROUNDS] [SECONDS]
 
@@ -81,10 +81,13 @@ def office_turn(work, program, workers, seconds, what):
     return found
 
 
-def plain_turn(work, workers, seconds):
+def plain_turn(work, workers, seconds, what):
+    folder = tempfile.mkdtemp(prefix="plain-", dir=work)
     port = free_port()
-    words = [str(work / "plain_server"), f"127.0.0.1:{port}", str(workers)]
-    return served(words, work, port, str(work / "load"), workers, seconds, "query")
+    words = [str(work / "plain_server"), f"127.0.0.1:{port}", str(workers), "journal", str(ENTRY_BYTES)]
+    found = served(words, folder, port, str(work / "load"), workers, seconds, what)
+    shutil.rmtree(folder)
+    return found
 
 
 def limit_turn(work, commands):
@@ -122,11 +125,12 @@ def main():
         for workers in (1, 4):
             compare(f"queries workers {workers}", "plain", rounds,
                     lambda turn: office_turn(work, program, workers, seconds, "query"),
-                    lambda: plain_turn(work, workers, seconds))
+                    lambda: plain_turn(work, workers, seconds, "query"))
         for workers in (1, 4):
-            compare(f"puts workers {workers}", "limit", rounds,
-                    lambda turn: office_turn(work, program, workers, seconds, f"turn{turn:02}"),
-                    lambda: limit_turn(work, 3000))
+            for unit, other in (("limit", lambda: limit_turn(work, 3000)),
+                                ("plain", lambda: plain_turn(work, workers, seconds, "turn00"))):
+                compare(f"puts workers {workers}", unit, rounds,
+                        lambda turn: office_turn(work, program, workers, seconds, f"turn{turn:02}"), other)
         print(f"rounds {rounds} seconds {seconds:.1f} entry_bytes {ENTRY_BYTES} processors {os.cpu_count()}"
               f" date {datetime.date.today()}")
     finally:
