@@ -10,13 +10,13 @@ use Rattle.class_rules.specs.Lines.{lines_of}
 use Rattle.class_rules.specs.declared.class.Class.{Class}
 use Rattle.class_rules.specs.declared.class.Class.TheVariants.{Standard, StandardIa, OnezoneIa, GlacierIr, Glacier, DeepArchive}
 use Rattle.class_rules.specs.declared.billing.Lines.{Lines}
-use Rattle.accrual.specs.Meters.{bytes_in}
+use Rattle.accrual.specs.Meters.{bytes_in_class}
 use Rattle.accrual.specs.Totals.{IsBilled, most_bookings}
 use Rattle.accrual.specs.Bounds.{IsBounded}
 use Rattle.accrual.specs.Sums.{IsSmall}
 use Rattle.accrual.specs.declared.rows.Kept.{Kept}
 use Rattle.accrual.specs.declared.rows.Rows.{Rows}
-use Rattle.accrual.specs.Kept.{nothing, kept_in, HasRoom, IsModest, IsBegun, IsEnded, IsAdded, in_month, running_to}
+use Rattle.accrual.specs.Rows.{nothing, kept_in, HasRoom, IsModest, IsBegun, IsEnded, IsAdded, in_month, running_to}
 use Rattle.accrual.proofs.Cases.{if_less, by_less, by_same}
 use Rattle.accrual.proofs.Changes.{lines_bytes}
 use Rattle.accrual.proofs.Settling.{running_more, running_all}
@@ -68,7 +68,7 @@ running_least rows rank n run =
 
 -- ---- what one booking adds
 
-bytes_small : (lines : Lines) (class : Class) → IsBilled lines → bytes_in class (lines_of lines) < 2 ^ 44
+bytes_small : (lines : Lines) (class : Class) → IsBilled lines → bytes_in_class class (lines_of lines) < 2 ^ 44
 bytes_small lines class billed =
     let b = lines_bytes lines class in
     let x = if_less (rank_of lines.class == rank_of class) lines.bytes in
@@ -85,16 +85,16 @@ bounded_begun old new booked lines month ms bounded few billed short begun = rec
   few = omega (arith, few);
   used = λ m class.
       let b = begun.ended m (rank_of class) in
-      let r = running_begun old new (rank_of class) month (bytes_in class (lines_of lines)) months (λ m. begun.running m class) in
+      let r = running_begun old new (rank_of class) month (bytes_in_class class (lines_of lines)) months (λ m. begun.running m class) in
       let o = bounded.used m class in
-      let i = if_less (nat_lt month months) (bytes_in class (lines_of lines)) in
+      let i = if_less (nat_lt month months) (bytes_in_class class (lines_of lines)) in
       let s = bytes_small lines class billed in
       omega (arith, b, r, o, i, s);
   since = λ m class.
       let b = begun.since m class in
       let o = bounded.since m class in
-      let i = if_less (m == month) (bytes_in class (lines_of lines) * ms) in
-      let s = product_less (bytes_in class (lines_of lines)) ms (bytes_small lines class billed) short in
+      let i = if_less (m == month) (bytes_in_class class (lines_of lines) * ms) in
+      let s = product_less (bytes_in_class class (lines_of lines)) ms (bytes_small lines class billed) short in
       omega (arith, b, o, i, s);
   early = λ m class. let b = begun.early m (rank_of class) in let o = bounded.early m class in omega (arith, b, o);
   moves = λ m class. let b = begun.moves m (rank_of class) in let o = bounded.moves m class in omega (arith, b, o);
@@ -107,7 +107,7 @@ bounded_finished old mid booked lines month ms bounded begun = record {
   few = bounded.few;
   used = λ m class.
       let b = begun.ended m (rank_of class) in
-      let r = running_begun mid old (rank_of class) month (bytes_in class (lines_of lines)) months (λ m. begun.running m class) in
+      let r = running_begun mid old (rank_of class) month (bytes_in_class class (lines_of lines)) months (λ m. begun.running m class) in
       let o = bounded.used m class in
       omega (arith, b, r, o);
   since = λ m class. let b = begun.since m class in let o = bounded.since m class in omega (arith, b, o);
@@ -128,10 +128,10 @@ bounded_ended old mid new booked lines month since ms bounded among short begun 
       let o = bounded.used m class in
       let b = begun.ended m (rank_of class) in
       let e = ended.ended m class in
-      let r = running_begun mid old (rank_of class) month (bytes_in class (lines_of lines)) months (λ m. begun.running m class) in
-      let i : (if nat_lt month months then bytes_in class (lines_of lines) else 0) ≡ bytes_in class (lines_of lines) = grind (arith, nat_tests, among) in
+      let r = running_begun mid old (rank_of class) month (bytes_in_class class (lines_of lines)) months (λ m. begun.running m class) in
+      let i : (if nat_lt month months then bytes_in_class class (lines_of lines) else 0) ≡ bytes_in_class class (lines_of lines) = grind (arith, nat_tests, among) in
       let s = running_same mid new (rank_of class) months (λ m. ended.running m (rank_of class)) in
-      let c = counted_for (bytes_in class (lines_of lines)) (ms m) (short m) in
+      let c = counted_for (bytes_in_class class (lines_of lines)) (ms m) (short m) in
       omega (arith, o, b, e, r, i, s, c);
   since = λ m class. let b = begun.since m class in let e = ended.since m (rank_of class) in let o = bounded.since m class in omega (arith, b, e, o);
   early = λ m class. let b = begun.early m (rank_of class) in let e = ended.early m (rank_of class) in let o = bounded.early m class in omega (arith, b, e, o);
@@ -221,7 +221,9 @@ added_room rows booked month class early moves bounded small one =
     }
 
 -- other rows with the same kept numbers
-pub bounded_same : (old new : Rows) (booked : ℕ) → IsBounded old booked → ((month rank : ℕ) → kept_in new month rank ≡ kept_in old month rank) → new.first + length new.rows.items ≤ months → IsBounded new booked
+pub bounded_same : (old new : Rows) (booked : ℕ) → IsBounded old booked
+    → ((month rank : ℕ) → kept_in new month rank ≡ kept_in old month rank) → new.first + length new.rows.items ≤ months
+    → IsBounded new booked
 bounded_same old new booked bounded same run = record {
   run = run;
   few = bounded.few;

@@ -1,12 +1,11 @@
 -- Worked examples, computed.
 use Rattle.std.proofs.Common.{◌≡◌, ℕ, ◌+◌, ◌*◌, [], ◌∷◌, refl}
 use Rattle.std.specs.Prelude.{replicate}
-use Rattle.jiff_core.specs.Calendar.{days_of_months}
 use Rattle.moments.specs.Time.{day}
-use Rattle.moments.specs.Months.{first_day}
+use Rattle.moments.specs.Months.{days_of_months, first_day}
 use Rattle.class_rules.specs.Lines.{object_lines}
 use Rattle.class_rules.specs.declared.class.Class.TheVariants.{Standard, StandardIa, Glacier}
-use Rattle.accrual.specs.Books.{Book, empty_book, open_stay, ended_stay, with_early}
+use Rattle.accrual.specs.Books.{Book, empty_book, open_stay, ended_stay, book_with_early}
 use Rattle.accrual.specs.Meters.{meter, early_quantity, move_count}
 use Rattle.accrual.specs.Totals.{ended_sum, running_sum, since_sum, with_early_of}
 use Rattle.accrual.specs.Sums.{listed}
@@ -91,7 +90,7 @@ not_listed = refl
 
 -- what leaves after 10 days owes 20 more, what leaves after exactly 30 days owes nothing
 owed : with_early_of StandardIa 131_072 new_year (new_year + 10 * day) empty_book
-    ≡ with_early (record { class = StandardIa; amount = 226_492_416_000_000; moment = new_year + 10 * day }) empty_book
+    ≡ book_with_early (record { class = StandardIa; amount = 226_492_416_000_000; moment = new_year + 10 * day }) empty_book
 owed = refl
 
 not_owed : with_early_of StandardIa 131_072 new_year (new_year + 30 * day) empty_book ≡ empty_book

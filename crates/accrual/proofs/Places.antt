@@ -8,7 +8,7 @@ use Rattle.std.proofs.lemmas.List.{get_or-set_same, get_or-set_other, get_or_def
 use Rattle.accrual.specs.declared.rows.Kept.{Kept}
 use Rattle.accrual.specs.declared.rows.Rows.{Rows}
 use Rattle.accrual.proofs.Cases.{by_less, by_same}
-use Rattle.accrual.specs.Kept.{nothing, kept_in, HasRowIn, IsPut, IsRowPut}
+use Rattle.accrual.specs.Rows.{nothing, kept_in, HasRowIn, IsPut, IsRowPut}
 
 -- before the first row and behind the last one nothing is kept
 pub kept_before : (rows : Rows) (month rank : ℕ) → month < rows.first → kept_in rows month rank ≡ nothing
@@ -45,7 +45,9 @@ other_place lists list kept i j r rank (inl other) small is = other_list lists l
 other_place lists list kept i j r rank (inr other) small is =
     by_same j i
     (λ same.
-    let here : get_or (set lists i (set list rank kept)) j [] ≡ set list rank kept = subst (λ k. get_or (set lists i (set list rank kept)) k [] ≡ set list rank kept) (sym same) (get_or-set_same lists i (set list rank kept) [] small) in
+    let here : get_or (set lists i (set list rank kept)) j [] ≡ set list rank kept =
+    subst (λ k. get_or (set lists i (set list rank kept)) k [] ≡ set list rank kept) (sym same)
+    (get_or-set_same lists i (set list rank kept) [] small) in
     let was : get_or lists j [] ≡ list = subst (λ k. get_or lists k [] ≡ list) (sym same) (get_or_default lists i [] list small ∙ sym is) in
     ap (λ (l : List Kept). get_or l r nothing) here ∙ (get_or-set_other list rank r kept nothing other ∙ sym (ap (λ (l : List Kept). get_or l r nothing) was)))
     (λ differs. other_list lists list kept i j r rank differs)
@@ -59,7 +61,9 @@ pub put_is : (old new : Rows) (month rank : ℕ) (kept : Kept) (list : List Kept
     → IsPut old new month rank kept
 put_is old new month rank kept list has small is six first items as_many = record {
   there =
-      let here : get_or new.rows.items (month - old.first) [] ≡ set list rank kept = ap (λ (l : List (List Kept)). get_or l (month - old.first) []) items ∙ get_or-set_same old.rows.items (month - old.first) (set list rank kept) [] (omega (arith, has)) in
+      let here : get_or new.rows.items (month - old.first) [] ≡ set list rank kept =
+      ap (λ (l : List (List Kept)). get_or l (month - old.first) []) items
+      ∙ get_or-set_same old.rows.items (month - old.first) (set list rank kept) [] (omega (arith, has)) in
       let at : get_or (set list rank kept) rank nothing ≡ kept = get_or-set_same list rank kept nothing (omega (arith, small, six)) in
       let row = kept_row new month rank (omega (arith, has, first), omega (arith, has, first, as_many)) in
       row ∙ (ap (λ k. get_or (get_or new.rows.items (month - k) []) rank nothing) first ∙ (ap (λ (l : List Kept). get_or l rank nothing) here ∙ at));
@@ -74,7 +78,9 @@ pub row_put_is : (old new : Rows) (month : ℕ) (row : List Kept) → HasRowIn o
     → length new.rows.items ≡ length old.rows.items → IsRowPut old new month row
 row_put_is old new month row has first items as_many = record {
   there = λ r.
-      let here : get_or new.rows.items (month - old.first) [] ≡ row = ap (λ (l : List (List Kept)). get_or l (month - old.first) []) items ∙ get_or-set_same old.rows.items (month - old.first) row [] (omega (arith, has)) in
+      let here : get_or new.rows.items (month - old.first) [] ≡ row =
+      ap (λ (l : List (List Kept)). get_or l (month - old.first) []) items
+      ∙ get_or-set_same old.rows.items (month - old.first) row [] (omega (arith, has)) in
       kept_row new month r (omega (arith, has, first), omega (arith, has, first, as_many))
       ∙ (ap (λ k. get_or (get_or new.rows.items (month - k) []) r nothing) first ∙ ap (λ (l : List Kept). get_or l r nothing) here);
   others = λ m r other. kept_same old new m r first as_many (λ there.
@@ -116,13 +122,20 @@ kept_extended old new more month rank none first items =
     (λ from. by_less month (old.first + length old.rows.items)
     (λ inside.
     let e : get_or new.rows.items (month - new.first) [] ≡ get_or old.rows.items (month - old.first) [] =
-    ap (λ k. get_or new.rows.items (month - k) []) first ∙ (ap (λ (l : List (List Kept)). get_or l (month - old.first) []) items ∙ get_or_append_left old.rows.items more [] (month - old.first) (omega (arith, from, inside))) in
+    ap (λ k. get_or new.rows.items (month - k) []) first
+    ∙ (ap (λ (l : List (List Kept)). get_or l (month - old.first) []) items
+    ∙ get_or_append_left old.rows.items more [] (month - old.first) (omega (arith, from, inside))) in
     kept_row new month rank (omega (arith, from, first), omega (arith, inside, first, size)) ∙ (ap (λ (l : List Kept). get_or l rank nothing) e ∙ sym (kept_row old month rank (from, inside))))
     (λ behind. by_less month (new.first + length new.rows.items)
     (λ within.
     let e : get_or new.rows.items (month - new.first) [] ≡ get_or more (month - old.first - length old.rows.items) [] =
-    ap (λ k. get_or new.rows.items (month - k) []) first ∙ (ap (λ (l : List (List Kept)). get_or l (month - old.first) []) items ∙ get_or-append_right old.rows.items more (length old.rows.items) (month - old.first) [] refl (omega (arith, behind))) in
-    kept_row new month rank (omega (arith, from, first), within) ∙ (ap (λ (l : List Kept). get_or l rank nothing) e ∙ (none (month - old.first - length old.rows.items) rank ∙ sym (kept_behind old month rank behind))))
+    ap (λ k. get_or new.rows.items (month - k) []) first
+    ∙ (ap (λ (l : List (List Kept)). get_or l (month - old.first) []) items
+    ∙ get_or-append_right old.rows.items more (length old.rows.items) (month - old.first) [] refl
+    (omega (arith, behind))) in
+    kept_row new month rank (omega (arith, from, first), within)
+    ∙ (ap (λ (l : List Kept). get_or l rank nothing) e
+    ∙ (none (month - old.first - length old.rows.items) rank ∙ sym (kept_behind old month rank behind))))
     (λ beyond. kept_behind new month rank beyond ∙ sym (kept_behind old month rank behind))))
 
 pub kept_preceded : (old new : Rows) (more : List (List Kept)) (month rank : ℕ) → IsEmptied more → new.first + length more ≡ old.first → new.rows.items ≡ more ++ old.rows.items

@@ -1,16 +1,15 @@
 -- A stay that has ended, taken up month by month; and sums over the months before one.
-use Rattle.std.proofs.Common.{◌≡◌, ◌≤◌, ◌<◌, ◌+◌, ◌-◌, ◌*◌, ◌==◌, ℕ, suc, zero, length, refl, ap, sym, ◌∙◌, arith, subst, add-one}
+use Rattle.std.proofs.Common.{◌≡◌, ◌≤◌, ◌<◌, ◌+◌, ◌-◌, ◌*◌, ℕ, suc, zero, length, refl, ap, sym, ◌∙◌, arith, subst, add-one}
 use Rattle.std.specs.Prelude.{nat_lt, min, max, if◌then◌else◌}
 use Rattle.std.proofs.lemmas.Bool.Decides.{nat_tests}
 use Rattle.moments.specs.Months.{month_start, month_end, IsInMonth}
 use Rattle.class_rules.specs.Classes.{rank_of}
 use Rattle.class_rules.specs.Lines.{lines_of}
-use Rattle.class_rules.specs.declared.class.Class.{Class}
 use Rattle.class_rules.specs.declared.billing.Lines.{Lines}
-use Rattle.accrual.specs.Meters.{bytes_in}
+use Rattle.accrual.specs.Meters.{bytes_in_class}
 use Rattle.accrual.specs.Totals.{ms_within}
 use Rattle.accrual.specs.declared.rows.Rows.{Rows}
-use Rattle.accrual.specs.Kept.{kept_in, IsEnded, IsSettled, IsModest, in_month, running_to}
+use Rattle.accrual.specs.Rows.{kept_in, IsEnded, running_to}
 use Rattle.accrual.proofs.Cases.{by_less}
 use Rattle.accrual.proofs.Places.{kept_before, kept_behind}
 use Rattle.accrual.proofs.Windows.{within_before, within_after}
@@ -41,34 +40,6 @@ settle_start rows lines from at first is = record {
   as_many = refl;
 }
 
-one_more : (m month w v : ℕ) → (m ≡ month → v ≡ w) → (if nat_lt m month then w else 0) + (if m == month then v else 0) ≡ (if nat_lt m (month + 1) then w else 0)
-one_more m month w v same =
-    by_less m month
-    (λ less. grind (arith, nat_tests))
-    (λ from. by_less month m
-    (λ more. grind (arith, nat_tests))
-    (λ until. let e : m ≡ month = omega (arith, from, until) in let s = same e in grind (arith, nat_tests)))
-
-pub settle_more : (old now new : Rows) (lines : Lines) (from at month : ℕ) → IsEndedUpTo old now lines from at month → IsSettled now new lines month (ms_within (month_start month) (month_end month) from at)
-    → IsEndedUpTo old new lines from at (month + 1)
-settle_more old now new lines from at month a b = record {
-  ended = λ m class.
-      let x = a.ended m class in
-      let y = b.ended m class in
-      let o = one_more m month (ms_within (month_start m) (month_end m) from at) (ms_within (month_start month) (month_end month) from at) (λ e. ap (λ k. ms_within (month_start k) (month_end k) from at) (sym e)) in
-      y ∙ (ap (λ n. n + bytes_in class (lines_of lines) * in_month month m (ms_within (month_start month) (month_end month) from at)) x
-      ∙ (two_times (kept_in old m (rank_of class)).ended (bytes_in class (lines_of lines)) (ms_up_to month from at m) (in_month month m (ms_within (month_start month) (month_end month) from at))
-      ∙ ap (λ n. (kept_in old m (rank_of class)).ended + bytes_in class (lines_of lines) * n) o));
-  running = λ m r. b.running m r ∙ a.running m r;
-  since = λ m r. b.since m r ∙ a.since m r;
-  early = λ m r. b.early m r ∙ a.early m r;
-  moves = λ m r. b.moves m r ∙ a.moves m r;
-  first = b.first ∙ a.first;
-  as_many = b.as_many ∙ a.as_many;
-} where
-  two_times : (k b x y : ℕ) → k + b * x + b * y ≡ k + b * (x + y)
-  two_times k b x y = omega arith
-
 all_before : (m month w : ℕ) → (month ≤ m → w ≡ 0) → (if nat_lt m month then w else 0) ≡ w
 all_before m month w none =
     by_less m month
@@ -81,30 +52,13 @@ settle_done old new lines from at month last a is after = record {
   ended = λ m class.
       let x = a.ended m class in
       let o = all_before m month (ms_within (month_start m) (month_end m) from at) (λ more. within_after m last from at is (omega (arith, more, after))) in
-      x ∙ ap (λ n. (kept_in old m (rank_of class)).ended + bytes_in class (lines_of lines) * n) o;
+      x ∙ ap (λ n. (kept_in old m (rank_of class)).ended + bytes_in_class class (lines_of lines) * n) o;
   running = a.running;
   since = a.since;
   early = a.early;
   moves = a.moves;
   first = a.first;
   as_many = a.as_many;
-}
-
--- the month that comes next has what it had
-none_at : (month w : ℕ) → (if nat_lt month month then w else 0) ≡ 0
-none_at month w = grind (arith, nat_tests)
-
-pub settle_modest : (old now : Rows) (lines : Lines) (from at month : ℕ) (class : Class) → IsModest (kept_in old month (rank_of class)) → IsEndedUpTo old now lines from at month
-    → IsModest (kept_in now month (rank_of class))
-settle_modest old now lines from at month class modest a = record {
-  ended =
-      let z = none_at month (ms_within (month_start month) (month_end month) from at) in
-      let e : (kept_in now month (rank_of class)).ended ≡ (kept_in old month (rank_of class)).ended + bytes_in class (lines_of lines) * 0 = a.ended month class ∙ ap (λ n. (kept_in old month (rank_of class)).ended + bytes_in class (lines_of lines) * n) z in
-      omega (arith, e, modest.ended);
-  running = let e = a.running month (rank_of class) in omega (arith, e, modest.running);
-  since = let e = a.since month (rank_of class) in omega (arith, e, modest.since);
-  early = let e = a.early month (rank_of class) in omega (arith, e, modest.early);
-  moves = let e = a.moves month (rank_of class) in omega (arith, e, modest.moves);
 }
 
 -- ---- the bytes that began before a month
@@ -146,4 +100,7 @@ running_whole rows rank month earlier from until =
     (λ less. running_none rows rank earlier (omega (arith, until, less)) ∙ sym (running_none rows rank month (omega (arith, less))))
     (λ more. by_less month (rows.first + length rows.rows.items)
     (λ inside. let e : earlier ≡ month = omega (arith, from, until, more, inside) in ap (λ n. running_to rows rank n) e)
-    (λ behind. let e : earlier ≡ rows.first + length rows.rows.items = omega (arith, from, until, more, behind) in ap (λ n. running_to rows rank n) e ∙ sym (running_all rows rank (rows.first + length rows.rows.items) month (omega arith) behind)))
+    (λ behind.
+    let e : earlier ≡ rows.first + length rows.rows.items = omega (arith, from, until, more, behind) in
+    ap (λ n. running_to rows rank n) e
+    ∙ sym (running_all rows rank (rows.first + length rows.rows.items) month (omega arith) behind)))

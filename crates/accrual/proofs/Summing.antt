@@ -1,5 +1,5 @@
 -- The sums of the months, listed month by month and taken up entry by entry.
-use Rattle.std.proofs.Common.{◌≡◌, ◌≢◌, ◌≤◌, ◌<◌, ◌+◌, ◌*◌, ◌-◌, ◌==◌, ℕ, suc, zero, List, [], ◌∷◌, ◌++◌, length, get_or, take, Bool, true, false, refl, ap, sym, ◌∙◌, arith, subst, IsFalse}
+use Rattle.std.proofs.Common.{◌≡◌, ◌≢◌, ◌≤◌, ◌<◌, ◌+◌, ◌*◌, ◌-◌, ◌==◌, ℕ, suc, zero, List, [], ◌∷◌, ◌++◌, length, get_or, take, true, refl, ap, sym, ◌∙◌, arith, subst, IsFalse}
 use Rattle.std.specs.Prelude.{◌^◌, nat_lt, ◌&&◌, sum_by, if◌then◌else◌, All}
 use Rattle.std.specs.List.{list_all}
 use Rattle.std.proofs.lemmas.Bool.Decides.{nat_tests}
@@ -7,13 +7,14 @@ use Rattle.std.proofs.lemmas.List.{get_or_default}
 use Rattle.std.proofs.lemmas.List.Elements.{All-head, All-tail, All-push, All-weaker, All-get_or, All-nil}
 use Rattle.std.proofs.lemmas.List.Quantifiers.{all_pairs_push}
 use Rattle.std.proofs.lemmas.List.Sums.{sum_by-cons, sum_by_push, sum_by_more}
+use Rattle.std.proofs.lemmas.Bool.{and_parts}
 use Rattle.moments.specs.Months.{month_start}
 use Rattle.class_rules.specs.Classes.{rank_of}
 use Rattle.class_rules.specs.declared.class.Class.{Class}
 use Rattle.accrual.specs.Books.{Stay, Book}
-use Rattle.accrual.specs.Meters.{is_in_month, bytes_in}
-use Rattle.accrual.specs.Totals.{Totals, StandsFor, has_no_end, running_bytes, running_sum, since_sum}
-use Rattle.accrual.specs.Kept.{kept_in, nothing, HasRowIn, IsRowPut}
+use Rattle.accrual.specs.Meters.{is_in_month, bytes_in_class}
+use Rattle.accrual.specs.Totals.{Totals, AreTotalsOf, has_no_end, running_bytes, running_sum, since_sum}
+use Rattle.accrual.specs.Rows.{kept_in, nothing, HasRowIn, IsRowPut}
 use Rattle.accrual.specs.Sums.{listed, AreSumsOf, HasAllEnded, HaveRisingMonths, is_zero, is_nothing, IsSmallMonth, AreSumsIn, IsMonthOf, HasNoSum, IsSmall, summed_numbers}
 use Rattle.accrual.specs.declared.rows.Kept.{Kept}
 use Rattle.accrual.specs.declared.rows.Rows.{Rows}
@@ -57,13 +58,24 @@ next_month m number month a w v is e same =
     (λ more. grind (arith, nat_tests))
     (λ until. let q : number ≡ m = omega (arith, from, until) in let s = same q in grind (arith, nat_tests))))
 
-pub listed_more : (rows : Rows) (number : ℕ) (sums : List MonthSums) (s : MonthSums) → AreSumsTo rows number sums → IsMonthOf rows number s → IsFalse (is_nothing s) → AreSumsTo rows (number + 1) (sums ++ s ∷ [])
+pub listed_more : (rows : Rows) (number : ℕ) (sums : List MonthSums) (s : MonthSums) → AreSumsTo rows number sums
+    → IsMonthOf rows number s → IsFalse (is_nothing s) → AreSumsTo rows (number + 1) (sums ++ s ∷ [])
 listed_more rows number sums s so is some = record {
-  ended = λ m class. sum_by_push _ sums s ∙ next_month m number s.month _ _ _ is.month (so.ended m class) (λ e. subst (λ k. get_or s.ended (rank_of class) 0 ≡ (kept_in rows k (rank_of class)).ended) e (is.ended class));
-  early = λ m class. sum_by_push _ sums s ∙ next_month m number s.month _ _ _ is.month (so.early m class) (λ e. subst (λ k. get_or s.early (rank_of class) 0 ≡ (kept_in rows k (rank_of class)).early) e (is.early class));
-  moves = λ m class. sum_by_push _ sums s ∙ next_month m number s.month _ _ _ is.month (so.moves m class) (λ e. subst (λ k. get_or s.moves (rank_of class) 0 ≡ (kept_in rows k (rank_of class)).moves) e (is.moves class));
-  rising = all_pairs_push (λ (a b : MonthSums). a.month < b.month) sums s so.rising (λ k d less. let l = All-get_or (λ (s : MonthSums). s.month < number) sums k d less so.earlier in omega (arith, l, is.month));
-  earlier = All-push (λ (s : MonthSums). s.month < number + 1) sums s (All-weaker (λ (s : MonthSums). s.month < number) (λ (s : MonthSums). s.month < number + 1) (λ x less. omega (arith, less)) sums so.earlier) (omega (arith, is.month));
+  ended = λ m class. sum_by_push _ sums s
+      ∙ next_month m number s.month _ _ _ is.month (so.ended m class) (λ e.
+      subst (λ k. get_or s.ended (rank_of class) 0 ≡ (kept_in rows k (rank_of class)).ended) e (is.ended class));
+  early = λ m class. sum_by_push _ sums s
+      ∙ next_month m number s.month _ _ _ is.month (so.early m class) (λ e.
+      subst (λ k. get_or s.early (rank_of class) 0 ≡ (kept_in rows k (rank_of class)).early) e (is.early class));
+  moves = λ m class. sum_by_push _ sums s
+      ∙ next_month m number s.month _ _ _ is.month (so.moves m class) (λ e.
+      subst (λ k. get_or s.moves (rank_of class) 0 ≡ (kept_in rows k (rank_of class)).moves) e (is.moves class));
+  rising = all_pairs_push (λ (a b : MonthSums). a.month < b.month) sums s so.rising (λ k d less.
+      let l = All-get_or (λ (s : MonthSums). s.month < number) sums k d less so.earlier in
+      omega (arith, l, is.month));
+  earlier = All-push (λ (s : MonthSums). s.month < number + 1) sums s (All-weaker (λ (s : MonthSums). s.month < number)
+      (λ (s : MonthSums). s.month < number + 1) (λ x less. omega (arith, less)) sums so.earlier)
+      (omega (arith, is.month));
   some = All-push (λ (s : MonthSums). IsFalse (is_nothing s)) sums s so.some some;
 }
 
@@ -75,7 +87,8 @@ same_up_to m number a w e none =
     (λ more. grind (arith, nat_tests))
     (λ until. let q : number ≡ m = omega (arith, from, until) in let z = none q in grind (arith, nat_tests)))
 
-pub listed_same : (rows : Rows) (number : ℕ) (sums : List MonthSums) → AreSumsTo rows number sums → ((class : Class) → HasNoSum (kept_in rows number (rank_of class))) → AreSumsTo rows (number + 1) sums
+pub listed_same : (rows : Rows) (number : ℕ) (sums : List MonthSums) → AreSumsTo rows number sums
+    → ((class : Class) → HasNoSum (kept_in rows number (rank_of class))) → AreSumsTo rows (number + 1) sums
 listed_same rows number sums so none = record {
   ended = λ m class. same_up_to m number _ _ (so.ended m class) (λ e. subst (λ k. (kept_in rows k (rank_of class)).ended ≡ 0) e (none class).ended);
   early = λ m class. same_up_to m number _ _ (so.early m class) (λ e. subst (λ k. (kept_in rows k (rank_of class)).early ≡ 0) e (none class).early);
@@ -98,20 +111,16 @@ listed_all rows number sums none so = record {
   moves = λ m class. all_up_to m number _ _ (so.moves m class) (λ from. ap (λ (k : Kept). k.moves) (none m (rank_of class) from));
 }
 
--- a month whose numbers are all 0
-both_true : (a b : Bool) → (a && b) ≡ true → (a ≡ true) × (b ≡ true)
-both_true true b e = (refl, e)
-both_true false b e = grind (arith, e)
-
+-- a number of a month whose numbers are all 0
 zero_at : (xs : List ℕ) (i : ℕ) → list_all is_zero xs ≡ true → get_or xs i 0 ≡ 0
 zero_at [] i e = refl
-zero_at (x ∷ xs) zero e = let b = both_true (is_zero x) (list_all is_zero xs) e in let z = b.0 in grind (arith, nat_tests)
-zero_at (x ∷ xs) (suc i) e = zero_at xs i (both_true (is_zero x) (list_all is_zero xs) e).1
+zero_at (x ∷ xs) zero e = let b = and_parts (is_zero x) (list_all is_zero xs) e in let z = b.0 in grind (arith, nat_tests)
+zero_at (x ∷ xs) (suc i) e = zero_at xs i (and_parts (is_zero x) (list_all is_zero xs) e).1
 
 pub nothing_there : (rows : Rows) (month : ℕ) (s : MonthSums) → IsMonthOf rows month s → is_nothing s ≡ true → (class : Class) → HasNoSum (kept_in rows month (rank_of class))
 nothing_there rows month s is e class =
-    let a = both_true (list_all is_zero s.ended && list_all is_zero s.early) (list_all is_zero s.moves) e in
-    let b = both_true (list_all is_zero s.ended) (list_all is_zero s.early) a.0 in
+    let a = and_parts (list_all is_zero s.ended && list_all is_zero s.early) (list_all is_zero s.moves) e in
+    let b = and_parts (list_all is_zero s.ended) (list_all is_zero s.early) a.0 in
     record {
       ended = sym (is.ended class) ∙ zero_at s.ended (rank_of class) b.0;
       early = sym (is.early class) ∙ zero_at s.early (rank_of class) b.1;
@@ -149,12 +158,15 @@ fresh f sums (suc i) d few none =
 other_month : (a b v : ℕ) → a < b → (if a == b then v else 0) ≡ 0
 other_month a b v less = grind (arith, nat_tests)
 
-listed_before : (numbers : MonthSums → List ℕ) (sums : List MonthSums) (i : ℕ) (d : MonthSums) (class : Class) → i < length sums → HaveRisingMonths sums → listed numbers (take i sums) (get_or sums i d).month class ≡ 0
+listed_before : (numbers : MonthSums → List ℕ) (sums : List MonthSums) (i : ℕ) (d : MonthSums) (class : Class)
+    → i < length sums → HaveRisingMonths sums → listed numbers (take i sums) (get_or sums i d).month class ≡ 0
 listed_before numbers sums i d class few rising =
     fresh (λ (s : MonthSums). if s.month == (get_or sums i d).month then get_or (numbers s) (rank_of class) 0 else 0) sums i d (omega (arith, few))
     (λ k less. other_month (get_or sums k d).month (get_or sums i d).month _ (rising k i d less few))
 
-one_entry : (numbers : MonthSums → List ℕ) (number : Kept → ℕ) (sums : List MonthSums) (i : ℕ) (s : MonthSums) (old new : Kept) (m : ℕ) (class : Class) → i < length sums → s ≡ get_or sums i s → HaveRisingMonths sums
+one_entry : (numbers : MonthSums → List ℕ) (number : Kept → ℕ) (sums : List MonthSums) (i : ℕ) (s : MonthSums)
+    (old new : Kept) (m : ℕ) (class : Class)
+    → i < length sums → s ≡ get_or sums i s → HaveRisingMonths sums
     → listed numbers (take i sums) m class ≡ number old → (m ≡ s.month → number new ≡ get_or (numbers s) (rank_of class) 0) → (m ≢ s.month → number new ≡ number old)
     → listed numbers (take (i + 1) sums) m class ≡ number new
 one_entry numbers number sums i s old new m class few is rising so here there =
@@ -228,13 +240,6 @@ sums_none rows none = record {
 
 -- ---- the sums of a book
 
-pub book_sums : (totals : Totals) (book : Book) (sums : List MonthSums) → AreSumsIn totals.rows sums → StandsFor totals book → AreSumsOf book sums
-book_sums totals book sums so stands = record {
-  ended = λ m class. so.ended m class ∙ stands.ended m class;
-  early = λ m class. so.early m class ∙ stands.early m class;
-  moves = λ m class. so.moves m class ∙ stands.moves m class;
-}
-
 all_none : {X : Type 0} (P : X → Type 0) (f : X → ℕ) → ((x : X) → P x → f x ≡ 0) → (xs : List X) → All P xs → sum_by f xs ≡ 0
 all_none P f each [] all = refl
 all_none P f each (x ∷ xs) all =
@@ -244,11 +249,13 @@ all_none P f each (x ∷ xs) all =
     omega (arith, a, e, r)
 
 ended_bytes : (month : ℕ) (class : Class) (stay : Stay) → IsFalse (has_no_end stay.to) → running_bytes month class stay ≡ 0
-ended_bytes month class stay ended = ap (λ t. if t && is_in_month month stay.from then bytes_in class stay.lines else 0) ended
+ended_bytes month class stay ended = ap (λ t. if t && is_in_month month stay.from then bytes_in_class class stay.lines else 0) ended
 
 none_running : (month : ℕ) (class : Class) (book : Book) → HasAllEnded book → running_sum month class book ≡ 0
 unfolding running_sum
-none_running month class book ended = all_none (λ (stay : Stay). IsFalse (has_no_end stay.to)) (λ (stay : Stay). running_bytes month class stay) (λ stay e. ended_bytes month class stay e) book.stays ended
+none_running month class book ended =
+    all_none (λ (stay : Stay). IsFalse (has_no_end stay.to)) (λ (stay : Stay). running_bytes month class stay)
+    (λ stay e. ended_bytes month class stay e) book.stays ended
 
 none_since : (month : ℕ) (class : Class) (book : Book) → HasAllEnded book → since_sum month class book ≡ 0
 unfolding since_sum
@@ -257,7 +264,7 @@ none_since month class book ended =
     (λ stay e. ap (λ n. n * (stay.from - month_start month)) (ended_bytes month class stay e) ∙ omega arith) book.stays ended
 
 pub stands_summed : (totals : Totals) (book : Book) (sums : List MonthSums) → AreSumsIn totals.rows sums → ((month : ℕ) (class : Class) → IsSmall (kept_in totals.rows month (rank_of class)))
-    → HasAllEnded book → AreSumsOf book sums → StandsFor totals book
+    → HasAllEnded book → AreSumsOf book sums → AreTotalsOf totals book
 stands_summed totals book sums so small ended of = record {
   ended = λ m class. sym (so.ended m class) ∙ of.ended m class;
   running = λ m class. (small m class).running ∙ sym (none_running m class book ended);

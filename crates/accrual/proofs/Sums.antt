@@ -9,9 +9,9 @@ use Rattle.moments.proofs.Calendar.{first_day_order, first_day_begin}
 use Rattle.class_rules.specs.Classes.{rank_of}
 use Rattle.class_rules.specs.declared.class.Class.{Class}
 use Rattle.accrual.specs.Books.{Stay, Book, HasEndedBy, IsStayBy, IsBookedBy}
-use Rattle.accrual.specs.Meters.{bytes_in, overlap, meter}
-use Rattle.accrual.specs.Totals.{Totals, StandsFor, kept, has_no_end, ended_ms, running_bytes, ended_sum, running_sum, since_sum}
-use Rattle.accrual.specs.Kept.{running_to}
+use Rattle.accrual.specs.Meters.{bytes_in_class, overlap, meter}
+use Rattle.accrual.specs.Totals.{Totals, AreTotalsOf, kept, has_no_end, ended_ms, running_bytes, ended_sum, running_sum, since_sum}
+use Rattle.accrual.specs.Rows.{running_to}
 use Rattle.accrual.proofs.Cases.{by_less}
 use Rattle.accrual.proofs.Settling.{running_more}
 
@@ -47,15 +47,6 @@ sum_times f k (x ∷ xs) =
   where
     over : (m n k : ℕ) → m * k + n * k ≡ (m + n) * k
     over m n k = omega arith
-
-sum_same : {X : Type 0} (f g : X → ℕ) → ((x : X) → f x ≡ g x) → (xs : List X) → sum_by f xs ≡ sum_by g xs
-sum_same f g each [] = refl
-sum_same f g each (x ∷ xs) =
-    let a = sum_by-cons f x xs in
-    let b = sum_by-cons g x xs in
-    let e = each x in
-    let r = sum_same f g each xs in
-    omega (arith, a, b, e, r)
 
 -- ---- a stay without an end, which began before the window, in it or after it
 
@@ -109,7 +100,7 @@ next_case bytes start end from true order = by_less from start (λ less. grind (
 
 -- the bytes of a stay without an end that began before the month
 abbrev pub before_bytes : ℕ → Class → Stay → ℕ
-before_bytes month class stay = if has_no_end stay.to && nat_lt stay.from (month_start month) then bytes_in class stay.lines else 0
+before_bytes month class stay = if has_no_end stay.to && nat_lt stay.from (month_start month) then bytes_in_class class stay.lines else 0
 
 abbrev pub before_sum : ℕ → Class → Book → ℕ
 before_sum month class book = sum_by (λ (stay : Stay). before_bytes month class stay) book.stays
@@ -125,7 +116,7 @@ before_first : (class : Class) (stay : Stay) → before_bytes 0 class stay ≡ 0
 before_first class stay =
     let z = first_day_begin in
     let n : nat_lt stay.from (month_start 0) ≡ false = grind (arith, nat_tests, z) in
-    rw n (neither (has_no_end stay.to) (bytes_in class stay.lines))
+    rw n (neither (has_no_end stay.to) (bytes_in_class class stay.lines))
   where
     neither : (t : Bool) (n : ℕ) → ◌≡◌ {A = ℕ} (if t && false then n else 0) 0
     neither true n = refl
@@ -134,10 +125,10 @@ before_first class stay =
 before_next : (month : ℕ) (class : Class) (book : Book) → before_sum month class book + running_sum month class book ≡ before_sum (month + 1) class book
 unfolding running_sum
 before_next month class book = sum_of_two_any (λ (stay : Stay). before_bytes month class stay) (λ (stay : Stay). running_bytes month class stay) (λ (stay : Stay). before_bytes (month + 1) class stay)
-    (λ stay. next_case (bytes_in class stay.lines) (month_start month) (month_end month) stay.from (has_no_end stay.to) (starts_in_order month)) book.stays
+    (λ stay. next_case (bytes_in_class class stay.lines) (month_start month) (month_end month) stay.from (has_no_end stay.to) (starts_in_order month)) book.stays
 
 -- the bytes that began before a month, by the rows and by the book
-pub running_is : (totals : Totals) (book : Book) (class : Class) (month : ℕ) → StandsFor totals book → running_to totals.rows (rank_of class) month ≡ before_sum month class book
+pub running_is : (totals : Totals) (book : Book) (class : Class) (month : ℕ) → AreTotalsOf totals book → running_to totals.rows (rank_of class) month ≡ before_sum month class book
 unfolding running_to
 running_is totals book class zero stands = sym (sum_none (λ (stay : Stay). before_bytes 0 class stay) (λ stay. before_first class stay) book.stays)
 running_is totals book class (suc month) stands =
@@ -149,15 +140,16 @@ running_is totals book class (suc month) stands =
 
 -- the byte-milliseconds of the stays without an end
 running_ms : ℕ → Class → ℕ → Stay → ℕ
-running_ms month class t stay = if has_no_end stay.to then bytes_in class stay.lines * overlap t (month_start month) (month_end month) stay else 0
+running_ms month class t stay = if has_no_end stay.to then bytes_in_class class stay.lines * overlap t (month_start month) (month_end month) stay else 0
 
 open_stays : (month : ℕ) (class : Class) (t : ℕ) (book : Book) → IsBookedBy t book
-    → sum_by (λ (stay : Stay). running_ms month class t stay) book.stays + since_sum month class book ≡ (before_sum month class book + running_sum month class book) * (min t (month_end month) - month_start month)
+    → sum_by (λ (stay : Stay). running_ms month class t stay) book.stays + since_sum month class book
+    ≡ (before_sum month class book + running_sum month class book) * (min t (month_end month) - month_start month)
 unfolding since_sum running_sum running_ms
 open_stays month class t book by =
     sum_of_two (IsStayBy t) (λ (stay : Stay). running_ms month class t stay) (λ (stay : Stay). running_bytes month class stay * (stay.from - month_start month))
     (λ (stay : Stay). (before_bytes month class stay + running_bytes month class stay) * (min t (month_end month) - month_start month))
-    (λ stay past. open_case (bytes_in class stay.lines) (month_start month) (month_end month) stay.from t stay.to (starts_in_order month) past.0) book.stays by.stays
+    (λ stay past. open_case (bytes_in_class class stay.lines) (month_start month) (month_end month) stay.from t stay.to (starts_in_order month) past.0) book.stays by.stays
     ∙ (sum_times (λ (stay : Stay). before_bytes month class stay + running_bytes month class stay) (min t (month_end month) - month_start month) book.stays
     ∙ ap (λ n. n * (min t (month_end month) - month_start month)) (sym (sum_of_two_any (λ (stay : Stay). before_bytes month class stay) (λ (stay : Stay). running_bytes month class stay)
     (λ (stay : Stay). before_bytes month class stay + running_bytes month class stay) (λ stay. refl) book.stays)))
@@ -166,17 +158,20 @@ all_stays : (month : ℕ) (class : Class) (t : ℕ) (book : Book) → IsBookedBy
     → ended_sum month class book + sum_by (λ (stay : Stay). running_ms month class t stay) book.stays ≡ meter month class t book
 unfolding meter ended_sum running_ms
 all_stays month class t book by =
-    sum_of_two (IsStayBy t) (λ (stay : Stay). bytes_in class stay.lines * ended_ms (month_start month) (month_end month) stay.from stay.to) (λ (stay : Stay). running_ms month class t stay)
-    (λ (stay : Stay). bytes_in class stay.lines * overlap t (month_start month) (month_end month) stay)
-    (λ stay past. ended_case (bytes_in class stay.lines) (month_start month) (month_end month) stay.from t stay.to past.1) book.stays by.stays
+    sum_of_two (IsStayBy t) (λ (stay : Stay). bytes_in_class class stay.lines * ended_ms (month_start month) (month_end month) stay.from stay.to) (λ (stay : Stay). running_ms month class t stay)
+    (λ (stay : Stay). bytes_in_class class stay.lines * overlap t (month_start month) (month_end month) stay)
+    (λ stay past. ended_case (bytes_in_class class stay.lines) (month_start month) (month_end month) stay.from t stay.to past.1) book.stays by.stays
 
 less_since : (ms since all : ℕ) → ms + since ≡ all → ms ≡ all - since
 less_since ms since all e = omega (arith, e)
 
 -- the meter by the kept numbers
-pub meter_is : (totals : Totals) (book : Book) (month : ℕ) (class : Class) (t : ℕ) → StandsFor totals book → IsBookedBy t book
+pub meter_is : (totals : Totals) (book : Book) (month : ℕ) (class : Class) (t : ℕ) → AreTotalsOf totals book → IsBookedBy t book
     → meter month class t book
-    ≡ (kept totals month class).ended + ((running_to totals.rows (rank_of class) month + (kept totals month class).running) * (min t (month_end month) - month_start month) - (kept totals month class).since)
+    ≡ (kept totals month class).ended
+    + ((running_to totals.rows (rank_of class) month + (kept totals month class).running)
+    * (min t (month_end month) - month_start month)
+    - (kept totals month class).since)
 meter_is totals book month class t stands by =
     let a = all_stays month class t book by in
     let o = less_since _ _ _ (open_stays month class t book by) in

@@ -1,11 +1,10 @@
 -- What lies in the window of a month.
-use Rattle.std.proofs.Common.{◌≡◌, ◌≢◌, ◌≤◌, ◌<◌, ◌+◌, ◌-◌, ◌==◌, ℕ, zero, suc, pos, Bool, true, false, refl, arith}
+use Rattle.std.proofs.Common.{◌≡◌, ◌≢◌, ◌≤◌, ◌<◌, ◌+◌, ◌-◌, ◌==◌, ℕ, zero, suc, Bool, true, false, refl, arith}
 use Rattle.std.specs.Prelude.{◌^◌, nat_le, if◌then◌else◌}
 use Rattle.std.proofs.lemmas.Bool.Decides.{nat_tests}
-use Rattle.jiff_core.proofs.CalendarLemmas.{days_in_month_bounds}
 use Rattle.moments.specs.Time.{end_of_time}
-use Rattle.moments.specs.Months.{months, month_start, month_end, year_of, month_of_year, months_over, month_at, IsInMonth}
-use Rattle.moments.proofs.Calendar.{first_day_next, first_day_order, month_small}
+use Rattle.moments.specs.Months.{months, month_start, month_end, months_over, month_at, IsInMonth}
+use Rattle.moments.proofs.Calendar.{month_has_days, first_day_order, month_small}
 use Rattle.accrual.specs.Meters.{is_in_month}
 use Rattle.accrual.specs.Totals.{ms_within}
 use Rattle.accrual.proofs.Cases.{by_less}
@@ -13,9 +12,8 @@ use Rattle.accrual.proofs.Cases.{by_less}
 -- a month is no longer than 31 days
 pub month_short : (m : ℕ) → month_end m ≤ month_start m + 2_678_400_000
 month_short m =
-    let n = first_day_next m in
-    let b = days_in_month_bounds (pos (year_of m)) (month_of_year m) in
-    omega (arith, n, b)
+    let b = month_has_days m in
+    omega (arith, b)
 
 within_window : (start end from to : ℕ) → ms_within start end from to ≤ end - start
 within_window start end from to = omega arith
@@ -58,9 +56,6 @@ in_month_case m k x false e is = in_no_other m k x is (grind (arith, nat_tests))
 
 pub in_month_is : (m k x : ℕ) → IsInMonth k x → is_in_month m x ≡ (m == k)
 in_month_is m k x is = in_month_case m k x _ refl is
-
-pub month_among : (k m : ℕ) → IsInMonth k m → m < end_of_time → k < months
-month_among k m is small = month_small k m is.begun small
 
 -- the months are in the order of the moments
 over_order : (a b n : ℕ) → a ≤ b → months_over a n ≤ months_over b n

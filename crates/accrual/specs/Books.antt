@@ -9,8 +9,8 @@ pub record Stay : Type 0 where
   pub from : ℕ
   pub to : Option ℕ
 
--- what an object owes that left its class before the least duration, in byte-milliseconds, and when it left (S3 User Guide,
--- "Understanding and managing Amazon S3 storage classes": minimum storage durations)
+-- what an object owes that left its class before the least duration, in byte-milliseconds, and when it left (S3 User
+-- Guide, "Understanding and managing Amazon S3 storage classes": minimum storage durations)
 pub record Early : Type 0 where
   pub class : Class
   pub amount : ℕ
@@ -37,11 +37,11 @@ open_stay lines from = record { lines = lines; from = from; to = None }
 abbrev pub ended_stay : List (Class × ℕ) → ℕ → ℕ → Stay
 ended_stay lines from at = record { lines = lines; from = from; to = Some at }
 
-abbrev pub with_stay : Stay → Book → Book
-with_stay stay book = record book { stays = book.stays ++ stay ∷ [] }
+abbrev pub book_with_stay : Stay → Book → Book
+book_with_stay stay book = record book { stays = book.stays ++ stay ∷ [] }
 
-abbrev pub with_early : Early → Book → Book
-with_early early book = record book { early = book.early ++ early ∷ [] }
+abbrev pub book_with_early : Early → Book → Book
+book_with_early early book = record book { early = book.early ++ early ∷ [] }
 
 abbrev pub with_move : Move → Book → Book
 with_move move book = record book { moves = book.moves ++ move ∷ [] }

@@ -4,11 +4,12 @@ use Rattle.moments.specs.Months.{months}
 use Rattle.class_rules.specs.Classes.{rank_of}
 use Rattle.class_rules.specs.declared.class.Class.{Class}
 use Rattle.accrual.specs.declared.rows.Rows.{Rows}
-use Rattle.accrual.specs.Kept.{kept_in, running_to}
+use Rattle.accrual.specs.Rows.{kept_in, running_to}
 use Rattle.accrual.specs.Totals.{most_bookings}
 
--- a booking adds less than 2 ^ 44 bytes, a month has less than 2 ^ 32 milliseconds, and nothing owes more than 5 * 2 ^ 74
--- byte-milliseconds; a stay without an end counts for 2 ^ 32 milliseconds of every month, so that its end adds nothing
+-- a booking adds less than 2 ^ 44 bytes, a month has less than 2 ^ 32 milliseconds, and nothing owes more than 5 * 2 ^
+-- 74 byte-milliseconds; a stay without an end counts for 2 ^ 32 milliseconds of every month, so that its end adds
+-- nothing
 pub record IsBounded (rows : Rows) (booked : ℕ) : Type 0 where
   pub run : rows.first + length rows.rows.items ≤ months
   pub few : booked ≤ most_bookings

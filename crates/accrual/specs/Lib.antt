@@ -1,6 +1,6 @@
 pub mod Books
 pub mod Bounds
-pub mod Kept
 pub mod Meters
+pub mod Rows
 pub mod Sums
 pub mod Totals

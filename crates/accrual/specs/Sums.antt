@@ -6,7 +6,7 @@ use Rattle.class_rules.specs.declared.class.Class.{Class}
 use Rattle.accrual.specs.Books.{Stay, Book}
 use Rattle.accrual.specs.Meters.{early_quantity, move_count}
 use Rattle.accrual.specs.Totals.{has_no_end, ended_sum}
-use Rattle.accrual.specs.Kept.{kept_in}
+use Rattle.accrual.specs.Rows.{kept_in}
 use Rattle.accrual.specs.declared.rows.Kept.{Kept}
 use Rattle.accrual.specs.declared.rows.Rows.{Rows}
 use Rattle.accrual.specs.declared.monthly.MonthSums.{MonthSums}

@@ -7,9 +7,9 @@ use Rattle.class_rules.specs.declared.class.Class.{Class}
 use Rattle.class_rules.specs.declared.billing.Lines.{Lines}
 use Rattle.accrual.specs.declared.rows.Kept.{Kept}
 use Rattle.accrual.specs.declared.rows.Rows.{Rows}
-use Rattle.accrual.specs.Books.{Stay, Book, open_stay, with_early}
-use Rattle.accrual.specs.Meters.{bytes_in, is_in_month, early_quantity, move_count}
-use Rattle.accrual.specs.Kept.{kept_in, HasRowIn}
+use Rattle.accrual.specs.Books.{Stay, Book, open_stay, book_with_early}
+use Rattle.accrual.specs.Meters.{bytes_in_class, is_in_month, early_quantity, move_count}
+use Rattle.accrual.specs.Rows.{kept_in, HasRowIn}
 
 -- what the meters are to their callers: rows by month, and the number of calls of open, early and moved
 pub record Totals : Type 0 where
@@ -23,8 +23,8 @@ kept totals month class = kept_in totals.rows month (rank_of class)
 abbrev pub HasRow : Totals → ℕ → Type 0
 HasRow totals month = HasRowIn totals.rows month
 
--- the most calls of open, early and moved; an end is paid for by its opening (own: no sum then leaves its range, and three
--- such calls in each of 2 ^ 42 commands are within it, with 2 ^ 20 before them)
+-- the most calls of open, early and moved; an end is paid for by its opening (own: no sum then leaves its range, and
+-- three such calls in each of 2 ^ 42 commands are within it, with 2 ^ 20 before them)
 abbrev pub most_bookings : ℕ
 most_bookings = 3 * 2 ^ 42 + 2 ^ 20
 
@@ -45,14 +45,16 @@ ended_ms start end from (Some to) = ms_within start end from to
 
 -- the bytes of a stay without an end that began in the month
 abbrev pub running_bytes : ℕ → Class → Stay → ℕ
-running_bytes month class stay = if has_no_end stay.to && is_in_month month stay.from then bytes_in class stay.lines else 0
+running_bytes month class stay =
+    if has_no_end stay.to && is_in_month month stay.from then bytes_in_class class stay.lines else 0
 
 -- ---- what is kept of all stays, by month and class
 
 -- the byte-milliseconds inside the month of the stays that have ended
 unfoldable pub ended_sum : ℕ → Class → Book → ℕ
 ended_sum month class book =
-    sum_by (λ (stay : Stay). bytes_in class stay.lines * ended_ms (month_start month) (month_end month) stay.from stay.to) book.stays
+    sum_by (λ (stay : Stay). bytes_in_class class stay.lines
+    * ended_ms (month_start month) (month_end month) stay.from stay.to) book.stays
 
 -- the bytes of the stays without an end that began in the month
 unfoldable pub running_sum : ℕ → Class → Book → ℕ
@@ -60,10 +62,12 @@ running_sum month class book = sum_by (λ (stay : Stay). running_bytes month cla
 
 -- their byte-milliseconds from the month's start to their beginnings
 unfoldable pub since_sum : ℕ → Class → Book → ℕ
-since_sum month class book = sum_by (λ (stay : Stay). running_bytes month class stay * (stay.from - month_start month)) book.stays
+since_sum month class book =
+    sum_by (λ (stay : Stay). running_bytes month class stay * (stay.from - month_start month)) book.stays
 
--- the totals are those of the book: each kept number equals its sum over the book, and is nothing in a month that is not kept
-pub record StandsFor (totals : Totals) (book : Book) : Type 0 where
+-- the totals are those of the book: each kept number equals its sum over the book, and is nothing in a month that is
+-- not kept
+pub record AreTotalsOf (totals : Totals) (book : Book) : Type 0 where
   pub ended : (month : ℕ) (class : Class) → (kept totals month class).ended ≡ ended_sum month class book
   pub running : (month : ℕ) (class : Class) → (kept totals month class).running ≡ running_sum month class book
   pub since : (month : ℕ) (class : Class) → (kept totals month class).since ≡ since_sum month class book
@@ -80,10 +84,11 @@ HasOpenStay lines from book = (before after : List Stay) × (book.stays ≡ befo
 abbrev pub IsBilled : Lines → Type 0
 IsBilled lines = (lines.bytes ≤ largest_size + 32_768) × (lines.standard ≤ largest_size + 32_768)
 
--- what an object owes that has this many bytes on its own line and leaves before the least duration is over (S3 User Guide,
--- "Understanding and managing Amazon S3 storage classes": minimum storage durations)
+-- what an object owes that has this many bytes on its own line and leaves before the least duration is over (S3 User
+-- Guide, "Understanding and managing Amazon S3 storage classes": minimum storage durations)
 abbrev pub with_early_of : Class → ℕ → ℕ → ℕ → Book → Book
 with_early_of class bytes entered at book =
     if nat_lt at (entered + least_stay class)
-    then with_early (record { class = class; amount = bytes * (entered + least_stay class - at); moment = at }) book
+    then book_with_early
+    (record { class = class; amount = bytes * (entered + least_stay class - at); moment = at }) book
     else book

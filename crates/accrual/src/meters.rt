@@ -3,10 +3,11 @@ ghost use Rattle.std.specs.Prelude.{◌≡◌, ◌+◌, ◌^◌, ◌<◌, ◌≤
 ghost use Rattle.office_base.specs.Sizes.{largest_size};
 ghost use Rattle.moments.specs.Months.{month_at};
 ghost use Rattle.class_rules.specs.Lines.{lines_of};
-ghost use Rattle.accrual.specs.Books.{Stay, Book, empty_book, open_stay, ended_stay, with_stay, with_move, IsBookedBy};
+ghost use Rattle.accrual.specs.Books.{Stay, Book, empty_book, open_stay, ended_stay, book_with_stay, with_move};
+ghost use Rattle.accrual.specs.Books.{IsBookedBy};
 ghost use Rattle.accrual.specs.Meters.{meter, early_quantity, move_count};
 ghost use Rattle.accrual.specs.Sums.{AreSumsOf, HasAllEnded, HaveRisingMonths, IsSmallMonth, is_nothing};
-ghost use Rattle.accrual.specs.Totals.{HasRow, StandsFor, HasOpenStay, IsBilled, most_bookings, with_early_of};
+ghost use Rattle.accrual.specs.Totals.{HasRow, AreTotalsOf, HasOpenStay, IsBilled, most_bookings, with_early_of};
 
 use crate::calendar::number_of;
 use crate::monthly::MonthSums;
@@ -17,8 +18,8 @@ use office_base::NoMemory;
 use std::alloc::Global;
 use std::marker::Model;
 
-/// What a bucket used, by month and storage class: byte-milliseconds, early quantities and moves. It keeps running totals by
-/// month and no stays, so that its size goes by the months.
+/// What a bucket used, by month and storage class: byte-milliseconds, early quantities and moves. It keeps running
+/// totals by month and no stays, so that its size goes by the months.
 ///
 /// Rule: S3 User Guide, "Understanding your AWS billing and usage reports for Amazon S3": usage is bytes times time.
 #[derive(Drop)]
@@ -42,7 +43,7 @@ impl Model for Meters {
 impl Meters {
     /// Gives meters with nothing booked and no rows. Takes no memory.
     pub fn new(alloc: Global) -> Meters
-        ensures stands { StandsFor result empty_book }
+        ensures stands { AreTotalsOf result empty_book }
         ensures booked { result.booked ≡ 0 }
     {
         Meters {
@@ -58,8 +59,8 @@ impl Meters {
         self.booked
     }
 
-    /// Gives meters with these sums, in which no stay is without an end. The months strictly rise, the byte-milliseconds
-    /// are below 2^120 and the moves below 2^62.
+    /// Gives meters with these sums, in which no stay is without an end. The months strictly rise, the
+    /// byte-milliseconds are below 2^120 and the moves below 2^62.
     ///
     /// # Errors
     ///
@@ -68,7 +69,7 @@ impl Meters {
         requires rising { HaveRisingMonths sums.now }
         requires small { All IsSmallMonth sums.now }
         ensures stands { IfOk result (λ meters. (book : Book) → HasAllEnded book → AreSumsOf book sums.now
-            → StandsFor meters book) }
+            → AreTotalsOf meters book) }
         ensures booked { IfOk result (λ meters. meters.booked ≡ 0) }
     {
         match Rows::from_sums(alloc, sums) {
@@ -77,14 +78,14 @@ impl Meters {
         }
     }
 
-    /// Lists the sums of the months, in order, without the stays that have no end yet. A month in which all are 0 is left
-    /// out.
+    /// Lists the sums of the months, in order, without the stays that have no end yet. A month in which all are 0 is
+    /// left out.
     ///
     /// # Errors
     ///
     /// `NoMemory`: memory ran out.
     pub fn sums(&self) -> Result<Vec<MonthSums>, NoMemory>
-        ensures exact { IfOk result (λ sums. (book : Book) → StandsFor self.now book → AreSumsOf book sums.items) }
+        ensures exact { IfOk result (λ sums. (book : Book) → AreTotalsOf self.now book → AreSumsOf book sums.items) }
         ensures rising { IfOk result (λ sums. HaveRisingMonths sums.items) }
         ensures some { IfOk result (λ sums. All (λ month. IsFalse (is_nothing month)) sums.items) }
     {
@@ -103,7 +104,7 @@ impl Meters {
         requires { from ≤ to }
         ensures rows { OnOk result ((month : ℕ) → from ≤ month → month ≤ to → HasRow self.new month) }
         ensures kept { (month : ℕ) → HasRow self.old month → HasRow self.new month }
-        ensures stands { (book : Book) → StandsFor self.old book → StandsFor self.new book }
+        ensures stands { (book : Book) → AreTotalsOf self.old book → AreTotalsOf self.new book }
         ensures booked { self.new.booked ≡ self.old.booked }
     {
         match self.rows.reserve(number_of(from), number_of(to)) {
@@ -117,7 +118,8 @@ impl Meters {
         requires row { HasRow self.old (month_at from) }
         requires few { self.old.booked < most_bookings }
         requires billed { IsBilled lines.now }
-        ensures stands { (book : Book) → StandsFor self.old book → StandsFor self.new (with_stay (open_stay (lines_of lines.now) from) book) }
+        ensures stands { (book : Book) → AreTotalsOf self.old book
+            → AreTotalsOf self.new (book_with_stay (open_stay (lines_of lines.now) from) book) }
         ensures rows { (month : ℕ) → HasRow self.old month → HasRow self.new month }
         ensures booked { self.new.booked ≡ self.old.booked + 1 }
     {
@@ -132,9 +134,10 @@ impl Meters {
         requires later { from ≤ at }
         requires rows { (month : ℕ) → month_at from ≤ month → month ≤ month_at at → HasRow self.old month }
         requires billed { IsBilled lines.now }
-        requires opened { (book : Book) × StandsFor self.old book × HasOpenStay (lines_of lines.now) from book }
-        ensures stands { (book : Book) (before after : List Stay) → StandsFor self.old book → book.stays ≡ before ++ open_stay (lines_of lines.now) from ∷ after
-            → StandsFor self.new (record book { stays = before ++ ended_stay (lines_of lines.now) from at ∷ after }) }
+        requires opened { (book : Book) × AreTotalsOf self.old book × HasOpenStay (lines_of lines.now) from book }
+        ensures stands { (book : Book) (before after : List Stay) → AreTotalsOf self.old book
+            → book.stays ≡ before ++ open_stay (lines_of lines.now) from ∷ after
+            → AreTotalsOf self.new (record book { stays = before ++ ended_stay (lines_of lines.now) from at ∷ after }) }
         ensures rows { (month : ℕ) → HasRow self.old month → HasRow self.new month }
         ensures booked { self.new.booked ≡ self.old.booked }
     {
@@ -144,7 +147,8 @@ impl Meters {
         self.rows.settle(lines, from, at);
     }
 
-    /// Books what an object owes that entered this class at `entered`, has this many bytes on its own line, and leaves at `at`:
+    /// Books what an object owes that entered this class at `entered`, has this many bytes on its own line, and leaves
+    /// at `at`:
     /// the bytes times what is left of the least duration, in byte-milliseconds. Takes no memory.
     ///
     /// Rule: S3 User Guide, "Understanding and managing Amazon S3 storage classes": minimum storage durations.
@@ -153,7 +157,8 @@ impl Meters {
         requires row { HasRow self.old (month_at at) }
         requires few { self.old.booked < most_bookings }
         requires billed { bytes ≤ largest_size + 32_768 }
-        ensures stands { (book : Book) → StandsFor self.old book → StandsFor self.new (with_early_of class bytes entered at book) }
+        ensures stands { (book : Book) → AreTotalsOf self.old book
+            → AreTotalsOf self.new (with_early_of class bytes entered at book) }
         ensures rows { (month : ℕ) → HasRow self.old month → HasRow self.new month }
         ensures booked { self.new.booked ≡ self.old.booked + 1 }
     {
@@ -171,7 +176,8 @@ impl Meters {
     pub fn moved(&mut self, to: Class, at: Moment)
         requires row { HasRow self.old (month_at at) }
         requires few { self.old.booked < most_bookings }
-        ensures stands { (book : Book) → StandsFor self.old book → StandsFor self.new (with_move (record { class = to; moment = at }) book) }
+        ensures stands { (book : Book) → AreTotalsOf self.old book
+            → AreTotalsOf self.new (with_move (record { class = to; moment = at }) book) }
         ensures rows { (month : ℕ) → HasRow self.old month → HasRow self.new month }
         ensures booked { self.new.booked ≡ self.old.booked + 1 }
     {
@@ -183,10 +189,11 @@ impl Meters {
         self.booked += 1;
     }
 
-    /// Reads the byte-milliseconds of a month and a class, as seen at the moment, which is not before what was booked. Takes no
-    /// memory.
+    /// Reads the byte-milliseconds of a month and a class, as seen at the moment, which is not before what was booked.
+    /// Takes no memory.
     pub fn reading(&self, month: Month, class: Class, t: Moment) -> u128
-        ensures exact { (book : Book) → StandsFor self.now book → IsBookedBy t book → result ≡ meter month class t book }
+        ensures exact { (book : Book) → AreTotalsOf self.now book → IsBookedBy t book
+            → result ≡ meter month class t book }
         ensures small { result < 2 ^ 121 }
     {
         let (start, end) = month_window(month);
@@ -198,7 +205,7 @@ impl Meters {
 
     /// Reads the early quantities of a month and a class, in byte-milliseconds. Takes no memory.
     pub fn early_of(&self, month: Month, class: Class) -> u128
-        ensures exact { (book : Book) → StandsFor self.now book → result ≡ early_quantity month class book }
+        ensures exact { (book : Book) → AreTotalsOf self.now book → result ≡ early_quantity month class book }
         ensures small { result < 2 ^ 121 }
     {
         self.rows.kept(number_of(month), class).early
@@ -206,7 +213,7 @@ impl Meters {
 
     /// Reads how many lifecycle transitions to the class the month had. Takes no memory.
     pub fn moves_of(&self, month: Month, class: Class) -> u64
-        ensures exact { (book : Book) → StandsFor self.now book → result ≡ move_count month class book }
+        ensures exact { (book : Book) → AreTotalsOf self.now book → result ≡ move_count month class book }
         ensures small { result < 2 ^ 63 }
     {
         self.rows.kept(number_of(month), class).moves

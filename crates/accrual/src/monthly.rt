@@ -4,7 +4,7 @@ ghost use Rattle.std.specs.List.{list_all};
 ghost use Rattle.moments.specs.Months.{months};
 ghost use Rattle.class_rules.specs.Classes.{rank_of};
 ghost use Rattle.class_rules.specs.declared.class.Class.{Class};
-ghost use Rattle.accrual.specs.Kept.{nothing, kept_in, HasRowIn};
+ghost use Rattle.accrual.specs.Rows.{nothing, kept_in, HasRowIn};
 ghost use Rattle.accrual.specs.Sums.{AreSumsIn, IsMonthOf, HasNoSum, HaveRisingMonths, IsSmallMonth, IsSmall, is_nothing, is_zero, summed_numbers};
 
 use crate::calendar::{month_numbered, number_of};

@@ -1,7 +1,7 @@
 // The kept numbers, a row for each month.
 ghost use Rattle.std.specs.Prelude.{OnOk, OnErr, ◌^◌, ◌≡◌, ◌≢◌, ◌⊎◌, ◌<◌, ◌≤◌, ◌+◌, ◌-◌, ℕ, length, slice_set};
 ghost use Rattle.class_rules.specs.Classes.{rank_of};
-ghost use Rattle.accrual.specs.Kept.{kept_in, HasRowIn, IsPut, IsRowPut, IsAdded, HasRoom, IsWithin, IsModest, IsBegun, HasBegun, IsSettled, IsEnded, running_to, begun_numbers, ended_numbers};
+ghost use Rattle.accrual.specs.Rows.{kept_in, HasRowIn, IsPut, IsRowPut, IsAdded, HasRoom, IsWithin, IsModest, IsBegun, HasBegun, IsSettled, IsEnded, running_to, begun_numbers, ended_numbers};
 ghost use Rattle.class_rules.specs.declared.class.Class.{Class};
 ghost use Rattle.moments.specs.Months.{months, month_at, month_start, month_end};
 ghost use Rattle.accrual.specs.Totals.{IsBilled, ms_within};

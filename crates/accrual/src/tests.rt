@@ -1,7 +1,7 @@
 ghost use Rattle.std.specs.Prelude.{◌≡◌, ◌+◌, ◌<◌, ◌≤◌, All, true};
 ghost use Rattle.accrual.specs.Books.{Book};
 ghost use Rattle.accrual.specs.Sums.{HasAllEnded, IsSmallMonth};
-ghost use Rattle.accrual.specs.Totals.{StandsFor, IsBilled};
+ghost use Rattle.accrual.specs.Totals.{AreTotalsOf, IsBilled};
 
 use super::*;
 use class_rules::{Class, Lines, billed};
@@ -36,8 +36,8 @@ fn lines(rt: &impl Abort, class: Class, size: u64) -> Lines
 
 // Books a stay from its beginning to its end, if it has one.
 fn book(rt: &impl Abort, meters: &mut Meters, stay: Stay)
-    requires { (book : Book) × StandsFor meters.old book }
-    ensures { (book : Book) × StandsFor meters.new book }
+    requires { (book : Book) × AreTotalsOf meters.old book }
+    ensures { (book : Book) × AreTotalsOf meters.new book }
 {
     let (class, size, from, to) = stay;
     match to {
@@ -54,8 +54,8 @@ fn book(rt: &impl Abort, meters: &mut Meters, stay: Stay)
 
 fn book_open(rt: &impl Abort, meters: &mut Meters, lines: &Lines, from: Moment)
     requires billed { IsBilled lines.now }
-    requires some { (book : Book) × StandsFor meters.old book }
-    ensures { (book : Book) × StandsFor meters.new book }
+    requires some { (book : Book) × AreTotalsOf meters.old book }
+    ensures { (book : Book) × AreTotalsOf meters.new book }
 {
     let month = month_of(from);
     meters.reserve(month, month).expect(rt, "memory");
@@ -66,8 +66,8 @@ fn book_open(rt: &impl Abort, meters: &mut Meters, lines: &Lines, from: Moment)
 #[tactic(auto, using(crate::proofs::Windows::month_at_order))]
 fn book_whole(rt: &impl Abort, meters: &mut Meters, lines: &Lines, from: Moment, at: Moment)
     requires billed { IsBilled lines.now }
-    requires some { (book : Book) × StandsFor meters.old book }
-    ensures { (book : Book) × StandsFor meters.new book }
+    requires some { (book : Book) × AreTotalsOf meters.old book }
+    ensures { (book : Book) × AreTotalsOf meters.new book }
 {
     assert!(rt; from.ms() <= at.ms());
     meters
@@ -80,7 +80,7 @@ fn book_whole(rt: &impl Abort, meters: &mut Meters, lines: &Lines, from: Moment,
 
 // The meters after two stays.
 fn after(rt: &impl Abort, alloc: Global, first: Stay, second: Stay) -> Meters
-    ensures { (book : Book) × StandsFor result book }
+    ensures { (book : Book) × AreTotalsOf result book }
 {
     let mut meters = Meters::new(alloc);
     book(rt, &mut meters, first);
@@ -223,7 +223,7 @@ fn are_small(sums: &[MonthSums]) -> bool
 
 // Meters that go on from the sums of others stand for the same books, those with a stay that has no end left out.
 fn gone_on(rt: &impl Abort, alloc: Global, meters: &Meters) -> Meters
-    ensures { (book : Book) → StandsFor meters.now book → HasAllEnded book → StandsFor result book }
+    ensures { (book : Book) → AreTotalsOf meters.now book → HasAllEnded book → AreTotalsOf result book }
 {
     let months = meters.sums().expect(rt, "memory");
     let sums = months.as_slice();

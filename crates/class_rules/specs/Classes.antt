@@ -1,5 +1,7 @@
 -- Storage classes: their names, their order, the moves between them and how long objects stay at least.
-use Rattle.std.specs.Prelude.{ℕ, ◌*◌, Bool, false, List, [], ◌∷◌, nat_lt, codes}
+use Rattle.std.specs.Prelude.{ℕ, ◌*◌, Bool, false, List, [], ◌∷◌, nat_lt, codes, Option}
+use Rattle.std.specs.List.{find}
+use Rattle.std.specs.Str.{bytes_eq}
 use Rattle.moments.specs.Time.{day}
 use Rattle.class_rules.specs.declared.class.Class.{Class}
 use Rattle.class_rules.specs.declared.class.Class.TheVariants.{Standard, StandardIa, OnezoneIa, GlacierIr, Glacier, DeepArchive}
@@ -16,6 +18,10 @@ class_name OnezoneIa = codes "ONEZONE_IA"
 class_name GlacierIr = codes "GLACIER_IR"
 class_name Glacier = codes "GLACIER"
 class_name DeepArchive = codes "DEEP_ARCHIVE"
+
+-- the class with this name (S3 User Guide, "Understanding and managing Amazon S3 storage classes")
+abbrev pub class_with : List ℕ → Option Class
+class_with name = find (λ class. bytes_eq name (class_name class)) all_classes
 
 -- the place of a class from the warmest, 0, to the coldest, 5
 abbrev pub rank_of : Class → ℕ

@@ -11,8 +11,8 @@ least_billed OnezoneIa = 131_072
 least_billed GlacierIr = 131_072
 least_billed class = 0
 
--- the two classes whose objects carry an index and a name of their own (S3 User Guide, "Understanding S3 Glacier storage
--- classes for long-term data storage")
+-- the two classes whose objects carry an index and a name of their own (S3 User Guide, "Understanding S3 Glacier
+-- storage classes for long-term data storage")
 abbrev pub is_archive : Class → Bool
 is_archive Glacier = true
 is_archive DeepArchive = true

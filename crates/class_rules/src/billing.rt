@@ -9,8 +9,8 @@ use crate::Class;
 /// managing Amazon S3 storage classes").
 const LEAST_BILLED: u64 = 131_072;
 
-/// The index and name that an archived object carries, in bytes at its own class (S3 User Guide, "Understanding S3 Glacier
-/// storage classes for long-term data storage").
+/// The index and name that an archived object carries, in bytes at its own class (S3 User Guide, "Understanding S3
+/// Glacier storage classes for long-term data storage").
 const INDEX_BYTES: u64 = 32_768;
 
 /// The name and metadata of an archived object, in bytes at STANDARD (the same page).
@@ -29,8 +29,8 @@ pub struct Lines {
 
 /// Gives the lines of an object of this many bytes. Takes no memory.
 ///
-/// Rule: S3 User Guide, "Understanding and managing Amazon S3 storage classes" (least sizes) and "Understanding S3 Glacier
-/// storage classes for long-term data storage" (what an archived object carries).
+/// Rule: S3 User Guide, "Understanding and managing Amazon S3 storage classes" (least sizes) and "Understanding S3
+/// Glacier storage classes for long-term data storage" (what an archived object carries).
 pub fn billed(class: Class, size: u64) -> Lines
     requires { size ≤ largest_size }
     ensures { lines_of result ≡ object_lines class size }
@@ -60,8 +60,8 @@ pub fn marker_lines(key_bytes: u64) -> Lines
 
 /// Gives the line of a part of this many bytes of an unfinished upload. Takes no memory.
 ///
-/// Rule: S3 User Guide, "Multipart upload and pricing": a part for GLACIER or DEEP_ARCHIVE is billed at STANDARD. Own rule: a
-/// part has no least size.
+/// Rule: S3 User Guide, "Multipart upload and pricing": a part for GLACIER or DEEP_ARCHIVE is billed at STANDARD. Own
+/// rule: a part has no least size.
 pub fn part_lines(class: Class, size: u64) -> Lines
     ensures { lines_of result ≡ part_line class size }
 {

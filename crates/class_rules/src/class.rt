@@ -73,8 +73,8 @@ pub fn rank(class: Class) -> u8
 
 /// Tells whether a lifecycle transition may go from one class to the other: to a colder one. Takes no memory.
 ///
-/// Rule: S3 User Guide, "Transitioning objects using Amazon S3 Lifecycle". Own rule: the move from ONEZONE_IA to GLACIER_IR
-/// is left out.
+/// Rule: S3 User Guide, "Transitioning objects using Amazon S3 Lifecycle". Own rule: the move from ONEZONE_IA to
+/// GLACIER_IR is left out.
 pub fn may_go(from: Class, to: Class) -> bool
     ensures { result ≡ may_move from to }
 {

@@ -13,7 +13,7 @@ use Rattle.due_core.specs.Buckets.{BucketRecord}
 use Rattle.due_core.specs.RuleActions.{DueAction, Placed, placed_from, matches_version, version_actions, upload_actions}
 use Rattle.due_core.specs.Candidates.{timely, stack_candidates, upload_candidates, eligible_by, eligible, candidates}
 use Rattle.due_core.specs.Choice.{comes_before, least, choice}
-use Rattle.due_core.specs.Search.{Aim, Kept, nothing, none_of_all, with_come, with_each, with_each_due, aimed, setting_of, key_candidates, number_candidates}
+use Rattle.due_core.specs.Search.{Aim, Kept, nothing_found, none_of_all, with_come, with_each, with_each_due, aimed, setting_of, key_candidates, number_candidates}
 use Rattle.due_core.specs.declared.action.Candidate.{Candidate}
 use Rattle.due_core.specs.declared.action.Target.TheVariants as target
 use Rattle.due_core.proofs.Loops.{picked_twice, same_flat}
@@ -88,12 +88,12 @@ none_by : (t : ℕ) (x : Candidate) (xs : List Candidate) (come : Bool) → with
 none_by t x xs true rest = first_some t x xs
 none_by t x xs false rest = rest
 
-first_none : (t : ℕ) (xs : List Candidate) → with_each t nothing xs ≡ one (least comes_before (filter (has_come t) xs))
+first_none : (t : ℕ) (xs : List Candidate) → with_each t nothing_found xs ≡ one (least comes_before (filter (has_come t) xs))
 first_none t [] = refl
 first_none t (x ∷ xs) = none_by t x xs (has_come t x) (first_none t xs)
 
 -- the choice of a bucket with rules
-pub is_choice : (bucket : BucketRecord) (t : ℕ) (kept : Kept) → kept ≡ with_each t nothing (eligible bucket)
+pub is_choice : (bucket : BucketRecord) (t : ℕ) (kept : Kept) → kept ≡ with_each t nothing_found (eligible bucket)
     → option_map (λ (c : Candidate). c.action) kept.first ≡ choice bucket t
 unfolding choice candidates
 is_choice bucket t kept is = ap (λ (k : Kept). option_map (λ (c : Candidate). c.action) k.first) (is ∙ first_none t (eligible bucket))

@@ -29,8 +29,8 @@ pub record Kept : Type 0 where
   pub all : Option (List Candidate)
 
 -- nothing yet, where the first is wanted
-abbrev pub nothing : Kept
-nothing = record { first = None; all = None }
+abbrev pub nothing_found : Kept
+nothing_found = record { first = None; all = None }
 
 -- nothing yet, where all are wanted
 abbrev pub none_of_all : Kept

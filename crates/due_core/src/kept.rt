@@ -1,7 +1,7 @@
 // What a search keeps of the candidates.
 ghost use Rattle.std.specs.Prelude.{◌≡◌, [], map, IfOk, option_map, unwrap_or};
 ghost use Rattle.due_core.specs.Choice.{IsInOrder, IsQueue};
-ghost use Rattle.due_core.specs.Search.{nothing, none_of_all, took, with_come};
+ghost use Rattle.due_core.specs.Search.{nothing_found, none_of_all, took, with_come};
 
 use crate::Action;
 use crate::found::{Found, precedence, sooner};
@@ -31,7 +31,7 @@ impl<'a> Model for Kept<'a> {
 impl<'a> Kept<'a> {
     /// Keeps the first.
     pub(crate) fn first() -> Self
-        ensures { result ≡ nothing }
+        ensures { result ≡ nothing_found }
     {
         Kept {
             first: None,

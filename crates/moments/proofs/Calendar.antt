@@ -1,16 +1,29 @@
 -- The months are those of jiff's calendar.
-use Rattle.std.proofs.Common.{sym, ◌≡◌, ◌≢◌, ℕ, suc, zero, ◌+◌, ◌-◌, ◌/◌, ◌%◌, ◌<◌, ◌≤◌, ◌==◌, ℤ, pos, negsuc, ◌≤ℤ◌, Bool, true, false, refl, arith, subst}
-use Rattle.std.specs.Prelude.{nat_le, unsigned_abs}
+use Rattle.std.proofs.Common.{sym, ◌≡◌, ◌≢◌, ℕ, suc, zero, ◌+◌, ◌-◌, ◌*◌, ◌/◌, ◌%◌, ◌<◌, ◌≤◌, ◌==◌, ℤ, pos, negsuc, ◌*ℤ◌, ◌≤ℤ◌, Bool, true, false, refl, ap, arith, subst}
+use Rattle.std.specs.Prelude.{nat_le, unsigned_abs, int_div}
 use Rattle.std.proofs.lemmas.Bool.Decides.{nat_tests}
 use Rattle.std.proofs.lemmas.Int.{ints, by_lt_z}
-use Rattle.jiff_core.specs.Calendar.{day_count, days_from_civil, days_in_month, days_in_year, days_of_months, IsCivilDate}
-use Rattle.jiff_core.proofs.CalendarLemmas.{day_count-epoch, days_from_civil-day_count, day_count-lt_year, day_count-next_month, day_count-next_year, day_count-last_of_year, day_count-day, days_in_month_bounds, day_count-day_of_year}
+use Rattle.jiff_core.specs.Calendar.{day_count, days_from_civil, days_in_year, days_in_month as jiff_days_in_month, days_of_months as jiff_days_of_months, IsCivilDate}
+use Rattle.jiff_core.proofs.CalendarLemmas.{day_count-epoch, days_from_civil-day_count, day_count-lt_year, day_count-next_month, day_count-next_year, day_count-last_of_year, day_count-day, days_in_month_bounds as jiff_month_bounds, day_count-day_of_year}
 use Rattle.jiff_core.proofs.DateLemmas.{civil}
 use Rattle.jiff_core.proofs.SignedLemmas.{signed_arith}
-use Rattle.jiff_core.specs.Date.{epoch_day}
-use Rattle.jiff_core.specs.declared.civil.date.Date.{Date}
+use Rattle.jiff.specs.Words.{epoch_day}
+use Rattle.jiff.specs.Types.{Date}
 use Rattle.moments.specs.Time.{day, end_of_time}
-use Rattle.moments.specs.Months.{months, first_day, year_of, month_of_year, month_number, days_before_year, month_start, month_end, IsInMonth, IsFirstOfMonth, months_over, IsDayOf}
+use Rattle.moments.specs.Months.{months, first_day, year_of, month_of_year, month_number, days_in_month, days_of_months, days_before_year, month_start, month_end, IsInMonth, months_over, IsDayOf}
+use Rattle.moments.specs.JiffCalendar.{IsFirstOfMonth, IsAsLong}
+
+pub days_in_month_bounds : (y m : ℕ) → (days_in_month y m ≤ 31) × (28 ≤ days_in_month y m)
+days_in_month_bounds y m = jiff_month_bounds (pos y) m
+
+-- a month has the days that jiff gives it
+pub as_long : (k : ℕ) → IsAsLong k
+as_long k = refl
+
+same_days : (y n : ℕ) → jiff_days_of_months (pos y) n ≡ days_of_months y n
+unfolding days_of_months jiff_days_of_months
+same_days y zero = refl
+same_days y (suc n) = ap (λ d. d + days_in_month y (suc n)) (same_days y n)
 
 -- a year has 366 days where it is a leap year
 year_days : (y : ℕ) → 1 ≤ y → days_before_year (y + 1) ≡ days_before_year y + days_in_year (pos y)
@@ -19,7 +32,8 @@ year_days y from = grind (arith, nat_tests)
 year_begins : (n : ℕ) → day_count (pos (1970 + n)) 1 1 + days_before_year 1970 ≡ 4_371_953 + days_before_year (1970 + n)
 year_begins zero = omega (arith, day_count-epoch)
 year_begins (suc n) =
-    let a : day_count (pos (1970 + n + 1)) 1 1 ≡ day_count (pos (1970 + n)) 1 1 + days_in_year (pos (1970 + n)) = day_count-next_year (pos (1970 + n)) (pos (1970 + n + 1)) (omega (arith, signed_arith)) refl in
+    let a : day_count (pos (1970 + n + 1)) 1 1 ≡ day_count (pos (1970 + n)) 1 1 + days_in_year (pos (1970 + n)) =
+    day_count-next_year (pos (1970 + n)) (pos (1970 + n + 1)) (omega (arith, signed_arith)) refl in
     let b = year_days (1970 + n) (omega arith) in
     let e : 1970 + suc n ≡ 1970 + n + 1 = omega arith in
     rw e (omega (arith, a, b, year_begins n))
@@ -33,14 +47,20 @@ unfolding first_day
 month_starts k =
     let y = year_begins (k / 12) in
     let l = later_year (k / 12) in
-    let d : day_count (pos (year_of k)) (month_of_year k) 1 + 1 ≡ day_count (pos (year_of k)) 1 1 + (days_of_months (pos (year_of k)) (month_of_year k - 1) + 1) = day_count-day_of_year (pos (year_of k)) (month_of_year k) 1 (omega arith) in
+    let first : ℕ = day_count (pos (year_of k)) (month_of_year k) 1 in
+    let new_year : ℕ = day_count (pos (year_of k)) 1 1 in
+    let d : first + 1 ≡ new_year + (jiff_days_of_months (pos (year_of k)) (month_of_year k - 1) + 1) = day_count-day_of_year (pos (year_of k)) (month_of_year k) 1 (omega arith) in
     let e : month_of_year k - 1 ≡ k % 12 = omega arith in
-    let d2 : day_count (pos (year_of k)) (month_of_year k) 1 + 1 ≡ day_count (pos (year_of k)) 1 1 + (days_of_months (pos (year_of k)) (k % 12) + 1) = subst (λ n. day_count (pos (year_of k)) (month_of_year k) 1 + 1 ≡ day_count (pos (year_of k)) 1 1 + (days_of_months (pos (year_of k)) n + 1)) e d in
-    omega (arith, y, l, d2)
+    let d2 : first + 1 ≡ new_year + (jiff_days_of_months (pos (year_of k)) (k % 12) + 1) = subst (λ n. first + 1 ≡ new_year + (jiff_days_of_months (pos (year_of k)) n + 1)) e d in
+    omega (arith, y, l, d2, same_days (year_of k) (k % 12))
 
 pub first_of_month : (k : ℕ) → IsFirstOfMonth k
 unfolding days_from_civil
 first_of_month k = rw (month_starts k, day_count-epoch) (omega (arith, ints))
+
+-- the first of a month among jiff's dates
+pub first_is : (d : Date) (k : ℕ) → d.year ≡ pos (year_of k) → d.month ≡ month_of_year k → d.day ≡ 1 → epoch_day d ≡ pos (first_day k)
+first_is d k year month first = rw (year, month, first) (first_of_month k)
 
 december : (y : ℕ) → day_count (pos (y + 1)) 1 1 ≡ day_count (pos y) 12 1 + 31
 december y =
@@ -50,7 +70,7 @@ december y =
     omega (arith, a, b, c)
 
 month_days : ℕ → ℕ
-month_days k = days_in_month (pos (year_of k)) (month_of_year k)
+month_days k = days_in_month (year_of k) (month_of_year k)
 
 next_month : (k : ℕ) (b : Bool) → (k % 12 == 11) ≡ b
     → day_count (pos (year_of (k + 1))) (month_of_year (k + 1)) 1 ≡ day_count (pos (year_of k)) (month_of_year k) 1 + month_days k
@@ -68,13 +88,14 @@ next_month k false e =
     rw (m2, y2) (day_count-next_month (pos (year_of k)) (month_of_year k) (omega arith))
 
 -- each month begins where the one before it ends
-pub first_day_next : (k : ℕ) → first_day (k + 1) ≡ first_day k + days_in_month (pos (year_of k)) (month_of_year k)
+pub first_day_next : (k : ℕ) → first_day (k + 1) ≡ first_day k + days_in_month (year_of k) (month_of_year k)
 unfolding month_days
 first_day_next k = omega (arith, month_starts k, month_starts (k + 1), next_month k _ refl)
 
-month_has_days : (k : ℕ) → (first_day k + 28 ≤ first_day (k + 1)) × (first_day (k + 1) ≤ first_day k + 31)
+-- a month has 28 to 31 days
+pub month_has_days : (k : ℕ) → (first_day k + 28 ≤ first_day (k + 1)) × (first_day (k + 1) ≤ first_day k + 31)
 month_has_days k =
-    let b = days_in_month_bounds (pos (year_of k)) (month_of_year k) in
+    let b = days_in_month_bounds (year_of k) (month_of_year k) in
     let n = first_day_next k in
     (omega (arith, b, n), omega (arith, b, n))
 
@@ -143,6 +164,10 @@ pub first_day_begin : first_day 0 ≡ 0
 unfolding first_day days_of_months
 first_day_begin = refl
 
+-- a date has a month and a day that are small
+pub day_small : (d : Date) → d.day ≤ 31
+day_small d = omega (arith, d.day_in, jiff_month_bounds d.year d.month)
+
 -- where a date of jiff's stands in the months
 counted_days : (d : Date) (n : ℕ) → epoch_day d ≡ pos n → day_count d.year d.month d.day ≡ 4_371_953 + n
 counted_days d n e =
@@ -156,7 +181,7 @@ not_before_1970 d n e =
     (λ from. from)
 
 first_of_2100 : IsCivilDate (pos 2100) 1 1
-first_of_2100 = ((omega (arith, signed_arith), omega (arith, signed_arith)), (omega arith, omega arith), (omega arith, omega (arith, days_in_month_bounds (pos 2100) 1)))
+first_of_2100 = ((omega (arith, signed_arith), omega (arith, signed_arith)), (omega arith, omega arith), (omega arith, omega (arith, days_in_month_bounds 2100 1)))
 
 not_after_2100 : (d : Date) (n : ℕ) → epoch_day d ≡ pos n → n ≤ 47_482 → d.year ≤ℤ pos 2100
 not_after_2100 d n e le =
@@ -167,6 +192,12 @@ not_after_2100 d n e le =
 pub year_between : (d : Date) (n : ℕ) → epoch_day d ≡ pos n → n ≤ 47_482 → (pos 1970 ≤ℤ d.year) × (d.year ≤ℤ pos 2100)
 year_between d n e le = (not_before_1970 d n e, not_after_2100 d n e le)
 
+-- the days of so many milliseconds, in jiff's nanoseconds
+pub days_of_ms : (ms : ℕ) → int_div (pos ms *ℤ pos 1_000_000) (pos 86_400_000_000_000) ≡ pos (ms / day)
+days_of_ms ms =
+    let e : ms * 1_000_000 / 86_400_000_000_000 ≡ ms / day = omega arith in
+    ap pos e
+
 -- a number that is not negative is its size
 pub is_size : (z : ℤ) → pos 0 ≤ℤ z → z ≡ pos (unsigned_abs z)
 is_size (pos n) from = refl
@@ -176,12 +207,14 @@ day_is : (d : Date) (n y : ℕ) → epoch_day d ≡ pos n → d.year ≡ pos y �
 day_is d n y e year from until = record {
   year_in = (from, until);
   month_in = d.month_in;
-  day_in = subst (λ z. (1 ≤ d.day) × (d.day ≤ days_in_month z d.month)) year d.day_in;
+  day_in = subst (λ z. (1 ≤ d.day) × (d.day ≤ jiff_days_in_month z d.month)) year d.day_in;
   counted =
       let k = month_number y d.month in
       let yk : year_of k ≡ y = omega (arith, from, d.month_in) in
       let mk : month_of_year k ≡ d.month = omega (arith, from, d.month_in) in
-      let s : day_count (pos y) d.month 1 ≡ 4_371_953 + first_day k = subst (λ a. day_count (pos a) d.month 1 ≡ 4_371_953 + first_day k) yk (subst (λ b. day_count (pos (year_of k)) b 1 ≡ 4_371_953 + first_day k) mk (month_starts k)) in
+      let s : day_count (pos y) d.month 1 ≡ 4_371_953 + first_day k = subst
+      (λ a. day_count (pos a) d.month 1 ≡ 4_371_953 + first_day k) yk
+      (subst (λ b. day_count (pos (year_of k)) b 1 ≡ 4_371_953 + first_day k) mk (month_starts k)) in
       let c : day_count (pos y) d.month d.day ≡ 4_371_953 + n = subst (λ z. day_count z d.month d.day ≡ 4_371_953 + n) year (counted_days d n e) in
       let m = day_count-day (pos y) d.month 1 d.day (omega arith) d.day_in.0 in
       omega (arith, s, c, m);
@@ -199,7 +232,9 @@ day_in_month n y m d is =
     let k = month_number y m in
     let yk : year_of k ≡ y = omega (arith, is.year_in, is.month_in) in
     let mk : month_of_year k ≡ m = omega (arith, is.year_in, is.month_in) in
-    let s : first_day (k + 1) ≡ first_day k + days_in_month (pos y) m = subst (λ a. first_day (k + 1) ≡ first_day k + days_in_month (pos a) m) yk (subst (λ b. first_day (k + 1) ≡ first_day k + days_in_month (pos (year_of k)) b) mk (first_day_next k)) in
+    let s : first_day (k + 1) ≡ first_day k + days_in_month y m = subst
+    (λ a. first_day (k + 1) ≡ first_day k + days_in_month a m) yk
+    (subst (λ b. first_day (k + 1) ≡ first_day k + days_in_month (year_of k) b) mk (first_day_next k)) in
     (omega (arith, is.counted, is.day_in), omega (arith, is.counted, is.day_in, s))
 
 pub moment_in_month : (n ms y m d : ℕ) → n ≡ ms → IsDayOf (n / day) y m d → IsInMonth (month_number y m) ms

@@ -1,8 +1,7 @@
 -- Moments and months computed on examples.
 use Rattle.std.specs.Prelude.{◌≡◌, ◌*◌, refl, codes, true, false}
-use Rattle.jiff_core.specs.Calendar.{days_of_months}
 use Rattle.moments.specs.Time.{due}
-use Rattle.moments.specs.Months.{first_day, month_start, month_length, months_over, month_at}
+use Rattle.moments.specs.Months.{days_of_months, first_day, month_start, month_length, months_over, month_at}
 use Rattle.moments.specs.Texts.{moment_text}
 use Rattle.moments.specs.Dates.{begins_with_month, is_month, begins_with_date, begins_with_clock, is_time, is_date, is_at_midnight, midnight_of}
 

@@ -1,4 +1,4 @@
 mod Examples
 pub mod Calendar
-mod ReadBack
+pub mod ReadBack
 mod Texts

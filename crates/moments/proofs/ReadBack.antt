@@ -1,14 +1,12 @@
 -- A date that is written is read back.
-use Rattle.std.proofs.Common.{◌≡◌, sym, ℕ, ◌+◌, ◌-◌, ◌/◌, ◌%◌, ◌<◌, ◌≤◌, true, List, ◌++◌, length, pos, refl, ap, subst, arith}
+use Rattle.std.proofs.Common.{◌≡◌, sym, ℕ, ◌+◌, ◌-◌, ◌/◌, ◌%◌, ◌<◌, ◌≤◌, true, List, ◌++◌, length, refl, ap, subst, arith}
 use Rattle.std.specs.Prelude.{nat_le, codes}
 use Rattle.std.proofs.lemmas.Bool.Decides.{nat_tests}
-use Rattle.jiff_core.specs.Calendar.{days_in_month}
 use Rattle.moments.specs.Time.{day, end_of_time}
-use Rattle.moments.specs.Months.{months, months_over, month_number, month_start, year_of, month_of_year, has_month, has_day}
+use Rattle.moments.specs.Months.{months, months_over, month_number, month_start, year_of, month_of_year, days_in_month, has_month, has_day}
 use Rattle.moments.specs.Texts.{date_text, clock_text, moment_text}
 use Rattle.moments.specs.Dates.{is_digit, begins_with_month, begins_with_date, year_in, month_in, day_in, is_day, begins_with_clock, is_time, is_date, is_at_midnight, midnight_of, IsReadAs}
-use Rattle.jiff_core.proofs.CalendarLemmas.{days_in_month_bounds}
-use Rattle.moments.proofs.Calendar.{in_month_at, month_small, first_day_next}
+use Rattle.moments.proofs.Calendar.{in_month_at, month_small, first_day_next, month_has_days}
 
 digit : (n : ℕ) → n < 10 → is_digit (48 + n) ≡ true
 digit n small = grind (arith, nat_tests)
@@ -56,7 +54,7 @@ unfolding is_at_midnight
 midnight_back y m d = refl
 
 -- the days of the months of moments
-day_is : (k d : ℕ) → k < months → 1 ≤ d → d ≤ days_in_month (pos (year_of k)) (month_of_year k) → is_day (year_of k) (month_of_year k) d ≡ true
+day_is : (k d : ℕ) → k < months → 1 ≤ d → d ≤ days_in_month (year_of k) (month_of_year k) → is_day (year_of k) (month_of_year k) d ≡ true
 day_is k d ks from until =
     let number : month_number (year_of k) (month_of_year k) ≡ k = omega arith in
     let month : has_month (year_of k) (month_of_year k) ≡ true = grind (arith, nat_tests) in
@@ -74,14 +72,14 @@ read_back at small midnight =
     let d : ℕ = (at - month_start k) / day + 1 in
     let ks : k < months = month_small k at within.begun small in
     let next = first_day_next k in
-    let days = days_in_month_bounds (pos y) m in
+    let days = month_has_days k in
     let from : 1 ≤ d = omega arith in
-    let until : d ≤ days_in_month (pos (year_of k)) (month_of_year k) = omega (arith, within, next) in
+    let until : d ≤ days_in_month (year_of k) (month_of_year k) = omega (arith, within, next) in
     let is : is_day y m d ≡ true = day_is k d ks from until in
     let text : moment_text at ≡ date_text y m d ++ codes "T00:00:00.000Z" = ap (λ time. date_text y m d ++ codes "T" ++ clock_text time ++ codes "Z") midnight in
     let ys : y ≤ 2099 = omega (arith, ks) in
     let ms : m ≤ 12 = omega arith in
-    let ds : d ≤ 31 = omega (arith, until, days) in
+    let ds : d ≤ 31 = omega (arith, within, days) in
     let number : month_number y m ≡ k = omega arith in
     let rest = codes "T00:00:00.000Z" in
     let begins : midnight_of (date_text y m d ++ codes "T00:00:00.000Z") ≡ at =

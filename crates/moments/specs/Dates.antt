@@ -15,7 +15,8 @@ two_at text at = (slice_index text at - 48) * 10 + (slice_index text (at + 1) - 
 
 -- four digits, a hyphen and two digits stand at the beginning, as 2014-01
 unfoldable pub begins_with_month : List ℕ → Bool
-begins_with_month text = nat_le 7 (length text) && has_two_at text 0 && has_two_at text 2 && (slice_index text 4 == 45) && has_two_at text 5
+begins_with_month text =
+    nat_le 7 (length text) && has_two_at text 0 && has_two_at text 2 && (slice_index text 4 == 45) && has_two_at text 5
 
 -- the year and the month that those are
 abbrev pub year_in : List ℕ → ℕ
@@ -30,7 +31,8 @@ is_month text = begins_with_month text && (length text == 7) && has_month (year_
 
 -- behind the month a hyphen and two digits stand, as 2014-01-19
 unfoldable pub begins_with_date : List ℕ → Bool
-begins_with_date text = begins_with_month text && nat_le 10 (length text) && (slice_index text 7 == 45) && has_two_at text 8
+begins_with_date text =
+    begins_with_month text && nat_le 10 (length text) && (slice_index text 7 == 45) && has_two_at text 8
 
 abbrev pub day_in : List ℕ → ℕ
 day_in text = two_at text 8
@@ -51,7 +53,8 @@ digit_count text = length (take_while is_digit text)
 abbrev pub is_clock_end : List ℕ → Bool
 is_clock_end [] = false
 is_clock_end (c ∷ text) =
-    if c == 46 then nat_le 1 (digit_count text) && nat_le (digit_count text) 9 && is_utc (drop (digit_count text) text) else is_utc (c ∷ text)
+    if c == 46 then nat_le 1 (digit_count text) && nat_le (digit_count text) 9 && is_utc (drop (digit_count text) text)
+    else is_utc (c ∷ text)
 
 -- two digits of a number up to a limit stand at this place
 abbrev pub has_part_at : List ℕ → ℕ → ℕ → Bool
@@ -61,7 +64,8 @@ has_part_at text at limit = has_two_at text at && nat_le (two_at text at) limit
 unfoldable pub begins_with_clock : List ℕ → Bool
 begins_with_clock text =
     nat_le 9 (length text) && (slice_index text 0 == 84)
-    && has_part_at text 1 23 && (slice_index text 3 == 58) && has_part_at text 4 59 && (slice_index text 6 == 58) && has_part_at text 7 59
+    && has_part_at text 1 23 && (slice_index text 3 == 58) && has_part_at text 4 59 && (slice_index text 6 == 58)
+    && has_part_at text 7 59
 
 -- a time in UTC
 unfoldable pub is_time : List ℕ → Bool
@@ -70,15 +74,16 @@ is_time text = begins_with_clock text && is_clock_end (drop 9 text)
 -- a date, alone or with a time
 unfoldable pub is_date : List ℕ → Bool
 is_date text =
-    begins_with_date text && ((length text == 10) || is_time (drop 10 text)) && is_day (year_in text) (month_in text) (day_in text)
+    begins_with_date text && ((length text == 10) || is_time (drop 10 text))
+    && is_day (year_in text) (month_in text) (day_in text)
 
 -- no digit from 1 to 9
-abbrev pub is_zero : ℕ → Bool
-is_zero c = nat_lt c 49 || nat_lt 57 c
+abbrev pub is_zero_digit : ℕ → Bool
+is_zero_digit c = nat_lt c 49 || nat_lt 57 c
 
 -- its time, where it has one, is midnight: behind the date no digit stands but 0
 unfoldable pub is_at_midnight : List ℕ → Bool
-is_at_midnight text = list_all is_zero (drop 10 text)
+is_at_midnight text = list_all is_zero_digit (drop 10 text)
 
 -- the midnight at which it begins
 abbrev pub midnight_of : List ℕ → ℕ

@@ -1,4 +1,5 @@
 pub mod Dates
+pub mod JiffCalendar
 pub mod Months
 pub mod Texts
 pub mod Time

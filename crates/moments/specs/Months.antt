@@ -1,6 +1,5 @@
 -- Calendar months. A month is counted from 0 for January 1970.
-use Rattle.std.specs.Prelude.{◌≡◌, ℕ, zero, suc, ◌+◌, ◌-◌, ◌*◌, ◌/◌, ◌%◌, ◌<◌, ◌≤◌, pos, nat_le, Bool, ◌&&◌, if◌then◌else◌}
-use Rattle.jiff_core.specs.Calendar.{days_in_month, days_of_months, days_from_civil}
+use Rattle.std.specs.Prelude.{◌≡◌, ℕ, zero, suc, ◌+◌, ◌-◌, ◌*◌, ◌/◌, ◌%◌, ◌<◌, ◌≤◌, ◌==◌, nat_le, Bool, not, ◌&&◌, ◌||◌, if◌then◌else◌}
 use Rattle.moments.specs.Time.{day}
 
 -- the months from 1970-01 to 2099-12
@@ -22,20 +21,31 @@ month_number year month = (year - 1970) * 12 + (month - 1)
 abbrev pub has_month : ℕ → ℕ → Bool
 has_month year month = nat_le 1970 year && nat_le year 2099 && nat_le 1 month && nat_le month 12
 
+-- every fourth year, but of the centuries only every fourth
+abbrev pub is_leap_year : ℕ → Bool
+is_leap_year year = (year % 4 == 0) && (not (year % 100 == 0) || (year % 400 == 0))
+
+-- the days of a month of the year, from 1 for January: thirty have April, June, September and November
+abbrev pub days_in_month : ℕ → ℕ → ℕ
+days_in_month year month =
+    if month == 2 then (if is_leap_year year then 29 else 28)
+    else (if (month == 4) || (month == 6) || (month == 9) || (month == 11) then 30 else 31)
+
+-- the days of the first n months of the year
+unfoldable pub days_of_months : ℕ → ℕ → ℕ
+days_of_months year zero = 0
+days_of_months year (suc n) = days_of_months year n + days_in_month year (suc n)
+
 -- the days of the years before this one, by the Gregorian calendar
 abbrev pub days_before_year : ℕ → ℕ
 days_before_year year = let y = year - 1 in 365 * y + y / 4 - y / 100 + y / 400
 
 -- the days from 1970-01-01 to the first day of the month
 unfoldable pub first_day : ℕ → ℕ
-first_day month = days_before_year (year_of month) - days_before_year 1970 + days_of_months (pos (year_of month)) (month % 12)
+first_day month = days_before_year (year_of month) - days_before_year 1970 + days_of_months (year_of month) (month % 12)
 
--- that day has this number in jiff's calendar
-abbrev pub IsFirstOfMonth : ℕ → Type 0
-IsFirstOfMonth month = days_from_civil (pos (year_of month)) (month_of_year month) 1 ≡ pos (first_day month)
-
--- the window of a month: its first moment, and the first moment after it (S3 User Guide, "Understanding your AWS billing and
--- usage reports for Amazon S3": usage is told by calendar months in UTC)
+-- the window of a month: its first moment, and the first moment after it (S3 User Guide, "Understanding your AWS
+-- billing and usage reports for Amazon S3": usage is told by calendar months in UTC)
 abbrev pub month_start : ℕ → ℕ
 month_start month = first_day month * day
 
@@ -47,7 +57,8 @@ month_length month = month_end month - month_start month
 
 -- the month has a day of this number, from 1
 abbrev pub has_day : ℕ → ℕ → Bool
-has_day month day_of_month = nat_le 1 day_of_month && nat_le day_of_month (days_in_month (pos (year_of month)) (month_of_year month))
+has_day month day_of_month =
+    nat_le 1 day_of_month && nat_le day_of_month (days_in_month (year_of month) (month_of_year month))
 
 -- the midnight at which that day begins
 abbrev pub midnight_in : ℕ → ℕ → ℕ
@@ -71,5 +82,5 @@ month_at m = months_over m months
 pub record IsDayOf (number year month day_of_month : ℕ) : Type 0 where
   pub year_in : (1970 ≤ year) × (year ≤ 2100)
   pub month_in : (1 ≤ month) × (month ≤ 12)
-  pub day_in : (1 ≤ day_of_month) × (day_of_month ≤ days_in_month (pos year) month)
+  pub day_in : (1 ≤ day_of_month) × (day_of_month ≤ days_in_month year month)
   pub counted : number + 1 ≡ first_day (month_number year month) + day_of_month

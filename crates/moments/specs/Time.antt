@@ -23,7 +23,8 @@ pub record IsNextMidnight (m midnight : ℕ) : Type 0 where
   pub not_before : m ≤ midnight
   pub least : midnight < m + day
 
--- the midnight at which an action by days is due (S3 User Guide, "Lifecycle configuration elements": lifecycle rules based on
--- an object's age; the time is rounded up to the next midnight UTC; own: a sum that falls on a midnight stays there)
+-- the midnight at which an action by days is due (S3 User Guide, "Lifecycle configuration elements": lifecycle rules
+-- based on an object's age; the time is rounded up to the next midnight UTC; own: a sum that falls on a midnight stays
+-- there)
 abbrev pub due : ℕ → ℕ → ℕ
 due m days = next_midnight (m + days * day)

@@ -3,7 +3,7 @@ ghost use Rattle.std.specs.Prelude.{◌≡◌, ◌≤◌, ◌<◌, ◌%◌, ℕ,
 ghost use Rattle.std.specs.List.{list_all};
 ghost use Rattle.moments.specs.Time.{day, end_of_time};
 ghost use Rattle.moments.specs.Months.{has_month, month_number};
-ghost use Rattle.moments.specs.Dates.{begins_with_month, year_in, month_in, is_month, begins_with_date, day_in, is_day, has_two_at, two_at, is_utc, digit_count, is_clock_end, has_part_at, begins_with_clock, is_time, is_zero, is_date, is_at_midnight, midnight_of, IsReadAs};
+ghost use Rattle.moments.specs.Dates.{begins_with_month, year_in, month_in, is_month, begins_with_date, day_in, is_day, has_two_at, two_at, is_utc, digit_count, is_clock_end, has_part_at, begins_with_clock, is_time, is_zero_digit, is_date, is_at_midnight, midnight_of, IsReadAs};
 ghost use Rattle.moments.specs.Texts.{moment_text};
 
 use crate::digits::{has_two, two};
@@ -41,7 +41,8 @@ fn month_form(text: &[u8]) -> (u16, u8)
 /// `NotAMonth`: the text is not `YYYY-MM`, or no month from 1970-01 to 2099-12.
 #[tactic(auto, unfolding(crate::specs::Dates::is_month))]
 pub fn read_month(text: &str) -> Result<Month, MomentRefusal>
-    ensures ok { IfOk result (λ m. (m ≡ month_number (year_in text.now) (month_in text.now)) × (is_month text.now ≡ true)) }
+    ensures ok { IfOk result
+        (λ m. (m ≡ month_number (year_in text.now) (month_in text.now)) × (is_month text.now ≡ true)) }
     ensures refusal { IfErr result (λ e. (e ≡ MomentRefusal.NotAMonth) × (is_month text.now ≡ false)) }
 {
     let text = text.as_bytes();
@@ -71,7 +72,8 @@ fn has_date_form(text: &[u8]) -> bool
 fn date_form(text: &[u8]) -> Option<Moment>
     requires { begins_with_date text.now ≡ true }
     ensures none { IfNone result (is_day (year_in text.now) (month_in text.now) (day_in text.now) ≡ false) }
-    ensures some { IfSome result (λ m. (is_day (year_in text.now) (month_in text.now) (day_in text.now) ≡ true) × (m ≡ midnight_of text.now)) }
+    ensures some { IfSome result
+        (λ m. (is_day (year_in text.now) (month_in text.now) (day_in text.now) ≡ true) × (m ≡ midnight_of text.now)) }
 {
     let (year, month) = month_form(text);
     let day = two(text, 8) as u8;
@@ -163,33 +165,36 @@ fn date_of(text: &[u8]) -> Option<Moment>
 }
 
 fn is_zero_byte(c: u8) -> bool
-    ensures { result ≡ is_zero c }
+    ensures { result ≡ is_zero_digit c }
 {
     c < b'1' || b'9' < c
 }
 
 // No digit but 0 stands in a time.
 fn is_midnight(time: &[u8]) -> bool
-    ensures { result ≡ list_all is_zero time.now }
+    ensures { result ≡ list_all is_zero_digit time.now }
 {
     time.iter().all(|c| is_zero_byte(*c))
 }
 
-/// Reads the midnight at which a date begins, as `2014-01-19`, alone or with a time in UTC, as `2014-01-19T00:00:00.000Z`.
+/// Reads the midnight at which a date begins, as `2014-01-19`, alone or with a time in UTC, as
+/// `2014-01-19T00:00:00.000Z`.
 /// Takes no memory.
 ///
-/// Own rule: the time is `T`, `HH:MM:SS`, perhaps a point and 1 to 9 digits, and `Z`, `+00:00` or `-00:00`. Rule: S3 User Guide,
-/// "Lifecycle configuration elements": a date in a rule is a midnight in UTC.
+/// Own rule: the time is `T`, `HH:MM:SS`, perhaps a point and 1 to 9 digits, and `Z`, `+00:00` or `-00:00`. Rule: S3
+/// User Guide, "Lifecycle configuration elements": a date in a rule is a midnight in UTC.
 ///
 /// # Errors
 ///
-/// `NotADate`: the text has not that form, or is no date from 1970-01-01 to 2099-12-31. `NotMidnight`: its time is not midnight.
+/// `NotADate`: the text has not that form, or is no date from 1970-01-01 to 2099-12-31. `NotMidnight`: its time is not
+/// midnight.
 #[tactic(auto, unfolding(crate::specs::Dates::is_at_midnight))]
 pub fn read_date(text: &str) -> Result<Moment, MomentRefusal>
     ensures ok { IfOk result (λ m. IsReadAs text.now m) }
     ensures succeeds { IsOk result ↔ ((is_date text.now ≡ true) × (is_at_midnight text.now ≡ true)) }
     ensures not_a_date { IsErrOf result MomentRefusal.NotADate ↔ (is_date text.now ≡ false) }
-    ensures not_midnight { IsErrOf result MomentRefusal.NotMidnight ↔ ((is_date text.now ≡ true) × (is_at_midnight text.now ≡ false)) }
+    ensures not_midnight { IsErrOf result MomentRefusal.NotMidnight
+        ↔ ((is_date text.now ≡ true) × (is_at_midnight text.now ≡ false)) }
 {
     let text = text.as_bytes();
     match date_of(text) {

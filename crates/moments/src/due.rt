@@ -7,8 +7,8 @@ use crate::{Moment, MomentRefusal};
 
 /// Gives the first midnight UTC that is not before a moment; a midnight itself stays. Takes no memory.
 ///
-/// Rule: S3 User Guide, "Lifecycle configuration elements": times are rounded up to the next midnight UTC. Own rule: an exact
-/// midnight stays.
+/// Rule: S3 User Guide, "Lifecycle configuration elements": times are rounded up to the next midnight UTC. Own rule: an
+/// exact midnight stays.
 ///
 /// # Errors
 ///
@@ -21,8 +21,8 @@ pub fn up(m: Moment) -> Result<Moment, MomentRefusal>
     Moment::of(m.ms().div_ceil(DAY) * DAY)
 }
 
-/// Gives the moment at which an action is due that comes this many days after a moment: rounded up to a midnight UTC. Takes no
-/// memory.
+/// Gives the moment at which an action is due that comes this many days after a moment: rounded up to a midnight UTC.
+/// Takes no memory.
 ///
 /// Rule: S3 User Guide, "Lifecycle configuration elements".
 ///

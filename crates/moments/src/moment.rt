@@ -4,7 +4,8 @@ ghost use Rattle.moments.specs.Time.{end_of_time, last_moment};
 
 use std::marker::Model;
 
-/// The first number that is no moment, in milliseconds: 2100-01-01 00:00 UTC. Own rule: an end keeps every sum in range.
+/// The first number that is no moment, in milliseconds: 2100-01-01 00:00 UTC. Own rule: an end keeps every sum in
+/// range.
 pub const END: u64 = 4_102_444_800_000;
 
 /// The milliseconds of a day.

@@ -1,12 +1,14 @@
 // Calendar months and their windows.
-ghost use Rattle.std.specs.Prelude.{◌≡◌, ◌+◌, ◌*◌, ◌/◌, ◌<◌, ◌≤◌, ℕ, pos, IfSome, IfNone, true, false};
-ghost use Rattle.jiff_core.specs.Date.{epoch_day};
+ghost use Rattle.std.specs.Prelude.{◌≡◌, ◌+◌, ◌*◌, ◌/◌, ◌<◌, ◌≤◌, ◌≤ℤ◌, ℕ, pos, IfSome, IfNone, true, false};
+ghost use Rattle.jiff.specs.Words.{epoch_day};
 ghost use Rattle.moments.specs.Time.{day, end_of_time};
-ghost use Rattle.moments.specs.Months.{months, year_of, month_of_year, month_number, has_month, first_day, month_start, month_end, month_at, IsInMonth, IsFirstOfMonth, IsDayOf, has_day, midnight_in};
+ghost use Rattle.moments.specs.Months.{months, year_of, month_of_year, month_number, has_month, first_day, month_start, month_end, month_at, IsInMonth, IsDayOf, has_day, midnight_in};
+ghost use Rattle.moments.specs.JiffCalendar.{IsFirstOfMonth, IsAsLong};
 
 use crate::Moment;
 use crate::moment::DAY;
-use jiff_core::civil::Date;
+use jiff::SignedDuration;
+use jiff::civil::Date;
 use std::marker::Model;
 
 /// A calendar month from 1970-01 to 2099-12, in UTC.
@@ -78,21 +80,33 @@ impl Month {
     }
 }
 
+// 1970-01-01, from which days are counted.
+fn epoch() -> Date
+    ensures { epoch_day result ≡ pos 0 }
+{
+    Date::constant(1970, 1, 1)
+}
+
+// The days from 1970-01-01 to a date that is not before it.
+fn days_until(date: Date) -> u64
+    requires { pos 0 ≤ℤ epoch_day date }
+    ensures { pos result ≡ epoch_day date }
+{
+    (epoch().duration_until(date).as_hours() / 24) as u64
+}
+
 // The days from 1970-01-01 to the first day of a month, which may be January 2100.
 fn days_before(number: u16) -> u64
     requires { number ≤ months }
     ensures first { result ≡ first_day number }
     ensures bound { result ≤ 47_482 }
 {
-    let first = Date {
-        year: (1970 + number / 12) as i16,
-        month: (number % 12) as u8 + 1,
-        day: 1,
-    };
-    first.to_unix_epoch_day() as u64
+    let first = Date::constant((1970 + number / 12) as i16, (number % 12) as i8 + 1, 1);
+    days_until(first)
 }
 
-/// Gives a month's first moment, and the first moment after it, in milliseconds; the last month ends at `END`. Takes no memory.
+/// Gives a month's first moment, and the first moment after it, in milliseconds; the last month ends at `END`. Takes no
+/// memory.
 ///
 /// Rule: S3 User Guide, "Understanding your AWS billing and usage reports for Amazon S3": calendar months in UTC.
 pub fn month_window(month: Month) -> (u64, u64)
@@ -118,11 +132,11 @@ pub(crate) fn day_of(ms: u64) -> Day
     requires { ms ≤ end_of_time }
     ensures { IsDayOf (ms / day) result.year result.month result.day }
 {
-    let date = Date::from_days_since_min((ms / DAY + 4_371_587) as u32);
+    let date = epoch() + SignedDuration::from_millis(ms as i64);
     Day {
-        year: date.year as u16,
-        month: date.month,
-        day: date.day,
+        year: date.year() as u16,
+        month: date.month() as u8,
+        day: date.day() as u8,
     }
 }
 
@@ -137,11 +151,12 @@ pub fn month_of(m: Moment) -> Month
     }
 }
 
-/// States what the months are: each begins on the day that is its year's and month's first in jiff's calendar, and together,
-/// each ending where the next one begins, they hold all moments.
+/// States what the months are: each begins on the day that is its year's and month's first in jiff's calendar, and has
+/// as many days; and together, each ending where the next one begins, they hold all moments.
 #[tactic(auto, using(crate::proofs::Calendar::first_of_month, crate::proofs::Calendar::first_day_end, crate::proofs::Calendar::first_day_begin))]
 pub fn calendar_months()
     ensures first { (k : ℕ) → IsFirstOfMonth k }
+    ensures long { (k : ℕ) → IsAsLong k }
     ensures begin { month_start 0 ≡ 0 }
     ensures all { month_start months ≡ end_of_time }
     ensures each { (m : ℕ) → m < end_of_time → IsInMonth (month_at m) m }

@@ -3,6 +3,8 @@ use Rattle.std.proofs.Common.{◌≡◌, ◌∙◌, sym, suc, ◌+◌, ◌-◌, 
 use Rattle.std.specs.Prelude.{if◌then◌else◌, nat_le, IsPermutation}
 use Rattle.std.proofs.lemmas.Bool.Decides.{nat_tests}
 use Rattle.std.proofs.lemmas.List.Sorted.{IsPermutation-refl, IsPermutation-sym, IsPermutation-cons, IsPermutation-trans, IsPermutation-middle}
+use Rattle.std.proofs.lemmas.Bool.{and_parts, or_parts, and_from, not-true}
+use Rattle.std.proofs.Math.Seq.{take-length}
 use Rattle.std.specs.declared.alloc.Global.{Global}
 use Rattle.std.specs.List.{AllZip, list_all, list_any, prefix_len}
 use Rattle.std.specs.Str.{bytes_eq}
@@ -10,7 +12,7 @@ use Rattle.std.specs.Ordering.{nat_cmp, is_lt, is_eq, ordering_reverse}
 use Rattle.std.specs.declared.cmp.Ordering.{Ordering}
 use Rattle.std.specs.declared.cmp.Ordering.TheVariants.{Less, Equal, Greater}
 use Rattle.std.specs.Cmp.Lexicographic.{slice_cmp, nat_list_cmp_total, texts_ties}
-use Rattle.office_base.specs.Tags.{Tag, is_tag, has_key, keys_differ, are_tags, comes_before, with_tag, by_key, keys_rise, AreTags, tag_of, tags_of}
+use Rattle.office_base.specs.Tags.{Tag, is_tag, has_key, keys_differ, are_tags, is_tag_before, with_tag, by_key, keys_rise, AreTags, tag_of, tags_of}
 
 -- tests of pairs and of the tags that they are
 pub all_pairs : (test : Tag → Bool) (pairs : List (String Global × String Global)) → list_all (λ pair. test (tag_of pair)) pairs ≡ list_all test (tags_of pairs)
@@ -27,19 +29,19 @@ length_tags (pair ∷ pairs) = omega (arith, length_tags pairs)
 
 -- a tag in its place
 placed_case : (tag first : String Global × String Global) (pairs : List (String Global × String Global)) (b : Bool)
-    → tags_of (insert pairs (prefix_len (λ other. comes_before (tag_of other) (tag_of tag)) pairs) tag) ≡ with_tag (tag_of tag) (tags_of pairs)
-    → tags_of (insert (first ∷ pairs) (if b then 1 + prefix_len (λ other. comes_before (tag_of other) (tag_of tag)) pairs else 0) tag)
+    → tags_of (insert pairs (prefix_len (λ other. is_tag_before (tag_of other) (tag_of tag)) pairs) tag) ≡ with_tag (tag_of tag) (tags_of pairs)
+    → tags_of (insert (first ∷ pairs) (if b then 1 + prefix_len (λ other. is_tag_before (tag_of other) (tag_of tag)) pairs else 0) tag)
     ≡ (if b then tag_of first ∷ with_tag (tag_of tag) (tags_of pairs) else tag_of tag ∷ tag_of first ∷ tags_of pairs)
 placed_case tag first pairs true before =
-    let n = prefix_len (λ other. comes_before (tag_of other) (tag_of tag)) pairs in
+    let n = prefix_len (λ other. is_tag_before (tag_of other) (tag_of tag)) pairs in
     let e : 1 + n ≡ suc n = omega arith in
     rw e (ap (λ tags. tag_of first ∷ tags) before)
 placed_case tag first pairs false before = refl
 
 pub placed : (tag : String Global × String Global) (pairs : List (String Global × String Global))
-    → tags_of (insert pairs (prefix_len (λ other. comes_before (tag_of other) (tag_of tag)) pairs) tag) ≡ with_tag (tag_of tag) (tags_of pairs)
+    → tags_of (insert pairs (prefix_len (λ other. is_tag_before (tag_of other) (tag_of tag)) pairs) tag) ≡ with_tag (tag_of tag) (tags_of pairs)
 placed tag [] = refl
-placed tag (first ∷ pairs) = placed_case tag first pairs (comes_before (tag_of first) (tag_of tag)) (placed tag pairs)
+placed tag (first ∷ pairs) = placed_case tag first pairs (is_tag_before (tag_of first) (tag_of tag)) (placed tag pairs)
 
 -- tags put from the last to the first
 pub onto : List Tag → List Tag → List Tag
@@ -62,10 +64,6 @@ onto_last [] last kept = refl
 onto_last (pair ∷ pairs) last kept = ap (with_tag (tag_of pair)) (onto_last pairs last kept)
 
 -- the first pair against the others
-take_all : {X : Type 0} (xs : List X) → take (length xs) xs ≡ xs
-take_all [] = refl
-take_all (x ∷ xs) = ap (λ ys. x ∷ ys) (take_all xs)
-
 abbrev pub others : List (String Global × String Global) → List (String Global × String Global)
 others pairs = take (length pairs - 1) (drop 1 pairs)
 
@@ -74,7 +72,7 @@ pub differ_first : (pairs : List (String Global × String Global)) (first : Stri
 differ_first [] first some is = absurd (omega (arith, some))
 differ_first (pair ∷ pairs) first some is =
     let e : length (pair ∷ pairs) - 1 ≡ length pairs = omega arith in
-    let rest : take (length (pair ∷ pairs) - 1) pairs ≡ pairs = ap (λ n. take n pairs) e ∙ take_all pairs in
+    let rest : take (length (pair ∷ pairs) - 1) pairs ≡ pairs = ap (λ n. take n pairs) e ∙ take-length pairs in
     ap (λ p. not (has_key (tags_of pairs) (string_bytes p.0)) && keys_differ (tags_of pairs)) (sym is)
     ∙ ap (λ ps. not (has_key (tags_of ps) (string_bytes first.0)) && keys_differ (tags_of ps)) (sym rest)
 
@@ -85,7 +83,7 @@ is_less Less e = refl
 is_less Equal e = absurd cc
 is_less Greater e = absurd cc
 
-before_before : (a b c : Tag) → comes_before a b ≡ true → comes_before b c ≡ true → comes_before a c ≡ true
+before_before : (a b c : Tag) → is_tag_before a b ≡ true → is_tag_before b c ≡ true → is_tag_before a c ≡ true
 before_before a b c ab bc =
     ap is_lt (nat_list_cmp_total.trans a.0 b.0 c.0 (is_less (slice_cmp nat_cmp a.0 b.0) ab) (is_less (slice_cmp nat_cmp b.0 c.0) bc))
 
@@ -95,28 +93,15 @@ turned_case Equal lt eq = absurd cc
 turned_case Greater lt eq = refl
 
 -- of two keys that differ one comes first
-turned : (a b : Tag) → comes_before a b ≡ false → bytes_eq a.0 b.0 ≡ false → comes_before b a ≡ true
+turned : (a b : Tag) → is_tag_before a b ≡ false → bytes_eq a.0 b.0 ≡ false → is_tag_before b a ≡ true
 turned a b not_before not_same =
     ap is_lt (nat_list_cmp_total.antisymm b.0 a.0) ∙ turned_case (slice_cmp nat_cmp a.0 b.0) not_before (sym (texts_ties a.0 b.0) ∙ not_same)
 
-both : (a b : Bool) → a && b ≡ true → (a ≡ true) × (b ≡ true)
-both true true is = (refl, refl)
-both true false is = absurd cc
-both false b is = absurd cc
-
-neither : (a b : Bool) → a || b ≡ false → (a ≡ false) × (b ≡ false)
-neither true b is = absurd cc
-neither false true is = absurd cc
-neither false false is = (refl, refl)
-
-and_true : (a b : Bool) → a ≡ true → b ≡ true → a && b ≡ true
-and_true a b is_a is_b = rw (is_a, is_b) refl
-
-all_later : (a b : Tag) (tags : List Tag) → comes_before a b ≡ true → list_all (comes_before b) tags ≡ true → list_all (comes_before a) tags ≡ true
+pub all_later : (a b : Tag) (tags : List Tag) → is_tag_before a b ≡ true → list_all (is_tag_before b) tags ≡ true → list_all (is_tag_before a) tags ≡ true
 all_later a b [] ab all = refl
 all_later a b (c ∷ tags) ab all =
-    let parts = both (comes_before b c) (list_all (comes_before b) tags) all in
-    and_true (comes_before a c) (list_all (comes_before a) tags) (before_before a b c ab parts.0) (all_later a b tags ab parts.1)
+    let parts = and_parts (is_tag_before b c) (list_all (is_tag_before b) tags) all in
+    and_from (is_tag_before a c) (list_all (is_tag_before a) tags) (before_before a b c ab parts.0) (all_later a b tags ab parts.1)
 
 -- one more tag
 swapped_and : (a b c : Bool) → a && (b && c) ≡ b && (a && c)
@@ -138,7 +123,7 @@ all_case test tag first tags false before = refl
 
 all_with : (test : Tag → Bool) (tag : Tag) (tags : List Tag) → list_all test (with_tag tag tags) ≡ test tag && list_all test tags
 all_with test tag [] = refl
-all_with test tag (first ∷ tags) = all_case test tag first tags (comes_before first tag) (all_with test tag tags)
+all_with test tag (first ∷ tags) = all_case test tag first tags (is_tag_before first tag) (all_with test tag tags)
 
 any_case : (test : Tag → Bool) (tag first : Tag) (tags : List Tag) (b : Bool) → list_any test (with_tag tag tags) ≡ test tag || list_any test tags
     → list_any test (if b then first ∷ with_tag tag tags else tag ∷ first ∷ tags) ≡ test tag || (test first || list_any test tags)
@@ -147,7 +132,7 @@ any_case test tag first tags false before = refl
 
 any_with : (test : Tag → Bool) (tag : Tag) (tags : List Tag) → list_any test (with_tag tag tags) ≡ test tag || list_any test tags
 any_with test tag [] = refl
-any_with test tag (first ∷ tags) = any_case test tag first tags (comes_before first tag) (any_with test tag tags)
+any_with test tag (first ∷ tags) = any_case test tag first tags (is_tag_before first tag) (any_with test tag tags)
 
 length_case : (tag first : Tag) (tags : List Tag) (b : Bool) → length (with_tag tag tags) ≡ length tags + 1
     → length (if b then first ∷ with_tag tag tags else tag ∷ first ∷ tags) ≡ length (first ∷ tags) + 1
@@ -156,26 +141,27 @@ length_case tag first tags false before = omega arith
 
 length_with : (tag : Tag) (tags : List Tag) → length (with_tag tag tags) ≡ length tags + 1
 length_with tag [] = refl
-length_with tag (first ∷ tags) = length_case tag first tags (comes_before first tag) (length_with tag tags)
+length_with tag (first ∷ tags) = length_case tag first tags (is_tag_before first tag) (length_with tag tags)
 
-rise_case : (tag first : Tag) (tags : List Tag) (b : Bool) → comes_before first tag ≡ b → keys_rise (first ∷ tags) ≡ true → bytes_eq first.0 tag.0 ≡ false
+rise_case : (tag first : Tag) (tags : List Tag) (b : Bool) → is_tag_before first tag ≡ b → keys_rise (first ∷ tags) ≡ true → bytes_eq first.0 tag.0 ≡ false
     → keys_rise (with_tag tag tags) ≡ true → keys_rise (if b then first ∷ with_tag tag tags else tag ∷ first ∷ tags) ≡ true
 rise_case tag first tags true before rise other rise_with =
-    let parts = both (list_all (comes_before first) tags) (keys_rise tags) rise in
-    let all : list_all (comes_before first) (with_tag tag tags) ≡ true = all_with (comes_before first) tag tags ∙ and_true (comes_before first tag) (list_all (comes_before first) tags) before parts.0 in
-    and_true (list_all (comes_before first) (with_tag tag tags)) (keys_rise (with_tag tag tags)) all rise_with
+    let parts = and_parts (list_all (is_tag_before first) tags) (keys_rise tags) rise in
+    let all : list_all (is_tag_before first) (with_tag tag tags) ≡ true = all_with (is_tag_before first) tag tags
+    ∙ and_from (is_tag_before first tag) (list_all (is_tag_before first) tags) before parts.0 in
+    and_from (list_all (is_tag_before first) (with_tag tag tags)) (keys_rise (with_tag tag tags)) all rise_with
 rise_case tag first tags false before rise other rise_with =
-    let parts = both (list_all (comes_before first) tags) (keys_rise tags) rise in
-    let after : comes_before tag first ≡ true = turned first tag before other in
-    let all : list_all (comes_before tag) (first ∷ tags) ≡ true = and_true (comes_before tag first) (list_all (comes_before tag) tags) after (all_later tag first tags after parts.0) in
-    and_true (list_all (comes_before tag) (first ∷ tags)) (keys_rise (first ∷ tags)) all rise
+    let parts = and_parts (list_all (is_tag_before first) tags) (keys_rise tags) rise in
+    let after : is_tag_before tag first ≡ true = turned first tag before other in
+    let all : list_all (is_tag_before tag) (first ∷ tags) ≡ true = and_from (is_tag_before tag first) (list_all (is_tag_before tag) tags) after (all_later tag first tags after parts.0) in
+    and_from (list_all (is_tag_before tag) (first ∷ tags)) (keys_rise (first ∷ tags)) all rise
 
 rise_with : (tag : Tag) (tags : List Tag) → keys_rise tags ≡ true → has_key tags tag.0 ≡ false → keys_rise (with_tag tag tags) ≡ true
 rise_with tag [] rise other = refl
 rise_with tag (first ∷ tags) rise other =
-    let parts = both (list_all (comes_before first) tags) (keys_rise tags) rise in
-    let others = neither (bytes_eq first.0 tag.0) (has_key tags tag.0) other in
-    rise_case tag first tags (comes_before first tag) refl rise others.0 (rise_with tag tags parts.1 others.1)
+    let parts = and_parts (list_all (is_tag_before first) tags) (keys_rise tags) rise in
+    let others = or_parts (bytes_eq first.0 tag.0) (has_key tags tag.0) other in
+    rise_case tag first tags (is_tag_before first tag) refl rise others.0 (rise_with tag tags parts.1 others.1)
 
 -- all tags in order
 length_by_key : (tags : List Tag) → length (by_key tags) ≡ length tags
@@ -193,23 +179,19 @@ unfolding by_key
 any_by_key test [] = refl
 any_by_key test (tag ∷ tags) = any_with test tag (by_key tags) ∙ ap (λ b. test tag || b) (any_by_key test tags)
 
-not_true : (b : Bool) → not b ≡ true → b ≡ false
-not_true true e = absurd cc
-not_true false e = refl
-
 pub rise_by_key : (tags : List Tag) → keys_differ tags ≡ true → keys_rise (by_key tags) ≡ true
 unfolding by_key
 rise_by_key [] differ = refl
 rise_by_key (tag ∷ tags) differ =
-    let parts = both (not (has_key tags tag.0)) (keys_differ tags) differ in
-    let other : has_key (by_key tags) tag.0 ≡ false = any_by_key (λ t. bytes_eq t.0 tag.0) tags ∙ not_true (has_key tags tag.0) parts.0 in
+    let parts = and_parts (not (has_key tags tag.0)) (keys_differ tags) differ in
+    let other : has_key (by_key tags) tag.0 ≡ false = any_by_key (λ t. bytes_eq t.0 tag.0) tags ∙ not-true (has_key tags tag.0) parts.0 in
     rise_with tag (by_key tags) (rise_by_key tags parts.1) other
 
 pub kept_tags : (tags : List Tag) → are_tags tags ≡ true → AreTags (by_key tags)
 unfolding are_tags
 kept_tags tags are =
-    let parts = both (nat_le (length tags) 10 && list_all is_tag tags) (keys_differ tags) are in
-    let sizes = both (nat_le (length tags) 10) (list_all is_tag tags) parts.0 in
+    let parts = and_parts (nat_le (length tags) 10 && list_all is_tag tags) (keys_differ tags) are in
+    let sizes = and_parts (nat_le (length tags) 10) (list_all is_tag tags) parts.0 in
     let small : nat_le (length tags) 10 ≡ true = sizes.0 in
     let few : length tags ≤ 10 = grind (arith, nat_tests) in
     record {
@@ -229,7 +211,7 @@ permuted_case tag first tags false before = IsPermutation-refl (tag ∷ first �
 
 permuted_with : (tag : Tag) (tags : List Tag) → IsPermutation (tag ∷ tags) (with_tag tag tags)
 permuted_with tag [] = IsPermutation-refl (tag ∷ [])
-permuted_with tag (first ∷ tags) = permuted_case tag first tags (comes_before first tag) (permuted_with tag tags)
+permuted_with tag (first ∷ tags) = permuted_case tag first tags (is_tag_before first tag) (permuted_with tag tags)
 
 pub permuted_by_key : (tags : List Tag) → IsPermutation tags (by_key tags)
 unfolding by_key
@@ -244,20 +226,20 @@ back_case Less lt = refl
 back_case Equal lt = absurd cc
 back_case Greater lt = absurd cc
 
-not_back : (a b : Tag) → comes_before a b ≡ true → comes_before b a ≡ false
+not_back : (a b : Tag) → is_tag_before a b ≡ true → is_tag_before b a ≡ false
 not_back a b before = ap is_lt (nat_list_cmp_total.antisymm b.0 a.0) ∙ back_case (slice_cmp nat_cmp a.0 b.0) before
 
-in_front : (tag : Tag) (tags : List Tag) → list_all (comes_before tag) tags ≡ true → with_tag tag tags ≡ tag ∷ tags
+in_front : (tag : Tag) (tags : List Tag) → list_all (is_tag_before tag) tags ≡ true → with_tag tag tags ≡ tag ∷ tags
 in_front tag [] all = refl
 in_front tag (first ∷ tags) all =
-    let parts = both (comes_before tag first) (list_all (comes_before tag) tags) all in
+    let parts = and_parts (is_tag_before tag first) (list_all (is_tag_before tag) tags) all in
     ap (λ b. if b then first ∷ with_tag tag tags else tag ∷ first ∷ tags) (not_back tag first parts.0)
 
 pub kept_in_order : (tags : List Tag) → keys_rise tags ≡ true → by_key tags ≡ tags
 unfolding by_key
 kept_in_order [] rise = refl
 kept_in_order (tag ∷ tags) rise =
-    let parts = both (list_all (comes_before tag) tags) (keys_rise tags) rise in
+    let parts = and_parts (list_all (is_tag_before tag) tags) (keys_rise tags) rise in
     ap (with_tag tag) (kept_in_order tags parts.1) ∙ in_front tag tags parts.0
 
 -- copies of pairs are the same tags

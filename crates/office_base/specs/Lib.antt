@@ -4,4 +4,5 @@ pub mod Maps
 pub mod Names
 pub mod Sizes
 pub mod Tags
+pub mod Texts
 pub mod Versions

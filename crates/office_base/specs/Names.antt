@@ -1,4 +1,5 @@
--- The names of buckets (S3 User Guide, "General purpose bucket naming rules"; adjacent dots and address forms are not looked at).
+-- The names of buckets (S3 User Guide, "General purpose bucket naming rules"; adjacent dots and address forms are not
+-- looked at).
 use Rattle.std.specs.Prelude.{ℕ, Bool, ◌&&◌, ◌||◌, nat_le, ◌==◌, List, length, get_or, ◌-◌}
 use Rattle.std.specs.Bool.{IsTrue}
 use Rattle.std.specs.List.{list_all}
@@ -14,7 +15,8 @@ is_name_char c = is_name_end c || (c == 46) || (c == 45)
 -- 3 to 63 such characters, of which the first and the last are letters or digits
 unfoldable pub is_bucket_name : List ℕ → Bool
 is_bucket_name text =
-    nat_le 3 (length text) && nat_le (length text) 63 && list_all is_name_char text && is_name_end (get_or text 0 0) && is_name_end (get_or text (length text - 1) 0)
+    nat_le 3 (length text) && nat_le (length text) 63 && list_all is_name_char text && is_name_end (get_or text 0 0)
+    && is_name_end (get_or text (length text - 1) 0)
 
 abbrev pub IsBucketName : List ℕ → Type 0
 IsBucketName text = IsTrue (is_bucket_name text)

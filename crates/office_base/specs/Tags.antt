@@ -1,4 +1,5 @@
--- The tags of an object (S3 User Guide, "Categorizing your objects using tags"). A tag is a key and a value, texts as lists of bytes.
+-- The tags of an object (S3 User Guide, "Categorizing your objects using tags"). A tag is a key and a value, texts as
+-- lists of bytes.
 use Rattle.std.specs.Prelude.{ℕ, Bool, true, not, ◌&&◌, nat_le, ◌≤◌, List, [], ◌∷◌, length, map, String, string_bytes, chars, if◌then◌else◌, IsTrue}
 use Rattle.std.specs.declared.alloc.Global.{Global}
 use Rattle.std.specs.List.{list_all, list_any}
@@ -15,7 +16,8 @@ char_count text = length (chars text)
 
 -- texts in UTF-8, a key of 1 to 128 characters and a value of at most 256
 unfoldable pub is_tag : Tag → Bool
-is_tag tag = is_utf8 tag.0 && is_utf8 tag.1 && nat_le 1 (char_count tag.0) && nat_le (char_count tag.0) 128 && nat_le (char_count tag.1) 256
+is_tag tag = is_utf8 tag.0 && is_utf8 tag.1 && nat_le 1 (char_count tag.0) && nat_le (char_count tag.0) 128
+    && nat_le (char_count tag.1) 256
 
 -- a tag has this key
 abbrev pub has_key : List Tag → List ℕ → Bool
@@ -31,13 +33,13 @@ unfoldable pub are_tags : List Tag → Bool
 are_tags tags = nat_le (length tags) 10 && list_all is_tag tags && keys_differ tags
 
 -- the one comes before the other, by the bytes of their keys
-abbrev pub comes_before : Tag → Tag → Bool
-comes_before tag other = is_lt (slice_cmp nat_cmp tag.0 other.0)
+abbrev pub is_tag_before : Tag → Tag → Bool
+is_tag_before tag other = is_lt (slice_cmp nat_cmp tag.0 other.0)
 
 -- with one more tag: behind those that come before it
 abbrev pub with_tag : Tag → List Tag → List Tag
 with_tag tag [] = tag ∷ []
-with_tag tag (first ∷ tags) = if comes_before first tag then first ∷ with_tag tag tags else tag ∷ first ∷ tags
+with_tag tag (first ∷ tags) = if is_tag_before first tag then first ∷ with_tag tag tags else tag ∷ first ∷ tags
 
 -- the tags in the order of their keys
 unfoldable pub by_key : List Tag → List Tag
@@ -47,7 +49,7 @@ by_key (tag ∷ tags) = with_tag tag (by_key tags)
 -- the keys rise
 abbrev pub keys_rise : List Tag → Bool
 keys_rise [] = true
-keys_rise (tag ∷ tags) = list_all (comes_before tag) tags && keys_rise tags
+keys_rise (tag ∷ tags) = list_all (is_tag_before tag) tags && keys_rise tags
 
 -- tags as an object keeps them
 pub record AreTags (tags : List Tag) : Type 0 where

@@ -3,7 +3,8 @@ use Rattle.std.specs.Prelude.{ℕ, ◌^◌, ◌<◌, Bool, false, ◌&&◌, nat_
 use Rattle.office_base.specs.declared.version_id.VersionId.{VersionId}
 use Rattle.office_base.specs.declared.version_id.VersionId.TheVariants.{Null, Number}
 
--- the null version (S3 User Guide, "How S3 Versioning works"), or the number of a version, in digits without a leading zero (own)
+-- the null version (S3 User Guide, "How S3 Versioning works"), or the number of a version, in digits without a leading
+-- zero (own)
 abbrev pub id_text : VersionId → List ℕ
 id_text Null = codes "null"
 id_text (Number n) = decimal n

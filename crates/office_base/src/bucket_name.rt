@@ -15,8 +15,8 @@ use std::marker::Model;
 /// The name of a bucket: 3 to 63 lower-case ASCII letters, digits, dots and hyphens, with neither a dot nor a hyphen at
 /// either end. Names are compared by their bytes.
 ///
-/// Rule: S3 User Guide, "General purpose bucket naming rules". Adjacent dots, address forms and reserved beginnings are not
-/// looked at.
+/// Rule: S3 User Guide, "General purpose bucket naming rules". Adjacent dots, address forms and reserved beginnings are
+/// not looked at.
 #[derive(Drop)]
 pub struct BucketName {
     text: String,

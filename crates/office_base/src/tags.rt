@@ -2,7 +2,7 @@
 ghost use Rattle.std.specs.Prelude.{◌≡◌, ◌≤◌, ◌==◌, ◌↔◌, ◌⊎◌, true, false, length, IfOk, OnOk, IfErr, IsErrOf, List, IsPermutation, nat_le, string_bytes};
 ghost use Rattle.std.specs.List.{list_all, list_any, prefix_len};
 ghost use Rattle.std.specs.Str.{is_utf8, bytes_eq};
-ghost use Rattle.office_base.specs.Tags.{Tag, keys_rise, char_count, is_tag, has_key, keys_differ, are_tags, comes_before, with_tag, by_key, AreTags, tag_of, tags_of};
+ghost use Rattle.office_base.specs.Tags.{Tag, keys_rise, char_count, is_tag, has_key, keys_differ, are_tags, is_tag_before, with_tag, by_key, AreTags, tag_of, tags_of};
 
 use crate::NameRefusal;
 use std::alloc::{AllocError, Global};
@@ -10,7 +10,8 @@ use std::marker::Model;
 
 /// The tags of an object: at most 10 pairs of a key and a value, in the byte order of their keys, which differ.
 ///
-/// Rule: S3 User Guide, "Categorizing your objects using tags". Own rule: the order, so that the same tags are written in one way.
+/// Rule: S3 User Guide, "Categorizing your objects using tags". Own rule: the order, so that the same tags are written
+/// in one way.
 #[derive(Drop)]
 pub struct Tags {
     pairs: Vec<(String, String)>,
@@ -35,7 +36,8 @@ pub(crate) fn count_chars(text: &str) -> usize
     text.chars().count()
 }
 
-/// Pairs of a key and a value as somebody wrote them, in any order and of any length; `are_tags` tells whether they are tags.
+/// Pairs of a key and a value as somebody wrote them, in any order and of any length; `are_tags` tells whether they are
+/// tags.
 #[derive(Drop)]
 pub struct TagList {
     pairs: Vec<(String, String)>,
@@ -93,14 +95,14 @@ fn differ(pairs: &[(String, String)]) -> bool
 }
 
 fn is_before(tag: &(String, String), other: &(String, String)) -> bool
-    ensures { result ≡ comes_before (tag_of tag.now) (tag_of other.now) }
+    ensures { result ≡ is_tag_before (tag_of tag.now) (tag_of other.now) }
 {
     tag.0.as_str() < other.0.as_str()
 }
 
 // How many tags come before one.
 fn place_of(kept: &[(String, String)], tag: &(String, String)) -> usize
-    ensures place { result ≡ prefix_len (λ other. comes_before (tag_of other) (tag_of tag.now)) kept.now }
+    ensures place { result ≡ prefix_len (λ other. is_tag_before (tag_of other) (tag_of tag.now)) kept.now }
     ensures within { result ≤ length kept.now }
 {
     kept.iter()
@@ -164,7 +166,8 @@ impl Tags {
     ///
     /// # Errors
     ///
-    /// `BadTags`: there are more than 10, a key is repeated, a key has not 1 to 128 characters, or a value has more than 256.
+    /// `BadTags`: there are more than 10, a key is repeated, a key has not 1 to 128 characters, or a value has more
+    /// than 256.
     /// `NoMemory`: memory ran out.
     pub fn read(alloc: Global, pairs: Vec<(String, String)>) -> Result<Tags, NameRefusal>
         ensures ok { IfOk result (λ tags. (tags ≡ by_key (tags_of pairs.items)) × AreTags tags) }
@@ -236,8 +239,8 @@ impl TagList {
     }
 }
 
-/// States what the order of tags is: the same tags, with keys that rise where they differ; and tags whose keys rise stay as
-/// they stand.
+/// States what the order of tags is: the same tags, with keys that rise where they differ; and tags whose keys rise
+/// stay as they stand.
 #[tactic(auto, using(crate::proofs::InOrder::permuted_by_key, crate::proofs::InOrder::rise_by_key, crate::proofs::InOrder::kept_in_order))]
 pub fn tag_order()
     ensures same { (tags : List Tag) → IsPermutation tags (by_key tags) }

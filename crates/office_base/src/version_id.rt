@@ -47,8 +47,8 @@ impl Nth {
 
 /// The id of a version of a key.
 ///
-/// Rule: S3 User Guide, "How S3 Versioning works": a version that was put while versioning was off or suspended has the id
-/// `null`. Own rule: the other versions of a bucket are numbered from 1.
+/// Rule: S3 User Guide, "How S3 Versioning works": a version that was put while versioning was off or suspended has the
+/// id `null`. Own rule: the other versions of a bucket are numbered from 1.
 #[derive(Clone, Copy, Debug, PartialEq, Eq)]
 pub enum VersionId {
     /// The null version.
@@ -58,7 +58,8 @@ pub enum VersionId {
 }
 
 impl VersionId {
-    /// Reads an id: `null`, or digits without a leading zero from 1 to 2^64 - 1; None for any other text. Takes no memory.
+    /// Reads an id: `null`, or digits without a leading zero from 1 to 2^64 - 1; None for any other text. Takes no
+    /// memory.
     #[tactic(auto, using(crate::proofs::Versions::no_id))]
     pub fn read(text: &str) -> Option<VersionId>
         ensures found { IfSome result (λ id. IsVersionId id × (text.now ≡ id_text id)) }

@@ -1,18 +1,16 @@
 -- Amounts of money in whole units.
-use Rattle.std.proofs.Common.{◌≡◌, ◌≤◌, ◌<◌, ◌+◌, ◌*◌, ◌/◌, ◌%◌, ℕ, zero, pos, arith, sym, ap, ◌∙◌}
+use Rattle.std.proofs.Common.{◌≡◌, ◌≤◌, ◌<◌, ◌+◌, ◌*◌, ◌/◌, ◌%◌, ℕ, zero, arith, sym, ap, ◌∙◌}
 use Rattle.std.proofs.Math.Nat.{div-mul-le_self, lt-div-mul-add, mul-add-div_right}
 use Rattle.std.proofs.lemmas.Nat.{div-add-mod'}
-use Rattle.jiff_core.proofs.CalendarLemmas.{days_in_month_bounds}
-use Rattle.moments.specs.Months.{month_start, month_end, year_of, month_of_year}
-use Rattle.moments.proofs.Calendar.{first_day_next}
+use Rattle.moments.specs.Months.{month_start, month_end}
+use Rattle.moments.proofs.Calendar.{month_has_days}
 use Rattle.tariff.specs.Charges.{gib_month, charge_of, IsCharge}
 
 -- a month has 28 to 31 days
 pub month_bounds : (m : ℕ) → (month_start m + 2_419_200_000 ≤ month_end m) × (month_end m ≤ month_start m + 2_678_400_000)
 month_bounds m =
-    let n = first_day_next m in
-    let b = days_in_month_bounds (pos (year_of m)) (month_of_year m) in
-    (omega (arith, n, b), omega (arith, n, b))
+    let b = month_has_days m in
+    (omega (arith, b), omega (arith, b))
 
 unit_above : (m : ℕ) → zero < gib_month m
 unit_above m = let b = month_bounds m in omega (arith, b)
@@ -29,4 +27,6 @@ distribute a b c p = omega arith
 -- the amount of the whole units and that of the rest
 pub split_amount : (quantity price unit : ℕ) → zero < unit → quantity / unit * price + quantity % unit * price / unit ≡ quantity * price / unit
 split_amount quantity price unit above =
-    sym (ap (λ n. n * price / unit) (sym (div-add-mod' quantity unit)) ∙ ap (λ n. n / unit) (distribute (quantity / unit) unit (quantity % unit) price) ∙ mul-add-div_right above (quantity / unit * price) (quantity % unit * price))
+    sym (ap (λ n. n * price / unit) (sym (div-add-mod' quantity unit))
+    ∙ ap (λ n. n / unit) (distribute (quantity / unit) unit (quantity % unit) price)
+    ∙ mul-add-div_right above (quantity / unit * price) (quantity % unit * price))

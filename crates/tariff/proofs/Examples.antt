@@ -1,7 +1,6 @@
 -- Charges computed on examples.
 use Rattle.std.specs.Prelude.{◌≡◌, ◌*◌, refl}
-use Rattle.moments.specs.Months.{month_number, month_length, first_day}
-use Rattle.jiff_core.specs.Calendar.{days_of_months}
+use Rattle.moments.specs.Months.{month_number, month_length, days_of_months, first_day}
 use Rattle.tariff.specs.Charges.{charge_of, move_charge_of}
 
 -- a GiB in STANDARD for the whole of January 2024

@@ -7,7 +7,7 @@ use Rattle.class_rules.specs.Classes.{class_name}
 use Rattle.class_rules.specs.declared.class.Class.{Class}
 use Rattle.tariff.specs.declared.fault.TariffTable.{TariffTable}
 use Rattle.tariff.specs.declared.fault.TariffFault.{TariffFault}
-use Rattle.tariff.specs.Faults.{TariffFlaw, bad_price, flaw_of, Gives, ◌>>=◌}
+use Rattle.tariff.specs.Faults.{TariffFlaw, bad_price, tariff_flaw_of, TariffGives, ◌>>=◌}
 use Rattle.tariff.specs.Prices.{is_price}
 use Rattle.tariff.specs.Reading.{price_of, price_at, price_in, prices_in}
 
@@ -51,8 +51,8 @@ told_on (Some flaw) part whole pass is = pass flaw is
 
 -- a fault is passed on
 pub passed_on : {X Y X' Y' : Type 0} (see : X → Y) (see' : X' → Y') (fault : TariffFault) (part : Result Y TariffFlaw) (whole : Result Y' TariffFlaw)
-    → ((flaw : TariffFlaw) → part ≡ Err flaw → whole ≡ Err flaw) → Gives see (Err fault) part → Gives see' (Err fault) whole
-passed_on see see' fault part whole pass is = told_on (flaw_of fault) part whole pass is
+    → ((flaw : TariffFlaw) → part ≡ Err flaw → whole ≡ Err flaw) → TariffGives see (Err fault) part → TariffGives see' (Err fault) whole
+passed_on see see' fault part whole pass is = told_on (tariff_flaw_of fault) part whole pass is
 
 -- all were read
 pub prices_read : (t : TariffTable) (ms : Members) (classes : List Class) (xs : List ℕ) → joined xs (prices_in t ms (drop (length classes) classes)) ≡ Ok xs

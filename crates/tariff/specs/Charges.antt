@@ -2,8 +2,8 @@
 use Rattle.std.specs.Prelude.{ℕ, ◌+◌, ◌*◌, ◌/◌, ◌^◌, ◌<◌, ◌≤◌}
 use Rattle.moments.specs.Months.{month_length}
 
--- the byte-milliseconds of a GiB-month: 2^30 bytes for the whole month (S3 User Guide, "Understanding your AWS billing and
--- usage reports for Amazon S3")
+-- the byte-milliseconds of a GiB-month: 2^30 bytes for the whole month (S3 User Guide, "Understanding your AWS billing
+-- and usage reports for Amazon S3")
 abbrev pub gib_month : ℕ → ℕ
 gib_month month = 2 ^ 30 * month_length month
 

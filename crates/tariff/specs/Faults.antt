@@ -19,14 +19,14 @@ abbrev pub ◌>>=◌ : {A B : Type 0} → Result A TariffFlaw → (A → Result 
 (Err flaw) >>= f = Err flaw
 
 -- the flaw that a fault tells of; none where memory ran out
-abbrev pub flaw_of : TariffFault → Option TariffFlaw
-flaw_of NotToml = Some not_toml
-flaw_of (MissingClass table class) = Some (missing_class table class)
-flaw_of (BadPrice table class) = Some (bad_price table class)
-flaw_of (UnknownField name) = Some (unknown_field (string_bytes name))
-flaw_of NoMemory = None
+abbrev pub tariff_flaw_of : TariffFault → Option TariffFlaw
+tariff_flaw_of NotToml = Some not_toml
+tariff_flaw_of (MissingClass table class) = Some (missing_class table class)
+tariff_flaw_of (BadPrice table class) = Some (bad_price table class)
+tariff_flaw_of (UnknownField name) = Some (unknown_field (string_bytes name))
+tariff_flaw_of NoMemory = None
 
 -- an answer, seen by view, is what reading gives, unless memory ran out
-abbrev pub Gives : {X Y : Type 0} → (X → Y) → Result X TariffFault → Result Y TariffFlaw → Type 0
-Gives view (Ok x) read = read ≡ Ok (view x)
-Gives view (Err fault) read = IfSome (flaw_of fault) (λ flaw. read ≡ Err flaw)
+abbrev pub TariffGives : {X Y : Type 0} → (X → Y) → Result X TariffFault → Result Y TariffFlaw → Type 0
+TariffGives view (Ok x) read = read ≡ Ok (view x)
+TariffGives view (Err fault) read = IfSome (tariff_flaw_of fault) (λ flaw. read ≡ Err flaw)

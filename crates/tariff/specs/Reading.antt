@@ -1,8 +1,8 @@
 -- A tariff as a TOML document (TOML v1.1.0): two tables, each with a price for each of its classes.
 use Rattle.std.specs.Prelude.{ℕ, pos, Bool, ◌&&◌, List, [], ◌∷◌, map, drop, codes, if◌then◌else◌}
 use Rattle.std.specs.Prelude.{Option, Some, None, option_and_then, is_some, unwrap_or, Result, Ok, Err, ok_or}
-use Rattle.std.specs.List.{list_any}
-use Rattle.std.specs.Str.{is_utf8, bytes_eq}
+use Rattle.std.specs.Str.{is_utf8}
+use Rattle.office_base.specs.Texts.{is_among}
 use Rattle.toml.specs.Data.{Data, integer, Members, no_members, member, get_member, as_table}
 use Rattle.toml.specs.Parse.{parse_document}
 use Rattle.class_rules.specs.Classes.{all_classes, class_name}
@@ -13,7 +13,8 @@ use Rattle.tariff.specs.Faults.{TariffFlaw, not_toml, missing_class, bad_price, 
 use Rattle.tariff.specs.Prices.{Prices, is_price}
 
 -- the document that a text in UTF-8 is; a table has its names in the order of their bytes. A text that nests more than
--- 80 deep, or has an integer outside 64 bits, is none (own; TOML v1.1.0, "Integer", wants 64 bits and leaves the rest open)
+-- 80 deep, or has an integer outside 64 bits, is none (own; TOML v1.1.0, "Integer", wants 64 bits and leaves the rest
+-- open)
 unfoldable pub document_of : List ℕ → Option Members
 document_of text = if is_utf8 text then parse_document text else None
 
@@ -31,10 +32,6 @@ classes_of Storage = all_classes
 classes_of Transition = drop 1 all_classes
 
 -- ---- names
-
--- the name is one of these
-abbrev pub is_among : List (List ℕ) → List ℕ → Bool
-is_among names name = list_any (bytes_eq name) names
 
 -- the name of the first member, in the order of the names' bytes, that fails the test
 abbrev pub first_other : (List ℕ → Data → Bool) → Members → Option (List ℕ)
@@ -55,8 +52,8 @@ unless_other ms None = Ok ms
 unless_other ms (Some name) = Err (unknown_field name)
 
 -- a document of the two tables alone, and a table of its classes alone
-abbrev pub with_fields : Members → Result Members TariffFlaw
-with_fields document = unless_other document (first_other is_field document)
+abbrev pub with_tables : Members → Result Members TariffFlaw
+with_tables document = unless_other document (first_other is_field document)
 
 abbrev pub with_classes : TariffTable → Members → Result Members TariffFlaw
 with_classes table ms = unless_other ms (first_other (is_class_name table) ms)
@@ -94,7 +91,7 @@ prices_in table ms (class ∷ classes) = do
 unfoldable pub tariff_of : List ℕ → Result Prices TariffFlaw
 tariff_of text = do
   read ← ok_or (document_of text) not_toml
-  document ← with_fields read
+  document ← with_tables read
   storage ← with_classes Storage (members_of Storage document)
   transition ← with_classes Transition (members_of Transition document)
   storage_prices ← prices_in Storage storage (classes_of Storage)

@@ -7,10 +7,12 @@ use moments::{Month, month_window};
 /// The bytes of a GiB.
 const GIB: u128 = 1_073_741_824;
 
-/// Gives the charge of a month's quantity in byte-milliseconds, at a price for a GiB-month: the whole part of the exact amount.
+/// Gives the charge of a month's quantity in byte-milliseconds, at a price for a GiB-month: the whole part of the exact
+/// amount.
 /// Takes no memory.
 ///
-/// A GiB-month is 2^30 bytes for the whole month (S3 User Guide, "Understanding your AWS billing and usage reports for Amazon
+/// A GiB-month is 2^30 bytes for the whole month (S3 User Guide, "Understanding your AWS billing and usage reports for
+/// Amazon
 /// S3"). Own rule: no amount is rounded up.
 #[tactic(auto, using(crate::proofs::Amounts::split_amount, crate::proofs::Amounts::month_bounds))]
 pub fn charge(byte_ms: u128, price: u32, month: Month) -> u128

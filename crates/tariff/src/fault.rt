@@ -1,6 +1,6 @@
 // What is wrong with a text as a tariff.
 ghost use Rattle.std.specs.Prelude.{◌≡◌, Err};
-ghost use Rattle.tariff.specs.Faults.{Gives, unknown_field};
+ghost use Rattle.tariff.specs.Faults.{TariffGives, unknown_field};
 ghost use Rattle.tariff.specs.Reading.{table_name};
 
 use class_rules::Class;
@@ -57,7 +57,7 @@ pub enum TariffFault {
 
 // Refuses a name.
 pub(crate) fn unknown<T>(alloc: Global, name: &str) -> Result<T, TariffFault>
-    ensures { Gives (λ x. x) result (Err (unknown_field name.now)) }
+    ensures { TariffGives (λ x. x) result (Err (unknown_field name.now)) }
 {
     match String::from_str(alloc, name) {
         Ok(name) => Err(TariffFault::UnknownField { name }),

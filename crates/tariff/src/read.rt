@@ -5,9 +5,9 @@ ghost use Rattle.std.specs.Str.{bytes_eq};
 ghost use Rattle.toml.specs.Data.{as_table, get_member};
 ghost use Rattle.toml.specs.View.{view, table_view};
 ghost use Rattle.class_rules.specs.Classes.{class_name};
-ghost use Rattle.tariff.specs.Faults.{Gives, not_toml};
+ghost use Rattle.tariff.specs.Faults.{TariffGives, not_toml};
 ghost use Rattle.tariff.specs.Reading.{document_of, table_name, classes_of, is_field, is_class_name, first_other};
-ghost use Rattle.tariff.specs.Reading.{with_fields, with_classes, members_of, price_of, price_in, prices_in, tariff_of};
+ghost use Rattle.tariff.specs.Reading.{with_tables, with_classes, members_of, price_of, price_in, prices_in, tariff_of};
 
 use crate::fault::{TariffFault, TariffTable, unknown};
 use crate::prices::{MOST_PRICE, Tariff};
@@ -40,10 +40,11 @@ impl Tariff {
     /// has another field than the two, or one of the two is no table (the first in the order of their bytes); or, then,
     /// a table has a name that is none of its classes (`storage` first, in the order of the names' bytes). Then, for
     /// `storage` and then `transition`, class by class from the warmest on: `MissingClass` (71): the table has no price
-    /// for the class; `BadPrice` (72): what it has is no whole number from 0 to `MOST_PRICE`. `NoMemory`: memory ran out.
+    /// for the class; `BadPrice` (72): what it has is no whole number from 0 to `MOST_PRICE`. `NoMemory`: memory ran
+    /// out.
     #[tactic(auto, unfolding(crate::specs::Reading::tariff_of), using(crate::proofs::PriceLemmas::prices_range))]
     pub fn read(alloc: Global, bytes: &[u8]) -> Result<Tariff, TariffFault>
-        ensures exact { Gives (λ tariff. tariff) result (tariff_of bytes.now) }
+        ensures exact { TariffGives (λ tariff. tariff) result (tariff_of bytes.now) }
     {
         let document = read_document(alloc, bytes)?;
         check_fields(alloc, &document)?;
@@ -64,7 +65,7 @@ impl Tariff {
 }
 
 fn read_document(alloc: Global, bytes: &[u8]) -> Result<Table, TariffFault>
-    ensures { Gives (λ document. table_view document) result (ok_or (document_of bytes.now) not_toml) }
+    ensures { TariffGives (λ document. table_view document) result (ok_or (document_of bytes.now) not_toml) }
 {
     match toml::table_from_slice(alloc, bytes) {
         Ok(document) => Ok(document),
@@ -88,7 +89,8 @@ fn found<'m>(members: &'m Table, name: &str) -> Option<&'m Value>
 // What a table of the document has; this where the table is missing.
 fn members<'d>(document: &'d Table, table: TariffTable, empty: &'d Table) -> &'d Table
     ensures { table_view result.now
-        ≡ unwrap_or (option_and_then as_table (get_member (table_name table) (table_view document.now))) (table_view empty.now) }
+        ≡ unwrap_or (option_and_then as_table (get_member (table_name table) (table_view document.now)))
+        (table_view empty.now) }
 {
     match found(document, table.name()) {
         Some(value) => match value.as_table() {
@@ -118,7 +120,7 @@ fn other_field(document: &Table) -> Option<&str>
 
 // Refuses a field that is none of the two tables.
 fn check_fields(alloc: Global, document: &Table) -> Result<(), TariffFault>
-    ensures { Gives (λ _. table_view document.now) result (with_fields (table_view document.now)) }
+    ensures { TariffGives (λ _. table_view document.now) result (with_tables (table_view document.now)) }
 {
     match other_field(document) {
         Some(name) => unknown(alloc, name),
@@ -157,7 +159,7 @@ fn other_name<'m>(table: TariffTable, members: &'m Table) -> Option<&'m str>
 
 // Refuses a name that is none of the table's classes.
 fn check_classes(alloc: Global, table: TariffTable, members: &Table) -> Result<(), TariffFault>
-    ensures { Gives (λ _. table_view members.now) result (with_classes table (table_view members.now)) }
+    ensures { TariffGives (λ _. table_view members.now) result (with_classes table (table_view members.now)) }
 {
     match other_name(table, members) {
         Some(name) => unknown(alloc, name),
@@ -183,7 +185,7 @@ fn price_of(value: &Value) -> Option<u32>
 
 // The price that a table has for a class.
 fn read_price(table: TariffTable, members: &Table, class: Class) -> Result<u32, TariffFault>
-    ensures { Gives (λ price. price) result (price_in table (table_view members.now) class) }
+    ensures { TariffGives (λ price. price) result (price_in table (table_view members.now) class) }
 {
     match found(members, class.name()) {
         Some(value) => match price_of(value) {
@@ -197,7 +199,7 @@ fn read_price(table: TariffTable, members: &Table, class: Class) -> Result<u32, 
 // Reads the prices that a table has for its classes, into a place for each.
 fn read_prices(table: TariffTable, members: &Table, prices: &mut [u32]) -> Result<(), TariffFault>
     requires { length prices.old ≡ length (classes_of table) }
-    ensures { Gives (λ _. prices.new) result (prices_in table (table_view members.now) (classes_of table)) }
+    ensures { TariffGives (λ _. prices.new) result (prices_in table (table_view members.now) (classes_of table)) }
 {
     for (place, class) in table.classes().iter().enumerate() {
         prices[place] = read_price(table, members, *class)?;

@@ -4,8 +4,8 @@ use Rattle.std.specs.List.{flat_map}
 use Rattle.std.proofs.lemmas.Grind.{flat_map-append}
 use Rattle.std.proofs.lemmas.List.{append_assoc, take_more, take-replicate}
 use Rattle.office_types.specs.declared.reply.ReportLine.{ReportLine}
-use Rattle.usage_report.specs.Lines.{charges}
-use Rattle.usage_report.specs.Tables.{left, right, table_line, line_text, total_text, report_text}
+use Rattle.office_types.specs.Reports.{charges}
+use Rattle.usage_report.specs.Tables.{left_aligned, right_aligned, table_line, line_text, total_text, report_text}
 
 pub more_lines : (lines : List ReportLine) (i : ℕ) (d : ReportLine) → i < length lines
     → flat_map line_text (take (i + 1) lines) ≡ flat_map line_text (take i lines) ++ line_text (get_or lines i d)
@@ -36,8 +36,8 @@ joined base names quantity charge end =
 
 -- the columns of a line, put in two steps
 pub two_steps : (base bucket kind class quantity : List ℕ) (charge : ℕ)
-    → base ++ (left 24 bucket ++ 32 ∷ left 12 kind ++ 32 ∷ left 14 class ++ 32 ∷ []) ++ (right 28 quantity ++ 32 ∷ right 16 (decimal charge) ++ 10 ∷ [])
+    → base ++ (left_aligned 24 bucket ++ 32 ∷ left_aligned 12 kind ++ 32 ∷ left_aligned 14 class ++ 32 ∷ []) ++ (right_aligned 28 quantity ++ 32 ∷ right_aligned 16 (decimal charge) ++ 10 ∷ [])
     ≡ base ++ table_line bucket kind class quantity charge
 unfolding table_line
 two_steps base bucket kind class quantity charge =
-    joined base (left 24 bucket ++ 32 ∷ left 12 kind ++ 32 ∷ left 14 class) (right 28 quantity) (32 ∷ right 16 (decimal charge)) (10 ∷ [])
+    joined base (left_aligned 24 bucket ++ 32 ∷ left_aligned 12 kind ++ 32 ∷ left_aligned 14 class) (right_aligned 28 quantity) (32 ∷ right_aligned 16 (decimal charge)) (10 ∷ [])

@@ -4,13 +4,14 @@ use Rattle.std.specs.List.{flat_map}
 use Rattle.csv.specs.Writing.{row_text, default_writer}
 use Rattle.class_rules.specs.Classes.{class_name}
 use Rattle.office_types.specs.declared.reply.ReportLine.{ReportLine}
-use Rattle.usage_report.specs.Lines.{line_name, charges}
+use Rattle.office_types.specs.Reports.{charges}
+use Rattle.usage_report.specs.Lines.{line_name}
 
-abbrev pub header_row : List (List ℕ)
-header_row = codes "bucket" ∷ codes "line" ∷ codes "class" ∷ codes "quantity" ∷ codes "price" ∷ codes "charge" ∷ []
+abbrev pub report_header : List (List ℕ)
+report_header = codes "bucket" ∷ codes "line" ∷ codes "class" ∷ codes "quantity" ∷ codes "price" ∷ codes "charge" ∷ []
 
-abbrev pub line_row : ReportLine → List (List ℕ)
-line_row line =
+abbrev pub report_row : ReportLine → List (List ℕ)
+report_row line =
     line.bucket ∷ line_name line.kind ∷ class_name line.class
     ∷ decimal line.quantity ∷ decimal line.price ∷ decimal line.charge ∷ []
 
@@ -21,4 +22,4 @@ total_row total = [] ∷ codes "total" ∷ [] ∷ [] ∷ [] ∷ decimal total �
 -- a row for each line, between the header and the total
 unfoldable pub report_csv : List ReportLine → List ℕ
 report_csv lines =
-    flat_map (row_text default_writer) (header_row ∷ map line_row lines ++ total_row (charges lines) ∷ [])
+    flat_map (row_text default_writer) (report_header ∷ map report_row lines ++ total_row (charges lines) ∷ [])

@@ -3,20 +3,21 @@ use Rattle.std.specs.Prelude.{ℕ, ◌-◌, List, [], ◌∷◌, ◌++◌, lengt
 use Rattle.std.specs.List.{flat_map}
 use Rattle.class_rules.specs.Classes.{class_name}
 use Rattle.office_types.specs.declared.reply.ReportLine.{ReportLine}
-use Rattle.usage_report.specs.Lines.{line_name, charges}
+use Rattle.office_types.specs.Reports.{charges}
+use Rattle.usage_report.specs.Lines.{line_name}
 
 -- a text at the left or at the right of a column of so many characters; a longer one stands as it is
-abbrev pub left : ℕ → List ℕ → List ℕ
-left width text = text ++ replicate (width - length text) 32
+abbrev pub left_aligned : ℕ → List ℕ → List ℕ
+left_aligned width text = text ++ replicate (width - length text) 32
 
-abbrev pub right : ℕ → List ℕ → List ℕ
-right width text = replicate (width - length text) 32 ++ text
+abbrev pub right_aligned : ℕ → List ℕ → List ℕ
+right_aligned width text = replicate (width - length text) 32 ++ text
 
 -- the columns of a line, a space between two
 unfoldable pub table_line : List ℕ → List ℕ → List ℕ → List ℕ → ℕ → List ℕ
 table_line bucket kind class quantity charge =
-    left 24 bucket ++ 32 ∷ left 12 kind ++ 32 ∷ left 14 class ++ 32 ∷ right 28 quantity
-    ++ 32 ∷ right 16 (decimal charge) ++ 10 ∷ []
+    left_aligned 24 bucket ++ 32 ∷ left_aligned 12 kind ++ 32 ∷ left_aligned 14 class ++ 32 ∷ right_aligned 28 quantity
+    ++ 32 ∷ right_aligned 16 (decimal charge) ++ 10 ∷ []
 
 abbrev pub line_text : ReportLine → List ℕ
 line_text line =

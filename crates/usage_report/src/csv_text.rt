@@ -1,10 +1,10 @@
 // The report of a month as CSV.
 ghost use Rattle.std.specs.Prelude.{◌≡◌, ◌<◌, ◌^◌, [], ◌∷◌, map, Some, IfOk, OnOk, decimal};
 ghost use Rattle.std.specs.Io.KnownBytes.{append_known};
+ghost use Rattle.office_types.specs.Reports.{charges};
 ghost use Rattle.csv.specs.Writing.{default_writer, row_text};
-ghost use Rattle.usage_report.specs.Lines.{charges};
-ghost use Rattle.usage_report.specs.Csv.{header_row, line_row, report_csv, total_row};
-ghost use Rattle.usage_report.specs.Sheets.{IsReady, held};
+ghost use Rattle.usage_report.specs.Csv.{report_header, report_row, report_csv, total_row};
+ghost use Rattle.usage_report.specs.Sheets.{IsAtRowStart, bytes_written};
 
 use crate::names::line_name;
 use csv::{Writer, WriterBuilder};
@@ -15,17 +15,17 @@ use std::alloc::Global;
 type Sheet = Writer<Vec<u8>>;
 
 fn start(alloc: Global) -> Sheet
-    ensures ready { IsReady result }
-    ensures empty { held result ≡ Some [] }
+    ensures ready { IsAtRowStart result }
+    ensures empty { bytes_written result ≡ Some [] }
 {
     WriterBuilder::new().from_writer(Vec::new(alloc))
 }
 
 fn put_row(sheet: &mut Sheet, fields: &[&[u8]]) -> Result<(), NoMemory>
-    requires { IsReady sheet.old }
-    ensures ready { OnOk result (IsReady sheet.new) }
-    ensures bytes { OnOk result (held sheet.new
-        ≡ append_known (held sheet.old) (row_text default_writer (map (λ f. f.now) fields.now))) }
+    requires { IsAtRowStart sheet.old }
+    ensures ready { OnOk result (IsAtRowStart sheet.new) }
+    ensures bytes { OnOk result (bytes_written sheet.new
+        ≡ append_known (bytes_written sheet.old) (row_text default_writer (map (λ f. f.now) fields.now))) }
 {
     match sheet.write_fields(fields) {
         Ok(()) => Ok(()),
@@ -43,9 +43,10 @@ fn put_texts<'a>(
     price: &'a str,
     charge: &'a str,
 ) -> Result<(), NoMemory>
-    requires { IsReady sheet.old }
-    ensures ready { OnOk result (IsReady sheet.new) }
-    ensures bytes { OnOk result (held sheet.new ≡ append_known (held sheet.old) (row_text default_writer
+    requires { IsAtRowStart sheet.old }
+    ensures ready { OnOk result (IsAtRowStart sheet.new) }
+    ensures bytes { OnOk result
+        (bytes_written sheet.new ≡ append_known (bytes_written sheet.old) (row_text default_writer
         (bucket.now ∷ kind.now ∷ class.now ∷ quantity.now ∷ price.now ∷ charge.now ∷ []))) }
 {
     put_row(
@@ -62,10 +63,10 @@ fn put_texts<'a>(
 }
 
 fn put_line(sheet: &mut Sheet, line: &ReportLine) -> Result<(), NoMemory>
-    requires { IsReady sheet.old }
-    ensures ready { OnOk result (IsReady sheet.new) }
-    ensures bytes { OnOk result (held sheet.new
-        ≡ append_known (held sheet.old) (row_text default_writer (line_row line.now))) }
+    requires { IsAtRowStart sheet.old }
+    ensures ready { OnOk result (IsAtRowStart sheet.new) }
+    ensures bytes { OnOk result (bytes_written sheet.new
+        ≡ append_known (bytes_written sheet.old) (row_text default_writer (report_row line.now))) }
 {
     put_texts(
         sheet,
@@ -79,10 +80,10 @@ fn put_line(sheet: &mut Sheet, line: &ReportLine) -> Result<(), NoMemory>
 }
 
 fn put_total(sheet: &mut Sheet, total: u128) -> Result<(), NoMemory>
-    requires { IsReady sheet.old }
-    ensures ready { OnOk result (IsReady sheet.new) }
-    ensures bytes { OnOk result (held sheet.new
-        ≡ append_known (held sheet.old) (row_text default_writer (total_row total))) }
+    requires { IsAtRowStart sheet.old }
+    ensures ready { OnOk result (IsAtRowStart sheet.new) }
+    ensures bytes { OnOk result (bytes_written sheet.new
+        ≡ append_known (bytes_written sheet.old) (row_text default_writer (total_row total))) }
 {
     put_texts(
         sheet,
@@ -96,7 +97,7 @@ fn put_total(sheet: &mut Sheet, total: u128) -> Result<(), NoMemory>
 }
 
 fn finish(sheet: Sheet) -> Result<Vec<u8>, NoMemory>
-    ensures { IfOk result (λ v. held sheet ≡ Some v.items) }
+    ensures { IfOk result (λ v. bytes_written sheet ≡ Some v.items) }
 {
     match sheet.into_inner() {
         Ok(bytes) => Ok(bytes),
@@ -105,7 +106,8 @@ fn finish(sheet: Sheet) -> Result<Vec<u8>, NoMemory>
 }
 
 /// Writes the lines of a report and their total as CSV (RFC 4180, but lines end in a line feed), with the header
-/// `bucket,line,class,quantity,price,charge`. Quantities are in byte-milliseconds, those of transitions a number of objects;
+/// `bucket,line,class,quantity,price,charge`. Quantities are in byte-milliseconds, those of transitions a number of
+/// objects;
 /// prices and charges are in units.
 ///
 /// Cost: a pass over the lines, and memory for the text.

@@ -1,7 +1,9 @@
 // The report of a month as a table to read.
 ghost use Rattle.std.specs.Prelude.{◌≡◌, ◌<◌, ◌^◌, ◌-◌, ◌++◌, ◌∷◌, [], length, replicate, IfOk, OnOk, decimal};
-ghost use Rattle.usage_report.specs.Lines.{line_name, charges};
-ghost use Rattle.usage_report.specs.Tables.{left, right, table_line, line_text, total_text, report_text};
+ghost use Rattle.office_types.specs.Reports.{charges};
+ghost use Rattle.usage_report.specs.Lines.{line_name};
+ghost use Rattle.usage_report.specs.Tables.{left_aligned, right_aligned, table_line, line_text, total_text};
+ghost use Rattle.usage_report.specs.Tables.{report_text};
 
 use crate::names::line_name;
 use office_base::NoMemory;
@@ -26,7 +28,7 @@ fn fill(out: &mut Vec<u8>, text: &[u8], width: usize) -> Result<(), AllocError>
 
 fn put_left(out: &mut Vec<u8>, text: &[u8], width: usize) -> Result<(), AllocError>
     requires { width < 29 }
-    ensures { OnOk result (out.new.items ≡ out.old.items ++ left width text.now) }
+    ensures { OnOk result (out.new.items ≡ out.old.items ++ left_aligned width text.now) }
 {
     put(out, text)?;
     fill(out, text, width)
@@ -34,7 +36,7 @@ fn put_left(out: &mut Vec<u8>, text: &[u8], width: usize) -> Result<(), AllocErr
 
 fn put_right(out: &mut Vec<u8>, text: &[u8], width: usize) -> Result<(), AllocError>
     requires { width < 29 }
-    ensures { OnOk result (out.new.items ≡ out.old.items ++ right width text.now) }
+    ensures { OnOk result (out.new.items ≡ out.old.items ++ right_aligned width text.now) }
 {
     fill(out, text, width)?;
     put(out, text)
@@ -43,7 +45,7 @@ fn put_right(out: &mut Vec<u8>, text: &[u8], width: usize) -> Result<(), AllocEr
 // Puts the three columns of names, each with a space behind it.
 fn put_names(out: &mut Vec<u8>, bucket: &[u8], kind: &[u8], class: &[u8]) -> Result<(), AllocError>
     ensures { OnOk result (out.new.items ≡ out.old.items
-        ++ (left 24 bucket.now ++ 32 ∷ left 12 kind.now ++ 32 ∷ left 14 class.now ++ 32 ∷ [])) }
+        ++ (left_aligned 24 bucket.now ++ 32 ∷ left_aligned 12 kind.now ++ 32 ∷ left_aligned 14 class.now ++ 32 ∷ [])) }
 {
     put_left(out, bucket, 24)?;
     put(out, b" ")?;
@@ -56,7 +58,7 @@ fn put_names(out: &mut Vec<u8>, bucket: &[u8], kind: &[u8], class: &[u8]) -> Res
 // Puts the two columns of numbers, and ends the line.
 fn put_numbers(out: &mut Vec<u8>, quantity: &[u8], charge: u128) -> Result<(), AllocError>
     ensures { OnOk result (out.new.items ≡ out.old.items
-        ++ (right 28 quantity.now ++ 32 ∷ right 16 (decimal charge) ++ 10 ∷ [])) }
+        ++ (right_aligned 28 quantity.now ++ 32 ∷ right_aligned 16 (decimal charge) ++ 10 ∷ [])) }
 {
     put_right(out, quantity, 28)?;
     put(out, b" ")?;
@@ -115,8 +117,9 @@ fn put_report(out: &mut Vec<u8>, lines: &[ReportLine]) -> Result<(), AllocError>
 }
 
 /// Writes the lines of a report and their total as a table: a line of text for each, with the bucket in a column of 24
-/// characters, the kind in one of 12, the class in one of 14, at the right of 28 the quantity, and at the right of 16 the
-/// charge. Longer texts stand as they are. Quantities are in byte-milliseconds, those of transitions a number of objects;
+/// characters, the kind in one of 12, the class in one of 14, at the right of 28 the quantity, and at the right of 16
+/// the charge. Longer texts stand as they are. Quantities are in byte-milliseconds, those of transitions a number of
+/// objects;
 /// charges are in units.
 ///
 /// Cost: a pass over the lines, and memory for the text.

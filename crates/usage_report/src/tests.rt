@@ -1,5 +1,5 @@
 ghost use Rattle.std.specs.Prelude.{◌≡◌, ◌<◌, ◌^◌, IfOk};
-ghost use Rattle.usage_report.specs.Lines.{charges};
+ghost use Rattle.office_types.specs.Reports.{charges};
 
 use super::*;
 use class_rules::Class;

@@ -21,5 +21,9 @@ returns c =
     let t = c.args.setting.now.t in
     placed_end (with_come t) (version_candidates c.args.setting.now c.args.rules.now c.args.key.now c.changed-changed.result) placed_from placed
     (λ _. refl) (λ _ _ _. refl) _ _ c.versions-versions.result.now c.loop-i.i c.loop-i.i c.loop-i-test.false c.loop-i.invariant
-    ∙ ap (λ changed. with_each t c.args.kept.now (flat_map (version_candidates c.args.setting.now c.args.rules.now c.args.key.now changed) (placed_from 0 c.versions-versions.result.now))) c.changed-changed.ensures
-    ∙ ap (λ versions. with_each t c.args.kept.now (flat_map (version_candidates c.args.setting.now c.args.rules.now c.args.key.now c.args.stack.now.changed) (placed_from 0 versions))) c.versions-versions.ensures.same
+    ∙ ap (λ changed. with_each t c.args.kept.now (flat_map
+    (version_candidates c.args.setting.now c.args.rules.now c.args.key.now changed)
+    (placed_from 0 c.versions-versions.result.now))) c.changed-changed.ensures
+    ∙ ap (λ versions. with_each t c.args.kept.now (flat_map
+    (version_candidates c.args.setting.now c.args.rules.now c.args.key.now c.args.stack.now.changed)
+    (placed_from 0 versions))) c.versions-versions.ensures.same

@@ -1,27 +1,29 @@
-use Rattle.std.proofs.Common.{◌≡◌, ◌∙◌, pos, ap, arith, w16, to_z}
-use Rattle.jiff_core.specs.Calendar.{days_from_civil}
-use Rattle.jiff_core.proofs.SignedLemmas.{signed_casts}
-use Rattle.moments.specs.Months.{first_day, year_of, month_of_year}
-use Rattle.moments.proofs.Calendar.{first_of_month, first_day_bound}
+use Rattle.std.proofs.Common.{◌≡◌, ◌∙◌, ◌≤◌, ℕ, pos, arith, w16, to_z}
+use Rattle.std.proofs.lemmas.Int.{ints}
+use Rattle.jiff.specs.Types.{Date}
+use Rattle.jiff.specs.Words.{epoch_day}
+use Rattle.jiff_core.proofs.SignedLemmas.{signed_arith, signed_casts}
+use Rattle.moments.specs.Months.{months, first_day, year_of, month_of_year}
+use Rattle.moments.proofs.Calendar.{first_is, first_day_bound}
 use Rattle.moments.proofs.month.days_before.Goals as goal
 
--- the day number that jiff gives
-found : (c : goal.After-to_unix_epoch_day) → c.to_unix_epoch_day.result ≡ pos (first_day c.args.number)
-found c =
-    let y : to_z w16 (year_of c.args.number) ≡ pos (year_of c.args.number) = omega (arith, signed_casts, c.requires) in
-    c.to_unix_epoch_day.ensures.value ∙ ap (λ z. days_from_civil z (month_of_year c.args.number) 1) y ∙ first_of_month c.args.number
+-- the day number of the month's first
+found : (n : ℕ) (d : Date) → n ≤ months → d.year ≡ to_z w16 (year_of n) → d.month ≡ month_of_year n → d.day ≡ 1 → epoch_day d ≡ pos (first_day n)
+found n d le year month first =
+    let same : to_z w16 (year_of n) ≡ pos (year_of n) = omega (arith, signed_casts, le) in
+    first_is d n (year ∙ same) month first
 
-pub overflow_cast-result : goal.overflow_cast-result
-overflow_cast-result c =
-    let d : c.to_unix_epoch_day.result ≡ pos (first_day c.args.number) = found c in
-    omega (arith, signed_casts, d, first_day_bound c.args.number c.requires)
+pub days_until-requires : goal.days_until-requires
+days_until-requires c =
+    let is = c.constant-first.ensures in
+    let e = found c.args.number c.constant-first.result c.requires is.0 (omega (arith, ints, signed_casts, is)) (omega (arith, ints, is)) in
+    omega (arith, signed_arith, e)
 
 pub returns-clause-first : goal.returns-clause-first
 returns-clause-first c =
-    let d : c.to_unix_epoch_day.result ≡ pos (first_day c.args.number) = found c in
-    omega (arith, signed_casts, d, first_day_bound c.args.number c.requires)
+    let is = c.constant-first.ensures in
+    let e = found c.args.number c.constant-first.result c.requires is.0 (omega (arith, ints, signed_casts, is)) (omega (arith, ints, is)) in
+    omega (arith, ints, e, c.days_until.ensures)
 
 pub returns-clause-bound : goal.returns-clause-bound
-returns-clause-bound c =
-    let d : c.to_unix_epoch_day.result ≡ pos (first_day c.args.number) = found c in
-    omega (arith, signed_casts, d, first_day_bound c.args.number c.requires)
+returns-clause-bound c = omega (arith, returns-clause-first c, first_day_bound c.args.number c.requires)

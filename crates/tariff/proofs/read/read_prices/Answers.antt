@@ -19,7 +19,8 @@ returns-in_err-prices c =
     let is : c.from_residual.result ≡ Err fault = search rules in
     rw is (passed_on (λ price. price) (λ prices. prices) fault _ (prices_in c.args.table (table_view c.args.members.now) (classes_of c.args.table))
     (λ flaw refused. c.loop-place.invariant.2
-    ∙ prices_refused c.args.table (table_view c.args.members.now) c.classes-class-items.result.now c.loop-place.place _ (take c.loop-place.place c.loop-place.prices) flaw c.loop-place-test.true refused)
+    ∙ prices_refused c.args.table (table_view c.args.members.now) c.classes-class-items.result.now c.loop-place.place _
+    (take c.loop-place.place c.loop-place.prices) flaw c.loop-place-test.true refused)
     c.in_err-prices.ensures)
 
 pub loop-place-preserved : goal.loop-place-preserved
@@ -30,7 +31,8 @@ loop-place-preserved c =
       held.0,
       length-set c.loop-place.prices c.loop-place.place price ∙ held.1,
       held.2
-          ∙ prices_on c.args.table (table_view c.args.members.now) c.classes-class-items.result.now c.loop-place.place _ (take c.loop-place.place c.loop-place.prices) price inside c.in_ok-prices.ensures
+          ∙ prices_on c.args.table (table_view c.args.members.now) c.classes-class-items.result.now c.loop-place.place _
+          (take c.loop-place.place c.loop-place.prices) price inside c.in_ok-prices.ensures
           ∙ ap (λ xs. joined xs (prices_in c.args.table (table_view c.args.members.now) (drop (c.loop-place.place + 1) c.classes-class-items.result.now)))
           (sym (take_more_set c.loop-place.prices c.loop-place.place price (omega (arith, inside, held.1)))),
     )

@@ -4,15 +4,15 @@ use Rattle.std.proofs.lemmas.List.Sums.{sum_by-drop_more}
 use Rattle.std.specs.Io.KnownBytes.{append_known}
 use Rattle.csv.specs.Writing.{default_writer, row_text}
 use Rattle.office_types.specs.declared.reply.ReportLine.{ReportLine}
-use Rattle.usage_report.specs.Lines.{charges}
-use Rattle.usage_report.specs.Csv.{header_row, line_row, total_row}
+use Rattle.office_types.specs.Reports.{charges}
+use Rattle.usage_report.specs.Csv.{report_header, report_row, total_row}
 use Rattle.usage_report.proofs.CsvRows.{rows_of, no_rows, more_rows, all_rows, written_text}
 use Rattle.usage_report.proofs.csv_text.report_csv.Goals as goal
 
 pub loop-line-init : goal.loop-line-init
 loop-line-init c = (
   c.in_ok-put_texts.ensures.ready,
-  c.in_ok-put_texts.ensures.bytes ∙ ap (λ o. append_known o (row_text default_writer header_row)) c.start-sheet.ensures.empty ∙ ap Some no_rows,
+  c.in_ok-put_texts.ensures.bytes ∙ ap (λ o. append_known o (row_text default_writer report_header)) c.start-sheet.ensures.empty ∙ ap Some no_rows,
   omega arith,
 )
 
@@ -23,8 +23,8 @@ loop-line-preserved c =
     let line = c.line-item.result in (
       c.in_ok-put_line.ensures.ready,
       c.in_ok-put_line.ensures.bytes
-          ∙ ap (λ o. append_known o (row_text default_writer (line_row line))) c.loop-line.invariant.1
-          ∙ ap (λ (l : ReportLine). Some (rows_of (take i lines) ++ row_text default_writer (line_row l))) c.line-item.is
+          ∙ ap (λ o. append_known o (row_text default_writer (report_row line))) c.loop-line.invariant.1
+          ∙ ap (λ (l : ReportLine). Some (rows_of (take i lines) ++ row_text default_writer (report_row l))) c.line-item.is
           ∙ ap Some (sym (more_rows lines i line c.loop-line-test.true)),
       omega (arith, sum_by-drop_more (λ (l : ReportLine). l.charge) lines i line c.loop-line-test.true, ap (λ (l : ReportLine). l.charge) c.line-item.is, c.loop-line.invariant.2),
     )

@@ -4,7 +4,7 @@ use Rattle.std.proofs.lemmas.List.{take_all, drop_all}
 use Rattle.std.proofs.lemmas.List.Sums.{sum_by-drop_more}
 use Rattle.std.specs.List.{flat_map}
 use Rattle.office_types.specs.declared.reply.ReportLine.{ReportLine}
-use Rattle.usage_report.specs.Lines.{charges}
+use Rattle.office_types.specs.Reports.{charges}
 use Rattle.usage_report.specs.Tables.{line_text, total_text}
 use Rattle.usage_report.proofs.TableLines.{more_lines, whole_table}
 use Rattle.usage_report.proofs.table.put_report.Goals as goal

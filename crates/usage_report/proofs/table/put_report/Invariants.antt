@@ -1,6 +1,6 @@
 use Rattle.std.proofs.Common.{◌≡◌, ◌+◌, take, drop}
 use Rattle.std.specs.List.{flat_map}
-use Rattle.usage_report.specs.Lines.{charges}
+use Rattle.office_types.specs.Reports.{charges}
 use Rattle.usage_report.specs.Tables.{line_text}
 use Rattle.usage_report.proofs.table.put_report.Given as goal
 

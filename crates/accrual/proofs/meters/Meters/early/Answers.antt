@@ -2,8 +2,8 @@ use Rattle.std.proofs.Common.{◌≡◌, ◌<◌, ◌≤◌, ◌+◌, ◌-◌, �
 use Rattle.std.specs.Prelude.{◌^◌}
 use Rattle.moments.specs.Months.{IsInMonth}
 use Rattle.class_rules.specs.Classes.{rank_of, least_stay}
-use Rattle.accrual.specs.Totals.{Totals, StandsFor, most_bookings}
-use Rattle.accrual.specs.Kept.{IsAdded}
+use Rattle.accrual.specs.Totals.{Totals, AreTotalsOf, most_bookings}
+use Rattle.accrual.specs.Rows.{IsAdded}
 use Rattle.accrual.proofs.Bounds.{bounded_added, added_room, owed_small}
 use Rattle.accrual.proofs.Bookings.{stands_owed, early_numbers}
 use Rattle.accrual.proofs.meters.Meters.early.Goals as goal
@@ -24,5 +24,9 @@ invariant_of-self c =
 pub returns-clause-stands : goal.returns-clause-stands
 returns-clause-stands c book stands =
     let owed : c.args.bytes * c.saturating_sub.result ≡ c.args.bytes * (c.args.entered + least_stay c.args.class - c.args.at) = cc in
-    stands_owed (record { rows = c.self.inside.rows; booked = c.self.inside.booked }) (record { rows = c.add.new.self; booked = c.self.inside.booked + 1 }) book c.args.class c.number_of.result c.args.bytes c.args.entered c.args.at (subst (λ k. IsInMonth k c.args.at) (sym c.number_of.ensures.number) c.month_of.ensures.within)
-    (subst (λ n. IsAdded c.self.inside.rows c.add.new.self c.number_of.result (rank_of c.args.class) (early_numbers n)) owed c.add.ensures) (subst (λ (t : Totals). StandsFor t book) (sym c.self.view_is) stands)
+    stands_owed (record { rows = c.self.inside.rows; booked = c.self.inside.booked })
+    (record { rows = c.add.new.self; booked = c.self.inside.booked + 1 }) book c.args.class c.number_of.result
+    c.args.bytes c.args.entered c.args.at
+    (subst (λ k. IsInMonth k c.args.at) (sym c.number_of.ensures.number) c.month_of.ensures.within)
+    (subst (λ n. IsAdded c.self.inside.rows c.add.new.self c.number_of.result (rank_of c.args.class) (early_numbers n))
+    owed c.add.ensures) (subst (λ (t : Totals). AreTotalsOf t book) (sym c.self.view_is) stands)

@@ -1,7 +1,7 @@
 use Rattle.std.proofs.Common.{◌≡◌, ◌-◌, subst, sym, arith, ◌∙◌}
 use Rattle.moments.specs.Months.{IsInMonth, month_start, month_end, month_at}
-use Rattle.accrual.specs.Totals.{Totals, StandsFor, ms_within}
-use Rattle.accrual.specs.Kept.{HasRowIn, HasBegun, IsBegun}
+use Rattle.accrual.specs.Totals.{Totals, AreTotalsOf, ms_within}
+use Rattle.accrual.specs.Rows.{HasRowIn, HasBegun, IsBegun}
 use Rattle.accrual.proofs.Windows.{within_short, month_at_order}
 use Rattle.accrual.proofs.Bounds.{bounded_finished, bounded_ended, bounded_modest}
 use Rattle.accrual.proofs.Bookings.{stands_begun, stands_ended}
@@ -16,9 +16,12 @@ finish-requires-clause-row c =
 pub finish-requires-clause-within : goal.finish-requires-clause-within
 finish-requires-clause-within c =
     let same : c.ms.result - c.month_window-start.result.0 ≡ c.args.from - month_start c.number_of.result = cc in
-    let stands = subst (λ (t : Totals). StandsFor t c.requires.opened.0) (sym c.self.view_is) c.requires.opened.1 in
+    let stands = subst (λ (t : Totals). AreTotalsOf t c.requires.opened.0) (sym c.self.view_is) c.requires.opened.1 in
     subst (λ n. HasBegun c.self.inside.rows c.args.lines.now c.number_of.result n) (sym same)
-    (stands_begun (record { rows = c.self.inside.rows; booked = c.self.inside.booked }) c.requires.opened.0 c.args.lines.now c.number_of.result c.args.from (subst (λ k. IsInMonth k c.args.from) (sym c.number_of.ensures.number) c.month_of-month.ensures.within) stands c.requires.opened.2)
+    (stands_begun (record { rows = c.self.inside.rows; booked = c.self.inside.booked }) c.requires.opened.0
+    c.args.lines.now c.number_of.result c.args.from
+    (subst (λ k. IsInMonth k c.args.from) (sym c.number_of.ensures.number) c.month_of-month.ensures.within) stands
+    c.requires.opened.2)
 
 pub settle-requires-clause-modest : goal.settle-requires-clause-modest
 settle-requires-clause-modest c month class =
@@ -33,5 +36,11 @@ invariant_of-self c =
 pub returns-clause-stands : goal.returns-clause-stands
 returns-clause-stands c book before after stands split =
     let same : c.ms.result - c.month_window-start.result.0 ≡ c.args.from - month_start c.number_of.result = cc in
-    stands_ended (record { rows = c.self.inside.rows; booked = c.self.inside.booked }) (record { rows = c.finish.new.self; booked = c.self.inside.booked }) (record { rows = c.settle.new.self; booked = c.self.inside.booked }) book before after c.args.lines.now c.number_of.result c.args.from c.args.at (subst (λ k. IsInMonth k c.args.from) (sym c.number_of.ensures.number) c.month_of-month.ensures.within)
-    (subst (λ n. IsBegun c.finish.new.self c.self.inside.rows c.args.lines.now c.number_of.result n) same c.finish.ensures) c.settle.ensures (subst (λ (t : Totals). StandsFor t book) (sym c.self.view_is) stands) split
+    stands_ended (record { rows = c.self.inside.rows; booked = c.self.inside.booked })
+    (record { rows = c.finish.new.self; booked = c.self.inside.booked })
+    (record { rows = c.settle.new.self; booked = c.self.inside.booked }) book before after c.args.lines.now
+    c.number_of.result c.args.from c.args.at
+    (subst (λ k. IsInMonth k c.args.from) (sym c.number_of.ensures.number) c.month_of-month.ensures.within)
+    (subst (λ n. IsBegun c.finish.new.self c.self.inside.rows c.args.lines.now c.number_of.result n) same
+    c.finish.ensures) c.settle.ensures (subst (λ (t : Totals). AreTotalsOf t book) (sym c.self.view_is) stands)
+    split

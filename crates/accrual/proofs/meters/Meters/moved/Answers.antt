@@ -1,7 +1,7 @@
 use Rattle.std.proofs.Common.{◌<◌, ◌+◌, subst, sym, ap, arith}
 use Rattle.moments.specs.Months.{IsInMonth}
 use Rattle.class_rules.specs.Classes.{rank_of}
-use Rattle.accrual.specs.Totals.{Totals, StandsFor, most_bookings}
+use Rattle.accrual.specs.Totals.{Totals, AreTotalsOf, most_bookings}
 use Rattle.accrual.proofs.Bounds.{bounded_added, added_room}
 use Rattle.accrual.proofs.Bookings.{stands_moved}
 use Rattle.accrual.proofs.meters.Meters.moved.Goals as goal
@@ -16,4 +16,7 @@ invariant_of-self c =
 
 pub returns-clause-stands : goal.returns-clause-stands
 returns-clause-stands c book stands =
-    stands_moved (record { rows = c.self.inside.rows; booked = c.self.inside.booked }) (record { rows = c.add.new.self; booked = c.self.inside.booked + 1 }) book c.args.to c.number_of.result c.args.at (subst (λ k. IsInMonth k c.args.at) (sym c.number_of.ensures.number) c.month_of.ensures.within) c.add.ensures (subst (λ (t : Totals). StandsFor t book) (sym c.self.view_is) stands)
+    stands_moved (record { rows = c.self.inside.rows; booked = c.self.inside.booked })
+    (record { rows = c.add.new.self; booked = c.self.inside.booked + 1 }) book c.args.to c.number_of.result
+    c.args.at (subst (λ k. IsInMonth k c.args.at) (sym c.number_of.ensures.number) c.month_of.ensures.within)
+    c.add.ensures (subst (λ (t : Totals). AreTotalsOf t book) (sym c.self.view_is) stands)

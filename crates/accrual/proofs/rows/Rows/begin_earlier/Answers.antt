@@ -1,7 +1,7 @@
 use Rattle.std.proofs.Common.{◌≡◌, ◌-◌, ◌++◌, rules, arith}
 use Rattle.std.specs.Prelude.{replicate}
 use Rattle.std.proofs.lemmas.List.{length-replicate}
-use Rattle.accrual.specs.Kept.{nothing}
+use Rattle.accrual.specs.Rows.{nothing}
 use Rattle.accrual.proofs.Places.{kept_preceded, emptied}
 use Rattle.accrual.proofs.rows.Rows.begin_earlier.Goals as goal
 

@@ -2,7 +2,7 @@ use Rattle.std.proofs.Common.{ℕ, ◌≤◌, ◌+◌, length, take}
 use Rattle.moments.specs.Months.{months}
 use Rattle.class_rules.specs.Classes.{rank_of}
 use Rattle.class_rules.specs.declared.class.Class.{Class}
-use Rattle.accrual.specs.Kept.{kept_in}
+use Rattle.accrual.specs.Rows.{kept_in}
 use Rattle.accrual.specs.Sums.{AreSumsIn, IsSmall}
 use Rattle.accrual.proofs.rows.Rows.from_sums.Given as goal
 

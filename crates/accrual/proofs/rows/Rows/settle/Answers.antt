@@ -5,7 +5,9 @@ use Rattle.accrual.proofs.Windows.{within_short}
 use Rattle.accrual.proofs.rows.Rows.settle.Goals as goal
 
 pub loop-month-init : goal.loop-month-init
-loop-month-init c = settle_start c.args.self.now c.args.lines.now c.args.from c.args.at c.number_of-first.result (subst (λ k. IsInMonth k c.args.from) (sym c.number_of-first.ensures.number) c.month_of.ensures.within)
+loop-month-init c =
+    settle_start c.args.self.now c.args.lines.now c.args.from c.args.at c.number_of-first.result
+    (subst (λ k. IsInMonth k c.args.from) (sym c.number_of-first.ensures.number) c.month_of.ensures.within)
 
 pub settle_month-requires-clause-short : goal.settle_month-requires-clause-short
 settle_month-requires-clause-short c = let w = within_short c.loop-month.month c.args.from c.args.at in omega (arith, w)

@@ -1,14 +1,19 @@
 use Rattle.std.proofs.Common.{subst, sym}
 use Rattle.class_rules.specs.Classes.{rank_of}
 use Rattle.class_rules.specs.declared.class.Class.{Class}
-use Rattle.accrual.specs.Kept.{kept_in, IsAdded, HasRoom}
+use Rattle.accrual.specs.Rows.{kept_in, IsAdded, HasRoom}
 use Rattle.accrual.proofs.Changes.{ended_is, ended_room}
 use Rattle.accrual.proofs.rows.Rows.settle_month.Goals as goal
 
 pub add-requires-2-clause-room : goal.add-requires-2-clause-room
 add-requires-2-clause-room c =
     subst (λ k. HasRoom (kept_in c.add.new.self c.args.month 0) k) (sym c.ended-2.ensures)
-    (ended_room c.args.self.now c.add.new.self c.args.lines.now c.args.month c.args.ms (subst (λ k. IsAdded c.args.self.now c.add.new.self c.args.month (rank_of c.args.lines.now.class) k) c.ended.ensures c.add.ensures) (c.requires.modest Class.Standard) c.requires.billed c.requires.short)
+    (ended_room c.args.self.now c.add.new.self c.args.lines.now c.args.month c.args.ms (subst
+    (λ k. IsAdded c.args.self.now c.add.new.self c.args.month (rank_of c.args.lines.now.class) k)
+    c.ended.ensures c.add.ensures) (c.requires.modest Class.Standard) c.requires.billed c.requires.short)
 
 pub returns : goal.returns
-returns c = ended_is c.args.self.now c.add.new.self c.add-2.new.self c.args.lines.now c.args.month c.args.ms (subst (λ k. IsAdded c.args.self.now c.add.new.self c.args.month (rank_of c.args.lines.now.class) k) c.ended.ensures c.add.ensures) (subst (λ k. IsAdded c.add.new.self c.add-2.new.self c.args.month 0 k) c.ended-2.ensures c.add-2.ensures)
+returns c = ended_is c.args.self.now c.add.new.self c.add-2.new.self c.args.lines.now c.args.month c.args.ms
+    (subst (λ k. IsAdded c.args.self.now c.add.new.self c.args.month (rank_of c.args.lines.now.class) k) c.ended.ensures
+    c.add.ensures)
+    (subst (λ k. IsAdded c.add.new.self c.add-2.new.self c.args.month 0 k) c.ended-2.ensures c.add-2.ensures)

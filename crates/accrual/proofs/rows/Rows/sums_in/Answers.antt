@@ -5,9 +5,11 @@ use Rattle.accrual.proofs.rows.Rows.sums_in.Goals as goal
 pub returns-then-is_nothing-clause-none : goal.returns-then-is_nothing-clause-none
 returns-then-is_nothing-clause-none c =
     nothing_there c.args.self.now c.args.month c.sums_of-sums.result
-    (month_row c.args.self.now c.args.month c.index.result.now c.sums_of-sums.result c.requires.row (search rules) (search rules) c.sums_of-sums.ensures.ended c.sums_of-sums.ensures.early c.sums_of-sums.ensures.moves)
+    (month_row c.args.self.now c.args.month c.index.result.now c.sums_of-sums.result c.requires.row (search rules)
+    (search rules) c.sums_of-sums.ensures.ended c.sums_of-sums.ensures.early c.sums_of-sums.ensures.moves)
     (search rules)
 
 pub returns-clause-sums : goal.returns-clause-sums
 returns-clause-sums c =
-    month_row c.args.self.now c.args.month c.index.result.now c.sums_of-sums.result c.requires.row (search rules) (search rules) c.sums_of-sums.ensures.ended c.sums_of-sums.ensures.early c.sums_of-sums.ensures.moves
+    month_row c.args.self.now c.args.month c.index.result.now c.sums_of-sums.result c.requires.row (search rules)
+    (search rules) c.sums_of-sums.ensures.ended c.sums_of-sums.ensures.early c.sums_of-sums.ensures.moves

@@ -4,7 +4,7 @@ use Rattle.class_rules.specs.Classes.{rank_of}
 use Rattle.class_rules.specs.Lines.{lines_of}
 use Rattle.class_rules.specs.declared.class.Class.{Class}
 use Rattle.class_rules.specs.declared.billing.Lines.{Lines}
-use Rattle.accrual.specs.Meters.{bytes_in}
+use Rattle.accrual.specs.Meters.{bytes_in_class}
 use Rattle.accrual.specs.declared.rows.Kept.{Kept}
 use Rattle.accrual.specs.declared.rows.Rows.{Rows}
 
@@ -13,7 +13,8 @@ nothing = record { ended = 0; running = 0; since = 0; early = 0; moves = 0 }
 
 -- what is kept of the class with this rank in the month: nothing where there is no row
 unfoldable pub kept_in : Rows → ℕ → ℕ → Kept
-kept_in rows month rank = if nat_le rows.first month then get_or (get_or rows.rows.items (month - rows.first) []) rank nothing else nothing
+kept_in rows month rank =
+    if nat_le rows.first month then get_or (get_or rows.rows.items (month - rows.first) []) rank nothing else nothing
 
 abbrev pub HasRowIn : Rows → ℕ → Type 0
 HasRowIn rows month = (rows.first ≤ month) × (month < rows.first + length rows.rows.items)
@@ -74,14 +75,19 @@ ended_numbers bytes ms = record { ended = bytes * ms; running = 0; since = 0; ea
 
 -- the kept numbers of the month hold a stay with these lines, so many milliseconds after its start
 abbrev pub HasBegun : Rows → Lines → ℕ → ℕ → Type 0
-HasBegun rows lines month ms = (class : Class) → (bytes_in class (lines_of lines) ≤ (kept_in rows month (rank_of class)).running)
-    × (bytes_in class (lines_of lines) * ms ≤ (kept_in rows month (rank_of class)).since)
+HasBegun rows lines month ms =
+    (class : Class) → (bytes_in_class class (lines_of lines) ≤ (kept_in rows month (rank_of class)).running)
+    × (bytes_in_class class (lines_of lines) * ms ≤ (kept_in rows month (rank_of class)).since)
 
 -- stays with these lines began in the month, so many milliseconds after its start
 pub record IsBegun (old new : Rows) (lines : Lines) (month ms : ℕ) : Type 0 where
   pub ended : (m r : ℕ) → (kept_in new m r).ended ≡ (kept_in old m r).ended
-  pub running : (m : ℕ) (class : Class) → (kept_in new m (rank_of class)).running ≡ (kept_in old m (rank_of class)).running + in_month month m (bytes_in class (lines_of lines))
-  pub since : (m : ℕ) (class : Class) → (kept_in new m (rank_of class)).since ≡ (kept_in old m (rank_of class)).since + in_month month m (bytes_in class (lines_of lines) * ms)
+  pub running : (m : ℕ) (class : Class)
+      → (kept_in new m (rank_of class)).running
+      ≡ (kept_in old m (rank_of class)).running + in_month month m (bytes_in_class class (lines_of lines))
+  pub since : (m : ℕ) (class : Class)
+      → (kept_in new m (rank_of class)).since
+      ≡ (kept_in old m (rank_of class)).since + in_month month m (bytes_in_class class (lines_of lines) * ms)
   pub early : (m r : ℕ) → (kept_in new m r).early ≡ (kept_in old m r).early
   pub moves : (m r : ℕ) → (kept_in new m r).moves ≡ (kept_in old m r).moves
   pub first : new.first ≡ old.first
@@ -89,7 +95,9 @@ pub record IsBegun (old new : Rows) (lines : Lines) (month ms : ℕ) : Type 0 wh
 
 -- a stay with these lines has ended, which was so many milliseconds long in each month
 pub record IsEnded (old new : Rows) (lines : Lines) (ms : ℕ → ℕ) : Type 0 where
-  pub ended : (m : ℕ) (class : Class) → (kept_in new m (rank_of class)).ended ≡ (kept_in old m (rank_of class)).ended + bytes_in class (lines_of lines) * ms m
+  pub ended : (m : ℕ) (class : Class)
+      → (kept_in new m (rank_of class)).ended
+      ≡ (kept_in old m (rank_of class)).ended + bytes_in_class class (lines_of lines) * ms m
   pub running : (m r : ℕ) → (kept_in new m r).running ≡ (kept_in old m r).running
   pub since : (m r : ℕ) → (kept_in new m r).since ≡ (kept_in old m r).since
   pub early : (m r : ℕ) → (kept_in new m r).early ≡ (kept_in old m r).early
