@@ -133,7 +133,9 @@ module _ (whats : List What) (before : Account) (counts : Counts) (after : Accou
   accepted_done done told same is = ap (λ (r : Reply). is_accepted (Ok r)) same ∙ is
 
   -- its reply is not that nothing is due
-  pub something_by : (told : Change) → told_is told ≡ true → (result : Result Done Refusal) → DoesTold whats told before counts after result → (P : Type 0) → IfOk result (λ done. done.reply ≡ NothingDue → P)
+  pub something_by : (told : Change) → told_is told ≡ true → (result : Result Done Refusal)
+      → DoesTold whats told before counts after result → (P : Type 0)
+      → IfOk result (λ done. done.reply ≡ NothingDue → P)
   something_by told is (Err refusal) h P = tt
   something_by (Err refused) is (Ok done) h P = absurd h
   something_by (Ok told) is (Ok done) h P = λ nothing.

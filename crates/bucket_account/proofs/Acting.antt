@@ -1,12 +1,11 @@
 -- What is known of the lifecycle action that is chosen before it is done.
-use Rattle.std.proofs.Common.{◌≡◌, ◌⊎◌, inl, inr, ℕ, ◌≤◌, ◌<◌, List, [], ◌∷◌, ◌++◌, refl, ap, sym, ◌∙◌, subst, Bool, true, false, cond}
+use Rattle.std.proofs.Common.{◌≡◌, ◌⊎◌, inl, inr, ℕ, ◌≤◌, ◌<◌, List, refl, ap, sym, ◌∙◌, subst, Bool, true, cond}
 use Rattle.std.specs.Prelude.{Option, Some, None, Result, Ok, Err, unwrap_or, IsSome, IfSome, is_some, IsTrue}
-use Rattle.std.specs.List.{list_any}
-use Rattle.std.proofs.lemmas.Bool.{and_parts, or_parts}
+use Rattle.std.proofs.lemmas.Bool.{and_parts}
 use Rattle.office_base.specs.Maps.{at_name, at_number}
 use Rattle.office_base.specs.declared.version_id.VersionId.{VersionId}
 use Rattle.class_rules.specs.declared.class.Class.{Class}
-use Rattle.stacks.specs.Stacks.{StackRecord, new_stack, has_id, ids_differ, version_at}
+use Rattle.stacks.specs.Stacks.{StackRecord, new_stack, ids_differ, version_at}
 use Rattle.stacks.specs.declared.version.Kind.{Kind}
 use Rattle.stacks.specs.declared.version.Kind.TheVariants as kind
 use Rattle.stacks.specs.declared.version.Version.{Version}
@@ -29,8 +28,9 @@ use Rattle.office_laws.proofs.Asked.{HasPlace, Suits, choice_suits}
 use Rattle.office_laws.proofs.Buckets.{stack_orderly}
 use Rattle.office_laws.proofs.Chosen.{MayMark, HasTarget, chosen_target}
 use Rattle.office_laws.proofs.Ends.{tidy_from_orderly}
-use Rattle.office_laws.proofs.Ids.{same_itself, apart}
+use Rattle.office_laws.proofs.Ids.{apart}
 use Rattle.office_laws.proofs.Lowers.{MoveFits}
+use Rattle.office_laws.proofs.Acts.{place_version}
 use Rattle.bucket_account.specs.declared.counts.Counts.{Counts}
 use Rattle.bucket_account.specs.Booking.{MayCome}
 use Rattle.bucket_account.specs.Changing.{IsOrderlyAccount}
@@ -40,17 +40,11 @@ use Rattle.bucket_account.specs.Moving.{IsAnObject}
 
 -- ---- the version of a place
 
-found_place : (front : List Version) (v : Version) (back : List Version) → list_any (has_id v.id) front ≡ false → version_at v.id (front ++ v ∷ back) ≡ Some v
-found_place [] v back h = let same = same_itself v.id in rw same refl
-found_place (f ∷ front) v back h =
-    let parts = or_parts (has_id v.id f) (list_any (has_id v.id) front) h in
-    rw parts.0 (found_place front v back parts.1)
-
 placed_at : (kind : ActionKind) (id : VersionId) (versions : List Version) → ids_differ versions ≡ true → (place : HasPlace versions kind id) → version_at id versions ≡ Some place.version
 placed_at kind id versions differ place =
     subst (λ (i : VersionId). version_at i versions ≡ Some place.version) place.same
     (ap (λ (l : List Version). version_at place.version.id l) place.is
-    ∙ found_place place.front place.version place.back (apart place.front place.version place.back (ap ids_differ (sym place.is) ∙ differ)).0)
+    ∙ place_version place.front place.version place.back (apart place.front place.version place.back (ap ids_differ (sym place.is) ∙ differ)).0)
 
 object_moves : (to : Class) (kind : Kind) → MoveFits to kind → IsTrue (is_object kind)
 object_moves to (kind.Object size class tags entered) fits = refl

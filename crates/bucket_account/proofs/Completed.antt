@@ -1,7 +1,7 @@
 -- A bucket after an upload was completed: the object comes before its parts' stays end, which is the same as after.
 use Rattle.std.proofs.Common.{◌≡◌, ◌⊎◌, inl, inr, ℕ, ◌≤◌, List, [], ◌∷◌, refl, ap, sym, ◌∙◌, subst, true, false, arith}
 use Rattle.std.specs.Prelude.{Some, None, Ok, Err, option_map}
-use Rattle.accrual.specs.Totals.{Totals, StandsFor}
+use Rattle.accrual.specs.Totals.{Totals, AreTotalsOf}
 use Rattle.office_base.specs.Maps.{at_number, without_number, with_name}
 use Rattle.office_base.specs.declared.version_id.VersionId.{VersionId}
 use Rattle.rules_core.specs.Matching.{is_empty}
@@ -21,7 +21,7 @@ use Rattle.office_types.specs.declared.refusal.What.TheVariants.{Versions, Names
 use Rattle.office_laws.proofs.Uploads.{bucket_without, stays_aborted}
 use Rattle.bucket_account.specs.declared.counts.Counts.{Counts}
 use Rattle.bucket_account.specs.declared.incoming.Incoming.{Incoming}
-use Rattle.bucket_account.specs.Booking.{leaving_of, stack_under, stack_put, gone_of, books_put, counts_after, gone_bytes, MayHaveStay, IsReady, AreMovable}
+use Rattle.bucket_account.specs.Booking.{leaving_of, stack_under, stack_put, gone_of, books_put, counts_after, gone_bytes, MayHaveStay, MayBePut, AreMovable}
 use Rattle.bucket_account.specs.Changing.{IsOrderlyAccount, DoesTold}
 use Rattle.bucket_account.specs.Counting.{AccountRecord, account_of, AreCountsOver, HaveMoved, first_over, IsFullOf}
 use Rattle.bucket_account.specs.Effects.{IsReadyAt}
@@ -59,7 +59,7 @@ module _ (account : Account) (number t : ℕ) (upload : UploadRecord) (there : a
   left_ready : IsReadyAt upload.key t left
   left_ready = ready_at upload.key t left left_orderly
 
-  whole_ready : IsReady object (stack_under upload.key account.bucket.stacks)
+  whole_ready : MayBePut object (stack_under upload.key account.bucket.stacks)
   whole_ready = ready_for account.bucket account refl upload.key kind t refl (ready_at upload.key t account orderly)
 
   whole_stay : MayHaveStay upload.key (gone_of upload.key object account.bucket.stacks) account.books
@@ -91,17 +91,22 @@ module _ (account : Account) (number t : ℕ) (upload : UploadRecord) (there : a
     abbrev pub Completes : BucketRecord → Incoming → Type 0
     Completes b object = (stacks : List (List ℕ × StackRecord)) → stacks ≡ with_name upload.key (stack_put object (stack_under upload.key b.stacks)) b.stacks
         → (uploads : List (ℕ × UploadRecord)) → uploads ≡ without_number number b.uploads → (next : ℕ) → next ≡ number_after b.versioning b.next_version
-        → (meters : Totals) → StandsFor meters (book_of (parts_ended upload.key number object.at upload.parts (books_put upload.key object (gone_of upload.key object b.stacks) account.books)))
+        → (meters : Totals) → AreTotalsOf meters (book_of (parts_ended upload.key number object.at upload.parts (books_put upload.key object (gone_of upload.key object b.stacks) account.books)))
         → (less : Counts) → less ≡ counts_without upload counts → (after : Counts) → after ≡ counts_after upload.key object b.stacks less → first_over whats after ≡ None
         → (version : VersionId) → version ≡ new_id b.versioning b.next_version
-        → DoesTold whats (complete t number account) account counts (account_of (record b { stacks = stacks; uploads = uploads; next_version = next }) meters) (Ok (record { counts = after; reply = Stored t version }))
+        → DoesTold whats (complete t number account) account counts
+        (account_of (record b { stacks = stacks; uploads = uploads; next_version = next }) meters)
+        (Ok (record { counts = after; reply = Stored t version }))
 
     completes : is_empty upload.parts ≡ false → Completes account.bucket object
     completes some stacks written uploads went next is meters stands less without after are free version named =
-        let ended = subst (λ (b : Books). StandsFor meters (book_of b)) (all_swap upload.key number t object refl (gone_of upload.key object account.bucket.stacks) upload.parts account.books) stands in
+        let ended = subst (λ (b : Books). AreTotalsOf meters (book_of b)) (all_swap upload.key number t object refl
+        (gone_of upload.key object account.bucket.stacks) upload.parts account.books) stands in
         let same = are ∙ ap (λ (l : Counts). counts_after upload.key object account.bucket.stacks l) without in
         let put = done_for left.bucket left refl upload.key kind t refl left_ready (counts_without upload counts) over_left whats stacks written next is meters ended after same free in
-        subst (λ (told : Change). DoesTold whats told account counts (account_of (record account.bucket { stacks = stacks; uploads = uploads; next_version = next }) meters) (Ok (record { counts = after; reply = Stored t version })))
+        subst (λ (told : Change). DoesTold whats told account counts
+        (account_of (record account.bucket { stacks = stacks; uploads = uploads; next_version = next }) meters)
+        (Ok (record { counts = after; reply = Stored t version })))
         (sym (complete_is some)) (
           ap (λ (id : VersionId). Stored t id) named,
           record {
@@ -126,7 +131,8 @@ module _ (account : Account) (number t : ℕ) (upload : UploadRecord) (there : a
 
 -- ---- of any account that the bucket stands for, and any object that is the upload's
 
-module _ (b : BucketRecord) (account : Account) (same : b ≡ account.bucket) (number t : ℕ) (upload : UploadRecord) (found : at_number number b.uploads ≡ Some upload) (orderly : IsOrderlyAccount t account) where
+module _ (b : BucketRecord) (account : Account) (same : b ≡ account.bucket) (number t : ℕ) (upload : UploadRecord)
+    (found : at_number number b.uploads ≡ Some upload) (orderly : IsOrderlyAccount t account) where
   abbrev there_for : at_number number account.bucket.uploads ≡ Some upload
   there_for = subst (λ (x : BucketRecord). at_number number x.uploads ≡ Some upload) same found
 
@@ -141,10 +147,10 @@ module _ (b : BucketRecord) (account : Account) (same : b ≡ account.bucket) (n
     whole_is : object ≡ whole_of upload account.bucket.versioning account.bucket.next_version t
     whole_is = is ∙ ap (λ (x : BucketRecord). whole_of upload x.versioning x.next_version t) same
 
-    pub object_ready : IsReady object (stack_under upload.key b.stacks)
+    pub object_ready : MayBePut object (stack_under upload.key b.stacks)
     object_ready =
-        subst (λ (o : Incoming). IsReady o (stack_under upload.key b.stacks)) (sym whole_is)
-        (subst (λ (x : BucketRecord). IsReady (whole_of upload account.bucket.versioning account.bucket.next_version t) (stack_under upload.key x.stacks)) (sym same)
+        subst (λ (o : Incoming). MayBePut o (stack_under upload.key b.stacks)) (sym whole_is)
+        (subst (λ (x : BucketRecord). MayBePut (whole_of upload account.bucket.versioning account.bucket.next_version t) (stack_under upload.key x.stacks)) (sym same)
         (whole_ready account number t upload there_for orderly))
 
     pub object_stay : MayHaveStay upload.key (gone_of upload.key object b.stacks) account.books
@@ -164,7 +170,9 @@ module _ (b : BucketRecord) (account : Account) (same : b ≡ account.bucket) (n
       object_room less without =
           subst (λ (l : Counts). AreMovable l (gone_bytes (option_map leaving_of (gone_of upload.key object b.stacks)))) (sym without)
           (subst (λ (o : Incoming). AreMovable (counts_without upload counts) (gone_bytes (option_map leaving_of (gone_of upload.key o b.stacks)))) (sym whole_is)
-          (subst (λ (x : BucketRecord). AreMovable (counts_without upload counts) (gone_bytes (option_map leaving_of (gone_of upload.key (whole_of upload account.bucket.versioning account.bucket.next_version t) x.stacks)))) (sym same)
+          (subst (λ (x : BucketRecord). AreMovable (counts_without upload counts) (gone_bytes
+          (option_map leaving_of (gone_of upload.key
+          (whole_of upload account.bucket.versioning account.bucket.next_version t) x.stacks)))) (sym same)
           (whole_room account number t upload there_for orderly counts over_it)))
 
       pub completes_for : is_empty upload.parts ≡ false → Completes account number t upload there_for orderly counts over_it b object

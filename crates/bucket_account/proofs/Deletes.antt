@@ -27,7 +27,8 @@ one_null : (versions : List Version) → IsOneNullObject versions → IsSome (ve
 one_null [] is = absurd is
 one_null (v ∷ versions) is = subst (λ (id : VersionId). IsSome (version_at Null (record v { id = id } ∷ versions))) (sym is.1) refl
 
-pub null_there : (b : BucketRecord) (last : ℕ) → IsOrderlyBucket last b → b.versioning ≡ Unversioned → (key : List ℕ) → is_some (at_name key b.stacks) ≡ true → IsSome (version_at Null (versions_of key b))
+pub null_there : (b : BucketRecord) (last : ℕ) → IsOrderlyBucket last b → b.versioning ≡ Unversioned → (key : List ℕ)
+    → is_some (at_name key b.stacks) ≡ true → IsSome (version_at Null (versions_of key b))
 null_there b last orderly is key there = by (at_name key b.stacks) refl there where
   by : (o : Option StackRecord) → at_name key b.stacks ≡ o → is_some o ≡ true → IsSome (version_at Null (unwrap_or o (new_stack 0)).versions)
   by None found some = absurd cc

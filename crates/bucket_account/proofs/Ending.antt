@@ -10,8 +10,8 @@ use Rattle.class_rules.specs.declared.class.Class.{Class}
 use Rattle.stacks.specs.declared.version.Kind.{Kind}
 use Rattle.stacks.specs.declared.version.Kind.TheVariants.{Object, Marker}
 use Rattle.stacks.specs.declared.version.Version.{Version}
-use Rattle.accrual.specs.Books.{Book, Stay, Early, open_stay, ended_stay, with_stay, with_early}
-use Rattle.accrual.specs.Totals.{Totals, StandsFor, HasOpenStay, with_early_of}
+use Rattle.accrual.specs.Books.{Book, Stay, Early, open_stay, ended_stay, book_with_stay, book_with_early}
+use Rattle.accrual.specs.Totals.{Totals, AreTotalsOf, HasOpenStay, with_early_of}
 use Rattle.plain_office.specs.Office.{Books, of_version, book_of, stay_in}
 use Rattle.plain_office.specs.Books as plain
 use Rattle.plain_office.specs.Books.{lines_of_kind, with_end}
@@ -51,11 +51,11 @@ module _ (key : List ℕ) (version : Version) (at : ℕ) (books : Books) (has : 
       (sym (ap (map stay_in) once.3 ∙ map-append stay_in once.0 ((record { key = key; item = of_version version.id }, ended_stay lines from at) ∷ once.1)))
 
   -- what the meters say of the end, said of the books
-  pub stay_ended : (old new : Totals) → StandsFor old (book_of books)
-      → ((book : Book) (front back : List Stay) → StandsFor old book → book.stays ≡ front ++ open_stay lines from ∷ back
-      → StandsFor new (record book { stays = front ++ ended_stay lines from at ∷ back }))
-      → StandsFor new (book_of (with_end key (of_version version.id) at books))
-  stay_ended old new stands ends = subst (StandsFor new) ended_is (ends (book_of books) before after stands stands_there)
+  pub stay_ended : (old new : Totals) → AreTotalsOf old (book_of books)
+      → ((book : Book) (front back : List Stay) → AreTotalsOf old book → book.stays ≡ front ++ open_stay lines from ∷ back
+      → AreTotalsOf new (record book { stays = front ++ ended_stay lines from at ∷ back }))
+      → AreTotalsOf new (book_of (with_end key (of_version version.id) at books))
+  stay_ended old new stands ends = subst (AreTotalsOf new) ended_is (ends (book_of books) before after stands stands_there)
 
 -- what an object owes, as the meters book it
 pub early_is : (size : ℕ) (class : Class) (tags : List Tag) (entered at : ℕ) (books : Books)
@@ -64,13 +64,13 @@ early_is size class tags entered at books = by (nat_lt at (entered + least_stay 
   entry : Early
   entry = record { class = class; amount = own_bytes class size * (entered + least_stay class - at); moment = at }
 
-  by : (b : Bool) → cond b (with_early entry (book_of books)) (book_of books) ≡ book_of (cond b (record books { early = books.early ++ entry ∷ [] }) books)
+  by : (b : Bool) → cond b (book_with_early entry (book_of books)) (book_of books) ≡ book_of (cond b (record books { early = books.early ++ entry ∷ [] }) books)
   by true = refl
   by false = refl
 
 -- a version begins
 pub begun_is : (key : List ℕ) (version : Version) (at : ℕ) (books : Books)
-    → with_stay (open_stay (lines_of_kind key version.kind) at) (book_of books) ≡ book_of (plain.with_version key version at books)
+    → book_with_stay (open_stay (lines_of_kind key version.kind) at) (book_of books) ≡ book_of (plain.with_version key version at books)
 begun_is key version at books =
     ap (λ (stays : List Stay). record { stays = stays; early = books.early; moves = books.moves })
     (sym (map-append stay_in books.stays ((record { key = key; item = of_version version.id }, open_stay (lines_of_kind key version.kind) at) ∷ [])))
@@ -79,8 +79,8 @@ begun_is key version at books =
 
 -- what the meters say of the end of a stay
 abbrev pub Ends : Totals → Totals → ℕ → List (Class × ℕ) → ℕ → Type 0
-Ends old new at lines from = (book : Book) (front back : List Stay) → StandsFor old book → book.stays ≡ front ++ open_stay lines from ∷ back
-    → StandsFor new (record book { stays = front ++ ended_stay lines from at ∷ back })
+Ends old new at lines from = (book : Book) (front back : List Stay) → AreTotalsOf old book → book.stays ≡ front ++ open_stay lines from ∷ back
+    → AreTotalsOf new (record book { stays = front ++ ended_stay lines from at ∷ back })
 
 module _ (key : List ℕ) (version : Version) (at : ℕ) (books : Books) (has : HasStay key version books) where
   abbrev of_kind : Kind → Version
@@ -92,27 +92,34 @@ module _ (key : List ℕ) (version : Version) (at : ℕ) (books : Books) (has : 
         subst (λ (l : List (Class × ℕ)). HasOpenStay l (lines_since (of_kind kind)) (book_of books)) (sym same)
         (subst (λ (k : Kind). HasOpenStay (lines_of_kind key k) (lines_since (of_kind k)) (book_of books)) is (has_open key version at books has))
 
-    pub gone : (old new : Totals) → StandsFor old (book_of books) → Ends old new at lines (lines_since (of_kind kind)) → StandsFor new (book_of (with_end key (of_version version.id) at books))
+    pub gone : (old new : Totals) → AreTotalsOf old (book_of books) → Ends old new at lines (lines_since (of_kind kind)) → AreTotalsOf new (book_of (with_end key (of_version version.id) at books))
     gone old new stands ends =
         stay_ended key version at books has old new stands
         (subst (λ (k : Kind). Ends old new at (lines_of_kind key k) (lines_since (of_kind k))) (sym is)
         (subst (λ (l : List (Class × ℕ)). Ends old new at l (lines_since (of_kind kind))) same ends))
 
-  pub object_gone : (size : ℕ) (class : Class) (tags : List Tag) (entered : ℕ) → version.kind ≡ Object size class tags entered → (lines : Lines) → lines_of lines ≡ object_lines class size → lines.class ≡ class → lines.bytes ≡ own_bytes class size
-      → (old middle new : Totals) → StandsFor old (book_of books) → Ends old middle at (lines_of lines) entered → ((book : Book) → StandsFor middle book → StandsFor new (with_early_of lines.class lines.bytes entered at book))
-      → StandsFor new (book_of (plain.without_version key version at books))
+  pub object_gone : (size : ℕ) (class : Class) (tags : List Tag) (entered : ℕ)
+      → version.kind ≡ Object size class tags entered → (lines : Lines) → lines_of lines ≡ object_lines class size
+      → lines.class ≡ class → lines.bytes ≡ own_bytes class size
+      → (old middle new : Totals) → AreTotalsOf old (book_of books) → Ends old middle at (lines_of lines) entered
+      → ((book : Book) → AreTotalsOf middle book
+      → AreTotalsOf new (with_early_of lines.class lines.bytes entered at book))
+      → AreTotalsOf new (book_of (plain.without_version key version at books))
   object_gone size class tags entered is lines same of_class own old middle new stands ends owes =
       let left : Books = with_end key (of_version version.id) at books in
-      let ended : StandsFor middle (book_of left) = gone (Object size class tags entered) is (lines_of lines) same old middle stands ends in
-      let owed : StandsFor new (with_early_of lines.class lines.bytes entered at (book_of left)) = owes (book_of left) ended in
-      let of_the_class : StandsFor new (with_early_of class lines.bytes entered at (book_of left)) = subst (λ (c : Class). StandsFor new (with_early_of c lines.bytes entered at (book_of left))) of_class owed in
-      let of_bytes : StandsFor new (with_early_of class (own_bytes class size) entered at (book_of left)) = subst (λ (n : ℕ). StandsFor new (with_early_of class n entered at (book_of left))) own of_the_class in
-      subst (λ (k : Kind). StandsFor new (book_of (plain.with_early k at left))) (sym is)
-      (subst (StandsFor new) (early_is size class tags entered at left) of_bytes)
+      let ended : AreTotalsOf middle (book_of left) = gone (Object size class tags entered) is (lines_of lines) same old middle stands ends in
+      let owed : AreTotalsOf new (with_early_of lines.class lines.bytes entered at (book_of left)) = owes (book_of left) ended in
+      let of_the_class : AreTotalsOf new (with_early_of class lines.bytes entered at (book_of left)) =
+      subst (λ (c : Class). AreTotalsOf new (with_early_of c lines.bytes entered at (book_of left))) of_class
+      owed in
+      let of_bytes : AreTotalsOf new (with_early_of class (own_bytes class size) entered at (book_of left)) =
+      subst (λ (n : ℕ). AreTotalsOf new (with_early_of class n entered at (book_of left))) own of_the_class in
+      subst (λ (k : Kind). AreTotalsOf new (book_of (plain.with_early k at left))) (sym is)
+      (subst (AreTotalsOf new) (early_is size class tags entered at left) of_bytes)
 
-  pub marker_gone : version.kind ≡ Marker → (lines : List (Class × ℕ)) → lines ≡ lines_of_kind key Marker → (old new : Totals) → StandsFor old (book_of books) → Ends old new at lines version.created
-      → StandsFor new (book_of (plain.without_version key version at books))
+  pub marker_gone : version.kind ≡ Marker → (lines : List (Class × ℕ)) → lines ≡ lines_of_kind key Marker → (old new : Totals) → AreTotalsOf old (book_of books) → Ends old new at lines version.created
+      → AreTotalsOf new (book_of (plain.without_version key version at books))
   marker_gone is lines same old new stands ends =
       let left : Books = with_end key (of_version version.id) at books in
-      let ended : StandsFor new (book_of left) = gone Marker is lines same old new stands ends in
-      subst (λ (k : Kind). StandsFor new (book_of (plain.with_early k at left))) (sym is) ended
+      let ended : AreTotalsOf new (book_of left) = gone Marker is lines same old new stands ends in
+      subst (λ (k : Kind). AreTotalsOf new (book_of (plain.with_early k at left))) (sym is) ended

@@ -4,7 +4,7 @@ use Rattle.std.specs.Prelude.{Option, Some, None, Ok, IfSome, nat_le, sum_by}
 use Rattle.std.specs.List.{AllByRecursion, list_all}
 use Rattle.std.specs.Ordering.{nat_cmp}
 use Rattle.std.proofs.lemmas.Bool.{and_parts, leb-true}
-use Rattle.accrual.specs.Totals.{Totals, StandsFor}
+use Rattle.accrual.specs.Totals.{Totals, AreTotalsOf}
 use Rattle.accrual.proofs.Windows.{month_at_order}
 use Rattle.office_base.specs.Maps.{at_number, without_number, Rises}
 use Rattle.uploads.specs.declared.part.Part.{Part}
@@ -101,10 +101,13 @@ module _ (account : Account) (last number : ℕ) (upload : UploadRecord) (orderl
     at_is at = rw there refl
 
     pub gone_done : (at : ℕ) (uploads : List (ℕ × UploadRecord)) (meters : Totals) → uploads ≡ without_number number account.bucket.uploads
-        → StandsFor meters (book_of (parts_ended upload.key number at upload.parts account.books))
+        → AreTotalsOf meters (book_of (parts_ended upload.key number at upload.parts account.books))
         → DoesEffect [] (remove_upload_at number at) account counts (account_of (record account.bucket { uploads = uploads }) meters) (Ok (counts_without upload counts))
     gone_done at uploads meters is stands =
-        subst (λ (after : Account). StandsForAccount (account_of (record account.bucket { uploads = uploads }) meters) after × HaveMoved account.bucket after.bucket counts (counts_without upload counts) × (first_over [] (counts_without upload counts) ≡ None)) (sym (at_is at))
+        subst (λ (after : Account).
+        StandsForAccount (account_of (record account.bucket { uploads = uploads }) meters) after
+        × HaveMoved account.bucket after.bucket counts (counts_without upload counts)
+        × (first_over [] (counts_without upload counts) ≡ None)) (sym (at_is at))
         (record { bucket = ap (λ (l : List (ℕ × UploadRecord)). record account.bucket { uploads = l }) is; meters = stands }, moved_without, refl)
 
 -- ---- of any account that the bucket stands for
@@ -112,7 +115,8 @@ module _ (account : Account) (last number : ℕ) (upload : UploadRecord) (orderl
 held_of : (number at : ℕ) (o : Option UploadRecord) (upload : UploadRecord) → o ≡ Some upload → IfSome o (λ u. u.changed ≤ at) → upload.changed ≤ at
 held_of number at o upload is h = subst (λ (x : Option UploadRecord). IfSome x (λ u. u.changed ≤ at)) is h
 
-module _ (b : BucketRecord) (account : Account) (same : b ≡ account.bucket) (number at : ℕ) (upload : UploadRecord) (found : at_number number b.uploads ≡ Some upload) (ready : IsUploadReadyAt number at account) where
+module _ (b : BucketRecord) (account : Account) (same : b ≡ account.bucket) (number at : ℕ) (upload : UploadRecord)
+    (found : at_number number b.uploads ≡ Some upload) (ready : IsUploadReadyAt number at account) where
   abbrev there : at_number number account.bucket.uploads ≡ Some upload
   there = subst (λ (x : BucketRecord). at_number number x.uploads ≡ Some upload) same found
 
@@ -142,7 +146,8 @@ module _ (b : BucketRecord) (account : Account) (same : b ≡ account.bucket) (n
     pub names_for : length upload.key + tag_bytes upload.tags ≤ counts.names
     names_for = some_names account ready.last number upload ready.bucket there counts over_it
 
-    pub gone_for : (uploads : List (ℕ × UploadRecord)) → uploads ≡ without_number number b.uploads → (meters : Totals) → StandsFor meters (book_of (parts_ended upload.key number at upload.parts account.books))
+    pub gone_for : (uploads : List (ℕ × UploadRecord)) → uploads ≡ without_number number b.uploads → (meters : Totals)
+        → AreTotalsOf meters (book_of (parts_ended upload.key number at upload.parts account.books))
         → (moved : Counts) → moved ≡ counts_without upload counts
         → DoesEffect [] (remove_upload_at number at) account counts (account_of (record b { uploads = uploads }) meters) (Ok moved)
     gone_for uploads is meters stands moved are =

@@ -15,7 +15,6 @@ pub mod Putting
 pub mod Removals
 pub mod Replacing
 pub mod RuleIds
-pub mod Rules
 pub mod SetAt
 pub mod Started
 pub mod TagSizes

@@ -1,6 +1,6 @@
 -- A bucket after an object moved to another class.
 use Rattle.std.proofs.Common.{◌≡◌, inl, ℕ, ◌+◌, ◌≤◌, ◌<◌, List, [], ◌∷◌, length, refl, ap, sym, ◌∙◌, subst, false, cond, arith}
-use Rattle.std.specs.Prelude.{Option, Some, None, Result, Ok, Err, OnOk, OnErr, unwrap_or, sum_by}
+use Rattle.std.specs.Prelude.{Option, Some, None, Ok, unwrap_or, sum_by}
 use Rattle.std.proofs.lemmas.List.{length-map}
 use Rattle.office_base.specs.Maps.{at_name, with_name}
 use Rattle.office_base.specs.declared.version_id.VersionId.{VersionId}
@@ -8,7 +8,7 @@ use Rattle.class_rules.specs.declared.class.Class.{Class}
 use Rattle.rules_core.specs.Matching.{is_empty}
 use Rattle.stacks.specs.Stacks.{StackRecord, new_stack, has_id, version_at, changed_at, with_class, after_move}
 use Rattle.stacks.specs.declared.version.Version.{Version}
-use Rattle.accrual.specs.Totals.{Totals, StandsFor}
+use Rattle.accrual.specs.Totals.{Totals, AreTotalsOf}
 use Rattle.due_core.specs.Buckets.{BucketRecord}
 use Rattle.plain_office.specs.Office.{Account, Books, book_of}
 use Rattle.plain_office.specs.Changes.{stacks_with, books_moved, move_version}
@@ -26,15 +26,6 @@ use Rattle.bucket_account.proofs.Removals.{stack_kept}
 use Rattle.bucket_account.proofs.Replacing.{since_at}
 use Rattle.bucket_account.proofs.Under.{stay_under, by_length, by_names, length_weight, names_some}
 
--- what holds where a call succeeded, or failed, and what follows from it
-pub ok_then : {T E : Type 0} (r : Result T E) (P Q : Type 0) → (P → Q) → OnOk r P → OnOk r Q
-ok_then (Ok x) P Q f h = f h
-ok_then (Err e) P Q f h = tt
-
-pub err_then : {T E : Type 0} (r : Result T E) (P Q : Type 0) → (P → Q) → OnErr r P → OnErr r Q
-err_then (Ok x) P Q f h = tt
-err_then (Err e) P Q f h = f h
-
 some_versions : (id : VersionId) (versions : List Version) → IsAnObject (version_at id versions) → 0 < length versions
 some_versions id [] there = absurd there
 some_versions id (v ∷ versions) there = omega arith
@@ -43,7 +34,9 @@ still_some : (id : VersionId) (change : Version → Version) (versions : List Ve
 still_some id change [] some = absurd (omega (arith, some))
 still_some id change (v ∷ versions) some = not_empty (cond (has_id id v) (change v) v) (changed_at id change versions)
 
-module _ (b : BucketRecord) (books : Books) (key : List ℕ) (id : VersionId) (to : Class) (at : ℕ) (orderly : IsReadyAt key at (record { bucket = b; books = books })) (there : IsAnObject (version_at id (stack_under key b.stacks).versions)) where
+module _ (b : BucketRecord) (books : Books) (key : List ℕ) (id : VersionId) (to : Class) (at : ℕ)
+    (orderly : IsReadyAt key at (record { bucket = b; books = books }))
+    (there : IsAnObject (version_at id (stack_under key b.stacks).versions)) where
   abbrev account : Account
   account = record { bucket = b; books = books }
 
@@ -53,7 +46,9 @@ module _ (b : BucketRecord) (books : Books) (key : List ℕ) (id : VersionId) (t
   abbrev moved : List Version
   moved = changed_at id (with_class to at) versions
 
-  movable_by : (o : Option StackRecord) → at_name key b.stacks ≡ o → IsAnObject (version_at id (unwrap_or o (new_stack 0)).versions) → (unwrap_or o (new_stack 0)).changed ≤ at → IsMovable id at (unwrap_or o (new_stack 0))
+  movable_by : (o : Option StackRecord) → at_name key b.stacks ≡ o
+      → IsAnObject (version_at id (unwrap_or o (new_stack 0)).versions) → (unwrap_or o (new_stack 0)).changed ≤ at
+      → IsMovable id at (unwrap_or o (new_stack 0))
   movable_by None is here later = absurd here
   movable_by (Some stack) is here later = record {
     there = here;
@@ -101,7 +96,7 @@ module _ (b : BucketRecord) (books : Books) (key : List ℕ) (id : VersionId) (t
   -- ---- what the bucket stands for
 
   pub move_done : (stacks : List (List ℕ × StackRecord)) → stacks ≡ with_name key (after_move id to at (stack_under key b.stacks)) b.stacks
-      → (meters : Totals) → StandsFor meters (book_of (books_moved key (version_at id versions) to at books)) → (counts : Counts)
+      → (meters : Totals) → AreTotalsOf meters (book_of (books_moved key (version_at id versions) to at books)) → (counts : Counts)
       → DoesEffect [] (move_version key id to at) account counts (account_of (record b { stacks = stacks }) meters) (Ok counts)
   move_done stacks written meters stands counts = (standing, counts_stay counts, refl) where
     set : stacks ≡ stacks_with key (after_move id to at (stack_under key b.stacks)) b.stacks
@@ -112,7 +107,8 @@ module _ (b : BucketRecord) (books : Books) (key : List ℕ) (id : VersionId) (t
 
 -- ---- of any account that the bucket stands for
 
-module _ (b : BucketRecord) (of : Account) (same : b ≡ of.bucket) (key : List ℕ) (id : VersionId) (to : Class) (at : ℕ) (there : IsAnObject (version_at id (stack_under key b.stacks).versions)) (orderly : IsReadyAt key at of) where
+module _ (b : BucketRecord) (of : Account) (same : b ≡ of.bucket) (key : List ℕ) (id : VersionId) (to : Class) (at : ℕ)
+    (there : IsAnObject (version_at id (stack_under key b.stacks).versions)) (orderly : IsReadyAt key at of) where
   here : IsReadyAt key at (record { bucket = b; books = of.books })
   here = subst (λ (x : BucketRecord). IsReadyAt key at (record { bucket = x; books = of.books })) (sym same) orderly
 
@@ -123,7 +119,7 @@ module _ (b : BucketRecord) (of : Account) (same : b ≡ of.bucket) (key : List 
   stay_for = has_stay b of.books key id to at here there
 
   pub done_for : (stacks : List (List ℕ × StackRecord)) → stacks ≡ with_name key (after_move id to at (stack_under key b.stacks)) b.stacks
-      → (meters : Totals) → StandsFor meters (book_of (books_moved key (version_at id (stack_under key b.stacks).versions) to at of.books)) → (counts : Counts)
+      → (meters : Totals) → AreTotalsOf meters (book_of (books_moved key (version_at id (stack_under key b.stacks).versions) to at of.books)) → (counts : Counts)
       → DoesEffect [] (move_version key id to at) of counts (account_of (record b { stacks = stacks }) meters) (Ok counts)
   done_for stacks written meters stands counts =
       subst (λ (x : BucketRecord). DoesEffect [] (move_version key id to at) (record { bucket = x; books = of.books }) counts (account_of (record b { stacks = stacks }) meters) (Ok counts)) same

@@ -2,7 +2,7 @@
 use Rattle.std.proofs.Common.{◌≡◌, ◌⊎◌, inl, inr, ℕ, ◌+◌, ◌≤◌, List, [], ◌∷◌, length, refl, ap, sym, ◌∙◌, subst, true, false, cond, arith}
 use Rattle.std.specs.Prelude.{Option, Some, None, Ok, Err, is_some, sum_by}
 use Rattle.std.specs.Ordering.{nat_cmp}
-use Rattle.accrual.specs.Totals.{Totals, StandsFor}
+use Rattle.accrual.specs.Totals.{Totals, AreTotalsOf}
 use Rattle.office_base.specs.Maps.{at_number, with_number, Rises}
 use Rattle.uploads.specs.Uploads.{UploadRecord, new_part, part_at, after_part, admits_part}
 use Rattle.uploads.specs.declared.part.Part.{Part}
@@ -88,10 +88,14 @@ module _ (account : Account) (number place size t : ℕ) (upload : UploadRecord)
     told_bad refused = rw (there, refused) refl
 
     part_done : admits_part place (new_part size t) upload.parts ≡ true → (uploads : List (ℕ × UploadRecord)) → uploads ≡ with_number number new account.bucket.uploads
-        → (meters : Totals) → StandsFor meters (book_of (books_with_part number upload place size t account.books)) → first_over (Parts ∷ []) moved ≡ None
-        → DoesTold (Parts ∷ []) (put_part t number place size account) account counts (account_of (record account.bucket { uploads = uploads }) meters) (Ok (record { counts = moved; reply = PartStored place }))
+        → (meters : Totals) → AreTotalsOf meters (book_of (books_with_part number upload place size t account.books)) → first_over (Parts ∷ []) moved ≡ None
+        → DoesTold (Parts ∷ []) (put_part t number place size account) account counts
+        (account_of (record account.bucket { uploads = uploads }) meters)
+        (Ok (record { counts = moved; reply = PartStored place }))
     part_done admitted uploads is meters stands free =
-        subst (λ (told : Change). DoesTold (Parts ∷ []) told account counts (account_of (record account.bucket { uploads = uploads }) meters) (Ok (record { counts = moved; reply = PartStored place }))) (sym (told_put admitted))
+        subst (λ (told : Change). DoesTold (Parts ∷ []) told account counts
+        (account_of (record account.bucket { uploads = uploads }) meters)
+        (Ok (record { counts = moved; reply = PartStored place }))) (sym (told_put admitted))
         (refl, record { bucket = ap (λ (l : List (ℕ × UploadRecord)). record account.bucket { uploads = l }) is; meters = stands }, part_moved, free)
 
     part_refused : (after : AccountRecord) → StandsForAccount after account → (refusal : Refusal) → IsPartRefused place size t upload counts refusal
@@ -106,36 +110,43 @@ module _ (account : Account) (number place size t : ℕ) (upload : UploadRecord)
 
 -- ---- of any account that the bucket stands for
 
-module _ (b : BucketRecord) (account : Account) (same : b ≡ account.bucket) (number place size t : ℕ) (upload : UploadRecord) (found : at_number number b.uploads ≡ Some upload) (orderly : IsOrderlyAccount t account) where
-  abbrev there_for : at_number number account.bucket.uploads ≡ Some upload
-  there_for = subst (λ (x : BucketRecord). at_number number x.uploads ≡ Some upload) same found
+module _ (b : BucketRecord) (account : Account) (same : b ≡ account.bucket) (number place size t : ℕ)
+    (upload : UploadRecord) (found : at_number number b.uploads ≡ Some upload) (orderly : IsOrderlyAccount t account)
+  where
+    abbrev there_for : at_number number account.bucket.uploads ≡ Some upload
+    there_for = subst (λ (x : BucketRecord). at_number number x.uploads ≡ Some upload) same found
 
-  pub changed_for : upload.changed ≤ t
-  changed_for = (upload_orderly t account.bucket orderly.bucket number upload there_for).1.changed
+    pub changed_for : upload.changed ≤ t
+    changed_for = (upload_orderly t account.bucket orderly.bucket number upload there_for).1.changed
 
-  pub numbers_for : Rises nat_cmp b.uploads
-  numbers_for = subst (λ (x : BucketRecord). Rises nat_cmp x.uploads) (sym same) orderly.bucket.numbers
+    pub numbers_for : Rises nat_cmp b.uploads
+    numbers_for = subst (λ (x : BucketRecord). Rises nat_cmp x.uploads) (sym same) orderly.bucket.numbers
 
-  pub stay_for : HasPartStay upload.key (of_part number place) upload.class (part_at place upload.parts) account.books
-  stay_for = has_stay account number place size t upload there_for orderly
+    pub stay_for : HasPartStay upload.key (of_part number place) upload.class (part_at place upload.parts) account.books
+    stay_for = has_stay account number place size t upload there_for orderly
 
-  pub part_done_for : (counts : Counts) → admits_part place (new_part size t) upload.parts ≡ true → (uploads : List (ℕ × UploadRecord)) → uploads ≡ with_number number (after_part place size t upload) b.uploads
-      → (meters : Totals) → StandsFor meters (book_of (books_with_part number upload place size t account.books))
-      → (moved : Counts) → moved ≡ counts_with_part place upload counts → first_over (Parts ∷ []) moved ≡ None
-      → DoesTold (Parts ∷ []) (put_part t number place size account) account counts (account_of (record b { uploads = uploads }) meters) (Ok (record { counts = moved; reply = PartStored place }))
-  part_done_for counts admitted uploads is meters stands after are free =
-      subst (λ (m : Counts). DoesTold (Parts ∷ []) (put_part t number place size account) account counts (account_of (record b { uploads = uploads }) meters) (Ok (record { counts = m; reply = PartStored place }))) (sym are)
-      (subst (λ (x : BucketRecord). DoesTold (Parts ∷ []) (put_part t number place size account) account counts (account_of (record x { uploads = uploads }) meters)
-      (Ok (record { counts = counts_with_part place upload counts; reply = PartStored place }))) (sym same)
-      (part_done account number place size t upload there_for orderly counts admitted uploads
-      (is ∙ ap (λ (x : BucketRecord). with_number number (after_part place size t upload) x.uploads) same) meters stands
-      (subst (λ (m : Counts). first_over (Parts ∷ []) m ≡ None) are free)))
+    pub part_done_for : (counts : Counts) → admits_part place (new_part size t) upload.parts ≡ true
+        → (uploads : List (ℕ × UploadRecord)) → uploads ≡ with_number number (after_part place size t upload) b.uploads
+        → (meters : Totals) → AreTotalsOf meters (book_of (books_with_part number upload place size t account.books))
+        → (moved : Counts) → moved ≡ counts_with_part place upload counts → first_over (Parts ∷ []) moved ≡ None
+        → DoesTold (Parts ∷ []) (put_part t number place size account) account counts (account_of (record b { uploads = uploads }) meters) (Ok (record { counts = moved; reply = PartStored place }))
+    part_done_for counts admitted uploads is meters stands after are free =
+        subst (λ (m : Counts). DoesTold (Parts ∷ []) (put_part t number place size account) account counts
+        (account_of (record b { uploads = uploads }) meters) (Ok (record { counts = m; reply = PartStored place })))
+        (sym are)
+        (subst (λ (x : BucketRecord). DoesTold (Parts ∷ []) (put_part t number place size account) account counts (account_of (record x { uploads = uploads }) meters)
+        (Ok (record { counts = counts_with_part place upload counts; reply = PartStored place }))) (sym same)
+        (part_done account number place size t upload there_for orderly counts admitted uploads
+        (is ∙ ap (λ (x : BucketRecord). with_number number (after_part place size t upload) x.uploads) same) meters stands
+        (subst (λ (m : Counts). first_over (Parts ∷ []) m ≡ None) are free)))
 
-  pub part_refused_for : (counts : Counts) (uploads : List (ℕ × UploadRecord)) → uploads ≡ b.uploads → (meters : Totals) → StandsFor meters (book_of account.books) → (refusal : Refusal)
-      → IsPartRefused place size t upload counts refusal → DoesTold (Parts ∷ []) (put_part t number place size account) account counts (account_of (record b { uploads = uploads }) meters) (Err refusal)
-  part_refused_for counts uploads is meters stands refusal why =
-      part_refused account number place size t upload there_for orderly counts (account_of (record b { uploads = uploads }) meters)
-      (record { bucket = ap (λ (l : List (ℕ × UploadRecord)). record b { uploads = l }) is ∙ same; meters = stands }) refusal why
+    pub part_refused_for : (counts : Counts) (uploads : List (ℕ × UploadRecord)) → uploads ≡ b.uploads → (meters : Totals) → AreTotalsOf meters (book_of account.books) → (refusal : Refusal)
+        → IsPartRefused place size t upload counts refusal
+        → DoesTold (Parts ∷ []) (put_part t number place size account) account counts
+        (account_of (record b { uploads = uploads }) meters) (Err refusal)
+    part_refused_for counts uploads is meters stands refusal why =
+        part_refused account number place size t upload there_for orderly counts (account_of (record b { uploads = uploads }) meters)
+        (record { bucket = ap (λ (l : List (ℕ × UploadRecord)). record b { uploads = l }) is ∙ same; meters = stands }) refusal why
 
 -- a part's own refusal is one of those
 pub in_part : (place size at : ℕ) (upload : UploadRecord) (counts : Counts) (refusal : Refusal)

@@ -1,7 +1,7 @@
 -- A part that is put, and the stay of the one that it replaces.
 use Rattle.std.proofs.Common.{◌≡◌, ℕ, ◌≤◌, List, [], ◌∷◌, map, refl, ap, sym, subst, Bool, true, false, cond, arith}
 use Rattle.std.specs.Prelude.{Option, Some, None}
-use Rattle.accrual.specs.Totals.{Totals, StandsFor, HasOpenStay}
+use Rattle.accrual.specs.Totals.{Totals, AreTotalsOf, HasOpenStay}
 use Rattle.class_rules.specs.Lines.{part_line}
 use Rattle.class_rules.specs.declared.class.Class.{Class}
 use Rattle.uploads.specs.Uploads.{UploadRecord, IsUpload, part_at}
@@ -38,14 +38,15 @@ module _ (key : List ℕ) (item : Item) (at : ℕ) where
     pub part_open : (o : Option Part) (part : Part) → o ≡ Some part → HasPartStay key item class o books → HasOpenStay (part_line class part.size) part.put (book_of books)
     part_open o part is has = item_open key item (part_line class part.size) part.put at books (subst (λ (x : Option Part). HasPartStay key item class x books) is has)
 
-    pub part_ended : (o : Option Part) (part : Part) → o ≡ Some part → HasPartStay key item class o books → (old new : Totals) → StandsFor old (book_of books)
-        → Ends old new at (part_line class part.size) part.put → StandsFor new (book_of (with_end key item at books))
+    pub part_ended : (o : Option Part) (part : Part) → o ≡ Some part → HasPartStay key item class o books → (old new : Totals) → AreTotalsOf old (book_of books)
+        → Ends old new at (part_line class part.size) part.put → AreTotalsOf new (book_of (with_end key item at books))
     part_ended o part is has old new stands ends =
         item_ended key item (part_line class part.size) part.put at books (subst (λ (x : Option Part). HasPartStay key item class x books) is has) old new stands ends
 
-    pub no_part_ended : (o : Option Part) → o ≡ None → HasPartStay key item class o books → (meters : Totals) → StandsFor meters (book_of books) → StandsFor meters (book_of (with_end key item at books))
+    pub no_part_ended : (o : Option Part) → o ≡ None → HasPartStay key item class o books → (meters : Totals)
+        → AreTotalsOf meters (book_of books) → AreTotalsOf meters (book_of (with_end key item at books))
     no_part_ended o is has meters stands =
-        subst (λ (b : Books). StandsFor meters (book_of b)) (sym (none_ended books (subst (λ (x : Option Part). HasPartStay key item class x books) is has))) stands
+        subst (λ (b : Books). AreTotalsOf meters (book_of b)) (sym (none_ended books (subst (λ (x : Option Part). HasPartStay key item class x books) is has))) stands
 
 -- ---- since when it is stored
 

@@ -15,7 +15,7 @@ use Rattle.office_base.specs.Sizes.{largest_size}
 use Rattle.uploads.specs.Uploads.{UploadRecord, IsUpload, is_part, is_part_until, total_size}
 use Rattle.uploads.specs.declared.part.Part.{Part}
 use Rattle.accrual.specs.Books.{Book, Stay, open_stay, ended_stay}
-use Rattle.accrual.specs.Totals.{Totals, StandsFor, HasRow, HasOpenStay}
+use Rattle.accrual.specs.Totals.{Totals, AreTotalsOf, HasRow, HasOpenStay}
 use Rattle.plain_office.specs.Office.{Item, of_part, Books, book_of, stay_in}
 use Rattle.plain_office.specs.Books.{is_open_stay, with_end}
 use Rattle.office_laws.proofs.Lists.{every_true, every_weaker}
@@ -46,8 +46,8 @@ module _ (key : List ℕ) (item : Item) (lines : List (Class × ℕ)) (from at :
       ap (λ (stays : List Stay). record { stays = stays; early = books.early; moves = books.moves })
       (sym (ap (map stay_in) once.3 ∙ map-append stay_in once.0 ((record { key = key; item = item }, ended_stay lines from at) ∷ once.1)))
 
-  pub item_ended : (old new : Totals) → StandsFor old (book_of books) → Ends old new at lines from → StandsFor new (book_of (with_end key item at books))
-  item_ended old new stands ends = subst (StandsFor new) ended_is (ends (book_of books) (map stay_in once.0) (map stay_in once.1) stands stands_there)
+  pub item_ended : (old new : Totals) → AreTotalsOf old (book_of books) → Ends old new at lines from → AreTotalsOf new (book_of (with_end key item at books))
+  item_ended old new stands ends = subst (AreTotalsOf new) ended_is (ends (book_of books) (map stay_in once.0) (map stay_in once.1) stands stands_there)
 
 -- ---- the parts of an upload
 
@@ -83,19 +83,20 @@ parts_small upload h =
 -- the stays of some parts have ended, and those of the others are open
 pub record IsOnTheWay (upload : UploadRecord) (number at : ℕ) (books : Books) (meters : Totals) (left : List (ℕ × Part)) : Type 0 where
   pub now : Books
-  pub stands : StandsFor meters (book_of now)
+  pub stands : AreTotalsOf meters (book_of now)
   pub stays : HavePartStays number upload left now
   pub leads : parts_ended upload.key number at left now ≡ parts_ended upload.key number at upload.parts books
 
 module _ (upload : UploadRecord) (number at : ℕ) (books : Books) where
-  pub way_begins : (meters : Totals) → StandsFor meters (book_of books) → HavePartStays number upload upload.parts books → IsOnTheWay upload number at books meters upload.parts
+  pub way_begins : (meters : Totals) → AreTotalsOf meters (book_of books) → HavePartStays number upload upload.parts books → IsOnTheWay upload number at books meters upload.parts
   way_begins meters stands stays = record { now = books; stands = stands; stays = stays; leads = refl }
 
-  pub way_ends : (meters : Totals) → IsOnTheWay upload number at books meters [] → StandsFor meters (book_of (parts_ended upload.key number at upload.parts books))
-  way_ends meters way = subst (λ (b : Books). StandsFor meters (book_of b)) way.leads way.stands
+  pub way_ends : (meters : Totals) → IsOnTheWay upload number at books meters [] → AreTotalsOf meters (book_of (parts_ended upload.key number at upload.parts books))
+  way_ends meters way = subst (λ (b : Books). AreTotalsOf meters (book_of b)) way.leads way.stands
 
   module _ (part : ℕ × Part) (left : List (ℕ × Part)) where
-    pub way_opened : (meters : Totals) → IsOnTheWay upload number at books meters (part ∷ left) → (book : Book) × StandsFor meters book × HasOpenStay (part_line upload.class part.1.size) part.1.put book
+    pub way_opened : (meters : Totals) → IsOnTheWay upload number at books meters (part ∷ left)
+        → (book : Book) × AreTotalsOf meters book × HasOpenStay (part_line upload.class part.1.size) part.1.put book
     way_opened meters way = (book_of way.now, way.stands, item_open upload.key (of_part number part.0) (part_line upload.class part.1.size) part.1.put at way.now way.stays.0)
 
     stays_left : (now : Books) → (others : List (ℕ × Part)) → AllByRecursion (λ (other : ℕ × Part). IsTrue (is_lt (nat_cmp part.0 other.0))) others

@@ -10,7 +10,7 @@ use Rattle.stacks.specs.declared.version.Versioning.{Versioning}
 use Rattle.stacks.specs.declared.version.Versioning.TheVariants.{Unversioned, Enabled, Suspended}
 use Rattle.stacks.specs.declared.version.Kind.{Kind}
 use Rattle.stacks.specs.declared.version.Version.{Version}
-use Rattle.accrual.specs.Totals.{Totals, StandsFor}
+use Rattle.accrual.specs.Totals.{Totals, AreTotalsOf}
 use Rattle.due_core.specs.Buckets.{BucketRecord}
 use Rattle.plain_office.specs.Office.{Account, Books, book_of}
 use Rattle.plain_office.specs.Changes.{add_version, next_id, number_after}
@@ -24,7 +24,7 @@ use Rattle.office_laws.proofs.Buckets.{not_empty, stack_orderly, with_versions, 
 use Rattle.office_laws.proofs.Versions.{replaced_is}
 use Rattle.bucket_account.specs.declared.counts.Counts.{Counts}
 use Rattle.bucket_account.specs.declared.incoming.Incoming.{Incoming}
-use Rattle.bucket_account.specs.Booking.{MayCome, leaving_of, MayHaveStay, version_of, stack_put, books_put, gone_bytes, stack_under, gone_of, new_bytes, counts_after, IsReady, AreMovable}
+use Rattle.bucket_account.specs.Booking.{MayCome, leaving_of, MayHaveStay, version_of, stack_put, books_put, gone_bytes, stack_under, gone_of, new_bytes, counts_after, MayBePut, AreMovable}
 use Rattle.bucket_account.specs.Changing.{IsFullAfter}
 use Rattle.bucket_account.specs.Effects.{IsReadyAt, DoesEffect}
 use Rattle.bucket_account.specs.Counting.{AccountRecord, account_of, AreCountsOver, HaveMoved, first_over, IsFullOf}
@@ -54,7 +54,7 @@ module _ (b : BucketRecord) (books : Books) (key : List ℕ) (kind : Kind) (at :
   numbers : AllByRecursion (λ version. IsNumberBelow b.next_version version.id) versions
   numbers = numbers_by (at_name key b.stacks) refl
 
-  ready_by : (o : Option StackRecord) → at_name key b.stacks ≡ o → (unwrap_or o (new_stack 0)).changed ≤ at → IsReady incoming (unwrap_or o (new_stack 0))
+  ready_by : (o : Option StackRecord) → at_name key b.stacks ≡ o → (unwrap_or o (new_stack 0)).changed ≤ at → MayBePut incoming (unwrap_or o (new_stack 0))
   ready_by None is later = record {
     comes = comes;
     later = omega arith;
@@ -70,7 +70,7 @@ module _ (b : BucketRecord) (books : Books) (key : List ℕ) (kind : Kind) (at :
         since = since_by stack.changed at stack.versions s.ids_and_moments later b.versioning;
       }
 
-  pub is_ready : IsReady incoming (stack_under key b.stacks)
+  pub is_ready : MayBePut incoming (stack_under key b.stacks)
   is_ready = ready_by (at_name key b.stacks) refl orderly.changed
 
   stay_by : (versioning : Versioning) → MayHaveStay key (replaced versioning versions) books
@@ -169,8 +169,10 @@ module _ (b : BucketRecord) (books : Books) (key : List ℕ) (kind : Kind) (at :
       abbrev Does : AccountRecord → Result Counts Refusal → Type 0
       Does after result = DoesEffect whats (add_version key kind at) account counts after result
 
-      pub put_done : (stacks : List (List ℕ × StackRecord)) → stacks ≡ with_name key (stack_put incoming (stack_under key b.stacks)) b.stacks → (number : ℕ) → number ≡ number_after b.versioning b.next_version
-          → (meters : Totals) → StandsFor meters (book_of (books_put key incoming gone books)) → (counted : Counts) → counted ≡ moved → first_over whats counted ≡ None
+      pub put_done : (stacks : List (List ℕ × StackRecord))
+          → stacks ≡ with_name key (stack_put incoming (stack_under key b.stacks)) b.stacks → (number : ℕ)
+          → number ≡ number_after b.versioning b.next_version
+          → (meters : Totals) → AreTotalsOf meters (book_of (books_put key incoming gone books)) → (counted : Counts) → counted ≡ moved → first_over whats counted ≡ None
           → Does (account_of (record b { stacks = stacks; next_version = number }) meters) (Ok counted)
       put_done stacks written number next meters stands counted are free = (standing, follow, free) where
         standing : StandsForAccount (account_of (record b { stacks = stacks; next_version = number }) meters) (add_version key kind at account)
@@ -182,7 +184,9 @@ module _ (b : BucketRecord) (books : Books) (key : List ℕ) (kind : Kind) (at :
         follow : HaveMoved b after counts counted
         follow = subst (HaveMoved b after counts) (sym are) have_moved
 
-      pub put_refused : (stacks : List (List ℕ × StackRecord)) → stacks ≡ b.stacks → (meters : Totals) → StandsFor meters (book_of books) → (refusal : Refusal) → (refusal ≡ NoMemory) ⊎ IsFullOf whats moved refusal
+      pub put_refused : (stacks : List (List ℕ × StackRecord)) → stacks ≡ b.stacks → (meters : Totals)
+          → AreTotalsOf meters (book_of books) → (refusal : Refusal)
+          → (refusal ≡ NoMemory) ⊎ IsFullOf whats moved refusal
           → Does (account_of (record b { stacks = stacks }) meters) (Err refusal)
       put_refused stacks same meters stands refusal why = (because why, record { bucket = ap (λ (l : List (List ℕ × StackRecord)). record b { stacks = l }) same; meters = stands }) where
         because : (refusal ≡ NoMemory) ⊎ IsFullOf whats moved refusal → (refusal ≡ NoMemory) ⊎ IsFullAfter whats b after counts refusal
@@ -198,7 +202,7 @@ module _ (b : BucketRecord) (of : Account) (same : b ≡ of.bucket) (key : List 
   abbrev put : Incoming
   put = record { versioning = b.versioning; number = b.next_version; kind = kind; at = at }
 
-  pub ready_for : IsReady put (stack_under key b.stacks)
+  pub ready_for : MayBePut put (stack_under key b.stacks)
   ready_for = is_ready b of.books key kind at here comes
 
   pub stay_for : MayHaveStay key (gone_of key put b.stacks) of.books
@@ -215,13 +219,16 @@ module _ (b : BucketRecord) (of : Account) (same : b ≡ of.bucket) (key : List 
           subst (λ (x : BucketRecord). DoesEffect whats (add_version key kind at) (record { bucket = x; books = of.books }) counts after result) same h
 
       pub done_for : (stacks : List (List ℕ × StackRecord)) → stacks ≡ with_name key (stack_put put (stack_under key b.stacks)) b.stacks → (next : ℕ) → next ≡ number_after b.versioning b.next_version
-          → (meters : Totals) → StandsFor meters (book_of (books_put key put (gone_of key put b.stacks) of.books)) → (counted : Counts) → counted ≡ counts_after key put b.stacks counts → first_over whats counted ≡ None
+          → (meters : Totals) → AreTotalsOf meters (book_of (books_put key put (gone_of key put b.stacks) of.books))
+          → (counted : Counts) → counted ≡ counts_after key put b.stacks counts → first_over whats counted ≡ None
           → DoesEffect whats (add_version key kind at) of counts (account_of (record b { stacks = stacks; next_version = next }) meters) (Ok counted)
       done_for stacks written next is meters stands counted are free =
           of_account (account_of (record b { stacks = stacks; next_version = next }) meters) (Ok counted)
           (put_done b of.books key kind at here comes counts over whats stacks written next is meters stands counted are free)
 
-      pub refused_for : (stacks : List (List ℕ × StackRecord)) → stacks ≡ b.stacks → (meters : Totals) → StandsFor meters (book_of of.books) → (refusal : Refusal) → (refusal ≡ NoMemory) ⊎ IsFullOf whats (counts_after key put b.stacks counts) refusal
+      pub refused_for : (stacks : List (List ℕ × StackRecord)) → stacks ≡ b.stacks → (meters : Totals)
+          → AreTotalsOf meters (book_of of.books) → (refusal : Refusal)
+          → (refusal ≡ NoMemory) ⊎ IsFullOf whats (counts_after key put b.stacks counts) refusal
           → DoesEffect whats (add_version key kind at) of counts (account_of (record b { stacks = stacks }) meters) (Err refusal)
       refused_for stacks kept meters stands refusal why =
           of_account (account_of (record b { stacks = stacks }) meters) (Err refusal)

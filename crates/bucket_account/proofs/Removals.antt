@@ -8,7 +8,7 @@ use Rattle.rules_core.specs.Matching.{is_empty}
 use Rattle.stacks.specs.Stacks.{StackRecord, new_stack, version_at, without, ids_differ, after_removal}
 use Rattle.stacks.specs.declared.version.Version.{Version}
 use Rattle.accrual.specs.Books.{Book}
-use Rattle.accrual.specs.Totals.{Totals, StandsFor}
+use Rattle.accrual.specs.Totals.{Totals, AreTotalsOf}
 use Rattle.due_core.specs.Buckets.{BucketRecord}
 use Rattle.plain_office.specs.Office.{Account, Books, book_of}
 use Rattle.plain_office.specs.Books.{without_option}
@@ -49,7 +49,9 @@ module _ (key : List ℕ) (stack : StackRecord) (stacks : List (List ℕ × Stac
 
 -- ---- a version goes
 
-module _ (b : BucketRecord) (books : Books) (key : List ℕ) (id : VersionId) (at : ℕ) (orderly : IsReadyAt key at (record { bucket = b; books = books })) (there : IsSome (version_at id (stack_under key b.stacks).versions)) where
+module _ (b : BucketRecord) (books : Books) (key : List ℕ) (id : VersionId) (at : ℕ)
+    (orderly : IsReadyAt key at (record { bucket = b; books = books }))
+    (there : IsSome (version_at id (stack_under key b.stacks).versions)) where
   abbrev account : Account
   account = record { bucket = b; books = books }
 
@@ -59,7 +61,9 @@ module _ (b : BucketRecord) (books : Books) (key : List ℕ) (id : VersionId) (a
   abbrev gone : Option Version
   gone = version_at id versions
 
-  ready_by : (o : Option StackRecord) → at_name key b.stacks ≡ o → IsSome (version_at id (unwrap_or o (new_stack 0)).versions) → (unwrap_or o (new_stack 0)).changed ≤ at → MayGo id at (unwrap_or o (new_stack 0))
+  ready_by : (o : Option StackRecord) → at_name key b.stacks ≡ o
+      → IsSome (version_at id (unwrap_or o (new_stack 0)).versions) → (unwrap_or o (new_stack 0)).changed ≤ at
+      → MayGo id at (unwrap_or o (new_stack 0))
   ready_by None is here later = absurd cc
   ready_by (Some stack) is here later = record {
     there = here;
@@ -170,7 +174,7 @@ module _ (b : BucketRecord) (books : Books) (key : List ℕ) (id : VersionId) (a
       Does after result = DoesEffect whats (remove_version key id at) account counts after result
 
       pub take_done : (stacks : List (List ℕ × StackRecord)) → stacks ≡ stacks_with key (after_removal id at (stack_under key b.stacks)) b.stacks
-          → (meters : Totals) → StandsFor meters (book_of (without_option key gone at books)) → (counted : Counts) → counted ≡ moved → first_over whats counted ≡ None
+          → (meters : Totals) → AreTotalsOf meters (book_of (without_option key gone at books)) → (counted : Counts) → counted ≡ moved → first_over whats counted ≡ None
           → Does (account_of (record b { stacks = stacks }) meters) (Ok counted)
       take_done stacks written meters stands counted are free = (standing, follow, free) where
         standing : StandsForAccount (account_of (record b { stacks = stacks }) meters) (remove_version key id at account)
@@ -179,7 +183,9 @@ module _ (b : BucketRecord) (books : Books) (key : List ℕ) (id : VersionId) (a
         follow : HaveMoved b after counts counted
         follow = subst (HaveMoved b after counts) (sym are) have_moved
 
-      pub take_refused : (stacks : List (List ℕ × StackRecord)) → stacks ≡ b.stacks → (meters : Totals) → StandsFor meters (book_of books) → (refusal : Refusal) → (refusal ≡ NoMemory) ⊎ IsFullOf whats moved refusal
+      pub take_refused : (stacks : List (List ℕ × StackRecord)) → stacks ≡ b.stacks → (meters : Totals)
+          → AreTotalsOf meters (book_of books) → (refusal : Refusal)
+          → (refusal ≡ NoMemory) ⊎ IsFullOf whats moved refusal
           → Does (account_of (record b { stacks = stacks }) meters) (Err refusal)
       take_refused stacks same meters stands refusal why = (because why, record { bucket = ap (λ (l : List (List ℕ × StackRecord)). record b { stacks = l }) same; meters = stands }) where
         because : (refusal ≡ NoMemory) ⊎ IsFullOf whats moved refusal → (refusal ≡ NoMemory) ⊎ IsFullAfter whats b after counts refusal
@@ -188,7 +194,8 @@ module _ (b : BucketRecord) (books : Books) (key : List ℕ) (id : VersionId) (a
 
 -- ---- of any account that the bucket stands for
 
-module _ (b : BucketRecord) (of : Account) (same : b ≡ of.bucket) (key : List ℕ) (id : VersionId) (at : ℕ) (there : IsSome (version_at id (stack_under key b.stacks).versions)) (orderly : IsReadyAt key at of) where
+module _ (b : BucketRecord) (of : Account) (same : b ≡ of.bucket) (key : List ℕ) (id : VersionId) (at : ℕ)
+    (there : IsSome (version_at id (stack_under key b.stacks).versions)) (orderly : IsReadyAt key at of) where
   here : IsReadyAt key at (record { bucket = b; books = of.books })
   here = subst (λ (x : BucketRecord). IsReadyAt key at (record { bucket = x; books = of.books })) (sym same) orderly
 
@@ -209,25 +216,31 @@ module _ (b : BucketRecord) (of : Account) (same : b ≡ of.bucket) (key : List 
           subst (λ (x : BucketRecord). DoesEffect whats (remove_version key id at) (record { bucket = x; books = of.books }) counts after result) same h
 
       pub done_for : (stacks : List (List ℕ × StackRecord)) → stacks ≡ stacks_with key (after_removal id at (stack_under key b.stacks)) b.stacks
-          → (meters : Totals) → StandsFor meters (book_of (without_option key (version_at id (stack_under key b.stacks).versions) at of.books)) → (counted : Counts) → counted ≡ counts_from key id (stack_under key b.stacks) counts → first_over whats counted ≡ None
+          → (meters : Totals)
+          → AreTotalsOf meters
+          (book_of (without_option key (version_at id (stack_under key b.stacks).versions) at of.books))
+          → (counted : Counts) → counted ≡ counts_from key id (stack_under key b.stacks) counts
+          → first_over whats counted ≡ None
           → DoesEffect whats (remove_version key id at) of counts (account_of (record b { stacks = stacks }) meters) (Ok counted)
       done_for stacks written meters stands counted are free =
           of_account (account_of (record b { stacks = stacks }) meters) (Ok counted)
           (take_done b of.books key id at here there counts over whats stacks written meters stands counted are free)
 
-      pub refused_for : (stacks : List (List ℕ × StackRecord)) → stacks ≡ b.stacks → (meters : Totals) → StandsFor meters (book_of of.books) → (refusal : Refusal) → (refusal ≡ NoMemory) ⊎ IsFullOf whats (counts_from key id (stack_under key b.stacks) counts) refusal
+      pub refused_for : (stacks : List (List ℕ × StackRecord)) → stacks ≡ b.stacks → (meters : Totals)
+          → AreTotalsOf meters (book_of of.books) → (refusal : Refusal)
+          → (refusal ≡ NoMemory) ⊎ IsFullOf whats (counts_from key id (stack_under key b.stacks) counts) refusal
           → DoesEffect whats (remove_version key id at) of counts (account_of (record b { stacks = stacks }) meters) (Err refusal)
       refused_for stacks kept meters stands refusal why =
           of_account (account_of (record b { stacks = stacks }) meters) (Err refusal)
           (take_refused b of.books key id at here there counts over whats stacks kept meters stands refusal why)
 
-      pub answer_for : (r : Result Counts Refusal) (stacks : List (List ℕ × StackRecord)) (old meters : Totals) → StandsFor old (book_of of.books)
+      pub answer_for : (r : Result Counts Refusal) (stacks : List (List ℕ × StackRecord)) (old meters : Totals) → AreTotalsOf old (book_of of.books)
           → OnOk r (stacks ≡ stacks_with key (after_removal id at (stack_under key b.stacks)) b.stacks)
-          → OnOk r ((books : Books) → StandsFor old (book_of books) → MayHaveStay key (version_at id (stack_under key b.stacks).versions) books
-          → StandsFor meters (book_of (without_option key (version_at id (stack_under key b.stacks).versions) at books)))
+          → OnOk r ((books : Books) → AreTotalsOf old (book_of books) → MayHaveStay key (version_at id (stack_under key b.stacks).versions) books
+          → AreTotalsOf meters (book_of (without_option key (version_at id (stack_under key b.stacks).versions) at books)))
           → IfOk r (λ after. (after ≡ counts_from key id (stack_under key b.stacks) counts) × (first_over whats after ≡ None))
           → IfErr r (λ refusal. (refusal ≡ NoMemory) ⊎ IsFullOf whats (counts_from key id (stack_under key b.stacks) counts) refusal)
-          → OnErr r (stacks ≡ b.stacks) → OnErr r ((book : Book) → StandsFor old book → StandsFor meters book)
+          → OnErr r (stacks ≡ b.stacks) → OnErr r ((book : Book) → AreTotalsOf old book → AreTotalsOf meters book)
           → DoesEffect whats (remove_version key id at) of counts (account_of (record b { stacks = stacks }) meters) r
       answer_for (Ok counted) stacks old meters stands written moves are refused kept same = done_for stacks written meters (moves of.books stands stay_for) counted are.0 are.1
       answer_for (Err refusal) stacks old meters stands written moves are refused kept same = refused_for stacks kept meters (same (book_of of.books) stands) refusal refused

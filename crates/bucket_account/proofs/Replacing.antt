@@ -12,12 +12,10 @@ use Rattle.stacks.specs.declared.version.Versioning.TheVariants.{Unversioned, En
 use Rattle.stacks.specs.declared.version.Kind.{Kind}
 use Rattle.stacks.specs.declared.version.Kind.TheVariants.{Object, Marker}
 use Rattle.stacks.specs.declared.version.Version.{Version}
-use Rattle.stacks.specs.Stacks.{same_id, has_id, version_at, without, ids_differ, covered, replaced, IsFree, has_moments_until, is_entered_until, is_stack}
+use Rattle.stacks.specs.Stacks.{same_id, has_id, version_at, without, ids_differ, covered, replaced, IsFreeNumber, has_moments_until, is_entered_until, is_stack}
+use Rattle.stacks.proofs.Sole.{none_without, same_id_is}
 use Rattle.plain_office.specs.Orderly.{IsNumberBelow, lines_since}
-use Rattle.office_laws.proofs.Ids.{without_none}
-use Rattle.office_laws.proofs.Versions.{id_same}
-use Rattle.accrual.specs.Totals.{Totals}
-use Rattle.bucket_account.specs.Booking.{IsSinceBy, MayHaveRows, HasRowsFrom, since_option}
+use Rattle.bucket_account.specs.Booking.{IsSinceBy, since_option}
 
 -- ---- the next number is free
 
@@ -28,7 +26,7 @@ no_number next (v ∷ versions) h = rw (here v.id h.0, no_number next versions h
   here Null below = refl
   here (Number n) below = let less = below.1 in let differ : (next == n) ≡ false = grind (arith, nat_tests) in differ
 
-pub is_free : (versioning : Versioning) (next : ℕ) (versions : List Version) → 0 < next → AllByRecursion (λ version. IsNumberBelow next version.id) versions → IsFree versioning next versions
+pub is_free : (versioning : Versioning) (next : ℕ) (versions : List Version) → 0 < next → AllByRecursion (λ version. IsNumberBelow next version.id) versions → IsFreeNumber versioning next versions
 is_free Unversioned next versions some h = tt
 is_free Enabled next versions some h =
     let one : nat_le 1 next ≡ true = grind (arith, nat_tests) in
@@ -76,10 +74,6 @@ pub since_le : (at : ℕ) (o : Option Version) → IsSinceBy at o → since_opti
 since_le at None h = omega arith
 since_le at (Some v) h = h
 
-pub rows_for : (at : ℕ) (o : Option Version) (meters : Totals) → HasRowsFrom (since_option at o) at meters → MayHaveRows o at meters
-rows_for at None meters rows = tt
-rows_for at (Some v) meters rows = rows
-
 -- ---- sums over the versions that stay
 
 abbrev pub of_option : (Version → ℕ) → Option Version → ℕ
@@ -95,9 +89,9 @@ sum_without f id (v ∷ versions) differ = by (has_id id v) refl (sum_without f 
   by : (b : Bool) → has_id id v ≡ b → (ids_differ versions ≡ true → sum_by f (without id versions) + of_option f (version_at id versions) ≡ sum_by f versions)
       → sum_by f (cond (not b) (v ∷ without id versions) (without id versions)) + of_option f (cond b (Some v) (version_at id versions)) ≡ sum_by f (v ∷ versions)
   by true is left_over =
-      let same = id_same id v.id is in
+      let same = same_id_is id v.id is in
       let none = subst (λ (i : VersionId). list_any (has_id i) versions ≡ false) (sym same) (not-true _ parts.0) in
-      let left = ap (λ (l : List Version). sum_by f l) (without_none id versions none) in
+      let left = ap (λ (l : List Version). sum_by f l) (none_without id versions none) in
       let cons = sum_by-cons f v versions in
       omega (arith, left, cons)
   by false is left_over =

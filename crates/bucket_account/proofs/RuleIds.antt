@@ -6,32 +6,29 @@ use Rattle.std.proofs.lemmas.Bool.{ltb-false}
 use Rattle.std.proofs.lemmas.Option.{slice_get_past}
 use Rattle.std.proofs.lemmas.Str.{chars-nil}
 use Rattle.office_base.specs.Tags.{char_count}
-use Rattle.rules_core.specs.Conditions.{breaks, flaws, flaw_of, or_later, first_flaw, first_flaw_after}
+use Rattle.rules_core.specs.Conditions.{breaks, flaws, flaw_of, first_flaw, first_flaw_after}
 use Rattle.rules_core.specs.Configurations.{Configuration, IsConfiguration}
 use Rattle.rules_core.specs.declared.flaw.RuleFlaw.{RuleFlaw}
 use Rattle.rules_core.specs.declared.flaw.RuleFlaw.TheVariants.{LongId, TooManyRules}
 use Rattle.rules_core.specs.declared.rule.Rule.{Rule}
 use Rattle.plain_office.specs.Step.{rule_id}
+use Rattle.rules_json.proofs.Writable.{none_later}
 
 short_by : (n : ℕ) (long : Bool) (others : Option RuleFlaw) → nat_lt 255 n ≡ long → cond long (Some LongId) others ≡ None → n ≤ 255
 short_by n true others is h = absurd cc
 short_by n false others is h = ltb-false 255 n is
 
-short_rule : (earlier : List Rule) (rule : Rule) → flaw_of earlier rule ≡ None → char_count rule.id ≤ 255
+pub short_rule : (earlier : List Rule) (rule : Rule) → flaw_of earlier rule ≡ None → char_count rule.id ≤ 255
 unfolding flaw_of breaks
 short_rule earlier rule h = short_by (char_count rule.id) (nat_lt 255 (char_count rule.id)) _ refl h
-
-no_flaw : (flaw : Option RuleFlaw) (place : ℕ) (later : Option (RuleFlaw × ℕ)) → or_later flaw place later ≡ None → (flaw ≡ None) × (later ≡ None)
-no_flaw None place later h = (refl, h)
-no_flaw (Some flaw) place later h = absurd cc
 
 short_after : (earlier rules : List Rule) (place : ℕ) (rule : Rule) → first_flaw_after earlier rules ≡ None → place < length rules → rule ≡ get_or rules place rule → char_count rule.id ≤ 255
 short_after earlier [] place rule h less is = absurd (omega (arith, less))
 short_after earlier (first ∷ rules) zero rule h less is =
-    let none = no_flaw (flaw_of earlier first) (length earlier + 1) (first_flaw_after (earlier ++ first ∷ []) rules) h in
+    let none = none_later (flaw_of earlier first) (length earlier + 1) (first_flaw_after (earlier ++ first ∷ []) rules) h in
     subst (λ (r : Rule). char_count r.id ≤ 255) (sym is) (short_rule earlier first none.0)
 short_after earlier (first ∷ rules) (suc place) rule h less is =
-    let none = no_flaw (flaw_of earlier first) (length earlier + 1) (first_flaw_after (earlier ++ first ∷ []) rules) h in
+    let none = none_later (flaw_of earlier first) (length earlier + 1) (first_flaw_after (earlier ++ first ∷ []) rules) h in
     short_after (earlier ++ first ∷ []) rules place rule none.1 (omega (arith, less)) is
 
 after_count : (many : Bool) (later : Option (RuleFlaw × ℕ)) → cond many (Some (TooManyRules, 0)) later ≡ None → later ≡ None
@@ -39,7 +36,9 @@ after_count true later h = absurd cc
 after_count false later h = h
 
 -- each has at most 255 characters
-pub short_id : (configuration : Configuration) (rules : List Rule) (place : ℕ) (rule : Rule) → IsConfiguration configuration → rules ≡ configuration.rules → place < length rules → rule ≡ get_or rules place rule
+pub short_id : (configuration : Configuration) (rules : List Rule) (place : ℕ) (rule : Rule)
+    → IsConfiguration configuration → rules ≡ configuration.rules → place < length rules
+    → rule ≡ get_or rules place rule
     → char_count rule.id ≤ 255
 unfolding first_flaw
 short_id configuration rules place rule is same less found =
@@ -47,7 +46,8 @@ short_id configuration rules place rule is same less found =
     (subst (λ (l : List Rule). first_flaw_after [] l ≡ None) (sym same) (after_count (nat_lt 1_000 (length configuration.rules)) _ is.flawless)) less found
 
 -- behind the last rule there is none
-pub no_id : (kept : Option Configuration) (configuration : Configuration) (rules : List Rule) (at place : ℕ) → kept ≡ Some configuration → rules ≡ configuration.rules → at ≡ place - 1 → length rules ≤ at
+pub no_id : (kept : Option Configuration) (configuration : Configuration) (rules : List Rule) (at place : ℕ)
+    → kept ≡ Some configuration → rules ≡ configuration.rules → at ≡ place - 1 → length rules ≤ at
     → [] ≡ rule_id kept place
 no_id kept configuration rules at place is same here over =
     let past : slice_get configuration.rules (place - 1) ≡ None = slice_get_past configuration.rules (place - 1) (subst (λ (l : List Rule). length l ≤ place - 1) same (omega (arith, here, over))) in

@@ -32,8 +32,10 @@ module _ {K X : Type 0} {cmp : K → K → Ordering} (ko : IsKeyOrder cmp) (key 
   set_is_written [] rises h = absurd cc
   set_is_written (e ∷ es) rises h = set_at (cmp key e.0) e es _ _ refl rises h (set_is_written es rises.1)
 
-pub set_is_with : {X : Type 0} (name : List ℕ) (value old : X) (es : List (List ℕ × X)) → Rises bytes_cmp es → at_name name es ≡ Some old → set_value (is_at (bytes_cmp name)) es value ≡ with_name name value es
+pub set_is_with : {X : Type 0} (name : List ℕ) (value old : X) (es : List (List ℕ × X)) → Rises bytes_cmp es
+    → at_name name es ≡ Some old → set_value (is_at (bytes_cmp name)) es value ≡ with_name name value es
 set_is_with name value old es rises h = set_is_written by_name name value old es rises h
 
-pub set_is_with_number : {X : Type 0} (number : ℕ) (value old : X) (es : List (ℕ × X)) → Rises nat_cmp es → at_number number es ≡ Some old → set_value (is_at (nat_cmp number)) es value ≡ with_number number value es
+pub set_is_with_number : {X : Type 0} (number : ℕ) (value old : X) (es : List (ℕ × X)) → Rises nat_cmp es
+    → at_number number es ≡ Some old → set_value (is_at (nat_cmp number)) es value ≡ with_number number value es
 set_is_with_number number value old es rises h = set_is_written by_number number value old es rises h

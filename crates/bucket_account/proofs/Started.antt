@@ -1,7 +1,7 @@
 -- A bucket after an upload started, and a command that takes one off.
 use Rattle.std.proofs.Common.{◌≡◌, inr, ℕ, ◌+◌, ◌≤◌, List, [], ◌∷◌, length, refl, ap, sym, ◌∙◌, subst, arith}
 use Rattle.std.specs.Prelude.{Option, Some, None, Result, Ok, Err, IfSome, OnOk, is_some, is_err, true, false, sum_by}
-use Rattle.accrual.specs.Totals.{Totals, StandsFor}
+use Rattle.accrual.specs.Totals.{Totals, AreTotalsOf}
 use Rattle.office_base.specs.Maps.{at_number, with_number}
 use Rattle.office_base.specs.Tags.{Tag}
 use Rattle.class_rules.specs.declared.class.Class.{Class}
@@ -60,9 +60,10 @@ module _ (account : Account) (t : ℕ) (key : List ℕ) (class : Class) (tags : 
   abbrev Told : AccountRecord → Result Done Refusal → Type 0
   Told after result = DoesTold (Uploads ∷ Names ∷ []) (start_upload t key class tags account) account counts after result
 
-  start_done : (uploads : List (ℕ × UploadRecord)) → uploads ≡ uploads_then → (meters : Totals) → StandsFor meters (book_of account.books) → (moved : Counts) → moved ≡ counts_started key tags counts
+  start_done : (uploads : List (ℕ × UploadRecord)) → uploads ≡ uploads_then → (meters : Totals) → AreTotalsOf meters (book_of account.books) → (moved : Counts) → moved ≡ counts_started key tags counts
       → first_over (Uploads ∷ Names ∷ []) moved ≡ None
-      → Told (account_of (record account.bucket { uploads = uploads; next_upload = account.bucket.next_upload + 1 }) meters) (Ok (record { counts = moved; reply = UploadStarted account.bucket.next_upload }))
+      → Told (account_of (record account.bucket { uploads = uploads; next_upload = account.bucket.next_upload + 1 })
+      meters) (Ok (record { counts = moved; reply = UploadStarted account.bucket.next_upload }))
   start_done uploads is meters stands moved are free = (
     refl,
     record { bucket = ap (λ (l : List (ℕ × UploadRecord)). record account.bucket { uploads = l; next_upload = account.bucket.next_upload + 1 }) is; meters = stands },
@@ -70,18 +71,19 @@ module _ (account : Account) (t : ℕ) (key : List ℕ) (class : Class) (tags : 
     free,
   )
 
-  start_refused : (meters : Totals) → StandsFor meters (book_of account.books) → (refusal : Refusal) → IsFullOf (Uploads ∷ Names ∷ []) (counts_started key tags counts) refusal
+  start_refused : (meters : Totals) → AreTotalsOf meters (book_of account.books) → (refusal : Refusal) → IsFullOf (Uploads ∷ Names ∷ []) (counts_started key tags counts) refusal
       → Told (account_of account.bucket meters) (Err refusal)
   start_refused meters stands refusal full = (inr (record { moved = counts_started key tags counts; follow = moved_started; full = full }), record { bucket = refl; meters = stands })
 
 -- ---- of any account that the bucket stands for
 
-module _ (b : BucketRecord) (account : Account) (same : b ≡ account.bucket) (t : ℕ) (key : List ℕ) (class : Class) (tags : List Tag) (orderly : IsOrderlyAccount t account) (counts : Counts) (over : AreCountsOver b counts) where
+module _ (b : BucketRecord) (account : Account) (same : b ≡ account.bucket) (t : ℕ) (key : List ℕ) (class : Class)
+    (tags : List Tag) (orderly : IsOrderlyAccount t account) (counts : Counts) (over : AreCountsOver b counts) where
   abbrev over_it : AreCountsOver account.bucket counts
   over_it = subst (λ (x : BucketRecord). AreCountsOver x counts) same over
 
   pub start_done_for : (uploads : List (ℕ × UploadRecord)) (new : UploadRecord) → uploads ≡ with_number b.next_upload new b.uploads → new ≡ new_upload key class tags t
-      → (meters : Totals) → StandsFor meters (book_of account.books) → (moved : Counts) → moved ≡ counts_started key tags counts → first_over (Uploads ∷ Names ∷ []) moved ≡ None
+      → (meters : Totals) → AreTotalsOf meters (book_of account.books) → (moved : Counts) → moved ≡ counts_started key tags counts → first_over (Uploads ∷ Names ∷ []) moved ≡ None
       → DoesTold (Uploads ∷ Names ∷ []) (start_upload t key class tags account) account counts
       (account_of (record b { uploads = uploads; next_upload = b.next_upload + 1 }) meters) (Ok (record { counts = moved; reply = UploadStarted b.next_upload }))
   start_done_for uploads new is started meters stands moved are free =
@@ -91,7 +93,7 @@ module _ (b : BucketRecord) (account : Account) (same : b ≡ account.bucket) (t
       (is ∙ ap (λ (u : UploadRecord). with_number b.next_upload u b.uploads) started ∙ ap (λ (x : BucketRecord). with_number x.next_upload (new_upload key class tags t) x.uploads) same)
       meters stands moved are free)
 
-  pub start_refused_for : (meters : Totals) → StandsFor meters (book_of account.books) → (refusal : Refusal) → IsFullOf (Uploads ∷ Names ∷ []) (counts_started key tags counts) refusal
+  pub start_refused_for : (meters : Totals) → AreTotalsOf meters (book_of account.books) → (refusal : Refusal) → IsFullOf (Uploads ∷ Names ∷ []) (counts_started key tags counts) refusal
       → DoesTold (Uploads ∷ Names ∷ []) (start_upload t key class tags account) account counts (account_of b meters) (Err refusal)
   start_refused_for meters stands refusal full =
       subst (λ (x : BucketRecord). DoesTold (Uploads ∷ Names ∷ []) (start_upload t key class tags account) account counts (account_of x meters) (Err refusal)) (sym same)

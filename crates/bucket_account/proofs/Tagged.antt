@@ -3,7 +3,7 @@ use Rattle.std.proofs.Common.{◌≡◌, ◌⊎◌, inl, inr, ℕ, ◌+◌, ◌�
 use Rattle.std.specs.Prelude.{Option, Some, None, Result, Ok, Err, IfOk, unwrap_or, sum_by}
 use Rattle.std.specs.List.{list_any}
 use Rattle.std.specs.Option.{ok_or}
-use Rattle.std.proofs.lemmas.Bool.{and_parts, or_parts, not-true}
+use Rattle.std.proofs.lemmas.Bool.{and_parts, not-true}
 use Rattle.std.proofs.lemmas.Bool.Decides.{nat_tests}
 use Rattle.std.proofs.lemmas.List.Sums.{sum_by-cons}
 use Rattle.office_base.specs.Maps.{at_name, with_name}
@@ -16,7 +16,8 @@ use Rattle.stacks.specs.declared.refusal.StackRefusal.TheVariants as stack
 use Rattle.stacks.specs.declared.version.Kind.{Kind}
 use Rattle.stacks.specs.declared.version.Kind.TheVariants.{Object, Marker}
 use Rattle.stacks.specs.declared.version.Version.{Version}
-use Rattle.accrual.specs.Totals.{Totals, StandsFor}
+use Rattle.stacks.proofs.Sole.{none_changed, same_id_is}
+use Rattle.accrual.specs.Totals.{Totals, AreTotalsOf}
 use Rattle.due_core.specs.Buckets.{BucketRecord}
 use Rattle.plain_office.specs.Office.{Account, Books, book_of}
 use Rattle.plain_office.specs.Changes.{with_stack}
@@ -27,7 +28,7 @@ use Rattle.office_types.specs.declared.refusal.Refusal.{Refusal}
 use Rattle.office_types.specs.declared.refusal.Refusal.TheVariants.{NoMemory, NoSuchKey}
 use Rattle.office_types.specs.declared.refusal.What.TheVariants.{Buckets, Versions, Uploads, Parts, Names, Rules}
 use Rattle.office_laws.proofs.Buckets.{weight_with}
-use Rattle.office_laws.proofs.Versions.{id_same, tags_change, changed_length}
+use Rattle.office_laws.proofs.Versions.{tags_change, changed_length}
 use Rattle.bucket_account.specs.declared.change.Done.{Done}
 use Rattle.bucket_account.specs.declared.counts.Counts.{Counts}
 use Rattle.bucket_account.specs.Booking.{stack_under}
@@ -39,12 +40,6 @@ use Rattle.bucket_account.proofs.Doing.{ready_at}
 use Rattle.bucket_account.proofs.Under.{ids_under, by_length, by_names, length_weight, names_some}
 
 -- ---- the bytes of the tags
-
-changed_none : (id : VersionId) (change : Version → Version) (versions : List Version) → list_any (has_id id) versions ≡ false → changed_at id change versions ≡ versions
-changed_none id change [] h = refl
-changed_none id change (v ∷ versions) h =
-    let parts = or_parts (has_id id v) (list_any (has_id id) versions) h in
-    rw parts.0 (ap (λ (l : List Version). v ∷ l) (changed_none id change versions parts.1))
 
 module _ (id : VersionId) (tags : List Tag) where
   tagged_object : (v : Version) (before : List Tag) → tags_of_version v ≡ Ok before → (tag_bytes_of v ≡ tag_bytes before) × (tag_bytes_of (with_tags tags v) ≡ tag_bytes tags)
@@ -65,9 +60,9 @@ module _ (id : VersionId) (tags : List Tag) where
         → sum_by tag_bytes_of (changed_at id (with_tags tags) versions) + tag_bytes before ≡ sum_by tag_bytes_of versions + tag_bytes tags)
         → sum_by tag_bytes_of (cond b (with_tags tags v) v ∷ changed_at id (with_tags tags) versions) + tag_bytes before ≡ sum_by tag_bytes_of (v ∷ versions) + tag_bytes tags
     by true is told more =
-        let same = id_same id v.id is in
+        let same = same_id_is id v.id is in
         let none = subst (λ (i : VersionId). list_any (has_id i) versions ≡ false) (sym same) (not-true _ parts.0) in
-        let left = ap (λ (l : List Version). sum_by tag_bytes_of l) (changed_none id (with_tags tags) versions none) in
+        let left = ap (λ (l : List Version). sum_by tag_bytes_of l) (none_changed id (with_tags tags) versions none) in
         let both = tagged_object v before told in
         let new = sum_by-cons tag_bytes_of (with_tags tags v) (changed_at id (with_tags tags) versions) in
         let old = sum_by-cons tag_bytes_of v versions in
@@ -153,9 +148,16 @@ module _ (b : BucketRecord) (books : Books) (key : List ℕ) (id : VersionId) (t
 
     -- what is told, by what stands under the key
     abbrev told_under : Option StackRecord → Change
-    told_under o = ok_or o NoSuchKey >>= λ found. (of_stack (tags_at id found.versions) >>= λ before. Ok (record account { bucket = with_stack key (after_tags id tags t found) b }, TagsSet (length tags)))
+    told_under o =
+        ok_or o NoSuchKey
+        >>= λ found.
+        (of_stack (tags_at id found.versions)
+        >>= λ before. Ok (
+          record account { bucket = with_stack key (after_tags id tags t found) b },
+          TagsSet (length tags),
+        ))
 
-    module _ (stacks : List (List ℕ × StackRecord)) (meters : Totals) (stands : StandsFor meters (book_of books)) where
+    module _ (stacks : List (List ℕ × StackRecord)) (meters : Totals) (stands : AreTotalsOf meters (book_of books)) where
       abbrev new : AccountRecord
       new = account_of (record b { stacks = stacks }) meters
 
@@ -175,7 +177,10 @@ module _ (b : BucketRecord) (books : Books) (key : List ℕ) (id : VersionId) (t
         done_under (Some stack) found h =
             let here : under ≡ stack = ap (λ (o : Option StackRecord). unwrap_or o (new_stack 0)) found in
             subst (λ (s : StackRecord). CountsTags (tags_at id s.versions) tags counts (Ok done.counts)
-            → DoesTold (Names ∷ []) (of_stack (tags_at id s.versions) >>= λ before. Ok (record account { bucket = with_stack key (after_tags id tags t s) b }, TagsSet (length tags))) account counts new (Ok done))
+            → DoesTold (Names ∷ []) (of_stack (tags_at id s.versions)
+            >>= λ before. Ok
+            (record account { bucket = with_stack key (after_tags id tags t s) b }, TagsSet (length tags)))
+            account counts new (Ok done))
             here (done_kind (tags_at id under.versions) refl) h
 
         pub tagged : CountsTagsUnder id (at_name key b.stacks) tags counts (Ok done.counts) → DoesTold (Names ∷ []) (set_tags t key id tags account) account counts new (Ok done)
@@ -203,7 +208,10 @@ module _ (b : BucketRecord) (books : Books) (key : List ℕ) (id : VersionId) (t
         refused_under (Some stack) found h =
             let here : under ≡ stack = ap (λ (o : Option StackRecord). unwrap_or o (new_stack 0)) found in
             subst (λ (s : StackRecord). CountsTags (tags_at id s.versions) tags counts (Err refusal)
-            → DoesTold (Names ∷ []) (of_stack (tags_at id s.versions) >>= λ before. Ok (record account { bucket = with_stack key (after_tags id tags t s) b }, TagsSet (length tags))) account counts new (Err refusal))
+            → DoesTold (Names ∷ []) (of_stack (tags_at id s.versions)
+            >>= λ before. Ok
+            (record account { bucket = with_stack key (after_tags id tags t s) b }, TagsSet (length tags)))
+            account counts new (Err refusal))
             here (refused_kind (tags_at id under.versions) refl) h
 
         pub refused : CountsTagsUnder id (at_name key b.stacks) tags counts (Err refusal) → DoesTold (Names ∷ []) (set_tags t key id tags account) account counts new (Err refusal)
@@ -211,7 +219,8 @@ module _ (b : BucketRecord) (books : Books) (key : List ℕ) (id : VersionId) (t
 
 -- ---- of any account that the bucket stands for
 
-module _ (b : BucketRecord) (of : Account) (same : b ≡ of.bucket) (key : List ℕ) (id : VersionId) (tags : List Tag) (t : ℕ) (orderly : IsOrderlyAccount t of) (counts : Counts) (over : AreCountsOver b counts) where
+module _ (b : BucketRecord) (of : Account) (same : b ≡ of.bucket) (key : List ℕ) (id : VersionId) (tags : List Tag)
+    (t : ℕ) (orderly : IsOrderlyAccount t of) (counts : Counts) (over : AreCountsOver b counts) where
   here : IsOrderlyAccount t (record { bucket = b; books = of.books })
   here = subst (λ (x : BucketRecord). IsOrderlyAccount t (record { bucket = x; books = of.books })) (sym same) orderly
 
@@ -227,9 +236,11 @@ module _ (b : BucketRecord) (of : Account) (same : b ≡ of.bucket) (key : List 
   of_account after result h =
       subst (λ (x : BucketRecord). DoesTold (Names ∷ []) (set_tags t key id tags (record { bucket = x; books = of.books })) (record { bucket = x; books = of.books }) counts after result) same h
 
-  module _ (stacks : List (List ℕ × StackRecord)) (meters : Totals) (stands : StandsFor meters (book_of of.books)) where
+  module _ (stacks : List (List ℕ × StackRecord)) (meters : Totals) (stands : AreTotalsOf meters (book_of of.books)) where
     pub tagged_for : (done : Done) → done.reply ≡ TagsSet (length tags) → stacks ≡ with_name key (after_tags id tags t (stack_under key b.stacks)) b.stacks
-        → CountsTagsUnder id (at_name key b.stacks) tags counts (Ok done.counts) → DoesTold (Names ∷ []) (set_tags t key id tags of) of counts (account_of (record b { stacks = stacks }) meters) (Ok done)
+        → CountsTagsUnder id (at_name key b.stacks) tags counts (Ok done.counts)
+        → DoesTold (Names ∷ []) (set_tags t key id tags of) of counts (account_of (record b { stacks = stacks }) meters)
+        (Ok done)
     tagged_for done replied is h = of_account (account_of (record b { stacks = stacks }) meters) (Ok done) (tagged b of.books key id tags t here counts over stacks meters stands done replied is h)
 
     pub refused_for : (refusal : Refusal) → stacks ≡ b.stacks → CountsTagsUnder id (at_name key b.stacks) tags counts (Err refusal)

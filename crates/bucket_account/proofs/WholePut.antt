@@ -3,6 +3,7 @@ use Rattle.std.proofs.Common.{◌≡◌, ℕ, ◌+◌, List, [], ◌∷◌, ◌+
 use Rattle.std.specs.Prelude.{Option, Some, None, is_none, nat_lt}
 use Rattle.std.specs.Str.{bytes_eq}
 use Rattle.std.proofs.lemmas.List.{map-append}
+use Rattle.std.proofs.Math.Bool.{and-false}
 use Rattle.office_base.specs.declared.version_id.VersionId.{VersionId}
 use Rattle.class_rules.specs.Classes.{least_stay}
 use Rattle.class_rules.specs.declared.class.Class.{Class}
@@ -19,10 +20,6 @@ use Rattle.bucket_account.specs.declared.incoming.Incoming.{Incoming}
 use Rattle.bucket_account.specs.Booking.{books_put, version_of}
 use Rattle.bucket_account.specs.Uploading.{HavePartStays, parts_ended}
 
-and_none : (b : Bool) → b && false ≡ false
-and_none true = refl
-and_none false = refl
-
 module _ (key : List ℕ) (number at : ℕ) where
   -- ---- one part
 
@@ -35,14 +32,14 @@ module _ (key : List ℕ) (number at : ℕ) where
 
     -- a version's stay stays as it is
     part_skips : (k : List ℕ) (id : VersionId) (stay : Stay) → part_end (record { key = k; item = of_version id }, stay) ≡ (record { key = k; item = of_version id }, stay)
-    part_skips k id stay = rw (and_none (is_none stay.to && bytes_eq key k)) refl
+    part_skips k id stay = rw (and-false (is_none stay.to && bytes_eq key k)) refl
 
     module _ (id : VersionId) where
       abbrev version_end : Booked → Booked
       version_end = after_end key (of_version id) at
 
       version_skips : (k : List ℕ) (n p : ℕ) (stay : Stay) → version_end (record { key = k; item = of_part n p }, stay) ≡ (record { key = k; item = of_part n p }, stay)
-      version_skips k n p stay = rw (and_none (is_none stay.to && bytes_eq key k)) refl
+      version_skips k n p stay = rw (and-false (is_none stay.to && bytes_eq key k)) refl
 
       of_a_version : (k : List ℕ) (other : VersionId) (stay : Stay) (c : Bool)
           → part_end (cond c ((record { key = k; item = of_version other }, record stay { to = Some at })) (record { key = k; item = of_version other }, stay))
@@ -98,7 +95,7 @@ module _ (key : List ℕ) (number at : ℕ) where
 
     -- its own stay is as before
     differs : (id : VersionId) → is_of key (of_part number place) key (of_version id) ≡ false
-    differs id = and_none (bytes_eq key key)
+    differs id = and-false (bytes_eq key key)
 
     option_keeps : (o : Option Version) (books : Books) → open_of key (of_part number place) (without_option key o at books).stays ≡ open_of key (of_part number place) books.stays
     option_keeps None books = refl

@@ -10,7 +10,8 @@ use Rattle.stacks.specs.declared.version.Kind.TheVariants.{Object, Marker}
 use Rattle.stacks.specs.declared.version.Versioning.{Versioning}
 use Rattle.stacks.specs.declared.version.Versioning.TheVariants.{Unversioned}
 use Rattle.stacks.specs.declared.version.Version.{Version}
-use Rattle.stacks.specs.Stacks.{StackRecord, new_stack, new_id, version_at, new_version, replaced, after_adding, IsFree}
+use Rattle.stacks.specs.Stacks.{StackRecord, new_stack, new_id, version_at, new_version, replaced, after_adding}
+use Rattle.stacks.specs.Stacks.{IsFreeNumber}
 use Rattle.accrual.specs.Totals.{Totals, HasRow}
 use Rattle.plain_office.specs.Office.{Books, of_version}
 use Rattle.plain_office.specs.Books.{is_open_stay, with_version, without_option}
@@ -118,10 +119,10 @@ counts_after key incoming stacks counts =
     (option_map leaving_of (gone_of key incoming stacks)) counts
 
 -- it may be put on this stack, and what goes has its lines since a moment that is not later
-pub record IsReady (incoming : Incoming) (stack : StackRecord) : Type 0 where
+pub record MayBePut (incoming : Incoming) (stack : StackRecord) : Type 0 where
   pub comes : MayCome incoming.versioning incoming.at incoming.kind
   pub later : stack.changed ≤ incoming.at
-  pub free : IsFree incoming.versioning incoming.number stack.versions
+  pub free : IsFreeNumber incoming.versioning incoming.number stack.versions
   pub since : IsSinceBy incoming.at (replaced incoming.versioning stack.versions)
 
 -- counts that can be moved by a version that comes where one with so many bytes of tags goes

@@ -1,6 +1,6 @@
 -- What a bucket in memory stands for: it keeps records and totals, where the plain office has lists.
 use Rattle.std.specs.Prelude.{◌≡◌, ℕ, ◌^◌}
-use Rattle.accrual.specs.Totals.{StandsFor}
+use Rattle.accrual.specs.Totals.{AreTotalsOf}
 use Rattle.plain_office.specs.Office.{Account, book_of}
 use Rattle.bucket_account.specs.Counting.{AccountRecord}
 
@@ -11,4 +11,4 @@ most_commands = 2 ^ 42
 -- the bucket has these records, and its meters stand for its book
 pub record StandsForAccount (records : AccountRecord) (account : Account) : Type 0 where
   pub bucket : records.bucket ≡ account.bucket
-  pub meters : StandsFor records.meters (book_of account.books)
+  pub meters : AreTotalsOf records.meters (book_of account.books)

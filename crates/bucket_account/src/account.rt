@@ -1,7 +1,7 @@
 // A bucket in memory: its records, its meters and its running count of versions.
 ghost use Rattle.std.specs.Prelude.{◌≡◌, ◌+◌, ◌*◌, ◌^◌, ◌<◌, ◌≤◌, ℕ, length, OnOk, OnErr, IfOk};
 ghost use Rattle.accrual.specs.Books.{Book, IsBookedBy};
-ghost use Rattle.accrual.specs.Totals.{StandsFor};
+ghost use Rattle.accrual.specs.Totals.{AreTotalsOf};
 ghost use Rattle.plain_office.specs.Office as plain;
 ghost use Rattle.plain_office.specs.Step.{new_account};
 ghost use Rattle.plain_office.specs.Counts.{version_count};
@@ -127,7 +127,7 @@ impl Account {
     }
 
     /// Counts the rules.
-    #[tactic(auto, using(crate::proofs::Rules::few_rules))]
+    #[tactic(auto, using(due_core::proofs::RuleCount::few_rules))]
     pub fn rules(&self) -> u32
         ensures { result ≡ rule_count self.now.bucket.rules }
     {
@@ -153,7 +153,7 @@ impl Account {
 
     /// Reads what was used of a class in a month, as seen at a moment.
     pub fn used(&self, month: Month, class: Class, t: Moment) -> ClassMeters
-        ensures { (book : Book) → StandsFor self.now.meters book → IsBookedBy t book
+        ensures { (book : Book) → AreTotalsOf self.now.meters book → IsBookedBy t book
             → result ≡ class_meters month t book class }
     {
         ClassMeters {

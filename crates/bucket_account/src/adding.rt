@@ -1,13 +1,13 @@
 // A version comes: an object, or a delete marker.
 ghost use Rattle.std.specs.Prelude.{◌≡◌, ◌⊎◌, ◌+◌, ◌^◌, ◌<◌, ◌≤◌, List, [], ℕ, None, option_map, OnOk, OnErr, IfOk, IfErr};
 ghost use Rattle.office_base.specs.Maps.{bytes_cmp, at_name, with_name, Rises};
-ghost use Rattle.stacks.specs.Stacks.{IsFree, new_stack, replaced};
+ghost use Rattle.stacks.specs.Stacks.{IsFreeNumber, new_stack, replaced};
 ghost use Rattle.accrual.specs.Books.{Book};
-ghost use Rattle.accrual.specs.Totals.{StandsFor, HasRow, most_bookings};
+ghost use Rattle.accrual.specs.Totals.{AreTotalsOf, HasRow, most_bookings};
 ghost use Rattle.plain_office.specs.Office as plain;
 ghost use Rattle.plain_office.specs.Office.{Books, book_of};
 ghost use Rattle.plain_office.specs.Changes.{number_after, add_version};
-ghost use Rattle.bucket_account.specs.Booking.{MayCome, leaving_of, stack_under, stack_put, gone_of, since_option, books_put, counts_put, counts_after, gone_bytes, MayHaveStay, IsReady, AreMovable};
+ghost use Rattle.bucket_account.specs.Booking.{MayCome, leaving_of, stack_under, stack_put, gone_of, since_option, books_put, counts_put, counts_after, gone_bytes, MayHaveStay, MayBePut, AreMovable};
 ghost use Rattle.bucket_account.specs.Counting.{account_of, AreCountsOver, IsWithinBy, HasGrownBy, first_over, IsFullOf};
 ghost use Rattle.bucket_account.specs.Effects.{IsReadyAt, DoesEffect};
 ghost use Rattle.bucket_account.specs.Standing.{StandsForAccount, most_commands};
@@ -65,7 +65,7 @@ fn counted(
 fn put_kind(stack: &mut Stack, incoming: Incoming) -> Result<Option<Version>, NoMemory>
     requires later { stack.old.changed ≤ incoming.at }
     requires comes { MayCome incoming.versioning incoming.at incoming.kind }
-    requires free { IsFree incoming.versioning incoming.number stack.old.versions }
+    requires free { IsFreeNumber incoming.versioning incoming.number stack.old.versions }
     ensures ok { OnOk result (stack.new ≡ stack_put incoming stack.old) }
     ensures gone { IfOk result (λ gone. gone ≡ replaced incoming.versioning stack.old.versions) }
     ensures err { OnErr result (stack.new ≡ stack.old) }
@@ -91,7 +91,7 @@ fn put_kind(stack: &mut Stack, incoming: Incoming) -> Result<Option<Version>, No
 fn stacked(stack: &mut Stack, incoming: Incoming) -> Result<Option<Version>, Refusal>
     requires later { stack.old.changed ≤ incoming.at }
     requires comes { MayCome incoming.versioning incoming.at incoming.kind }
-    requires free { IsFree incoming.versioning incoming.number stack.old.versions }
+    requires free { IsFreeNumber incoming.versioning incoming.number stack.old.versions }
     ensures ok { OnOk result (stack.new ≡ stack_put incoming stack.old) }
     ensures gone { IfOk result (λ gone. gone ≡ replaced incoming.versioning stack.old.versions) }
     ensures err { OnErr result (stack.new ≡ stack.old) }
@@ -111,17 +111,17 @@ fn put_on(
     incoming: Incoming,
     since: Moment,
 ) -> Result<(), Refusal>
-    requires ready { IsReady incoming stack.old }
+    requires ready { MayBePut incoming stack.old }
     requires since { since ≡ since_option incoming.at (replaced incoming.versioning stack.old.versions) }
     requires few { meters.old.booked + 2 ≤ most_bookings }
-    requires open { (books : Books) × StandsFor meters.old (book_of books)
+    requires open { (books : Books) × AreTotalsOf meters.old (book_of books)
         × MayHaveStay key.now (replaced incoming.versioning stack.old.versions) books }
     ensures stack { OnOk result (stack.new ≡ stack_put incoming stack.old) }
-    ensures meters { OnOk result ((books : Books) → StandsFor meters.old (book_of books)
-        → MayHaveStay key.now (replaced incoming.versioning stack.old.versions) books → StandsFor meters.new
+    ensures meters { OnOk result ((books : Books) → AreTotalsOf meters.old (book_of books)
+        → MayHaveStay key.now (replaced incoming.versioning stack.old.versions) books → AreTotalsOf meters.new
         (book_of (books_put key.now incoming (replaced incoming.versioning stack.old.versions) books))) }
     ensures stack_kept { OnErr result (stack.new ≡ stack.old) }
-    ensures meters_kept { OnErr result ((book : Book) → StandsFor meters.old book → StandsFor meters.new book) }
+    ensures meters_kept { OnErr result ((book : Book) → AreTotalsOf meters.old book → AreTotalsOf meters.new book) }
     ensures refusal { IfErr result (λ refusal. refusal ≡ Refusal.NoMemory) }
     ensures rows { (month : ℕ) → HasRow meters.old month → HasRow meters.new month }
     ensures booked { meters.new.booked ≤ meters.old.booked + 2 }
@@ -145,15 +145,15 @@ fn put_first(
     incoming: Incoming,
 ) -> Result<(), Refusal>
     requires absent { at_name key.now stacks.old.entries ≡ None }
-    requires free { IsFree incoming.versioning incoming.number [] }
+    requires free { IsFreeNumber incoming.versioning incoming.number [] }
     requires comes { MayCome incoming.versioning incoming.at incoming.kind }
     requires few { meters.old.booked + 2 ≤ most_bookings }
     ensures stacks { OnOk result (stacks.new.entries
         ≡ with_name key.now (stack_put incoming (new_stack incoming.at)) stacks.old.entries) }
-    ensures meters { OnOk result ((books : Books) → StandsFor meters.old (book_of books)
-        → StandsFor meters.new (book_of (books_put key.now incoming None books))) }
+    ensures meters { OnOk result ((books : Books) → AreTotalsOf meters.old (book_of books)
+        → AreTotalsOf meters.new (book_of (books_put key.now incoming None books))) }
     ensures stacks_kept { OnErr result (stacks.new.entries ≡ stacks.old.entries) }
-    ensures meters_kept { OnErr result ((book : Book) → StandsFor meters.old book → StandsFor meters.new book) }
+    ensures meters_kept { OnErr result ((book : Book) → AreTotalsOf meters.old book → AreTotalsOf meters.new book) }
     ensures refusal { IfErr result (λ refusal. refusal ≡ Refusal.NoMemory) }
     ensures rows { (month : ℕ) → HasRow meters.old month → HasRow meters.new month }
     ensures booked { meters.new.booked ≤ meters.old.booked + 2 }
@@ -191,23 +191,23 @@ pub(crate) fn put_version(
     counts: Counts,
 ) -> Result<Counts, Refusal>
     requires rises { Rises bytes_cmp stacks.old.entries }
-    requires ready { IsReady incoming (stack_under key.now stacks.old.entries) }
+    requires ready { MayBePut incoming (stack_under key.now stacks.old.entries) }
     requires room { AreMovable counts
         (gone_bytes (option_map leaving_of (gone_of key.now incoming stacks.old.entries))) }
     requires few { meters.old.booked + 2 ≤ most_bookings }
-    requires open { (books : Books) × StandsFor meters.old (book_of books)
+    requires open { (books : Books) × AreTotalsOf meters.old (book_of books)
         × MayHaveStay key.now (gone_of key.now incoming stacks.old.entries) books }
     ensures stacks { OnOk result (stacks.new.entries ≡ with_name key.now
         (stack_put incoming (stack_under key.now stacks.old.entries)) stacks.old.entries) }
-    ensures meters { OnOk result ((books : Books) → StandsFor meters.old (book_of books)
-        → MayHaveStay key.now (gone_of key.now incoming stacks.old.entries) books → StandsFor meters.new
+    ensures meters { OnOk result ((books : Books) → AreTotalsOf meters.old (book_of books)
+        → MayHaveStay key.now (gone_of key.now incoming stacks.old.entries) books → AreTotalsOf meters.new
         (book_of (books_put key.now incoming (gone_of key.now incoming stacks.old.entries) books))) }
     ensures counts { IfOk result (λ after. (after ≡ counts_after key.now incoming stacks.old.entries counts)
         × (first_over whats.now after ≡ None)) }
     ensures refused { IfErr result (λ refusal. (refusal ≡ Refusal.NoMemory)
         ⊎ IsFullOf whats.now (counts_after key.now incoming stacks.old.entries counts) refusal) }
     ensures stacks_kept { OnErr result (stacks.new.entries ≡ stacks.old.entries) }
-    ensures meters_kept { OnErr result ((book : Book) → StandsFor meters.old book → StandsFor meters.new book) }
+    ensures meters_kept { OnErr result ((book : Book) → AreTotalsOf meters.old book → AreTotalsOf meters.new book) }
     ensures rows { (month : ℕ) → HasRow meters.old month → HasRow meters.new month }
     ensures booked { meters.new.booked ≤ meters.old.booked + 2 }
     ensures not_booked { OnErr result (meters.new.booked ≡ meters.old.booked) }

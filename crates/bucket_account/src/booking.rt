@@ -3,7 +3,7 @@ ghost use Rattle.std.specs.Prelude.{◌≡◌, ◌+◌, ◌<◌, ◌≤◌, ℕ,
 ghost use Rattle.class_rules.specs.Lines.{lines_of, object_lines, own_bytes, marker_line};
 ghost use Rattle.moments.specs.Months.{month_at};
 ghost use Rattle.accrual.specs.Books.{Book};
-ghost use Rattle.accrual.specs.Totals.{StandsFor, HasRow, IsBilled, most_bookings};
+ghost use Rattle.accrual.specs.Totals.{AreTotalsOf, HasRow, IsBilled, most_bookings};
 ghost use Rattle.plain_office.specs.Office.{Books, book_of};
 ghost use Rattle.plain_office.specs.Books.{lines_of_kind, without_version, without_option};
 ghost use Rattle.plain_office.specs.Orderly.{lines_since};
@@ -21,7 +21,7 @@ pub(crate) fn reserve(meters: &mut Meters, from: Moment, to: Moment) -> Result<(
     requires later { from ≤ to }
     ensures rows { OnOk result (HasRowsFrom from to meters.new) }
     ensures kept { (month : ℕ) → HasRow meters.old month → HasRow meters.new month }
-    ensures stands { (book : Book) → StandsFor meters.old book → StandsFor meters.new book }
+    ensures stands { (book : Book) → AreTotalsOf meters.old book → AreTotalsOf meters.new book }
     ensures booked { meters.new.booked ≡ meters.old.booked }
     ensures refusal { IfErr result (λ refusal. refusal ≡ Refusal.NoMemory) }
 {
@@ -64,9 +64,9 @@ pub(crate) fn end_version(meters: &mut Meters, key: &Key, version: &Version, at:
     requires later { lines_since version.now ≤ at }
     requires rows { HasRowsFrom (lines_since version.now) at meters.old }
     requires few { meters.old.booked < most_bookings }
-    requires open { (books : Books) × StandsFor meters.old (book_of books) × HasStay key.now version.now books }
-    ensures stands { (books : Books) → StandsFor meters.old (book_of books) → HasStay key.now version.now books
-        → StandsFor meters.new (book_of (without_version key.now version.now at books)) }
+    requires open { (books : Books) × AreTotalsOf meters.old (book_of books) × HasStay key.now version.now books }
+    ensures stands { (books : Books) → AreTotalsOf meters.old (book_of books) → HasStay key.now version.now books
+        → AreTotalsOf meters.new (book_of (without_version key.now version.now at books)) }
     ensures rows { (month : ℕ) → HasRow meters.old month → HasRow meters.new month }
     ensures booked { meters.new.booked ≤ meters.old.booked + 1 }
 {
@@ -90,9 +90,9 @@ pub(crate) fn end_replaced(meters: &mut Meters, key: &Key, gone: &Option<Version
     requires later { IsSinceBy at gone.now }
     requires rows { MayHaveRows gone.now at meters.old }
     requires few { meters.old.booked < most_bookings }
-    requires open { (books : Books) × StandsFor meters.old (book_of books) × MayHaveStay key.now gone.now books }
-    ensures stands { (books : Books) → StandsFor meters.old (book_of books) → MayHaveStay key.now gone.now books
-        → StandsFor meters.new (book_of (without_option key.now gone.now at books)) }
+    requires open { (books : Books) × AreTotalsOf meters.old (book_of books) × MayHaveStay key.now gone.now books }
+    ensures stands { (books : Books) → AreTotalsOf meters.old (book_of books) → MayHaveStay key.now gone.now books
+        → AreTotalsOf meters.new (book_of (without_option key.now gone.now at books)) }
     ensures rows { (month : ℕ) → HasRow meters.old month → HasRow meters.new month }
     ensures booked { meters.new.booked ≤ meters.old.booked + 1 }
 {

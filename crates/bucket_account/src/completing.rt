@@ -4,10 +4,10 @@ ghost use Rattle.std.specs.Ordering.{nat_cmp};
 ghost use Rattle.office_base.specs.Maps.{bytes_cmp, with_name, Rises};
 ghost use Rattle.rules_core.specs.Matching.{is_empty};
 ghost use Rattle.accrual.specs.Books.{Book};
-ghost use Rattle.accrual.specs.Totals.{StandsFor, most_bookings};
+ghost use Rattle.accrual.specs.Totals.{AreTotalsOf, most_bookings};
 ghost use Rattle.plain_office.specs.Office.{Books, book_of};
 ghost use Rattle.office_types.specs.declared.refusal.What.TheVariants.{Versions, Names};
-ghost use Rattle.bucket_account.specs.Booking.{leaving_of, stack_under, stack_put, gone_of, books_put, counts_after, gone_bytes, MayHaveStay, IsReady, AreMovable};
+ghost use Rattle.bucket_account.specs.Booking.{leaving_of, stack_under, stack_put, gone_of, books_put, counts_after, gone_bytes, MayHaveStay, MayBePut, AreMovable};
 ghost use Rattle.bucket_account.specs.Counting.{first_over, IsFullOf};
 ghost use Rattle.bucket_account.specs.Uploading.{HavePartStays, parts_ended, whole_of};
 
@@ -75,20 +75,20 @@ pub(crate) fn put_whole(
     counts: Counts,
 ) -> Result<Counts, Refusal>
     requires rises { Rises bytes_cmp stacks.old.entries }
-    requires ready { IsReady incoming (stack_under upload.now.key stacks.old.entries) }
+    requires ready { MayBePut incoming (stack_under upload.now.key stacks.old.entries) }
     requires room { AreMovable counts
         (gone_bytes (option_map leaving_of (gone_of upload.now.key incoming stacks.old.entries))) }
     requires few { meters.old.booked + 2 ≤ most_bookings }
     requires parts { Rises nat_cmp upload.now.parts }
     requires later { upload.now.changed ≤ incoming.at }
-    requires open { (number : ℕ) × (books : Books) × StandsFor meters.old (book_of books)
+    requires open { (number : ℕ) × (books : Books) × AreTotalsOf meters.old (book_of books)
         × MayHaveStay upload.now.key (gone_of upload.now.key incoming stacks.old.entries) books
         × HavePartStays number upload.now upload.now.parts books }
     ensures stacks { OnOk result (stacks.new.entries ≡ with_name upload.now.key
         (stack_put incoming (stack_under upload.now.key stacks.old.entries)) stacks.old.entries) }
-    ensures meters { OnOk result ((number : ℕ) (books : Books) → StandsFor meters.old (book_of books)
+    ensures meters { OnOk result ((number : ℕ) (books : Books) → AreTotalsOf meters.old (book_of books)
         → MayHaveStay upload.now.key (gone_of upload.now.key incoming stacks.old.entries) books
-        → HavePartStays number upload.now upload.now.parts books → StandsFor meters.new
+        → HavePartStays number upload.now upload.now.parts books → AreTotalsOf meters.new
         (book_of (parts_ended upload.now.key number incoming.at upload.now.parts
         (books_put upload.now.key incoming (gone_of upload.now.key incoming stacks.old.entries) books)))) }
     ensures counts { IfOk result (λ after. (after ≡ counts_after upload.now.key incoming stacks.old.entries counts)
@@ -96,7 +96,7 @@ pub(crate) fn put_whole(
     ensures refused { IfErr result (λ refusal. (refusal ≡ Refusal.NoMemory) ⊎ IsFullOf (Versions ∷ Names ∷ [])
         (counts_after upload.now.key incoming stacks.old.entries counts) refusal) }
     ensures stacks_kept { OnErr result (stacks.new.entries ≡ stacks.old.entries) }
-    ensures meters_kept { OnErr result ((book : Book) → StandsFor meters.old book → StandsFor meters.new book) }
+    ensures meters_kept { OnErr result ((book : Book) → AreTotalsOf meters.old book → AreTotalsOf meters.new book) }
     ensures booked { meters.new.booked ≤ meters.old.booked + 2 }
     ensures not_booked { OnErr result (meters.new.booked ≡ meters.old.booked) }
 {

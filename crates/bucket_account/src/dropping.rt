@@ -6,7 +6,7 @@ ghost use Rattle.office_base.specs.Maps.{at_number, Rises};
 ghost use Rattle.office_base.specs.Sizes.{largest_size};
 ghost use Rattle.class_rules.specs.Lines.{lines_of, part_line};
 ghost use Rattle.uploads.specs.Uploads.{IsUpload};
-ghost use Rattle.accrual.specs.Totals.{StandsFor, IsBilled};
+ghost use Rattle.accrual.specs.Totals.{AreTotalsOf, IsBilled};
 ghost use Rattle.plain_office.specs.Office.{Account, Books, book_of};
 ghost use Rattle.plain_office.specs.Changes.{remove_upload_at};
 ghost use Rattle.plain_office.specs.Counts.{tag_bytes};
@@ -53,11 +53,11 @@ pub(crate) fn part_billed(class: Class, size: u64) -> Lines
 pub(crate) fn end_parts(meters: &mut Meters, upload: &Upload, at: Moment)
     requires rises { Rises nat_cmp upload.now.parts }
     requires endable { AreEndableAt at meters.old upload.now.parts }
-    requires open { (number : ℕ) × (books : Books) × StandsFor meters.old (book_of books)
+    requires open { (number : ℕ) × (books : Books) × AreTotalsOf meters.old (book_of books)
         × HavePartStays number upload.now upload.now.parts books }
-    ensures stands { (number : ℕ) (books : Books) → StandsFor meters.old (book_of books)
+    ensures stands { (number : ℕ) (books : Books) → AreTotalsOf meters.old (book_of books)
         → HavePartStays number upload.now upload.now.parts books
-        → StandsFor meters.new (book_of (parts_ended upload.now.key number at upload.now.parts books)) }
+        → AreTotalsOf meters.new (book_of (parts_ended upload.now.key number at upload.now.parts books)) }
     ensures booked { meters.new.booked ≡ meters.old.booked }
 {
     let class = upload.class();

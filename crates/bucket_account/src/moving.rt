@@ -3,7 +3,7 @@ ghost use Rattle.std.specs.Prelude.{◌≡◌, ◌+◌, ◌<◌, ◌≤◌, [], 
 ghost use Rattle.office_base.specs.Maps.{bytes_cmp, with_name, Rises};
 ghost use Rattle.stacks.specs.Stacks.{has_id, version_at, after_move};
 ghost use Rattle.accrual.specs.Books.{Book};
-ghost use Rattle.accrual.specs.Totals.{StandsFor, most_bookings};
+ghost use Rattle.accrual.specs.Totals.{AreTotalsOf, most_bookings};
 ghost use Rattle.plain_office.specs.Office as plain;
 ghost use Rattle.plain_office.specs.Office.{Books, book_of};
 ghost use Rattle.plain_office.specs.Changes.{books_moved, versions_of, move_version};
@@ -37,11 +37,11 @@ fn book_move(
     requires object { IsTrue (is_object version.now.kind) }
     requires later { lines_since version.now ≤ at }
     requires few { meters.old.booked + 3 ≤ most_bookings }
-    requires open { (books : Books) × StandsFor meters.old (book_of books) × HasStay key.now version.now books }
-    ensures stands { OnOk result ((books : Books) → StandsFor meters.old (book_of books)
+    requires open { (books : Books) × AreTotalsOf meters.old (book_of books) × HasStay key.now version.now books }
+    ensures stands { OnOk result ((books : Books) → AreTotalsOf meters.old (book_of books)
         → HasStay key.now version.now books
-        → StandsFor meters.new (book_of (books_moved key.now (Some version.now) to at books))) }
-    ensures kept { OnErr result ((book : Book) → StandsFor meters.old book → StandsFor meters.new book) }
+        → AreTotalsOf meters.new (book_of (books_moved key.now (Some version.now) to at books))) }
+    ensures kept { OnErr result ((book : Book) → AreTotalsOf meters.old book → AreTotalsOf meters.new book) }
     ensures refusal { IfErr result (λ refusal. refusal ≡ Refusal.NoMemory) }
     ensures booked { meters.new.booked ≤ meters.old.booked + 3 }
     ensures not_booked { OnErr result (meters.new.booked ≡ meters.old.booked) }
@@ -85,12 +85,12 @@ fn book_move_of(
     requires there { IsAnObject (version_at id.now versions.now) }
     requires since { IsSinceBy at (version_at id.now versions.now) }
     requires few { meters.old.booked + 3 ≤ most_bookings }
-    requires open { (books : Books) × StandsFor meters.old (book_of books)
+    requires open { (books : Books) × AreTotalsOf meters.old (book_of books)
         × MayHaveStay key.now (version_at id.now versions.now) books }
-    ensures stands { OnOk result ((books : Books) → StandsFor meters.old (book_of books)
+    ensures stands { OnOk result ((books : Books) → AreTotalsOf meters.old (book_of books)
         → MayHaveStay key.now (version_at id.now versions.now) books
-        → StandsFor meters.new (book_of (books_moved key.now (version_at id.now versions.now) to at books))) }
-    ensures kept { OnErr result ((book : Book) → StandsFor meters.old book → StandsFor meters.new book) }
+        → AreTotalsOf meters.new (book_of (books_moved key.now (version_at id.now versions.now) to at books))) }
+    ensures kept { OnErr result ((book : Book) → AreTotalsOf meters.old book → AreTotalsOf meters.new book) }
     ensures refusal { IfErr result (λ refusal. refusal ≡ Refusal.NoMemory) }
     ensures booked { meters.new.booked ≤ meters.old.booked + 3 }
     ensures not_booked { OnErr result (meters.new.booked ≡ meters.old.booked) }
@@ -123,14 +123,14 @@ fn move_on(
 ) -> Result<(), Refusal>
     requires ready { IsMovable id at stack.old }
     requires few { meters.old.booked + 3 ≤ most_bookings }
-    requires open { (books : Books) × StandsFor meters.old (book_of books)
+    requires open { (books : Books) × AreTotalsOf meters.old (book_of books)
         × MayHaveStay key.now (version_at id stack.old.versions) books }
     ensures stack { OnOk result (stack.new ≡ after_move id to at stack.old) }
-    ensures meters { OnOk result ((books : Books) → StandsFor meters.old (book_of books)
+    ensures meters { OnOk result ((books : Books) → AreTotalsOf meters.old (book_of books)
         → MayHaveStay key.now (version_at id stack.old.versions) books
-        → StandsFor meters.new (book_of (books_moved key.now (version_at id stack.old.versions) to at books))) }
+        → AreTotalsOf meters.new (book_of (books_moved key.now (version_at id stack.old.versions) to at books))) }
     ensures stack_kept { OnErr result (stack.new ≡ stack.old) }
-    ensures meters_kept { OnErr result ((book : Book) → StandsFor meters.old book → StandsFor meters.new book) }
+    ensures meters_kept { OnErr result ((book : Book) → AreTotalsOf meters.old book → AreTotalsOf meters.new book) }
     ensures refusal { IfErr result (λ refusal. refusal ≡ Refusal.NoMemory) }
     ensures booked { meters.new.booked ≤ meters.old.booked + 3 }
     ensures not_booked { OnErr result (meters.new.booked ≡ meters.old.booked) }
@@ -152,16 +152,16 @@ fn move_under(
     requires rises { Rises bytes_cmp stacks.old.entries }
     requires ready { IsMovable id at (stack_under key.now stacks.old.entries) }
     requires few { meters.old.booked + 3 ≤ most_bookings }
-    requires open { (books : Books) × StandsFor meters.old (book_of books)
+    requires open { (books : Books) × AreTotalsOf meters.old (book_of books)
         × MayHaveStay key.now (version_at id (stack_under key.now stacks.old.entries).versions) books }
     ensures stacks { OnOk result (stacks.new.entries ≡ with_name key.now
         (after_move id to at (stack_under key.now stacks.old.entries)) stacks.old.entries) }
-    ensures meters { OnOk result ((books : Books) → StandsFor meters.old (book_of books)
+    ensures meters { OnOk result ((books : Books) → AreTotalsOf meters.old (book_of books)
         → MayHaveStay key.now (version_at id (stack_under key.now stacks.old.entries).versions) books
-        → StandsFor meters.new (book_of
+        → AreTotalsOf meters.new (book_of
         (books_moved key.now (version_at id (stack_under key.now stacks.old.entries).versions) to at books))) }
     ensures stacks_kept { OnErr result (stacks.new.entries ≡ stacks.old.entries) }
-    ensures meters_kept { OnErr result ((book : Book) → StandsFor meters.old book → StandsFor meters.new book) }
+    ensures meters_kept { OnErr result ((book : Book) → AreTotalsOf meters.old book → AreTotalsOf meters.new book) }
     ensures refusal { IfErr result (λ refusal. refusal ≡ Refusal.NoMemory) }
     ensures booked { meters.new.booked ≤ meters.old.booked + 3 }
     ensures not_booked { OnErr result (meters.new.booked ≡ meters.old.booked) }

@@ -2,7 +2,7 @@
 ghost use Rattle.std.specs.Prelude.{◌≡◌, ◌⊎◌, ◌+◌, ◌<◌, ◌≤◌, ◌∷◌, [], ℕ, List, None, true, false, OnOk, OnErr, IfOk, IfErr};
 ghost use Rattle.uploads.specs.Uploads.{IsUpload, new_part, part_at, after_part, admits_part};
 ghost use Rattle.accrual.specs.Books.{Book};
-ghost use Rattle.accrual.specs.Totals.{StandsFor, HasRow, most_bookings};
+ghost use Rattle.accrual.specs.Totals.{AreTotalsOf, HasRow, most_bookings};
 ghost use Rattle.plain_office.specs.Office.{Books, Item, book_of, of_part};
 ghost use Rattle.plain_office.specs.Books.{with_end};
 ghost use Rattle.office_types.specs.declared.refusal.What.TheVariants.{Parts};
@@ -103,10 +103,10 @@ fn put_since(upload: &Upload, number: u32, at: Moment) -> Moment
 /// Books that a part goes, where there is one.
 fn end_part(meters: &mut Meters, class: Class, gone: &Option<Part>, at: Moment)
     requires ends { MayEndAt at meters.old gone.now }
-    requires open { (key : List ℕ) × (item : Item) × (books : Books) × StandsFor meters.old (book_of books)
+    requires open { (key : List ℕ) × (item : Item) × (books : Books) × AreTotalsOf meters.old (book_of books)
         × HasPartStay key item class gone.now books }
-    ensures stands { (key : List ℕ) (item : Item) (books : Books) → StandsFor meters.old (book_of books)
-        → HasPartStay key item class gone.now books → StandsFor meters.new (book_of (with_end key item at books)) }
+    ensures stands { (key : List ℕ) (item : Item) (books : Books) → AreTotalsOf meters.old (book_of books)
+        → HasPartStay key item class gone.now books → AreTotalsOf meters.new (book_of (with_end key item at books)) }
     ensures rows { (month : ℕ) → HasRow meters.old month → HasRow meters.new month }
     ensures booked { meters.new.booked ≡ meters.old.booked }
 {
@@ -125,15 +125,15 @@ pub(crate) fn put_in(
 ) -> Result<(), Refusal>
     requires later { upload.old.changed ≤ at }
     requires few { meters.old.booked < most_bookings }
-    requires open { (of : ℕ) × (books : Books) × StandsFor meters.old (book_of books)
+    requires open { (of : ℕ) × (books : Books) × AreTotalsOf meters.old (book_of books)
         × HasPartStay upload.old.key (of_part of number) upload.old.class (part_at number upload.old.parts) books }
     ensures upload { OnOk result (upload.new ≡ after_part number size at upload.old) }
-    ensures meters { OnOk result ((of : ℕ) (books : Books) → StandsFor meters.old (book_of books)
+    ensures meters { OnOk result ((of : ℕ) (books : Books) → AreTotalsOf meters.old (book_of books)
         → HasPartStay upload.old.key (of_part of number) upload.old.class (part_at number upload.old.parts) books
-        → StandsFor meters.new (book_of (books_with_part of upload.old number size at books))) }
+        → AreTotalsOf meters.new (book_of (books_with_part of upload.old number size at books))) }
     ensures admitted { OnOk result (admits_part number (new_part size at) upload.old.parts ≡ true) }
     ensures upload_kept { OnErr result (upload.new ≡ upload.old) }
-    ensures meters_kept { OnErr result ((book : Book) → StandsFor meters.old book → StandsFor meters.new book) }
+    ensures meters_kept { OnErr result ((book : Book) → AreTotalsOf meters.old book → AreTotalsOf meters.new book) }
     ensures refusal { IfErr result (λ refusal. (refusal ≡ Refusal.NoMemory)
         ⊎ ((refusal ≡ Refusal.BadPart) × (admits_part number (new_part size at) upload.old.parts ≡ false))) }
     ensures booked { meters.new.booked ≤ meters.old.booked + 1 }

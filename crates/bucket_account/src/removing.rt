@@ -4,7 +4,7 @@ ghost use Rattle.office_base.specs.Maps.{bytes_cmp, Rises};
 ghost use Rattle.rules_core.specs.Matching.{is_empty};
 ghost use Rattle.stacks.specs.Stacks.{version_at, after_removal};
 ghost use Rattle.accrual.specs.Books.{Book};
-ghost use Rattle.accrual.specs.Totals.{StandsFor, most_bookings};
+ghost use Rattle.accrual.specs.Totals.{AreTotalsOf, most_bookings};
 ghost use Rattle.plain_office.specs.Office as plain;
 ghost use Rattle.plain_office.specs.Office.{Books, book_of};
 ghost use Rattle.plain_office.specs.Books.{without_option};
@@ -85,15 +85,15 @@ fn take_off(
     requires ready { MayGo id at stack.old }
     requires since { since ≡ since_option at (version_at id stack.old.versions) }
     requires few { meters.old.booked < most_bookings }
-    requires open { (books : Books) × StandsFor meters.old (book_of books)
+    requires open { (books : Books) × AreTotalsOf meters.old (book_of books)
         × MayHaveStay key.now (version_at id stack.old.versions) books }
     ensures stack { OnOk result (stack.new ≡ after_removal id at stack.old) }
     ensures emptied { IfOk result (λ emptied. emptied ≡ is_empty stack.new.versions) }
-    ensures meters { OnOk result ((books : Books) → StandsFor meters.old (book_of books)
-        → MayHaveStay key.now (version_at id stack.old.versions) books → StandsFor meters.new
+    ensures meters { OnOk result ((books : Books) → AreTotalsOf meters.old (book_of books)
+        → MayHaveStay key.now (version_at id stack.old.versions) books → AreTotalsOf meters.new
         (book_of (without_option key.now (version_at id stack.old.versions) at books))) }
     ensures stack_kept { OnErr result (stack.new ≡ stack.old) }
-    ensures meters_kept { OnErr result ((book : Book) → StandsFor meters.old book → StandsFor meters.new book) }
+    ensures meters_kept { OnErr result ((book : Book) → AreTotalsOf meters.old book → AreTotalsOf meters.new book) }
     ensures refusal { IfErr result (λ refusal. refusal ≡ Refusal.NoMemory) }
     ensures booked { meters.new.booked ≤ meters.old.booked + 1 }
     ensures not_booked { OnErr result (meters.new.booked ≡ meters.old.booked) }
@@ -118,19 +118,19 @@ fn take_from(
     requires room { AreTakable counts (lost_bytes key.now stack.old.versions)
         (option_map leaving_of (version_at id stack.old.versions)) }
     requires few { meters.old.booked < most_bookings }
-    requires open { (books : Books) × StandsFor meters.old (book_of books)
+    requires open { (books : Books) × AreTotalsOf meters.old (book_of books)
         × MayHaveStay key.now (version_at id stack.old.versions) books }
     ensures stack { OnOk result (stack.new ≡ after_removal id at stack.old) }
     ensures emptied { IfOk result (λ left. left.1 ≡ is_empty stack.new.versions) }
-    ensures meters { OnOk result ((books : Books) → StandsFor meters.old (book_of books)
-        → MayHaveStay key.now (version_at id stack.old.versions) books → StandsFor meters.new
+    ensures meters { OnOk result ((books : Books) → AreTotalsOf meters.old (book_of books)
+        → MayHaveStay key.now (version_at id stack.old.versions) books → AreTotalsOf meters.new
         (book_of (without_option key.now (version_at id stack.old.versions) at books))) }
     ensures counts { IfOk result (λ left. (left.0 ≡ counts_from key.now id stack.old counts)
         × (first_over whats.now left.0 ≡ None)) }
     ensures refused { IfErr result (λ refusal. (refusal ≡ Refusal.NoMemory)
         ⊎ IsFullOf whats.now (counts_from key.now id stack.old counts) refusal) }
     ensures stack_kept { OnErr result (stack.new ≡ stack.old) }
-    ensures meters_kept { OnErr result ((book : Book) → StandsFor meters.old book → StandsFor meters.new book) }
+    ensures meters_kept { OnErr result ((book : Book) → AreTotalsOf meters.old book → AreTotalsOf meters.new book) }
     ensures booked { meters.new.booked ≤ meters.old.booked + 1 }
     ensures not_booked { OnErr result (meters.new.booked ≡ meters.old.booked) }
 {
@@ -157,12 +157,12 @@ fn take_version(
     requires room { AreTakable counts (lost_bytes key.now (stack_under key.now stacks.old.entries).versions)
         (option_map leaving_of (taken_of key.now id stacks.old.entries)) }
     requires few { meters.old.booked < most_bookings }
-    requires open { (books : Books) × StandsFor meters.old (book_of books)
+    requires open { (books : Books) × AreTotalsOf meters.old (book_of books)
         × MayHaveStay key.now (taken_of key.now id stacks.old.entries) books }
     ensures stacks { OnOk result (stacks.new.entries ≡ stacks_with key.now
         (after_removal id at (stack_under key.now stacks.old.entries)) stacks.old.entries) }
-    ensures meters { OnOk result ((books : Books) → StandsFor meters.old (book_of books)
-        → MayHaveStay key.now (taken_of key.now id stacks.old.entries) books → StandsFor meters.new
+    ensures meters { OnOk result ((books : Books) → AreTotalsOf meters.old (book_of books)
+        → MayHaveStay key.now (taken_of key.now id stacks.old.entries) books → AreTotalsOf meters.new
         (book_of (without_option key.now (taken_of key.now id stacks.old.entries) at books))) }
     ensures counts { IfOk result (λ after.
         (after ≡ counts_from key.now id (stack_under key.now stacks.old.entries) counts)
@@ -170,7 +170,7 @@ fn take_version(
     ensures refused { IfErr result (λ refusal. (refusal ≡ Refusal.NoMemory)
         ⊎ IsFullOf whats.now (counts_from key.now id (stack_under key.now stacks.old.entries) counts) refusal) }
     ensures stacks_kept { OnErr result (stacks.new.entries ≡ stacks.old.entries) }
-    ensures meters_kept { OnErr result ((book : Book) → StandsFor meters.old book → StandsFor meters.new book) }
+    ensures meters_kept { OnErr result ((book : Book) → AreTotalsOf meters.old book → AreTotalsOf meters.new book) }
     ensures booked { meters.new.booked ≤ meters.old.booked + 1 }
     ensures not_booked { OnErr result (meters.new.booked ≡ meters.old.booked) }
 {

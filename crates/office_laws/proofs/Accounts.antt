@@ -88,7 +88,9 @@ module _ (key : List ℕ) (id : VersionId) (at : ℕ) (account : Account) (has :
 
 stay_covered : (key : List ℕ) (at : ℕ) (v : Version) → stay_of_version key (record v { ceased = at }) ≡ stay_of_version key v
 stay_covered key at v = by v.kind v.id v.created v.ceased where
-  by : (kind : Kind) (id : VersionId) (created ceased : ℕ) → stay_of_version key (record { id = id; kind = kind; created = created; ceased = at }) ≡ stay_of_version key (with_kind id created ceased kind)
+  by : (kind : Kind) (id : VersionId) (created ceased : ℕ)
+      → stay_of_version key (record { id = id; kind = kind; created = created; ceased = at })
+      ≡ stay_of_version key (with_kind id created ceased kind)
   by (Object size class tags entered) id created ceased = refl
   by Marker id created ceased = refl
 
@@ -190,7 +192,9 @@ moved_since : (to : Class) (at : ℕ) (id : VersionId) (created ceased : ℕ) (k
 moved_since to at id created ceased (Object size class tags entered) h = refl
 moved_since to at id created ceased Marker h = absurd cc
 
-pub stays_moved : (key : List ℕ) (id : VersionId) (to : Class) (at : ℕ) (account : Account) → MayMove (version_at id (versions_of key account.bucket)) → Rises bytes_cmp account.bucket.stacks → HasOpenStays account
+pub stays_moved : (key : List ℕ) (id : VersionId) (to : Class) (at : ℕ) (account : Account)
+    → MayMove (version_at id (versions_of key account.bucket)) → Rises bytes_cmp account.bucket.stacks
+    → HasOpenStays account
     → HasOpenStays (move_version key id to at account)
 stays_moved key id to at account may rises has = by (version_at id (versions_of key account.bucket)) refl may where
   versions : List Version
@@ -221,7 +225,9 @@ stays_moved key id to at account may rises has = by (version_at id (versions_of 
   stay_begun : (v : Version) → is_object v.kind ≡ true → stay_of_version key (with_class to at v) ≡ begun key (of_version v.id) (lines_of_kind key (with_class to at v).kind) at
   stay_begun v object = ap (λ (n : ℕ). begun key (of_version v.id) (lines_of_kind key (with_class to at v).kind) n) (moved_since to at v.id v.created v.ceased v.kind object)
 
-  here : (v : Version) → version_at id versions ≡ Some v → is_object v.kind ≡ true → open_of key (of_version id) (begun_in v (without_version key v at account.books)) ≡ stays_expected after key (of_version id)
+  here : (v : Version) → version_at id versions ≡ Some v → is_object v.kind ≡ true
+      → open_of key (of_version id) (begun_in v (without_version key v at account.books))
+      ≡ stays_expected after key (of_version id)
   here v is object =
       subst (λ (i : VersionId). open_of key (of_version i) (begun_in v (without_version key v at account.books)) ≡ begun key (of_version v.id) (lines_of_kind key (with_class to at v).kind) at ∷ [])
       (sym (found_id id versions v is))

@@ -33,11 +33,11 @@ use Rattle.office_laws.proofs.Buckets.{ChangedBy, stack_orderly, versions_are}
 use Rattle.office_laws.proofs.Accounts.{MayMove}
 use Rattle.office_laws.proofs.Chosen.{MayMark, HasTarget, chosen_holds, chosen_come, chosen_target}
 use Rattle.office_laws.proofs.Closed.{keeps_same}
-use Rattle.office_laws.proofs.Kept.{IsKept, Keeps, keeps_removed, keeps_moved, keeps_marked, keeps_aborted}
+use Rattle.office_laws.proofs.Changes.{IsKept, Keeps, keeps_removed, keeps_moved, keeps_marked, keeps_aborted}
 
 -- ---- the version of a place
 
-place_version : (front : List Version) (v : Version) (back : List Version) → list_any (has_id v.id) front ≡ false → version_at v.id (front ++ v ∷ back) ≡ Some v
+pub place_version : (front : List Version) (v : Version) (back : List Version) → list_any (has_id v.id) front ≡ false → version_at v.id (front ++ v ∷ back) ≡ Some v
 place_version [] v back h = let same = same_itself v.id in rw same refl
 place_version (f ∷ front) v back h =
     let parts = or_parts (has_id v.id f) (list_any (has_id v.id) front) h in

@@ -103,7 +103,9 @@ module _ (mode : SizeMode) (rule : Rule) where
   object_fit : (versioning : Versioning) (size : ℕ) (class : Class) (tags : List (List ℕ × List ℕ)) (entered created : ℕ) (back : List Version)
       → AllByRecursion (DueFits (Object size class tags entered) [] back) (object_actions versioning mode rule size class created)
   object_fit versioning size class tags entered created back = every_append P _ _
-      (every_map (λ (at : ℕ). Unit {0}) P _ (λ at _. expiring_fits versioning size class tags entered back) (flat_map (expirations created) (option_to_list rule.expiration)) (every (λ (at : ℕ). Unit {0}) (λ at. tt) _))
+      (every_map (λ (at : ℕ). Unit {0}) P _ (λ at _. expiring_fits versioning size class tags entered back)
+      (flat_map (expirations created) (option_to_list rule.expiration))
+      (every (λ (at : ℕ). Unit {0}) (λ at. tt) _))
       (every_map (λ transition. FitsPlace (action.Transition transition.to) (Object size class tags entered) [] back) P _ (λ transition h. h) _
       (passing (λ transition. FitsPlace (action.Transition transition.to) (Object size class tags entered) [] back) (λ transition. admits_move mode rule.filter class size transition.to)
       (λ transition h. moves_fit rule.filter size class tags entered [] back transition.to h) rule.transitions))
@@ -122,7 +124,9 @@ module _ (mode : SizeMode) (rule : Rule) where
 
   removals_fit : (kind : Kind) (front back : List Version) → RemoveFits kind front back → (newer ceased : ℕ) → AllByRecursion (DueFits kind front back) (noncurrent_removals rule newer ceased)
   removals_fit kind front back fits newer ceased =
-      every_map (λ _. Unit {0}) (DueFits kind front back) _ (λ _ _. fits) (filter (λ expiration. keeps_newer expiration.newer newer) (option_to_list rule.noncurrent_expiration)) (every (λ _. Unit {0}) (λ _. tt) _)
+      every_map (λ _. Unit {0}) (DueFits kind front back) _ (λ _ _. fits)
+      (filter (λ expiration. keeps_newer expiration.newer newer) (option_to_list rule.noncurrent_expiration))
+      (every (λ _. Unit {0}) (λ _. tt) _)
 
   later_moves_fit : (size : ℕ) (class : Class) (tags : List (List ℕ × List ℕ)) (entered : ℕ) (front back : List Version) (newer ceased : ℕ)
       → AllByRecursion (DueFits (Object size class tags entered) front back) (noncurrent_transitions mode rule size class newer ceased)
@@ -203,7 +207,9 @@ module _ (bucket : BucketRecord) where
       (filter (λ numbered. matches_version numbered.1.filter key placed.version) (enabled_rules rules)) (every (λ (numbered : ℕ × Rule). Unit {0}) (λ numbered. tt) _))
       _ (all_placed 0 stack.versions)
 
-  upload_suit : (rules : Configuration) (number : ℕ) (upload : UploadRecord) → is_some (at_number number bucket.uploads) ≡ true → AllByRecursion SuitsCandidate (upload_candidates bucket rules (number, upload))
+  upload_suit : (rules : Configuration) (number : ℕ) (upload : UploadRecord)
+      → is_some (at_number number bucket.uploads) ≡ true
+      → AllByRecursion SuitsCandidate (upload_candidates bucket rules (number, upload))
   upload_suit rules number upload found =
       every_flat_map (λ (numbered : ℕ × Rule). Unit {0}) SuitsCandidate _
       (λ numbered _. timely_suit upload.key (target.Upload number) numbered.0 number _ (λ (due : ActionKind × ℕ). due.0 ≡ action.Abort)
@@ -214,8 +220,11 @@ module _ (bucket : BucketRecord) where
   eligible_suit_by : IsTidy bucket → (rules : Option Configuration) → AllByRecursion SuitsCandidate (eligible_by bucket rules)
   eligible_suit_by tidy None = tt
   eligible_suit_by tidy (Some rules) = every_append SuitsCandidate _ _
-      (every_flat_map (λ (e : List ℕ × StackRecord). at_name e.0 bucket.stacks ≡ Some e.1) SuitsCandidate _ (λ e found. stack_suit rules e.0 e.1 found) bucket.stacks (each_found by_name bucket.stacks tidy.keys))
-      (every_flat_map (λ (e : ℕ × UploadRecord). at_number e.0 bucket.uploads ≡ Some e.1) SuitsCandidate _ (λ e found. upload_suit rules e.0 e.1 (ap is_some found)) bucket.uploads (each_found by_number bucket.uploads tidy.numbers))
+      (every_flat_map (λ (e : List ℕ × StackRecord). at_name e.0 bucket.stacks ≡ Some e.1) SuitsCandidate _
+      (λ e found. stack_suit rules e.0 e.1 found) bucket.stacks (each_found by_name bucket.stacks tidy.keys))
+      (every_flat_map (λ (e : ℕ × UploadRecord). at_number e.0 bucket.uploads ≡ Some e.1) SuitsCandidate _
+      (λ e found. upload_suit rules e.0 e.1 (ap is_some found)) bucket.uploads
+      (each_found by_number bucket.uploads tidy.numbers))
 
   all_suit : IsTidy bucket → AllByRecursion SuitsCandidate (eligible bucket)
   unfolding eligible

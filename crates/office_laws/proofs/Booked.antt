@@ -41,7 +41,14 @@ into t (stay ∷ stays) h = (h.0, into t stays h.1)
 
 module _ (t at : ℕ) (by : at ≤ t) where
   pub booked_begun : (key : List ℕ) (item : Item) (lines : List (Class × ℕ)) (books : Books) → IsBookedBy t (book_of books) → IsBookedBy t (book_of (with_stay key item lines at books))
-  booked_begun key item lines books h = record { stays = into t _ (every_append (IsBooked t) books.stays ((record { key = key; item = item }, open_stay lines at) ∷ []) (out t books.stays h.stays) ((by, tt), tt)); early = h.early; moves = h.moves }
+  booked_begun key item lines books h =
+      record {
+        stays = into t _ (every_append (IsBooked t) books.stays
+            ((record { key = key; item = item }, open_stay lines at) ∷ []) (out t books.stays h.stays)
+            ((by, tt), tt));
+        early = h.early;
+        moves = h.moves;
+      }
 
   stay_ended : (key : List ℕ) (item : Item) (stay : Booked) → IsBooked t stay → IsBooked t (after_end key item at stay)
   stay_ended key item stay h = either (is_open_stay key item stay) where
@@ -89,7 +96,9 @@ module _ (t at : ℕ) (by : at ≤ t) where
       record {
         stays = there.stays;
         early = there.early;
-        moves = every_append (λ (move : Move). move.moment ≤ t) (with_version key (with_class to at version) at (without_version key version at books)).moves (record { class = to; moment = at } ∷ []) there.moves (by, tt);
+        moves = every_append (λ (move : Move). move.moment ≤ t)
+            (with_version key (with_class to at version) at (without_version key version at books)).moves
+            (record { class = to; moment = at } ∷ []) there.moves (by, tt);
       }
 
   pub booked_parts : (key : List ℕ) (number : ℕ) (parts : List (ℕ × Part)) (books : Books) → IsBookedBy t (book_of books)

@@ -194,7 +194,9 @@ module _ (until : ℕ) where
       every_map (λ (due : ActionKind × ℕ). Unit {0}) IsSince _ (λ due _. omega (arith, le)) (filter (λ (due : ActionKind × ℕ). nat_lt due.1 end_of_time) asked)
       (every (λ (due : ActionKind × ℕ). Unit {0}) (λ due. tt) _)
 
-  pub late_stack : (bucket : BucketRecord) (rules : Configuration) (key : List ℕ) (stack : StackRecord) → until ≤ max stack.changed bucket.rules_since → AllByRecursion IsSince (stack_candidates bucket rules (key, stack))
+  pub late_stack : (bucket : BucketRecord) (rules : Configuration) (key : List ℕ) (stack : StackRecord)
+      → until ≤ max stack.changed bucket.rules_since
+      → AllByRecursion IsSince (stack_candidates bucket rules (key, stack))
   late_stack bucket rules key stack le =
       every_flat_map (λ (placed : Placed). Unit {0}) IsSince _
       (λ placed _. every_flat_map (λ (numbered : ℕ × Rule). Unit {0}) IsSince _
@@ -203,7 +205,9 @@ module _ (until : ℕ) where
       (filter (λ numbered. matches_version numbered.1.filter key placed.version) (enabled_rules rules)) (every (λ (numbered : ℕ × Rule). Unit {0}) (λ numbered. tt) _))
       (placed_from 0 stack.versions) (every (λ (placed : Placed). Unit {0}) (λ placed. tt) _)
 
-  pub late_upload : (bucket : BucketRecord) (rules : Configuration) (number : ℕ) (upload : UploadRecord) → until ≤ max upload.changed bucket.rules_since → AllByRecursion IsSince (upload_candidates bucket rules (number, upload))
+  pub late_upload : (bucket : BucketRecord) (rules : Configuration) (number : ℕ) (upload : UploadRecord)
+      → until ≤ max upload.changed bucket.rules_since
+      → AllByRecursion IsSince (upload_candidates bucket rules (number, upload))
   late_upload bucket rules number upload le =
       every_flat_map (λ (numbered : ℕ × Rule). Unit {0}) IsSince _
       (λ numbered _. late upload.key (target.Upload number) numbered.0 number (max upload.changed bucket.rules_since) (upload_actions numbered.1 upload) le)
@@ -240,7 +244,8 @@ module _ (until : ℕ) where
         (every (UploadSince bucket rules) (λ upload. late_upload bucket rules upload.0 upload.1 (omega (arith, le))) bucket.uploads)
 
   -- the versions of a key changed
-  pub timely_with : (bucket : BucketRecord) (key : List ℕ) (at : ℕ) (versions : List Version) → Rises bytes_cmp bucket.stacks → until ≤ at → IsTimely bucket → IsTimely (with_versions key at versions bucket)
+  pub timely_with : (bucket : BucketRecord) (key : List ℕ) (at : ℕ) (versions : List Version)
+      → Rises bytes_cmp bucket.stacks → until ≤ at → IsTimely bucket → IsTimely (with_versions key at versions bucket)
   unfolding eligible
   timely_with bucket key at [] rises le h = by bucket.rules h where
     by : (rules : Option Configuration) → AllByRecursion IsSince (eligible_by bucket rules) → AllByRecursion IsSince (eligible_by (record bucket { stacks = without_name key bucket.stacks }) rules)
@@ -259,7 +264,8 @@ module _ (until : ℕ) where
         (late_stack bucket rules key (record { changed = at; versions = v ∷ versions }) (omega (arith, le))) parts.0) parts.1
 
   -- an upload came or changed
-  pub timely_upload : (bucket : BucketRecord) (number : ℕ) (upload : UploadRecord) → Rises nat_cmp bucket.uploads → until ≤ upload.changed → IsTimely bucket → IsTimely (with_upload number upload bucket)
+  pub timely_upload : (bucket : BucketRecord) (number : ℕ) (upload : UploadRecord) → Rises nat_cmp bucket.uploads
+      → until ≤ upload.changed → IsTimely bucket → IsTimely (with_upload number upload bucket)
   unfolding eligible
   timely_upload bucket number upload rises le h = by bucket.rules h where
     by : (rules : Option Configuration) → AllByRecursion IsSince (eligible_by bucket rules) → AllByRecursion IsSince (eligible_by (with_upload number upload bucket) rules)
@@ -273,7 +279,8 @@ module _ (until : ℕ) where
   pub timely_without : (bucket : BucketRecord) (number : ℕ) → IsTimely bucket → IsTimely (record bucket { uploads = without_number number bucket.uploads })
   unfolding eligible
   timely_without bucket number h = by bucket.rules h where
-    by : (rules : Option Configuration) → AllByRecursion IsSince (eligible_by bucket rules) → AllByRecursion IsSince (eligible_by (record bucket { uploads = without_number number bucket.uploads }) rules)
+    by : (rules : Option Configuration) → AllByRecursion IsSince (eligible_by bucket rules)
+        → AllByRecursion IsSince (eligible_by (record bucket { uploads = without_number number bucket.uploads }) rules)
     by None h = tt
     by (Some rules) h =
         let parts = parts_since bucket rules h in

@@ -130,7 +130,9 @@ module _ (bucket : BucketRecord) where
       (filter (λ numbered. matches_version numbered.1.filter key placed.version) (enabled_rules rules)) (every (λ (numbered : ℕ × Rule). Unit {0}) (λ numbered. tt) _))
       (placed_from 0 stack.versions) (every (λ (placed : Placed). Unit {0}) (λ placed. tt) _)
 
-  upload_targets : (rules : Configuration) (number : ℕ) (upload : UploadRecord) → at_number number bucket.uploads ≡ Some upload → AllByRecursion TargetOf (upload_candidates bucket rules (number, upload))
+  upload_targets : (rules : Configuration) (number : ℕ) (upload : UploadRecord)
+      → at_number number bucket.uploads ≡ Some upload
+      → AllByRecursion TargetOf (upload_candidates bucket rules (number, upload))
   upload_targets rules number upload found =
       every_flat_map (λ (numbered : ℕ × Rule). Unit {0}) TargetOf _
       (λ numbered _. timely_targets upload.key (target.Upload number) numbered.0 number (max upload.changed bucket.rules_since)
@@ -141,8 +143,11 @@ module _ (bucket : BucketRecord) where
   targets_by : Rises bytes_cmp bucket.stacks → Rises nat_cmp bucket.uploads → (rules : Option Configuration) → AllByRecursion TargetOf (eligible_by bucket rules)
   targets_by keys numbers None = tt
   targets_by keys numbers (Some rules) = every_append TargetOf _ _
-      (every_flat_map (λ (e : List ℕ × StackRecord). at_name e.0 bucket.stacks ≡ Some e.1) TargetOf _ (λ e found. stack_targets rules e.0 e.1 found) bucket.stacks (each_found by_name bucket.stacks keys))
-      (every_flat_map (λ (e : ℕ × UploadRecord). at_number e.0 bucket.uploads ≡ Some e.1) TargetOf _ (λ e found. upload_targets rules e.0 e.1 found) bucket.uploads (each_found by_number bucket.uploads numbers))
+      (every_flat_map (λ (e : List ℕ × StackRecord). at_name e.0 bucket.stacks ≡ Some e.1) TargetOf _
+      (λ e found. stack_targets rules e.0 e.1 found) bucket.stacks (each_found by_name bucket.stacks keys))
+      (every_flat_map (λ (e : ℕ × UploadRecord). at_number e.0 bucket.uploads ≡ Some e.1) TargetOf _
+      (λ e found. upload_targets rules e.0 e.1 found) bucket.uploads
+      (each_found by_number bucket.uploads numbers))
 
   all_targets : (last : ℕ) → IsOrderlyBucket last bucket → AllByRecursion TargetOf (eligible bucket)
   unfolding eligible

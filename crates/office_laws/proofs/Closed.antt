@@ -16,21 +16,21 @@ use Rattle.uploads.specs.declared.part.Part.{Part}
 use Rattle.accrual.specs.Books.{Stay, Early, Move, Book, open_stay}
 use Rattle.plain_office.specs.Office.{Booked, book_of, stay_in, Item, of_version, of_part, Books}
 use Rattle.plain_office.specs.Books.{same_item, is_open_stay, with_stay, with_end, with_early, with_version, without_version, without_option}
-use Rattle.accrual.specs.Meters.{same_class, bytes_in, overlap, meter, is_in_month, early_quantity, move_count}
+use Rattle.accrual.specs.Meters.{same_class, bytes_in_class, overlap, meter, is_in_month, early_quantity, move_count}
 use Rattle.office_laws.proofs.Stays.{after_end}
 
 -- ---- a stay, seen once the month is over
 
 -- the bytes of a class times the milliseconds in a window, as seen at a moment
 abbrev pub used : ℕ → ℕ → Class → ℕ → Stay → ℕ
-used start end class t stay = bytes_in class stay.lines * overlap t start end stay
+used start end class t stay = bytes_in_class class stay.lines * overlap t start end stay
 
 length_seen : (start end from t : ℕ) → end ≤ t → (to : Option ℕ) → min (min (unwrap_or to t) t) end - max from start ≡ min (min (unwrap_or to end) end) end - max from start
 length_seen start end from t le None = omega (arith, le)
 length_seen start end from t le (Some to) = omega (arith, le)
 
 pub used_seen : (start end : ℕ) (class : Class) (t : ℕ) → end ≤ t → (stay : Stay) → used start end class t stay ≡ used start end class end stay
-used_seen start end class t le stay = ap (λ (n : ℕ). bytes_in class stay.lines * n) (length_seen start end stay.from t le stay.to)
+used_seen start end class t le stay = ap (λ (n : ℕ). bytes_in_class class stay.lines * n) (length_seen start end stay.from t le stay.to)
 
 no_length : (start end from t : ℕ) → end ≤ from → (to : Option ℕ) → min (min (unwrap_or to t) t) end - max from start ≡ 0
 no_length start end from t le None = omega (arith, le)
@@ -41,7 +41,7 @@ times_none n = omega arith
 
 -- one that begins afterwards
 used_none : (start end : ℕ) (class : Class) (t : ℕ) (stay : Stay) → end ≤ stay.from → used start end class t stay ≡ 0
-used_none start end class t stay le = ap (λ (n : ℕ). bytes_in class stay.lines * n) (no_length start end stay.from t le stay.to) ∙ times_none (bytes_in class stay.lines)
+used_none start end class t stay le = ap (λ (n : ℕ). bytes_in_class class stay.lines * n) (no_length start end stay.from t le stay.to) ∙ times_none (bytes_in_class class stay.lines)
 
 length_ended : (start end from at : ℕ) → end ≤ at → (to : Option ℕ) → is_none to ≡ true → min (min at end) end - max from start ≡ min (min (unwrap_or to end) end) end - max from start
 length_ended start end from at le None h = omega (arith, le)
@@ -49,7 +49,7 @@ length_ended start end from at le (Some to) h = absurd cc
 
 -- one that ends afterwards
 used_ended : (start end : ℕ) (class : Class) (at : ℕ) (stay : Stay) → end ≤ at → is_none stay.to ≡ true → used start end class end (record stay { to = Some at }) ≡ used start end class end stay
-used_ended start end class at stay le open_yet = ap (λ (n : ℕ). bytes_in class stay.lines * n) (length_ended start end stay.from at le stay.to open_yet)
+used_ended start end class at stay le open_yet = ap (λ (n : ℕ). bytes_in_class class stay.lines * n) (length_ended start end stay.from at le stay.to open_yet)
 
 same_sum : {X : Type 0} (f g : X → ℕ) → ((x : X) → f x ≡ g x) → (xs : List X) → sum_by f xs ≡ sum_by g xs
 same_sum f g same [] = refl
@@ -169,7 +169,10 @@ module _ (until at : ℕ) (later : until ≤ at) where
       (keeps_owed (record { class = class; amount = own_bytes class size * (entered + least_stay class - at); moment = at }) books refl)
       (keeps_same until books)
 
-  no_move : (month : ℕ) (class : Class) → month_end month ≤ until → (to : Class) → filter (λ (move : Move). same_class move.class class && is_in_month month move.moment) (record { class = to; moment = at } ∷ []) ≡ []
+  no_move : (month : ℕ) (class : Class) → month_end month ≤ until → (to : Class)
+      → filter (λ (move : Move). same_class move.class class && is_in_month month move.moment)
+      (record { class = to; moment = at } ∷ [])
+      ≡ []
   no_move month class le to =
       ap (λ (b : Bool). cond {A = List Move} b (record { class = to; moment = at } ∷ []) []) (and_right (same_class to class) (is_in_month month at) (not_in_month month le))
 
@@ -180,7 +183,9 @@ module _ (until at : ℕ) (later : until ≤ at) where
     early = λ month class le. refl;
     moves = λ month class le.
         let test : Move → Bool = λ move. same_class move.class class && is_in_month month move.moment in
-        let both = ap (λ (l : List Move). length l) (filter-append test books.moves (record { class = to; moment = at } ∷ [])) ∙ length-append (filter test books.moves) (filter test (record { class = to; moment = at } ∷ [])) in
+        let both =
+        ap (λ (l : List Move). length l) (filter-append test books.moves (record { class = to; moment = at } ∷ []))
+        ∙ length-append (filter test books.moves) (filter test (record { class = to; moment = at } ∷ [])) in
         let none = ap (λ (l : List Move). length l) (no_move month class le to) in
         omega (arith, both, none);
   }

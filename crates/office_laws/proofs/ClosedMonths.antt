@@ -1,6 +1,7 @@
 -- Once a month is closed, no later command changes what the office answers of it.
 use Rattle.std.proofs.lemmas.Bool.{le-leb}
 use Rattle.std.proofs.Common.{◌≡◌, ℕ, ◌+◌, ◌≤◌, List, [], ◌∷◌, map, refl, ap, sym, ◌∙◌, subst, Bool, true, false, cond, arith}
+use Rattle.std.proofs.lemmas.Option.{same_Some}
 use Rattle.std.specs.Prelude.{Option, Some, None, IsSome, Ok, unwrap_or}
 use Rattle.std.specs.Ordering.{is_eq, nat_cmp}
 use Rattle.moments.specs.Months.{month_end, month_at}
@@ -24,7 +25,8 @@ use Rattle.office_laws.proofs.Maps.{by_number, one_key}
 use Rattle.office_laws.proofs.Calendar.{start_next}
 use Rattle.office_laws.proofs.Closed.{KeepsBooks, meter_seen}
 use Rattle.office_laws.proofs.Offices.{NamedAccount, months_now}
-use Rattle.office_laws.proofs.Steps.{KeepsClosed, StaysClosed, lines_at, lines_same, flat_map_same}
+use Rattle.office_laws.proofs.Steps.{KeepsClosed, StaysClosed, lines_at, lines_same}
+use Rattle.due_core.proofs.Loops.{same_flat}
 
 pub some_is : {X : Type 0} (o : Option X) → IsSome o → (x : X) × (o ≡ Some x)
 some_is None h = absurd cc
@@ -82,22 +84,21 @@ module _ (p q : Office) (kept : KeepsClosed (closed_until p) p q) (month : ℕ) 
         let n = k.moves month class over in
         rw (m, e, n) refl
 
-    some_same : (a b : Account) → Some a ≡ Some b → a ≡ b
-    some_same a b h = cc
-
     -- the readings of a bucket
     pub readings_kept : (name : List ℕ) (before after : Account) (class : Class) → at_name name p.accounts ≡ Some before → at_name name q.accounts ≡ Some after
         → ReadsSame month class u v (book_of before.books) (book_of after.books)
     readings_kept name before after class there here =
         let k = kept.accounts name before there in
-        let same = some_same k.0 after (sym k.1 ∙ here) in
+        let same = same_Some k.0 after (sym k.1 ∙ here) in
         subst (λ (a : Account). ReadsSame month class u v (book_of before.books) (book_of a.books)) same
         (record { meter_stays = meter_kept before.books k.0.books k.2 class; early_stays = k.2.early month class over; moves_stay = k.2.moves month class over })
 
     meters_shown : (name : List ℕ) (b after : Books) → KeepsBooks (closed_until p) b after
         → MetersShown name month (map (class_meters month v (book_of after)) all_classes) ≡ MetersShown name month (map (class_meters month u (book_of b)) all_classes)
     meters_shown name b after k = ap (λ (l : List ClassMeters). MetersShown name month l) (map_same (meters_kept b after k) all_classes) where
-      map_same : ((class : Class) → class_meters month v (book_of after) class ≡ class_meters month u (book_of b) class) → (classes : List Class) → map (class_meters month v (book_of after)) classes ≡ map (class_meters month u (book_of b)) classes
+      map_same : ((class : Class) → class_meters month v (book_of after) class ≡ class_meters month u (book_of b) class)
+          → (classes : List Class)
+          → map (class_meters month v (book_of after)) classes ≡ map (class_meters month u (book_of b)) classes
       map_same same [] = refl
       map_same same (class ∷ classes) = λ i. same class i ∷ map_same same classes i
 
@@ -114,8 +115,10 @@ module _ (p q : Office) (kept : KeepsClosed (closed_until p) p q) (month : ℕ) 
 
     report_seen : (o : Office) (w : ℕ) → month_end month ≤ w → report_lines tariff month w o ≡ report_lines tariff month (month_end month) o
     unfolding report_lines
-    report_seen o w le = flat_map_same (lines_at tariff month w) (lines_at tariff month (month_end month))
-        (λ (entry : NamedAccount). lines_same tariff month entry.0 (month_end month) w (book_of entry.1.books) (book_of entry.1.books) (λ class. meter_seen month class w (book_of entry.1.books) le) (λ class. refl) (λ class. refl)) o.accounts
+    report_seen o w le = same_flat (lines_at tariff month w) (lines_at tariff month (month_end month))
+        (λ (entry : NamedAccount). lines_same tariff month entry.0 (month_end month) w (book_of entry.1.books)
+        (book_of entry.1.books) (λ class. meter_seen month class w (book_of entry.1.books) le) (λ class. refl)
+        (λ class. refl)) o.accounts
 
     report_kept : report_lines tariff month v q ≡ report_lines tariff month u p
     report_kept = report_seen q v le_v ∙ kept.report tariff month over ∙ sym (report_seen p u le_u)

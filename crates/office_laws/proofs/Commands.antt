@@ -32,7 +32,7 @@ use Rattle.office_types.specs.declared.refusal.What.TheVariants.{Versions, Uploa
 use Rattle.office_laws.proofs.Versions.{KindFits}
 use Rattle.office_laws.proofs.Buckets.{with_versions, versions_are, changed_by}
 use Rattle.office_laws.proofs.Uploads.{upload_orderly, total_small}
-use Rattle.office_laws.proofs.Kept.{IsKept, Keeps, then_keeps, keeps_removed, keeps_tagged, keeps_put, keeps_started, keeps_part, keeps_aborted, keeps_versioning, keeps_rules}
+use Rattle.office_laws.proofs.Changes.{IsKept, Keeps, then_keeps, keeps_removed, keeps_tagged, keeps_put, keeps_started, keeps_part, keeps_aborted, keeps_versioning, keeps_rules}
 use Rattle.office_laws.proofs.Acts.{keeps_all, effect_keeps}
 
 -- where the command is done, the account keeps all of this
@@ -140,10 +140,13 @@ module _ (t until : ℕ) (account : Account) (h : IsKept t until account) (later
   part_done number part size =
       on_upload (Parts ∷ []) number _
       (λ upload found. admitted upload (admits_part part (new_part size t) upload.parts) refl
-      (λ admits. keeps_part t until t account h later (omega arith) number upload part size (Parts ∷ []) found admits (upload_orderly t account.bucket h.bucket number upload found).1.changed (inl refl)))
+      (λ admits. keeps_part t until t account h later (omega arith) number upload part size (Parts ∷ []) found admits
+      (upload_orderly t account.bucket h.bucket number upload found).1.changed (inl refl)))
       (at_number number account.bucket.uploads) refl
     where
-      admitted : (upload : UploadRecord) (b : Bool) → admits_part part (new_part size t) upload.parts ≡ b → (admits_part part (new_part size t) upload.parts ≡ true → Keeps t until (Parts ∷ []) account (add_part number upload part size t account))
+      admitted : (upload : UploadRecord) (b : Bool) → admits_part part (new_part size t) upload.parts ≡ b
+          → (admits_part part (new_part size t) upload.parts ≡ true
+          → Keeps t until (Parts ∷ []) account (add_part number upload part size t account))
           → Done t until (Parts ∷ []) account (refuse_if (not b) BadPart (add_part number upload part size t account, PartStored part))
       admitted upload true is k = k is
       admitted upload false is k = tt

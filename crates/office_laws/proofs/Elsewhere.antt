@@ -47,7 +47,10 @@ module _ (name : List ℕ) (p : Office) where
     done_leaves (Ok done) = written done.0
     done_leaves (Err refusal) = tt
 
-    found_leaves : (change : Account → Change) (o : Option Account) → Leaves (ok_or o NoSuchBucket >>= λ account. change account >>= λ done. Ok (record p { accounts = with_name other done.0 p.accounts }, done.1))
+    found_leaves : (change : Account → Change) (o : Option Account)
+        → Leaves (ok_or o NoSuchBucket
+        >>= λ account. change account
+        >>= λ done. Ok (record p { accounts = with_name other done.0 p.accounts }, done.1))
     found_leaves change None = tt
     found_leaves change (Some account) = done_leaves (change account)
 
@@ -96,7 +99,8 @@ module _ (name : List ℕ) (p : Office) where
   outcome_leaves t (command.Close month) h =
       err_or (nat_lt t (month_end month)) _ _ (err_or (nat_lt month (month_to_close t p)) _ _ (err_or (nat_lt (month_to_close t p) month) _ _ (tariff_leaves t month p.tariff)))
 
-  reply_leaves : (t : ℕ) (after : Office) (answer : Reply) → at_name name after.accounts ≡ at_name name p.accounts → at_name name (settled t p (Ok (after, answer))).0.accounts ≡ at_name name p.accounts
+  reply_leaves : (t : ℕ) (after : Office) (answer : Reply) → at_name name after.accounts ≡ at_name name p.accounts
+      → at_name name (settled t p (Ok (after, answer))).0.accounts ≡ at_name name p.accounts
   reply_leaves t after reply.NothingDue k = refl
   reply_leaves t after answer k = k
 

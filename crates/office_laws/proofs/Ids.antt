@@ -1,5 +1,5 @@
 -- Stacks in which the ids differ: one version goes or is changed, and the others stay.
-use Rattle.std.proofs.Common.{◌≡◌, ℕ, List, [], ◌∷◌, ◌++◌, refl, ap, ◌∙◌, Bool, true, false, not, ◌||◌, cond, filter}
+use Rattle.std.proofs.Common.{◌≡◌, ℕ, List, [], ◌∷◌, ◌++◌, refl, ap, ◌∙◌, Bool, true, false, not, ◌||◌, cond}
 use Rattle.std.specs.List.{list_any}
 use Rattle.std.proofs.lemmas.Bool.{and_parts, or_parts, or_from, and_from, not-true, not_from_false}
 use Rattle.std.proofs.lemmas.List.Elements.{filter-append}
@@ -10,6 +10,8 @@ use Rattle.office_base.specs.declared.version_id.VersionId.{VersionId}
 use Rattle.office_base.specs.declared.version_id.VersionId.TheVariants.{Null, Number}
 use Rattle.stacks.specs.declared.version.Kind.{Kind}
 use Rattle.stacks.specs.declared.version.Version.{Version}
+use Rattle.stacks.proofs.Sole.{none_changed, none_without}
+use Rattle.stacks.proofs.StackLaws.{any_filter, gone_without, differ_covered}
 use Rattle.std.specs.Cmp.{nat_eq_equiv}
 
 -- the versions after one came to the top
@@ -40,24 +42,12 @@ apart (f ∷ front) v back h =
     let here = any_at (has_id f.id) front v back (not-true _ parts.0) in
     (or_from (has_id v.id f) (list_any (has_id v.id) front) (same_back v.id f.id ∙ here) rest.0, rest.1)
 
-pub without_none : (id : VersionId) (versions : List Version) → list_any (has_id id) versions ≡ false → without id versions ≡ versions
-without_none id [] h = refl
-without_none id (v ∷ versions) h =
-    let parts = or_parts (has_id id v) (list_any (has_id id) versions) h in
-    rw parts.0 (ap (λ (l : List Version). v ∷ l) (without_none id versions parts.1))
-
 pub without_one : (front : List Version) (v : Version) (back : List Version) → ids_differ (front ++ v ∷ back) ≡ true → without v.id (front ++ v ∷ back) ≡ front ++ back
 without_one front v back h =
     let ids = apart front v back h in
     let same = same_itself v.id in
     filter-append (λ (version : Version). not (has_id v.id version)) front (v ∷ back)
-    ∙ rw (same, without_none v.id front ids.0, without_none v.id back ids.1) refl
-
-changed_none : (id : VersionId) (change : Version → Version) (versions : List Version) → list_any (has_id id) versions ≡ false → changed_at id change versions ≡ versions
-changed_none id change [] h = refl
-changed_none id change (v ∷ versions) h =
-    let parts = or_parts (has_id id v) (list_any (has_id id) versions) h in
-    rw parts.0 (ap (λ (l : List Version). v ∷ l) (changed_none id change versions parts.1))
+    ∙ rw (same, none_without v.id front ids.0, none_without v.id back ids.1) refl
 
 pub changed_one : (change : Version → Version) (front : List Version) (v : Version) (back : List Version) → ids_differ (front ++ v ∷ back) ≡ true
     → changed_at v.id change (front ++ v ∷ back) ≡ front ++ change v ∷ back
@@ -65,39 +55,21 @@ changed_one change front v back h =
     let ids = apart front v back h in
     let same = same_itself v.id in
     map-append (λ (version : Version). cond (has_id v.id version) (change version) version) front (v ∷ back)
-    ∙ rw (same, changed_none v.id change front ids.0, changed_none v.id change back ids.1) refl
+    ∙ rw (same, none_changed v.id change front ids.0, none_changed v.id change back ids.1) refl
 
 -- ---- the ids still differ
-
-any_kept : (p test : Version → Bool) (versions : List Version) → list_any p versions ≡ false → list_any p (filter test versions) ≡ false
-any_kept p test [] h = refl
-any_kept p test (v ∷ versions) h = let parts = or_parts (p v) (list_any p versions) h in by (test v) parts.0 (any_kept p test versions parts.1) where
-  by : (b : Bool) → p v ≡ false → list_any p (filter test versions) ≡ false → list_any p (cond b (v ∷ filter test versions) (filter test versions)) ≡ false
-  by true here rest = or_from (p v) _ here rest
-  by false here rest = rest
 
 pub differ_without : (id : VersionId) (versions : List Version) → ids_differ versions ≡ true → ids_differ (without id versions) ≡ true
 differ_without id [] h = refl
 differ_without id (v ∷ versions) h = by (not (has_id id v)) (and_parts (not (list_any (has_id v.id) versions)) (ids_differ versions) h) (differ_without id versions) where
   by : (b : Bool) → (not (list_any (has_id v.id) versions) ≡ true) × (ids_differ versions ≡ true) → (ids_differ versions ≡ true → ids_differ (without id versions) ≡ true)
       → ids_differ (cond b (v ∷ without id versions) (without id versions)) ≡ true
-  by true parts more = and_from _ _ (not_from_false _ (any_kept (has_id v.id) (λ version. not (has_id id version)) versions (not-true _ parts.0))) (more parts.1)
+  by true parts more = and_from _ _ (not_from_false _ (any_filter (has_id v.id) (λ version. not (has_id id version)) versions (not-true _ parts.0))) (more parts.1)
   by false parts more = more parts.1
-
-gone : (id : VersionId) (versions : List Version) → list_any (has_id id) (without id versions) ≡ false
-gone id [] = refl
-gone id (v ∷ versions) = by (has_id id v) refl (gone id versions) where
-  by : (b : Bool) → has_id id v ≡ b → list_any (has_id id) (without id versions) ≡ false → list_any (has_id id) (cond (not b) (v ∷ without id versions) (without id versions)) ≡ false
-  by true is h = h
-  by false is h = or_from _ _ is h
-
-covered_differ : (at : ℕ) (versions : List Version) → ids_differ (covered at versions) ≡ ids_differ versions
-covered_differ at [] = refl
-covered_differ at (v ∷ versions) = refl
 
 pub differ_added : (id : VersionId) (kind : Kind) (at : ℕ) (versions : List Version) → ids_differ versions ≡ true → ids_differ (adding id kind at versions) ≡ true
 differ_added id kind at versions h =
-    and_from _ _ (not_from_false _ (gone id (covered at versions))) (differ_without id (covered at versions) (covered_differ at versions ∙ h))
+    and_from _ _ (not_from_false _ (gone_without id (covered at versions))) (differ_without id (covered at versions) (differ_covered at versions ∙ h))
 
 any_moved : (i id : VersionId) (to : Class) (at : ℕ) (versions : List Version) → list_any (has_id i) (changed_at id (with_class to at) versions) ≡ list_any (has_id i) versions
 any_moved i id to at [] = refl

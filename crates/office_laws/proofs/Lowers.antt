@@ -95,7 +95,9 @@ move_lowers to at [] (Object size class tags entered) id created ceased back fit
 move_lowers to at (f ∷ front) (Object size class tags entered) id created ceased back fits =
     let v : Version = record { id = id; kind = Object size class tags entered; created = created; ceased = ceased } in
     let a : sum_by version_work ((f ∷ front) ++ v ∷ back) ≡ sum_by version_work (f ∷ front) + ((6 - rank_of class) + sum_by version_work back) = middle (f ∷ front) v back in
-    let b : sum_by version_work ((f ∷ front) ++ with_class to at v ∷ back) ≡ sum_by version_work (f ∷ front) + ((6 - rank_of to) + sum_by version_work back) = middle (f ∷ front) (with_class to at v) back in
+    let b : sum_by version_work ((f ∷ front) ++ with_class to at v ∷ back)
+    ≡ sum_by version_work (f ∷ front) + ((6 - rank_of to) + sum_by version_work back) =
+    middle (f ∷ front) (with_class to at v) back in
     omega (arith, rank_most to)
 
 -- ---- a marker

@@ -21,7 +21,7 @@ use Rattle.office_laws.proofs.Lists.{every_weaker, sum_most, Replaced, replaced_
 use Rattle.office_laws.proofs.Maps.{by_name, found_every}
 use Rattle.office_laws.proofs.Booked.{booked_later}
 use Rattle.office_laws.proofs.Buckets.{bucket_later, IsTimely}
-use Rattle.office_laws.proofs.Kept.{measure, Listed, MayGrow, Grows, IsKept}
+use Rattle.office_laws.proofs.Changes.{measure, Listed, MayGrow, Grows, IsKept}
 
 -- ---- the office at a moment that is not before the last one
 
@@ -71,7 +71,10 @@ module _ (t : ℕ) (p : Office) (h : IsOrderly p) (later : is_not_before p.last 
   pub months_now : FollowEachOther (unwrap_or p.first_month (month_at t)) (map (λ (month : ℕ × Prices). month.0) p.closed)
   months_now = months_by p.first_month refl h.records.months
 
-  booked_from : (last : Option ℕ) → MatchOption last (IsBlank p) (λ moment. IsOrderlyUntil moment p) → IfSome last (λ last. AllByRecursion (λ (entry : NamedAccount). IsBookedBy last (book_of entry.1.books)) p.accounts) → is_not_before last t ≡ true
+  booked_from : (last : Option ℕ) → MatchOption last (IsBlank p) (λ moment. IsOrderlyUntil moment p)
+      → IfSome last
+      (λ last. AllByRecursion (λ (entry : NamedAccount). IsBookedBy last (book_of entry.1.books)) p.accounts)
+      → is_not_before last t ≡ true
       → AllByRecursion (IsBookedUntil t) p.accounts
   booked_from None blank booked later = subst (AllByRecursion (IsBookedUntil t)) (sym blank.accounts) tt
   booked_from (Some last) until booked later =
@@ -145,11 +148,15 @@ listed_within what [] p listed h = absurd listed
 listed_within what (x ∷ xs) p (inl same) h = subst (λ (w : What). count_of w p ≤ limit_of w) (sym same) h.0
 listed_within what (x ∷ xs) p (inr more) h = listed_within what xs p more h.1
 
-module _ (p q : Office) (name : List ℕ) (before after : Account) (one : Replaced (name, before) (name, after) p.accounts q.accounts) (whats : List What) (within : Within whats q) (room : HasRoom p.accounts) where
+module _ (p q : Office) (name : List ℕ) (before after : Account)
+    (one : Replaced (name, before) (name, after) p.accounts q.accounts) (whats : List What) (within : Within whats q)
+    (room : HasRoom p.accounts) where
   changed_sum : (what : What) → in_all (measure what) q.accounts + measure what before.bucket ≡ in_all (measure what) p.accounts + measure what after.bucket
   changed_sum what = replaced_sum (name, before) (name, after) p.accounts q.accounts one (λ (entry : NamedAccount). measure what entry.1.bucket)
 
-  by_what : (what : What) (limit : ℕ) → in_all (measure what) p.accounts ≤ limit → MayGrow whats what before.bucket after.bucket → (count_of what q ≤ limit_of what → in_all (measure what) q.accounts ≤ limit)
+  by_what : (what : What) (limit : ℕ) → in_all (measure what) p.accounts ≤ limit
+      → MayGrow whats what before.bucket after.bucket
+      → (count_of what q ≤ limit_of what → in_all (measure what) q.accounts ≤ limit)
       → in_all (measure what) q.accounts ≤ limit
   by_what what limit small (inl le) tested = let sum = changed_sum what in omega (arith, sum, small, le)
   by_what what limit small (inr listed) tested = tested (listed_within what whats q listed within)

@@ -82,19 +82,10 @@ pub part_stands : (number : ℕ) (upload : UploadRecord) (place : ℕ) (part : P
 part_stands number upload place part account has found there =
     has upload.key (of_part number place) ∙ ap (λ (o : Option UploadRecord). part_stays_expected upload.key number place o) found ∙ rw (bytes_itself upload.key, there) refl
 
-pub version_once : (key : List ℕ) (at : ℕ) (account : Account) (id : VersionId) (version : Version) → HasOpenStays account → version_at id (versions_of key account.bucket) ≡ Some version
-    → StandsOnce key (of_version id) at (stay_of_version key version) account.books.stays
-version_once key at account id version has there =
-    one_stay key (of_version id) at (stay_of_version key version) account.books.stays (version_stands key account id version has there)
-
-pub part_once : (number : ℕ) (upload : UploadRecord) (place : ℕ) (part : Part) (at : ℕ) (account : Account) → HasOpenStays account → at_number number account.bucket.uploads ≡ Some upload
-    → at_number place upload.parts ≡ Some part → StandsOnce upload.key (of_part number place) at (stay_of_part number upload place part) account.books.stays
-part_once number upload place part at account has found there =
-    one_stay upload.key (of_part number place) at (stay_of_part number upload place part) account.books.stays (part_stands number upload place part account has found there)
-
 -- ---- and every open stay is one that the records ask for
 
-filtered_all : {X : Type 0} (test : X → Bool) (front : List X) (x : X) (back : List X) → test x ≡ true → (expected : List X) → length expected ≤ 1 → filter test (front ++ x ∷ back) ≡ expected → expected ≡ x ∷ []
+filtered_all : {X : Type 0} (test : X → Bool) (front : List X) (x : X) (back : List X) → test x ≡ true
+    → (expected : List X) → length expected ≤ 1 → filter test (front ++ x ∷ back) ≡ expected → expected ≡ x ∷ []
 filtered_all {X = X} test front x back passes expected few is = by expected few (sym split ∙ is) where
   split : filter test (front ++ x ∷ back) ≡ filter test front ++ x ∷ filter test back
   split = filter-append test front (x ∷ back) ∙ rw passes refl

@@ -1,5 +1,6 @@
 -- What holds after a run of entries.
 use Rattle.std.proofs.Common.{◌≡◌, ℕ, ◌≤◌, List, [], ◌∷◌, refl, ◌∙◌, subst, Bool, true, false, ◌&&◌, cond}
+use Rattle.std.proofs.lemmas.Option.{same_Some}
 use Rattle.std.specs.Prelude.{Option, Some, None}
 use Rattle.std.specs.List.{AllByRecursion}
 use Rattle.moments.specs.Months.{month_end}
@@ -24,17 +25,14 @@ accept_is : (p q : Office) (e : Entry) → accept p e ≡ Some q → (is_not_bef
 unfolding accept
 accept_is p q e is = accepted_is (is_not_before p.last e.moment) (is_accepted (step e.moment e.command p).1) (step e.moment e.command p).0 q is
 
-none_from : (entries : List Entry) (p : Office) → run_from None entries ≡ Some p → ⊥
+pub none_from : (entries : List Entry) (p : Office) → run_from None entries ≡ Some p → ⊥
 none_from [] p h = absurd cc
 none_from (e ∷ entries) p h = none_from entries p h
-
-some_is : {X : Type 0} (a b : X) → Some a ≡ Some b → a ≡ b
-some_is a b h = cc
 
 -- what each accepted entry keeps holds after the run
 module _ (P : Office → Type 0) (keeps : (p : Office) (e : Entry) → SizeFits e.command → P p → is_not_before p.last e.moment ≡ true → P (step e.moment e.command p).0) where
   pub run_keeps : (entries : List Entry) (p q : Office) → AllByRecursion (λ (e : Entry). SizeFits e.command) entries → P p → run_from (Some p) entries ≡ Some q → P q
-  run_keeps [] p q fits h is = subst P (some_is p q is) h
+  run_keeps [] p q fits h is = subst P (same_Some p q is) h
   run_keeps (e ∷ entries) p q fits h is = by (accept p e) refl is (λ next. run_keeps entries next q fits.1) where
     by : (o : Option Office) → accept p e ≡ o → run_from o entries ≡ Some q → ((next : Office) → P next → run_from (Some next) entries ≡ Some q → P q) → P q
     by None was runs more = absurd (none_from entries q runs)
@@ -78,5 +76,7 @@ module _ (first : Office) (month : ℕ) (tariff : Prices) (u v : ℕ) (le_u : mo
         meters = λ name account there. (account, there, meters_answer first first same month tariff over is u v le_u le_v name account there);
       }
 
-  pub answers_stay : (entries : List Entry) (q : Office) → AllByRecursion (λ (e : Entry). SizeFits e.command) entries → IsOrderly first → at_number month first.closed ≡ Some tariff → run_from (Some first) entries ≡ Some q → AnswersStay q
+  pub answers_stay : (entries : List Entry) (q : Office) → AllByRecursion (λ (e : Entry). SizeFits e.command) entries
+      → IsOrderly first → at_number month first.closed ≡ Some tariff → run_from (Some first) entries ≡ Some q
+      → AnswersStay q
   answers_stay entries q fits h is runs = run_keeps AnswersStay answers_kept entries first q fits (begins h is) runs

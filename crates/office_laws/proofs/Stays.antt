@@ -11,12 +11,12 @@ use Rattle.class_rules.specs.declared.class.Class.{Class}
 use Rattle.stacks.specs.declared.version.Kind.{Kind}
 use Rattle.stacks.specs.declared.version.Kind.TheVariants.{Object, Marker}
 use Rattle.stacks.specs.declared.version.Version.{Version}
+use Rattle.stacks.proofs.Sole.{same_id_is}
 use Rattle.accrual.specs.Books.{open_stay}
 use Rattle.plain_office.specs.Office.{Item, of_version, of_part, Booked, Books}
 use Rattle.plain_office.specs.Books.{same_item, is_open_stay, with_end, with_early, without_version}
 use Rattle.office_laws.proofs.Ids.{same_itself}
 use Rattle.office_laws.proofs.Maps.{bytes_itself, bytes_same}
-use Rattle.office_laws.proofs.Versions.{id_same}
 
 -- ---- items
 
@@ -28,7 +28,7 @@ item_itself (of_part upload part) =
     and_from (upload == upload) (part == part) a b
 
 pub item_same : (a b : Item) → same_item a b ≡ true → a ≡ b
-item_same (of_version a) (of_version b) h = ap of_version (id_same a b h)
+item_same (of_version a) (of_version b) h = ap of_version (same_id_is a b h)
 item_same (of_version a) (of_part upload part) h = absurd cc
 item_same (of_part upload part) (of_version b) h = absurd cc
 item_same (of_part upload part) (of_part other_upload other_part) h =

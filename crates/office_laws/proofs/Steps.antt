@@ -7,6 +7,7 @@ use Rattle.std.specs.Str.{bytes_eq}
 use Rattle.std.specs.Ordering.{is_eq, nat_cmp}
 use Rattle.std.proofs.lemmas.Bool.{ltb-false}
 use Rattle.std.proofs.lemmas.Grind.{flat_map-append}
+use Rattle.std.proofs.lemmas.Option.{same_Some}
 use Rattle.moments.specs.Months.{month_end, month_at}
 use Rattle.class_rules.specs.Classes.{all_classes}
 use Rattle.office_base.specs.Maps.{bytes_cmp, at_name, with_name, at_number, Rises}
@@ -14,6 +15,7 @@ use Rattle.class_rules.specs.declared.class.Class.{Class}
 use Rattle.due_core.specs.Candidates.{eligible}
 use Rattle.due_core.specs.Choice.{choice}
 use Rattle.due_core.specs.declared.action.Action.{Action}
+use Rattle.due_core.proofs.Loops.{same_flat}
 use Rattle.plain_office.specs.Office.{Office, Account, Books, of_version, of_part, empty_books, empty_office, book_of}
 use Rattle.accrual.specs.Books.{Book}
 use Rattle.accrual.specs.Meters.{meter, early_quantity, move_count}
@@ -36,15 +38,11 @@ use Rattle.office_laws.proofs.Maps.{by_name, other_names, bytes_same, at_written
 use Rattle.office_laws.proofs.Buckets.{IsTimely}
 use Rattle.office_laws.proofs.Chosen.{timely_from_choice}
 use Rattle.office_laws.proofs.Closed.{KeepsBooks, keeps_same}
-use Rattle.office_laws.proofs.Kept.{measure, IsKept, Keeps}
+use Rattle.office_laws.proofs.Changes.{measure, IsKept, Keeps}
 use Rattle.office_laws.proofs.Commands.{Done, versioning_done, rules_done, drop_done, put_done, delete_done, delete_version_done, tags_done, start_done, part_done, abort_done, complete_done, act_done}
 use Rattle.office_laws.proofs.Offices.{NamedAccount, HasStays, buckets_now, closed_now, months_now, kept_now, HasRoom, room_of, counts_of, Within, room_after, booked_now, IsBookedUntil}
 
 -- ---- the lines of a report
-
-pub flat_map_same : {X Y : Type 0} (f g : X → List Y) → ((x : X) → f x ≡ g x) → (xs : List X) → flat_map f xs ≡ flat_map g xs
-flat_map_same f g same [] = refl
-flat_map_same f g same (x ∷ xs) = λ i. same x i ++ flat_map_same f g same xs i
 
 module _ (tariff : Prices) (month : ℕ) where
   abbrev pub lines_at : ℕ → NamedAccount → List ReportLine
@@ -54,7 +52,7 @@ module _ (tariff : Prices) (month : ℕ) where
       → ((class : Class) → early_quantity month class c ≡ early_quantity month class b) → ((class : Class) → move_count month class c ≡ move_count month class b)
       → flat_map (class_lines tariff month u name c) all_classes ≡ flat_map (class_lines tariff month t name b) all_classes
   lines_same name t u b c meters early moves =
-      flat_map_same (class_lines tariff month u name c) (class_lines tariff month t name b)
+      same_flat (class_lines tariff month u name c) (class_lines tariff month t name b)
       (λ class. let m = meters class in let e = early class in let k = moves class in rw (m, e, k) refl) all_classes
 
   lines_kept : (until : ℕ) (name : List ℕ) (b c : Books) → KeepsBooks until b c → month_end month ≤ until
@@ -66,7 +64,8 @@ module _ (tariff : Prices) (month : ℕ) where
   unfolding meter early_quantity move_count
   lines_none name t = refl
 
-  lines_replaced : (name : List ℕ) (before after : Account) (until : ℕ) → KeepsBooks until before.books after.books → month_end month ≤ until → (xs ys : List NamedAccount) → Replaced (name, before) (name, after) xs ys
+  lines_replaced : (name : List ℕ) (before after : Account) (until : ℕ) → KeepsBooks until before.books after.books
+      → month_end month ≤ until → (xs ys : List NamedAccount) → Replaced (name, before) (name, after) xs ys
       → flat_map (lines_at (month_end month)) ys ≡ flat_map (lines_at (month_end month)) xs
   lines_replaced name before after until k le xs ys one =
       ap (flat_map (lines_at (month_end month))) one.is
@@ -132,7 +131,8 @@ room_tested (what ∷ whats) q h = by (nat_lt (limit_of what) (count_of what q))
   by true is h more = absurd (some_none what h)
   by false is h more = (ltb-false (limit_of what) (count_of what q) is, more h)
 
-within_by : (t : ℕ) (p : Office) (whats : List What) (done : Office × Reply) (o : Option What) → first_full whats done.0 ≡ o → (Within whats done.0 → IsMade t p done.0) → Makes t p (unless_full o done)
+within_by : (t : ℕ) (p : Office) (whats : List What) (done : Office × Reply) (o : Option What)
+    → first_full whats done.0 ≡ o → (Within whats done.0 → IsMade t p done.0) → Makes t p (unless_full o done)
 within_by t p whats done None is k = k (room_tested whats done.0 is)
 within_by t p whats done (Some what) is k = tt
 
@@ -205,7 +205,9 @@ module _ (t : ℕ) (p : Office) (h : IsOrderly p) (later : is_not_before p.last 
   TimelyNow entry = IsTimely (closed_until p) entry.1.bucket
 
   -- with other buckets, as many months closed as before
-  with_buckets : (accounts : List NamedAccount) → Rises bytes_cmp accounts → AllByRecursion OrderlyNow accounts → AllByRecursion TimelyNow accounts → AllByRecursion HasStays accounts → AllByRecursion (IsBookedUntil t) accounts → HasRoom accounts
+  with_buckets : (accounts : List NamedAccount) → Rises bytes_cmp accounts → AllByRecursion OrderlyNow accounts
+      → AllByRecursion TimelyNow accounts → AllByRecursion HasStays accounts → AllByRecursion (IsBookedUntil t) accounts
+      → HasRoom accounts
       → (tariff : Option Prices) → IsOrderly (accepted t (record p { accounts = accounts; tariff = tariff }))
   with_buckets accounts names buckets timely stays booked room tariff = record {
     records = record {
@@ -220,15 +222,17 @@ module _ (t : ℕ) (p : Office) (h : IsOrderly p) (later : is_not_before p.last 
     booked = booked;
   }
 
-  others_there : (name other : List ℕ) (before after account : Account) (b : Bool) → bytes_eq other name ≡ b → at_name name p.accounts ≡ Some before → KeepsBooks (closed_until p) before.books after.books
+  others_there : (name other : List ℕ) (before after account : Account) (b : Bool) → bytes_eq other name ≡ b
+      → at_name name p.accounts ≡ Some before → KeepsBooks (closed_until p) before.books after.books
       → at_name other p.accounts ≡ Some account → StaysClosed (closed_until p) other account.books (with_account name after)
   others_there name other before after account true same held kept is =
       let names : other ≡ name = bytes_same other name same in
-      let one : before ≡ account = some_same before account (sym held ∙ ap (λ (n : List ℕ). at_name n p.accounts) (sym names) ∙ is) in
-      (after, ap (λ (n : List ℕ). at_name n (with_name name after p.accounts)) names ∙ at_written by_name name after p.accounts, subst (λ (a : Account). KeepsBooks (closed_until p) a.books after.books) one kept)
-    where
-      some_same : (a b : Account) → Some a ≡ Some b → a ≡ b
-      some_same a b h = cc
+      let one : before ≡ account = same_Some before account (sym held ∙ ap (λ (n : List ℕ). at_name n p.accounts) (sym names) ∙ is) in (
+        after,
+        ap (λ (n : List ℕ). at_name n (with_name name after p.accounts)) names
+            ∙ at_written by_name name after p.accounts,
+        subst (λ (a : Account). KeepsBooks (closed_until p) a.books after.books) one kept,
+      )
   others_there name other before after account false differs held kept is =
       (account, at_other by_name name after other (other_names other name differs) p.accounts ∙ is, keeps_same (closed_until p) account.books)
 
@@ -378,7 +382,10 @@ module _ (t : ℕ) (p : Office) (h : IsOrderly p) (later : is_not_before p.last 
     due_by tariff None is = close_made tariff (due_none t (month_end month) p.accounts is)
     due_by tariff (Some due) is = tt
 
-    tariff_by : (o : Option Prices) → Makes t p (ok_or o NoTariff >>= λ tariff. unless_due (due_before t (month_end month) p.accounts) (record p { closed = p.closed ++ (month, tariff) ∷ [] }, reply.Closed month))
+    tariff_by : (o : Option Prices)
+        → Makes t p (ok_or o NoTariff
+        >>= λ tariff. unless_due (due_before t (month_end month) p.accounts)
+        (record p { closed = p.closed ++ (month, tariff) ∷ [] }, reply.Closed month))
     tariff_by None = tt
     tariff_by (Some tariff) = due_by tariff (due_before t (month_end month) p.accounts) refl
 
@@ -409,17 +416,27 @@ module _ (t : ℕ) (p : Office) (h : IsOrderly p) (later : is_not_before p.last 
   outcome_makes : (c : Command) → SizeFits c → Makes t p (outcome t c p)
   unfolding outcome
   outcome_makes (command.CreateBucket name) fits = within_makes t p (Buckets ∷ []) _ (create_by name (at_name name p.accounts) refl)
-  outcome_makes (command.SetVersioning name enabled) fits = plainly t p _ (bucket_promises name [] (set_versioning t enabled) (λ account is kept. versioning_done t (closed_until p) account kept le enabled))
-  outcome_makes (command.SetRules name rules) fits = within_makes t p (Rules ∷ []) _ (bucket_promises name (Rules ∷ []) (set_rules t rules) (λ account is kept. rules_done t (closed_until p) account kept le rules))
+  outcome_makes (command.SetVersioning name enabled) fits =
+      plainly t p _ (bucket_promises name [] (set_versioning t enabled)
+      (λ account is kept. versioning_done t (closed_until p) account kept le enabled))
+  outcome_makes (command.SetRules name rules) fits =
+      within_makes t p (Rules ∷ []) _ (bucket_promises name (Rules ∷ []) (set_rules t rules)
+      (λ account is kept. rules_done t (closed_until p) account kept le rules))
   outcome_makes (command.DropRules name) fits = plainly t p _ (bucket_promises name [] (drop_rules t) (λ account is kept. drop_done t (closed_until p) account kept le))
   outcome_makes (command.Put name key size class tags) fits =
-      within_makes t p (Versions ∷ Names ∷ []) _ (bucket_promises name (Versions ∷ Names ∷ []) (put_object t key size class tags) (λ account is kept. put_done t (closed_until p) account kept le key size class tags fits))
+      within_makes t p (Versions ∷ Names ∷ []) _ (bucket_promises name (Versions ∷ Names ∷ [])
+      (put_object t key size class tags)
+      (λ account is kept. put_done t (closed_until p) account kept le key size class tags fits))
   outcome_makes (command.Delete name key) fits = within_makes t p _ _ (delete_promises name key)
-  outcome_makes (command.DeleteVersion name key id) fits = plainly t p _ (bucket_promises name [] (delete_version t key id) (λ account is kept. delete_version_done t (closed_until p) account kept le key id))
+  outcome_makes (command.DeleteVersion name key id) fits =
+      plainly t p _ (bucket_promises name [] (delete_version t key id)
+      (λ account is kept. delete_version_done t (closed_until p) account kept le key id))
   outcome_makes (command.SetTags name key id tags) fits =
       within_makes t p (Names ∷ []) _ (bucket_promises name (Names ∷ []) (set_tags t key id tags) (λ account is kept. tags_done t (closed_until p) account kept le key id tags))
   outcome_makes (command.StartUpload name key class tags) fits =
-      within_makes t p (Uploads ∷ Names ∷ []) _ (bucket_promises name (Uploads ∷ Names ∷ []) (start_upload t key class tags) (λ account is kept. start_done t (closed_until p) account kept le key class tags))
+      within_makes t p (Uploads ∷ Names ∷ []) _ (bucket_promises name (Uploads ∷ Names ∷ [])
+      (start_upload t key class tags)
+      (λ account is kept. start_done t (closed_until p) account kept le key class tags))
   outcome_makes (command.PutPart name upload part size) fits =
       within_makes t p (Parts ∷ []) _ (bucket_promises name (Parts ∷ []) (put_part t upload part size) (λ account is kept. part_done t (closed_until p) account kept le upload part size))
   outcome_makes (command.Complete name upload) fits =

@@ -1,5 +1,6 @@
 -- What acts do to a bucket is part of its sweep at any later moment.
 use Rattle.std.proofs.Common.{◌≡◌, ℕ, ◌≤◌, List, [], ◌∷◌, ◌++◌, refl, ap, sym, ◌∙◌, subst, Bool, true, false, ◌&&◌, cond, inl, inr}
+use Rattle.std.proofs.lemmas.Option.{same_Some}
 use Rattle.std.specs.Prelude.{Option, Some, None, option_map, Result, Ok, ◌↔◌}
 use Rattle.std.specs.List.{AllByRecursion}
 use Rattle.office_base.specs.Maps.{at_name, with_name}
@@ -25,10 +26,12 @@ use Rattle.plain_office.specs.Answers.{answer, due_shown}
 use Rattle.office_laws.specs.Commands.{OnlyActs}
 use Rattle.office_laws.proofs.Maps.{by_name, at_written}
 use Rattle.office_laws.proofs.Elsewhere.{step_leaves}
+use Rattle.office_laws.proofs.Runs.{none_from}
 
 -- ---- sweeping twice
 
-pub swept_twice : (t u : ℕ) → t ≤ u → (actions others : List Action) (before middle after : Account) → IsSwept t actions before middle → IsSwept u others middle after → IsSwept u (actions ++ others) before after
+pub swept_twice : (t u : ℕ) → t ≤ u → (actions others : List Action) (before middle after : Account)
+    → IsSwept t actions before middle → IsSwept u others middle after → IsSwept u (actions ++ others) before after
 swept_twice t u le [] others before middle after h k = subst (λ (a : Account). IsSwept u others a after) h.1 k
 swept_twice t u le (a ∷ actions) others before middle after h k =
     (choice_stays before.bucket t u a le h.0, swept_twice t u le actions others (effect a before) middle after h.1 k)
@@ -139,9 +142,6 @@ act_swept t u le account after (Some action) is others h = (action ∷ others, (
 
 -- ---- runs
 
-some_is : {X : Type 0} (a b : X) → Some a ≡ Some b → a ≡ b
-some_is a b h = cc
-
 accepted_is : (later accepted : Bool) (next q : Office) → cond (later && accepted) (Some next) None ≡ Some q → next ≡ q
 accepted_is true true next q h = cc
 accepted_is true false next q h = absurd cc
@@ -150,10 +150,6 @@ accepted_is false accepted next q h = absurd cc
 accept_is : (p q : Office) (e : Entry) → accept p e ≡ Some q → (step e.moment e.command p).0 ≡ q
 unfolding accept
 accept_is p q e is = accepted_is (is_not_before p.last e.moment) (is_accepted (step e.moment e.command p).1) (step e.moment e.command p).0 q is
-
-none_from : (entries : List Entry) (p : Office) → run_from None entries ≡ Some p → ⊥
-none_from [] p h = absurd cc
-none_from (e ∷ entries) p h = none_from entries p h
 
 module _ (name : List ℕ) (u : ℕ) where
   -- the account after one entry, and what its sweep is
@@ -173,7 +169,7 @@ module _ (name : List ℕ) (u : ℕ) where
   pub run_swept : (entries : List Entry) (p q : Office) (before after : Account) → AllByRecursion (OnlyActs name u) entries → run_from (Some p) entries ≡ Some q
       → at_name name p.accounts ≡ Some before → at_name name q.accounts ≡ Some after → SweptFrom before after
   run_swept [] p q before after only runs is there =
-      let same : before ≡ after = some_is before after (sym is ∙ ap (λ (o : Office). at_name name o.accounts) (some_is p q runs) ∙ there) in
+      let same : before ≡ after = same_Some before after (sym is ∙ ap (λ (o : Office). at_name name o.accounts) (same_Some p q runs) ∙ there) in
       subst (SweptFrom before) same (λ others end k. (others, k))
   run_swept (e ∷ entries) p q before after only runs is there =
       by (accept p e) refl runs (λ next middle. run_swept entries next q middle after only.1)

@@ -7,6 +7,7 @@ use Rattle.std.specs.Ordering.{is_eq, nat_cmp}
 use Rattle.std.specs.Cmp.{unsigned_tied}
 use Rattle.std.proofs.lemmas.Bool.{and_parts, and_from, leb-true, le-leb}
 use Rattle.std.proofs.lemmas.Bool.Decides.{nat_tests}
+use Rattle.std.proofs.Math.Bool.{and-false}
 use Rattle.class_rules.specs.Lines.{part_line}
 use Rattle.office_base.specs.Sizes.{largest_size}
 use Rattle.office_base.specs.Maps.{at_number, with_number, without_number, Rises}
@@ -91,7 +92,8 @@ part_later a b le part h =
     let put = leb-true part.1.put a both.1 in
     and_from _ _ both.0 (le-leb part.1.put b (omega (arith, put, le)))
 
-pub part_orderly : (before last at number size : ℕ) (upload : UploadRecord) → IsOrderlyUpload before upload → admits_part number (new_part size at) upload.parts ≡ true → upload.changed ≤ at → at ≤ last
+pub part_orderly : (before last at number size : ℕ) (upload : UploadRecord) → IsOrderlyUpload before upload
+    → admits_part number (new_part size at) upload.parts ≡ true → upload.changed ≤ at → at ≤ last
     → IsOrderlyUpload last (after_part number size at upload)
 part_orderly before last at number size upload h admitted since le =
     let part : Part = new_part size at in
@@ -117,7 +119,9 @@ either_none : (b : Bool) → cond {A = List Booked} b [] [] ≡ []
 either_none true = refl
 either_none false = refl
 
-pub stays_started : (number next : ℕ) (key : List ℕ) (class : Class) (tags : List (List ℕ × List ℕ)) (at : ℕ) (account : Account) → at_number number account.bucket.uploads ≡ None → HasOpenStays account
+pub stays_started : (number next : ℕ) (key : List ℕ) (class : Class) (tags : List (List ℕ × List ℕ)) (at : ℕ)
+    (account : Account)
+    → at_number number account.bucket.uploads ≡ None → HasOpenStays account
     → HasOpenStays (record account { bucket = record account.bucket { uploads = with_number number (new_upload key class tags at) account.bucket.uploads; next_upload = next } })
 stays_started number next key class tags at account none has = by where
   upload : UploadRecord
@@ -227,11 +231,9 @@ module _ (key : List ℕ) (number at : ℕ) where
   ended_part place part (e ∷ parts) books h =
       ended_at place part e parts books (is_eq (nat_cmp place e.0)) refl h (ended_part place part parts (with_end key (of_part number e.0) at books))
 
-and_none : (b : Bool) → b && false ≡ false
-and_none true = refl
-and_none false = refl
-
-pub stays_aborted : (number : ℕ) (upload : UploadRecord) (at : ℕ) (account : Account) → at_number number account.bucket.uploads ≡ Some upload → Rises nat_cmp account.bucket.uploads → HasOpenStays account
+pub stays_aborted : (number : ℕ) (upload : UploadRecord) (at : ℕ) (account : Account)
+    → at_number number account.bucket.uploads ≡ Some upload → Rises nat_cmp account.bucket.uploads
+    → HasOpenStays account
     → HasOpenStays (remove_upload number upload at account)
 stays_aborted number upload at account found rises has = by where
   books : Books
@@ -252,7 +254,7 @@ stays_aborted number upload at account found rises has = by where
       ended_none upload.key number at k (of_part number place) upload.parts account.books (was k place ∙ rw is refl)
 
   not_number : (k : List ℕ) (n place : ℕ) → (n == number) ≡ false → (p : ℕ) → is_of k (of_part n place) upload.key (of_part number p) ≡ false
-  not_number k n place differs p = rw differs (and_none (bytes_eq k upload.key))
+  not_number k n place differs p = rw differs (and-false (bytes_eq k upload.key))
 
   part_at : (k : List ℕ) (n place : ℕ) (b : Bool) → (n == number) ≡ b
       → open_of k (of_part n place) (all_ended upload.key number at account.books upload.parts).stays ≡ part_stays_expected k n place (at_number n (without_number number account.bucket.uploads))
@@ -266,5 +268,5 @@ stays_aborted number upload at account found rises has = by where
       ∙ asked_part k n place _ _ (sym (at_left by_number number n (numbers_differ n number is) account.bucket.uploads))
 
   by : HasOpenStays (remove_upload number upload at account)
-  by k (of_version id) = ended_apart upload.key number at k (of_version id) (λ place. and_none (bytes_eq k upload.key)) upload.parts account.books ∙ has k (of_version id)
+  by k (of_version id) = ended_apart upload.key number at k (of_version id) (λ place. and-false (bytes_eq k upload.key)) upload.parts account.books ∙ has k (of_version id)
   by k (of_part n place) = part_at k n place (n == number) refl

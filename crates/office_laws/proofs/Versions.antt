@@ -2,7 +2,7 @@
 use Rattle.std.proofs.Common.{◌≡◌, ℕ, ◌+◌, ◌<◌, ◌≤◌, List, [], ◌∷◌, length, refl, ap, sym, ◌∙◌, subst, Bool, true, false, not, ◌&&◌, cond, arith}
 use Rattle.std.specs.Prelude.{Option, Some, None, option_map, nat_le, sum_by}
 use Rattle.std.specs.List.{AllByRecursion, list_any, list_all}
-use Rattle.std.proofs.lemmas.Bool.{and_parts, and_from, leb-true, le-leb}
+use Rattle.std.proofs.lemmas.Bool.{and_parts, and_from, le-leb}
 use Rattle.std.proofs.lemmas.List.Sums.{sum_by-cons}
 use Rattle.std.proofs.lemmas.Bool.Decides.{nat_tests}
 use Rattle.office_base.specs.Sizes.{largest_size}
@@ -17,6 +17,8 @@ use Rattle.stacks.specs.declared.version.Kind.{Kind}
 use Rattle.stacks.specs.declared.version.Kind.TheVariants.{Object, Marker}
 use Rattle.stacks.specs.declared.version.Version.{Version}
 use Rattle.stacks.specs.Stacks.{StackRecord}
+use Rattle.stacks.proofs.Sole.{same_id_is}
+use Rattle.stacks.proofs.StackLaws.{le_later}
 use Rattle.plain_office.specs.Counts.{tag_bytes_of}
 use Rattle.plain_office.specs.Orderly.{IsNumberBelow, IsOneNullObject, FitsVersioning, IsOrderlyStack, current_is_object, is_object, size_of}
 use Rattle.office_laws.proofs.Ids.{adding, differ_without, differ_added}
@@ -24,19 +26,10 @@ use Rattle.office_laws.proofs.Lists.{every_true, all_true, every_filter, every_w
 
 -- ---- ids
 
-pub id_same : (a b : VersionId) → same_id a b ≡ true → a ≡ b
-id_same Null Null h = refl
-id_same (Number a) (Number b) h = let same : a ≡ b = grind (arith, nat_tests) in ap (λ (n : ℕ). Number n) same
-id_same Null (Number b) h = absurd cc
-id_same (Number a) Null h = absurd cc
-
 -- ---- moments
 
 abbrev pub HasMoments : ℕ → Version → Type 0
 HasMoments at version = has_moments_until at version ≡ true
-
-le_later : (x a b : ℕ) → a ≤ b → nat_le x a ≡ true → nat_le x b ≡ true
-le_later x a b le h = let below = leb-true x a h in le-leb x b (omega arith)
 
 module _ (id : VersionId) (created ceased : ℕ) where
   abbrev pub with_kind : Kind → Version
@@ -319,19 +312,25 @@ stack_later versioning next more a b le later stack h = record {
   changed = let before = h.changed in omega arith;
 }
 
-pub fits_added : (versioning : Versioning) (next at : ℕ) (kind : Kind) (versions : List Version) → 0 < next → IsFresh at kind → KindFits versioning kind → size_of kind ≤ largest_size → Fits versioning next at versions
+pub fits_added : (versioning : Versioning) (next at : ℕ) (kind : Kind) (versions : List Version) → 0 < next
+    → IsFresh at kind → KindFits versioning kind → size_of kind ≤ largest_size → Fits versioning next at versions
     → Fits versioning (number_after versioning next) at (adding (new_id versioning next) kind at versions)
 fits_added versioning next at kind versions some fresh fits small h =
     let id = new_id versioning next in
     let more = number_after versioning next in
     record {
       differ = differ_added id kind at versions h.differ;
-      moments = (moments_new at id kind fresh, every_filter (HasMoments at) (λ version. not (has_id id version)) (covered at versions) (every_covered (HasMoments at) at (moments_covered at) versions h.moments));
+      moments = (
+        moments_new at id kind fresh,
+        every_filter (HasMoments at) (λ version. not (has_id id version)) (covered at versions)
+            (every_covered (HasMoments at) at (moments_covered at) versions h.moments),
+      );
       numbers = (
         new_below versioning next some,
         every_filter (λ version. IsNumberBelow more version.id) (λ version. not (has_id id version)) (covered at versions)
             (every_covered (λ version. IsNumberBelow more version.id) at (λ v n. n) versions
-            (every_weaker (λ version. IsNumberBelow next version.id) (λ version. IsNumberBelow more version.id) (λ version n. below_more next more (next_more versioning next) version.id n) versions h.numbers)),
+            (every_weaker (λ version. IsNumberBelow next version.id) (λ version. IsNumberBelow more version.id)
+            (λ version n. below_more next more (next_more versioning next) version.id n) versions h.numbers)),
       );
       only_null = keep_added versioning next at kind versions fits h.only_null;
       sizes = (
@@ -347,7 +346,7 @@ pub found_id : (id : VersionId) (versions : List Version) (v : Version) → vers
 found_id id [] v h = absurd cc
 found_id id (w ∷ versions) v h = by (has_id id w) refl h (found_id id versions v) where
   by : (b : Bool) → has_id id w ≡ b → cond b (Some w) (version_at id versions) ≡ Some v → (version_at id versions ≡ Some v → id ≡ v.id) → id ≡ v.id
-  by true is k more = let same : w ≡ v = cc in id_same id w.id is ∙ ap (λ (x : Version). x.id) same
+  by true is k more = let same : w ≡ v = cc in same_id_is id w.id is ∙ ap (λ (x : Version). x.id) same
   by false is k more = more k
 
 pub without_itself : (id : VersionId) (versions : List Version) → version_at id (without id versions) ≡ None
@@ -363,7 +362,7 @@ without_other id other differs (v ∷ versions) = by (has_id id v) refl (without
   by : (b : Bool) → has_id id v ≡ b → version_at other (without id versions) ≡ version_at other versions
       → version_at other (cond (not b) (v ∷ without id versions) (without id versions)) ≡ cond (has_id other v) (Some v) (version_at other versions)
   by true is h =
-      let no : has_id other v ≡ false = ap (λ (i : VersionId). same_id other i) (sym (id_same id v.id is)) ∙ differs in
+      let no : has_id other v ≡ false = ap (λ (i : VersionId). same_id other i) (sym (same_id_is id v.id is)) ∙ differs in
       rw no h
   by false is h = ap (λ (o : Option Version). cond (has_id other v) (Some v) o) h
 
@@ -391,7 +390,7 @@ module _ (id : VersionId) (change : Version → Version) (is : IsChange change) 
     by : (b : Bool) → has_id id v ≡ b → version_at other (changed_at id change versions) ≡ version_at other versions
         → version_at other (cond b (change v) v ∷ changed_at id change versions) ≡ cond (has_id other v) (Some v) (version_at other versions)
     by true has h =
-        let no : has_id other v ≡ false = ap (λ (i : VersionId). same_id other i) (sym (id_same id v.id has)) ∙ differs in
+        let no : has_id other v ≡ false = ap (λ (i : VersionId). same_id other i) (sym (same_id_is id v.id has)) ∙ differs in
         let no_more : has_id other (change v) ≡ false = ap (λ (i : VersionId). same_id other i) (is.id v) ∙ no in
         rw (no, no_more) h
     by false has h = ap (λ (o : Option Version). cond (has_id other v) (Some v) o) h

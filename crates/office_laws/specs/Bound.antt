@@ -6,7 +6,8 @@ use Rattle.plain_office.specs.Office.{Account}
 use Rattle.plain_office.specs.Counts.{version_count}
 use Rattle.plain_office.specs.Sweep.{IsSwept}
 
--- for each version at most five transitions and a removal, a marker on its key and that one's removal; an abort for each upload
+-- for each version at most five transitions and a removal, a marker on its key and that one's removal; an abort for
+-- each upload
 abbrev pub most_actions : BucketRecord → ℕ
 most_actions bucket = 8 * version_count bucket + length bucket.uploads
 

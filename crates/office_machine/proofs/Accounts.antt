@@ -44,39 +44,58 @@ module _ (name : List ℕ) where
       (stand_pick (is_at (bytes_cmp name) account.0) records.1 account.1 (at_name name buckets) (at_name name accounts) h.0.account (stand_at buckets accounts h.1))
 
   module _ (written : AccountRecord) (plain : Account) (same : StandsForAccount written plain) where
-    with_pick : (o : Ordering) (records : List ℕ × AccountRecord) (account : List ℕ × Account) (buckets rest : List (List ℕ × AccountRecord)) (accounts others : List (List ℕ × Account)) → StandsForEntry records account → StandForAccounts buckets accounts → StandForAccounts rest others
-        → StandForAccounts (match_ordering o ((name, written) ∷ records ∷ buckets) ((records.0, written) ∷ buckets) (records ∷ rest)) (match_ordering o ((name, plain) ∷ account ∷ accounts) ((account.0, plain) ∷ accounts) (account ∷ others))
+    with_pick : (o : Ordering) (records : List ℕ × AccountRecord) (account : List ℕ × Account)
+        (buckets rest : List (List ℕ × AccountRecord)) (accounts others : List (List ℕ × Account))
+        → StandsForEntry records account → StandForAccounts buckets accounts → StandForAccounts rest others
+        → StandForAccounts
+        (match_ordering o ((name, written) ∷ records ∷ buckets) ((records.0, written) ∷ buckets) (records ∷ rest))
+        (match_ordering o ((name, plain) ∷ account ∷ accounts) ((account.0, plain) ∷ accounts) (account ∷ others))
     with_pick Less records account buckets rest accounts others h all more = (record { name = refl; account = same }, (h, all))
     with_pick Equal records account buckets rest accounts others h all more = (record { name = h.name; account = same }, all)
     with_pick Greater records account buckets rest accounts others h all more = (h, more)
 
     -- one written under a name on both sides
-    pub stand_with : (buckets : List (List ℕ × AccountRecord)) (accounts : List (List ℕ × Account)) → StandForAccounts buckets accounts → StandForAccounts (with_name name written buckets) (with_name name plain accounts)
+    pub stand_with : (buckets : List (List ℕ × AccountRecord)) (accounts : List (List ℕ × Account))
+        → StandForAccounts buckets accounts
+        → StandForAccounts (with_name name written buckets) (with_name name plain accounts)
     stand_with [] [] h = (record { name = refl; account = same }, tt)
     stand_with [] (account ∷ accounts) h = absurd h
     stand_with (records ∷ buckets) [] h = absurd h
     stand_with (records ∷ buckets) (account ∷ accounts) h =
-        subst (λ (n : List ℕ). StandForAccounts (match_ordering (bytes_cmp name n) ((name, written) ∷ records ∷ buckets) ((records.0, written) ∷ buckets) (records ∷ with_name name written buckets)) (with_name name plain (account ∷ accounts))) (sym h.0.name)
+        subst (λ (n : List ℕ). StandForAccounts (match_ordering (bytes_cmp name n) ((name, written) ∷ records ∷ buckets)
+        ((records.0, written) ∷ buckets) (records ∷ with_name name written buckets))
+        (with_name name plain (account ∷ accounts))) (sym h.0.name)
         (with_pick (bytes_cmp name account.0) records account buckets (with_name name written buckets) accounts (with_name name plain accounts) h.0 h.1 (stand_with buckets accounts h.1))
 
-    set_pick : (here : Bool) (records : List ℕ × AccountRecord) (account : List ℕ × Account) (buckets rest : List (List ℕ × AccountRecord)) (accounts others : List (List ℕ × Account)) → StandsForEntry records account → StandForAccounts buckets accounts → StandForAccounts rest others
+    set_pick : (here : Bool) (records : List ℕ × AccountRecord) (account : List ℕ × Account)
+        (buckets rest : List (List ℕ × AccountRecord)) (accounts others : List (List ℕ × Account))
+        → StandsForEntry records account → StandForAccounts buckets accounts → StandForAccounts rest others
         → StandForAccounts (cond here ((records.0, written) ∷ buckets) (records ∷ rest)) (cond here ((account.0, plain) ∷ accounts) (account ∷ others))
     set_pick true records account buckets rest accounts others h all more = (record { name = h.name; account = same }, all)
     set_pick false records account buckets rest accounts others h all more = (h, more)
 
-    stand_places : (buckets : List (List ℕ × AccountRecord)) (accounts : List (List ℕ × Account)) → StandForAccounts buckets accounts → StandForAccounts (set_value (is_at (bytes_cmp name)) buckets written) (set_value (is_at (bytes_cmp name)) accounts plain)
+    stand_places : (buckets : List (List ℕ × AccountRecord)) (accounts : List (List ℕ × Account))
+        → StandForAccounts buckets accounts
+        → StandForAccounts (set_value (is_at (bytes_cmp name)) buckets written)
+        (set_value (is_at (bytes_cmp name)) accounts plain)
     stand_places [] [] h = tt
     stand_places [] (account ∷ accounts) h = absurd h
     stand_places (records ∷ buckets) [] h = absurd h
     stand_places (records ∷ buckets) (account ∷ accounts) h =
-        subst (λ (n : List ℕ). StandForAccounts (cond (is_at (bytes_cmp name) n) ((records.0, written) ∷ buckets) (records ∷ set_value (is_at (bytes_cmp name)) buckets written)) (set_value (is_at (bytes_cmp name)) (account ∷ accounts) plain)) (sym h.0.name)
-        (set_pick (is_at (bytes_cmp name) account.0) records account buckets (set_value (is_at (bytes_cmp name)) buckets written) accounts (set_value (is_at (bytes_cmp name)) accounts plain) h.0 h.1 (stand_places buckets accounts h.1))
+        subst (λ (n : List ℕ). StandForAccounts (cond (is_at (bytes_cmp name) n) ((records.0, written) ∷ buckets)
+        (records ∷ set_value (is_at (bytes_cmp name)) buckets written))
+        (set_value (is_at (bytes_cmp name)) (account ∷ accounts) plain)) (sym h.0.name)
+        (set_pick (is_at (bytes_cmp name) account.0) records account buckets
+        (set_value (is_at (bytes_cmp name)) buckets written) accounts
+        (set_value (is_at (bytes_cmp name)) accounts plain) h.0 h.1 (stand_places buckets accounts h.1))
 
     -- one set in its place, and written under the name that is there
-    pub stand_set : (buckets : List (List ℕ × AccountRecord)) (accounts : List (List ℕ × Account)) (old : Account) → StandForAccounts buckets accounts → Rises bytes_cmp accounts → at_name name accounts ≡ Some old
+    pub stand_set : (buckets : List (List ℕ × AccountRecord)) (accounts : List (List ℕ × Account)) (old : Account)
+        → StandForAccounts buckets accounts → Rises bytes_cmp accounts → at_name name accounts ≡ Some old
         → StandForAccounts (set_value (is_at (bytes_cmp name)) buckets written) (with_name name plain accounts)
     stand_set buckets accounts old h rises is =
-        subst (λ (l : List (List ℕ × Account)). StandForAccounts (set_value (is_at (bytes_cmp name)) buckets written) l) (set_is_with name plain old accounts rises is) (stand_places buckets accounts h)
+        subst (λ (l : List (List ℕ × Account)). StandForAccounts (set_value (is_at (bytes_cmp name)) buckets written) l)
+        (set_is_with name plain old accounts rises is) (stand_places buckets accounts h)
 
     -- one set in its place that stands for what is there
     pub stand_one : (buckets : List (List ℕ × AccountRecord)) (accounts : List (List ℕ × Account)) → StandForAccounts buckets accounts → Rises bytes_cmp accounts → at_name name accounts ≡ Some plain

@@ -1,5 +1,6 @@
 -- What a step leaves of the office before it.
 use Rattle.std.proofs.Common.{◌≡◌, ◌⊎◌, inl, inr, ℕ, ◌≤◌, List, refl, ap, sym, ◌∙◌, subst, true}
+use Rattle.std.proofs.lemmas.Option.{same_Some}
 use Rattle.std.specs.Prelude.{Option, Some, None, Ok, Err, ◌↔◌}
 use Rattle.office_base.specs.Maps.{at_name}
 use Rattle.due_core.specs.Choice.{choice}
@@ -25,9 +26,6 @@ use Rattle.office_machine.specs.Standing.{Records, StandsForOffice, Does}
 use Rattle.office_machine.specs.Lateness.{SweepEndsIn, LeavesLaterSweeps, HasEmptySweep, LeavesOthers, AsksClosedMonth, KeepsClosedMonths}
 use Rattle.office_machine.proofs.Steps.{Answer, step_missing}
 
-same_some : {X : Type 0} (a b : X) → Some a ≡ Some b → a ≡ b
-same_some a b h = cc
-
 -- ---- later sweeps
 
 module _ (t u : ℕ) (le : t ≤ u) (name : List ℕ) (p : Office) where
@@ -47,13 +45,13 @@ module _ (t u : ℕ) (le : t ≤ u) (name : List ℕ) (p : Office) where
 
     sweeps_back : (end : Account) → SweepEndsIn name u next end → SweepEndsIn name u p end
     sweeps_back end h =
-        let same : h.account ≡ made = same_some h.account made (sym h.there ∙ made_there) in
+        let same : h.account ≡ made = same_Some h.account made (sym h.there ∙ made_there) in
         let all = from_made h.actions end (subst (λ (a : Account). IsSwept u h.actions a end) same h.swept) in
         record { account = account; there = there; actions = all.0; swept = all.1 }
 
     sweeps_on : IsOrderly next → (end : Account) → SweepEndsIn name u p end → SweepEndsIn name u next end
     sweeps_on orderly end h =
-        let same : h.account ≡ account = same_some h.account account (sym h.there ∙ there) in
+        let same : h.account ≡ account = same_Some h.account account (sym h.there ∙ there) in
         let s = office_sweeps u next name made orderly made_there in
         let all = from_made s.0 s.1 s.2 in
         let one = one_sweep u all.0 h.actions account s.1 end all.1 (subst (λ (a : Account). IsSwept u h.actions a end) same h.swept) in

@@ -23,7 +23,7 @@ use Rattle.office_types.specs.declared.reply.Reply.{Reply}
 use Rattle.office_types.specs.declared.reply.Reply.TheVariants.{BucketMade, NothingDue, TariffSet, Closed, BucketShown, MetersShown, Report}
 use Rattle.office_types.specs.declared.reply.ReportLine.{ReportLine}
 use Rattle.office_types.specs.declared.refusal.Refusal.{Refusal}
-use Rattle.office_types.specs.declared.refusal.Refusal.TheVariants.{BucketExists, NoSuchBucket, NoTariff, Full, NoMemory}
+use Rattle.office_types.specs.declared.refusal.Refusal.TheVariants.{BucketExists, NoSuchBucket, NoTariff, Full}
 use Rattle.office_types.specs.declared.refusal.What.{What}
 use Rattle.office_types.specs.declared.refusal.What.TheVariants.{Buckets, Versions, Uploads, Parts, Names, Rules}
 use Rattle.office_laws.proofs.Lists.{Added, Replaced}
@@ -34,14 +34,14 @@ use Rattle.bucket_account.specs.declared.change.Done.{Done}
 use Rattle.bucket_account.specs.declared.counts.Counts.{Counts}
 use Rattle.bucket_account.specs.Changing.{change_of, limits_of, IsOnBucket, IsOrderlyAccount, DoesTold}
 use Rattle.bucket_account.specs.Counting.{AccountRecord, IsWithinBy, AreCountsOver, amount, in_bucket, HaveMoved, first_over}
-use Rattle.office_machine.specs.Standing.{Records, StandForAccounts, StandsForOffice, IsKept, Does}
+use Rattle.office_machine.specs.Standing.{Records, StandForAccounts, StandsForOffice, IsOfAnOffice, Does}
 use Rattle.bucket_account.specs.Standing.{StandsForAccount}
 use Rattle.bucket_account.proofs.Accepted.{told_is, FindsNothing, told_or_nothing, something_by, refusal_fits}
 use Rattle.office_types.specs.Fits.{RefusalFits}
 use Rattle.office_machine.proofs.Accounts.{StandsForOption, stand_length, stand_at, stand_with, stand_set, stand_one}
 use Rattle.office_machine.proofs.Rows.{closed_is}
 use Rattle.office_machine.proofs.Sums.{AreCountsOf, full_is, moved_is, added_is, counts_over, same_counts}
-use Rattle.office_machine.specs.Asking.{rules_told, stack_told, upload_told, due_told, prices_told, kept_prices, closed_at, entry_lines, IsBookedIn}
+use Rattle.office_machine.specs.AnswerParts.{rules_told, stack_told, upload_told, due_told, prices_told, kept_prices, closed_at, entry_lines, IsBookedIn}
 use Rattle.plain_office.specs.Charges.{tariff_for, report_lines}
 use Rattle.office_machine.specs.Closing.{closing_with, first_due, due_refusal}
 use Rattle.office_machine.proofs.Months.{closed_office, close_refused, close_due, close_done, due_same, due_of, none_due}
@@ -52,10 +52,6 @@ use Rattle.office_machine.proofs.Steps.{Answer, step_missing, step_refused, step
 pub does : (expected : Office × Answer) (before q : Office) (after : Records) (result : Answer) → expected ≡ (q, result) → StandsForOffice after q → Does expected before after result
 does expected before q after result is stands =
     inl (sym (ap (λ (x : Office × Answer). x.1) is), subst (StandsForOffice after) (sym (ap (λ (x : Office × Answer). x.0) is)) stands)
-
--- want of memory
-pub wants : (expected : Office × Answer) (before : Office) (after : Records) → StandsForOffice after before → Does expected before after (Err NoMemory)
-wants expected before after stands = inr (refl, stands)
 
 -- the reply that is not accepted
 pub nothing_of : (r : Reply) → is_accepted (Ok r) ≡ false → r ≡ NothingDue
@@ -129,7 +125,8 @@ module _ (records : Records) (p : Office) (stands : StandsForOffice records p) w
     }
 
     -- an accepted command that changed the prices or the closed months alone
-    office_on : (q : Office) (tariff : Option Prices) (closed : List (ℕ × Prices)) (number : ℕ) → tariff ≡ q.tariff → q.first_month ≡ p.first_month → closed ≡ q.closed → q.accounts ≡ p.accounts → IsOrderly (accepted t q)
+    office_on : (q : Office) (tariff : Option Prices) (closed : List (ℕ × Prices)) (number : ℕ) → tariff ≡ q.tariff
+        → q.first_month ≡ p.first_month → closed ≡ q.closed → q.accounts ≡ p.accounts → IsOrderly (accepted t q)
         → StandsForOffice (accepted_records t (record records { tariff = tariff; closed = closed }) records.accounts records.counts number) (accepted t q)
     office_on q tariff closed number priced first months same orderly = record {
       orderly = orderly;
@@ -141,10 +138,15 @@ module _ (records : Records) (p : Office) (stands : StandsForOffice records p) w
       counts = λ what. stands.counts what ∙ same_counts what p (accepted t q) (sym same);
     }
 
-    pub does_price : (tariff : Prices) (number : ℕ) → Does (step t (command.SetTariff tariff) p) p (accepted_records t (record records { tariff = Some tariff }) records.accounts records.counts number) (Ok TariffSet)
+    pub does_price : (tariff : Prices) (number : ℕ)
+        → Does (step t (command.SetTariff tariff) p) p
+        (accepted_records t (record records { tariff = Some tariff }) records.accounts records.counts number)
+        (Ok TariffSet)
     does_price tariff number =
         let told = tariff_told t p tariff in
-        does (step t (command.SetTariff tariff) p) p (accepted t (priced t p tariff)) (accepted_records t (record records { tariff = Some tariff }) records.accounts records.counts number) (Ok TariffSet) told
+        does (step t (command.SetTariff tariff) p) p (accepted t (priced t p tariff))
+        (accepted_records t (record records { tariff = Some tariff }) records.accounts records.counts number)
+        (Ok TariffSet) told
         (office_on (priced t p tariff) (Some tariff) records.closed number refl refl stands.closed refl
         (subst IsOrderly (ap (λ (x : Office × Answer). x.0) told) (step_orderly t (command.SetTariff tariff) p tt stands.orderly later_plain)))
 
@@ -167,7 +169,9 @@ module _ (records : Records) (p : Office) (stands : StandsForOffice records p) w
         does_close none closed pushed number =
             let told =
             close_done t month p tariff is (sym (due_same t (month_end month) records.accounts p.accounts stands.accounts) ∙ none_due (first_due t (month_end month) records.accounts) none) in
-            does (step t (command.Close month) p) p (accepted t (closed_office t month p tariff)) (accepted_records t (record records { closed = closed }) records.accounts records.counts number) (Ok (Closed month)) told
+            does (step t (command.Close month) p) p (accepted t (closed_office t month p tariff))
+            (accepted_records t (record records { closed = closed }) records.accounts records.counts number)
+            (Ok (Closed month)) told
             (office_on (closed_office t month p tariff) records.tariff closed number stands.tariff refl (pushed ∙ ap (λ (l : List (ℕ × Prices)). l ++ (month, tariff) ∷ []) stands.closed) refl
             (subst IsOrderly (ap (λ (x : Office × Answer). x.0) told) (step_orderly t (command.Close month) p tt stands.orderly later_plain)))
 
@@ -190,7 +194,8 @@ module _ (records : Records) (p : Office) (stands : StandsForOffice records p) w
       pub does_exist : is_some (at_name name records.accounts) ≡ true → Does (step t (command.CreateBucket name) p) p records (Err BucketExists)
       does_exist there = does (step t (command.CreateBucket name) p) p p records (Err BucketExists) (create_exists t p name (there_is true there)) stands
 
-      module _ (none : is_some (at_name name records.accounts) ≡ false) (counts : Counts) (more : (what : What) → amount what counts ≡ amount what records.counts + in_bucket what (new_account t).bucket) where
+      module _ (none : is_some (at_name name records.accounts) ≡ false) (counts : Counts) (more : (what : What)
+          → amount what counts ≡ amount what records.counts + in_bucket what (new_account t).bucket) where
         one : Added (name, new_account t) p.accounts (made t p name).accounts
         one = added by_name name (new_account t) p.accounts (absent (is_some_none (at_name name records.accounts) none))
 
@@ -202,13 +207,17 @@ module _ (records : Records) (p : Office) (stands : StandsForOffice records p) w
             does (step t (command.CreateBucket name) p) p p records (Err (Full what (limit_of what)))
             (create_full t p name (there_is false none) what (full_is (Buckets ∷ []) (made t p name) counts made_counts ∙ full)) stands
 
-        pub does_make : first_over (Buckets ∷ []) counts ≡ None → (held : AccountRecord) → StandsForAccount held (new_account t) → (accounts : List (List ℕ × AccountRecord)) → accounts ≡ with_name name held records.accounts
+        pub does_make : first_over (Buckets ∷ []) counts ≡ None → (held : AccountRecord)
+            → StandsForAccount held (new_account t) → (accounts : List (List ℕ × AccountRecord))
+            → accounts ≡ with_name name held records.accounts
             → (number : ℕ) → Does (step t (command.CreateBucket name) p) p (accepted_records t records accounts counts number) (Ok (BucketMade name))
         does_make free held same accounts is number =
             let told = create_made t p name (there_is false none) (full_is (Buckets ∷ []) (made t p name) counts made_counts ∙ free) in
             does (step t (command.CreateBucket name) p) p (accepted t (made t p name)) (accepted_records t records accounts counts number) (Ok (BucketMade name)) told
             (moved_on t later (made t p name) accounts counts number refl refl refl
-            (subst (λ (l : List (List ℕ × AccountRecord)). StandForAccounts l (with_name name (new_account t) p.accounts)) (sym is) (stand_with name held (new_account t) same records.accounts p.accounts stands.accounts))
+            (subst (λ (l : List (List ℕ × AccountRecord)). StandForAccounts l
+            (with_name name (new_account t) p.accounts)) (sym is)
+            (stand_with name held (new_account t) same records.accounts p.accounts stands.accounts))
             (added_is p (accepted t (made t p name)) name (new_account t) one records.counts counts stands.counts more)
             (subst IsOrderly (ap (λ (x : Office × Answer). x.0) told) (step_orderly t (command.CreateBucket name) p tt stands.orderly (later_plain t later))))
 
@@ -267,7 +276,8 @@ module _ (records : Records) (p : Office) (stands : StandsForOffice records p) w
           counts_are : (after : Account) (moved : Counts) → HaveMoved account.bucket after.bucket records.counts moved → AreCountsOf (placed t p name after) moved
           counts_are after moved follow = moved_is p (placed t p name after) name account after (one_after after) records.counts moved stands.counts follow
 
-          done_by : (told : Change) (done : Done) (number : ℕ) → change_of t asked account ≡ told → SizeFits asked → is_accepted (Ok done.reply) ≡ true → DoesTold whats told account records.counts written (Ok done)
+          done_by : (told : Change) (done : Done) (number : ℕ) → change_of t asked account ≡ told → SizeFits asked
+              → is_accepted (Ok done.reply) ≡ true → DoesTold whats told account records.counts written (Ok done)
               → Does (step t asked p) p (accepted_records t records accounts done.counts number) (Ok done.reply)
           done_by (Err refusal) done number is fits accepts h = absurd h
           done_by (Ok (after, reply)) done number is fits accepts h =
@@ -362,7 +372,8 @@ module _ (records : Records) (p : Office) (stands : StandsForOffice records p) w
 
       over : AreCountsOver held.bucket records.counts
       over =
-          subst (λ (bucket : BucketRecord). AreCountsOver bucket records.counts) (sym shown_stands.bucket) (counts_over p records.counts name shown_account stands.orderly.records stands.counts shown_there)
+          subst (λ (bucket : BucketRecord). AreCountsOver bucket records.counts) (sym shown_stands.bucket)
+          (counts_over p records.counts name shown_account stands.orderly.records stands.counts shown_there)
 
       pub few_versions : version_count held.bucket ≤ 400_000
       few_versions = let most = over Versions in omega (arith, most.0, most.1)
@@ -466,13 +477,15 @@ pub stands_on : (expected : Office × Answer) (before : Office) (after : Records
 stands_on expected before after result (inl done) = (expected.0, done.1)
 stands_on expected before after result (inr wanting) = (before, wanting.1)
 
-pub kept_on : (expected : Office × Answer) (before : Office) (after : Records) (result : Answer) → Does expected before after result → AllByRecursion (λ account. IsWithinBy after.accepted account.1) after.accounts → IsKept after
+pub kept_on : (expected : Office × Answer) (before : Office) (after : Records) (result : Answer)
+    → Does expected before after result → AllByRecursion (λ account. IsWithinBy after.accepted account.1) after.accounts
+    → IsOfAnOffice after
 kept_on expected before after result does_it room =
     let stands = stands_on expected before after result does_it in
     record { office = stands.0; stands = stands.1; room = room }
 
 pub empty_kept : (closed : List (ℕ × Prices)) (accounts : List (List ℕ × AccountRecord)) (counts : Counts) (number : ℕ) → closed ≡ [] → accounts ≡ [] → ((what : What) → amount what counts ≡ 0)
-    → IsKept (record { last = None; tariff = None; first_month = None; closed = closed; accounts = accounts; counts = counts; accepted = number })
+    → IsOfAnOffice (record { last = None; tariff = None; first_month = None; closed = closed; accounts = accounts; counts = counts; accepted = number })
 empty_kept closed accounts counts number no_month no_account none = record {
   office = empty_office;
   stands = empty_stands closed accounts counts number no_month no_account none;
@@ -491,7 +504,9 @@ one_more counts t Names = omega arith
 one_more counts t Rules = omega arith
 
 -- the first month that a call gives
-pub with_month : (t : ℕ) (records : Records) (accounts : List (List ℕ × AccountRecord)) (counts : Counts) (number month : ℕ) → month ≡ unwrap_or records.first_month (month_at t) → (P : Records → Type 0)
+pub with_month : (t : ℕ) (records : Records) (accounts : List (List ℕ × AccountRecord)) (counts : Counts)
+    (number month : ℕ)
+    → month ≡ unwrap_or records.first_month (month_at t) → (P : Records → Type 0)
     → P (accepted_records t records accounts counts number)
     → P (record { last = Some t; tariff = records.tariff; first_month = Some month; closed = records.closed; accounts = accounts; counts = counts; accepted = number })
 with_month t records accounts counts number month is P h =

@@ -18,7 +18,8 @@ Entry = List ℕ × AccountRecord
 abbrev pub IsRoomy : ℕ → Entry → Type 0
 IsRoomy accepted entry = IsWithinBy accepted entry.1
 
-pub room_at : (accepted : ℕ) (name : List ℕ) (account : AccountRecord) (accounts : List Entry) → AllByRecursion (IsRoomy accepted) accounts → at_name name accounts ≡ Some account → IsWithinBy accepted account
+pub room_at : (accepted : ℕ) (name : List ℕ) (account : AccountRecord) (accounts : List Entry)
+    → AllByRecursion (IsRoomy accepted) accounts → at_name name accounts ≡ Some account → IsWithinBy accepted account
 room_at accepted name account accounts h is = found_every by_name (IsRoomy accepted) name account accounts h is
 
 one_more : (accepted : ℕ) (account : AccountRecord) → IsWithinBy accepted account → IsWithinBy (accepted + 1) account

@@ -9,7 +9,7 @@ use Rattle.std.proofs.lemmas.Bool.Decides.{eqb_tells}
 use Rattle.std.proofs.lemmas.List.{at_drop_more, at_drop_all}
 use Rattle.class_rules.specs.Classes.{all_classes}
 use Rattle.accrual.specs.Books.{Book, IsBookedBy}
-use Rattle.accrual.specs.Totals.{StandsFor}
+use Rattle.accrual.specs.Totals.{AreTotalsOf}
 use Rattle.office_base.specs.Maps.{at_number}
 use Rattle.tariff.specs.Prices.{Prices}
 use Rattle.plain_office.specs.Office.{Account, book_of}
@@ -18,13 +18,14 @@ use Rattle.plain_office.specs.Answers.{class_meters}
 use Rattle.office_types.specs.declared.reply.ClassMeters.{ClassMeters}
 use Rattle.office_types.specs.declared.reply.ReportLine.{ReportLine}
 use Rattle.bucket_account.specs.Counting.{AccountRecord}
-use Rattle.office_machine.specs.Asking.{closed_at, metered_lines, entry_lines, IsBookedIn}
+use Rattle.office_machine.specs.AnswerParts.{closed_at, metered_lines, entry_lines, IsBookedIn}
 use Rattle.office_machine.specs.Standing.{StandForAccounts}
 
 -- ---- one turn of a loop over a slice
 
 module _ {X Y : Type 0} (f : X → List Y) where
-  pub turn : (old new base : List Y) (xs : List X) (i : ℕ) (x : X) → i < length xs → x ≡ get_or xs i x → old ++ flat_map f (drop i xs) ≡ base → new ≡ old ++ f x → new ++ flat_map f (drop (i + 1) xs) ≡ base
+  pub turn : (old new base : List Y) (xs : List X) (i : ℕ) (x : X) → i < length xs → x ≡ get_or xs i x
+      → old ++ flat_map f (drop i xs) ≡ base → new ≡ old ++ f x → new ++ flat_map f (drop (i + 1) xs) ≡ base
   turn old new base xs i x inside here so_far added =
       let rest = drop (i + 1) xs in
       ap (λ (l : List Y). l ++ flat_map f rest) added
@@ -76,26 +77,32 @@ module _ (tariff : Prices) (month t : ℕ) where
   used_lines name book = refl
 
   module _ (entry : List ℕ × AccountRecord) (left : List (List ℕ × AccountRecord)) (old new : List ReportLine) (used : List ClassMeters)
-      (added : new ≡ old ++ flat_map (metered_lines tariff month entry.0) used) (reads : (book : Book) → StandsFor entry.1.meters book → IsBookedBy t book → used ≡ map (class_meters month t book) all_classes) where
-    more : (plainly rest : List (List ℕ × Account)) → StandForAccounts (entry ∷ left) rest → AllByRecursion (IsBookedIn t) rest → old ++ flat_map (entry_lines tariff month t) rest ≡ flat_map (entry_lines tariff month t) plainly → Left left new plainly
-    more plainly [] stand booked is = absurd stand
-    more plainly (first ∷ rest) stand booked is =
-        let here : flat_map (metered_lines tariff month entry.0) used ≡ entry_lines tariff month t first =
-        ap (λ (l : List ClassMeters). flat_map (metered_lines tariff month entry.0) l) (reads (book_of first.1.books) stand.0.account.meters booked.0)
-        ∙ ap (λ (name : List ℕ). flat_map (class_lines tariff month t name (book_of first.1.books)) all_classes) stand.0.name in
-        record {
-          rest = rest;
-          stand = stand.1;
-          booked = booked.1;
-          lines_are =
-              ap (λ (l : List ReportLine). l ++ flat_map (entry_lines tariff month t) rest) (added ∙ ap (λ (l : List ReportLine). old ++ l) here)
-              ∙ append_assoc old (entry_lines tariff month t first) (flat_map (entry_lines tariff month t) rest) ∙ is;
-        }
+      (added : new ≡ old ++ flat_map (metered_lines tariff month entry.0) used) (reads : (book : Book)
+      → AreTotalsOf entry.1.meters book → IsBookedBy t book → used ≡ map (class_meters month t book) all_classes)
+    where
+      more : (plainly rest : List (List ℕ × Account)) → StandForAccounts (entry ∷ left) rest
+          → AllByRecursion (IsBookedIn t) rest
+          → old ++ flat_map (entry_lines tariff month t) rest ≡ flat_map (entry_lines tariff month t) plainly
+          → Left left new plainly
+      more plainly [] stand booked is = absurd stand
+      more plainly (first ∷ rest) stand booked is =
+          let here : flat_map (metered_lines tariff month entry.0) used ≡ entry_lines tariff month t first =
+          ap (λ (l : List ClassMeters). flat_map (metered_lines tariff month entry.0) l) (reads (book_of first.1.books) stand.0.account.meters booked.0)
+          ∙ ap (λ (name : List ℕ). flat_map (class_lines tariff month t name (book_of first.1.books)) all_classes) stand.0.name in
+          record {
+            rest = rest;
+            stand = stand.1;
+            booked = booked.1;
+            lines_are =
+                ap (λ (l : List ReportLine). l ++ flat_map (entry_lines tariff month t) rest) (added ∙ ap (λ (l : List ReportLine). old ++ l) here)
+                ∙ append_assoc old (entry_lines tariff month t first) (flat_map (entry_lines tariff month t) rest) ∙ is;
+          }
 
-    pub went_on : (all : List (List ℕ × AccountRecord)) → IsListing all (entry ∷ left) old → IsListing all left new
-    went_on all h plainly stand booked = let so_far = h plainly stand booked in more plainly so_far.rest so_far.stand so_far.booked so_far.lines_are
+      pub went_on : (all : List (List ℕ × AccountRecord)) → IsListing all (entry ∷ left) old → IsListing all left new
+      went_on all h plainly stand booked = let so_far = h plainly stand booked in more plainly so_far.rest so_far.stand so_far.booked so_far.lines_are
 
-  nothing_left : (lines : List ReportLine) (plainly rest : List (List ℕ × Account)) → StandForAccounts [] rest → lines ++ flat_map (entry_lines tariff month t) rest ≡ flat_map (entry_lines tariff month t) plainly
+  nothing_left : (lines : List ReportLine) (plainly rest : List (List ℕ × Account)) → StandForAccounts [] rest
+      → lines ++ flat_map (entry_lines tariff month t) rest ≡ flat_map (entry_lines tariff month t) plainly
       → lines ≡ flat_map (entry_lines tariff month t) plainly
   nothing_left lines plainly [] stand is = sym (append-nil lines) ∙ is
   nothing_left lines plainly (first ∷ rest) stand is = absurd stand

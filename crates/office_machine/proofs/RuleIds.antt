@@ -1,16 +1,12 @@
 -- The ids of a configuration's rules are short.
-use Rattle.std.proofs.Common.{◌≡◌, ℕ, zero, suc, ◌+◌, ◌≤◌, List, [], ◌∷◌, ◌++◌, length, subst, false, lit<}
-use Rattle.std.specs.Prelude.{Some, None, slice_get, nat_lt}
-use Rattle.std.proofs.lemmas.Bool.{ltb-false}
+use Rattle.std.proofs.Common.{◌≡◌, ℕ, zero, suc, ◌+◌, ◌≤◌, List, [], ◌∷◌, ◌++◌, length, subst}
+use Rattle.std.specs.Prelude.{Some, None, slice_get}
 use Rattle.office_base.specs.Tags.{char_count}
-use Rattle.rules_core.specs.Conditions.{breaks, flaw_of, first_flaw_after}
+use Rattle.rules_core.specs.Conditions.{flaw_of, first_flaw_after}
 use Rattle.rules_core.specs.Configurations.{Configuration, IsConfiguration}
 use Rattle.rules_core.specs.declared.rule.Rule.{Rule}
-use Rattle.rules_json.proofs.Writable.{unbroken, none_later, not_too_many}
-
-short_rule : (earlier : List Rule) (rule : Rule) → flaw_of earlier rule ≡ None → char_count rule.id ≤ 255
-unfolding breaks
-short_rule earlier rule none = let kept : nat_lt 255 (char_count rule.id) ≡ false = unbroken earlier rule 0 none (lit< tt) in ltb-false 255 (char_count rule.id) kept
+use Rattle.rules_json.proofs.Writable.{none_later, not_too_many}
+use Rattle.bucket_account.proofs.RuleIds.{short_rule}
 
 some_same : {a b : Rule} → Some a ≡ Some b → a ≡ b
 some_same h = cc

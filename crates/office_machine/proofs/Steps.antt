@@ -136,7 +136,8 @@ module _ (t : ℕ) (p : Office) where
           ap (settled t p) (outcome_told (Ok (after, told)) is ∙ ap (λ (o : Option What). unless_full o (placed name after, told)) free)
 
       -- done
-      pub step_done : (after : Account) (told : Reply) → change_of t asked account ≡ Ok (after, told) → first_full (limits_of asked account.bucket) (placed name after) ≡ None → is_accepted (Ok told) ≡ true
+      pub step_done : (after : Account) (told : Reply) → change_of t asked account ≡ Ok (after, told)
+          → first_full (limits_of asked account.bucket) (placed name after) ≡ None → is_accepted (Ok told) ≡ true
           → step t asked p ≡ (accepted t (placed name after), Ok told)
       step_done after told is free accepts = settled_free after told is free ∙ settled_ok (placed name after) told accepts
 

@@ -94,7 +94,9 @@ counts_small : (p : Office) → IsOrderlyRecords p → (what : What) → count_o
 unfolding count_of
 counts_small p h Buckets = twice _ _ h.counts.0
 counts_small p h Versions =
-    let most = sum_most (λ (entry : Entry). version_count entry.1.bucket) (λ (entry : Entry). version_count entry.1.bucket + current_objects entry.1.bucket) (λ entry. least (version_count entry.1.bucket) (current_objects entry.1.bucket)) p.accounts in
+    let most = sum_most (λ (entry : Entry). version_count entry.1.bucket)
+    (λ (entry : Entry). version_count entry.1.bucket + current_objects entry.1.bucket)
+    (λ entry. least (version_count entry.1.bucket) (current_objects entry.1.bucket)) p.accounts in
     let few = h.versions in
     omega (arith, most, few)
 counts_small p h Uploads = twice _ _ h.counts.1.0
@@ -102,7 +104,8 @@ counts_small p h Parts = twice _ _ h.counts.1.1.0
 counts_small p h Names = twice _ _ h.counts.1.1.1.0
 counts_small p h Rules = twice _ _ h.counts.1.1.1.1.0
 
-pub counts_over : (p : Office) (counts : Counts) (name : List ℕ) (account : Account) → IsOrderlyRecords p → AreCountsOf p counts → at_name name p.accounts ≡ Some account → AreCountsOver account.bucket counts
+pub counts_over : (p : Office) (counts : Counts) (name : List ℕ) (account : Account) → IsOrderlyRecords p
+    → AreCountsOf p counts → at_name name p.accounts ≡ Some account → AreCountsOver account.bucket counts
 counts_over p counts name account h same is what = (inside, small) where
   inside : in_bucket what account.bucket ≤ amount what counts
   inside =

@@ -1,4 +1,4 @@
-pub mod Asking
+pub mod AnswerParts
 pub mod Closing
 pub mod Lateness
 pub mod Lines

@@ -5,8 +5,8 @@ use Rattle.office_types.specs.declared.reply.ReportLine.{ReportLine}
 use Rattle.office_machine.specs.declared.reports.Line.{Line}
 
 -- the line of a bucket and a class with this kind, quantity, price and charge
-abbrev pub line_of : List ℕ → Class → Line → ReportLine
-line_of name class line = record {
+abbrev pub report_line : List ℕ → Class → Line → ReportLine
+report_line name class line = record {
   bucket = name;
   kind = line.kind;
   class = class;

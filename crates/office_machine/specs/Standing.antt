@@ -50,7 +50,7 @@ pub record StandsForOffice (records : Records) (office : Office) : Type 0 where
   pub counts : (what : What) → amount what records.counts ≡ count_of what office
 
 -- there is a plain office that it stands for, and each bucket has room for what later commands book and number
-pub record IsKept (records : Records) : Type 0 where
+pub record IsOfAnOffice (records : Records) : Type 0 where
   pub office : Office
   pub stands : StandsForOffice records office
   pub room : AllByRecursion (λ account. IsWithinBy records.accepted account.1) records.accounts

@@ -42,7 +42,7 @@ pub struct Office {
 }
 
 impl Model for Office {
-    ghost use Rattle.office_machine.specs.Standing.{Records, IsKept};
+    ghost use Rattle.office_machine.specs.Standing.{Records, IsOfAnOffice};
 
     ghost Value = { Records };
 
@@ -56,7 +56,7 @@ impl Model for Office {
       accepted = o.accepted;
     } };
 
-    ghost invariant = { λ o. IsKept (record {
+    ghost invariant = { λ o. IsOfAnOffice (record {
       last = o.last;
       tariff = o.tariff;
       first_month = o.first_month;

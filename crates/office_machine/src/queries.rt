@@ -1,7 +1,7 @@
 // The queries on one bucket, and the prices.
 ghost use Rattle.std.specs.Prelude.{◌≡◌, ◌≤◌, ℕ, map, IfOk, IfErr, IsTrue};
 ghost use Rattle.accrual.specs.Books.{Book, IsBookedBy};
-ghost use Rattle.accrual.specs.Totals.{StandsFor};
+ghost use Rattle.accrual.specs.Totals.{AreTotalsOf};
 ghost use Rattle.class_rules.specs.Classes.{all_classes};
 ghost use Rattle.office_base.specs.Tags.{char_count};
 ghost use Rattle.plain_office.specs.Office as plain;
@@ -10,7 +10,7 @@ ghost use Rattle.plain_office.specs.Run.{is_not_before};
 ghost use Rattle.plain_office.specs.Step.{rule_id};
 ghost use Rattle.office_types.specs.Fits.{AnswerFits};
 ghost use Rattle.office_types.specs.declared.command.Query.TheVariants as query;
-ghost use Rattle.office_machine.specs.Asking.{IsAnswer, rules_told, stack_told, upload_told, due_told};
+ghost use Rattle.office_machine.specs.AnswerParts.{IsAnswer, rules_told, stack_told, upload_told, due_told};
 ghost use Rattle.office_machine.specs.Standing.{StandsForOffice};
 
 use crate::closing::choice_of;
@@ -206,7 +206,7 @@ fn id_of(alloc: Global, rules: &Option<RuleSet>, place: u32) -> Result<Text, Ref
 
 /// Reads what a bucket used in a month, from the warmest class to the coldest.
 pub(crate) fn used_of(account: &Account, month: Month, t: Moment) -> [ClassMeters; 6]
-    ensures { (book : Book) → StandsFor account.now.meters book → IsBookedBy t book
+    ensures { (book : Book) → AreTotalsOf account.now.meters book → IsBookedBy t book
         → result ≡ map (class_meters month t book) all_classes }
 {
     [

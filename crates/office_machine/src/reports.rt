@@ -9,9 +9,10 @@ ghost use Rattle.std.specs.List.{AllByRecursion};
 ghost use Rattle.tariff.specs.Charges.{charge_of, move_charge_of};
 ghost use Rattle.office_types.specs.Fits.{AnswerFits};
 ghost use Rattle.office_types.specs.declared.command.Query.TheVariants as query;
-ghost use Rattle.office_machine.specs.Asking.{IsAnswer, IsBookedIn, closed_at, charges};
-ghost use Rattle.office_machine.specs.Asking.{entry_lines, metered_lines, has_quantity};
-ghost use Rattle.office_machine.specs.Lines.{line_of};
+ghost use Rattle.office_types.specs.Reports.{charges};
+ghost use Rattle.office_machine.specs.AnswerParts.{IsAnswer, IsBookedIn, closed_at};
+ghost use Rattle.office_machine.specs.AnswerParts.{entry_lines, metered_lines, has_quantity};
+ghost use Rattle.office_machine.specs.Lines.{report_line};
 ghost use Rattle.office_machine.specs.Standing.{StandsForOffice, StandForAccounts};
 
 use crate::commands::copy_of;
@@ -187,7 +188,7 @@ fn push_line(
     line: Line,
 ) -> Result<(), Refusal>
     ensures lines { OnOk result (lines.new.items
-        ≡ lines.old.items ++ filter has_quantity (line_of name.now class line ∷ [])) }
+        ≡ lines.old.items ++ filter has_quantity (report_line name.now class line ∷ [])) }
     ensures small { OnOk result (charges lines.new.items ≤ charges lines.old.items + line.charge) }
     ensures refusal { IfErr result (λ refusal. refusal ≡ Refusal.NoMemory) }
 {

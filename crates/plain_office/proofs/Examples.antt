@@ -1,11 +1,10 @@
 -- Worked examples of commands and queries, computed.
 use Rattle.std.specs.Prelude.{⊤, ◌≡◌, ℕ, ◌+◌, ◌*◌, List, [], ◌∷◌, refl, true, false, codes, length, map, replicate, sum_by, unwrap_or, option_map, Option, Some, None, Result, Ok, Err}
 use Rattle.std.specs.Fmt.{digits}
-use Rattle.jiff_core.specs.Calendar.{days_of_months}
 use Rattle.serde_json.proofs.OnLiterals.{serde_json_on_literals}
 use Rattle.moments.specs.Texts.{moment_text}
 use Rattle.moments.specs.Time.{day}
-use Rattle.moments.specs.Months.{first_day, months_over}
+use Rattle.moments.specs.Months.{days_of_months, first_day, months_over}
 use Rattle.class_rules.specs.declared.class.Class.{Class}
 use Rattle.class_rules.specs.declared.class.Class.TheVariants as class
 use Rattle.office_base.specs.Maps.{at_name}

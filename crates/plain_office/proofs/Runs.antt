@@ -1,5 +1,6 @@
 -- What one command does, what its answer tells, and one entry more.
-use Rattle.std.proofs.Common.{◌≡◌, ℕ, List, [], ◌∷◌, ◌++◌, refl, Option, Some, None, Bool, true, false, ◌&&◌, Result, Ok, Err, ap, sym, ◌∙◌, inl, inr}
+use Rattle.std.proofs.Common.{◌≡◌, ℕ, List, [], ◌∷◌, ◌++◌, refl, Option, Some, None, true, false, Result, Ok, Err, ap, sym, ◌∙◌, inl, inr}
+use Rattle.std.proofs.Math.Bool.{and-false}
 use Rattle.std.specs.Prelude.{◌⊎◌, option_and_then}
 use Rattle.plain_office.specs.Office.{Office, empty_office}
 use Rattle.plain_office.specs.Step.{Outcome, outcome, settled, step, is_accepted}
@@ -88,22 +89,18 @@ pub accepted_by : (p q : Office) (e : Entry) (reply : Reply) → is_accepted (Ok
 unfolding accept
 accepted_by p q e reply made later is = rw (later, step_of (step e.moment e.command p) p q reply is, made) refl
 
-and_false : (b : Bool) → b && false ≡ false
-and_false true = refl
-and_false false = refl
-
 -- a command that was refused, and not for want of memory, is not accepted
 pub refused_by : (p q : Office) (e : Entry) (refusal : Refusal) → (refusal ≡ NoMemory → ⊥) → IsStep (step e.moment e.command p) p q (Err refusal) → (accept p e ≡ None) × (q ≡ p)
 unfolding accept
 refused_by p q e refusal other is =
-    (rw (refusal_of (step e.moment e.command p) p q refusal other is, and_false (is_not_before p.last e.moment)) refl, kept_by e.moment e.command p q refusal is)
+    (rw (refusal_of (step e.moment e.command p) p q refusal other is, and-false (is_not_before p.last e.moment)) refl, kept_by e.moment e.command p q refusal is)
 
 -- an act that found nothing due is not accepted
 pub nothing_by : (p q : Office) (e : Entry) → IsStep (step e.moment e.command p) p q (Ok NothingDue) → (accept p e ≡ None) × (q ≡ p)
 unfolding accept
 nothing_by p q e is =
     let told = step_of (step e.moment e.command p) p q NothingDue is in (
-      rw (told, and_false (is_not_before p.last e.moment)) refl,
+      rw (told, and-false (is_not_before p.last e.moment)) refl,
       sym (ap (λ (x : Office × Answer). x.0) told) ∙ step_nothing e.moment e.command p (ap (λ (x : Office × Answer). x.1) told),
     )
 

@@ -1,13 +1,8 @@
 -- The office after a list of entries.
 use Rattle.std.specs.Prelude.{ℕ, Bool, true, ◌&&◌, List, [], ◌∷◌, nat_le, Option, Some, None, option_and_then, if◌then◌else◌}
-use Rattle.office_types.specs.declared.command.Command.{Command}
 use Rattle.office_types.specs.declared.command.Entry.{Entry}
 use Rattle.plain_office.specs.Office.{Office, empty_office}
 use Rattle.plain_office.specs.Step.{step, is_accepted}
-
--- the entry of a command at a moment
-abbrev pub entry_at : ℕ → Command → Entry
-entry_at t command = record { moment = t; command = command }
 
 -- time does not go back
 abbrev pub is_not_before : Option ℕ → ℕ → Bool

@@ -68,7 +68,8 @@ pub returns-in-Transition-clause-done : goal.returns-in-Transition-clause-done
 returns-in-Transition-clause-done c = λ account stands orderly.
     let chosen = c.args.action.now in
     let is = ap (λ (b : BucketRecord). choice b c.args.t) (sym stands.bucket) ∙ c.requires.chosen in
-    same_effect [] (move_version chosen.key c.args.id c.in-Transition.to chosen.since) (effect chosen) account c.args.counts (account_of c.move_version.new.bucket c.move_version.new.meters) c.move_version.result
+    same_effect [] (move_version chosen.key c.args.id c.in-Transition.to chosen.since) (effect chosen) account
+    c.args.counts (account_of c.move_version.new.bucket c.move_version.new.meters) c.move_version.result
     (is_move chosen account c.args.id c.in-Transition.to c.in-Transition.is c.requires.aims)
     (c.move_version.ensures.done account stands (ready_version c.args.t account orderly chosen is c.args.id c.requires.aims))
 

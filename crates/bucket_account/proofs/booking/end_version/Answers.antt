@@ -12,7 +12,9 @@ pub end-requires-clause-opened : goal.end-requires-clause-opened
 end-requires-clause-opened c = (
   book_of c.requires.open.0,
   c.requires.open.1,
-  opened c.args.key.now c.args.version.now c.args.at c.requires.open.0 c.requires.open.2 (Object c.in-Object.size c.in-Object.class c.in-Object.tags c.in-Object.entered) c.in-Object.is (lines_of c.object_billed-lines.result) c.object_billed-lines.ensures.lines,
+  opened c.args.key.now c.args.version.now c.args.at c.requires.open.0 c.requires.open.2
+      (Object c.in-Object.size c.in-Object.class c.in-Object.tags c.in-Object.entered) c.in-Object.is
+      (lines_of c.object_billed-lines.result) c.object_billed-lines.ensures.lines,
 )
 
 pub early-requires-clause-row : goal.early-requires-clause-row

@@ -1,5 +1,5 @@
 use Rattle.std.proofs.Common.{ℕ, List, subst}
-use Rattle.accrual.specs.Totals.{StandsFor}
+use Rattle.accrual.specs.Totals.{AreTotalsOf}
 use Rattle.plain_office.specs.Office.{Books, book_of}
 use Rattle.bucket_account.specs.Booking.{books_put, gone_of, MayHaveStay}
 use Rattle.bucket_account.proofs.Gone.{are_endable}
@@ -16,8 +16,8 @@ pub end_parts-requires-clause-open : goal.end_parts-requires-clause-open
 end_parts-requires-clause-open c =
     let o = c.requires.open in
     let put =
-    subst (λ (key : List ℕ). (books : Books) → StandsFor c.reserve.new.meters (book_of books) → MayHaveStay key (gone_of key c.args.incoming c.args.stacks.now.entries) books
-    → StandsFor c.put_version.new.meters (book_of (books_put key c.args.incoming (gone_of key c.args.incoming c.args.stacks.now.entries) books))) c.key.ensures c.in_ok-counts.ensures.meters in (
+    subst (λ (key : List ℕ). (books : Books) → AreTotalsOf c.reserve.new.meters (book_of books) → MayHaveStay key (gone_of key c.args.incoming c.args.stacks.now.entries) books
+    → AreTotalsOf c.put_version.new.meters (book_of (books_put key c.args.incoming (gone_of key c.args.incoming c.args.stacks.now.entries) books))) c.key.ensures c.in_ok-counts.ensures.meters in (
       o.0,
       books_put c.args.upload.now.key c.args.incoming (gone_of c.args.upload.now.key c.args.incoming c.args.stacks.now.entries) o.1,
       put o.1 (c.in_ok-reserve.ensures.stands _ o.2) o.3,
@@ -27,8 +27,8 @@ end_parts-requires-clause-open c =
 pub returns-clause-meters : goal.returns-clause-meters
 returns-clause-meters c = λ number books stands stay stays.
     let put =
-    subst (λ (key : List ℕ). (books : Books) → StandsFor c.reserve.new.meters (book_of books) → MayHaveStay key (gone_of key c.args.incoming c.args.stacks.now.entries) books
-    → StandsFor c.put_version.new.meters (book_of (books_put key c.args.incoming (gone_of key c.args.incoming c.args.stacks.now.entries) books))) c.key.ensures c.in_ok-counts.ensures.meters in
+    subst (λ (key : List ℕ). (books : Books) → AreTotalsOf c.reserve.new.meters (book_of books) → MayHaveStay key (gone_of key c.args.incoming c.args.stacks.now.entries) books
+    → AreTotalsOf c.put_version.new.meters (book_of (books_put key c.args.incoming (gone_of key c.args.incoming c.args.stacks.now.entries) books))) c.key.ensures c.in_ok-counts.ensures.meters in
     c.end_parts.ensures.stands number (books_put c.args.upload.now.key c.args.incoming (gone_of c.args.upload.now.key c.args.incoming c.args.stacks.now.entries) books)
     (put books (c.in_ok-reserve.ensures.stands _ stands) stay)
     (stays_kept c.args.upload.now number c.args.incoming (gone_of c.args.upload.now.key c.args.incoming c.args.stacks.now.entries) books c.args.upload.now.parts stays)

@@ -2,8 +2,8 @@ use Rattle.std.proofs.Common.{◌≡◌, List, length, ap, arith}
 use Rattle.office_types.specs.declared.refusal.What.TheVariants.{Rules}
 use Rattle.rules_core.specs.declared.rule.Rule.{Rule}
 use Rattle.rules_json.proofs.ShortTexts.{printed_small}
-use Rattle.bucket_account.proofs.Rules.{few_rules}
 use Rattle.bucket_account.proofs.lifecycle.set_rules.Goals as goal
+use Rattle.due_core.proofs.RuleCount.{few_rules}
 
 pub overflow_cast-count : goal.overflow_cast-count
 overflow_cast-count c =

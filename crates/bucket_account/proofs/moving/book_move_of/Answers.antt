@@ -1,7 +1,7 @@
 use Rattle.std.proofs.Common.{sym, subst}
 use Rattle.std.specs.Prelude.{Option, OnOk}
 use Rattle.stacks.specs.declared.version.Version.{Version}
-use Rattle.accrual.specs.Totals.{StandsFor}
+use Rattle.accrual.specs.Totals.{AreTotalsOf}
 use Rattle.plain_office.specs.Office.{Books, book_of}
 use Rattle.plain_office.specs.Changes.{books_moved}
 use Rattle.bucket_account.specs.Booking.{MayHaveStay, IsSinceBy}
@@ -25,5 +25,5 @@ unreachable-requires c = subst IsAnObject (sym c.in-None.ensures) c.requires.the
 pub returns-clause-stands : goal.returns-clause-stands
 returns-clause-stands c =
     let key = c.args.key.now in
-    subst (λ (o : Option Version). OnOk c.book_move.result ((books : Books) → StandsFor c.args.meters.now (book_of books) → MayHaveStay key o books
-    → StandsFor c.book_move.new.meters (book_of (books_moved key o c.args.to c.args.at books)))) c.in-Some.ensures c.book_move.ensures.stands
+    subst (λ (o : Option Version). OnOk c.book_move.result ((books : Books) → AreTotalsOf c.args.meters.now (book_of books) → MayHaveStay key o books
+    → AreTotalsOf c.book_move.new.meters (book_of (books_moved key o c.args.to c.args.at books)))) c.in-Some.ensures c.book_move.ensures.stands

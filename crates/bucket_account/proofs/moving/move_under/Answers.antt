@@ -6,8 +6,8 @@ use Rattle.std.proofs.lemmas.Map.Steps.{set_value_same}
 use Rattle.office_base.specs.Maps.{bytes_cmp, with_name}
 use Rattle.stacks.specs.Stacks.{StackRecord, new_stack, after_move}
 use Rattle.bucket_account.proofs.SetAt.{set_is_with}
-use Rattle.bucket_account.proofs.Moves.{ok_then, err_then}
 use Rattle.bucket_account.proofs.moving.move_under.Goals as goal
+use Rattle.bucket_account.proofs.Handed.{ok_then, err_then}
 
 pub returns-clause-stacks : goal.returns-clause-stacks
 returns-clause-stacks c =

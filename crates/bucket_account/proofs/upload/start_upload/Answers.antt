@@ -20,7 +20,9 @@ counted-requires-clause-names c = let over = c.requires.counts Names in omega (a
 
 pub returns-in_err-counts-clause-done : goal.returns-in_err-counts-clause-done
 returns-in_err-counts-clause-done c = λ account stands orderly.
-    subst (λ (r : Result Done Refusal). DoesTold (Uploads ∷ Names ∷ []) (start_upload c.args.t c.args.key.now c.args.class c.args.tags.now account) account c.args.counts (account_of c.args.bucket.now c.args.meters.now) r)
+    subst (λ (r : Result Done Refusal). DoesTold (Uploads ∷ Names ∷ [])
+    (start_upload c.args.t c.args.key.now c.args.class c.args.tags.now account) account c.args.counts
+    (account_of c.args.bucket.now c.args.meters.now) r)
     (err_of c.from_residual.result c.in_err-counts.field-0.0 c.from_residual.ensures.1)
     (start_refused_for c.args.bucket.now account stands.bucket c.args.t c.args.key.now c.args.class c.args.tags.now orderly c.args.counts c.requires.counts
     c.args.meters.now stands.meters c.in_err-counts.field-0.0 c.in_err-counts.ensures.full)
@@ -30,5 +32,7 @@ returns-clause-done c = λ account stands orderly.
     start_done_for _ account (c.bucket.view_is ∙ stands.bucket) c.args.t c.args.key.now c.args.class c.args.tags.now orderly
     c.args.counts (subst (λ (b : BucketRecord). AreCountsOver b c.args.counts) (sym c.bucket.view_is) c.requires.counts)
     c.insert.new.self.entries c.in_ok-upload.upload
-    (ok_of c.insert.result (c.insert.new.self.entries ≡ with_number c.bucket.inside.next_upload c.in_ok-upload.upload c.bucket.inside.uploads.entries) (sym c.is_err.ensures.value ∙ c.if-is_err.false) c.insert.ensures.entries)
+    (ok_of c.insert.result (c.insert.new.self.entries
+    ≡ with_number c.bucket.inside.next_upload c.in_ok-upload.upload c.bucket.inside.uploads.entries)
+    (sym c.is_err.ensures.value ∙ c.if-is_err.false) c.insert.ensures.entries)
     c.in_ok-upload.ensures.ok c.args.meters.now stands.meters c.in_ok-counts.counts c.in_ok-counts.ensures.ok.0 c.in_ok-counts.ensures.ok.1

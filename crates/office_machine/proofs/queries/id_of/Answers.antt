@@ -12,7 +12,8 @@ use Rattle.office_machine.proofs.queries.id_of.Goals as goal
 empty_short : (id : List ℕ) → id ≡ [] → char_count id ≤ 255
 empty_short id is = let none : char_count [] ≡ 0 = ap (λ (l : List ℕ). length l) chars-nil in subst (λ (l : List ℕ). char_count l ≤ 255) (sym is) (omega (arith, none))
 
-id_there : (rules : Option Configuration) (place : ℕ) (configuration : Configuration) (rule : Rule) → rules ≡ Some configuration → slice_get configuration.rules (place - 1) ≡ Some rule → rule_id rules place ≡ rule.id
+id_there : (rules : Option Configuration) (place : ℕ) (configuration : Configuration) (rule : Rule)
+    → rules ≡ Some configuration → slice_get configuration.rules (place - 1) ≡ Some rule → rule_id rules place ≡ rule.id
 id_there rules place configuration rule is there = rw (is, there) refl
 
 id_absent : (rules : Option Configuration) (place : ℕ) (configuration : Configuration) → rules ≡ Some configuration → slice_get configuration.rules (place - 1) ≡ None → rule_id rules place ≡ []

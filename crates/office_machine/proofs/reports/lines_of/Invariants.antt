@@ -1,5 +1,5 @@
 use Rattle.std.proofs.Common.{◌+◌, ◌*◌, ◌^◌, ◌≤◌, length}
-use Rattle.office_machine.specs.Asking.{charges}
+use Rattle.office_types.specs.Reports.{charges}
 use Rattle.office_machine.proofs.Rows.{IsListing}
 use Rattle.office_machine.proofs.reports.lines_of.Given as goal
 

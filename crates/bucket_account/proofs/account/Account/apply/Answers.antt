@@ -13,7 +13,9 @@ moved-self-inside-requires-clause-some c =
     let account = c.requires.account in
     let stands = subst (λ (r : AccountRecord). StandsForAccount r account.0) (sym c.self.view_is) account.1 in
     let moved =
-    moved_told (limits_of c.args.command.now c.self.inside.bucket) account.0 c.args.counts _ c.in_ok-done.done (change_of c.args.t c.args.command.now account.0) (c.in_ok-done.ensures.done account.0 stands account.2) Versions in
+    moved_told (limits_of c.args.command.now c.self.inside.bucket) account.0 c.args.counts _ c.in_ok-done.done
+    (change_of c.args.t c.args.command.now account.0) (c.in_ok-done.ensures.done account.0 stands account.2)
+    Versions in
     let same = ap (λ (b : BucketRecord). version_count b) stands.bucket in
     omega (arith, moved, same, c.self.invariant.0)
 
@@ -27,7 +29,9 @@ moved-self-inside-requires-2-clause-some c =
     let account = c.requires.account in
     let stands = subst (λ (r : AccountRecord). StandsForAccount r account.0) (sym c.self.view_is) account.1 in
     let moved =
-    moved_told (limits_of c.args.command.now c.self.inside.bucket) account.0 c.args.counts _ c.in_ok-done.done (change_of c.args.t c.args.command.now account.0) (c.in_ok-done.ensures.done account.0 stands account.2) Rules in
+    moved_told (limits_of c.args.command.now c.self.inside.bucket) account.0 c.args.counts _ c.in_ok-done.done
+    (change_of c.args.t c.args.command.now account.0) (c.in_ok-done.ensures.done account.0 stands account.2) Rules
+    in
     let same = ap (λ (b : BucketRecord). rules_bytes b.rules) stands.bucket in
     omega (arith, moved, same, c.self.invariant.1)
 
@@ -41,7 +45,8 @@ invariant_of-self-2 c =
     let account = c.requires.account in
     let stands = subst (λ (r : AccountRecord). StandsForAccount r account.0) (sym c.self.view_is) account.1 in
     let moved =
-    moved_told (limits_of c.args.command.now c.self.inside.bucket) account.0 c.args.counts _ c.in_ok-done.done (change_of c.args.t c.args.command.now account.0) (c.in_ok-done.ensures.done account.0 stands account.2) in
+    moved_told (limits_of c.args.command.now c.self.inside.bucket) account.0 c.args.counts _ c.in_ok-done.done
+    (change_of c.args.t c.args.command.now account.0) (c.in_ok-done.ensures.done account.0 stands account.2) in
     let versions = moved Versions in
     let rules = moved Rules in
     let same = ap (λ (b : BucketRecord). version_count b) stands.bucket in

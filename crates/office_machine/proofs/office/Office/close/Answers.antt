@@ -10,7 +10,7 @@ use Rattle.office_types.specs.declared.reply.Reply.TheVariants.{Closed}
 use Rattle.office_types.specs.declared.refusal.Refusal.{Refusal}
 use Rattle.bucket_account.proofs.Handed.{err_of}
 use Rattle.office_machine.specs.Closing.{first_due, due_refusal}
-use Rattle.office_machine.specs.Standing.{Records, StandsForOffice, IsKept, Does}
+use Rattle.office_machine.specs.Standing.{Records, StandsForOffice, IsOfAnOffice, Does}
 use Rattle.office_machine.proofs.Offices.{does_stay_open, does_wait, does_close, accepted_records, with_month, kept_on}
 use Rattle.office_machine.proofs.Room.{room_more}
 use Rattle.office_machine.proofs.office.Office.close.Goals as goal
@@ -18,7 +18,15 @@ use Rattle.office_machine.proofs.office.Office.close.Goals as goal
 pub returns-in_err-tariff-clause-step : goal.returns-in_err-tariff-clause-step
 returns-in_err-tariff-clause-step c = λ p stands.
     let inside : Records =
-    record { last = c.self.inside.last; tariff = c.self.inside.tariff; first_month = c.self.inside.first_month; closed = c.self.inside.closed.items; accounts = c.self.inside.accounts.entries; counts = c.self.inside.counts; accepted = c.self.inside.accepted } in
+    record {
+      last = c.self.inside.last;
+      tariff = c.self.inside.tariff;
+      first_month = c.self.inside.first_month;
+      closed = c.self.inside.closed.items;
+      accounts = c.self.inside.accounts.entries;
+      counts = c.self.inside.counts;
+      accepted = c.self.inside.accepted;
+    } in
     let later : is_not_before inside.last c.args.t ≡ true = subst (λ (r : Records). is_not_before r.last c.args.t ≡ true) (sym c.self.view_is) c.requires.later in
     let stood : StandsForOffice inside p = subst (λ (r : Records). StandsForOffice r p) (sym c.self.view_is) stands in
     subst (λ (r : Result Reply Refusal). Does (step c.args.t (command.Close c.args.month) p) p c.args.self.now r) (err_of c.from_residual.result c.in_err-tariff.field-0.0 c.from_residual.ensures.1)
@@ -28,7 +36,15 @@ returns-in_err-tariff-clause-step c = λ p stands.
 pub returns-in-Some-clause-step : goal.returns-in-Some-clause-step
 returns-in-Some-clause-step c = λ p stands.
     let inside : Records =
-    record { last = c.self.inside.last; tariff = c.self.inside.tariff; first_month = c.self.inside.first_month; closed = c.self.inside.closed.items; accounts = c.self.inside.accounts.entries; counts = c.self.inside.counts; accepted = c.self.inside.accepted } in
+    record {
+      last = c.self.inside.last;
+      tariff = c.self.inside.tariff;
+      first_month = c.self.inside.first_month;
+      closed = c.self.inside.closed.items;
+      accounts = c.self.inside.accounts.entries;
+      counts = c.self.inside.counts;
+      accepted = c.self.inside.accepted;
+    } in
     let later : is_not_before inside.last c.args.t ≡ true = subst (λ (r : Records). is_not_before r.last c.args.t ≡ true) (sym c.self.view_is) c.requires.later in
     let stood : StandsForOffice inside p = subst (λ (r : Records). StandsForOffice r p) (sym c.self.view_is) stands in
     subst (λ (r : Records). Does (step c.args.t (command.Close c.args.month) p) p r (Err c.in-Some.refusal)) c.self.view_is
@@ -50,19 +66,38 @@ pushed_of c = items_of c.push.result _ _ _ (sym c.is_err.ensures.value ∙ c.if-
 pub invariant_of-self-2 : goal.invariant_of-self-2
 invariant_of-self-2 c =
     let inside : Records =
-    record { last = c.self.inside.last; tariff = c.self.inside.tariff; first_month = c.self.inside.first_month; closed = c.self.inside.closed.items; accounts = c.self.inside.accounts.entries; counts = c.self.inside.counts; accepted = c.self.inside.accepted } in
+    record {
+      last = c.self.inside.last;
+      tariff = c.self.inside.tariff;
+      first_month = c.self.inside.first_month;
+      closed = c.self.inside.closed.items;
+      accounts = c.self.inside.accounts.entries;
+      counts = c.self.inside.counts;
+      accepted = c.self.inside.accepted;
+    } in
     let later : is_not_before inside.last c.args.t ≡ true = subst (λ (r : Records). is_not_before r.last c.args.t ≡ true) (sym c.self.view_is) c.requires.later in
     let p : Office = c.self.invariant.office in
     let shut : Records = record inside { closed = c.push.new.self.items } in
-    with_month c.args.t shut inside.accounts inside.counts (inside.accepted + 1) c.first_of.result c.first_of.ensures IsKept
+    with_month c.args.t shut inside.accounts inside.counts (inside.accepted + 1) c.first_of.result c.first_of.ensures IsOfAnOffice
     (kept_on (step c.args.t (command.Close c.args.month) p) p (accepted_records c.args.t shut inside.accounts inside.counts (inside.accepted + 1)) (Ok (Closed c.args.month))
-    (does_close inside p c.self.invariant.stands c.args.t later c.args.month c.in_ok-tariff.tariff (c.in_ok-tariff.ensures.tests p (subst (λ (r : Records). StandsForOffice r p) c.self.view_is c.self.invariant.stands)) (none_of c) c.push.new.self.items (pushed_of c) (inside.accepted + 1))
+    (does_close inside p c.self.invariant.stands c.args.t later c.args.month c.in_ok-tariff.tariff
+    (c.in_ok-tariff.ensures.tests p
+    (subst (λ (r : Records). StandsForOffice r p) c.self.view_is c.self.invariant.stands)) (none_of c)
+    c.push.new.self.items (pushed_of c) (inside.accepted + 1))
     (room_more inside.accepted inside.accounts c.self.invariant.room))
 
 pub returns-clause-step : goal.returns-clause-step
 returns-clause-step c = λ p stands.
     let inside : Records =
-    record { last = c.self.inside.last; tariff = c.self.inside.tariff; first_month = c.self.inside.first_month; closed = c.self.inside.closed.items; accounts = c.self.inside.accounts.entries; counts = c.self.inside.counts; accepted = c.self.inside.accepted } in
+    record {
+      last = c.self.inside.last;
+      tariff = c.self.inside.tariff;
+      first_month = c.self.inside.first_month;
+      closed = c.self.inside.closed.items;
+      accounts = c.self.inside.accounts.entries;
+      counts = c.self.inside.counts;
+      accepted = c.self.inside.accepted;
+    } in
     let later : is_not_before inside.last c.args.t ≡ true = subst (λ (r : Records). is_not_before r.last c.args.t ≡ true) (sym c.self.view_is) c.requires.later in
     let stood : StandsForOffice inside p = subst (λ (r : Records). StandsForOffice r p) (sym c.self.view_is) stands in
     let shut : Records = record inside { closed = c.push.new.self.items } in

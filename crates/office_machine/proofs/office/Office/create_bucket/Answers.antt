@@ -14,7 +14,7 @@ use Rattle.office_types.specs.declared.refusal.What.{What}
 use Rattle.office_types.specs.declared.refusal.What.TheVariants.{Buckets}
 use Rattle.bucket_account.specs.declared.counts.Counts.{Counts}
 use Rattle.bucket_account.specs.Counting.{amount, in_bucket, first_over}
-use Rattle.office_machine.specs.Standing.{Records, StandsForOffice, IsKept, Does}
+use Rattle.office_machine.specs.Standing.{Records, StandsForOffice, IsOfAnOffice, Does}
 use Rattle.bucket_account.proofs.Handed.{err_of}
 use Rattle.office_machine.proofs.Offices.{does_exist, does_fill, does_make, one_more, accepted_records, with_month, kept_on}
 use Rattle.office_machine.proofs.Room.{IsRoomy, room_more, room_with}
@@ -33,7 +33,15 @@ returns-then-contains_key-clause-step c = λ p stands.
 pub returns-in_err-counts-clause-step : goal.returns-in_err-counts-clause-step
 returns-in_err-counts-clause-step c = λ p stands.
     let inside : Records =
-    record { last = c.self.inside.last; tariff = c.self.inside.tariff; first_month = c.self.inside.first_month; closed = c.self.inside.closed.items; accounts = c.self.inside.accounts.entries; counts = c.self.inside.counts; accepted = c.self.inside.accepted } in
+    record {
+      last = c.self.inside.last;
+      tariff = c.self.inside.tariff;
+      first_month = c.self.inside.first_month;
+      closed = c.self.inside.closed.items;
+      accounts = c.self.inside.accounts.entries;
+      counts = c.self.inside.counts;
+      accepted = c.self.inside.accepted;
+    } in
     let full = c.in_err-counts.ensures.full in
     let none = sym c.contains_key.ensures ∙ c.if-contains_key.false in
     let done =
@@ -47,7 +55,15 @@ returns-in_err-counts-clause-step c = λ p stands.
 pub invariant_of-self-2 : goal.invariant_of-self-2
 invariant_of-self-2 c =
     let inside : Records =
-    record { last = c.self.inside.last; tariff = c.self.inside.tariff; first_month = c.self.inside.first_month; closed = c.self.inside.closed.items; accounts = c.self.inside.accounts.entries; counts = c.self.inside.counts; accepted = c.self.inside.accepted } in
+    record {
+      last = c.self.inside.last;
+      tariff = c.self.inside.tariff;
+      first_month = c.self.inside.first_month;
+      closed = c.self.inside.closed.items;
+      accounts = c.self.inside.accounts.entries;
+      counts = c.self.inside.counts;
+      accepted = c.self.inside.accepted;
+    } in
     let later : is_not_before inside.last c.args.t ≡ true = subst (λ (r : Records). is_not_before r.last c.args.t ≡ true) (sym c.self.view_is) c.requires.later in
     let none = sym c.contains_key.ensures ∙ c.if-contains_key.false in
     let ok : is_err c.insert.result ≡ false = sym c.is_err.ensures.value ∙ c.if-is_err.false in
@@ -61,7 +77,7 @@ invariant_of-self-2 c =
     let p : Office = c.self.invariant.office in
     let made =
     does_make inside p c.self.invariant.stands c.args.name.now c.args.t later none counts more free c.new.result c.new.ensures.stands c.insert.new.self.entries named (inside.accepted + 1) in
-    with_month c.args.t inside c.insert.new.self.entries counts (inside.accepted + 1) c.first_of.result c.first_of.ensures IsKept
+    with_month c.args.t inside c.insert.new.self.entries counts (inside.accepted + 1) c.first_of.result c.first_of.ensures IsOfAnOffice
     (kept_on (step c.args.t (command.CreateBucket c.args.name.now) p) p (accepted_records c.args.t inside c.insert.new.self.entries counts (inside.accepted + 1)) (Ok (BucketMade c.args.name.now)) made
     (subst (AllByRecursion (IsRoomy (inside.accepted + 1))) (sym named)
     (room_with (inside.accepted + 1) c.args.name.now c.new.result (c.new.ensures.room (inside.accepted + 1)) inside.accounts (room_more inside.accepted inside.accounts c.self.invariant.room))))
@@ -69,7 +85,15 @@ invariant_of-self-2 c =
 pub returns-clause-step : goal.returns-clause-step
 returns-clause-step c = λ p stands.
     let inside : Records =
-    record { last = c.self.inside.last; tariff = c.self.inside.tariff; first_month = c.self.inside.first_month; closed = c.self.inside.closed.items; accounts = c.self.inside.accounts.entries; counts = c.self.inside.counts; accepted = c.self.inside.accepted } in
+    record {
+      last = c.self.inside.last;
+      tariff = c.self.inside.tariff;
+      first_month = c.self.inside.first_month;
+      closed = c.self.inside.closed.items;
+      accounts = c.self.inside.accounts.entries;
+      counts = c.self.inside.counts;
+      accepted = c.self.inside.accepted;
+    } in
     let later : is_not_before inside.last c.args.t ≡ true = subst (λ (r : Records). is_not_before r.last c.args.t ≡ true) (sym c.self.view_is) c.requires.later in
     let none = sym c.contains_key.ensures ∙ c.if-contains_key.false in
     let ok : is_err c.insert.result ≡ false = sym c.is_err.ensures.value ∙ c.if-is_err.false in
@@ -81,7 +105,15 @@ returns-clause-step c = λ p stands.
     let more = subst (λ (k : Counts). (what : What) → amount what k ≡ amount what inside.counts + in_bucket what (new_account c.args.t).bucket) (sym counted.0) (one_more inside.counts c.args.t) in
     let free : first_over (Buckets ∷ []) counts ≡ None = subst (λ (k : Counts). first_over (Buckets ∷ []) k ≡ None) (sym counted.0) counted.1 in
     let after : Records =
-    record { last = Some c.args.t; tariff = inside.tariff; first_month = Some c.first_of.result; closed = inside.closed; accounts = c.insert.new.self.entries; counts = counts; accepted = inside.accepted + 1 } in
+    record {
+      last = Some c.args.t;
+      tariff = inside.tariff;
+      first_month = Some c.first_of.result;
+      closed = inside.closed;
+      accounts = c.insert.new.self.entries;
+      counts = counts;
+      accepted = inside.accepted + 1;
+    } in
     let stood : StandsForOffice inside p = subst (λ (r : Records). StandsForOffice r p) (sym c.self.view_is) stands in
     subst (λ (shown : List ℕ). Does (step c.args.t (command.CreateBucket c.args.name.now) p) p after (Ok (BucketMade shown))) (sym c.in_ok-shown.ensures.ok)
     (with_month c.args.t inside c.insert.new.self.entries counts (inside.accepted + 1) c.first_of.result c.first_of.ensures

@@ -10,7 +10,7 @@ use Rattle.office_types.specs.declared.refusal.Refusal.{Refusal}
 use Rattle.office_types.specs.declared.refusal.Refusal.TheVariants.{NoSuchBucket}
 use Rattle.office_types.specs.Fits.{AnswerFits}
 use Rattle.bucket_account.specs.Counting.{AccountRecord}
-use Rattle.office_machine.specs.Standing.{Records, StandsForOffice, IsKept, Does}
+use Rattle.office_machine.specs.Standing.{Records, StandsForOffice, IsOfAnOffice, Does}
 use Rattle.bucket_account.specs.Standing.{most_commands}
 use Rattle.bucket_account.proofs.Handed.{err_of}
 use Rattle.office_machine.proofs.Offices.{does_miss, does_done, does_nothing, nothing_of, does_refuse, refuses_fitly, for_account, for_counts, accepted_records, with_accounts, with_month, kept_on}
@@ -20,7 +20,15 @@ use Rattle.office_machine.proofs.office.Office.on_bucket.Goals as goal
 pub returns-in_default-clause-step : goal.returns-in_default-clause-step
 returns-in_default-clause-step c = λ p stands.
     let inside : Records =
-    record { last = c.self.inside.last; tariff = c.self.inside.tariff; first_month = c.self.inside.first_month; closed = c.self.inside.closed.items; accounts = c.self.inside.accounts.entries; counts = c.self.inside.counts; accepted = c.self.inside.accepted } in
+    record {
+      last = c.self.inside.last;
+      tariff = c.self.inside.tariff;
+      first_month = c.self.inside.first_month;
+      closed = c.self.inside.closed.items;
+      accounts = c.self.inside.accounts.entries;
+      counts = c.self.inside.counts;
+      accepted = c.self.inside.accepted;
+    } in
     let later : is_not_before inside.last c.args.t ≡ true = subst (λ (r : Records). is_not_before r.last c.args.t ≡ true) (sym c.self.view_is) c.requires.later in
     let stood : StandsForOffice inside p = subst (λ (r : Records). StandsForOffice r p) (sym c.self.view_is) stands in
     let same : c.get_mut.follows.lender-at-none.entries ≡ inside.accounts = ap (λ (m : BTreeMap (List ℕ) AccountRecord). m.entries) c.get_mut.follows.holds-at-none in
@@ -47,7 +55,15 @@ apply-requires-clause-counts c =
 pub invariant_of-self-in_err-done : goal.invariant_of-self-in_err-done
 invariant_of-self-in_err-done c =
     let inside : Records =
-    record { last = c.self.inside.last; tariff = c.self.inside.tariff; first_month = c.self.inside.first_month; closed = c.self.inside.closed.items; accounts = c.self.inside.accounts.entries; counts = c.self.inside.counts; accepted = c.self.inside.accepted } in
+    record {
+      last = c.self.inside.last;
+      tariff = c.self.inside.tariff;
+      first_month = c.self.inside.first_month;
+      closed = c.self.inside.closed.items;
+      accounts = c.self.inside.accounts.entries;
+      counts = c.self.inside.counts;
+      accepted = c.self.inside.accepted;
+    } in
     let later : is_not_before inside.last c.args.t ≡ true = subst (λ (r : Records). is_not_before r.last c.args.t ≡ true) (sym c.self.view_is) c.requires.later in
     let found = sym c.in-Some.ensures.value in
     let held : AccountRecord = c.in-Some.account.now in
@@ -59,12 +75,22 @@ invariant_of-self-in_err-done c =
     (does_refuse inside p c.self.invariant.stands c.args.name.now c.args.t later c.args.command.now c.requires.named held found written accounts set c.in_err-done.field-0.0 c.in_err-done.ensures.done)
     (subst (AllByRecursion (IsRoomy inside.accepted)) (sym set)
     (room_set inside.accepted c.args.name.now written
-    (room_kept inside.accepted held written (room_at inside.accepted c.args.name.now held inside.accounts c.self.invariant.room found) c.in_err-done.ensures.room_kept) inside.accounts c.self.invariant.room))
+    (room_kept inside.accepted held written
+    (room_at inside.accepted c.args.name.now held inside.accounts c.self.invariant.room found)
+    c.in_err-done.ensures.room_kept) inside.accounts c.self.invariant.room))
 
 pub returns-in_err-done-clause-step : goal.returns-in_err-done-clause-step
 returns-in_err-done-clause-step c = λ p stands.
     let inside : Records =
-    record { last = c.self.inside.last; tariff = c.self.inside.tariff; first_month = c.self.inside.first_month; closed = c.self.inside.closed.items; accounts = c.self.inside.accounts.entries; counts = c.self.inside.counts; accepted = c.self.inside.accepted } in
+    record {
+      last = c.self.inside.last;
+      tariff = c.self.inside.tariff;
+      first_month = c.self.inside.first_month;
+      closed = c.self.inside.closed.items;
+      accounts = c.self.inside.accounts.entries;
+      counts = c.self.inside.counts;
+      accepted = c.self.inside.accepted;
+    } in
     let later : is_not_before inside.last c.args.t ≡ true = subst (λ (r : Records). is_not_before r.last c.args.t ≡ true) (sym c.self.view_is) c.requires.later in
     let stood : StandsForOffice inside p = subst (λ (r : Records). StandsForOffice r p) (sym c.self.view_is) stands in
     let found = sym c.in-Some.ensures.value in
@@ -72,13 +98,22 @@ returns-in_err-done-clause-step c = λ p stands.
     let written : AccountRecord = c.apply.new.self in
     let accounts : List (List ℕ × AccountRecord) = (c.get_mut.follows.lender c.apply.new.self).entries in
     let set = (c.get_mut.follows.holds c.apply.new.self).0 in
-    subst (λ (r : Result Reply Refusal). Does (step c.args.t c.args.command.now p) p (with_accounts inside accounts) r) (err_of c.from_residual.result c.in_err-done.field-0.0 c.from_residual.ensures.1)
+    subst (λ (r : Result Reply Refusal). Does (step c.args.t c.args.command.now p) p (with_accounts inside accounts) r)
+    (err_of c.from_residual.result c.in_err-done.field-0.0 c.from_residual.ensures.1)
     (does_refuse inside p stood c.args.name.now c.args.t later c.args.command.now c.requires.named held found written accounts set c.in_err-done.field-0.0 c.in_err-done.ensures.done)
 
 pub returns-in_err-done-clause-fits : goal.returns-in_err-done-clause-fits
 returns-in_err-done-clause-fits c =
     let inside : Records =
-    record { last = c.self.inside.last; tariff = c.self.inside.tariff; first_month = c.self.inside.first_month; closed = c.self.inside.closed.items; accounts = c.self.inside.accounts.entries; counts = c.self.inside.counts; accepted = c.self.inside.accepted } in
+    record {
+      last = c.self.inside.last;
+      tariff = c.self.inside.tariff;
+      first_month = c.self.inside.first_month;
+      closed = c.self.inside.closed.items;
+      accounts = c.self.inside.accounts.entries;
+      counts = c.self.inside.counts;
+      accepted = c.self.inside.accepted;
+    } in
     let later : is_not_before inside.last c.args.t ≡ true = subst (λ (r : Records). is_not_before r.last c.args.t ≡ true) (sym c.self.view_is) c.requires.later in
     let found = sym c.in-Some.ensures.value in
     let held : AccountRecord = c.in-Some.account.now in
@@ -86,12 +121,22 @@ returns-in_err-done-clause-fits c =
     let accounts : List (List ℕ × AccountRecord) = (c.get_mut.follows.lender c.apply.new.self).entries in
     let set = (c.get_mut.follows.holds c.apply.new.self).0 in
     subst AnswerFits (err_of c.from_residual.result c.in_err-done.field-0.0 c.from_residual.ensures.1)
-    (refuses_fitly inside c.self.invariant.office c.self.invariant.stands c.args.name.now c.args.t later c.args.command.now c.requires.named held found written accounts set c.in_err-done.field-0.0 c.in_err-done.ensures.done)
+    (refuses_fitly inside c.self.invariant.office c.self.invariant.stands c.args.name.now c.args.t later
+    c.args.command.now c.requires.named held found written accounts set c.in_err-done.field-0.0
+    c.in_err-done.ensures.done)
 
 pub invariant_of-self-then-not-is_accepted : goal.invariant_of-self-then-not-is_accepted
 invariant_of-self-then-not-is_accepted c =
     let inside : Records =
-    record { last = c.self.inside.last; tariff = c.self.inside.tariff; first_month = c.self.inside.first_month; closed = c.self.inside.closed.items; accounts = c.self.inside.accounts.entries; counts = c.self.inside.counts; accepted = c.self.inside.accepted } in
+    record {
+      last = c.self.inside.last;
+      tariff = c.self.inside.tariff;
+      first_month = c.self.inside.first_month;
+      closed = c.self.inside.closed.items;
+      accounts = c.self.inside.accounts.entries;
+      counts = c.self.inside.counts;
+      accepted = c.self.inside.accepted;
+    } in
     let later : is_not_before inside.last c.args.t ≡ true = subst (λ (r : Records). is_not_before r.last c.args.t ≡ true) (sym c.self.view_is) c.requires.later in
     let found = sym c.in-Some.ensures.value in
     let held : AccountRecord = c.in-Some.account.now in
@@ -101,15 +146,27 @@ invariant_of-self-then-not-is_accepted c =
     let p : Office = c.self.invariant.office in
     let unaccepted = sym c.is_accepted.ensures ∙ c.if-not-is_accepted.true in
     kept_on (step c.args.t c.args.command.now p) p (with_accounts inside accounts) (Ok c.in_ok-done.done.reply)
-    (does_nothing inside p c.self.invariant.stands c.args.name.now c.args.t later c.args.command.now c.requires.named held found written accounts set c.in_ok-done.done unaccepted c.in_ok-done.ensures.done)
+    (does_nothing inside p c.self.invariant.stands c.args.name.now c.args.t later c.args.command.now c.requires.named
+    held found written accounts set c.in_ok-done.done unaccepted c.in_ok-done.ensures.done)
     (subst (AllByRecursion (IsRoomy inside.accepted)) (sym set)
     (room_set inside.accepted c.args.name.now written
-    (room_kept inside.accepted held written (room_at inside.accepted c.args.name.now held inside.accounts c.self.invariant.room found) (c.in_ok-done.ensures.nothing (nothing_of c.in_ok-done.done.reply unaccepted))) inside.accounts c.self.invariant.room))
+    (room_kept inside.accepted held written
+    (room_at inside.accepted c.args.name.now held inside.accounts c.self.invariant.room found)
+    (c.in_ok-done.ensures.nothing (nothing_of c.in_ok-done.done.reply unaccepted))) inside.accounts
+    c.self.invariant.room))
 
 pub returns-then-not-is_accepted-clause-step : goal.returns-then-not-is_accepted-clause-step
 returns-then-not-is_accepted-clause-step c = λ p stands.
     let inside : Records =
-    record { last = c.self.inside.last; tariff = c.self.inside.tariff; first_month = c.self.inside.first_month; closed = c.self.inside.closed.items; accounts = c.self.inside.accounts.entries; counts = c.self.inside.counts; accepted = c.self.inside.accepted } in
+    record {
+      last = c.self.inside.last;
+      tariff = c.self.inside.tariff;
+      first_month = c.self.inside.first_month;
+      closed = c.self.inside.closed.items;
+      accounts = c.self.inside.accounts.entries;
+      counts = c.self.inside.counts;
+      accepted = c.self.inside.accepted;
+    } in
     let later : is_not_before inside.last c.args.t ≡ true = subst (λ (r : Records). is_not_before r.last c.args.t ≡ true) (sym c.self.view_is) c.requires.later in
     let stood : StandsForOffice inside p = subst (λ (r : Records). StandsForOffice r p) (sym c.self.view_is) stands in
     let found = sym c.in-Some.ensures.value in
@@ -123,7 +180,15 @@ returns-then-not-is_accepted-clause-step c = λ p stands.
 pub invariant_of-self-2 : goal.invariant_of-self-2
 invariant_of-self-2 c =
     let inside : Records =
-    record { last = c.self.inside.last; tariff = c.self.inside.tariff; first_month = c.self.inside.first_month; closed = c.self.inside.closed.items; accounts = c.self.inside.accounts.entries; counts = c.self.inside.counts; accepted = c.self.inside.accepted } in
+    record {
+      last = c.self.inside.last;
+      tariff = c.self.inside.tariff;
+      first_month = c.self.inside.first_month;
+      closed = c.self.inside.closed.items;
+      accounts = c.self.inside.accounts.entries;
+      counts = c.self.inside.counts;
+      accepted = c.self.inside.accepted;
+    } in
     let later : is_not_before inside.last c.args.t ≡ true = subst (λ (r : Records). is_not_before r.last c.args.t ≡ true) (sym c.self.view_is) c.requires.later in
     let found = sym c.in-Some.ensures.value in
     let held : AccountRecord = c.in-Some.account.now in
@@ -132,9 +197,11 @@ invariant_of-self-2 c =
     let set = (c.get_mut.follows.holds c.apply.new.self).0 in
     let p : Office = c.self.invariant.office in
     let accepts = sym c.is_accepted.ensures ∙ c.if-not-is_accepted.false in
-    with_month c.args.t inside accounts c.in_ok-done.done.counts (inside.accepted + 1) c.first_of.result c.first_of.ensures IsKept
+    with_month c.args.t inside accounts c.in_ok-done.done.counts (inside.accepted + 1) c.first_of.result c.first_of.ensures IsOfAnOffice
     (kept_on (step c.args.t c.args.command.now p) p (accepted_records c.args.t inside accounts c.in_ok-done.done.counts (inside.accepted + 1)) (Ok c.in_ok-done.done.reply)
-    (does_done inside p c.self.invariant.stands c.args.name.now c.args.t later c.args.command.now c.requires.named held found written accounts set c.in_ok-done.done (inside.accepted + 1) c.requires.size accepts c.in_ok-done.ensures.done)
+    (does_done inside p c.self.invariant.stands c.args.name.now c.args.t later c.args.command.now c.requires.named held
+    found written accounts set c.in_ok-done.done (inside.accepted + 1) c.requires.size accepts
+    c.in_ok-done.ensures.done)
     (subst (AllByRecursion (IsRoomy (inside.accepted + 1))) (sym set)
     (room_set (inside.accepted + 1) c.args.name.now written
     (room_grown inside.accepted held written (room_at inside.accepted c.args.name.now held inside.accounts c.self.invariant.room found) c.in_ok-done.ensures.room) inside.accounts
@@ -143,7 +210,15 @@ invariant_of-self-2 c =
 pub returns-clause-step : goal.returns-clause-step
 returns-clause-step c = λ p stands.
     let inside : Records =
-    record { last = c.self.inside.last; tariff = c.self.inside.tariff; first_month = c.self.inside.first_month; closed = c.self.inside.closed.items; accounts = c.self.inside.accounts.entries; counts = c.self.inside.counts; accepted = c.self.inside.accepted } in
+    record {
+      last = c.self.inside.last;
+      tariff = c.self.inside.tariff;
+      first_month = c.self.inside.first_month;
+      closed = c.self.inside.closed.items;
+      accounts = c.self.inside.accounts.entries;
+      counts = c.self.inside.counts;
+      accepted = c.self.inside.accepted;
+    } in
     let later : is_not_before inside.last c.args.t ≡ true = subst (λ (r : Records). is_not_before r.last c.args.t ≡ true) (sym c.self.view_is) c.requires.later in
     let stood : StandsForOffice inside p = subst (λ (r : Records). StandsForOffice r p) (sym c.self.view_is) stands in
     let found = sym c.in-Some.ensures.value in
@@ -154,4 +229,5 @@ returns-clause-step c = λ p stands.
     let accepts = sym c.is_accepted.ensures ∙ c.if-not-is_accepted.false in
     with_month c.args.t inside accounts c.in_ok-done.done.counts (inside.accepted + 1) c.first_of.result c.first_of.ensures
     (λ (r : Records). Does (step c.args.t c.args.command.now p) p r (Ok c.in_ok-done.done.reply))
-    (does_done inside p stood c.args.name.now c.args.t later c.args.command.now c.requires.named held found written accounts set c.in_ok-done.done (inside.accepted + 1) c.requires.size accepts c.in_ok-done.ensures.done)
+    (does_done inside p stood c.args.name.now c.args.t later c.args.command.now c.requires.named held found written
+    accounts set c.in_ok-done.done (inside.accepted + 1) c.requires.size accepts c.in_ok-done.ensures.done)

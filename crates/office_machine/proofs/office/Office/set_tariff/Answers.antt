@@ -5,7 +5,7 @@ use Rattle.plain_office.specs.Run.{is_not_before}
 use Rattle.plain_office.specs.Step.{step}
 use Rattle.office_types.specs.declared.command.Command.TheVariants as command
 use Rattle.office_types.specs.declared.reply.Reply.TheVariants.{TariffSet}
-use Rattle.office_machine.specs.Standing.{Records, StandsForOffice, IsKept, Does}
+use Rattle.office_machine.specs.Standing.{Records, StandsForOffice, IsOfAnOffice, Does}
 use Rattle.office_machine.proofs.Offices.{does_price, accepted_records, with_month, kept_on}
 use Rattle.office_machine.proofs.Room.{room_more}
 use Rattle.office_machine.proofs.office.Office.set_tariff.Goals as goal
@@ -13,11 +13,19 @@ use Rattle.office_machine.proofs.office.Office.set_tariff.Goals as goal
 pub invariant_of-self : goal.invariant_of-self
 invariant_of-self c =
     let inside : Records =
-    record { last = c.self.inside.last; tariff = c.self.inside.tariff; first_month = c.self.inside.first_month; closed = c.self.inside.closed.items; accounts = c.self.inside.accounts.entries; counts = c.self.inside.counts; accepted = c.self.inside.accepted } in
+    record {
+      last = c.self.inside.last;
+      tariff = c.self.inside.tariff;
+      first_month = c.self.inside.first_month;
+      closed = c.self.inside.closed.items;
+      accounts = c.self.inside.accounts.entries;
+      counts = c.self.inside.counts;
+      accepted = c.self.inside.accepted;
+    } in
     let later : is_not_before inside.last c.args.t ≡ true = subst (λ (r : Records). is_not_before r.last c.args.t ≡ true) (sym c.self.view_is) c.requires.later in
     let p : Office = c.self.invariant.office in
     let priced : Records = record inside { tariff = Some c.args.tariff } in
-    with_month c.args.t priced inside.accounts inside.counts (inside.accepted + 1) c.first_of.result c.first_of.ensures IsKept
+    with_month c.args.t priced inside.accounts inside.counts (inside.accepted + 1) c.first_of.result c.first_of.ensures IsOfAnOffice
     (kept_on (step c.args.t (command.SetTariff c.args.tariff) p) p (accepted_records c.args.t priced inside.accounts inside.counts (inside.accepted + 1)) (Ok TariffSet)
     (does_price inside p c.self.invariant.stands c.args.t later c.args.tariff (inside.accepted + 1))
     (room_more inside.accepted inside.accounts c.self.invariant.room))
@@ -25,7 +33,15 @@ invariant_of-self c =
 pub returns-clause-step : goal.returns-clause-step
 returns-clause-step c = λ p stands.
     let inside : Records =
-    record { last = c.self.inside.last; tariff = c.self.inside.tariff; first_month = c.self.inside.first_month; closed = c.self.inside.closed.items; accounts = c.self.inside.accounts.entries; counts = c.self.inside.counts; accepted = c.self.inside.accepted } in
+    record {
+      last = c.self.inside.last;
+      tariff = c.self.inside.tariff;
+      first_month = c.self.inside.first_month;
+      closed = c.self.inside.closed.items;
+      accounts = c.self.inside.accounts.entries;
+      counts = c.self.inside.counts;
+      accepted = c.self.inside.accepted;
+    } in
     let later : is_not_before inside.last c.args.t ≡ true = subst (λ (r : Records). is_not_before r.last c.args.t ≡ true) (sym c.self.view_is) c.requires.later in
     let stood : StandsForOffice inside p = subst (λ (r : Records). StandsForOffice r p) (sym c.self.view_is) stands in
     let priced : Records = record inside { tariff = Some c.args.tariff } in

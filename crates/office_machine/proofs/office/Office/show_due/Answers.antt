@@ -3,7 +3,7 @@ use Rattle.std.specs.Prelude.{Result}
 use Rattle.due_core.specs.Buckets.{BucketRecord}
 use Rattle.office_types.specs.declared.reply.Reply.{Reply}
 use Rattle.office_types.specs.declared.refusal.Refusal.{Refusal}
-use Rattle.office_machine.specs.Asking.{IsAnswer, due_told}
+use Rattle.office_machine.specs.AnswerParts.{IsAnswer, due_told}
 use Rattle.office_machine.specs.Standing.{Records, StandsForOffice}
 use Rattle.office_machine.proofs.Offices.{due_none, shows_due}
 use Rattle.office_machine.proofs.office.Office.show_due.Goals as goal

@@ -3,7 +3,7 @@ use Rattle.std.specs.Prelude.{Ok}
 use Rattle.plain_office.specs.Run.{is_not_before}
 use Rattle.office_types.specs.declared.reply.Reply.TheVariants.{Report}
 use Rattle.office_types.specs.declared.reply.ReportLine.{ReportLine}
-use Rattle.office_machine.specs.Asking.{charges}
+use Rattle.office_types.specs.Reports.{charges}
 use Rattle.office_machine.specs.Standing.{Records, StandsForOffice}
 use Rattle.office_machine.proofs.Offices.{shows_report, shows_no_report, listed, few_accounts}
 use Rattle.office_machine.proofs.office.Office.show_report.Goals as goal

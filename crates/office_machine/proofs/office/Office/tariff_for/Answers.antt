@@ -1,7 +1,7 @@
 use Rattle.std.proofs.Common.{ap, ◌∙◌, sym, subst}
 use Rattle.std.specs.Prelude.{Option}
 use Rattle.tariff.specs.Prices.{Prices}
-use Rattle.office_machine.specs.Asking.{kept_prices, closed_at}
+use Rattle.office_machine.specs.AnswerParts.{kept_prices, closed_at}
 use Rattle.office_machine.specs.Standing.{Records, StandsForOffice}
 use Rattle.office_machine.proofs.Offices.{shows_prices}
 use Rattle.office_machine.proofs.office.Office.tariff_for.Goals as goal

@@ -1,6 +1,6 @@
 -- What the parts of a query's answer give, in the words of the plain office.
 use Rattle.std.specs.Prelude.{◌≡◌, ◌⊎◌, ℕ, Bool, not, ◌==◌, Option, Some, None, option_map, Result, Ok, Err}
-use Rattle.std.specs.Prelude.{List, [], ◌∷◌, filter, flat_map, sum_by}
+use Rattle.std.specs.Prelude.{List, [], ◌∷◌, filter, flat_map}
 use Rattle.std.specs.List.{find}
 use Rattle.std.specs.Option.{ok_or}
 use Rattle.accrual.specs.Books.{IsBookedBy}
@@ -74,6 +74,3 @@ entry_lines tariff month t entry = flat_map (class_lines tariff month t entry.0 
 -- nothing that is booked of it is after the moment
 abbrev pub IsBookedIn : ℕ → List ℕ × Account → Type 0
 IsBookedIn t entry = IsBookedBy t (book_of entry.1.books)
-
-abbrev pub charges : List ReportLine → ℕ
-charges lines = sum_by (λ line. line.charge) lines

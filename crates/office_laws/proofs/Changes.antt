@@ -140,7 +140,10 @@ module _ (last at : ℕ) (bucket : BucketRecord) (key : List ℕ) (versions : Li
     versions_by (inl le) = inl (count_less le)
     versions_by (inr listed) = inr listed
 
-    names_by : (weight_of bucket key name_weight key versions ≤ weight_of bucket key name_weight key (versions_of key bucket)) ⊎ Listed Names whats → MayGrow whats Names bucket (with_versions key at versions bucket)
+    names_by : (weight_of bucket key name_weight key versions
+        ≤ weight_of bucket key name_weight key (versions_of key bucket))
+        ⊎ Listed Names whats
+        → MayGrow whats Names bucket (with_versions key at versions bucket)
     names_by (inl le) = inl (names_less le)
     names_by (inr listed) = inr listed
 
@@ -148,7 +151,8 @@ weight_most : (bucket : BucketRecord) (key : List ℕ) (versions : List Version)
 weight_most bucket key [] = omega arith
 weight_most bucket key (v ∷ versions) = omega arith
 
-names_without : (bucket : BucketRecord) (key : List ℕ) (id : VersionId) (versions : List Version) → weight_of bucket key name_weight key (without id versions) ≤ weight_of bucket key name_weight key versions
+names_without : (bucket : BucketRecord) (key : List ℕ) (id : VersionId) (versions : List Version)
+    → weight_of bucket key name_weight key (without id versions) ≤ weight_of bucket key name_weight key versions
 names_without bucket key id [] = omega arith
 names_without bucket key id (v ∷ versions) =
     let most = weight_most bucket key (without id (v ∷ versions)) in
@@ -299,12 +303,16 @@ module _ (last until at : ℕ) (account : Account) (h : IsKept last until accoun
   -- ---- uploads
 
   pub keeps_started : (key : List ℕ) (class : Class) (tags : List (List ℕ × List ℕ)) (whats : List What) → Listed Uploads whats → Listed Names whats
-      → Keeps last until whats account (record account { bucket = record (with_upload account.bucket.next_upload (new_upload key class tags at) account.bucket) { next_upload = account.bucket.next_upload + 1 } })
+      → Keeps last until whats account (record account {
+        bucket = record (with_upload account.bucket.next_upload
+            (new_upload key class tags at) account.bucket) { next_upload = account.bucket.next_upload + 1 };
+      })
   keeps_started key class tags whats uploads names =
       let number = bucket.next_upload in
       let upload = new_upload key class tags at in
       let none = fresh_number last bucket h.bucket in
-      let parts = added_sum (number, upload) bucket.uploads (with_number number upload bucket.uploads) (added by_number number upload bucket.uploads none) (λ (upload : ℕ × UploadRecord). length upload.1.parts) in
+      let parts = added_sum (number, upload) bucket.uploads (with_number number upload bucket.uploads)
+      (added by_number number upload bucket.uploads none) (λ (upload : ℕ × UploadRecord). length upload.1.parts) in
       record {
         account = record {
           bucket = bucket_upload last bucket h.bucket number (number + 1) upload (new_orderly key class tags at last by) (omega arith) (omega arith);
@@ -322,14 +330,17 @@ module _ (last until at : ℕ) (account : Account) (h : IsKept last until accoun
         books = keeps_same until account.books;
       }
 
-  pub keeps_part : (number : ℕ) (upload : UploadRecord) (part size : ℕ) (whats : List What) → at_number number account.bucket.uploads ≡ Some upload → admits_part part (new_part size at) upload.parts ≡ true → upload.changed ≤ at → Listed Parts whats
+  pub keeps_part : (number : ℕ) (upload : UploadRecord) (part size : ℕ) (whats : List What)
+      → at_number number account.bucket.uploads ≡ Some upload → admits_part part (new_part size at) upload.parts ≡ true
+      → upload.changed ≤ at → Listed Parts whats
       → Keeps last until whats account (add_part number upload part size at account)
   keeps_part number upload part size whats found admitted since parts =
       let after = after_part part size at upload in
       let was = upload_orderly last bucket h.bucket number upload found in
       let one = replaced by_number number after upload bucket.uploads h.bucket.numbers found in
       let uploads = replaced_length (number, upload) (number, after) bucket.uploads (with_number number after bucket.uploads) one in
-      let names = replaced_sum (number, upload) (number, after) bucket.uploads (with_number number after bucket.uploads) one (λ (upload : ℕ × UploadRecord). length upload.1.key + tag_bytes upload.1.tags) in
+      let names = replaced_sum (number, upload) (number, after) bucket.uploads (with_number number after bucket.uploads)
+      one (λ (upload : ℕ × UploadRecord). length upload.1.key + tag_bytes upload.1.tags) in
       record {
         account = record {
           bucket = bucket_upload last bucket h.bucket number bucket.next_upload after (part_orderly last last at part size upload was.1 admitted since by) was.0 (omega arith);
@@ -350,7 +361,9 @@ module _ (last until at : ℕ) (account : Account) (h : IsKept last until accoun
             (keeps_begun until at later upload.key (of_part number part) _ (with_end upload.key (of_part number part) at account.books));
       }
 
-  pub keeps_aborted : (number : ℕ) (upload : UploadRecord) (whats : List What) → at_number number account.bucket.uploads ≡ Some upload → Keeps last until whats account (remove_upload number upload at account)
+  pub keeps_aborted : (number : ℕ) (upload : UploadRecord) (whats : List What)
+      → at_number number account.bucket.uploads ≡ Some upload
+      → Keeps last until whats account (remove_upload number upload at account)
   keeps_aborted number upload whats found =
       let one = removed by_number number upload bucket.uploads found in
       let less = without_number number bucket.uploads in
