@@ -4,7 +4,7 @@ use Rattle.std.proofs.lemmas.Bool.{false≢true}
 use Rattle.percent_encoding.specs.Percent.{percent_decode}
 use Rattle.office_base.specs.Keys.{is_key}
 use Rattle.http_routes.specs.Targets.{Resource, bucket, versioning, lifecycle, object, version, tags, uploads, upload, part, act, due, meters, tariff, close, report, HasRoute}
-use Rattle.http_routes.specs.Table.{pattern_of}
+use Rattle.http_routes.specs.Table.{rows}
 use Rattle.http_routes.specs.Spelled.{key_of}
 use Rattle.http_routes.proofs.Computed.{there, nowhere}
 
@@ -69,56 +69,56 @@ a_query resource has = false≢true (sym has.no_query)
 
 -- nor without a slash in front
 no_slash : (resource : Resource) → HasRoute (codes "buckets/a") resource → ⊥
-unfolding pattern_of
+unfolding rows
 no_slash = nowhere (codes "buckets/a") refl
 
 -- nor with another word
 another_word : (resource : Resource) → HasRoute (codes "/bucket/x") resource → ⊥
-unfolding pattern_of
+unfolding rows
 another_word = nowhere (codes "/bucket/x") refl
 
 -- nor without a part
 no_bucket : (resource : Resource) → HasRoute (codes "/buckets/") resource → ⊥
-unfolding pattern_of
+unfolding rows
 no_bucket = nowhere (codes "/buckets/") refl
 
 no_part : (resource : Resource) → HasRoute (codes "/buckets/a/parts/7/") resource → ⊥
-unfolding pattern_of
+unfolding rows
 no_part = nowhere (codes "/buckets/a/parts/7/") refl
 
 -- nor with an empty segment in its place
 empty_part : (resource : Resource) → HasRoute (codes "/buckets/a/parts//1") resource → ⊥
-unfolding pattern_of
+unfolding rows
 empty_part = nowhere (codes "/buckets/a/parts//1") refl
 
 empty_id : (resource : Resource) → HasRoute (codes "/buckets/a/versions//b") resource → ⊥
-unfolding pattern_of
+unfolding rows
 empty_id = nowhere (codes "/buckets/a/versions//b") refl
 
 empty_month : (resource : Resource) → HasRoute (codes "/months//close") resource → ⊥
-unfolding pattern_of
+unfolding rows
 empty_month = nowhere (codes "/months//close") refl
 
 -- nor with an empty key
 no_key : (resource : Resource) → HasRoute (codes "/buckets/a/objects/") resource → ⊥
-unfolding pattern_of
+unfolding rows
 no_key = nowhere (codes "/buckets/a/objects/") refl
 
 no_key_of_a_version : (resource : Resource) → HasRoute (codes "/buckets/a/versions/3/") resource → ⊥
-unfolding pattern_of
+unfolding rows
 no_key_of_a_version = nowhere (codes "/buckets/a/versions/3/") refl
 
 -- nor with a slash at the end
 a_slash_at_the_end : (resource : Resource) → HasRoute (codes "/tariff/") resource → ⊥
-unfolding pattern_of
+unfolding rows
 a_slash_at_the_end = nowhere (codes "/tariff/") refl
 
 a_slash_after_a_word : (resource : Resource) → HasRoute (codes "/buckets/a/act/") resource → ⊥
-unfolding pattern_of
+unfolding rows
 a_slash_after_a_word = nowhere (codes "/buckets/a/act/") refl
 
 a_slash_after_a_part : (resource : Resource) → HasRoute (codes "/buckets/a/upload/7/") resource → ⊥
-unfolding pattern_of
+unfolding rows
 a_slash_after_a_part = nowhere (codes "/buckets/a/upload/7/") refl
 
 -- ---- keys

@@ -17,9 +17,9 @@
 --     /months/{month}/report                   the report of a month
 -- {name} stands for a segment that is not empty, and {*key} for all that is left, if anything is. Parts are the bytes
 -- of the target: nothing is percent-decoded.
-use Rattle.std.specs.Prelude.{◌≡◌, ℕ, ◌<◌, Bool, false, ◌==◌, List, [], ◌∷◌, length, flat_map, codes, IsTrue}
-use Rattle.std.specs.List.{list_any}
+use Rattle.std.specs.Prelude.{◌≡◌, ℕ, false, List, [], ◌∷◌, codes, IsTrue}
 use Rattle.std.specs.Str.{is_utf8}
+use Rattle.route_table.specs.Paths.{Piece, word, segment, remainder, has_byte, path_of, AreInRange}
 use Rattle.http_routes.specs.declared.route.Route.{Route}
 use Rattle.http_routes.specs.declared.route.Route.TheVariants.{Bucket, Versioning, Lifecycle, Object, Version, Tags, Uploads, Upload, Part, Act, Due, Meters, Tariff, Close, Report}
 
@@ -40,12 +40,6 @@ pub data Resource : Type 0 where
   tariff : Resource
   close : List ℕ → Resource
   report : List ℕ → Resource
-
--- a piece of a path, which a slash precedes: a word that stands as it is, a segment, or all that is left
-pub data Piece : Type 0 where
-  word : List ℕ → Piece
-  segment : List ℕ → Piece
-  remainder : List ℕ → Piece
 
 -- the pieces of a path of a bucket
 abbrev of_bucket : List ℕ → List Piece → List Piece
@@ -68,31 +62,6 @@ pieces_of (meters name month) = of_bucket name (word (codes "meters") ∷ segmen
 pieces_of tariff = word (codes "tariff") ∷ []
 pieces_of (close month) = word (codes "months") ∷ segment month ∷ word (codes "close") ∷ []
 pieces_of (report month) = word (codes "months") ∷ segment month ∷ word (codes "report") ∷ []
-
--- the text has this byte
-abbrev pub has_byte : ℕ → List ℕ → Bool
-has_byte byte text = list_any (λ b. b == byte) text
-
--- a segment that is not empty (RFC 3986, "Path": segment-nz): one byte or more, and no slash
-pub record IsPart (part : List ℕ) : Type 0 where
-  pub some : 0 < length part
-  pub plain : has_byte 47 part ≡ false
-
--- the pieces one after another, with a slash before each
-abbrev pub text_of : Piece → List ℕ
-text_of (word text) = text
-text_of (segment text) = text
-text_of (remainder text) = text
-
-abbrev pub path_of : List Piece → List ℕ
-path_of pieces = flat_map (λ piece. 47 ∷ text_of piece) pieces
-
--- segments are not empty and have no slash, and what is left is not empty
-abbrev pub AreInRange : List Piece → Type 0
-AreInRange [] = Unit {0}
-AreInRange (word text ∷ pieces) = AreInRange pieces
-AreInRange (segment text ∷ pieces) = IsPart text × AreInRange pieces
-AreInRange (remainder text ∷ pieces) = (0 < length text) × AreInRange pieces
 
 -- the target is spelled with these parts, and they are in their range
 abbrev pub Spells : List ℕ → Resource → Type 0

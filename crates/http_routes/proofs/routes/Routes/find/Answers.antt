@@ -1,20 +1,17 @@
-use Rattle.std.proofs.Common.{◌∙◌, sym, arith}
-use Rattle.http_routes.proofs.Found.{are_bytes, not_text, not_found, found}
+use Rattle.std.proofs.Common.{◌∙◌, sym, subst, refl}
+use Rattle.route_table.specs.Tables.{Leads, LeadsNowhere}
+use Rattle.http_routes.proofs.Leads.{not_text, not_found, found}
 use Rattle.http_routes.proofs.routes.Routes.find.Goals as goal
 
 pub returns-in-Err-clause-none : goal.returns-in-Err-clause-none
 returns-in-Err-clause-none c = λ none. not_text _ c.in-Err.ensures.cases.0
 
-pub returns-in-Err-at-clause-none : goal.returns-in-Err-at-clause-none
-returns-in-Err-at-clause-none c = λ none. not_found _ _ _ c.self.invariant c.in-Ok.ensures.cases.0 c.in-Err-at.ensures.missing
+pub returns-in-None-clause-none : goal.returns-in-None-clause-none
+returns-in-None-clause-none c = λ none.
+    not_found _ _ c.in-Ok.ensures.cases.0 (subst (λ table. LeadsNowhere table c.in-Ok.path.now) c.self.invariant (c.in-None.ensures.none refl))
 
-pub returns-clause-found : goal.returns-clause-found
-returns-clause-found c =
-    found _ _ _ _ _ _ c.self.invariant
-    (are_bytes _ (λ i. omega (arith, c.type_inv.target i)))
-    c.in-Ok.ensures.cases.0
-    c.in-Ok-at.ensures.path
-    c.in-Ok.ensures.cases.1
-    (sym c.contains.ensures.value ∙ c.if-contains.false)
-    c.in-Ok-at.ensures.found
+pub returns-in-Some-clause-found : goal.returns-in-Some-clause-found
+returns-in-Some-clause-found c =
+    found _ _ _ _ _ c.in-Ok.ensures.cases.0 c.in-Ok.ensures.cases.1 (sym c.contains.ensures.value ∙ c.if-contains.false)
+    (subst (λ table. Leads table c.in-Ok.path.now c.in-Some.found.value.now c.in-Some.found.parts) c.self.invariant c.in-Some.ensures.found)
     c.route_of.ensures

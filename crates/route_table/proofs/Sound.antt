@@ -1,13 +1,14 @@
 -- The route that the router finds has a pattern that the path fits.
-use Rattle.std.proofs.Common.{◌≡◌, ℕ, zero, suc, ◌-◌, ◌<◌, ◌≤◌, Bool, true, false, cond, ◌==◌, ◌&&◌, List, [], ◌∷◌, length, take, drop, refl, sym, ap, ◌∙◌, subst, arith, inl, inr, Option, Some, None, take-append-drop, ltb, length-take}
+use Rattle.std.proofs.Common.{◌≡◌, ℕ, zero, suc, ◌-◌, ◌<◌, ◌≤◌, Bool, true, false, cond, ◌==◌, ◌&&◌, List, [], ◌∷◌, length, take, drop, refl, sym, ap}
+use Rattle.std.proofs.Common.{◌∙◌, subst, arith, inl, inr, Option, Some, None, take-append-drop, ltb, length-take}
 use Rattle.std.specs.Prelude.{◌⊎◌}
 use Rattle.std.proofs.lemmas.Bool.{eqb-true}
 use Rattle.std.proofs.Math.Seq.{take-length}
 use Rattle.matchit.proofs.ParamLemmas.{length-segment}
 use Rattle.matchit.specs.Rows.{RowsOf, param_token, catch_all_token}
 use Rattle.matchit.specs.Seek.{own, step, or_else, seek, param_step, has_slash, segment, longest_suffix, longest_from, better, cuts, with_suffix, same_text, slash}
-use Rattle.http_routes.specs.Table.{Among}
-use Rattle.http_routes.proofs.Patterns.{Takes, HasRow, AreBytes}
+use Rattle.route_table.specs.Routed.{Among}
+use Rattle.route_table.proofs.Tokens.{Takes, HasRow, AreBytes}
 
 among_step : {K : Type 0} (b : ℕ) (rs : RowsOf K) (p : List ℕ) (key : K) → Among (step b rs) p key → Among rs (b ∷ p) key
 among_step b [] p key a = a
@@ -67,6 +68,10 @@ no_slash_before (suc n) (b ∷ path) short = go (b == slash) (no_slash_before n 
     go true later short = absurd (omega arith)
     go false later short = later (omega arith)
 
+-- the step that leaves the longest suffix
+abbrev suffix_step : {K : Type 0} → RowsOf K → List ℕ → ℕ × RowsOf K
+suffix_step rs path = (length (segment path) - length (longest_suffix (segment path) rs), with_suffix (longest_suffix (segment path) rs) rs)
+
 -- what a step over a parameter says
 record IsStep {K : Type 0} (rs : RowsOf K) (path : List ℕ) (n : ℕ) (p : List ℕ) (key : K) : Type 0 where
   some : 0 < n
@@ -104,8 +109,8 @@ param_part {K} rs path p key some = go (ltb 0 (length long)) refl
     shorter (inr l) _ = l
 
     go : (v : Bool) → ltb 0 (length (longest_suffix (segment path) rs)) ≡ v
-        → Among (cond {A = ℕ × RowsOf K} v (length (segment path) - length (longest_suffix (segment path) rs), with_suffix (longest_suffix (segment path) rs) rs) (cond (has_slash path) (0, []) (length path, rs))).1 p key
-        → IsStep rs path (cond {A = ℕ × RowsOf K} v (length (segment path) - length (longest_suffix (segment path) rs), with_suffix (longest_suffix (segment path) rs) rs) (cond (has_slash path) (0, []) (length path, rs))).0 p key
+        → Among (cond {A = ℕ × RowsOf K} v (suffix_step rs path) (cond (has_slash path) (0, []) (length path, rs))).1 p key
+        → IsStep rs path (cond {A = ℕ × RowsOf K} v (suffix_step rs path) (cond (has_slash path) (0, []) (length path, rs))).0 p key
     go true e a =
         let above : 0 < length (longest_suffix (segment path) rs) = grind arith in
         let short = shorter (longest_cut (segment path) [] rs (inl refl)) above in
@@ -126,7 +131,7 @@ unfolding param_step
 param_inside {K} rs path = go (ltb 0 (length (longest_suffix (segment path) rs))) (has_slash path)
   where
     go : (v w : Bool)
-        → (cond {A = ℕ × RowsOf K} v (length (segment path) - length (longest_suffix (segment path) rs), with_suffix (longest_suffix (segment path) rs) rs) (cond w (0, []) (length path, rs))).0 ≤ length path
+        → (cond {A = ℕ × RowsOf K} v (suffix_step rs path) (cond w (0, []) (length path, rs))).0 ≤ length path
     go true w = omega (arith, length-segment path)
     go false true = omega arith
     go false false = omega arith

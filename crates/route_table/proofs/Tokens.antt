@@ -3,7 +3,7 @@ use Rattle.std.proofs.Common.{◌≡◌, ℕ, ◌<◌, false, List, [], ◌∷�
 use Rattle.std.specs.Prelude.{◌⊎◌}
 use Rattle.matchit.specs.Rows.{RowsOf, param_token, catch_all_token}
 use Rattle.matchit.specs.Seek.{has_slash}
-use Rattle.http_routes.specs.Table.{Among}
+use Rattle.route_table.specs.Routed.{Among}
 
 -- what a parameter takes
 pub record IsSegment (part : List ℕ) : Type 0 where

@@ -1,16 +1,18 @@
 -- Where a plain pattern has the path, the router finds a route.
-use Rattle.std.proofs.Common.{◌≡◌, ◌≢◌, ℕ, zero, suc, ◌-◌, ◌<◌, ◌≤◌, Bool, true, false, cond, ◌==◌, ◌&&◌, List, [], ◌∷◌, ◌++◌, length, drop, refl, sym, ap, ◌∙◌, subst, arith, inl, inr, Option, Some, None, nat_eq, ltb, length-append, append-nil}
+use Rattle.std.proofs.Common.{◌≡◌, ◌≢◌, ℕ, zero, suc, ◌-◌, ◌<◌, ◌≤◌, Bool, true, false, cond, ◌==◌, ◌&&◌, List, [], ◌∷◌, ◌++◌, length, drop, refl, sym, ap}
+use Rattle.std.proofs.Common.{◌∙◌, subst, arith, inl, inr, Option, Some, None, nat_eq, ltb, length-append, append-nil}
 use Rattle.std.specs.Prelude.{◌⊎◌}
 use Rattle.std.specs.List.{ends_with}
 use Rattle.std.proofs.lemmas.Bool.{eqb-true, eq-eqb, ne_eqb, lt-ltb, false≢true}
 use Rattle.std.specs.Cmp.Lexicographic.{pointwise}
+use Rattle.std.proofs.Math.Bool.{and-false}
 use Rattle.std.proofs.Math.Seq.{drop-append_seam}
 use Rattle.matchit.proofs.ParamLemmas.{same_text-self}
 use Rattle.matchit.specs.Rows.{RowsOf, param_token, catch_all_token}
 use Rattle.matchit.specs.Seek.{own, step, or_else, seek, param_step, has_slash, segment, longest_suffix, longest_from, better, cuts, with_suffix, same_text, slash}
-use Rattle.http_routes.specs.Table.{Among}
-use Rattle.http_routes.proofs.Sound.{drop_less}
-use Rattle.http_routes.proofs.Patterns.{IsSegment, Takes, IsEndOrSlash, IsPlain, ArePlain}
+use Rattle.route_table.specs.Routed.{Among}
+use Rattle.route_table.proofs.Sound.{drop_less}
+use Rattle.route_table.proofs.Tokens.{IsSegment, Takes, IsEndOrSlash, IsPlain, ArePlain}
 
 -- some answer is given
 abbrev pub Answers : {K : Type 0} → Option K → Type 0
@@ -68,7 +70,7 @@ param_ends {K} ((x ∷ t, k) ∷ rest) plain = go (x == param_token) refl (param
     go false e later = later
 
 -- the segment of what ends or goes on with a slash
-end_segment : (t : List ℕ) → IsEndOrSlash t → (segment t ≡ []) ⊎ (segment t ≡ 47 ∷ [])
+pub end_segment : (t : List ℕ) → IsEndOrSlash t → (segment t ≡ []) ⊎ (segment t ≡ 47 ∷ [])
 end_segment [] e = inl refl
 end_segment (x ∷ t) e = inr (rw (eq-eqb x 47 e) (ap (λ (y : ℕ). y ∷ []) e))
 
@@ -76,11 +78,6 @@ ends_among : {K : Type 0} (rs : RowsOf K) (p : List ℕ) (key : K) → AreEnds r
 ends_among [] p key ends a = absurd a
 ends_among ((t, k) ∷ rest) p key ends (inl same) = subst IsEndOrSlash same.0 ends.0
 ends_among ((t, k) ∷ rest) p key ends (inr a) = ends_among rest p key ends.1 a
-
-plain_among : {K : Type 0} (rs : RowsOf K) (p : List ℕ) (key : K) → ArePlain rs → Among rs p key → IsPlain p
-plain_among [] p key plain a = absurd a
-plain_among ((t, k) ∷ rest) p key plain (inl same) = subst IsPlain same.0 plain.0
-plain_among ((t, k) ∷ rest) p key plain (inr a) = plain_among rest p key plain.1 a
 
 suffix_among : {K : Type 0} (s : List ℕ) (rs : RowsOf K) (p : List ℕ) (key : K) → segment p ≡ s → Among rs p key → Among (with_suffix s rs) p key
 suffix_among s [] p key is a = a
@@ -213,12 +210,8 @@ steps_slash {K} rs part rest p key plain ends is_part a =
       plain = subst (λ (x : ℕ × RowsOf K). ArePlain x.1) (sym is) (plain_suffix (47 ∷ []) rs plain);
     }
 
-and_false : (v : Bool) → (v && false) ≡ false
-and_false true = refl
-and_false false = refl
-
 no_cut : (part : List ℕ) → has_slash part ≡ false → cuts part (47 ∷ []) ≡ false
-no_cut part plain = ap (λ (v : Bool). ltb 1 (length part) && v) (no_last_slash part plain) ∙ and_false (ltb 1 (length part))
+no_cut part plain = ap (λ (v : Bool). ltb 1 (length part) && v) (no_last_slash part plain) ∙ and-false (ltb 1 (length part))
 
 steps_end : {K : Type 0} (rs : RowsOf K) (part : List ℕ) (key : K) → ArePlain rs → AreEnds rs → IsSegment part
     → Among rs [] key → Steps rs part part [] key
@@ -249,6 +242,10 @@ param_steps rs part rest (x ∷ p) later key plain ends is_part a end (inl (smal
 param_steps rs part rest (x ∷ p) later key plain ends is_part a end (inr (inl t)) = absurd (omega (arith, end, t.0))
 param_steps rs part rest (x ∷ p) later key plain ends is_part a end (inr (inr t)) = absurd (omega (arith, end, t.0))
 
+-- what the search finds by a parameter at this byte
+abbrev by_param : {K : Type 0} → RowsOf K → ℕ → List ℕ → Option K
+by_param rs b path = seek ((param_step (step param_token rs) (b ∷ path)).0 - 1) (param_step (step param_token rs) (b ∷ path)).1 path
+
 -- a row whose pattern the path has is enough
 pub complete : {K : Type 0} (k : ℕ) (rs : RowsOf K) (path : List ℕ) (p : List ℕ) (parts : List (List ℕ)) (key : K)
     → ArePlain rs → Among rs p key → k ≤ length path → Takes p (drop k path) parts → Answers (seek k rs path)
@@ -264,13 +261,14 @@ complete zero rs (b ∷ path) [] parts key plain a fits (e, q) = absurd (cc)
 complete zero rs (b ∷ path) (x ∷ p) parts key plain a fits (inl (small, rest, is, t)) =
     let same : x ≡ b = cc in
     let tail : rest ≡ path = cc in
-    or_left (seek 0 (step b rs) path) (or_else (seek ((param_step (step param_token rs) (b ∷ path)).0 - 1) (param_step (step param_token rs) (b ∷ path)).1 path) (own (step catch_all_token rs)))
+    or_left (seek 0 (step b rs) path) (or_else (by_param rs b path) (own (step catch_all_token rs)))
     (complete 0 (step b rs) path p parts key (plain_step b rs plain)
     (step_among b rs p key (subst (λ (y : ℕ). Among rs (y ∷ p) key) same a)) (omega arith) (subst (λ (y : List ℕ). Takes p y parts) tail t))
 complete zero rs (b ∷ path) (x ∷ p) parts key plain a fits (inr (inr (is, e, some, q))) =
-    or_right (seek 0 (step b rs) path) (or_else (seek ((param_step (step param_token rs) (b ∷ path)).0 - 1) (param_step (step param_token rs) (b ∷ path)).1 path) (own (step catch_all_token rs)))
-    (or_right (seek ((param_step (step param_token rs) (b ∷ path)).0 - 1) (param_step (step param_token rs) (b ∷ path)).1 path) (own (step catch_all_token rs)) (own_answers (step catch_all_token rs) key
-    (step_among catch_all_token rs [] key (subst (λ (y : List ℕ). Among rs y key) (ap (λ (y : ℕ). y ∷ p) is ∙ ap (λ (y : List ℕ). catch_all_token ∷ y) e) a))))
+    let tokens : x ∷ p ≡ catch_all_token ∷ [] = ap (λ (y : ℕ). y ∷ p) is ∙ ap (λ (y : List ℕ). catch_all_token ∷ y) e in
+    let row = step_among catch_all_token rs [] key (subst (λ (y : List ℕ). Among rs y key) tokens a) in
+    or_right (seek 0 (step b rs) path) (or_else (by_param rs b path) (own (step catch_all_token rs)))
+    (or_right (by_param rs b path) (own (step catch_all_token rs)) (own_answers (step catch_all_token rs) key row))
 complete zero rs (b ∷ path) (x ∷ p) parts key plain a fits (inr (inl (is, part, rest, later, is_part, e, q, t))) =
     let after = step param_token rs in
     let row = step_among param_token rs p key (subst (λ (y : ℕ). Among rs (y ∷ p) key) is a) in
@@ -281,6 +279,7 @@ complete zero rs (b ∷ path) (x ∷ p) parts key plain a fits (inr (inl (is, pa
     let some : 0 < n = omega (arith, steps.takes, is_part.some) in
     let left : drop (n - 1) path ≡ rest =
     drop_less n b path some ∙ ap (λ (y : List ℕ). drop n y) e ∙ ap (λ (m : ℕ). drop m (part ++ rest)) steps.takes ∙ drop-append_seam part rest in
-    or_right (seek 0 (step b rs) path) (or_else (seek ((param_step (step param_token rs) (b ∷ path)).0 - 1) (param_step (step param_token rs) (b ∷ path)).1 path) (own (step catch_all_token rs)))
-    (or_left (seek ((param_step (step param_token rs) (b ∷ path)).0 - 1) (param_step (step param_token rs) (b ∷ path)).1 path) (own (step catch_all_token rs)) (complete (n - 1) (param_step after (b ∷ path)).1 path p later key steps.plain steps.row
+    or_right (seek 0 (step b rs) path) (or_else (by_param rs b path) (own (step catch_all_token rs)))
+    (or_left (by_param rs b path) (own (step catch_all_token rs))
+    (complete (n - 1) (param_step after (b ∷ path)).1 path p later key steps.plain steps.row
     (omega (arith, steps.takes, ap length e, length-append part rest)) (subst (λ (y : List ℕ). Takes p y later) (sym left) t)))

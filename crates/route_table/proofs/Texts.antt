@@ -5,8 +5,8 @@ use Rattle.std.specs.Str.{IsUtf8}
 use Rattle.std.proofs.lemmas.Str.{IsUtf8-take, IsUtf8-drop, IsCharBoundary-before_ascii, IsCharBoundary-after_ascii}
 use Rattle.std.proofs.Math.Seq.{drop-append_seam, take-append_seam, get_or-append_seam}
 use Rattle.matchit.specs.Rows.{param_token}
-use Rattle.http_routes.specs.Table.{AreTexts}
-use Rattle.http_routes.proofs.Patterns.{Takes, IsPlain, IsSpelled}
+use Rattle.route_table.specs.Routed.{AreTexts}
+use Rattle.route_table.proofs.Tokens.{Takes, IsPlain, IsSpelled}
 
 after_ascii : (x : ℕ) (rest : List ℕ) → x < 128 → IsUtf8 (x ∷ rest) → IsUtf8 rest
 after_ascii x rest small text =

@@ -1,0 +1,5 @@
+pub mod Laws
+pub mod Paths
+pub mod Patterns
+pub mod Routed
+pub mod Tables

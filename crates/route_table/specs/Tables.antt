@@ -1,0 +1,26 @@
+-- What a path has in a table: rows of a pattern and the value that is kept with it.
+use Rattle.std.specs.Prelude.{◌≡◌, ℕ, List, map}
+use Rattle.std.specs.List.{Contains}
+use Rattle.route_table.specs.Patterns.{Shape, HasPattern}
+
+-- the rows of a table: patterns, each with a value
+abbrev pub Rows : Type 0 → Type 0
+Rows V = List (List Shape × V)
+
+abbrev pub patterns_of : {V : Type 0} → Rows V → List (List Shape)
+patterns_of rows = map (λ row. row.0) rows
+
+-- the table leads a path to a value, with these parts: the value is kept with a pattern that the path has
+pub record Leads {V : Type 0} (rows : Rows V) (path : List ℕ) (value : V) (parts : List (List ℕ)) : Type 0 where
+  pub pattern : List Shape
+  pub row : Contains rows (pattern, value)
+  pub has : HasPattern pattern parts path
+
+-- it leads the path to this value alone, with these parts alone
+abbrev pub LeadsOnly : {V : Type 0} → Rows V → List ℕ → V → List (List ℕ) → Type 0
+LeadsOnly {V} rows path value parts =
+    (other : V) (more : List (List ℕ)) → Leads rows path other more → (other ≡ value) × (more ≡ parts)
+
+-- it leads the path nowhere
+abbrev pub LeadsNowhere : {V : Type 0} → Rows V → List ℕ → Type 0
+LeadsNowhere {V} rows path = (value : V) (parts : List (List ℕ)) → ¬ (Leads rows path value parts)

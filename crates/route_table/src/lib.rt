@@ -1,0 +1,14 @@
+//! A table of patterns, each with a value, and what a path has in it.
+#![tactic(auto)]
+
+mod laws;
+mod parts;
+mod shape;
+mod table;
+#[cfg(test)]
+mod tests;
+
+pub use laws::one_answer;
+pub use parts::Parts;
+pub use shape::Shape;
+pub use table::{Found, Table};
