@@ -23,7 +23,9 @@ module _ {T A S : Type 0} (stands : T → T → List (A × S) → Type 0) where
   abbrev M : Type 0
   M = Me (Option (Kept T A S)) D
 
-  module _ (opening : T) (log : List (Call A S)) (drawn : ℕ) (s : St) (r : InTurn stands opening log drawn s) (id : ℕ) (v : D) (at : get_elem? s.views id ≡ some v) (free : v.ticket ≡ None) (idle : v.served ≡ false) (member : 0 < v.share) where
+  module _ (opening : T) (log : List (Call A S)) (drawn : ℕ) (s : St) (r : InTurn stands opening log drawn s) (id : ℕ)
+      (v : D) (at : get_elem? s.views id ≡ some v) (free : v.ticket ≡ None) (idle : v.served ≡ false)
+      (member : 0 < v.share) where
     abbrev w : D
     w = record v { ticket = Some drawn }
 
@@ -85,7 +87,8 @@ module _ {T A S : Type 0} (stands : T → T → List (A × S) → Type 0) where
         (λ (apart : by ≢ id). (homes, (by, u, set_else s.views id by w apart ∙ e, served)))
         (same_or_not by id)
 
-    still_whole : (by : ℕ) × (u : D) × (get_elem? s.views by ≡ some u) × (0 < u.share) × (u.seen ≡ log) → (by : ℕ) × (u : D) × (get_elem? (set s.views id w) by ≡ some u) × (0 < u.share) × (u.seen ≡ log)
+    still_whole : (by : ℕ) × (u : D) × (get_elem? s.views by ≡ some u) × (0 < u.share) × (u.seen ≡ log)
+        → (by : ℕ) × (u : D) × (get_elem? (set s.views id w) by ≡ some u) × (0 < u.share) × (u.seen ≡ log)
     still_whole (by, u, e, live, all) = ⊎_elim
         (λ (same : by ≡ id). let is : v ≡ u = one_view s.views id v u at (subst (λ (n : ℕ). get_elem? s.views n ≡ some u) same e) in
         (id, w, placed s.views id v w at, member, ap (λ (x : D). x.seen) is ∙ all))

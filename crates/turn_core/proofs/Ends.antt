@@ -8,7 +8,7 @@ use Rattle.turn_core.specs.declared.view.Call.{Call}
 use Rattle.turn_core.specs.declared.view.View.{View}
 use Rattle.turn_core.specs.declared.view.Kept.{Kept}
 use Rattle.turn_core.specs.Rule.{Numbered, InTurn, Fits, AtHome, Away, share, has, OneList}
-use Rattle.turn_core.specs.Views.{Counted, IsWhole, numbers, StandsFor, newcomer, all_shares}
+use Rattle.turn_core.specs.Views.{Counted, IsWhole, numbers, StandsSince, newcomer, all_shares}
 use Rattle.turn_core.proofs.Numbers.{start_numbers}
 use Rattle.turn_core.proofs.Parts.{one_view, true_not_false, none_some, same_or_not, sum_of-two, only}
 
@@ -54,7 +54,8 @@ module _ {T A S : Type 0} (stands : T → T → List (A × S) → Type 0) where
     pub starts : (k : K) → k.value ≡ value → stands value value [] → OneList stands value (opening (0 ∷ 0 ∷ []) (Some k ∷ []) v₀)
     starts k is ok = ([], 0, starts_turns k is ok, start_numbers value)
 
-  module _ (o : T) (log : List (Call A S)) (drawn : ℕ) (s : St) (r : InTurn stands o log drawn s) (id : ℕ) (v : D) (at : get_elem? s.views id ≡ some v) (idle : v.served ≡ false) (all : v.share ≡ all_shares) where
+  module _ (o : T) (log : List (Call A S)) (drawn : ℕ) (s : St) (r : InTurn stands o log drawn s) (id : ℕ) (v : D)
+      (at : get_elem? s.views id ≡ some v) (idle : v.served ≡ false) (all : v.share ≡ all_shares) where
     others_spent : (by : ℕ) (u : D) → by ≢ id → get_elem? s.views by ≡ some u → u.share ≡ 0
     others_spent by u apart e = let two = sum_of-two (share {T = T} {A = A} {S = S}) s.views by id u v apart e at in omega (arith, two, all, r.shares)
 
@@ -73,12 +74,13 @@ module _ {T A S : Type 0} (stands : T → T → List (A × S) → Type 0) where
         (λ (apart : by ≢ id). absurd (omega (arith, r.whole.3, others_spent by u apart r.whole.2)))
         (same_or_not by id)
 
-    pub closes : (k : K) × (s.homes ≡ some (Some k) ∷ []) × StandsFor stands v.opening k.value v.seen
+    pub closes : (k : K) × (s.homes ≡ some (Some k) ∷ []) × StandsSince stands v.opening k.value v.seen
     closes = let home = at_home in
-        (home.0, home.1, subst (λ (z : Option T × List (Call A S)). StandsFor stands z.0 home.0.value z.1) (λ i. (sym ((r.each id v at).same (omega (arith, all))) i, sym sees_all i)) home.2)
+        (home.0, home.1, subst (λ (z : Option T × List (Call A S)). StandsSince stands z.0 home.0.value z.1) (λ i. (sym ((r.each id v at).same (omega (arith, all))) i, sym sees_all i)) home.2)
 
-  pub last_value : (o : T) (id : ℕ) (v : D) (ws : List ℕ) (xs : List (Option K)) (x : Option K) → v.served ≡ false → v.share ≡ all_shares → Final (Seen (OneList stands o) id v) ws xs → get_elem? xs 0 ≡ some x
-      → (k : K) × (x ≡ Some k) × StandsFor stands v.opening k.value v.seen
+  pub last_value : (o : T) (id : ℕ) (v : D) (ws : List ℕ) (xs : List (Option K)) (x : Option K) → v.served ≡ false
+      → v.share ≡ all_shares → Final (Seen (OneList stands o) id v) ws xs → get_elem? xs 0 ≡ some x
+      → (k : K) × (x ≡ Some k) × StandsSince stands v.opening k.value v.seen
   last_value o id v ws xs x idle all last e =
       let s = last.0 in
       let h = closes o last.1.0.0 last.1.0.1 s last.1.0.2 id v last.1.1 idle all in
@@ -86,10 +88,15 @@ module _ {T A S : Type 0} (stands : T → T → List (A × S) → Type 0) where
       (h.0, some-injective x (Some h.0) (sym e ∙ here), h.2)
 
   -- each call of the whole list was made under a number that the last pass knows
-  pub whole_list : (o : T) (log : List (Call A S)) (drawn : ℕ) (s : St) → InTurn stands o log drawn s → Numbered log s.views → (id : ℕ) (v : D) → get_elem? s.views id ≡ some v → v.served ≡ false → v.share ≡ all_shares → IsWhole v
+  pub whole_list : (o : T) (log : List (Call A S)) (drawn : ℕ) (s : St) → InTurn stands o log drawn s
+      → Numbered log s.views → (id : ℕ) (v : D) → get_elem? s.views id ≡ some v → v.served ≡ false
+      → v.share ≡ all_shares → IsWhole v
   whole_list o log drawn s r n id v at idle all =
       let whole : All (λ c. Contains (numbers v) c.by) log = λ k c h. (let known = n.known k c h in ⊎_elim
-      (λ (same : known.0 ≡ id). subst (λ (u : D). Contains (numbers u) (get_or log k c).by) (sym (one_view s.views id v known.1 at (subst (λ (j : ℕ). get_elem? s.views j ≡ some known.1) same known.2))) known.4)
+      (λ (same : known.0 ≡ id). subst (λ (u : D). Contains (numbers u) (get_or log k c).by)
+      (sym
+      (one_view s.views id v known.1 at (subst (λ (j : ℕ). get_elem? s.views j ≡ some known.1) same known.2)))
+      known.4)
       (λ (apart : known.0 ≢ id). absurd (let gone = others_spent o log drawn s r id v at idle all known.0 known.1 apart known.2 in omega (arith, gone, known.3)))
       (same_or_not known.0 id)) in
       subst (All (λ c. Contains (numbers v) c.by)) (sym (sees_all o log drawn s r id v at idle all)) whole

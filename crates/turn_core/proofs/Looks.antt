@@ -11,7 +11,7 @@ use Rattle.turn_core.specs.declared.view.View.{View}
 use Rattle.turn_core.specs.declared.view.Kept.{Kept}
 use Rattle.turn_core.specs.Plays.{Looks}
 use Rattle.turn_core.specs.Rule.{Numbered, InTurn, Fits, AtHome, Away, out, share, has, OneList, IsOut}
-use Rattle.turn_core.specs.Views.{StandsFor, all_shares}
+use Rattle.turn_core.specs.Views.{StandsSince, all_shares}
 use Rattle.turn_core.proofs.Numbers.{served_keeps}
 use Rattle.turn_core.proofs.Parts.{sum_of-replaced, sum_of-below, one_view, placed, true_not_false, some_same, same_or_not, prefix_trans}
 
@@ -34,7 +34,8 @@ module _ {T A S : Type 0} (stands : T → T → List (A × S) → Type 0) where
       let less = sum_of-below (out {T = T} {A = A} {S = S}) (share {T = T} {A = A} {S = S}) s.views (λ i v e. (r.each i v e).whole) in
       omega (arith, less, r.shares, r.tickets)
 
-  module _ (opening : T) (log : List (Call A S)) (drawn : ℕ) (s : St) (r : InTurn stands opening log drawn s) (id : ℕ) (v : D) (at : get_elem? s.views id ≡ some v) (t : ℕ) (mine : v.ticket ≡ Some t) (idle : v.served ≡ false) where
+  module _ (opening : T) (log : List (Call A S)) (drawn : ℕ) (s : St) (r : InTurn stands opening log drawn s) (id : ℕ)
+      (v : D) (at : get_elem? s.views id ≡ some v) (t : ℕ) (mine : v.ticket ≡ Some t) (idle : v.served ≡ false) where
     -- the word shows the ticket only where it is the ticket's turn
     turn_is : length log % 2 ^ 64 ≡ t % 2 ^ 64 → length log ≡ t
     turn_is e = let here = (r.each id v at).in_turn t mine in let few = few_out opening log drawn s r in
@@ -119,7 +120,14 @@ module _ {T A S : Type 0} (stands : T → T → List (A × S) → Type 0) where
         ap (λ (hs : List _). get_elem? hs 0) home.1,
         (log, drawn, served opening log drawn s r id v at t mine idle now home, served_keeps log s.views n id v at),
         λ t' e. (
-          (λ _. (home.0, refl, subst (λ (o : Option T). StandsFor stands o home.0.value log) (sym ((r.each id v at).same (live opening log drawn s r id v at t mine idle))) home.2, (r.each id v at).prefix, refl)),
+          (λ _. (
+            home.0,
+            refl,
+            subst (λ (o : Option T). StandsSince stands o home.0.value log)
+                (sym ((r.each id v at).same (live opening log drawn s r id v at t mine idle))) home.2,
+            (r.each id v at).prefix,
+            refl,
+          )),
           λ miss. absurd (miss (hit ∙ ap (λ (n : ℕ). n % 2 ^ 64) (some_same t t' (sym mine ∙ e)))),
         ),
       ))

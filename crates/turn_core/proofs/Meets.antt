@@ -29,7 +29,8 @@ module _ {T A S : Type 0} (stands : T → T → List (A × S) → Type 0) where
   abbrev M : Type 0
   M = Me (Option K) D
 
-  module _ (o : T) (log : List (Call A S)) (drawn : ℕ) (s : St) (r : InTurn stands o log drawn s) (id other : ℕ) (v w : D) (at : get_elem? s.views id ≡ some v) (apart : other ≢ id) (at_w : get_elem? s.views other ≡ some w)
+  module _ (o : T) (log : List (Call A S)) (drawn : ℕ) (s : St) (r : InTurn stands o log drawn s) (id other : ℕ)
+      (v w : D) (at : get_elem? s.views id ≡ some v) (apart : other ≢ id) (at_w : get_elem? s.views other ≡ some w)
       (free_v : v.ticket ≡ None) (idle_v : v.served ≡ false) (live_v : 0 < v.share) (free_w : w.ticket ≡ None) (idle_w : w.served ≡ false) where
     abbrev u : D
     u = both v w
@@ -69,7 +70,10 @@ module _ {T A S : Type 0} (stands : T → T → List (A × S) → Type 0) where
     which : (by : ℕ) (x : D) → get_elem? vs by ≡ some x → Which by x
     which by x e = ⊎_elim
         (λ (p : (by ≡ other) × (spent ≡ x)). inl p.1)
-        (λ (p : (by ≢ other) × (get_elem? vs₁ by ≡ some x)). ⊎_elim (λ (q : (by ≡ id) × (u ≡ x)). inr (inl q.1)) (λ (q : (by ≢ id) × (get_elem? s.views by ≡ some x)). inr (inr (p.0, q.0, q.1))) (at_set s.views id by u x p.1))
+        (λ (p : (by ≢ other) × (get_elem? vs₁ by ≡ some x)).
+        ⊎_elim (λ (q : (by ≡ id) × (u ≡ x)). inr (inl q.1))
+        (λ (q : (by ≢ id) × (get_elem? s.views by ≡ some x)). inr (inr (p.0, q.0, q.1)))
+        (at_set s.views id by u x p.1))
         (at_set vs₁ other by spent x e)
 
     each : (by : ℕ) (x : D) → get_elem? vs by ≡ some x → Fits stands o log drawn x
@@ -141,7 +145,10 @@ module _ {T A S : Type 0} (stands : T → T → List (A × S) → Type 0) where
       alone = λ i j a b t e f at_a at_b. r.alone i j a b t (with_ticket i t a e at_a) (with_ticket j t b f at_b) at_a at_b;
       tickets = let a = sum_of-replaced (out {T = T} {A = A} {S = S}) s.views id v u at in let b = sum_of-replaced (out {T = T} {A = A} {S = S}) vs₁ other w spent at₁ in
           let none_w : has w.ticket ≡ 0 = ap has free_w in omega (arith, a, b, none_w, r.tickets);
-      shares = let a = sum_of-replaced (share {T = T} {A = A} {S = S}) s.views id v u at in let b = sum_of-replaced (share {T = T} {A = A} {S = S}) vs₁ other w spent at₁ in omega (arith, a, b, r.shares);
+      shares =
+          let a = sum_of-replaced (share {T = T} {A = A} {S = S}) s.views id v u at in
+          let b = sum_of-replaced (share {T = T} {A = A} {S = S}) vs₁ other w spent at₁ in
+          omega (arith, a, b, r.shares);
       place = ⊎_elim (λ (home : AtHome stands o log s). inl (home.0, home.1, home.2, still_idle home.3)) (λ (away : Away stands s). inr (still_away away)) r.place;
       whole = still_whole r.whole;
     }

@@ -8,9 +8,9 @@ use Rattle.turn_core.specs.declared.view.Call.{Call}
 use Rattle.turn_core.specs.declared.view.View.{View}
 use Rattle.turn_core.specs.declared.view.Done.{Done}
 use Rattle.turn_core.specs.declared.view.Kept.{Kept}
-use Rattle.turn_core.specs.Plays.{Moves, moved}
+use Rattle.turn_core.specs.Plays.{GivesBack, moved}
 use Rattle.turn_core.specs.Rule.{InTurn, Fits, AtHome, Away, out, share, has, OneList, IsOut}
-use Rattle.turn_core.specs.Views.{StandsFor, next_call}
+use Rattle.turn_core.specs.Views.{StandsSince, next_call}
 use Rattle.turn_core.proofs.Numbers.{moved_keeps, moved_named}
 use Rattle.turn_core.proofs.Parts.{sum_of-replaced, prefix_more, one_view, placed, true_not_false, some_same, none_some, same_or_not, not_served}
 
@@ -37,8 +37,9 @@ module _ {T A S : Type 0} (stands : T → T → List (A × S) → Type 0) where
   abbrev M : Type 0
   M = Me (Option K) D
 
-  module _ (opening : T) (log : List (Call A S)) (drawn : ℕ) (s : St) (r : InTurn stands opening log drawn s) (id : ℕ) (v : D) (at : get_elem? s.views id ≡ some v) (served : v.served ≡ true) (k : K) (d : Done A S)
-      (for : StandsFor stands v.opening k.value (v.seen ++ next_call v d.ask.value d.say.value ∷ [])) where
+  module _ (opening : T) (log : List (Call A S)) (drawn : ℕ) (s : St) (r : InTurn stands opening log drawn s) (id : ℕ)
+      (v : D) (at : get_elem? s.views id ≡ some v) (served : v.served ≡ true) (k : K) (d : Done A S)
+      (for : StandsSince stands v.opening k.value (v.seen ++ next_call v d.ask.value d.say.value ∷ [])) where
     first : (v.ticket ≡ Some (length log)) × (v.seen ≡ log)
     first = (r.each id v at).first served
 
@@ -104,12 +105,15 @@ module _ {T A S : Type 0} (stands : T → T → List (A × S) → Type 0) where
     held t low high =
         let h = r.held t (omega (arith, low, longer)) high in
         let not_now : length log ≢ t = (λ (now : length log ≡ t). omega (arith, now, low, longer)) in ⊎_elim
-        (λ (same : h.0 ≡ id). absurd (not_now (some_same (length log) t (sym first.0 ∙ ap (λ (x : D). x.ticket) (one_view s.views id v h.1 at (subst (λ (n : ℕ). get_elem? s.views n ≡ some h.1) same h.2)) ∙ h.3))))
+        (λ (same : h.0 ≡ id). absurd (not_now (some_same (length log) t (sym first.0
+        ∙ ap (λ (x : D). x.ticket)
+        (one_view s.views id v h.1 at (subst (λ (n : ℕ). get_elem? s.views n ≡ some h.1) same h.2))
+        ∙ h.3))))
         (λ (apart : h.0 ≢ id). (h.0, h.1, set_else s.views id h.0 w apart ∙ h.2, h.3))
         (same_or_not h.0 id)
 
-    stands_for : StandsFor stands (Some opening) k.value log'
-    stands_for = subst (λ (z : Option T × List (Call A S)). StandsFor stands z.0 k.value (z.1 ++ call ∷ [])) (λ i. ((r.each id v at).same live i, first.1 i)) for
+    stands_for : StandsSince stands (Some opening) k.value log'
+    stands_for = subst (λ (z : Option T × List (Call A S)). StandsSince stands z.0 k.value (z.1 ++ call ∷ [])) (λ i. ((r.each id v at).same live i, first.1 i)) for
 
     pub kept : (n : ℕ) → n ≡ (length log + 1) % 2 ^ 64 → InTurn stands opening log' drawn (stepped s 1 n id ((0, Some k) ∷ []) w gives)
     kept n is = record {
@@ -123,8 +127,8 @@ module _ {T A S : Type 0} (stands : T → T → List (A × S) → Type 0) where
       place = inl (k, ap (λ (hs : List _). set hs 0 (some (Some k))) homes, stands_for, idle);
     }
 
-  moves_at : (opening : T) (slots id : ℕ) (v : D) (k : K) (d : Done A S) → v.served ≡ true → k.last ≡ Some d → StandsFor stands v.opening k.value (v.seen ++ next_call v d.ask.value d.say.value ∷ [])
-      → Allows (OneList stands opening) slots id (v, (0, Some k) ∷ []) 1 (λ n. (n + 1) % 2 ^ 64) (Moves (step slots 1 1 0 none) (v, (0, Some k) ∷ []))
+  moves_at : (opening : T) (slots id : ℕ) (v : D) (k : K) (d : Done A S) → v.served ≡ true → k.last ≡ Some d → StandsSince stands v.opening k.value (v.seen ++ next_call v d.ask.value d.say.value ∷ [])
+      → Allows (OneList stands opening) slots id (v, (0, Some k) ∷ []) 1 (λ n. (n + 1) % 2 ^ 64) (GivesBack (step slots 1 1 0 none) (v, (0, Some k) ∷ []))
   moves_at opening slots id v k d served last for s (log, drawn, r, n) deep at small =
       let found : get_or s.words 1 0 ≡ length log % 2 ^ 64 = ap (λ (ws : List ℕ). get_or ws 1 0) r.words in (
         moved v d,
@@ -142,8 +146,10 @@ module _ {T A S : Type 0} (stands : T → T → List (A × S) → Type 0) where
         ),
       )
 
-  pub moves : (opening : T) (slots id : ℕ) (m : M) (k : K) (d : Done A S) → m.0.served ≡ true → m.1 ≡ (0, Some k) ∷ [] → k.last ≡ Some d → StandsFor stands m.0.opening k.value (m.0.seen ++ next_call m.0 d.ask.value d.say.value ∷ [])
-      → Allows (OneList stands opening) slots id m 1 (λ n. (n + 1) % 2 ^ 64) (Moves (step slots 1 1 0 none) m)
+  pub moves : (opening : T) (slots id : ℕ) (m : M) (k : K) (d : Done A S) → m.0.served ≡ true → m.1 ≡ (0, Some k) ∷ []
+      → k.last ≡ Some d
+      → StandsSince stands m.0.opening k.value (m.0.seen ++ next_call m.0 d.ask.value d.say.value ∷ [])
+      → Allows (OneList stands opening) slots id m 1 (λ n. (n + 1) % 2 ^ 64) (GivesBack (step slots 1 1 0 none) m)
   moves opening slots id m k d served holds last for =
-      let P : List (ℕ × Option K) → Type 0 = λ c. Allows (OneList stands opening) slots id (m.0, c) 1 (λ n. (n + 1) % 2 ^ 64) (Moves (step slots 1 1 0 none) (m.0, c)) in
+      let P : List (ℕ × Option K) → Type 0 = λ c. Allows (OneList stands opening) slots id (m.0, c) 1 (λ n. (n + 1) % 2 ^ 64) (GivesBack (step slots 1 1 0 none) (m.0, c)) in
       subst P (sym holds) (moves_at opening slots id m.0 k d served last for)

@@ -12,7 +12,7 @@ use Rattle.turn_core.specs.declared.view.Call.{Call}
 use Rattle.turn_core.specs.declared.view.Done.{Done}
 use Rattle.turn_core.specs.declared.view.Met.{Met}
 use Rattle.turn_core.specs.declared.view.View.{View}
-use Rattle.turn_core.specs.Calls.{calls_of}
+use Rattle.turn_core.specs.Calls.{calls_under}
 use Rattle.turn_core.specs.Plays.{moved}
 use Rattle.turn_core.specs.Rule.{Named, Numbered, Disjoint, IsKnown}
 use Rattle.turn_core.specs.Views.{HasMade, Owns, numbers, next_call, newcomer, spent, left, right, both}
@@ -72,8 +72,14 @@ module _ {T A S : Type 0} where
   pub still_known : (views : List (View T A S)) (id : ℕ) (v w : View T A S) → get_elem? views id ≡ some v → (0 < v.share → 0 < w.share) → numbers w ≡ numbers v
       → (number : ℕ) → IsKnown views number → IsKnown (set views id w) number
   still_known views id v w at back same_numbers number (by, u, e, l, has) = ⊎_elim
-      (λ (same : by ≡ id). let is : v ≡ u = one_view views id v u at (subst (λ (k : ℕ). get_elem? views k ≡ some u) same e) in
-      (id, w, placed views id v w at, back (subst (λ (x : View T A S). 0 < x.share) (sym is) l), subst (λ (ns : List ℕ). Contains ns number) (ap (λ (x : View T A S). numbers x) (sym is) ∙ sym same_numbers) has))
+      (λ (same : by ≡ id). let is : v ≡ u = one_view views id v u at (subst (λ (k : ℕ). get_elem? views k ≡ some u) same e) in (
+        id,
+        w,
+        placed views id v w at,
+        back (subst (λ (x : View T A S). 0 < x.share) (sym is) l),
+        subst (λ (ns : List ℕ). Contains ns number) (ap (λ (x : View T A S). numbers x) (sym is) ∙ sym same_numbers)
+            has,
+      ))
       (λ (other : by ≢ id). (by, u, set_else views id by w other ∙ e, l, has))
       (same_or_not by id)
 
@@ -166,16 +172,28 @@ module _ {T A S : Type 0} where
     }
 
   -- a ticket is drawn, or nothing changes
-  pub drawn_keeps : (log : List (Call A S)) (views : List (View T A S)) → Numbered log views → (id : ℕ) (v : View T A S) (ticket : Option ℕ) → get_elem? views id ≡ some v → Numbered log (set views id (record v { ticket = ticket }))
+  pub drawn_keeps : (log : List (Call A S)) (views : List (View T A S)) → Numbered log views
+      → (id : ℕ) (v : View T A S) (ticket : Option ℕ) → get_elem? views id ≡ some v
+      → Numbered log (set views id (record v { ticket = ticket }))
   drawn_keeps log views n id v ticket at =
       let u : View T A S = record v { ticket = ticket } in
       replaced log log views n id v u at (λ l. l) refl (λ number o. o) refl
-      (λ l. let o = n.named id v at l in record { stride = o.stride; counted = record { own = o.counted.own; met = o.counted.met; distinct = o.counted.distinct }; own = o.own; unused = o.unused; met = o.met })
+      (λ l.
+      let o = n.named id v at l in
+      record {
+        stride = o.stride;
+        counted = record { own = o.counted.own; met = o.counted.met; distinct = o.counted.distinct };
+        own = o.own;
+        unused = o.unused;
+        met = o.met;
+      })
       (λ by u e apart l. n.named by u e l)
       (λ k d h. still_known views id v u at (λ l. l) refl _ (n.known k d h))
 
   -- the pass has seen all
-  pub served_keeps : (log : List (Call A S)) (views : List (View T A S)) → Numbered log views → (id : ℕ) (v : View T A S) → get_elem? views id ≡ some v → Numbered log (set views id (record v { seen = log; served = true }))
+  pub served_keeps : (log : List (Call A S)) (views : List (View T A S)) → Numbered log views
+      → (id : ℕ) (v : View T A S) → get_elem? views id ≡ some v
+      → Numbered log (set views id (record v { seen = log; served = true }))
   served_keeps log views n id v at =
       let u : View T A S = record v { seen = log; served = true } in
       replaced log log views n id v u at (λ l. l) refl (λ number o. o) refl
@@ -248,14 +266,14 @@ module _ {T A S : Type 0} where
     new_number : v.number + v.stride ≢ v.number
     new_number e = let s = whole.stride in omega (arith, e, s)
 
-    none_whole : (number : ℕ) → Owns (right v) number → number ≢ v.number → calls_of number log ≡ []
+    none_whole : (number : ℕ) → Owns (right v) number → number ≢ v.number → calls_under number log ≡ []
     none_whole number owned other = whole.unused number (owned_right v number owned) other
 
     not_old : (number : ℕ) → Owns (right v) number → number ≢ v.number
     not_old number owned e = parted v number whole.stride (subst (Owns (left v)) (sym e) (own_number (left v))) owned
 
     -- what none of the whole list has, none of a beginning has
-    none_seen : IsPrefix v.seen log → calls_of (v.number + v.stride) v.seen ≡ []
+    none_seen : IsPrefix v.seen log → calls_under (v.number + v.stride) v.seen ≡ []
     none_seen p = between (v.number + v.stride) [] v.seen log [] (v.seen, refl) p refl (none_whole (v.number + v.stride) (own_number (right v)) new_number)
 
     right_named : IsPrefix v.seen log → Named log (right v)
@@ -287,7 +305,8 @@ module _ {T A S : Type 0} where
         (right v) (right_named p) refl apart_from_right not_met_by_others
 
   -- two passes meet
-  module _ (log : List (Call A S)) (views : List (View T A S)) (n : Numbered log views) (id other : ℕ) (v w : View T A S) (at : get_elem? views id ≡ some v) (apart : other ≢ id) (at_w : get_elem? views other ≡ some w)
+  module _ (log : List (Call A S)) (views : List (View T A S)) (n : Numbered log views) (id other : ℕ)
+      (v w : View T A S) (at : get_elem? views id ≡ some v) (apart : other ≢ id) (at_w : get_elem? views other ≡ some w)
       (live_v : 0 < v.share) (live_w : 0 < w.share) (seen_v : IsPrefix v.seen log) (seen_w : IsPrefix w.seen log) where
     abbrev u : View T A S
     u = both v w
@@ -342,7 +361,9 @@ module _ {T A S : Type 0} where
         (at_set (set views id u) other by spent x e)
 
     -- each such view owns what an old one owned, which was not the other's
-    old_one : (by : ℕ) (x : View T A S) → get_elem? vs by ≡ some x → 0 < x.share → (y : View T A S) × (get_elem? views by ≡ some y) × (0 < y.share) × ((number : ℕ) → Owns x number → Owns y number) × (by ≢ other)
+    old_one : (by : ℕ) (x : View T A S) → get_elem? vs by ≡ some x → 0 < x.share
+        → (y : View T A S) × (get_elem? views by ≡ some y) × (0 < y.share)
+        × ((number : ℕ) → Owns x number → Owns y number) × (by ≢ other)
     old_one by x e l = ⊎_elim
         (λ (p : (by ≡ id) × (u ≡ x)).
         (v, subst (λ (k : ℕ). get_elem? views k ≡ some v) (sym p.0) at, live_v, (λ number o. subst (λ (z : View T A S). Owns z number) (sym p.1) o), λ same. apart (sym same ∙ p.0)))

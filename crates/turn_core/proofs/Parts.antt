@@ -10,7 +10,7 @@ use Rattle.atomic_table.specs.Table.{Me, rest}
 use Rattle.turn_core.specs.declared.view.Call.{Call}
 use Rattle.turn_core.specs.Calls.{plain}
 use Rattle.turn_core.specs.Rule.{sum_of}
-use Rattle.turn_core.specs.Views.{StandsFor}
+use Rattle.turn_core.specs.Views.{StandsSince}
 
 module _ {V : Type 0} where
   pub sum_of-replaced : (f : V → ℕ) (l : List V) (i : ℕ) (v w : V) → get_elem? l i ≡ some v → sum_of f (set l i w) + f v ≡ sum_of f l + f w
@@ -125,7 +125,7 @@ module _ {T A S : Type 0} (stands : T → T → List (A × S) → Type 0) where
   -- the value made one call more
   pub makes_call : (o : Option T) (value value' : T) (log : List (Call A S)) (c : Call A S) (a : A) (s : S)
       → ((opening : T) (calls : List (A × S)) → stands opening value calls → stands opening value' (calls ++ (a, s) ∷ []))
-      → c.ask ≡ a → c.say ≡ s → StandsFor stands o value log → StandsFor stands o value' (log ++ c ∷ [])
+      → c.ask ≡ a → c.say ≡ s → StandsSince stands o value log → StandsSince stands o value' (log ++ c ∷ [])
   makes_call o value value' log c a s step asked said (first, opened, h) = (
     first,
     opened,
@@ -134,5 +134,5 @@ module _ {T A S : Type 0} (stands : T → T → List (A × S) → Type 0) where
 
   -- what a value stands for is lawful
   pub lawful_of : (lawful : T → List (A × S) → Type 0) → ((first now : T) (calls : List (A × S)) → stands first now calls → lawful first calls)
-      → (o : Option T) (value : T) (log : List (Call A S)) → StandsFor stands o value log → (first : T) × (o ≡ Some first) × lawful first (plain log)
+      → (o : Option T) (value : T) (log : List (Call A S)) → StandsSince stands o value log → (first : T) × (o ≡ Some first) × lawful first (plain log)
   lawful_of lawful law o value log (first, opened, h) = (first, opened, law first value (plain log) h)

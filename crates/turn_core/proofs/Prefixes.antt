@@ -52,8 +52,12 @@ module _ {A S : Type 0} where
 
   pub shorter_begins : (xs ys zs : List (Call A S)) → IsPrefix xs zs → IsPrefix ys zs → IsPrefix (shorter xs ys) (longer xs ys)
   shorter_begins xs ys zs p q = ⊎_elim
-      (λ (c : (longer xs ys ≡ ys) × (shorter xs ys ≡ xs) × (length xs ≤ length ys)). subst (λ (l : List (Call A S) × List (Call A S)). IsPrefix l.0 l.1) (λ i. (sym c.1 i, sym c.0 i)) (prefix_of xs ys zs p q c.2))
-      (λ (c : (longer xs ys ≡ xs) × (shorter xs ys ≡ ys) × (length ys ≤ length xs)). subst (λ (l : List (Call A S) × List (Call A S)). IsPrefix l.0 l.1) (λ i. (sym c.1 i, sym c.0 i)) (prefix_of ys xs zs q p c.2))
+      (λ (c : (longer xs ys ≡ ys) × (shorter xs ys ≡ xs) × (length xs ≤ length ys)).
+      subst (λ (l : List (Call A S) × List (Call A S)). IsPrefix l.0 l.1) (λ i. (sym c.1 i, sym c.0 i))
+      (prefix_of xs ys zs p q c.2))
+      (λ (c : (longer xs ys ≡ xs) × (shorter xs ys ≡ ys) × (length ys ≤ length xs)).
+      subst (λ (l : List (Call A S) × List (Call A S)). IsPrefix l.0 l.1) (λ i. (sym c.1 i, sym c.0 i))
+      (prefix_of ys xs zs q p c.2))
       (cases xs ys)
 
   pub longer_whole : (xs ys zs : List (Call A S)) → IsPrefix xs zs → IsPrefix ys zs → (xs ≡ zs) ⊎ (ys ≡ zs) → longer xs ys ≡ zs

@@ -25,7 +25,8 @@ module _ {T A S : Type 0} (stands : T → T → List (A × S) → Type 0) where
   abbrev M : Type 0
   M = Me (Option K) D
 
-  module _ (o : T) (log : List (Call A S)) (drawn : ℕ) (s : St) (r : InTurn stands o log drawn s) (id : ℕ) (v : D) (at : get_elem? s.views id ≡ some v) (free : v.ticket ≡ None) (idle : v.served ≡ false) (more : 1 < v.share) where
+  module _ (o : T) (log : List (Call A S)) (drawn : ℕ) (s : St) (r : InTurn stands o log drawn s) (id : ℕ) (v : D)
+      (at : get_elem? s.views id ≡ some v) (free : v.ticket ≡ None) (idle : v.served ≡ false) (more : 1 < v.share) where
     abbrev vs : List D
     vs = set s.views id (left v)
 
@@ -92,7 +93,8 @@ module _ {T A S : Type 0} (stands : T → T → List (A × S) → Type 0) where
         (λ (apart : by ≢ id). (homes, (by, u, kept_view by u apart e, served)))
         (same_or_not by id)
 
-    still_whole : (by : ℕ) × (u : D) × (get_elem? s.views by ≡ some u) × (0 < u.share) × (u.seen ≡ log) → (by : ℕ) × (u : D) × (get_elem? (vs ++ right v ∷ []) by ≡ some u) × (0 < u.share) × (u.seen ≡ log)
+    still_whole : (by : ℕ) × (u : D) × (get_elem? s.views by ≡ some u) × (0 < u.share) × (u.seen ≡ log)
+        → (by : ℕ) × (u : D) × (get_elem? (vs ++ right v ∷ []) by ≡ some u) × (0 < u.share) × (u.seen ≡ log)
     still_whole (by, u, e, member, all) = ⊎_elim
         (λ (same : by ≡ id). let is : v ≡ u = one_view s.views id v u at (subst (λ (n : ℕ). get_elem? s.views n ≡ some u) same e) in
         (id, left v, at_longer vs (right v ∷ []) id (left v) (placed s.views id v (left v) at), omega (arith, more), ap (λ (x : D). x.seen) is ∙ all))
@@ -105,8 +107,15 @@ module _ {T A S : Type 0} (stands : T → T → List (A × S) → Type 0) where
       held = held;
       each = each;
       alone = λ i j a b t e f at_a at_b. r.alone i j a b t (with_ticket i t a e at_a) (with_ticket j t b f at_b) at_a at_b;
-      tickets = let a = sum_of-replaced (out {T = T} {A = A} {S = S}) s.views id v (left v) at in let b = sum_of-snoc (out {T = T} {A = A} {S = S}) vs (right v) in let none_yet : has v.ticket ≡ 0 = ap has free in omega (arith, a, b, none_yet, r.tickets);
-      shares = let a = sum_of-replaced (share {T = T} {A = A} {S = S}) s.views id v (left v) at in let b = sum_of-snoc (share {T = T} {A = A} {S = S}) vs (right v) in omega (arith, a, b, more, r.shares);
+      tickets =
+          let a = sum_of-replaced (out {T = T} {A = A} {S = S}) s.views id v (left v) at in
+          let b = sum_of-snoc (out {T = T} {A = A} {S = S}) vs (right v) in
+          let none_yet : has v.ticket ≡ 0 = ap has free in
+          omega (arith, a, b, none_yet, r.tickets);
+      shares =
+          let a = sum_of-replaced (share {T = T} {A = A} {S = S}) s.views id v (left v) at in
+          let b = sum_of-snoc (share {T = T} {A = A} {S = S}) vs (right v) in
+          omega (arith, a, b, more, r.shares);
       place = ⊎_elim (λ (home : AtHome stands o log s). inl (home.0, home.1, home.2, still_idle home.3)) (λ (away : Away stands s). inr (still_away away)) r.place;
       whole = still_whole r.whole;
     }

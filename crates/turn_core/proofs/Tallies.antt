@@ -5,7 +5,7 @@ use Rattle.turn_core.specs.declared.view.Call.{Call}
 use Rattle.turn_core.specs.declared.view.Met.{Met}
 use Rattle.turn_core.specs.declared.view.View.{View}
 use Rattle.turn_core.specs.Views.{IsWhole, all_shares, both, left, newcomer, numbers, right}
-use Rattle.turn_core.specs.Calls.{calls_of}
+use Rattle.turn_core.specs.Calls.{calls_under}
 use Rattle.std.specs.List.{range_with_len}
 use Rattle.std.proofs.lemmas.List.FromFn.{map-range_with_len_more}
 use mathlib.Core.List.{map-append}
@@ -34,23 +34,23 @@ one_of p q n (suc (suc k), h, e) = absurd (omega (arith, h))
 
 -- where all calls are under two numbers, the list has as many as there are under both
 module _ {A S : Type 0} (p q : ℕ) (apart : p ≢ q) where
-  pub two_numbers : (xs : List (Call A S)) → All (λ c. Contains (p ∷ q ∷ []) c.by) xs → length xs ≡ length (calls_of p xs) + length (calls_of q xs)
+  pub two_numbers : (xs : List (Call A S)) → All (λ c. Contains (p ∷ q ∷ []) c.by) xs → length xs ≡ length (calls_under p xs) + length (calls_under q xs)
   two_numbers [] all = omega arith
   two_numbers (c ∷ cs) all =
       let r = two_numbers cs (λ k d h. all (suc k) d (omega (arith, h))) in
-      let of_p : List (Call A S) = calls_of p cs in
-      let of_q : List (Call A S) = calls_of q cs in
+      let of_p : List (Call A S) = calls_under p cs in
+      let of_q : List (Call A S) = calls_under q cs in
       ⊎_elim
       (λ (is : c.by ≡ p).
-      let a : calls_of p (c ∷ cs) ≡ c ∷ of_p = ap (λ b. cond b (c ∷ of_p) of_p) (eq-eqb c.by p is) in
-      let b : calls_of q (c ∷ cs) ≡ of_q = ap (λ b. cond b (c ∷ of_q) of_q) (ne_eqb c.by q (λ e. apart (sym is ∙ e))) in
-      let m : length (calls_of p (c ∷ cs)) ≡ suc (length of_p) = ap length a in
-      let n : length (calls_of q (c ∷ cs)) ≡ length of_q = ap length b in omega (arith, r, m, n))
+      let a : calls_under p (c ∷ cs) ≡ c ∷ of_p = ap (λ b. cond b (c ∷ of_p) of_p) (eq-eqb c.by p is) in
+      let b : calls_under q (c ∷ cs) ≡ of_q = ap (λ b. cond b (c ∷ of_q) of_q) (ne_eqb c.by q (λ e. apart (sym is ∙ e))) in
+      let m : length (calls_under p (c ∷ cs)) ≡ suc (length of_p) = ap length a in
+      let n : length (calls_under q (c ∷ cs)) ≡ length of_q = ap length b in omega (arith, r, m, n))
       (λ (is : c.by ≡ q).
-      let a : calls_of p (c ∷ cs) ≡ of_p = ap (λ b. cond b (c ∷ of_p) of_p) (ne_eqb c.by p (λ e. apart (sym e ∙ is))) in
-      let b : calls_of q (c ∷ cs) ≡ c ∷ of_q = ap (λ b. cond b (c ∷ of_q) of_q) (eq-eqb c.by q is) in
-      let m : length (calls_of p (c ∷ cs)) ≡ length of_p = ap length a in
-      let n : length (calls_of q (c ∷ cs)) ≡ suc (length of_q) = ap length b in omega (arith, r, m, n))
+      let a : calls_under p (c ∷ cs) ≡ of_p = ap (λ b. cond b (c ∷ of_p) of_p) (ne_eqb c.by p (λ e. apart (sym e ∙ is))) in
+      let b : calls_under q (c ∷ cs) ≡ c ∷ of_q = ap (λ b. cond b (c ∷ of_q) of_q) (eq-eqb c.by q is) in
+      let m : length (calls_under p (c ∷ cs)) ≡ length of_p = ap length a in
+      let n : length (calls_under q (c ∷ cs)) ≡ suc (length of_q) = ap length b in omega (arith, r, m, n))
       (one_of p q c.by (all 0 c (omega arith)))
 
 -- three turns, a split, a turn of the new pass, and a meeting: all calls are under the numbers 0 and 1
@@ -63,7 +63,7 @@ module _ {T A S : Type 0} where
   fixed v = (v.number, v.stride, v.met, v.share)
 
   pub three_and_one : (v₀ v₁ v₂ v₃ l r u m : View T A S) (first : T) → v₀ ≡ newcomer first → Goes v₀ v₁ → Goes v₁ v₂ → Goes v₂ v₃ → l ≡ left v₃ → r ≡ right v₃ → Goes r u → m ≡ both l u
-      → (m.share ≡ all_shares → IsWhole m) → length m.seen ≡ length (calls_of 0 m.seen) + length (calls_of 1 m.seen)
+      → (m.share ≡ all_shares → IsWhole m) → length m.seen ≡ length (calls_under 0 m.seen) + length (calls_under 1 m.seen)
   three_and_one v₀ v₁ v₂ v₃ l r u m first e₀ e₁ e₂ e₃ el er eu em whole =
       let at₃ : fixed v₃ ≡ (0, 1, [], all_shares) = ap fixed e₃ ∙ ap fixed e₂ ∙ ap fixed e₁ ∙ ap fixed e₀ in
       let share_l : l.share ≡ all_shares - 1 = ap (λ (v : View T A S). v.share) el ∙ (λ i. (at₃ i).3 - 1) in

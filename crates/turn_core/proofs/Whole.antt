@@ -7,7 +7,7 @@ use Rattle.turn_core.specs.declared.view.Done.{Done}
 use Rattle.turn_core.specs.declared.view.Kept.{Kept}
 use Rattle.turn_core.specs.Calls.{plain}
 use Rattle.turn_core.specs.Plays.{Served, moved}
-use Rattle.turn_core.specs.Views.{StandsFor, IsLawful, Called, AtRest, next_call, Counted}
+use Rattle.turn_core.specs.Views.{StandsSince, IsLawful, Called, AtRest, next_call, Counted}
 use Rattle.turn_core.proofs.Parts.{lawful_of}
 
 module _ {T A S : Type 0} (stands : T → T → List (A × S) → Type 0) where
@@ -26,13 +26,13 @@ module _ {T A S : Type 0} (stands : T → T → List (A × S) → Type 0) where
   abbrev Held : M → K → Done A S → Type 0
   Held m k d = (m.1 ≡ (0, Some k) ∷ []) × (k.last ≡ Some d)
 
-  pub holds_value : (m₁ m₂ : M) → Served stands m₁ m₂ → (k : K) × (m₂.1 ≡ (0, Some k) ∷ []) × StandsFor stands m₂.0.opening k.value m₂.0.seen
-  holds_value m₁ m₂ h = (h.0, h.1, subst (λ (o : Option T). StandsFor stands o h.0.value m₂.0.seen) (sym (ap (λ (v : D). v.opening) h.4)) h.2)
+  pub holds_value : (m₁ m₂ : M) → Served stands m₁ m₂ → (k : K) × (m₂.1 ≡ (0, Some k) ∷ []) × StandsSince stands m₂.0.opening k.value m₂.0.seen
+  holds_value m₁ m₂ h = (h.0, h.1, subst (λ (o : Option T). StandsSince stands o h.0.value m₂.0.seen) (sym (ap (λ (v : D). v.opening) h.4)) h.2)
 
   pub may_move : (m₂ m₃ : M) (k : K) (d : Done A S) → m₃.0 ≡ m₂.0 → m₃.1 ≡ (0, Some k) ∷ [] → k.last ≡ Some d
-      → StandsFor stands m₃.0.opening k.value (m₂.0.seen ++ next_call m₂.0 d.ask.value d.say.value ∷ [])
-      → (k : K) × (d : Done A S) × (m₃.1 ≡ (0, Some k) ∷ []) × (k.last ≡ Some d) × StandsFor stands m₃.0.opening k.value (m₃.0.seen ++ next_call m₃.0 d.ask.value d.say.value ∷ [])
-  may_move m₂ m₃ k d same held last for = (k, d, held, last, subst (λ (v : D). StandsFor stands m₃.0.opening k.value (v.seen ++ next_call v d.ask.value d.say.value ∷ [])) (sym same) for)
+      → StandsSince stands m₃.0.opening k.value (m₂.0.seen ++ next_call m₂.0 d.ask.value d.say.value ∷ [])
+      → (k : K) × (d : Done A S) × (m₃.1 ≡ (0, Some k) ∷ []) × (k.last ≡ Some d) × StandsSince stands m₃.0.opening k.value (m₃.0.seen ++ next_call m₃.0 d.ask.value d.say.value ∷ [])
+  may_move m₂ m₃ k d same held last for = (k, d, held, last, subst (λ (v : D). StandsSince stands m₃.0.opening k.value (v.seen ++ next_call v d.ask.value d.say.value ∷ [])) (sym same) for)
 
   module _ (m₀ m₁ m₂ m₃ m₄ : M) (t : ℕ) (k : K) (d : Done A S) (a : A) (s : S) (at_rest : AtRest m₀) (drawn : m₁ ≡ (drew m₀.0 t, [])) (served : Served stands m₁ m₂)
       (same : m₃.0 ≡ m₂.0) (held : m₃.1 ≡ (0, Some k) ∷ []) (last : k.last ≡ Some d) (asked : d.ask.value ≡ a) (said : d.say.value ≡ s)
@@ -72,7 +72,7 @@ module _ {T A S : Type 0} (stands : T → T → List (A × S) → Type 0) where
     is_counted = (moves k d held last).1
 
     -- the list at the end is what the value stands for
-    pub lawful_at_end : StandsFor stands m₃.0.opening k.value (m₂.0.seen ++ next_call m₂.0 d.ask.value d.say.value ∷ [])
+    pub lawful_at_end : StandsSince stands m₃.0.opening k.value (m₂.0.seen ++ next_call m₂.0 d.ask.value d.say.value ∷ [])
         → (lawful : T → List (A × S) → Type 0) → ((first now : T) (calls : List (A × S)) → stands first now calls → lawful first calls)
         → IsLawful lawful m₄.0
     lawful_at_end for lawful law =

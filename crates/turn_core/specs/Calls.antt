@@ -8,8 +8,8 @@ module _ {A S : Type 0} where
   plain = map (λ c. (c.ask, c.say))
 
   -- the calls that were made under this pass number, in order
-  abbrev pub calls_of : ℕ → List (Call A S) → List (Call A S)
-  calls_of number = filter (λ c. c.by == number)
+  abbrev pub calls_under : ℕ → List (Call A S) → List (Call A S)
+  calls_under number = filter (λ c. c.by == number)
 
   -- the longer of two lists; where they are as long as each other, the first
   abbrev pub longer : List (Call A S) → List (Call A S) → List (Call A S)

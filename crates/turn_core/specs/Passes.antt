@@ -12,9 +12,10 @@ module _ {T A S : Type 0} where
   view p = p.seat.me.0
 
   -- the pass is between two calls, and its number of calls is kept
-  abbrev pub IsAtRest : TicketPass (Option (Kept T A S)) (View T A S) → Type 0
-  IsAtRest p = AtRest p.seat.me × (p.calls ≡ min (length p.seat.me.0.made) (2 ^ 64 - 1))
+  abbrev pub IsBetweenCalls : TicketPass (Option (Kept T A S)) (View T A S) → Type 0
+  IsBetweenCalls p = AtRest p.seat.me × (p.calls ≡ min (length p.seat.me.0.made) (2 ^ 64 - 1))
 
   -- the pass is one of these turns, and between two calls
-  abbrev pub IsPassOf : {K P : Type 0} → TicketLock (Option (Kept T A S)) (View T A S) K P → TicketPass (Option (Kept T A S)) (View T A S) → Type 0
-  IsPassOf turns p = (p.seat.table_id ≡ turns.table.shared.table_id) × IsAtRest p
+  abbrev pub IsPassOf : {K P : Type 0} → TicketLock (Option (Kept T A S)) (View T A S) K P
+      → TicketPass (Option (Kept T A S)) (View T A S) → Type 0
+  IsPassOf turns p = (p.seat.table_id ≡ turns.table.shared.table_id) × IsBetweenCalls p

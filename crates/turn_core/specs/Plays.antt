@@ -5,7 +5,7 @@ use Rattle.atomic_table.specs.Table.{Me, Step}
 use Rattle.turn_core.specs.declared.view.Done.{Done}
 use Rattle.turn_core.specs.declared.view.Kept.{Kept}
 use Rattle.turn_core.specs.declared.view.View.{View}
-use Rattle.turn_core.specs.Views.{Counted, IsWhole, StandsFor, all_shares, next_call}
+use Rattle.turn_core.specs.Views.{Counted, IsWhole, StandsSince, all_shares, next_call}
 
 -- what a pass knows, and the slot if it has taken it
 abbrev pub Place : Type 0 → Type 0 → Type 0 → Type 0
@@ -28,8 +28,8 @@ module _ {T A S : Type 0} where
   Moved m d m' = (m' ≡ (moved m.0 d, [])) × Counted m'.0
 
   -- move: the call that the slot tells of is the last one of the list, and the value is given back
-  abbrev pub Moves : Step (Option (Kept T A S)) → Place T A S → ℕ → Place T A S → Type 0
-  Moves st m found m' = (k : Kept T A S) (d : Done A S) → m.1 ≡ (0, Some k) ∷ [] → k.last ≡ Some d → Moved m d m'
+  abbrev pub GivesBack : Step (Option (Kept T A S)) → Place T A S → ℕ → Place T A S → Type 0
+  GivesBack st m found m' = (k : Kept T A S) (d : Done A S) → m.1 ≡ (0, Some k) ∷ [] → k.last ≡ Some d → Moved m d m'
 
   -- nothing changed: the shorter of the lists of a meeting begins the longer; the calls under the pass's numbers are
   -- those that were made; and where it has every share it knows all calls
@@ -44,9 +44,11 @@ module _ {T A S : Type 0} (stands : T → T → List (A × S) → Type 0) where
   -- the pass is served: it has taken the value, which stands for a list, and has seen all calls
   abbrev pub Served : Place T A S → Place T A S → Type 0
   Served m m' =
-      (k : Kept T A S) × (m'.1 ≡ (0, Some k) ∷ []) × StandsFor stands m.0.opening k.value m'.0.seen × IsPrefix m.0.seen m'.0.seen
+      (k : Kept T A S) × (m'.1 ≡ (0, Some k) ∷ []) × StandsSince stands m.0.opening k.value m'.0.seen
+      × IsPrefix m.0.seen m'.0.seen
       × (m'.0 ≡ record m.0 { seen = m'.0.seen; served = true })
 
   -- look: the pass is served where the number found is that of its ticket; else nothing changed
   abbrev pub Looks : Step (Option (Kept T A S)) → Place T A S → ℕ → Place T A S → Type 0
-  Looks st m found m' = (t : ℕ) → m.0.ticket ≡ Some t → (found ≡ t % 2 ^ 64 → Served m m') × (found ≢ t % 2 ^ 64 → m' ≡ m)
+  Looks st m found m' =
+      (t : ℕ) → m.0.ticket ≡ Some t → (found ≡ t % 2 ^ 64 → Served m m') × (found ≢ t % 2 ^ 64 → m' ≡ m)

@@ -7,8 +7,8 @@ use Rattle.atomic_table.specs.Table.{State}
 use Rattle.turn_core.specs.declared.view.Call.{Call}
 use Rattle.turn_core.specs.declared.view.Kept.{Kept}
 use Rattle.turn_core.specs.declared.view.View.{View}
-use Rattle.turn_core.specs.Calls.{calls_of}
-use Rattle.turn_core.specs.Views.{all_shares, HasMade, Owns, Counted, StandsFor, numbers}
+use Rattle.turn_core.specs.Calls.{calls_under}
+use Rattle.turn_core.specs.Views.{all_shares, HasMade, Owns, Counted, StandsSince, numbers}
 
 -- the sum of f over a list
 abbrev pub sum_of : {V : Type 0} → (V → ℕ) → List V → ℕ
@@ -42,21 +42,25 @@ module _ {T A S : Type 0} where
   pub record Named (log : List (Call A S)) (v : View T A S) : Type 0 where
     pub stride : 0 < v.stride
     pub counted : Counted v
-    pub own : calls_of v.number log ≡ v.made
-    pub unused : (number : ℕ) → Owns v number → number ≢ v.number → calls_of number log ≡ []
+    pub own : calls_under v.number log ≡ v.made
+    pub unused : (number : ℕ) → Owns v number → number ≢ v.number → calls_under number log ≡ []
     pub met : All (HasMade log) v.met
 
   -- some pass that is not spent knows the calls under the number
   abbrev pub IsKnown : List (View T A S) → ℕ → Type 0
-  IsKnown views number = (by : ℕ) × (v : View T A S) × (get_elem? views by ≡ some v) × (0 < v.share) × Contains (numbers v) number
+  IsKnown views number =
+      (by : ℕ) × (v : View T A S) × (get_elem? views by ≡ some v) × (0 < v.share) × Contains (numbers v) number
 
   -- no number is two passes'; a number that was met is no pass's any more, and met by one pass alone; and each call
   -- of the whole list was made under a number that is a pass's or met
   pub record Numbered (log : List (Call A S)) (views : List (View T A S)) : Type 0 where
     pub named : (by : ℕ) (v : View T A S) → get_elem? views by ≡ some v → 0 < v.share → Named log v
-    pub apart : (i j : ℕ) (v w : View T A S) (number : ℕ) → get_elem? views i ≡ some v → get_elem? views j ≡ some w → 0 < v.share → 0 < w.share → Owns v number → Owns w number → i ≡ j
-    pub gone : (i j : ℕ) (v w : View T A S) → get_elem? views i ≡ some v → get_elem? views j ≡ some w → 0 < v.share → 0 < w.share → All (λ m. Owns w m.number → ⊥) v.met
-    pub once : (i j : ℕ) (v w : View T A S) → i ≢ j → get_elem? views i ≡ some v → get_elem? views j ≡ some w → 0 < v.share → 0 < w.share → Disjoint (numbers v) (numbers w)
+    pub apart : (i j : ℕ) (v w : View T A S) (number : ℕ) → get_elem? views i ≡ some v → get_elem? views j ≡ some w
+        → 0 < v.share → 0 < w.share → Owns v number → Owns w number → i ≡ j
+    pub gone : (i j : ℕ) (v w : View T A S) → get_elem? views i ≡ some v → get_elem? views j ≡ some w → 0 < v.share
+        → 0 < w.share → All (λ m. Owns w m.number → ⊥) v.met
+    pub once : (i j : ℕ) (v w : View T A S) → i ≢ j → get_elem? views i ≡ some v → get_elem? views j ≡ some w
+        → 0 < v.share → 0 < w.share → Disjoint (numbers v) (numbers w)
     pub known : All (λ c. IsKnown views c.by) log
 
 module _ {T A S : Type 0} (stands : T → T → List (A × S) → Type 0) where
@@ -72,7 +76,9 @@ module _ {T A S : Type 0} (stands : T → T → List (A × S) → Type 0) where
 
   -- the value is in the slot and stands for the whole list, and no pass is served
   abbrev pub AtHome : T → List (Call A S) → State (Option (Kept T A S)) (View T A S) → Type 0
-  AtHome first log s = (k : Kept T A S) × (s.homes ≡ some (Some k) ∷ []) × StandsFor stands (Some first) k.value log × ((by : ℕ) (v : View T A S) → get_elem? s.views by ≡ some v → v.served ≡ false)
+  AtHome first log s =
+      (k : Kept T A S) × (s.homes ≡ some (Some k) ∷ []) × StandsSince stands (Some first) k.value log
+      × ((by : ℕ) (v : View T A S) → get_elem? s.views by ≡ some v → v.served ≡ false)
 
   -- a pass that is served has taken the value out
   abbrev pub Away : State (Option (Kept T A S)) (View T A S) → Type 0
@@ -80,10 +86,12 @@ module _ {T A S : Type 0} (stands : T → T → List (A × S) → Type 0) where
 
   -- the tickets out are the numbers from the one that is served up to, but not including, the next one to be drawn,
   -- each with one pass; the list has as many calls as tickets were served
-  pub record InTurn (first : T) (log : List (Call A S)) (drawn : ℕ) (s : State (Option (Kept T A S)) (View T A S)) : Type 0 where
+  pub record InTurn (first : T) (log : List (Call A S)) (drawn : ℕ) (s : State (Option (Kept T A S)) (View T A S))
+      : Type 0 where
     pub words : s.words ≡ (drawn % 2 ^ 64) ∷ (length log % 2 ^ 64) ∷ []
     pub each : (by : ℕ) (v : View T A S) → get_elem? s.views by ≡ some v → Fits first log drawn v
-    pub alone : (i j : ℕ) (v w : View T A S) (t : ℕ) → get_elem? s.views i ≡ some v → get_elem? s.views j ≡ some w → v.ticket ≡ Some t → w.ticket ≡ Some t → i ≡ j
+    pub alone : (i j : ℕ) (v w : View T A S) (t : ℕ) → get_elem? s.views i ≡ some v → get_elem? s.views j ≡ some w
+        → v.ticket ≡ Some t → w.ticket ≡ Some t → i ≡ j
     pub held : (t : ℕ) → length log ≤ t → t < drawn → IsOut s.views t
     pub tickets : sum_of out s.views + length log ≡ drawn
     pub shares : sum_of share s.views ≡ all_shares

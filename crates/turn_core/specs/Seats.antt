@@ -7,7 +7,7 @@ use Rattle.turn_core.specs.declared.view.Kept.{Kept}
 use Rattle.turn_core.specs.declared.view.View.{View}
 use Rattle.turn_core.specs.Plays.{Place}
 use Rattle.turn_core.specs.Rule.{has}
-use Rattle.turn_core.specs.Views.{StandsFor, next_call}
+use Rattle.turn_core.specs.Views.{StandsSince, next_call}
 
 module _ {S V : Type 0} where
   -- the seat is one at this table, which has the two words and the slot
@@ -30,16 +30,17 @@ module _ {T A S : Type 0} where
 module _ {T A S : Type 0} (stands : T → T → List (A × S) → Type 0) where
   -- it has the value, which stands for the list that the pass has seen
   abbrev pub HasValue : Place T A S → Type 0
-  HasValue m = (k : Kept T A S) × (m.1 ≡ (0, Some k) ∷ []) × StandsFor stands m.0.opening k.value m.0.seen
+  HasValue m = (k : Kept T A S) × (m.1 ≡ (0, Some k) ∷ []) × StandsSince stands m.0.opening k.value m.0.seen
 
   -- it has the value, which stands for that list and the call that the slot tells of
   abbrev pub HasCalled : Place T A S → Type 0
   HasCalled m =
       (k : Kept T A S) × (d : Done A S) × (m.1 ≡ (0, Some k) ∷ []) × (k.last ≡ Some d)
-      × StandsFor stands m.0.opening k.value (m.0.seen ++ next_call m.0 d.ask.value d.say.value ∷ [])
+      × StandsSince stands m.0.opening k.value (m.0.seen ++ next_call m.0 d.ask.value d.say.value ∷ [])
 
   -- the same, where that call was this one, and the pass knew v before it
   abbrev pub HasAnswered : View T A S → A → S → Place T A S → Type 0
   HasAnswered v ask say m =
-      (k : Kept T A S) × (d : Done A S) × (m.1 ≡ (0, Some k) ∷ []) × (k.last ≡ Some d) × (d.ask.value ≡ ask) × (d.say.value ≡ say)
-      × StandsFor stands m.0.opening k.value (v.seen ++ next_call v d.ask.value d.say.value ∷ [])
+      (k : Kept T A S) × (d : Done A S) × (m.1 ≡ (0, Some k) ∷ []) × (k.last ≡ Some d) × (d.ask.value ≡ ask)
+      × (d.say.value ≡ say)
+      × StandsSince stands m.0.opening k.value (v.seen ++ next_call v d.ask.value d.say.value ∷ [])

@@ -6,7 +6,7 @@ use Rattle.turn_core.specs.declared.view.Call.{Call}
 use Rattle.turn_core.specs.declared.view.Kept.{Kept}
 use Rattle.turn_core.specs.declared.view.Met.{Met}
 use Rattle.turn_core.specs.declared.view.View.{View}
-use Rattle.turn_core.specs.Calls.{plain, calls_of, longer, shorter}
+use Rattle.turn_core.specs.Calls.{plain, calls_under, longer, shorter}
 
 -- the shares of all passes together
 abbrev pub all_shares : ℕ
@@ -15,16 +15,39 @@ all_shares = 4_294_967_295
 module _ {A S : Type 0} where
   -- the list has under this number the calls that were made under it, each once and in order
   abbrev pub HasMade : List (Call A S) → Met A S → Type 0
-  HasMade list m = calls_of m.number list ≡ m.made
+  HasMade list m = calls_under m.number list ≡ m.made
 
 module _ {T A S : Type 0} where
   -- the first pass, which may give out every number
   abbrev pub newcomer : T → View T A S
-  newcomer first = record { opening = Some first; number = 0; stride = 1; seen = []; older = []; made = []; met = []; share = all_shares; ticket = None; served = false }
+  newcomer first =
+      record {
+        opening = Some first;
+        number = 0;
+        stride = 1;
+        seen = [];
+        older = [];
+        made = [];
+        met = [];
+        share = all_shares;
+        ticket = None;
+        served = false;
+      }
 
   -- what a pass that another took in is left with
   abbrev pub spent : View T A S
-  spent = record { opening = None; number = 0; stride = 0; seen = []; older = []; made = []; met = []; share = 0; ticket = None; served = false }
+  spent = record {
+    opening = None;
+    number = 0;
+    stride = 0;
+    seen = [];
+    older = [];
+    made = [];
+    met = [];
+    share = 0;
+    ticket = None;
+    served = false;
+  }
 
   -- a pass that split another off: it has one share less, and every second number of its own is the other's
   abbrev pub left : View T A S → View T A S
@@ -59,7 +82,7 @@ module _ {T A S : Type 0} where
   -- the calls in the list under the pass's number are those that it made, and under each number that it met
   -- those that were made under that one, each once and in order; no two of these numbers are the same
   pub record Counted (v : View T A S) : Type 0 where
-    pub own : calls_of v.number v.seen ≡ v.made
+    pub own : calls_under v.number v.seen ≡ v.made
     pub met : All (HasMade v.seen) v.met
     pub distinct : AllPairs (λ x y. x ≢ y) (numbers v)
 
@@ -85,8 +108,8 @@ module _ {T A S : Type 0} where
 
 module _ {T A S : Type 0} (stands : T → T → List (A × S) → Type 0) where
   -- there was an opening, and since then the value stands for these calls
-  abbrev pub StandsFor : Option T → T → List (Call A S) → Type 0
-  StandsFor opening value calls = (first : T) × (opening ≡ Some first) × stands first value (plain calls)
+  abbrev pub StandsSince : Option T → T → List (Call A S) → Type 0
+  StandsSince opening value calls = (first : T) × (opening ≡ Some first) × stands first value (plain calls)
 
 module _ {T A S : Type 0} (lawful : T → List (A × S) → Type 0) where
   -- there was an opening, and the calls that the pass has seen are lawful for it

@@ -14,11 +14,11 @@ pub struct TicketPass<S, V> {
 }
 
 impl<T, A, S> TicketPass<Option<Kept<T, A, S>>, View<T, A, S>> {
-    ghost use Rattle.turn_core.specs.Passes.{view, IsAtRest};
+    ghost use Rattle.turn_core.specs.Passes.{view, IsBetweenCalls};
 
     /// Tells how many calls the pass made, or the greatest number that a `u64` holds where it made more.
     pub fn calls(&self) -> u64
-        ensures { IsAtRest self.now → result ≡ min (length (view self.now).made) (2 ^ 64 - 1) }
+        ensures { IsBetweenCalls self.now → result ≡ min (length (view self.now).made) (2 ^ 64 - 1) }
     {
         self.calls
     }

@@ -37,9 +37,9 @@ impl<T: Turned> Play<Held<T>, Known<T>> for Look<T> {
 pub struct Move;
 
 impl<T, A, S> Play<Option<Kept<T, A, S>>, View<T, A, S>> for Move {
-    ghost use Rattle.turn_core.specs.Plays.{Moves};
+    ghost use Rattle.turn_core.specs.Plays.{GivesBack};
 
-    ghost then = { Moves };
+    ghost then = { GivesBack };
 }
 
 /// A pass looks what is known of it after a split or a meeting.
@@ -68,7 +68,8 @@ pub(crate) fn look_once<T: Turned>(top: &Top<T>, place: &mut Place<T>) -> u64
     requires table { IsSeatAt top.now place.old }
     requires waits { IsWaiting place.old.me }
     ensures same { IsSameSeat place.old place.new }
-    ensures served { (t : ℕ) → place.old.me.0.ticket ≡ Some t → result ≡ t % 2 ^ 64 → Served T.stands place.old.me place.new.me }
+    ensures served { (t : ℕ) → place.old.me.0.ticket ≡ Some t → result ≡ t % 2 ^ 64
+        → Served T.stands place.old.me place.new.me }
     ensures waits { (t : ℕ) → place.old.me.0.ticket ≡ Some t → result ≢ t % 2 ^ 64 → place.new.me ≡ place.old.me }
 {
     top.load::<Look<T>>(place, SERVING)
@@ -80,7 +81,8 @@ pub(crate) fn move_on<T: Turned>(top: &Top<T>, lot: &ParkingLot, place: &mut Pla
     requires served { place.old.me.0.served ≡ true }
     requires holds { HasCalled T.stands place.old.me }
     ensures same { IsSameSeat place.old place.new }
-    ensures called { (k : _) (d : _) → place.old.me.1 ≡ (0, Some k) ∷ [] → k.last ≡ Some d → Moved place.old.me d place.new.me }
+    ensures called { (k : _) (d : _) → place.old.me.1 ≡ (0, Some k) ∷ [] → k.last ≡ Some d
+        → Moved place.old.me d place.new.me }
 {
     let ended = top.fetch_add::<Move>(place, SERVING, 1);
     lot.wake(ended.wrapping_add(1));

@@ -1,7 +1,7 @@
 // A counter that threads take in turns.
 ghost use Rattle.std.specs.Prelude.{◌≡◌, ◌+◌, ◌<◌, ◌^◌, length, map};
 ghost use Rattle.std.specs.List.{range_with_len};
-ghost use Rattle.turn_core.specs.Calls.{calls_of};
+ghost use Rattle.turn_core.specs.Calls.{calls_under};
 ghost use Rattle.turn_core.specs.Passes.{IsPassOf, view};
 ghost use Rattle.turn_core.specs.Views.{newcomer};
 
@@ -23,9 +23,12 @@ impl Turned for Counter {
 
     type Say = u64;
 
-    ghost stands = { λ first now calls. first.count + length calls < 2 ^ 64 → (now.count ≡ first.count + length calls) × (map (λ c. c.1) calls ≡ map (λ k. first.count + 1 + k) (range_with_len 0 (length calls))) };
+    ghost stands = { λ first now calls. first.count + length calls < 2 ^ 64
+        → (now.count ≡ first.count + length calls)
+        × (map (λ c. c.1) calls ≡ map (λ k. first.count + 1 + k) (range_with_len 0 (length calls))) };
 
-    ghost lawful = { λ first calls. first.count + length calls < 2 ^ 64 → map (λ c. c.1) calls ≡ map (λ k. first.count + 1 + k) (range_with_len 0 (length calls)) };
+    ghost lawful = { λ first calls. first.count + length calls < 2 ^ 64
+        → map (λ c. c.1) calls ≡ map (λ k. first.count + 1 + k) (range_with_len 0 (length calls)) };
 
     ghost is_lawful = { λ first now calls h small. (h small).1 };
 
@@ -94,8 +97,8 @@ fn three_and_one<R: Wait>(rt: &R, turns: &Turns<Counter>, pass: &mut Pass<Counte
     ensures own { IsPassOf turns.now pass.new }
     ensures shares { (view pass.new).share ≡ (view pass.old).share }
     ensures all { length (view pass.new).seen ≡ 4 }
-    ensures first { length (calls_of 0 (view pass.new).seen) ≡ 3 }
-    ensures second { length (calls_of 1 (view pass.new).seen) ≡ 1 }
+    ensures first { length (calls_under 0 (view pass.new).seen) ≡ 3 }
+    ensures second { length (calls_under 1 (view pass.new).seen) ≡ 1 }
 {
     let first = turns.turn(rt, pass, &());
     let second = turns.turn(rt, pass, &());

@@ -19,8 +19,10 @@ pub trait Turned {
     /// whatever first value and list it stood for.
     fn take(&mut self, ask: &Self::Ask) -> Self::Say
         requires stands { (first : Self) × (calls : List (Self.Ask × Self.Say)) × stands first self.old calls }
-        ensures { (first : Self) (calls : List (Self.Ask × Self.Say)) → stands first self.old calls → stands first self.new (calls ++ (ask.now, result) ∷ []) };
+        ensures { (first : Self) (calls : List (Self.Ask × Self.Say)) → stands first self.old calls
+            → stands first self.new (calls ++ (ask.now, result) ∷ []) };
 
     // A value stands for legal calls alone.
-    ghost is_lawful: { (first now : Self) (calls : List (Self.Ask × Self.Say)) → stands first now calls → lawful first calls };
+    ghost is_lawful: { (first now : Self) (calls : List (Self.Ask × Self.Say)) → stands first now calls
+        → lawful first calls };
 }

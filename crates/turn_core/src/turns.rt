@@ -1,6 +1,6 @@
 // The turns.
 ghost use Rattle.std.specs.Prelude.{◌≡◌, ◌<◌, List, [], ◌∷◌, ◌++◌, IfOk, IfErr, IsSome, Some};
-ghost use Rattle.turn_core.specs.Views.{Called, Counted, IsLawful, IsWhole, Joined, StandsFor, newcomer, left, right, all_shares};
+ghost use Rattle.turn_core.specs.Views.{Called, Counted, IsLawful, IsWhole, Joined, StandsSince, newcomer, left, right, all_shares};
 
 use crate::pass::TicketPass;
 use crate::rule::{Held, Known, Law, Meeting, Parting};
@@ -66,8 +66,8 @@ impl<T: Turned> TicketLock<Held<T>, Known<T>, Snapshot<T>, Law<T>> {
 
     /// Makes one call, when the turn of this pass comes, and answers what the value said.
     ///
-    /// While other passes have tickets it first waits for a short time. Then it draws one, waits until that is served, and may
-    /// wait for other passes without end.
+    /// While other passes have tickets it first waits for a short time. Then it draws one, waits until that is served,
+    /// and may wait for other passes without end.
     pub fn turn<R: Wait>(&self, rt: &R, pass: &mut Pass<T>, ask: &T::Ask) -> T::Say
         requires own { IsPassOf self.now pass.old }
         ensures own { IsPassOf self.now pass.new }
@@ -119,7 +119,7 @@ impl<T: Turned> TicketLock<Held<T>, Known<T>, Snapshot<T>, Law<T>> {
     pub fn close(self, pass: Pass<T>) -> T
         requires own { IsPassOf self pass }
         requires share { (view pass).share ≡ all_shares }
-        ensures value { StandsFor T.stands (view pass).opening result (view pass).seen }
+        ensures value { StandsSince T.stands (view pass).opening result (view pass).seen }
         ensures counted { Counted (view pass) }
         ensures whole { IsWhole (view pass) }
     {

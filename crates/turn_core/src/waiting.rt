@@ -10,7 +10,7 @@ use std::sync::atomic::{AtomicU64, Ordering};
 use std::thread::Parker;
 use std::time::Duration;
 
-/// How often a pass looks at the words, with pauses that double, before it sleeps without a ticket.
+/// How often a pass looks at the words, with pauses that double, before it draws a ticket or sleeps without one.
 const LOOKS_WITHOUT: u32 = 6;
 
 /// The first of these pauses, in hints to the processor.
@@ -70,11 +70,12 @@ impl ParkingLot {
 
     /// Returns once the ticket is served: looks a number of times, and then parks.
     ///
-    /// No wake-up is lost. A pass adds itself to `parked`, reads `wakes` and then looks at `serving` again; a move changes
-    /// `serving` and then reads `parked`. So where the look comes before the move, the move finds the pass in `parked` and
-    /// adds to `wakes` after it was read, and the kernel starts no sleep where `wakes` has changed and ends one that it
-    /// started. `wakes` has no time to come round to the same 32 bits: after it was read each other pass adds one at most,
-    /// for a turn that ended or for one before this ticket's, and there are fewer than 2^32 passes.
+    /// No wake-up is lost. A pass adds itself to `parked`, reads `wakes` and then looks at `serving` again; a move
+    /// changes `serving` and then reads `parked`. So where the look comes before the move, the move finds the pass in
+    /// `parked` and adds to `wakes` after it was read, and the kernel starts no sleep where `wakes` has changed and
+    /// ends one that it started. `wakes` has no time to come round to the same 32 bits: after it was read each other
+    /// pass adds one at most, for a turn that ended or for one before this ticket's, and there are fewer than 2^32
+    /// passes.
     pub(crate) fn wait_for<R: Wait, S, V, K, P: TableRule<S, V, K>>(
         &self,
         rt: &R,
@@ -110,19 +111,45 @@ fn tickets_out<S, V, K, P: TableRule<S, V, K>>(top: &Shared<S, V, K, P>) -> u64
     top.peek(TICKET).wrapping_sub(served)
 }
 
-// Returns once no ticket is out, or after a number of looks and sleeps: then the pass draws a ticket all the same, so that it
-// waits in line. A thread that runs can so take many turns, which is faster than to hand each one on. No one wakes these sleeps.
-pub(crate) fn hold_back<R: Wait, S, V, K, P: TableRule<S, V, K>>(rt: &R, top: &Shared<S, V, K, P>)
+/// What a pass finds in some looks at the words.
+#[derive(Drop)]
+enum Found {
+    /// No ticket is out.
+    NoTicket,
+    /// Turns were moved on meanwhile.
+    ShortTurns,
+    /// The turn that was served outlasts all looks.
+    LongTurn,
+}
+
+fn look_around<S, V, K, P: TableRule<S, V, K>>(top: &Shared<S, V, K, P>) -> Found
     requires { SERVING < top.now.table_id.words }
 {
+    let served = top.peek(SERVING);
     for look in 0..LOOKS_WITHOUT {
         if tickets_out(top) == 0 {
-            return;
+            return Found::NoTicket;
         }
         for _ in 0..(FIRST_PAUSE << look) {
             spin_loop();
         }
     }
+    if top.peek(SERVING) == served {
+        Found::LongTurn
+    } else {
+        Found::ShortTurns
+    }
+}
+
+// Returns once no ticket is out, or after a number of looks and sleeps: then the pass draws a ticket all the same, so
+// that it waits in line. A thread that runs can so take many short turns, which is faster than to hand each one on. No
+// one wakes these sleeps, which would leave the value idle behind a long turn: there the pass draws its ticket at once.
+pub(crate) fn hold_back<R: Wait, S, V, K, P: TableRule<S, V, K>>(rt: &R, top: &Shared<S, V, K, P>)
+    requires { SERVING < top.now.table_id.words }
+{
+    let Found::ShortTurns = look_around(top) else {
+        return;
+    };
     for _ in 0..SLEEPS_WITHOUT {
         let tickets = tickets_out(top).min(MOST_COUNTED);
         if tickets == 0 {
