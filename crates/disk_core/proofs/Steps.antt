@@ -5,11 +5,12 @@ use Rattle.disk_core.specs.declared.memory.Call.{Call}
 use Rattle.disk_core.specs.declared.disk.FileNo.{FileNo}
 use Rattle.disk_core.specs.declared.disk.FileNo.TheVariants.{Journal, Slot0, Slot1}
 use Rattle.disk_core.specs.Files.{File, Covers, file_in, synced_file}
-use Rattle.disk_core.specs.Replay.{after, replay, step}
+use Rattle.disk_core.specs.Replay.{after, replay, after_call}
 use Rattle.disk_core.proofs.Replay.{after_push}
 
 -- a place in the k-th range is covered
-pub covers_at : (ranges : List (ℕ × ℕ)) (k i : ℕ) (d : ℕ × ℕ) → k < length ranges → (get_or ranges k d).0 ≤ i → i < (get_or ranges k d).0 + (get_or ranges k d).1 → Covers ranges i
+pub covers_at : (ranges : List (ℕ × ℕ)) (k i : ℕ) (d : ℕ × ℕ) → k < length ranges → (get_or ranges k d).0 ≤ i
+    → i < (get_or ranges k d).0 + (get_or ranges k d).1 → Covers ranges i
 covers_at [] k i d lt from to = absurd (omega (arith, lt))
 covers_at (range ∷ ranges) zero i d lt from to = inl (from, to)
 covers_at (range ∷ ranges) (suc k) i d lt from to = inr (covers_at ranges k i d (omega (arith, lt)) from to)
@@ -22,8 +23,9 @@ step_none Slot0 calls = refl
 step_none Slot1 calls = refl
 
 -- one call more
-pub step_more : (f : File) (file : FileNo) (calls : List Call) (k : ℕ) (call : Call) → k < length calls → call ≡ get_or calls k call → f ≡ file_in file (step call (after (take k calls))) → f ≡ file_in file (after (take (k + 1) calls))
+pub step_more : (f : File) (file : FileNo) (calls : List Call) (k : ℕ) (call : Call) → k < length calls → call ≡ get_or calls k call
+    → f ≡ file_in file (after_call call (after (take k calls))) → f ≡ file_in file (after (take (k + 1) calls))
 step_more f file calls k call lt at is =
     is
-    ∙ ap (λ (c : Call). file_in file (step c (after (take k calls)))) at
+    ∙ ap (λ (c : Call). file_in file (after_call c (after (take k calls)))) at
     ∙ ap (file_in file) (sym (after_push (take k calls) (take (k + 1) calls) (get_or calls k call) (take_more calls k call lt)))

@@ -1,10 +1,11 @@
+pub mod Calls
 pub mod Contents
 pub mod Files
+pub mod Fronts
 pub mod Images
-pub mod Kept
 pub mod Memory
 pub mod Moments
-pub mod Own
 pub mod Pending
 pub mod Replay
+pub mod SeenImages
 pub mod Untold

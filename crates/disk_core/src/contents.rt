@@ -68,7 +68,8 @@ impl Contents {
 
     pub fn write(&mut self, file: FileNo, at: usize, bytes: &[u8]) -> Result<(), AllocError>
         requires { at ≤ length (bytes_in file (bytes_of self.old)) }
-        ensures ok { OnOk result (bytes_of self.new ≡ with_bytes file (put at bytes.now (bytes_in file (bytes_of self.old))) (bytes_of self.old)) }
+        ensures ok { OnOk result (bytes_of self.new
+            ≡ with_bytes file (put at bytes.now (bytes_in file (bytes_of self.old))) (bytes_of self.old)) }
         ensures err { OnErr result (bytes_of self.new ≡ bytes_of self.old) }
     {
         match file {
@@ -79,7 +80,8 @@ impl Contents {
     }
 
     pub fn cut(&mut self, file: FileNo, to: usize)
-        ensures { bytes_of self.new ≡ with_bytes file (take to (bytes_in file (bytes_of self.old))) (bytes_of self.old) }
+        ensures { bytes_of self.new
+            ≡ with_bytes file (take to (bytes_in file (bytes_of self.old))) (bytes_of self.old) }
     {
         match file {
             FileNo::Journal => self.journal.truncate(to),

@@ -3,7 +3,7 @@ ghost use Rattle.std.specs.Prelude.{◌≡◌, ◌+◌, ◌<◌, ◌≤◌, ℕ,
 ghost use Rattle.disk_core.specs.declared.disk.FileNo.{FileNo};
 ghost use Rattle.office_base.specs.Faults.{HasCause};
 ghost use Rattle.disk_core.specs.Files.{State, IsImage, file_in, seen_in, put, Wrote, Shortened, Synced, Unsynced};
-ghost use Rattle.disk_core.specs.Moments.{Elapses};
+ghost use Rattle.disk_core.specs.Calls.{Elapses};
 
 use office_base::Failed;
 use std::snapshot::Snapshot;
@@ -51,7 +51,7 @@ pub trait Disk {
     fn length(&mut self, file: FileNo) -> Result<u64, Failed>
         ensures length { IsTrue honest → IfOk result (λ n. n ≡ length (seen_in file (state self.old))) }
         ensures state { IsTrue honest → state self.new ≡ state self.old }
-        ensures time { Elapses (moment self.old) (moment self.new) (had_since self.old) (had_since self.new) (state self.new) }
+        ensures time { Elapses state moment had_since self.old self.new }
         ensures cause { HasCause (fault_count self.old) (fault_count self.new) result };
 
     /// Fills the room with the bytes from an offset on. They have to end within the file.
@@ -61,9 +61,10 @@ pub trait Disk {
     /// `Failed`: the disk did not do the call. The files are as they were; the room may hold anything.
     fn read_at(&mut self, file: FileNo, at: u64, room: &mut [u8]) -> Result<(), Failed>
         requires { IsTrue honest → at + length room.old ≤ length (seen_in file (state self.old)) }
-        ensures bytes { IsTrue honest → OnOk result (room.new ≡ take (length room.old) (drop at (seen_in file (state self.old)))) }
+        ensures bytes { IsTrue honest → OnOk result (room.new
+            ≡ take (length room.old) (drop at (seen_in file (state self.old)))) }
         ensures state { IsTrue honest → state self.new ≡ state self.old }
-        ensures time { Elapses (moment self.old) (moment self.new) (had_since self.old) (had_since self.new) (state self.new) }
+        ensures time { Elapses state moment had_since self.old self.new }
         ensures cause { HasCause (fault_count self.old) (fault_count self.new) result };
 
     /// Writes over what is there from an offset on, and past the end. It begins within the file or at its end.
@@ -76,9 +77,10 @@ pub trait Disk {
     /// the file may be longer, up to the end of the range.
     fn write_at(&mut self, file: FileNo, at: u64, bytes: &[u8]) -> Result<(), Failed>
         requires { IsTrue honest → at ≤ length (seen_in file (state self.old)) }
-        ensures done { IsTrue honest → OnOk result (seen_in file (state self.new) ≡ put at bytes.now (seen_in file (state self.old))) }
+        ensures done { IsTrue honest → OnOk result (seen_in file (state self.new)
+            ≡ put at bytes.now (seen_in file (state self.old))) }
         ensures state { IsTrue honest → Wrote file at (length bytes.now) (state self.old) (state self.new) }
-        ensures time { Elapses (moment self.old) (moment self.new) (had_since self.old) (had_since self.new) (state self.new) }
+        ensures time { Elapses state moment had_since self.old self.new }
         ensures cause { HasCause (fault_count self.old) (fault_count self.new) result };
 
     /// Cuts a file to a length, in bytes, which is not above its own.
@@ -90,9 +92,10 @@ pub trait Disk {
     /// `Failed`: the cut was not made, or the file has a length between the old one and the one that was asked for.
     fn cut(&mut self, file: FileNo, to: u64) -> Result<(), Failed>
         requires { IsTrue honest → to ≤ length (seen_in file (state self.old)) }
-        ensures done { IsTrue honest → OnOk result (seen_in file (state self.new) ≡ take to (seen_in file (state self.old))) }
+        ensures done { IsTrue honest → OnOk result (seen_in file (state self.new)
+            ≡ take to (seen_in file (state self.old))) }
         ensures state { IsTrue honest → Shortened file to (state self.old) (state self.new) }
-        ensures time { Elapses (moment self.old) (moment self.new) (had_since self.old) (had_since self.new) (state self.new) }
+        ensures time { Elapses state moment had_since self.old self.new }
         ensures cause { HasCause (fault_count self.old) (fault_count self.new) result };
 
     /// Makes what a read of the file gives its only image.
@@ -103,7 +106,7 @@ pub trait Disk {
     fn sync(&mut self, file: FileNo) -> Result<(), Failed>
         ensures done { IsTrue honest → OnOk result (Synced file (state self.old) (state self.new)) }
         ensures state { IsTrue honest → OnErr result (Unsynced file (state self.old) (state self.new)) }
-        ensures time { Elapses (moment self.old) (moment self.new) (had_since self.old) (had_since self.new) (state self.new) }
+        ensures time { Elapses state moment had_since self.old self.new }
         ensures cause { HasCause (fault_count self.old) (fault_count self.new) result };
 
     /// Counts the calls that failed, up to the greatest `u64`.
@@ -124,8 +127,10 @@ pub trait Disk {
     ghost since_earlier: { (disk : Self) (t u : ℕ) (s : State) → t ≤ u → had_since disk u s → had_since disk t s };
 
     /// What a read gives is one of the images.
-    ghost reads_image: { IsTrue honest → (disk : Self) (file : FileNo) → IsImage (file_in file (state disk)) (seen_in file (state disk)) };
+    ghost reads_image: { IsTrue honest → (disk : Self) (file : FileNo)
+        → IsImage (file_in file (state disk)) (seen_in file (state disk)) };
 
     /// It holds bytes.
-    ghost holds_bytes: { IsTrue honest → (disk : Self) (file : FileNo) (i : ℕ) → get_or (seen_in file (state disk)) i 0 < 256 };
+    ghost holds_bytes: { IsTrue honest → (disk : Self) (file : FileNo) (i : ℕ)
+        → get_or (seen_in file (state disk)) i 0 < 256 };
 }

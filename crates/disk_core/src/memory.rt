@@ -1,13 +1,12 @@
 // A disk in memory, which keeps each call.
 ghost use Rattle.std.specs.Prelude.{◌≡◌, ◌≤◌, ◌++◌, [], ◌∷◌, ℕ, true, length, IfOk, OnOk, OnErr};
-ghost use Rattle.std.specs.List.{All};
-ghost use Rattle.std.specs.Global.{Vec};
-ghost use Rattle.disk_core.specs.Files.{IsImage, file_in, seen_in};
+ghost use Rattle.disk_core.specs.Files.{file_in, seen_in};
 ghost use Rattle.disk_core.specs.Contents.{AreBytes, bytes_of, seens};
+ghost use Rattle.disk_core.specs.Pending.{AreImages};
 ghost use Rattle.office_base.specs.Faults.{Rose, HasCause};
 ghost use Rattle.disk_core.specs.declared.memory.Call.TheVariants.{Other, Cut, Sync};
 ghost use Rattle.disk_core.specs.Replay.{IsUntold, KeepsWrite, after, HadSince, counts_now, only_now, since_earlier};
-ghost use Rattle.disk_core.specs.Own.{own, own_image, bytes_told};
+ghost use Rattle.disk_core.specs.SeenImages.{own, own_image, bytes_told};
 
 use crate::contents::Contents;
 use crate::pending::Pending;
@@ -47,7 +46,7 @@ pub struct MemoryDisk {
 }
 
 fn find_images(calls: &[Call], file: FileNo, alloc: Global) -> Result<Vec<Vec<u8>>, AllocError>
-    ensures { IfOk result (λ images. All (λ (image : Vec ℕ). IsImage (file_in file (after calls.now)) image.items) images.items) }
+    ensures { IfOk result (λ images. AreImages (file_in file (after calls.now)) images.items) }
 {
     let pending = Pending::of(calls, file, alloc)?;
     pending.images(alloc)
@@ -79,10 +78,12 @@ impl MemoryDisk {
         }
     }
 
-    /// Gives images of a file that a crash after the first `after` calls may leave, for tests; after all calls where there are fewer.
+    /// Gives images of a file that a crash after the first `after` calls may leave, for tests; after all calls where
+    /// there are fewer.
     ///
     /// There is one for each choice of a length that the file had since its last sync (as often as it had it), a
-    /// place from 0 to that length, one filling for all pending bytes before the place, and one for those from there on.
+    /// place from 0 to that length, one filling for all pending bytes before the place, and one for those from there
+    /// on.
     /// A pending byte is one in a range written since the last sync, or past the length at that sync. Its fillings are
     /// what that sync left there, what a read gives (each 0 past its end), and 0x37. All other bytes are as synced.
     ///
@@ -90,7 +91,7 @@ impl MemoryDisk {
     ///
     /// `NoMemory`: memory ran out.
     pub fn images(&self, file: FileNo, after: u64) -> Result<Vec<Vec<u8>>, NoMemory>
-        ensures images { IfOk result (λ images. All (λ (image : Vec ℕ). IsImage (file_in file (state_at self.now after)) image.items) images.items) }
+        ensures images { IfOk result (λ images. AreImages (file_in file (state_at self.now after)) images.items) }
     {
         let count = (after as usize).min(self.calls.len());
         match find_images(&self.calls[..count], file, self.alloc) {
@@ -116,7 +117,8 @@ impl MemoryDisk {
 
     // Makes a call that changes nothing: it fails where it is to.
     fn pass(&mut self) -> Result<(), Failed>
-        ensures ok { OnOk result ((self.new.calls.items ≡ self.old.calls.items ++ Other ∷ []) × (self.new.faults ≡ self.old.faults)) }
+        ensures ok { OnOk result ((self.new.calls.items ≡ self.old.calls.items ++ Other ∷ [])
+            × (self.new.faults ≡ self.old.faults)) }
         ensures err { OnErr result (IsUntold self.old.calls.items self.new.calls.items) }
         ensures cause { HasCause self.old.faults self.new.faults result }
     {

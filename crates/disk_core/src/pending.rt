@@ -1,10 +1,9 @@
 // What a crash may leave of one file of a disk in memory.
-ghost use Rattle.std.specs.Prelude.{◌≡◌, ◌<◌, ◌≤◌, ℕ, [], min, take, length, get_or, true, false, IfOk, OnOk};
-ghost use Rattle.std.specs.List.{All, Contains};
-ghost use Rattle.std.specs.Global.{Vec};
-ghost use Rattle.disk_core.specs.Files.{State, Covers, IsImage, file_in, put, wrote, shortened, synced_file};
-ghost use Rattle.disk_core.specs.Replay.{step, after};
-ghost use Rattle.disk_core.specs.Pending.{file_of};
+ghost use Rattle.std.specs.Prelude.{◌≡◌, ◌<◌, ◌≤◌, ℕ, [], take, length, get_or, true, false, IfOk, OnOk};
+ghost use Rattle.std.specs.List.{Contains};
+ghost use Rattle.disk_core.specs.Files.{State, Covers, IsImage, file_in, shortened, synced_file};
+ghost use Rattle.disk_core.specs.Replay.{after_call, after, written_in};
+ghost use Rattle.disk_core.specs.Pending.{file_of, AreImages};
 
 use crate::FileNo;
 use crate::contents::overwrite;
@@ -65,7 +64,7 @@ impl Pending {
 
     // A write past the end begins at the end.
     fn write(&mut self, at: usize, bytes: &[u8]) -> Result<(), AllocError>
-        ensures { OnOk result (file_of self.new ≡ wrote (min at (length self.old.seen.items)) (length bytes.now) (put (min at (length self.old.seen.items)) bytes.now self.old.seen.items) (file_of self.old)) }
+        ensures { OnOk result (file_of self.new ≡ written_in at bytes.now (file_of self.old)) }
     {
         let place = at.min(self.seen.len());
         overwrite(&mut self.seen, place, bytes)?;
@@ -95,7 +94,8 @@ impl Pending {
 
     // Goes on by one call of the disk.
     fn go_on(&mut self, file: FileNo, call: &Call) -> Result<(), AllocError>
-        ensures { (s : State) → file_of self.old ≡ file_in file s → OnOk result (file_of self.new ≡ file_in file (step call.now s)) }
+        ensures { (s : State) → file_of self.old ≡ file_in file s
+            → OnOk result (file_of self.new ≡ file_in file (after_call call.now s)) }
     {
         match call {
             Call::Write {
@@ -137,7 +137,8 @@ impl Pending {
     }
 
     fn byte(&self, at: usize, filling: Filling) -> u8
-        ensures { at < length self.now.synced.items → (Covers self.now.written.items at → ⊥) → result ≡ get_or self.now.synced.items at 0 }
+        ensures { at < length self.now.synced.items → (Covers self.now.written.items at → ⊥)
+            → result ≡ get_or self.now.synced.items at 0 }
     {
         if !self.is_pending(at) {
             return self.synced[at];
@@ -176,8 +177,8 @@ impl Pending {
         alloc: Global,
     ) -> Result<(), AllocError>
         requires length { Contains self.now.lengths.items length }
-        requires images { All (λ (image : Vec ℕ). IsImage (file_of self.now) image.items) images.old.items }
-        ensures { OnOk result (All (λ (image : Vec ℕ). IsImage (file_of self.now) image.items) images.new.items) }
+        requires images { AreImages (file_of self.now) images.old.items }
+        ensures { OnOk result (AreImages (file_of self.now) images.new.items) }
     {
         for fillings in CHOICES {
             let image = self.image(length, place, fillings, alloc)?;
@@ -193,8 +194,8 @@ impl Pending {
         alloc: Global,
     ) -> Result<(), AllocError>
         requires length { Contains self.now.lengths.items length }
-        requires images { All (λ (image : Vec ℕ). IsImage (file_of self.now) image.items) images.old.items }
-        ensures { OnOk result (All (λ (image : Vec ℕ). IsImage (file_of self.now) image.items) images.new.items) }
+        requires images { AreImages (file_of self.now) images.old.items }
+        ensures { OnOk result (AreImages (file_of self.now) images.new.items) }
     {
         for place in 0..=length {
             self.add_fillings(length, place, images, alloc)?;
@@ -204,7 +205,7 @@ impl Pending {
 
     // Gives an image for each length, place and pair of fillings.
     pub fn images(&self, alloc: Global) -> Result<Vec<Vec<u8>>, AllocError>
-        ensures { IfOk result (λ images. All (λ (image : Vec ℕ). IsImage (file_of self.now) image.items) images.items) }
+        ensures { IfOk result (λ images. AreImages (file_of self.now) images.items) }
     {
         let mut images = Vec::new(alloc);
         for length in &self.lengths {

@@ -12,7 +12,7 @@ use Rattle.office_base.specs.Keys.{is_key}
 use Rattle.office_base.specs.Tags.{is_tag}
 use Rattle.office_base.specs.declared.version_id.VersionId.TheVariants.{Null, Number}
 use Rattle.entry_codec.specs.Formats.{front_items}
-use Rattle.entry_codec.specs.Fields.{format, moment_format, utf8_text, tag}
+use Rattle.entry_codec.specs.Fields.{format, moment_format, utf8_text, tag_format}
 use Rattle.entry_codec.specs.Kinds.{kind_format, fields_of}
 use Rattle.entry_codec.specs.declared.kinds.Kind.TheVariants as kind
 use Rattle.entry_codec.specs.Spelling.{command_spelling, spelling}
@@ -20,7 +20,7 @@ use Rattle.entry_codec.specs.Reading.{value_at, values_at, kind_at, command_at, 
 
 -- what an example unfolds to compute
 unfoldable to_compute : ⊤
-unfolding entry_of command_at kind_at value_at spelling command_spelling moment_format kind_format format front_items tag utf8_text
+unfolding entry_of command_at kind_at value_at spelling command_spelling moment_format kind_format format front_items tag_format utf8_text
     is_bucket_name is_key is_tag is_utf8 chars encode
 to_compute = tt
 

@@ -4,17 +4,18 @@ use Rattle.std.specs.Prelude.{option_and_then}
 use Rattle.std.specs.Result.{result_ok}
 use Rattle.std.specs.Str.{is_utf8, bytes_eq}
 use Rattle.std.specs.List.{find, list_all}
-use Rattle.std.proofs.lemmas.Bool.{eqb-true}
+use Rattle.std.proofs.lemmas.Bool.{eqb-true, and_parts, and_from}
 use Rattle.std.proofs.lemmas.Slice.Eq.{bytes_eq-Decides}
 use Rattle.std.proofs.lemmas.Bool.Decides.{nat_tests}
+use Rattle.std.proofs.lemmas.Option.{same_Some, cond_some}
 use Rattle.class_rules.specs.Classes.{rank_of}
 use Rattle.class_rules.specs.declared.class.Class.{Class}
 use Rattle.class_rules.specs.declared.class.Class.TheVariants.{Standard, StandardIa, OnezoneIa, GlacierIr, Glacier, DeepArchive}
 use Rattle.office_base.specs.declared.version_id.VersionId.{VersionId}
 use Rattle.office_base.specs.declared.version_id.VersionId.TheVariants as version
-use Rattle.entry_codec.specs.Fields.{ranks, statuses, ids, utf8_text, tag, are_kept, is_configuration, if_printed, texts, Field, Name, Key, Size, Rank, Tags, Rules, Status, Id, Number4, Number8, Price, Year, Month, format, moment_format}
+use Rattle.entry_codec.specs.Fields.{ranks, statuses, ids, utf8_text, tag_format, are_kept, is_configuration, if_printed, rules_texts, Field, Name, Key, Size, Rank, Tags, Rules, Status, Id, Number4, Number8, Price, Year, Month, format, moment_format}
 use Rattle.entry_codec.specs.declared.kinds.Kind.{Kind}
-use Rattle.entry_codec.specs.Kinds.{all_kinds, kinds, kind_format, number_of}
+use Rattle.entry_codec.specs.Kinds.{all_kinds, kinds, kind_format, kind_number}
 use Rattle.entry_codec.specs.declared.kinds.Kind.TheVariants as kind
 use Rattle.std.specs.Int.{w8, w16, w32, w64}
 use Rattle.std.specs.Prelude.{nat_lt, nat_le}
@@ -28,10 +29,10 @@ use Rattle.rules_core.specs.Configurations.{Configuration, has_name, has_midnigh
 use Rattle.rules_json.specs.Printing.{printed}
 use Rattle.rules_json.specs.Reading.{rules_of}
 use Rattle.rules_json.specs.declared.fault.RulesFault.{RulesFault}
-use Rattle.entry_codec.specs.Formats.{Format, number, text, ◌such_that◌, list}
+use Rattle.entry_codec.specs.Formats.{Format, number, counted_text, ◌such_that◌, list}
 use Rattle.rules_json.proofs.Law.{printed_back}
-use Rattle.entry_codec.proofs.Midnights.{read_back}
-use Rattle.entry_codec.proofs.FormatLaws.{some_is, if_some, both, and_true, IsFormat, IsCode, number-IsFormat, text-IsFormat, such_that-IsFormat, pair-IsFormat, list-IsFormat, coded-IsFormat, wide8, wide16, wide32, wide64}
+use Rattle.moments.proofs.ReadBack.{read_back}
+use Rattle.entry_codec.proofs.FormatLaws.{IsFormat, IsCode, number-IsFormat, text-IsFormat, such_that-IsFormat, pair-IsFormat, list-IsFormat, coded-IsFormat, wide8, wide16, wide32, wide64}
 
 ranks-IsCode : IsCode ranks
 ranks-IsCode = record { again = again; back = back }
@@ -62,10 +63,10 @@ id_again : (n : ℕ) → ids.has (version.Number n) ≡ true → ids.value n ≡
 id_again n has = let some : eqb n 0 ≡ false = grind (arith, nat_tests) in rw some refl
 
 id_back : (b : Bool) (n : ℕ) (id : VersionId) → eqb n 0 ≡ b → Some (cond b version.Null (version.Number n)) ≡ Some id → (ids.code id ≡ n) × (ids.has id ≡ true)
-id_back true n id test e = subst (λ (v : VersionId). (ids.code v ≡ n) × (ids.has v ≡ true)) (some_is version.Null id e) (sym (eqb-true _ _ test), refl)
+id_back true n id test e = subst (λ (v : VersionId). (ids.code v ≡ n) × (ids.has v ≡ true)) (same_Some version.Null id e) (sym (eqb-true _ _ test), refl)
 id_back false n id test e =
     let above : ids.has (version.Number n) ≡ true = grind (arith, nat_tests) in
-    subst (λ (v : VersionId). (ids.code v ≡ n) × (ids.has v ≡ true)) (some_is (version.Number n) id e) (refl, above)
+    subst (λ (v : VersionId). (ids.code v ≡ n) × (ids.has v ≡ true)) (same_Some (version.Number n) id e) (refl, above)
 
 ids-IsCode : IsCode ids
 ids-IsCode = record { again = again; back = λ n id e. id_back (eqb n 0) n id refl e }
@@ -76,7 +77,7 @@ ids-IsCode = record { again = again; back = λ n id e. id_back (eqb n 0) n id re
 
 -- what is found passes the test
 found_by : {X : Type 0} (test : X → Bool) (y : X) (first : Bool) (later : Option X) (x : X) → test y ≡ first → (later ≡ Some x → test x ≡ true) → cond first (Some y) later ≡ Some x → test x ≡ true
-found_by {X = X} test y true later x is others e = subst (λ (z : X). test z ≡ true) (some_is y x e) is
+found_by {X = X} test y true later x is others e = subst (λ (z : X). test z ≡ true) (same_Some y x e) is
 found_by test y false later x is others e = others e
 
 found_passes : {X : Type 0} (test : X → Bool) (xs : List X) (x : X) → find test xs ≡ Some x → test x ≡ true
@@ -84,9 +85,9 @@ found_passes test [] x e = absurd cc
 found_passes test (y ∷ ys) x e = found_by test y (test y) (find test ys) x refl (found_passes test ys x) e
 
 kinds-IsCode : IsCode kinds
-kinds-IsCode = record { again = again; back = λ n k e. (eqb-true _ _ (found_passes (λ k. eqb (number_of k) n) all_kinds k e), refl) }
+kinds-IsCode = record { again = again; back = λ n k e. (eqb-true _ _ (found_passes (λ k. eqb (kind_number k) n) all_kinds k e), refl) }
   where
-    again : (k : Kind) → kinds.has k ≡ true → kinds.value (number_of k) ≡ Some k
+    again : (k : Kind) → kinds.has k ≡ true → kinds.value (kind_number k) ≡ Some k
     again kind.CreateBucket has = refl
     again kind.SetVersioning has = refl
     again kind.SetRules has = refl
@@ -115,30 +116,30 @@ is_nothing (Some x) is = absurd cc
 
 pub kept : (rules : Configuration) → is_configuration rules ≡ true → IsConfiguration rules
 kept rules is =
-    let last = both (is_none (first_flaw rules.rules) && list_all has_name rules.rules && list_all has_midnights rules.rules) (list_all has_texts rules.rules) is in
-    let third = both (is_none (first_flaw rules.rules) && list_all has_name rules.rules) (list_all has_midnights rules.rules) last.0 in
-    let second = both (is_none (first_flaw rules.rules)) (list_all has_name rules.rules) third.0 in
+    let last = and_parts (is_none (first_flaw rules.rules) && list_all has_name rules.rules && list_all has_midnights rules.rules) (list_all has_texts rules.rules) is in
+    let third = and_parts (is_none (first_flaw rules.rules) && list_all has_name rules.rules) (list_all has_midnights rules.rules) last.0 in
+    let second = and_parts (is_none (first_flaw rules.rules)) (list_all has_name rules.rules) third.0 in
     record { flawless = is_nothing (first_flaw rules.rules) second.0; named = second.1; midnights = third.1; texts = last.1 }
 
 same_text : (t : List ℕ) → bytes_eq t t ≡ true
 same_text t = (bytes_eq-Decides t t).1 refl
 
-texts-IsCode : IsCode texts
+texts-IsCode : IsCode rules_texts
 texts-IsCode = record { again = again; back = back }
   where
-    again : (rules : Configuration) → is_configuration rules ≡ true → texts.value (printed rules) ≡ Some rules
+    again : (rules : Configuration) → is_configuration rules ≡ true → rules_texts.value (printed rules) ≡ Some rules
     again rules has =
         ap (λ (r : Result Configuration RulesFault). option_and_then (if_printed (printed rules)) (result_ok r)) (rules_back rules (kept rules has))
-        ∙ ap (λ (b : Bool). if b then Some rules else None) (and_true _ _ has (same_text (printed rules)))
+        ∙ ap (λ (b : Bool). if b then Some rules else None) (and_from _ _ has (same_text (printed rules)))
 
     found : (t : List ℕ) (o : Option Configuration) (rules : Configuration) → option_and_then (if_printed t) o ≡ Some rules → (printed rules ≡ t) × (is_configuration rules ≡ true)
     found t None rules e = absurd cc
     found t (Some read) rules e =
-        let g = if_some (is_configuration read && bytes_eq t (printed read)) read rules e in
-        let parts = both _ _ g.0 in
+        let g = cond_some (is_configuration read && bytes_eq t (printed read)) read rules e in
+        let parts = and_parts _ _ g.0 in
         subst (λ (r : Configuration). (printed r ≡ t) × (is_configuration r ≡ true)) g.1 (sym ((bytes_eq-Decides t (printed read)).0 parts.1), parts.0)
 
-    back : (t : List ℕ) (rules : Configuration) → texts.value t ≡ Some rules → (printed rules ≡ t) × (is_configuration rules ≡ true)
+    back : (t : List ℕ) (rules : Configuration) → rules_texts.value t ≡ Some rules → (printed rules ≡ t) × (is_configuration rules ≡ true)
     back t rules e = found t (result_ok (rules_of t)) rules e
 
 -- ---- fields
@@ -146,16 +147,16 @@ texts-IsCode = record { again = again; back = back }
 two_bytes : IsFormat (number w16)
 two_bytes = number-IsFormat w16 wide16
 
-two_byte_text : IsFormat (text (number w16))
+two_byte_text : IsFormat (counted_text (number w16))
 two_byte_text = text-IsFormat (number w16) two_bytes
 
 name-IsFormat : IsFormat (format Name)
 unfolding format
-name-IsFormat = such_that-IsFormat (text (number w16)) is_bucket_name two_byte_text
+name-IsFormat = such_that-IsFormat (counted_text (number w16)) is_bucket_name two_byte_text
 
 key-IsFormat : IsFormat (format Key)
 unfolding format
-key-IsFormat = such_that-IsFormat (text (number w16)) is_key two_byte_text
+key-IsFormat = such_that-IsFormat (counted_text (number w16)) is_key two_byte_text
 
 size-IsFormat : IsFormat (format Size)
 unfolding format
@@ -170,17 +171,17 @@ few = number w8 such_that λ n. nat_le n 10
 
 utf8-IsFormat : IsFormat utf8_text
 unfolding utf8_text
-utf8-IsFormat = such_that-IsFormat (text (number w16)) is_utf8 two_byte_text
+utf8-IsFormat = such_that-IsFormat (counted_text (number w16)) is_utf8 two_byte_text
 
-tag-IsFormat : IsFormat tag
-unfolding tag
+tag-IsFormat : IsFormat tag_format
+unfolding tag_format
 tag-IsFormat = pair-IsFormat utf8_text utf8_text utf8-IsFormat utf8-IsFormat
 
 tags-IsFormat : IsFormat (format Tags)
 unfolding format
 tags-IsFormat =
     let count = such_that-IsFormat (number w8) (λ n. nat_le n 10) (number-IsFormat w8 wide8) in
-    such_that-IsFormat (list few tag) are_kept (list-IsFormat few tag count tag-IsFormat)
+    such_that-IsFormat (list few tag_format) are_kept (list-IsFormat few tag_format count tag-IsFormat)
 
 pub format-IsFormat : (field : Field) → IsFormat (format field)
 unfolding format
@@ -189,7 +190,7 @@ format-IsFormat Key = key-IsFormat
 format-IsFormat Size = size-IsFormat
 format-IsFormat Rank = rank-IsFormat
 format-IsFormat Tags = tags-IsFormat
-format-IsFormat Rules = coded-IsFormat (text (number w32)) texts (text-IsFormat (number w32) (number-IsFormat w32 wide32)) texts-IsCode
+format-IsFormat Rules = coded-IsFormat (counted_text (number w32)) rules_texts (text-IsFormat (number w32) (number-IsFormat w32 wide32)) texts-IsCode
 format-IsFormat Status = coded-IsFormat (number w8) statuses (number-IsFormat w8 wide8) statuses-IsCode
 format-IsFormat Id = coded-IsFormat (number w64) ids (number-IsFormat w64 wide64) ids-IsCode
 format-IsFormat Number4 = number-IsFormat w32 wide32

@@ -2,8 +2,9 @@
 use Rattle.std.proofs.Common.{◌≡◌, ℕ, zero, suc, ◌-◌, ◌+◌, ◌≤◌, ◌<◌, List, [], ◌∷◌, ◌++◌, length, Option, Some, None, Result, Ok, Err, false, if◌then◌else◌, refl, sym, ap, subst, ◌∙◌, append_assoc, arith}
 use Rattle.std.specs.Result.{is_ok, is_err}
 use Rattle.std.proofs.lemmas.List.{append-nil}
+use Rattle.std.proofs.lemmas.Option.{same_Some}
 use Rattle.entry_codec.specs.Formats.{Format, ◌>>=◌, front_items}
-use Rattle.entry_codec.proofs.FormatLaws.{bind_some, some_is}
+use Rattle.entry_codec.proofs.FormatLaws.{bind_some}
 
 -- what was read before, and what is still read
 abbrev pub with_front : {X : Type 0} → List X → Option (List X × List ℕ) → Option (List X × List ℕ)
@@ -47,8 +48,8 @@ pushed (Err e) new before after none is = absurd cc
 -- as many items as were asked for
 pub length-items : {X : Type 0} (format : Format X) (n : ℕ) (bytes : List ℕ) (x : List X × List ℕ) → front_items format n bytes ≡ Some x → length x.0 ≡ n
 unfolding front_items
-length-items {X = X} format zero bytes x e = subst (λ (y : List X × List ℕ). length y.0 ≡ 0) (some_is ([], bytes) x e) refl
+length-items {X = X} format zero bytes x e = subst (λ (y : List X × List ℕ). length y.0 ≡ 0) (same_Some ([], bytes) x e) refl
 length-items {X = X} format (suc n) bytes x e =
     let a = bind_some (format.front bytes) (λ y. front_items format n y.1 >>= λ ys. Some (y.0 ∷ ys.0, ys.1)) x e in
     let b = bind_some (front_items format n a.0.1) (λ ys. Some (a.0.0 ∷ ys.0, ys.1)) x a.2 in
-    subst (λ (y : List X × List ℕ). length y.0 ≡ suc n) (some_is (a.0.0 ∷ b.0.0, b.0.1) x b.2) (ap suc (length-items format n a.0.1 b.0 b.1))
+    subst (λ (y : List X × List ℕ). length y.0 ≡ suc n) (same_Some (a.0.0 ∷ b.0.0, b.0.1) x b.2) (ap suc (length-items format n a.0.1 b.0 b.1))

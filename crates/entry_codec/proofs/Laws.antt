@@ -1,7 +1,7 @@
 -- What is read is spelled so, and what is spelled so is read.
 use Rattle.std.proofs.Common.{◌≡◌, ℕ, ◌^◌, ◌<◌, ◌≤◌, Bool, true, false, cond, eqb, List, [], ◌∷◌, ◌++◌, length, Option, Some, None, Result, Ok, Err, refl, sym, ap, ap₂, subst, ◌∙◌, arith, append_assoc}
 use Rattle.std.specs.Prelude.{IfOk, ok_or}
-use Rattle.std.proofs.lemmas.Bool.{eqb-true, ltb-true, lt-ltb}
+use Rattle.std.proofs.lemmas.Bool.{eqb-true, ltb-true, lt-ltb, and_parts, and_from}
 use Rattle.std.proofs.lemmas.Bool.Decides.{nat_tests}
 use Rattle.std.proofs.lemmas.List.{append-nil, nil_from_length}
 use Rattle.moments.specs.Time.{end_of_time}
@@ -9,16 +9,17 @@ use Rattle.moments.specs.Months.{year_of, month_of_year, month_number}
 use Rattle.office_types.specs.declared.command.Command.{Command}
 use Rattle.office_types.specs.declared.command.Command.TheVariants as command
 use Rattle.office_types.specs.declared.command.Entry.{Entry}
+use Rattle.office_types.specs.Entries.{entry_at}
 use Rattle.entry_codec.specs.declared.fault.EntryFault.{EntryFault}
 use Rattle.entry_codec.specs.Formats.{Format}
 use Rattle.entry_codec.specs.Fields.{Field, format, moment_format}
 use Rattle.entry_codec.specs.declared.kinds.Kind.{Kind}
-use Rattle.entry_codec.specs.Kinds.{Parts, Values, kind_format, fields_of, parts_of, command_of}
+use Rattle.entry_codec.specs.Kinds.{CommandParts, Values, kind_format, fields_of, parts_of, command_of}
 use Rattle.entry_codec.specs.declared.kinds.Kind.TheVariants as kind
-use Rattle.entry_codec.specs.Spelling.{entry_at, written_values, are_values, command_spelling, CommandFits, Fits, spelling}
-use Rattle.entry_codec.specs.Reading.{◌>>=◌, Gives, place, value_at, values_at, kind_at, command_at, entry_of}
+use Rattle.entry_codec.specs.Spelling.{written_values, are_values, command_spelling, CommandFits, EntryFits, spelling}
+use Rattle.entry_codec.specs.Reading.{◌>>=◌, EntryGives, place, value_at, values_at, kind_at, command_at, entry_of}
 use Rattle.entry_codec.proofs.Bytes.{IsBytes}
-use Rattle.entry_codec.proofs.FormatLaws.{IsBytes-rest, both, and_true, IsFormat}
+use Rattle.entry_codec.proofs.FormatLaws.{IsBytes-rest, IsFormat}
 use Rattle.entry_codec.proofs.FieldLaws.{format-IsFormat, moment-IsFormat, kind-IsFormat}
 
 -- ---- steps
@@ -69,15 +70,16 @@ values_take (field ∷ fields) laws total bytes x fits e =
     let whole : bytes ≡ written_values (field ∷ fields) (a.0.0, b.0.0) ++ b.0.1 =
     t.0 ∙ ap (λ (r : List ℕ). (format field).written a.0.0 ++ r) u.0 ∙ sym (append_assoc ((format field).written a.0.0) (written_values fields b.0.0) b.0.1) in
     subst (λ (y : Values (field ∷ fields) × List ℕ). (bytes ≡ written_values (field ∷ fields) y.0 ++ y.1) × (are_values (field ∷ fields) y.0 ≡ true))
-    (ok_is ((a.0.0, b.0.0), b.0.1) x b.2) (whole, and_true _ _ t.1 u.1)
+    (ok_is ((a.0.0, b.0.0), b.0.1) x b.2) (whole, and_from _ _ t.1 u.1)
 
 pub values_again : (fields : List Field) → AreFormats fields → (total : ℕ) (values : Values fields) (rest : List ℕ) → are_values fields values ≡ true
     → values_at fields total (written_values fields values ++ rest) ≡ Ok (values, rest)
 values_again [] laws total values rest has = refl
 values_again (field ∷ fields) laws total values rest has =
-    let parts = both ((format field).has values.0) (are_values fields values.1) has in
+    let parts = and_parts ((format field).has values.0) (are_values fields values.1) has in
     ap (λ (b : List ℕ). values_at (field ∷ fields) total b) (append_assoc ((format field).written values.0) (written_values fields values.1) rest)
-    ∙ ap (λ r. r >>= λ first. values_at fields total first.1 >>= λ others. Ok ((first.0, others.0), others.1)) (value_again (format field) laws.0 total values.0 (written_values fields values.1 ++ rest) parts.0)
+    ∙ ap (λ r. r >>= λ first. values_at fields total first.1 >>= λ others. Ok ((first.0, others.0), others.1))
+    (value_again (format field) laws.0 total values.0 (written_values fields values.1 ++ rest) parts.0)
     ∙ ap (λ r. r >>= λ others. Ok ((values.0, others.0), others.1)) (values_again fields laws.1 total values.1 rest parts.1)
 
 -- ---- kinds
@@ -89,7 +91,7 @@ every_row (field ∷ fields) = (format-IsFormat field, every_row fields)
 
 -- ---- a command and its parts
 
-abbrev with_values : (k : Kind) → Values (fields_of k) → Parts
+abbrev with_values : (k : Kind) → Values (fields_of k) → CommandParts
 with_values k values = record { kind = k; values = values }
 
 same_close : (year month : ℕ) → 1970 ≤ year → 1 ≤ month → month ≤ 12 → parts_of (command.Close (month_number year month)) ≡ with_values kind.Close (year, (month, tt))
@@ -125,19 +127,19 @@ pub fits_of : (k : Kind) (values : Values (fields_of k)) → are_values (fields_
 fits_of k values has =
     let same = same_parts k values has in
     record {
-      values = subst (λ (p : Parts). are_values (fields_of p.kind) p.values ≡ true) (sym same) has;
-      whole = ap (λ (p : Parts). command_of p.kind p.values) same;
+      values = subst (λ (p : CommandParts). are_values (fields_of p.kind) p.values ≡ true) (sym same) has;
+      whole = ap (λ (p : CommandParts). command_of p.kind p.values) same;
     }
 
 -- ---- entries
 
 moment_has : (moment : ℕ) → moment < end_of_time → moment_format.has moment ≡ true
 unfolding moment_format
-moment_has moment before = and_true _ _ (lt-ltb moment (256 ^ 8) (omega (arith, before))) (lt-ltb moment end_of_time before)
+moment_has moment before = and_from _ _ (lt-ltb moment (256 ^ 8) (omega (arith, before))) (lt-ltb moment end_of_time before)
 
 moment_before : (moment : ℕ) → moment_format.has moment ≡ true → moment < end_of_time
 unfolding moment_format
-moment_before moment has = ltb-true moment end_of_time (both _ _ has).1
+moment_before moment has = ltb-true moment end_of_time (and_parts _ _ has).1
 
 kind_has : (k : Kind) → kind_format.has k ≡ true
 unfolding kind_format
@@ -170,7 +172,7 @@ kind_takes k total bytes x fits is =
     let front = kind_format.written k in
     let values = written_values (fields_of k) read.0.0 in
     let parts : front ++ bytes ≡ (front ++ values) ++ read.0.1 = ap (λ (l : List ℕ). front ++ l) t.0 ∙ sym (append_assoc front values read.0.1) in
-    let same = ap (λ (p : Parts). kind_format.written p.kind ++ written_values (fields_of p.kind) p.values) (same_parts k read.0.0 t.1) in
+    let same = ap (λ (p : CommandParts). kind_format.written p.kind ++ written_values (fields_of p.kind) p.values) (same_parts k read.0.0 t.1) in
     subst (Reads k bytes) (ok_is (command_of k read.0.0, read.0.1) x read.2) (record {
       parts = parts ∙ ap (λ (l : List ℕ). l ++ read.0.1) (sym same);
       fits = fits_of k read.0.0 t.1;
@@ -199,17 +201,17 @@ command_again total c fits =
     ap (values_at fields total) (sym (append-nil values)) ∙ values_again fields (every_row fields) total parts.values [] fits.values in
     rw (value_again kind_format kind-IsFormat total parts.kind values (kind_has parts.kind), whole) (ap (λ d. Ok d) fits.whole)
 
-pub entry_takes : (bytes : List ℕ) (e : Entry) → IsBytes bytes → entry_of bytes ≡ Ok e → Fits e × (bytes ≡ spelling e)
+pub entry_takes : (bytes : List ℕ) (e : Entry) → IsBytes bytes → entry_of bytes ≡ Ok e → EntryFits e × (bytes ≡ spelling e)
 unfolding entry_of spelling
 entry_takes bytes e fits is =
     let moment = bind_ok (value_at moment_format (length bytes) bytes) _ e is in
     let command = bind_ok (command_at (length bytes) moment.0.1) _ e moment.2 in
     let t = value_takes moment_format moment-IsFormat (length bytes) bytes moment.0 fits moment.1 in
     let u = command_takes (length bytes) moment.0.1 command.0 (IsBytes-rest (moment_format.written moment.0.0) moment.0.1 (subst IsBytes t.0 fits)) command.1 in
-    subst (λ (d : Entry). Fits d × (bytes ≡ spelling d)) (ok_is (entry_at moment.0.0 command.0) e command.2)
+    subst (λ (d : Entry). EntryFits d × (bytes ≡ spelling d)) (ok_is (entry_at moment.0.0 command.0) e command.2)
     (record { moment = moment_before moment.0.0 t.1; command = u.1 }, t.0 ∙ ap (λ (l : List ℕ). moment_format.written moment.0.0 ++ l) u.0)
 
-pub entry_again : (e : Entry) → Fits e → entry_of (spelling e) ≡ Ok e
+pub entry_again : (e : Entry) → EntryFits e → entry_of (spelling e) ≡ Ok e
 unfolding entry_of spelling
 entry_again e fits =
     rw (
@@ -217,10 +219,10 @@ entry_again e fits =
       command_again (length (spelling e)) e.command fits.command,
     ) refl
 
-pub is_found : (bytes : List ℕ) (r : Result Entry EntryFault) → IsBytes bytes → Gives (λ e. e) r (entry_of bytes) → IfOk r (λ e. Fits e × (bytes ≡ spelling e))
+pub is_found : (bytes : List ℕ) (r : Result Entry EntryFault) → IsBytes bytes → EntryGives (λ e. e) r (entry_of bytes) → IfOk r (λ e. EntryFits e × (bytes ≡ spelling e))
 is_found bytes (Ok e) fits given = entry_takes bytes e fits given
 is_found bytes (Err e) fits given = tt
 
 -- an entry is known by its spelling
-pub spelling_tells : (a b : Entry) → Fits a → Fits b → spelling a ≡ spelling b → a ≡ b
+pub spelling_tells : (a b : Entry) → EntryFits a → EntryFits b → spelling a ≡ spelling b → a ≡ b
 spelling_tells a b fits_a fits_b same = ok_is a b (sym (entry_again a fits_a) ∙ ap entry_of same ∙ entry_again b fits_b)

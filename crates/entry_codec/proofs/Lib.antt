@@ -5,7 +5,6 @@ pub mod Fitting
 pub mod FormatLaws
 pub mod Items
 pub mod Laws
-mod Midnights
 pub mod MonthLemmas
 pub mod PriceLemmas
 pub mod Rising

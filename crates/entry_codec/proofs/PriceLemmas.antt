@@ -2,7 +2,7 @@
 use Rattle.std.proofs.Common.{◌≡◌, ◌∙◌, ℕ, zero, suc, ◌+◌, ◌-◌, ◌^◌, ◌<◌, ◌≤◌, true, List, [], ◌∷◌, ◌++◌, length, get_or, take, drop, Result, Ok, Err, refl, sym, ap, ap₂, subst, append_assoc, arith}
 use Rattle.std.specs.Prelude.{slice_set}
 use Rattle.std.specs.List.{list_all, flat_map}
-use Rattle.std.proofs.lemmas.Bool.{lt-ltb, leb-true}
+use Rattle.std.proofs.lemmas.Bool.{lt-ltb, leb-true, and_parts, and_from}
 use Rattle.std.proofs.lemmas.List.{append-nil, take_more_set, length-set, take_all}
 use Rattle.tariff.specs.Prices.{Prices, is_price}
 use Rattle.office_types.specs.declared.command.Command.{Command}
@@ -13,8 +13,7 @@ use Rattle.entry_codec.specs.declared.kinds.Kind.TheVariants as kind
 use Rattle.entry_codec.specs.Fields.{Field, Price, format}
 use Rattle.entry_codec.specs.Kinds.{Values, kind_format, fields_of, command_of}
 use Rattle.entry_codec.specs.Spelling.{written_values, are_values, command_spelling, CommandFits}
-use Rattle.entry_codec.specs.Reading.{◌>>=◌, Fails, value_at, values_at, items_at, kind_at}
-use Rattle.entry_codec.proofs.FormatLaws.{both, and_true}
+use Rattle.entry_codec.specs.Reading.{◌>>=◌, IsFaultOf, value_at, values_at, items_at, kind_at}
 use Rattle.entry_codec.proofs.Laws.{fits_of}
 
 -- ---- lists of so many prices
@@ -86,18 +85,19 @@ after_one room i total bytes x after all lt h so_far =
     rw (front, size) (goes_on (take i room) (length room) i total bytes x after all lt h so_far)
 
 all_push : (xs : List ℕ) (x : ℕ) → list_all is_price xs ≡ true → is_price x ≡ true → list_all is_price (xs ++ x ∷ []) ≡ true
-all_push [] x all is = and_true _ _ is refl
-all_push (y ∷ ys) x all is = let parts = both (is_price y) (list_all is_price ys) all in and_true _ _ parts.0 (all_push ys x parts.1 is)
+all_push [] x all is = and_from _ _ is refl
+all_push (y ∷ ys) x all is = let parts = and_parts (is_price y) (list_all is_price ys) all in and_from _ _ parts.0 (all_push ys x parts.1 is)
 
 pub prices_after : (room : List ℕ) (i x : ℕ) → i < length room → list_all is_price (take i room) ≡ true → is_price x ≡ true → list_all is_price (take (i + 1) (slice_set room i x)) ≡ true
 prices_after room i x lt all is = ap (list_all is_price) (take_more_set room i x lt) ∙ all_push (take i room) x all is
 
-pub fails_after : (room : List ℕ) (i total : ℕ) (bytes : List ℕ) (e : EntryFault) (all : Read) → i < length room → Fails e (value_at (format Price) total bytes)
-    → with_front (take i room) (items_at (format Price) (length room - i) total bytes) ≡ all → Fails e all
+pub fails_after : (room : List ℕ) (i total : ℕ) (bytes : List ℕ) (e : EntryFault) (all : Read) → i < length room → IsFaultOf e (value_at (format Price) total bytes)
+    → with_front (take i room) (items_at (format Price) (length room - i) total bytes) ≡ all → IsFaultOf e all
 fails_after room i total bytes faults.NoMemory all lt h so_far = tt
 fails_after room i total bytes (faults.BadEntry at) all lt h so_far = stops (take i room) (length room) i total bytes at all lt h so_far
 
-pub all_read : (room : List ℕ) (i total : ℕ) (bytes : List ℕ) (all : Read) → length room ≤ i → with_front (take i room) (items_at (format Price) (length room - i) total bytes) ≡ all → all ≡ Ok (room, bytes)
+pub all_read : (room : List ℕ) (i total : ℕ) (bytes : List ℕ) (all : Read) → length room ≤ i
+    → with_front (take i room) (items_at (format Price) (length room - i) total bytes) ≡ all → all ≡ Ok (room, bytes)
 all_read room i total bytes all le so_far = is_done (take i room) (length room) i total bytes all le so_far ∙ ap (λ (l : List ℕ). Ok (l, bytes)) (take_all i room le)
 
 -- ---- reading
@@ -149,13 +149,13 @@ tariff_read total bytes s rest t left first second six five =
     ∙ ap (λ (r : Read). r >>= λ t. Ok (tariff_of (firsts 6 s) (firsts 5 t.0), t.1)) second
     ∙ ap₂ (λ (a b : List ℕ). Ok (tariff_of a b, left)) (firsts_all 6 s six) (firsts_all 5 t five)
 
-pub storage_fails : (total : ℕ) (bytes : List ℕ) (e : EntryFault) → Fails e (items_at (format Price) 6 total bytes) → Fails e (kind_at kind.SetTariff total bytes)
+pub storage_fails : (total : ℕ) (bytes : List ℕ) (e : EntryFault) → IsFaultOf e (items_at (format Price) 6 total bytes) → IsFaultOf e (kind_at kind.SetTariff total bytes)
 storage_fails total bytes faults.NoMemory first = tt
 storage_fails total bytes (faults.BadEntry at) first =
     by_lists total bytes ∙ ap (λ (r : Read). r >>= λ s. items_at (format Price) 5 total s.1 >>= λ t. Ok (tariff_of (firsts 6 s.0) (firsts 5 t.0), t.1)) first
 
-pub transition_fails : (total : ℕ) (bytes s rest : List ℕ) (e : EntryFault) → items_at (format Price) 6 total bytes ≡ Ok (s, rest) → Fails e (items_at (format Price) 5 total rest)
-    → Fails e (kind_at kind.SetTariff total bytes)
+pub transition_fails : (total : ℕ) (bytes s rest : List ℕ) (e : EntryFault) → items_at (format Price) 6 total bytes ≡ Ok (s, rest) → IsFaultOf e (items_at (format Price) 5 total rest)
+    → IsFaultOf e (kind_at kind.SetTariff total bytes)
 transition_fails total bytes s rest faults.NoMemory first second = tt
 transition_fails total bytes s rest (faults.BadEntry at) first second =
     by_lists total bytes ∙ ap (λ (r : Read). r >>= λ s. items_at (format Price) 5 total s.1 >>= λ t. Ok (tariff_of (firsts 6 s.0) (firsts 5 t.0), t.1)) first
@@ -166,21 +166,23 @@ transition_fails total bytes s rest (faults.BadEntry at) first second =
 abbrev w : ℕ → List ℕ
 w = (format Price).written
 
-written_prices : (n : ℕ) (fields : List Field) (xs : List ℕ) (values : Values fields) → written_values (prices n fields) (joined n fields xs values) ≡ flat_map w (firsts n xs) ++ written_values fields values
+written_prices : (n : ℕ) (fields : List Field) (xs : List ℕ) (values : Values fields)
+    → written_values (prices n fields) (joined n fields xs values)
+    ≡ flat_map w (firsts n xs) ++ written_values fields values
 written_prices zero fields xs values = refl
 written_prices (suc n) fields xs values =
     ap (λ (l : List ℕ). w (get_or xs 0 0) ++ l) (written_prices n fields (drop 1 xs) values) ∙ sym (append_assoc (w (get_or xs 0 0)) (flat_map w (firsts n (drop 1 xs))) (written_values fields values))
 
 price_has : (x : ℕ) → is_price x ≡ true → (format Price).has x ≡ true
 unfolding format
-price_has x is = and_true _ _ (lt-ltb x (256 ^ 4) (omega (arith, leb-true x 1_048_576 is))) is
+price_has x is = and_from _ _ (lt-ltb x (256 ^ 4) (omega (arith, leb-true x 1_048_576 is))) is
 
 have_prices : (n : ℕ) (fields : List Field) (xs : List ℕ) (values : Values fields) → list_all is_price (firsts n xs) ≡ true → are_values fields values ≡ true
     → are_values (prices n fields) (joined n fields xs values) ≡ true
 have_prices zero fields xs values all others = others
 have_prices (suc n) fields xs values all others =
-    let parts = both (is_price (get_or xs 0 0)) (list_all is_price (firsts n (drop 1 xs))) all in
-    and_true _ _ (price_has (get_or xs 0 0) parts.0) (have_prices n fields (drop 1 xs) values parts.1 others)
+    let parts = and_parts (is_price (get_or xs 0 0)) (list_all is_price (firsts n (drop 1 xs))) all in
+    and_from _ _ (price_has (get_or xs 0 0) parts.0) (have_prices n fields (drop 1 xs) values parts.1 others)
 
 abbrev values_of : List ℕ → List ℕ → Values (fields_of kind.SetTariff)
 values_of s t = joined 6 (prices 5 []) s (joined 5 [] t tt)

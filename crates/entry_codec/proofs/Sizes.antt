@@ -2,55 +2,44 @@
 use Rattle.std.proofs.Common.{◌≡◌, ℕ, ◌+◌, ◌*◌, ◌^◌, ◌<◌, ◌≤◌, true, ◌&&◌, List, [], ◌∷◌, ◌++◌, length, refl, ap, arith, length-append}
 use Rattle.std.specs.Prelude.{nat_le}
 use Rattle.std.specs.List.{list_all, flat_map}
-use Rattle.std.specs.Str.{is_utf8}
 use Rattle.std.proofs.lemmas.Bool.Decides.{nat_tests}
-use Rattle.std.proofs.lemmas.Str.{IsUtf8-from_is_utf8}
-use Rattle.office_base.specs.Tags.{Tag, char_count, is_tag, keys_rise}
+use Rattle.std.proofs.lemmas.Bool.{and_parts}
+use Rattle.office_base.specs.Tags.{Tag, is_tag, keys_rise}
 use Rattle.office_base.proofs.Sizes.{name_small, key_small}
 use Rattle.office_types.specs.declared.command.Command.{Command}
 use Rattle.office_types.specs.declared.command.Command.TheVariants as command
 use Rattle.office_types.specs.declared.command.Entry.{Entry}
-use Rattle.rules_core.specs.Configurations.{Configuration}
-use Rattle.rules_json.specs.Printing.{printed}
-use Rattle.rules_json.proofs.Sizes.{text_small}
-use Rattle.rules_json.proofs.ShortTexts.{printed_most}
+use Rattle.office_types.specs.Entries.{entry_at}
+use Rattle.rules_json.proofs.ShortTexts.{printed_most, long_text}
 use Rattle.std.specs.Int.{w8}
 use Rattle.entry_codec.specs.Formats.{Format, number, ◌such_that◌}
-use Rattle.entry_codec.specs.Fields.{Field, Name, Key, Size, Rank, Tags, Rules, Status, Id, Number4, Number8, Price, Year, Month, Holds, format, moment_format, tag, utf8_text}
+use Rattle.entry_codec.specs.Fields.{Field, Name, Key, Size, Rank, Tags, Rules, Status, Id, Number4, Number8, Price, Year, Month, ValueOf, format, moment_format, tag_format, utf8_text}
 use Rattle.entry_codec.specs.declared.kinds.Kind.{Kind}
 use Rattle.entry_codec.specs.Kinds.{Values, kind_format, fields_of, parts_of}
 use Rattle.entry_codec.specs.declared.kinds.Kind.TheVariants as kind
-use Rattle.entry_codec.specs.Spelling.{entry_at, written_values, are_values, command_spelling, CommandFits, IsEntry, Fits, entry_limit, spelling}
+use Rattle.entry_codec.specs.Spelling.{written_values, are_values, command_spelling, CommandFits, IsEntry, EntryFits, entry_limit, spelling}
 use Rattle.entry_codec.proofs.FieldLaws.{kept}
-use Rattle.entry_codec.proofs.FormatLaws.{both}
 
 -- ---- fields
-
--- a text of few characters has few bytes
-few_bytes : (t : List ℕ) (n : ℕ) → is_utf8 t ≡ true → nat_le (char_count t) n ≡ true → length t ≤ 4 * n
-few_bytes t n text few = omega (arith, text_small t (IsUtf8-from_is_utf8 t text), at_most)
-  where
-    at_most : char_count t ≤ n
-    at_most = grind (arith, nat_tests)
 
 pub tag_parts_small : (t : Tag) → is_tag t ≡ true → (length t.0 ≤ 512) × (length t.1 ≤ 1_024)
 unfolding is_tag
 tag_parts_small t is =
-    let values = both _ _ is in
-    let longest = both _ _ values.0 in
-    let least = both _ _ longest.0 in
-    let texts = both _ _ least.0 in
-    (few_bytes t.0 128 texts.0 longest.1, few_bytes t.1 256 texts.1 values.1)
+    let values = and_parts _ _ is in
+    let longest = and_parts _ _ values.0 in
+    let least = and_parts _ _ longest.0 in
+    let texts = and_parts _ _ least.0 in
+    (long_text t.0 128 texts.0 longest.1, long_text t.1 256 texts.1 values.1)
 
-tag_small : (t : Tag) → is_tag t ≡ true → length (tag.written t) ≤ 1_540
-unfolding tag utf8_text
+tag_small : (t : Tag) → is_tag t ≡ true → length (tag_format.written t) ≤ 1_540
+unfolding tag_format utf8_text
 tag_small t is = omega (arith, tag_parts_small t is, length-append (utf8_text.written t.0) (utf8_text.written t.1))
 
-all_small : (tags : List Tag) → list_all is_tag tags ≡ true → length (flat_map tag.written tags) ≤ 1_540 * length tags
+all_small : (tags : List Tag) → list_all is_tag tags ≡ true → length (flat_map tag_format.written tags) ≤ 1_540 * length tags
 all_small [] all = omega arith
 all_small (t ∷ tags) all =
-    let parts = both (is_tag t) (list_all is_tag tags) all in
-    omega (arith, length-append (tag.written t) (flat_map tag.written tags), tag_small t parts.0, all_small tags parts.1)
+    let parts = and_parts (is_tag t) (list_all is_tag tags) all in
+    omega (arith, length-append (tag_format.written t) (flat_map tag_format.written tags), tag_small t parts.0, all_small tags parts.1)
 
 abbrev few : Format ℕ
 few = number w8 such_that λ n. nat_le n 10
@@ -71,19 +60,19 @@ most Price = 4
 most Year = 2
 most Month = 1
 
-value_small : (field : Field) (value : Holds field) → (format field).has value ≡ true → length ((format field).written value) ≤ most field
+value_small : (field : Field) (value : ValueOf field) → (format field).has value ≡ true → length ((format field).written value) ≤ most field
 unfolding format
-value_small Name value has = omega (arith, name_small value (both _ _ has).1)
-value_small Key value has = omega (arith, key_small value (both _ _ has).1)
+value_small Name value has = omega (arith, name_small value (and_parts _ _ has).1)
+value_small Key value has = omega (arith, key_small value (and_parts _ _ has).1)
 value_small Size value has = omega arith
 value_small Rank value has = omega arith
 value_small Tags value has =
-    let parts = both (few.has (length value) && list_all tag.has value) (list_all is_tag value && keys_rise value) has in
-    let count = both (few.has (length value)) (list_all tag.has value) parts.0 in
-    let ten : nat_le (length value) 10 ≡ true = (both ((number w8).has (length value)) (nat_le (length value) 10) count.0).1 in
+    let parts = and_parts (few.has (length value) && list_all tag_format.has value) (list_all is_tag value && keys_rise value) has in
+    let count = and_parts (few.has (length value)) (list_all tag_format.has value) parts.0 in
+    let ten : nat_le (length value) 10 ≡ true = (and_parts ((number w8).has (length value)) (nat_le (length value) 10) count.0).1 in
     let at_most : length value ≤ 10 = grind (arith, nat_tests) in
-    omega (arith, at_most, all_small value (both (list_all is_tag value) (keys_rise value) parts.1).0)
-value_small Rules value has = omega (arith, printed_most value (kept value (both _ _ has).1))
+    omega (arith, at_most, all_small value (and_parts (list_all is_tag value) (keys_rise value) parts.1).0)
+value_small Rules value has = omega (arith, printed_most value (kept value (and_parts _ _ has).1))
 value_small Status value has = omega arith
 value_small Id value has = omega arith
 value_small Number4 value has = omega arith
@@ -101,7 +90,7 @@ most_of (field ∷ fields) = most field + most_of fields
 values_small : (fields : List Field) (values : Values fields) → are_values fields values ≡ true → length (written_values fields values) ≤ most_of fields
 values_small [] values has = omega arith
 values_small (field ∷ fields) values has =
-    let parts = both ((format field).has values.0) (are_values fields values.1) has in
+    let parts = and_parts ((format field).has values.0) (are_values fields values.1) has in
     omega (arith, length-append ((format field).written values.0) (written_values fields values.1), value_small field values.0 parts.0, values_small fields values.1 parts.1)
 
 kind_small : (k : Kind) → length (kind_format.written k) ≡ 1
@@ -143,10 +132,10 @@ row_most kind.Act = omega arith
 row_most kind.SetTariff = omega arith
 row_most kind.Close = omega arith
 
-spelling_most : (e : Entry) → Fits e → length (spelling e) ≤ 170_001_728
+spelling_most : (e : Entry) → EntryFits e → length (spelling e) ≤ 170_001_728
 spelling_most e fits = omega (arith, by_fields e fits.command, row_most (parts_of e.command).kind)
 
-pub spelling_short : (e : Entry) → Fits e → length (spelling e) ≤ entry_limit
+pub spelling_short : (e : Entry) → EntryFits e → length (spelling e) ≤ entry_limit
 spelling_short e fits = omega (arith, spelling_most e fits)
 
 pub entry_small : (bytes : List ℕ) → IsEntry bytes → length bytes < 2 ^ 32
@@ -172,14 +161,8 @@ other_most kind.Act other = omega arith
 other_most kind.SetTariff other = omega arith
 other_most kind.Close other = omega arith
 
-pub other_small : (e : Entry) → Fits e → ((parts_of e.command).kind ≡ kind.SetRules → ⊥) → length (spelling e) ≤ 16_510
+pub other_small : (e : Entry) → EntryFits e → ((parts_of e.command).kind ≡ kind.SetRules → ⊥) → length (spelling e) ≤ 16_510
 other_small e fits other = omega (arith, by_fields e fits.command, other_most (parts_of e.command).kind other)
-
--- an entry that sets rules is longer than their text by the bucket's name and 15 bytes
-pub length-set_rules : (moment : ℕ) (bucket : List ℕ) (rules : Configuration)
-    → length (spelling (entry_at moment (command.SetRules bucket rules))) ≡ 15 + length bucket + length (printed rules)
-unfolding spelling command_spelling moment_format kind_format format
-length-set_rules moment bucket rules = omega (arith, length-append bucket ((format Rules).written rules ++ []), length-append (printed rules) [])
 
 -- a moment and a kind
 pub spelling_long : (e : Entry) → 9 ≤ length (spelling e)

@@ -18,7 +18,7 @@ use Rattle.rules_core.specs.Configurations.{Configuration, has_name, has_midnigh
 use Rattle.rules_json.specs.Printing.{printed}
 use Rattle.rules_json.specs.Reading.{rules_of}
 use Rattle.tariff.specs.Prices.{is_price}
-use Rattle.entry_codec.specs.Formats.{Format, number, text, ◌such_that◌, pair, list, Code, coded}
+use Rattle.entry_codec.specs.Formats.{Format, number, counted_text, ◌such_that◌, pair, list, Code, coded}
 
 -- ---- values that are written as numbers, and configurations, which are written as their texts
 
@@ -35,11 +35,11 @@ abbrev pub status_code : Bool → ℕ
 status_code true = 1
 status_code false = 2
 
-abbrev pub status_of : ℕ → Option Bool
-status_of status = if status == 1 then Some true else if status == 2 then Some false else None
+abbrev pub status_value : ℕ → Option Bool
+status_value status = if status == 1 then Some true else if status == 2 then Some false else None
 
 abbrev pub statuses : Code ℕ Bool
-statuses = record { code = status_code; has = λ enabled. true; value = status_of }
+statuses = record { code = status_code; has = λ enabled. true; value = status_value }
 
 -- the id of a version by its number, the null version (S3 User Guide, "How S3 Versioning works") by 0
 abbrev pub id_code : VersionId → ℕ
@@ -50,19 +50,19 @@ abbrev pub is_id : VersionId → Bool
 is_id version.Null = true
 is_id (version.Number n) = nat_lt 0 n
 
-abbrev pub id_of : ℕ → Option VersionId
-id_of n = Some (if n == 0 then version.Null else version.Number n)
+abbrev pub id_value : ℕ → Option VersionId
+id_value n = Some (if n == 0 then version.Null else version.Number n)
 
 abbrev pub ids : Code ℕ VersionId
-ids = record { code = id_code; has = is_id; value = id_of }
+ids = record { code = id_code; has = is_id; value = id_value }
 
 -- a text in UTF-8 behind two bytes of length
 unfoldable pub utf8_text : Format (List ℕ)
-utf8_text = text (number w16) such_that is_utf8
+utf8_text = counted_text (number w16) such_that is_utf8
 
 -- a tag: its key and its value
-unfoldable pub tag : Format Tag
-tag = pair utf8_text utf8_text
+unfoldable pub tag_format : Format Tag
+tag_format = pair utf8_text utf8_text
 
 -- tags as an object keeps them, beside their number (S3 User Guide, "Categorizing your objects using tags"); the order
 -- is own
@@ -81,8 +81,8 @@ if_printed t configuration =
     if is_configuration configuration && bytes_eq t (printed configuration) then Some configuration else None
 
 -- configurations by their texts
-abbrev pub texts : Code (List ℕ) Configuration
-texts = record {
+abbrev pub rules_texts : Code (List ℕ) Configuration
+rules_texts = record {
   code = printed;
   has = is_configuration;
   value = λ t. option_and_then (if_printed t) (result_ok (rules_of t));
@@ -95,29 +95,29 @@ pub data Field : Type 0 where
   Name Key Size Rank Tags Rules Status Id Number4 Number8 Price Year Month : Field
 
 -- what a field holds
-abbrev pub Holds : Field → Type 0
-Holds Name = List ℕ
-Holds Key = List ℕ
-Holds Size = ℕ
-Holds Rank = Class
-Holds Tags = List Tag
-Holds Rules = Configuration
-Holds Status = Bool
-Holds Id = VersionId
-Holds Number4 = ℕ
-Holds Number8 = ℕ
-Holds Price = ℕ
-Holds Year = ℕ
-Holds Month = ℕ
+abbrev pub ValueOf : Field → Type 0
+ValueOf Name = List ℕ
+ValueOf Key = List ℕ
+ValueOf Size = ℕ
+ValueOf Rank = Class
+ValueOf Tags = List Tag
+ValueOf Rules = Configuration
+ValueOf Status = Bool
+ValueOf Id = VersionId
+ValueOf Number4 = ℕ
+ValueOf Number8 = ℕ
+ValueOf Price = ℕ
+ValueOf Year = ℕ
+ValueOf Month = ℕ
 
 -- how each field stands in bytes, and its range
-unfoldable pub format : (field : Field) → Format (Holds field)
-format Name = text (number w16) such_that is_bucket_name
-format Key = text (number w16) such_that is_key
+unfoldable pub format : (field : Field) → Format (ValueOf field)
+format Name = counted_text (number w16) such_that is_bucket_name
+format Key = counted_text (number w16) such_that is_key
 format Size = number w64 such_that λ size. nat_le size largest_size
 format Rank = coded (number w8) ranks
-format Tags = list (number w8 such_that λ n. nat_le n 10) tag such_that are_kept
-format Rules = coded (text (number w32)) texts
+format Tags = list (number w8 such_that λ n. nat_le n 10) tag_format such_that are_kept
+format Rules = coded (counted_text (number w32)) rules_texts
 format Status = coded (number w8) statuses
 format Id = coded (number w64) ids
 format Number4 = number w32

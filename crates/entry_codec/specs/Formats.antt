@@ -29,8 +29,8 @@ number w = record {
 }
 
 -- a text of bytes behind its length
-abbrev pub text : Format ℕ → Format (List ℕ)
-text count = record {
+abbrev pub counted_text : Format ℕ → Format (List ℕ)
+counted_text count = record {
   written = λ t. count.written (length t) ++ t;
   has = λ t. count.has (length t);
   front = λ bytes. count.front bytes >>= λ n. split n.0 n.1;

@@ -8,7 +8,7 @@ use Rattle.office_types.specs.declared.command.Command.TheVariants as command
 use Rattle.entry_codec.specs.declared.kinds.Kind.{Kind}
 use Rattle.entry_codec.specs.declared.kinds.Kind.TheVariants.{CreateBucket, SetVersioning, SetRules, DropRules, Put, Delete, DeleteVersion, SetTags, StartUpload, PutPart, Complete, Abort, Act, SetTariff, Close}
 use Rattle.entry_codec.specs.Formats.{Format, number, Code, coded}
-use Rattle.entry_codec.specs.Fields.{Field, Name, Key, Size, Rank, Tags, Rules, Status, Id, Number4, Number8, Price, Year, Month, Holds}
+use Rattle.entry_codec.specs.Fields.{Field, Name, Key, Size, Rank, Tags, Rules, Status, Id, Number4, Number8, Price, Year, Month, ValueOf}
 
 -- all kinds
 abbrev pub all_kinds : List Kind
@@ -35,8 +35,8 @@ row SetTariff = (0x0E, repeat 11 (Price ∷ []))
 row Close = (0x0F, Year ∷ Month ∷ [])
 
 -- the columns of the table
-abbrev pub number_of : Kind → ℕ
-number_of kind = (row kind).0
+abbrev pub kind_number : Kind → ℕ
+kind_number kind = (row kind).0
 
 abbrev pub fields_of : Kind → List Field
 fields_of kind = (row kind).1
@@ -44,9 +44,9 @@ fields_of kind = (row kind).1
 -- a kind by its number
 abbrev pub kinds : Code ℕ Kind
 kinds = record {
-  code = number_of;
+  code = kind_number;
   has = λ kind. true;
-  value = λ n. find (λ kind. number_of kind == n) all_kinds;
+  value = λ n. find (λ kind. kind_number kind == n) all_kinds;
 }
 
 -- the kind of an entry
@@ -58,15 +58,15 @@ kind_format = coded (number w8) kinds
 -- a value for each field
 abbrev pub Values : List Field → Type 0
 Values [] = Unit {0}
-Values (field ∷ fields) = Holds field × Values fields
+Values (field ∷ fields) = ValueOf field × Values fields
 
 -- a kind, and a value for each of its fields
-pub record Parts : Type 0 where
+pub record CommandParts : Type 0 where
   pub kind : Kind
   pub values : Values (fields_of kind)
 
 -- the parts of a command, each value under its field
-abbrev pub parts_of : Command → Parts
+abbrev pub parts_of : Command → CommandParts
 parts_of (command.CreateBucket bucket) = record { kind = CreateBucket; values = (bucket, tt) }
 parts_of (command.SetVersioning bucket enabled) = record { kind = SetVersioning; values = (bucket, (enabled, tt)) }
 parts_of (command.SetRules bucket rules) = record { kind = SetRules; values = (bucket, (rules, tt)) }

@@ -18,14 +18,14 @@ abbrev pub ◌>>=◌ : {A B : Type 0} → Result A ℕ → (A → Result B ℕ) 
 (Err at) >>= f = Err at
 
 -- the fault that a function answers is that of reading; with memory wanting, nothing is said
-abbrev pub Fails : {Y : Type 0} → EntryFault → Result Y ℕ → Type 0
-Fails faults.NoMemory read = Unit {0}
-Fails (faults.BadEntry at) read = read ≡ Err at
+abbrev pub IsFaultOf : {Y : Type 0} → EntryFault → Result Y ℕ → Type 0
+IsFaultOf faults.NoMemory read = Unit {0}
+IsFaultOf (faults.BadEntry at) read = read ≡ Err at
 
 -- what a function answers, seen by view, is what reading gives, unless memory is wanting
-abbrev pub Gives : {X Y : Type 0} → (X → Y) → Result X EntryFault → Result Y ℕ → Type 0
-Gives view (Ok x) read = read ≡ Ok (view x)
-Gives view (Err e) read = Fails e read
+abbrev pub EntryGives : {X Y : Type 0} → (X → Y) → Result X EntryFault → Result Y ℕ → Type 0
+EntryGives view (Ok x) read = read ≡ Ok (view x)
+EntryGives view (Err e) read = IsFaultOf e read
 
 -- what a function finds, seen by view, is what stands at the front, unless memory is wanting
 abbrev pub Finds : {X Y E : Type 0} → (X → Y) → Result (Option X) E → Option Y → Type 0

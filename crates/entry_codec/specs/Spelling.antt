@@ -6,10 +6,6 @@ use Rattle.office_types.specs.declared.command.Entry.{Entry}
 use Rattle.entry_codec.specs.Fields.{Field, format, moment_format}
 use Rattle.entry_codec.specs.Kinds.{kind_format, fields_of, Values, parts_of, command_of}
 
--- a command at a moment
-abbrev pub entry_at : ℕ → Command → Entry
-entry_at moment command = record { moment = moment; command = command }
-
 -- the values of fields, one behind the other
 abbrev pub written_values : (fields : List Field) → Values fields → List ℕ
 written_values [] none = []
@@ -41,10 +37,10 @@ pub record CommandFits (c : Command) : Type 0 where
   pub whole : command_of (parts_of c).kind (parts_of c).values ≡ c
 
 -- an entry as it is kept
-pub record Fits (e : Entry) : Type 0 where
+pub record EntryFits (e : Entry) : Type 0 where
   pub moment : e.moment < end_of_time
   pub command : CommandFits e.command
 
 -- the bytes spell an entry
 abbrev pub IsEntry : List ℕ → Type 0
-IsEntry bytes = (e : Entry) × Fits e × (bytes ≡ spelling e)
+IsEntry bytes = (e : Entry) × EntryFits e × (bytes ≡ spelling e)

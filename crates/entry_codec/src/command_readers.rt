@@ -1,7 +1,7 @@
 // Reading commands, a function for each kind. Each takes the fields of its kind from the front of the bytes that are
 // left of an entry of `total` bytes, and gives what is left then.
 ghost use Rattle.std.specs.Prelude.{◌≡◌};
-ghost use Rattle.entry_codec.specs.Reading.{Gives, kind_at};
+ghost use Rattle.entry_codec.specs.Reading.{EntryGives, kind_at};
 
 use crate::fault::EntryFault;
 use crate::field_readers::{
@@ -17,7 +17,7 @@ use tariff::Tariff;
 
 #[tactic(auto, unfolding(crate::specs::Reading::kind_at))]
 fn create_bucket(alloc: Global, total: usize, bytes: &[u8]) -> Result<(Command, &[u8]), EntryFault>
-    ensures { Gives (λ x. (x.0, x.1.now)) result (kind_at Kind.CreateBucket total bytes.now) }
+    ensures { EntryGives (λ x. (x.0, x.1.now)) result (kind_at Kind.CreateBucket total bytes.now) }
 {
     let (bucket, rest) = name_of(alloc, total, bytes)?;
     Ok((Command::CreateBucket { bucket }, rest))
@@ -25,7 +25,7 @@ fn create_bucket(alloc: Global, total: usize, bytes: &[u8]) -> Result<(Command, 
 
 #[tactic(auto, unfolding(crate::specs::Reading::kind_at))]
 fn set_versioning(alloc: Global, total: usize, bytes: &[u8]) -> Result<(Command, &[u8]), EntryFault>
-    ensures { Gives (λ x. (x.0, x.1.now)) result (kind_at Kind.SetVersioning total bytes.now) }
+    ensures { EntryGives (λ x. (x.0, x.1.now)) result (kind_at Kind.SetVersioning total bytes.now) }
 {
     let (bucket, rest) = name_of(alloc, total, bytes)?;
     let (enabled, rest) = status_of(total, rest)?;
@@ -34,7 +34,7 @@ fn set_versioning(alloc: Global, total: usize, bytes: &[u8]) -> Result<(Command,
 
 #[tactic(auto, unfolding(crate::specs::Reading::kind_at))]
 fn set_rules(alloc: Global, total: usize, bytes: &[u8]) -> Result<(Command, &[u8]), EntryFault>
-    ensures { Gives (λ x. (x.0, x.1.now)) result (kind_at Kind.SetRules total bytes.now) }
+    ensures { EntryGives (λ x. (x.0, x.1.now)) result (kind_at Kind.SetRules total bytes.now) }
 {
     let (bucket, rest) = name_of(alloc, total, bytes)?;
     let (rules, rest) = rules_of(alloc, total, rest)?;
@@ -43,7 +43,7 @@ fn set_rules(alloc: Global, total: usize, bytes: &[u8]) -> Result<(Command, &[u8
 
 #[tactic(auto, unfolding(crate::specs::Reading::kind_at))]
 fn drop_rules(alloc: Global, total: usize, bytes: &[u8]) -> Result<(Command, &[u8]), EntryFault>
-    ensures { Gives (λ x. (x.0, x.1.now)) result (kind_at Kind.DropRules total bytes.now) }
+    ensures { EntryGives (λ x. (x.0, x.1.now)) result (kind_at Kind.DropRules total bytes.now) }
 {
     let (bucket, rest) = name_of(alloc, total, bytes)?;
     Ok((Command::DropRules { bucket }, rest))
@@ -51,7 +51,7 @@ fn drop_rules(alloc: Global, total: usize, bytes: &[u8]) -> Result<(Command, &[u
 
 #[tactic(auto, unfolding(crate::specs::Reading::kind_at))]
 fn put(alloc: Global, total: usize, bytes: &[u8]) -> Result<(Command, &[u8]), EntryFault>
-    ensures { Gives (λ x. (x.0, x.1.now)) result (kind_at Kind.Put total bytes.now) }
+    ensures { EntryGives (λ x. (x.0, x.1.now)) result (kind_at Kind.Put total bytes.now) }
 {
     let (bucket, rest) = name_of(alloc, total, bytes)?;
     let (key, rest) = key_of(alloc, total, rest)?;
@@ -76,7 +76,7 @@ fn put(alloc: Global, total: usize, bytes: &[u8]) -> Result<(Command, &[u8]), En
 
 #[tactic(auto, unfolding(crate::specs::Reading::kind_at))]
 fn delete(alloc: Global, total: usize, bytes: &[u8]) -> Result<(Command, &[u8]), EntryFault>
-    ensures { Gives (λ x. (x.0, x.1.now)) result (kind_at Kind.Delete total bytes.now) }
+    ensures { EntryGives (λ x. (x.0, x.1.now)) result (kind_at Kind.Delete total bytes.now) }
 {
     let (bucket, rest) = name_of(alloc, total, bytes)?;
     let (key, rest) = key_of(alloc, total, rest)?;
@@ -85,7 +85,7 @@ fn delete(alloc: Global, total: usize, bytes: &[u8]) -> Result<(Command, &[u8]),
 
 #[tactic(auto, unfolding(crate::specs::Reading::kind_at))]
 fn delete_version(alloc: Global, total: usize, bytes: &[u8]) -> Result<(Command, &[u8]), EntryFault>
-    ensures { Gives (λ x. (x.0, x.1.now)) result (kind_at Kind.DeleteVersion total bytes.now) }
+    ensures { EntryGives (λ x. (x.0, x.1.now)) result (kind_at Kind.DeleteVersion total bytes.now) }
 {
     let (bucket, rest) = name_of(alloc, total, bytes)?;
     let (key, rest) = key_of(alloc, total, rest)?;
@@ -98,7 +98,7 @@ fn delete_version(alloc: Global, total: usize, bytes: &[u8]) -> Result<(Command,
 
 #[tactic(auto, unfolding(crate::specs::Reading::kind_at))]
 fn set_tags(alloc: Global, total: usize, bytes: &[u8]) -> Result<(Command, &[u8]), EntryFault>
-    ensures { Gives (λ x. (x.0, x.1.now)) result (kind_at Kind.SetTags total bytes.now) }
+    ensures { EntryGives (λ x. (x.0, x.1.now)) result (kind_at Kind.SetTags total bytes.now) }
 {
     let (bucket, rest) = name_of(alloc, total, bytes)?;
     let (key, rest) = key_of(alloc, total, rest)?;
@@ -120,7 +120,7 @@ fn set_tags(alloc: Global, total: usize, bytes: &[u8]) -> Result<(Command, &[u8]
 
 #[tactic(auto, unfolding(crate::specs::Reading::kind_at))]
 fn start_upload(alloc: Global, total: usize, bytes: &[u8]) -> Result<(Command, &[u8]), EntryFault>
-    ensures { Gives (λ x. (x.0, x.1.now)) result (kind_at Kind.StartUpload total bytes.now) }
+    ensures { EntryGives (λ x. (x.0, x.1.now)) result (kind_at Kind.StartUpload total bytes.now) }
 {
     let (bucket, rest) = name_of(alloc, total, bytes)?;
     let (key, rest) = key_of(alloc, total, rest)?;
@@ -139,7 +139,7 @@ fn start_upload(alloc: Global, total: usize, bytes: &[u8]) -> Result<(Command, &
 
 #[tactic(auto, unfolding(crate::specs::Reading::kind_at))]
 fn put_part(alloc: Global, total: usize, bytes: &[u8]) -> Result<(Command, &[u8]), EntryFault>
-    ensures { Gives (λ x. (x.0, x.1.now)) result (kind_at Kind.PutPart total bytes.now) }
+    ensures { EntryGives (λ x. (x.0, x.1.now)) result (kind_at Kind.PutPart total bytes.now) }
 {
     let (bucket, rest) = name_of(alloc, total, bytes)?;
     let (upload, rest) = u64_of(total, rest)?;
@@ -158,7 +158,7 @@ fn put_part(alloc: Global, total: usize, bytes: &[u8]) -> Result<(Command, &[u8]
 
 #[tactic(auto, unfolding(crate::specs::Reading::kind_at))]
 fn complete(alloc: Global, total: usize, bytes: &[u8]) -> Result<(Command, &[u8]), EntryFault>
-    ensures { Gives (λ x. (x.0, x.1.now)) result (kind_at Kind.Complete total bytes.now) }
+    ensures { EntryGives (λ x. (x.0, x.1.now)) result (kind_at Kind.Complete total bytes.now) }
 {
     let (bucket, rest) = name_of(alloc, total, bytes)?;
     let (upload, rest) = u64_of(total, rest)?;
@@ -167,7 +167,7 @@ fn complete(alloc: Global, total: usize, bytes: &[u8]) -> Result<(Command, &[u8]
 
 #[tactic(auto, unfolding(crate::specs::Reading::kind_at))]
 fn abort(alloc: Global, total: usize, bytes: &[u8]) -> Result<(Command, &[u8]), EntryFault>
-    ensures { Gives (λ x. (x.0, x.1.now)) result (kind_at Kind.Abort total bytes.now) }
+    ensures { EntryGives (λ x. (x.0, x.1.now)) result (kind_at Kind.Abort total bytes.now) }
 {
     let (bucket, rest) = name_of(alloc, total, bytes)?;
     let (upload, rest) = u64_of(total, rest)?;
@@ -176,7 +176,7 @@ fn abort(alloc: Global, total: usize, bytes: &[u8]) -> Result<(Command, &[u8]), 
 
 #[tactic(auto, unfolding(crate::specs::Reading::kind_at))]
 fn act(alloc: Global, total: usize, bytes: &[u8]) -> Result<(Command, &[u8]), EntryFault>
-    ensures { Gives (λ x. (x.0, x.1.now)) result (kind_at Kind.Act total bytes.now) }
+    ensures { EntryGives (λ x. (x.0, x.1.now)) result (kind_at Kind.Act total bytes.now) }
 {
     let (bucket, rest) = name_of(alloc, total, bytes)?;
     Ok((Command::Act { bucket }, rest))
@@ -184,7 +184,7 @@ fn act(alloc: Global, total: usize, bytes: &[u8]) -> Result<(Command, &[u8]), En
 
 // The prices of storage, and then those of moves.
 fn set_tariff(total: usize, bytes: &[u8]) -> Result<(Command, &[u8]), EntryFault>
-    ensures { Gives (λ x. (x.0, x.1.now)) result (kind_at Kind.SetTariff total bytes.now) }
+    ensures { EntryGives (λ x. (x.0, x.1.now)) result (kind_at Kind.SetTariff total bytes.now) }
 {
     let mut storage = [0; 6];
     let mut transition = [0; 5];
@@ -206,7 +206,7 @@ fn set_tariff(total: usize, bytes: &[u8]) -> Result<(Command, &[u8]), EntryFault
 
 #[tactic(auto, unfolding(crate::specs::Reading::kind_at))]
 fn close(total: usize, bytes: &[u8]) -> Result<(Command, &[u8]), EntryFault>
-    ensures { Gives (λ x. (x.0, x.1.now)) result (kind_at Kind.Close total bytes.now) }
+    ensures { EntryGives (λ x. (x.0, x.1.now)) result (kind_at Kind.Close total bytes.now) }
 {
     let (year, rest) = read_year(total, bytes)?;
     match read_month(total, year, rest) {
@@ -222,7 +222,7 @@ pub(crate) fn fields_of_kind(
     total: usize,
     bytes: &[u8],
 ) -> Result<(Command, &[u8]), EntryFault>
-    ensures { Gives (λ x. (x.0, x.1.now)) result (kind_at kind total bytes.now) }
+    ensures { EntryGives (λ x. (x.0, x.1.now)) result (kind_at kind total bytes.now) }
 {
     match kind {
         Kind::CreateBucket => create_bucket(alloc, total, bytes),

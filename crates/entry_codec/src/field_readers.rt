@@ -4,7 +4,7 @@ ghost use Rattle.std.specs.Prelude.{◌≡◌, Some};
 ghost use Rattle.entry_codec.specs.declared.fault.EntryFault.TheVariants.{BadEntry};
 ghost use Rattle.entry_codec.specs.Fields as field;
 ghost use Rattle.entry_codec.specs.Fields.{ranks, statuses, ids, format};
-ghost use Rattle.entry_codec.specs.Reading.{Gives, place, value_at};
+ghost use Rattle.entry_codec.specs.Reading.{EntryGives, place, value_at};
 
 use crate::fault::EntryFault;
 use crate::fields::{counted_in, tags_in, u8_in, u32_in, u64_in};
@@ -27,7 +27,7 @@ pub(crate) fn name_of(
     total: usize,
     bytes: &[u8],
 ) -> Result<(BucketName, &[u8]), EntryFault>
-    ensures { Gives (λ x. (x.0, x.1.now)) result (value_at (format field.Name) total bytes.now) }
+    ensures { EntryGives (λ x. (x.0, x.1.now)) result (value_at (format field.Name) total bytes.now) }
 {
     let Some((name, rest)) = counted_in(bytes) else {
         return Err(fault_at(total, bytes));
@@ -44,7 +44,7 @@ pub(crate) fn name_of(
 
 #[tactic(auto, unfolding(crate::specs::Reading::value_at, crate::specs::Fields::format))]
 pub(crate) fn key_of(alloc: Global, total: usize, bytes: &[u8]) -> Result<(Key, &[u8]), EntryFault>
-    ensures { Gives (λ x. (x.0, x.1.now)) result (value_at (format field.Key) total bytes.now) }
+    ensures { EntryGives (λ x. (x.0, x.1.now)) result (value_at (format field.Key) total bytes.now) }
 {
     let Some((key, rest)) = counted_in(bytes) else {
         return Err(fault_at(total, bytes));
@@ -58,7 +58,7 @@ pub(crate) fn key_of(alloc: Global, total: usize, bytes: &[u8]) -> Result<(Key, 
 
 #[tactic(auto, unfolding(crate::specs::Reading::value_at, crate::specs::Fields::format))]
 pub(crate) fn size_of(total: usize, bytes: &[u8]) -> Result<(Size, &[u8]), EntryFault>
-    ensures { Gives (λ x. (x.0, x.1.now)) result (value_at (format field.Size) total bytes.now) }
+    ensures { EntryGives (λ x. (x.0, x.1.now)) result (value_at (format field.Size) total bytes.now) }
 {
     let Some((number, rest)) = u64_in(bytes) else {
         return Err(fault_at(total, bytes));
@@ -85,7 +85,7 @@ fn class_of_rank(rank: u8) -> Option<Class>
 
 #[tactic(auto, unfolding(crate::specs::Reading::value_at, crate::specs::Fields::format))]
 pub(crate) fn class_of(total: usize, bytes: &[u8]) -> Result<(Class, &[u8]), EntryFault>
-    ensures { Gives (λ x. (x.0, x.1.now)) result (value_at (format field.Rank) total bytes.now) }
+    ensures { EntryGives (λ x. (x.0, x.1.now)) result (value_at (format field.Rank) total bytes.now) }
 {
     let Some((rank, rest)) = u8_in(bytes) else {
         return Err(fault_at(total, bytes));
@@ -102,7 +102,7 @@ pub(crate) fn tags_of(
     total: usize,
     bytes: &[u8],
 ) -> Result<(Tags, &[u8]), EntryFault>
-    ensures { Gives (λ x. (x.0, x.1.now)) result (value_at (format field.Tags) total bytes.now) }
+    ensures { EntryGives (λ x. (x.0, x.1.now)) result (value_at (format field.Tags) total bytes.now) }
 {
     match tags_in(alloc, bytes) {
         Ok(Some(read)) => Ok(read),
@@ -124,7 +124,7 @@ fn status_of_number(status: u8) -> Option<bool>
 // Whether versioning is enabled; else it is suspended.
 #[tactic(auto, unfolding(crate::specs::Reading::value_at, crate::specs::Fields::format))]
 pub(crate) fn status_of(total: usize, bytes: &[u8]) -> Result<(bool, &[u8]), EntryFault>
-    ensures { Gives (λ x. (x.0, x.1.now)) result (value_at (format field.Status) total bytes.now) }
+    ensures { EntryGives (λ x. (x.0, x.1.now)) result (value_at (format field.Status) total bytes.now) }
 {
     let Some((status, rest)) = u8_in(bytes) else {
         return Err(fault_at(total, bytes));
@@ -146,7 +146,7 @@ fn id_of_number(number: u64) -> VersionId
 
 #[tactic(auto, unfolding(crate::specs::Reading::value_at, crate::specs::Fields::format))]
 pub(crate) fn id_of(total: usize, bytes: &[u8]) -> Result<(VersionId, &[u8]), EntryFault>
-    ensures { Gives (λ x. (x.0, x.1.now)) result (value_at (format field.Id) total bytes.now) }
+    ensures { EntryGives (λ x. (x.0, x.1.now)) result (value_at (format field.Id) total bytes.now) }
 {
     match u64_in(bytes) {
         Some((number, rest)) => Ok((id_of_number(number), rest)),
@@ -156,7 +156,7 @@ pub(crate) fn id_of(total: usize, bytes: &[u8]) -> Result<(VersionId, &[u8]), En
 
 #[tactic(auto, unfolding(crate::specs::Reading::value_at, crate::specs::Fields::format))]
 pub(crate) fn u32_of(total: usize, bytes: &[u8]) -> Result<(u32, &[u8]), EntryFault>
-    ensures { Gives (λ x. (x.0, x.1.now)) result (value_at (format field.Number4) total bytes.now) }
+    ensures { EntryGives (λ x. (x.0, x.1.now)) result (value_at (format field.Number4) total bytes.now) }
 {
     match u32_in(bytes) {
         Some(read) => Ok(read),
@@ -166,7 +166,7 @@ pub(crate) fn u32_of(total: usize, bytes: &[u8]) -> Result<(u32, &[u8]), EntryFa
 
 #[tactic(auto, unfolding(crate::specs::Reading::value_at, crate::specs::Fields::format))]
 pub(crate) fn u64_of(total: usize, bytes: &[u8]) -> Result<(u64, &[u8]), EntryFault>
-    ensures { Gives (λ x. (x.0, x.1.now)) result (value_at (format field.Number8) total bytes.now) }
+    ensures { EntryGives (λ x. (x.0, x.1.now)) result (value_at (format field.Number8) total bytes.now) }
 {
     match u64_in(bytes) {
         Some(read) => Ok(read),

@@ -2,9 +2,9 @@
 ghost use Rattle.std.specs.Prelude.{◌≡◌, ◌++◌, ◌<◌, ◌^◌, length, true, IsTrue, OnOk};
 ghost use Rattle.std.specs.Int.{w16, w32};
 ghost use Rattle.office_base.specs.Tags.{is_tag, tag_of};
-ghost use Rattle.entry_codec.specs.Formats.{number, text};
+ghost use Rattle.entry_codec.specs.Formats.{number, counted_text};
 ghost use Rattle.entry_codec.specs.Fields as field;
-ghost use Rattle.entry_codec.specs.Fields.{tag, format, id_code, is_id};
+ghost use Rattle.entry_codec.specs.Fields.{tag_format, format, id_code, is_id};
 
 use class_rules::{Class, rank};
 use office_base::{BucketName, Key, Size, Tags, VersionId};
@@ -12,7 +12,7 @@ use std::alloc::AllocError;
 
 fn put_text(out: &mut Vec<u8>, bytes: &[u8]) -> Result<(), AllocError>
     requires { length bytes.now < 2 ^ 16 }
-    ensures { OnOk result (out.new.items ≡ out.old.items ++ (text (number w16)).written bytes.now) }
+    ensures { OnOk result (out.new.items ≡ out.old.items ++ (counted_text (number w16)).written bytes.now) }
 {
     out.extend_from_slice(&(bytes.len() as u16).to_be_bytes())?;
     out.extend_from_slice(bytes)
@@ -20,16 +20,16 @@ fn put_text(out: &mut Vec<u8>, bytes: &[u8]) -> Result<(), AllocError>
 
 pub(crate) fn put_long_text(out: &mut Vec<u8>, bytes: &[u8]) -> Result<(), AllocError>
     requires { length bytes.now < 2 ^ 32 }
-    ensures { OnOk result (out.new.items ≡ out.old.items ++ (text (number w32)).written bytes.now) }
+    ensures { OnOk result (out.new.items ≡ out.old.items ++ (counted_text (number w32)).written bytes.now) }
 {
     out.extend_from_slice(&(bytes.len() as u32).to_be_bytes())?;
     out.extend_from_slice(bytes)
 }
 
-#[tactic(auto, using(crate::proofs::Sizes::tag_parts_small), unfolding(crate::specs::Fields::tag, crate::specs::Fields::utf8_text))]
+#[tactic(auto, using(crate::proofs::Sizes::tag_parts_small), unfolding(crate::specs::Fields::tag_format, crate::specs::Fields::utf8_text))]
 fn put_tag(out: &mut Vec<u8>, pair: &(String, String)) -> Result<(), AllocError>
     requires { IsTrue (is_tag (tag_of pair.now)) }
-    ensures { OnOk result (out.new.items ≡ out.old.items ++ tag.written (tag_of pair.now)) }
+    ensures { OnOk result (out.new.items ≡ out.old.items ++ tag_format.written (tag_of pair.now)) }
 {
     put_text(out, pair.0.as_bytes())?;
     put_text(out, pair.1.as_bytes())

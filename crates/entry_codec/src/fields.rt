@@ -2,10 +2,10 @@
 // left then; it gives None where no such value stands there.
 ghost use Rattle.std.specs.Prelude.{◌≡◌, option_map, IfOk};
 ghost use Rattle.std.specs.Int.{w8, w16, w32, w64};
-ghost use Rattle.office_base.specs.Tags.{tag_of, tags_of, comes_before, keys_rise};
-ghost use Rattle.entry_codec.specs.Formats.{number, text, front_items};
+ghost use Rattle.office_base.specs.Tags.{tag_of, tags_of, is_tag_before, keys_rise};
+ghost use Rattle.entry_codec.specs.Formats.{number, counted_text, front_items};
 ghost use Rattle.entry_codec.specs.Fields as field;
-ghost use Rattle.entry_codec.specs.Fields.{utf8_text, tag, format};
+ghost use Rattle.entry_codec.specs.Fields.{utf8_text, tag_format, format};
 ghost use Rattle.entry_codec.specs.Reading.{Finds};
 
 use office_base::{NameRefusal, NoMemory, Tags};
@@ -62,7 +62,7 @@ pub(crate) fn u64_in(bytes: &[u8]) -> Option<(u64, &[u8])>
 
 // A length in two bytes, and so many bytes.
 pub(crate) fn counted_in(bytes: &[u8]) -> Option<(&[u8], &[u8])>
-    ensures { option_map (λ x. (x.0.now, x.1.now)) result ≡ (text (number w16)).front bytes.now }
+    ensures { option_map (λ x. (x.0.now, x.1.now)) result ≡ (counted_text (number w16)).front bytes.now }
 {
     let (len, rest) = u16_in(bytes)?;
     if rest.len() < len as usize {
@@ -73,7 +73,7 @@ pub(crate) fn counted_in(bytes: &[u8]) -> Option<(&[u8], &[u8])>
 
 // A length in four bytes, and so many bytes.
 pub(crate) fn long_counted_in(bytes: &[u8]) -> Option<(&[u8], &[u8])>
-    ensures { option_map (λ x. (x.0.now, x.1.now)) result ≡ (text (number w32)).front bytes.now }
+    ensures { option_map (λ x. (x.0.now, x.1.now)) result ≡ (counted_text (number w32)).front bytes.now }
 {
     let (len, rest) = u32_in(bytes)?;
     if rest.len() < len as usize {
@@ -95,9 +95,9 @@ fn text_in(bytes: &[u8]) -> Option<(&str, &[u8])>
 }
 
 // A key and a value, each in UTF-8.
-#[tactic(auto, unfolding(crate::specs::Fields::tag))]
+#[tactic(auto, unfolding(crate::specs::Fields::tag_format))]
 fn tag_in(alloc: Global, bytes: &[u8]) -> Result<Option<((String, String), &[u8])>, NoMemory>
-    ensures { Finds (λ x. (tag_of x.0, x.1.now)) result (tag.front bytes.now) }
+    ensures { Finds (λ x. (tag_of x.0, x.1.now)) result (tag_format.front bytes.now) }
 {
     let Some((key, rest)) = text_in(bytes) else {
         return Ok(None);
@@ -126,7 +126,7 @@ fn pairs_in(
     count: u8,
     bytes: &[u8],
 ) -> Result<Option<(Vec<(String, String)>, &[u8])>, NoMemory>
-    ensures { Finds (λ x. (tags_of x.0.items, x.1.now)) result (front_items tag count bytes.now) }
+    ensures { Finds (λ x. (tags_of x.0.items, x.1.now)) result (front_items tag_format count bytes.now) }
 {
     let mut pairs = Vec::new(alloc);
     let mut rest = bytes;
@@ -143,7 +143,7 @@ fn pairs_in(
 }
 
 fn is_before(first: &(String, String), second: &(String, String)) -> bool
-    ensures { result ≡ comes_before (tag_of first.now) (tag_of second.now) }
+    ensures { result ≡ is_tag_before (tag_of first.now) (tag_of second.now) }
 {
     first.0.as_str() < second.0.as_str()
 }

@@ -1,6 +1,6 @@
 // The kinds of entries.
 ghost use Rattle.std.specs.Prelude.{◌≡◌};
-ghost use Rattle.entry_codec.specs.Kinds.{kinds, number_of};
+ghost use Rattle.entry_codec.specs.Kinds.{kinds, kind_number};
 
 // What an entry's command does: a kind for each command, by its name.
 #[derive(Clone, Copy)]
@@ -48,7 +48,7 @@ impl Kind {
     }
 
     pub(crate) fn number(self) -> u8
-        ensures { result ≡ number_of self }
+        ensures { result ≡ kind_number self }
     {
         match self {
             Kind::CreateBucket => 0x01,

@@ -3,7 +3,7 @@ ghost use Rattle.std.specs.Prelude.{◌≡◌, ◌++◌, true, IfOk, OnOk};
 ghost use Rattle.moments.specs.Months.{has_month, month_number, year_of, month_of_year};
 ghost use Rattle.entry_codec.specs.Fields as field;
 ghost use Rattle.entry_codec.specs.Fields.{format};
-ghost use Rattle.entry_codec.specs.Reading.{Gives, value_at};
+ghost use Rattle.entry_codec.specs.Reading.{EntryGives, value_at};
 
 use crate::fault::EntryFault;
 use crate::field_readers::fault_at;
@@ -14,7 +14,7 @@ use std::alloc::AllocError;
 // A year that has a January.
 #[tactic(auto, unfolding(crate::specs::Reading::value_at, crate::specs::Fields::format))]
 pub(crate) fn read_year(total: usize, bytes: &[u8]) -> Result<(u16, &[u8]), EntryFault>
-    ensures read { Gives (λ x. (x.0, x.1.now)) result (value_at (format field.Year) total bytes.now) }
+    ensures read { EntryGives (λ x. (x.0, x.1.now)) result (value_at (format field.Year) total bytes.now) }
     ensures year { IfOk result (λ x. has_month x.0 1 ≡ true) }
 {
     let Some((year, rest)) = u16_in(bytes) else {
@@ -34,7 +34,8 @@ pub(crate) fn read_month(
     bytes: &[u8],
 ) -> Result<(Month, &[u8]), EntryFault>
     requires { has_month year 1 ≡ true }
-    ensures read { Gives (λ x. (month_of_year x.0, x.1.now)) result (value_at (format field.Month) total bytes.now) }
+    ensures read { EntryGives (λ x. (month_of_year x.0, x.1.now)) result
+        (value_at (format field.Month) total bytes.now) }
     ensures whole { IfOk result (λ x. x.0 ≡ month_number year (month_of_year x.0)) }
 {
     let Some((number, rest)) = u8_in(bytes) else {

@@ -4,7 +4,7 @@ ghost use Rattle.std.specs.List.{list_all, flat_map};
 ghost use Rattle.tariff.specs.Prices.{is_price};
 ghost use Rattle.entry_codec.specs.Fields as field;
 ghost use Rattle.entry_codec.specs.Fields.{format};
-ghost use Rattle.entry_codec.specs.Reading.{Gives, value_at, items_at};
+ghost use Rattle.entry_codec.specs.Reading.{EntryGives, value_at, items_at};
 
 use crate::fault::EntryFault;
 use crate::field_readers::fault_at;
@@ -14,7 +14,7 @@ use tariff::MOST_PRICE;
 
 #[tactic(auto, unfolding(crate::specs::Reading::value_at, crate::specs::Fields::format))]
 fn price_of(total: usize, bytes: &[u8]) -> Result<(u32, &[u8]), EntryFault>
-    ensures read { Gives (λ x. (x.0, x.1.now)) result (value_at (format field.Price) total bytes.now) }
+    ensures read { EntryGives (λ x. (x.0, x.1.now)) result (value_at (format field.Price) total bytes.now) }
     ensures price { IfOk result (λ x. is_price x.0 ≡ true) }
 {
     let Some((price, rest)) = u32_in(bytes) else {
@@ -32,7 +32,7 @@ pub(crate) fn prices_of<'a>(
     bytes: &'a [u8],
     room: &mut [u32],
 ) -> Result<&'a [u8], EntryFault>
-    ensures read { Gives (λ rest. (room.new, rest.now)) result
+    ensures read { EntryGives (λ rest. (room.new, rest.now)) result
         (items_at (format field.Price) (length room.old) total bytes.now) }
     ensures prices { OnOk result (list_all is_price room.new ≡ true) }
 {

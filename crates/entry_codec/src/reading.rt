@@ -2,8 +2,8 @@
 ghost use Rattle.std.specs.Prelude.{◌≡◌, ◌<◌, ◌++◌, ℕ, true, List, slice_index, IfOk, Ok};
 ghost use Rattle.office_types.specs.declared.command.Entry.{Entry};
 ghost use Rattle.entry_codec.specs.Kinds.{Values, kind_format, fields_of, parts_of, command_of};
-ghost use Rattle.entry_codec.specs.Spelling.{Fits, written_values, are_values, spelling};
-ghost use Rattle.entry_codec.specs.Reading.{Gives, value_at, values_at, command_at, entry_of};
+ghost use Rattle.entry_codec.specs.Spelling.{EntryFits, written_values, are_values, spelling};
+ghost use Rattle.entry_codec.specs.Reading.{EntryGives, value_at, values_at, command_at, entry_of};
 
 use crate::command_readers::fields_of_kind;
 use crate::fault::EntryFault;
@@ -16,7 +16,7 @@ use std::alloc::Global;
 
 #[tactic(auto, unfolding(crate::specs::Reading::value_at, crate::specs::Kinds::kind_format))]
 fn kind_in(total: usize, bytes: &[u8]) -> Result<(Kind, &[u8]), EntryFault>
-    ensures { Gives (λ x. (x.0, x.1.now)) result (value_at kind_format total bytes.now) }
+    ensures { EntryGives (λ x. (x.0, x.1.now)) result (value_at kind_format total bytes.now) }
 {
     let Some((number, rest)) = u8_in(bytes) else {
         return Err(fault_at(total, bytes));
@@ -30,7 +30,7 @@ fn kind_in(total: usize, bytes: &[u8]) -> Result<(Kind, &[u8]), EntryFault>
 // A kind, the fields that it has, and nothing behind them.
 #[tactic(auto, unfolding(crate::specs::Reading::command_at))]
 fn command_in(alloc: Global, total: usize, bytes: &[u8]) -> Result<Command, EntryFault>
-    ensures { Gives (λ c. c) result (command_at total bytes.now) }
+    ensures { EntryGives (λ c. c) result (command_at total bytes.now) }
 {
     let (kind, rest) = kind_in(total, bytes)?;
     let (command, rest) = fields_of_kind(alloc, kind, total, rest)?;
@@ -42,7 +42,7 @@ fn command_in(alloc: Global, total: usize, bytes: &[u8]) -> Result<Command, Entr
 
 #[tactic(auto, unfolding(crate::specs::Reading::entry_of, crate::specs::Reading::value_at, crate::specs::Fields::moment_format))]
 fn whole_entry(alloc: Global, bytes: &[u8]) -> Result<Entry, EntryFault>
-    ensures { Gives (λ e. e) result (entry_of bytes.now) }
+    ensures { EntryGives (λ e. e) result (entry_of bytes.now) }
 {
     let total = bytes.len();
     let Some((ms, rest)) = u64_in(bytes) else {
@@ -58,8 +58,8 @@ fn whole_entry(alloc: Global, bytes: &[u8]) -> Result<Entry, EntryFault>
 /// Reads the entry that the bytes spell, all of the bytes.
 ///
 /// Cost: one pass over the bytes, and memory for the name, the key and the tags; for rules a second pass over their
-/// text, which is printed again, and memory for its JSON. It takes memory only for what the bytes hold, whatever lengths
-/// they claim.
+/// text, which is printed again, and memory for its JSON. It takes memory only for what the bytes hold, whatever
+/// lengths they claim.
 ///
 /// # Errors
 ///
@@ -67,11 +67,11 @@ fn whole_entry(alloc: Global, bytes: &[u8]) -> Result<Entry, EntryFault>
 /// before a later field was tested.
 pub fn decode(alloc: Global, bytes: &[u8]) -> Result<Entry, EntryFault>
     // What is read is spelled so.
-    ensures found { IfOk result (λ e. Fits e × (bytes.now ≡ spelling e)) }
+    ensures found { IfOk result (λ e. EntryFits e × (bytes.now ≡ spelling e)) }
     // What is spelled so is read, unless memory runs out.
-    ensures only { (e : Entry) → Fits e → bytes.now ≡ spelling e → Gives (λ x. x) result (Ok e) }
+    ensures only { (e : Entry) → EntryFits e → bytes.now ≡ spelling e → EntryGives (λ x. x) result (Ok e) }
     // Which fault it is.
-    ensures exact { Gives (λ e. e) result (entry_of bytes.now) }
+    ensures exact { EntryGives (λ e. e) result (entry_of bytes.now) }
 {
     whole_entry(alloc, bytes)
 }
@@ -79,7 +79,7 @@ pub fn decode(alloc: Global, bytes: &[u8]) -> Result<Entry, EntryFault>
 /// States that a spelling is that of one entry.
 #[tactic(auto, using(crate::proofs::Laws::spelling_tells))]
 pub fn one_spelling()
-    ensures same { (a b : Entry) → Fits a → Fits b → spelling a ≡ spelling b → a ≡ b }
+    ensures same { (a b : Entry) → EntryFits a → EntryFits b → spelling a ≡ spelling b → a ≡ b }
 {}
 
 /// States of each row of the table that the values of its fields are read again from what is written of them, that

@@ -4,8 +4,8 @@ ghost use Rattle.std.specs.Str.{bytes_eq};
 ghost use Rattle.rules_core.specs.Configurations.{IsConfiguration};
 ghost use Rattle.rules_json.specs.Printing.{printed};
 ghost use Rattle.entry_codec.specs.Fields as field;
-ghost use Rattle.entry_codec.specs.Fields.{texts, format};
-ghost use Rattle.entry_codec.specs.Reading.{Finds, Gives, value_at};
+ghost use Rattle.entry_codec.specs.Fields.{rules_texts, format};
+ghost use Rattle.entry_codec.specs.Reading.{Finds, EntryGives, value_at};
 
 use crate::fault::EntryFault;
 use crate::field_readers::fault_at;
@@ -39,7 +39,7 @@ fn is_text_of(alloc: Global, bytes: &[u8], rules: &RuleSet) -> Result<bool, NoMe
 // The configuration whose one text this is.
 #[tactic(auto, using(crate::proofs::RulesTexts::is_printed, crate::proofs::RulesTexts::not_printed, crate::proofs::RulesTexts::not_read))]
 fn rules_in(alloc: Global, text: &[u8]) -> Result<Option<RuleSet>, NoMemory>
-    ensures { Finds (λ rules. rules) result (texts.value text.now) }
+    ensures { Finds (λ rules. rules) result (rules_texts.value text.now) }
 {
     match read_rules(alloc, text) {
         Ok(rules) => match is_text_of(alloc, text, &rules) {
@@ -60,7 +60,7 @@ pub(crate) fn rules_of(
     total: usize,
     bytes: &[u8],
 ) -> Result<(RuleSet, &[u8]), EntryFault>
-    ensures { Gives (λ x. (x.0, x.1.now)) result (value_at (format field.Rules) total bytes.now) }
+    ensures { EntryGives (λ x. (x.0, x.1.now)) result (value_at (format field.Rules) total bytes.now) }
 {
     let Some((text, rest)) = long_counted_in(bytes) else {
         return Err(fault_at(total, bytes));
@@ -73,7 +73,7 @@ pub(crate) fn rules_of(
 }
 
 // The text behind its length.
-#[tactic(auto, using(crate::proofs::RulesTexts::text_short, crate::proofs::RulesTexts::rules_has), unfolding(crate::specs::Fields::format))]
+#[tactic(auto, using(rules_json::proofs::ShortTexts::printed_small, crate::proofs::RulesTexts::rules_has), unfolding(crate::specs::Fields::format))]
 pub(crate) fn put_rules(out: &mut Vec<u8>, rules: &RuleSet) -> Result<(), AllocError>
     ensures bytes { OnOk result (out.new.items ≡ out.old.items ++ (format field.Rules).written rules.now) }
     ensures has { OnOk result ((format field.Rules).has rules.now ≡ true) }

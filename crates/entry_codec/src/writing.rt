@@ -1,8 +1,9 @@
 // Writing an entry.
 ghost use Rattle.std.specs.Prelude.{◌≡◌, ◌≤◌, length, IfOk};
 ghost use Rattle.office_types.specs.declared.command.Entry.{Entry};
+ghost use Rattle.office_types.specs.Entries.{entry_at};
 ghost use Rattle.entry_codec.specs.Kinds.{parts_of};
-ghost use Rattle.entry_codec.specs.Spelling.{Fits, IsEntry, entry_at, entry_limit, spelling};
+ghost use Rattle.entry_codec.specs.Spelling.{EntryFits, IsEntry, entry_limit, spelling};
 
 use crate::command_writers::put_command;
 use crate::kinds::Kind;
@@ -12,14 +13,14 @@ use office_types::{Command, Entry};
 use std::alloc::Global;
 
 /// The most bytes of an entry's spelling: 256 MiB. Own rule: the longest entry sets a bucket's rules, whose text has at
-/// most 170,001,650 bytes (1,000 rules of 170,000 each); with the bucket's name it has 170,001,728, and this is the next
-/// power of two. A reader can refuse what is longer before it takes memory for it.
+/// most 170,001,650 bytes (1,000 rules of 170,000 each); with the bucket's name it has 170,001,728, and this is the
+/// next power of two. A reader can refuse what is longer before it takes memory for it.
 pub const ENTRY_LIMIT: u64 = 268_435_456;
 
 #[tactic(auto, unfolding(crate::specs::Spelling::spelling, crate::specs::Fields::moment_format))]
 fn written(alloc: Global, moment: Moment, command: &Command) -> Result<Vec<u8>, NoMemory>
     ensures bytes { IfOk result (λ bytes. bytes.items ≡ spelling (entry_at moment command.now)) }
-    ensures fits { IfOk result (λ _. Fits (entry_at moment command.now)) }
+    ensures fits { IfOk result (λ _. EntryFits (entry_at moment command.now)) }
 {
     let mut out = Vec::new(alloc);
     if out.extend_from_slice(&moment.ms().to_be_bytes()).is_err() {
@@ -43,7 +44,7 @@ fn written(alloc: Global, moment: Moment, command: &Command) -> Result<Vec<u8>, 
 pub fn encode_command(alloc: Global, moment: Moment, command: &Command) -> Result<Vec<u8>, NoMemory>
     ensures bytes { IfOk result (λ bytes. bytes.items ≡ spelling (entry_at moment command.now)) }
     // They are an entry's, which decoding gives back.
-    ensures entry { IfOk result (λ bytes. Fits (entry_at moment command.now) × IsEntry bytes.items) }
+    ensures entry { IfOk result (λ bytes. EntryFits (entry_at moment command.now) × IsEntry bytes.items) }
 {
     written(alloc, moment, command)
 }
@@ -56,7 +57,7 @@ pub fn encode_command(alloc: Global, moment: Moment, command: &Command) -> Resul
 pub fn encode(alloc: Global, entry: &Entry) -> Result<Vec<u8>, NoMemory>
     ensures bytes { IfOk result (λ bytes. bytes.items ≡ spelling entry.now) }
     // They are an entry's, which decoding gives back.
-    ensures entry { IfOk result (λ bytes. Fits entry.now × IsEntry bytes.items) }
+    ensures entry { IfOk result (λ bytes. EntryFits entry.now × IsEntry bytes.items) }
 {
     encode_command(alloc, entry.moment, &entry.command)
 }
@@ -64,8 +65,8 @@ pub fn encode(alloc: Global, entry: &Entry) -> Result<Vec<u8>, NoMemory>
 /// States that no entry has a spelling of more than `ENTRY_LIMIT` bytes.
 #[tactic(auto, using(crate::proofs::Sizes::spelling_short, crate::proofs::Sizes::other_small))]
 pub fn short_spelling()
-    ensures short { (e : Entry) → Fits e → length (spelling e) ≤ entry_limit }
+    ensures short { (e : Entry) → EntryFits e → length (spelling e) ≤ entry_limit }
     // One that sets no rules has far fewer: at most ten of the longest tags.
-    ensures other { (e : Entry) → Fits e → ((parts_of e.command).kind ≡ Kind.SetRules → ⊥)
+    ensures other { (e : Entry) → EntryFits e → ((parts_of e.command).kind ≡ Kind.SetRules → ⊥)
         → length (spelling e) ≤ 16_510 }
 {}

@@ -7,7 +7,7 @@ use Rattle.std.proofs.lemmas.Bool.{cases_lt, cases_eq}
 use Rattle.std.proofs.lemmas.Slice.Eq.{bytes_eq-Decides}
 use Rattle.office_types.specs.declared.command.Entry.{Entry}
 use Rattle.entry_codec.specs.Spelling.{spelling}
-use Rattle.meter_journal.specs.History.{mark, header, framed, whole, HasHistory}
+use Rattle.meter_journal.specs.History.{mark, header, framed, journal_bytes, HasHistory}
 use Rattle.meter_journal.specs.Reading.{IsNotMade, IsMade, IsForeign}
 
 pub mark_in : (file : List ℕ) → take 9 (drop 1 file) ≡ drop 1 (take 10 file)
@@ -65,7 +65,7 @@ from_header rest file is some = subst IsMade (sym is) (omega (arith, some), refl
 
 -- a file with a history is made
 pub history_made : (entries : List Entry) (file : List ℕ) → HasHistory entries file → IsMade file
-unfolding whole
+unfolding journal_bytes
 history_made entries file has =
     let frames = flat_map (λ (e : Entry). 0xA5 ∷ framed (spelling e)) entries in
     from_header (frames ++ has.gate ∷ has.rest) file (has.parts ∙ append_assoc header frames (has.gate ∷ has.rest)) (omega (arith, length-append frames (has.gate ∷ has.rest)))

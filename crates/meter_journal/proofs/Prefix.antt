@@ -7,14 +7,14 @@ use Rattle.std.proofs.lemmas.Nat.{be_bytes_4}
 use Rattle.std.proofs.lemmas.List.{length-take, length-drop, drop-drop, drop_more}
 use Rattle.office_types.specs.declared.command.Entry.{Entry}
 use Rattle.entry_codec.specs.Reading.{entry_of}
-use Rattle.entry_codec.specs.Spelling.{Fits, entry_limit, spelling}
+use Rattle.entry_codec.specs.Spelling.{EntryFits, entry_limit, spelling}
 use Rattle.entry_codec.proofs.Bytes.{IsBytes, IsBytes-drop, IsBytes-take}
 use Rattle.entry_codec.proofs.Laws.{entry_takes}
 use Rattle.entry_codec.proofs.Sizes.{spelling_short}
-use Rattle.meter_journal.specs.History.{framed, whole, HasEntries, IsAtRest}
+use Rattle.meter_journal.specs.History.{framed, journal_bytes, HasEntries, IsAtRest}
 use Rattle.disk_core.specs.Files.{File, State, synced_file}
-use Rattle.meter_journal.specs.Reading.{Frame, Ended, Whole, Broken, entry_frame, entry_at, size_at, body_at, frame_at, NextGives, HasPrefix}
-use Rattle.meter_journal.proofs.History.{whole-none, whole-push, each-push}
+use Rattle.meter_journal.specs.Reading.{Frame, Ended, Whole, Broken, entry_frame, entry_frame_at, size_at, body_at, frame_at, NextGives, HasPrefix}
+use Rattle.meter_journal.proofs.History.{whole-none, whole-push, end_gate-push, each-push}
 
 not_broken : (b : Bool) (f : Frame) (e : Entry) (n : ℕ) → cond b Broken f ≡ Whole e n → (b ≡ false) × (f ≡ Whole e n)
 not_broken true f e n is = absurd cc
@@ -43,29 +43,58 @@ body_is : (gate : ℕ) (file : List ℕ) (e : Entry) (next : ℕ) → body_at ga
 unfolding body_at
 body_is gate file e next is =
     let n = size_at gate file in
-    let a = not_broken (ltb (length file) (gate + 5)) (cond (ltb (length file) (gate + 6 + n) || ltb (2 ^ 45) (gate + 6 + n)) Broken (entry_at gate n file)) e next is in
-    let b = not_broken (ltb (length file) (gate + 6 + n) || ltb (2 ^ 45) (gate + 6 + n)) (entry_at gate n file) e next a.1 in
+    let a = not_broken (ltb (length file) (gate + 5)) (cond (ltb (length file) (gate + 6 + n) || ltb (2 ^ 45) (gate + 6 + n)) Broken (entry_frame_at gate n file)) e next is in
+    let b = not_broken (ltb (length file) (gate + 6 + n) || ltb (2 ^ 45) (gate + 6 + n)) (entry_frame_at gate n file) e next a.1 in
     let t = neither (ltb (length file) (gate + 6 + n)) (ltb (2 ^ 45) (gate + 6 + n)) b.0 in
     let c = whole_of (entry_of (take n (drop (gate + 5) file))) (gate + 5 + n) e next b.1 in
     record { long = ltb-false _ _ a.0; fits = ltb-false _ _ t.0; small = ltb-false _ _ t.1; entry = c.0; next_is = sym c.1 }
 
 -- the frame as bytes
-framed_is : (gate : ℕ) (file : List ℕ) (e : Entry) (next : ℕ) → IsBytes file → Body gate file e next → (drop (gate + 1) file ≡ framed (spelling e) ++ drop next file) × Fits e × (next ≡ gate + 5 + length (spelling e))
+framed_is : (gate : ℕ) (file : List ℕ) (e : Entry) (next : ℕ) → IsBytes file → Body gate file e next
+    → (drop (gate + 1) file ≡ framed (spelling e) ++ drop next file) × EntryFits e × (next ≡ gate + 5 + length (spelling e))
 framed_is gate file e next bytes body =
     let n = size_at gate file in
-    let read = entry_takes (take n (drop (gate + 5) file)) e (IsBytes-take n (drop (gate + 5) file) (IsBytes-drop (gate + 5) file bytes)) body.entry in
-    let size : length (spelling e) ≡ n = omega (arith, ap length read.1, length-take n (drop (gate + 5) file), length-drop (gate + 5) file, body.fits) in
-    let number : to_be_bytes w32 n ≡ take 4 (drop (gate + 1) file) = be_bytes_4 (take 4 (drop (gate + 1) file)) n (omega (arith, length-take 4 (drop (gate + 1) file), length-drop (gate + 1) file, body.long)) (IsBytes-take 4 (drop (gate + 1) file) (IsBytes-drop (gate + 1) file bytes)) refl in
-    let after_number : drop 4 (drop (gate + 1) file) ≡ drop (gate + 5) file = drop-drop 4 (gate + 1) file ∙ ap (λ (k : ℕ). drop k file) (omega arith) in
-    let after_entry : drop n (drop (gate + 5) file) ≡ drop next file = drop-drop n (gate + 5) file ∙ ap (λ (k : ℕ). drop k file) (sym body.next_is) in
-    let parts : drop (gate + 1) file ≡ to_be_bytes w32 n ++ (spelling e ++ drop next file) =
-    sym (take-append-drop 4 (drop (gate + 1) file))
-    ∙ ap (λ (l : List ℕ). l ++ drop 4 (drop (gate + 1) file)) (sym number)
-    ∙ ap (λ (l : List ℕ). to_be_bytes w32 n ++ l) (after_number ∙ sym (take-append-drop n (drop (gate + 5) file)) ∙ ap (λ (l : List ℕ). l ++ drop n (drop (gate + 5) file)) read.1 ∙ ap (λ (l : List ℕ). spelling e ++ l) after_entry) in (
-      parts ∙ ap (λ (k : ℕ). to_be_bytes w32 k ++ (spelling e ++ drop next file)) (sym size) ∙ sym (append_assoc (to_be_bytes w32 (length (spelling e))) (spelling e) (drop next file)),
+    let number_on = drop (gate + 1) file in
+    let entry_on = drop (gate + 5) file in
+    let read = entry_takes (take n entry_on) e (IsBytes-take n entry_on (IsBytes-drop (gate + 5) file bytes)) body.entry in
+    let size : length (spelling e) ≡ n =
+    omega (arith, ap length read.1, length-take n entry_on, length-drop (gate + 5) file, body.fits) in
+    let number : to_be_bytes w32 n ≡ take 4 number_on =
+    be_bytes_4 (take 4 number_on) n (omega (arith, length-take 4 number_on, length-drop (gate + 1) file, body.long))
+    (IsBytes-take 4 number_on (IsBytes-drop (gate + 1) file bytes)) refl in
+    let after_number : drop 4 number_on ≡ entry_on = drop-drop 4 (gate + 1) file ∙ ap (λ (k : ℕ). drop k file) (omega arith) in
+    let after_entry : drop n entry_on ≡ drop next file = drop-drop n (gate + 5) file ∙ ap (λ (k : ℕ). drop k file) (sym body.next_is) in
+    let entry_parts : drop 4 number_on ≡ spelling e ++ drop next file =
+    after_number
+    ∙ sym (take-append-drop n entry_on)
+    ∙ ap (λ (l : List ℕ). l ++ drop n entry_on) read.1
+    ∙ ap (λ (l : List ℕ). spelling e ++ l) after_entry in
+    let parts : number_on ≡ to_be_bytes w32 n ++ (spelling e ++ drop next file) =
+    sym (take-append-drop 4 number_on)
+    ∙ ap (λ (l : List ℕ). l ++ drop 4 number_on) (sym number)
+    ∙ ap (λ (l : List ℕ). to_be_bytes w32 n ++ l) entry_parts in (
+      parts
+          ∙ ap (λ (k : ℕ). to_be_bytes w32 k ++ (spelling e ++ drop next file)) (sym size)
+          ∙ sym (append_assoc (to_be_bytes w32 (length (spelling e))) (spelling e) (drop next file)),
       read.0,
       body.next_is ∙ ap (λ (k : ℕ). gate + 5 + k) (sym size),
     )
+
+-- the body of a whole frame
+whole_body : (gate : ℕ) (file : List ℕ) (e : Entry) (next : ℕ) → frame_at gate file ≡ Whole e next
+    → (get_or file gate 0 ≡ 0xA5) × Body gate file e next
+unfolding frame_at
+whole_body gate file e next is =
+    let a = not_broken (nat_le (length file) gate) (cond (eqb (get_or file gate 0) 0xA5) (body_at gate file) Ended) e next is in
+    let b = not_ended (eqb (get_or file gate 0) 0xA5) (body_at gate file) e next a.1 in
+    (eqb-true _ _ b.0, body_is gate file e next b.1)
+
+-- it ends behind its gate, within the file and within 2^45 bytes
+pub frame_next : (gate : ℕ) (file : List ℕ) (e : Entry) (next : ℕ) → frame_at gate file ≡ Whole e next
+    → (gate < next) × (next < length file) × (next ≤ 2 ^ 45)
+frame_next gate file e next is =
+    let body = (whole_body gate file e next is).1 in
+    (omega (arith, body.next_is), omega (arith, body.next_is, body.fits), omega (arith, body.next_is, body.small))
 
 pub prefix_start : (head : List ℕ) (gate : ℕ) (file : List ℕ) → head ≡ take gate file → length head ≡ gate → HasPrefix head [] gate file
 prefix_start head gate file is size = record {
@@ -75,20 +104,21 @@ prefix_start head gate file is size = record {
   small = inl refl;
 }
 
-pub prefix_more : (head : List ℕ) (entries : List Entry) (gate : ℕ) (file : List ℕ) (e : Entry) (next : ℕ) → IsBytes file → HasPrefix head entries gate file → frame_at gate file ≡ Whole e next → HasPrefix head (entries ++ e ∷ []) next file
-unfolding frame_at
+pub prefix_more : (head : List ℕ) (entries : List Entry) (gate : ℕ) (file : List ℕ) (e : Entry) (next : ℕ) → IsBytes file
+    → HasPrefix head entries gate file → frame_at gate file ≡ Whole e next → HasPrefix head (entries ++ e ∷ []) next file
 prefix_more head entries gate file e next bytes prefix is =
-    let a = not_broken (nat_le (length file) gate) (cond (eqb (get_or file gate 0) 0xA5) (body_at gate file) Ended) e next is in
-    let b = not_ended (eqb (get_or file gate 0) 0xA5) (body_at gate file) e next a.1 in
-    let open_gate : get_or file gate 0 ≡ 0xA5 = eqb-true _ _ b.0 in
-    let body = body_is gate file e next b.1 in
+    let stands = whole_body gate file e next is in
+    let body = stands.1 in
     let f = framed_is gate file e next bytes body in
+    let frame = 0xA5 ∷ framed (spelling e) in
     let here : drop gate file ≡ 0xA5 ∷ (framed (spelling e) ++ drop next file) =
-    drop_more file gate 0 (omega (arith, body.long)) ∙ (λ i. open_gate i ∷ f.0 i) in
-    let longer : length (whole head (entries ++ e ∷ [])) ≡ gate + 5 + length (spelling e) = omega (arith, prefix.size, ap length (whole-push head entries e), length-append (whole head entries) (0xA5 ∷ framed (spelling e))) in
+    drop_more file gate 0 (omega (arith, body.long)) ∙ (λ i. stands.0 i ∷ f.0 i) in
     record {
-      parts = prefix.parts ∙ ap (λ (l : List ℕ). whole head entries ++ l) here ∙ sym (append_assoc (whole head entries) (0xA5 ∷ framed (spelling e)) (drop next file)) ∙ ap (λ (l : List ℕ). l ++ drop next file) (sym (whole-push head entries e));
-      size = f.2 ∙ sym longer;
+      parts = prefix.parts
+          ∙ ap (λ (l : List ℕ). journal_bytes head entries ++ l) here
+          ∙ sym (append_assoc (journal_bytes head entries) frame (drop next file))
+          ∙ ap (λ (l : List ℕ). l ++ drop next file) (sym (whole-push head entries e));
+      size = omega (arith, f.2, prefix.size, end_gate-push head entries e);
       each = each-push entries e prefix.each f.1;
       small = inr (omega (arith, body.small, body.next_is));
     }
@@ -103,7 +133,8 @@ body_goes_on : (gate : ℕ) (file : List ℕ) → body_at gate file ≢ Ended
 unfolding body_at
 body_goes_on gate file is =
     let n = size_at gate file in
-    never_ended (ltb (length file) (gate + 5)) (ltb (length file) (gate + 6 + n) || ltb (2 ^ 45) (gate + 6 + n)) (gate + 5 + n) (entry_of (take n (drop (gate + 5) file))) is
+    never_ended (ltb (length file) (gate + 5)) (ltb (length file) (gate + 6 + n) || ltb (2 ^ 45) (gate + 6 + n)) (gate + 5 + n)
+    (entry_of (take n (drop (gate + 5) file))) is
 
 -- a frame that claims more bytes than an entry has
 module _ (gate : ℕ) (file : List ℕ) (bytes : IsBytes file) (long : entry_limit < size_at gate file) where
@@ -130,15 +161,11 @@ prefix_end head entries gate file prefix is =
     record {
       gate = get_or file gate 0;
       rest = drop (gate + 1) file;
-      parts = prefix.parts ∙ ap (λ (l : List ℕ). whole head entries ++ l) (drop_more file gate 0 (leb-false _ _ t.0));
+      parts = prefix.parts ∙ ap (λ (l : List ℕ). journal_bytes head entries ++ l) (drop_more file gate 0 (leb-false _ _ t.0));
       closed = eqb-false _ _ t.1;
       each = prefix.each;
       small = ⊎_elim inl (λ le. inr (omega (arith, le, prefix.size))) prefix.small;
     }
-
--- the journal that is at rest behind the last entry
-pub at_rest : (head : List ℕ) (s : State) (entries : List Entry) (gate : ℕ) (file : List ℕ) → s.journal ≡ synced_file file → HasPrefix head entries gate file → frame_at gate file ≡ Ended → IsAtRest head s gate entries
-at_rest head s entries gate file on_disk prefix is = record { bytes = file; on_disk = on_disk; history = prefix_end head entries gate file prefix is; end = prefix.size }
 
 next_whole : (o : Option Entry) (e : Entry) (old new : ℕ) (frame : Frame) → o ≡ Some e → NextGives (Ok o) old new frame → frame ≡ Whole e new
 next_whole o e old new frame is gives = subst (λ (x : Option Entry). NextGives (Ok x) old new frame) is gives
@@ -146,26 +173,29 @@ next_whole o e old new frame is gives = subst (λ (x : Option Entry). NextGives 
 next_ended : (o : Option Entry) (old new : ℕ) (frame : Frame) → o ≡ None → NextGives (Ok o) old new frame → (new ≡ old) × (frame ≡ Ended)
 next_ended o old new frame is gives = subst (λ (x : Option Entry). NextGives (Ok x) old new frame) is gives
 
--- before the first entry
-pub read_start : (head : List ℕ) (entries : List Entry) (gate : ℕ) (file : List ℕ) → entries ≡ [] → head ≡ take gate file → length head ≡ gate → HasPrefix head entries gate file
-read_start head entries gate file none is size = subst (λ (l : List Entry). HasPrefix head l gate file) (sym none) (prefix_start head gate file is size)
+-- a journal is read on: its files are still those of the start
+module _ {head : List ℕ} {entries : List Entry} {gate : ℕ} {file : List ℕ} {first mid : State} (prefix : HasPrefix head entries gate file)
+    (same : mid ≡ first) (on_disk : first.journal ≡ synced_file file) where
+  seen : mid.journal.seen ≡ file
+  seen = ap (λ (s : State). s.journal.seen) same ∙ ap (λ (f : File). f.seen) on_disk
 
--- one entry more: the state is still that of the start
-pub read_more : (head : List ℕ) (first mid : State) (file : List ℕ) (entries new_entries : List Entry) (gate next : ℕ) (o : Option Entry) (e : Entry) → mid ≡ first → first.journal ≡ synced_file file → ((i : ℕ) → get_or first.journal.seen i 0 < 256)
-    → HasPrefix head entries gate file → o ≡ Some e → NextGives (Ok o) gate next (frame_at gate mid.journal.seen) → new_entries ≡ entries ++ e ∷ [] → HasPrefix head new_entries next file
-read_more head first mid file entries new_entries gate next o e same on_disk bytes prefix is gives pushed =
-    let seen_first : first.journal.seen ≡ file = ap (λ (f : File). f.seen) on_disk in
-    let seen : mid.journal.seen ≡ file = ap (λ (s : State). s.journal.seen) same ∙ seen_first in
-    let whole_frame : frame_at gate file ≡ Whole e next = sym (ap (frame_at gate) seen) ∙ next_whole o e gate next (frame_at gate mid.journal.seen) is gives in
-    let small : IsBytes file = subst (λ (l : List ℕ). (i : ℕ) → get_or l i 0 < 256) seen_first bytes in
-    subst (λ (l : List Entry). HasPrefix head l next file) (sym pushed) (prefix_more head entries gate file e next small prefix whole_frame)
+  -- one entry more
+  pub read_more : (next : ℕ) (o : Option Entry) (e : Entry) → ((i : ℕ) → get_or first.journal.seen i 0 < 256) → o ≡ Some e
+      → NextGives (Ok o) gate next (frame_at gate mid.journal.seen) → HasPrefix head (entries ++ e ∷ []) next file
+  read_more next o e bytes is gives =
+      let whole_frame : frame_at gate file ≡ Whole e next =
+      sym (ap (frame_at gate) seen) ∙ next_whole o e gate next (frame_at gate mid.journal.seen) is gives in
+      let small : IsBytes file = subst (λ (l : List ℕ). (i : ℕ) → get_or l i 0 < 256) (ap (λ (f : File). f.seen) on_disk) bytes in
+      prefix_more head entries gate file e next small prefix whole_frame
 
--- behind the last entry
-pub read_end : (head : List ℕ) (first mid new : State) (file : List ℕ) (entries : List Entry) (gate next : ℕ) (o : Option Entry) → mid ≡ first → new ≡ mid → first.journal ≡ synced_file file
-    → HasPrefix head entries gate file → o ≡ None → NextGives (Ok o) gate next (frame_at gate mid.journal.seen) → IsAtRest head new next entries
-read_end head first mid new file entries gate next o same still on_disk prefix is gives =
-    let told = next_ended o gate next (frame_at gate mid.journal.seen) is gives in
-    let on_mid : mid.journal ≡ synced_file file = ap (λ (s : State). s.journal) same ∙ on_disk in
-    let seen : mid.journal.seen ≡ file = ap (λ (f : File). f.seen) on_mid in
-    let on_new : new.journal ≡ synced_file file = ap (λ (s : State). s.journal) still ∙ on_mid in
-    subst (λ (k : ℕ). IsAtRest head new k entries) (sym told.0) (at_rest head new entries gate file on_new prefix (sym (ap (frame_at gate) seen) ∙ told.1))
+  -- behind the last entry
+  pub read_end : (new : State) (next : ℕ) (o : Option Entry) → new ≡ mid → o ≡ None
+      → NextGives (Ok o) gate next (frame_at gate mid.journal.seen) → IsAtRest head new next entries
+  read_end new next o still is gives =
+      let told = next_ended o gate next (frame_at gate mid.journal.seen) is gives in
+      record {
+        bytes = file;
+        on_disk = ap (λ (s : State). s.journal) (still ∙ same) ∙ on_disk;
+        history = prefix_end head entries gate file prefix (sym (ap (frame_at gate) seen) ∙ told.1);
+        end = told.0 ∙ prefix.size;
+      }

@@ -5,20 +5,19 @@ use Rattle.std.specs.List.{flat_map, AllByRecursion}
 use Rattle.std.specs.Int.{w32, to_be_bytes, from_be_bytes}
 use Rattle.std.proofs.lemmas.Bool.{lt-leb, le-ltb, ne_eqb}
 use Rattle.std.proofs.lemmas.Nat.{from_be_bytes-to_be_bytes_4}
-use Rattle.std.proofs.lemmas.Grind.{flat_map-append}
 use Rattle.std.proofs.lemmas.List.{take_at, drop_at, append_cancel_left, get_or-drop, length-drop, drop-drop}
 use Rattle.office_types.specs.declared.command.Entry.{Entry}
 use Rattle.entry_codec.specs.Reading.{entry_of}
-use Rattle.entry_codec.specs.Spelling.{Fits, spelling}
+use Rattle.entry_codec.specs.Spelling.{EntryFits, spelling}
 use Rattle.entry_codec.proofs.Laws.{entry_again, spelling_tells}
 use Rattle.entry_codec.proofs.Sizes.{entry_small}
-use Rattle.meter_journal.specs.History.{framed, whole, end_gate, HasEntries}
-use Rattle.meter_journal.specs.Reading.{Ended, Whole, Broken, size_at, body_at, frame_at, HasPrefix, GoesOn}
+use Rattle.meter_journal.specs.History.{framed, journal_bytes, end_gate, HasEntries}
+use Rattle.meter_journal.specs.Reading.{Ended, Whole, Broken, size_at, body_at, frame_at, HasPrefix, HasNextAt}
 
 abbrev Frames : List Entry → List ℕ
 Frames entries = flat_map (λ e. 0xA5 ∷ framed (spelling e)) entries
 
-text_small : (e : Entry) → Fits e → length (spelling e) < 2 ^ 32
+text_small : (e : Entry) → EntryFits e → length (spelling e) < 2 ^ 32
 text_small e fits = entry_small (spelling e) (e, fits, refl)
 
 -- framed bytes tell their bytes and what follows
@@ -40,13 +39,13 @@ first_of_list x y xs ys is = ap (λ (l : List ℕ). get_or l 0 0) is
 -- what stands behind a front: a closed gate and no entry more, or the next entry and what follows it
 abbrev Behind : (front entries : List Entry) (d : List ℕ) (g : ℕ) (rest : List ℕ) → Type 0
 Behind front entries d g rest = ((front ≡ entries) × (d ≡ g ∷ rest))
-    ⊎ ((e : Entry) × (more : List Entry) × (entries ≡ front ++ e ∷ more) × Fits e × (d ≡ 0xA5 ∷ (framed (spelling e) ++ (Frames more ++ g ∷ rest))))
+    ⊎ ((e : Entry) × (more : List Entry) × (entries ≡ front ++ e ∷ more) × EntryFits e × (d ≡ 0xA5 ∷ (framed (spelling e) ++ (Frames more ++ g ∷ rest))))
 
 behind_more : (f : Entry) (front entries : List Entry) (d : List ℕ) (g : ℕ) (rest : List ℕ) → Behind front entries d g rest → Behind (f ∷ front) (f ∷ entries) d g rest
 behind_more f front entries d g rest (inl x) = inl (ap (λ (l : List Entry). f ∷ l) x.0, x.1)
 behind_more f front entries d g rest (inr x) = inr (x.0, x.1, ap (λ (l : List Entry). f ∷ l) x.2, x.3, x.4)
 
-behind : (front entries : List Entry) (d : List ℕ) (g : ℕ) (rest : List ℕ) → AllByRecursion Fits front → AllByRecursion Fits entries → g ≢ 0xA5
+behind : (front entries : List Entry) (d : List ℕ) (g : ℕ) (rest : List ℕ) → AllByRecursion EntryFits front → AllByRecursion EntryFits entries → g ≢ 0xA5
     → Frames front ++ d ≡ Frames entries ++ g ∷ rest → Behind front entries d g rest
 behind [] [] d g rest all each shut is = inl (refl, is)
 behind [] (e ∷ entries) d g rest all each shut is = inr (e, entries, refl, each.0, is ∙ ap (λ (l : List ℕ). 0xA5 ∷ l) (append_assoc (framed (spelling e)) (Frames entries) (g ∷ rest)))
@@ -60,8 +59,9 @@ behind (f ∷ front) (e ∷ entries) d g rest all each shut is =
     subst (λ (x : Entry). Behind (f ∷ front) (x ∷ entries) d g rest) same later
 
 -- behind one head
-behind_head : (head : List ℕ) (front entries : List Entry) (d file : List ℕ) (has : HasEntries head entries file) → AllByRecursion Fits front → file ≡ whole head front ++ d → Behind front entries d has.gate has.rest
-unfolding whole
+behind_head : (head : List ℕ) (front entries : List Entry) (d file : List ℕ) (has : HasEntries head entries file)
+    → AllByRecursion EntryFits front → file ≡ journal_bytes head front ++ d → Behind front entries d has.gate has.rest
+unfolding journal_bytes
 behind_head head front entries d file has all parts =
     behind front entries d has.gate has.rest all has.each has.closed
     (append_cancel_left head (Frames front ++ d) (Frames entries ++ has.gate ∷ has.rest)
@@ -93,7 +93,7 @@ ended_is gate g file rest is shut =
 
 -- the frame of an entry stands behind an open gate, with something behind it, in bounds
 record Stands (gate : ℕ) (file : List ℕ) (e : Entry) (tail : List ℕ) : Type 0 where
-  fits : Fits e
+  fits : EntryFits e
   parts : drop gate file ≡ 0xA5 ∷ (framed (spelling e) ++ tail)
   some : 1 ≤ length tail
   room : gate + 6 + length (spelling e) ≤ 2 ^ 45
@@ -103,7 +103,13 @@ module _ (gate : ℕ) (file : List ℕ) (e : Entry) (tail : List ℕ) (stands : 
   n = length (spelling e)
 
   long : gate + 6 + n ≤ length file
-  long = omega (arith, inside gate file (0xA5 ∷ (framed (spelling e) ++ tail)) stands.parts (omega arith), length-append (framed (spelling e)) tail, length-append (to_be_bytes w32 n) (spelling e), stands.some)
+  long = omega (
+    arith,
+    inside gate file (0xA5 ∷ (framed (spelling e) ++ tail)) stands.parts (omega arith),
+    length-append (framed (spelling e)) tail,
+    length-append (to_be_bytes w32 n) (spelling e),
+    stands.some,
+  )
 
   after_gate : drop (gate + 1) file ≡ to_be_bytes w32 n ++ (spelling e ++ tail)
   after_gate = ap (λ (k : ℕ). drop k file) (omega arith) ∙ sym (drop-drop 1 gate file) ∙ ap (λ (l : List ℕ). drop 1 l) stands.parts ∙ append_assoc (to_be_bytes w32 n) (spelling e) tail
@@ -138,7 +144,8 @@ some_entries : (front more : List Entry) (e : Entry) → front ++ e ∷ more ≢
 some_entries [] more e is = cc
 some_entries (f ∷ front) more e is = cc
 
-goes_on_by : (head : List ℕ) (front entries : List Entry) (gate : ℕ) (file : List ℕ) (has : HasEntries head entries file) → HasPrefix head front gate file → Behind front entries (drop gate file) has.gate has.rest → GoesOn front entries gate file
+goes_on_by : (head : List ℕ) (front entries : List Entry) (gate : ℕ) (file : List ℕ) (has : HasEntries head entries file)
+    → HasPrefix head front gate file → Behind front entries (drop gate file) has.gate has.rest → HasNextAt front entries gate file
 goes_on_by head front entries gate file has prefix (inl x) = inl (x.0, ended_is gate has.gate file has.rest x.1 has.closed)
 goes_on_by head front entries gate file has prefix (inr x) =
     let e = x.0 in
@@ -148,7 +155,7 @@ goes_on_by head front entries gate file has prefix (inr x) =
       arith,
       small,
       ap length has.parts,
-      length-append (whole head entries) (has.gate ∷ has.rest),
+      length-append (journal_bytes head entries) (has.gate ∷ has.rest),
       inside gate file (0xA5 ∷ (framed (spelling e) ++ tail)) x.4 (omega arith),
       length-append (framed (spelling e)) tail,
       length-append (to_be_bytes w32 (length (spelling e))) (spelling e),
@@ -157,36 +164,12 @@ goes_on_by head front entries gate file has prefix (inr x) =
     inr (e, x.1, x.2, whole_is gate file e tail (record { fits = x.3; parts = x.4; some = omega (arith, length-append (Frames x.1) (has.gate ∷ has.rest)); room = room }))
 
 -- a file that holds these entries is read without damage up to its end
-pub goes_on : (head : List ℕ) (front entries : List Entry) (gate : ℕ) (file : List ℕ) → HasEntries head entries file → HasPrefix head front gate file → GoesOn front entries gate file
+pub goes_on : (head : List ℕ) (front entries : List Entry) (gate : ℕ) (file : List ℕ) → HasEntries head entries file → HasPrefix head front gate file → HasNextAt front entries gate file
 goes_on head front entries gate file has prefix = goes_on_by head front entries gate file has prefix (behind_head head front entries (drop gate file) file has prefix.each prefix.parts)
 
-unbroken : (front entries : List Entry) (gate : ℕ) (file : List ℕ) → GoesOn front entries gate file → frame_at gate file ≢ Broken
+unbroken : (front entries : List Entry) (gate : ℕ) (file : List ℕ) → HasNextAt front entries gate file → frame_at gate file ≢ Broken
 unbroken front entries gate file (inl x) is = let both = sym x.1 ∙ is in cc
 unbroken front entries gate file (inr x) is = let both = sym x.3 ∙ is in cc
 
 pub never_broken : (head : List ℕ) (front entries : List Entry) (gate : ℕ) (file : List ℕ) → HasEntries head entries file → HasPrefix head front gate file → frame_at gate file ≢ Broken
 never_broken head front entries gate file has prefix = unbroken front entries gate file (goes_on head front entries gate file has prefix)
-
--- the first of these entries stand in the file before the gate behind them
-whole-append : (head : List ℕ) (front more : List Entry) → whole head (front ++ more) ≡ whole head front ++ Frames more
-unfolding whole
-whole-append head front more = ap (λ (l : List ℕ). head ++ l) (flat_map-append (λ e. 0xA5 ∷ framed (spelling e)) front more) ∙ sym (append_assoc head (Frames front) (Frames more))
-
-front_fits : (front more : List Entry) → AllByRecursion Fits (front ++ more) → AllByRecursion Fits front
-front_fits [] more each = tt
-front_fits (e ∷ front) more each = (each.0, front_fits front more each.1)
-
-front_none : (front more : List Entry) → front ++ more ≡ [] → front ≡ []
-front_none [] more is = refl
-front_none (e ∷ front) more is = absurd cc
-
-pub prefix_in : (head : List ℕ) (front more : List Entry) (file : List ℕ) → HasEntries head (front ++ more) file → HasPrefix head front (end_gate head front) file
-prefix_in head front more file has =
-    let tail = Frames more ++ has.gate ∷ has.rest in
-    let parts : file ≡ whole head front ++ tail = has.parts ∙ ap (λ (l : List ℕ). l ++ has.gate ∷ has.rest) (whole-append head front more) ∙ append_assoc (whole head front) (Frames more) (has.gate ∷ has.rest) in
-    record {
-      parts = parts ∙ ap (λ (l : List ℕ). whole head front ++ l) (sym (ap (λ (l : List ℕ). drop (end_gate head front) l) parts ∙ drop_at (whole head front) tail (end_gate head front) refl));
-      size = refl;
-      each = front_fits front more has.each;
-      small = ⊎_elim (λ none. inl (front_none front more none)) (λ le. inr (omega (arith, le, ap length (whole-append head front more), length-append (whole head front) (Frames more)))) has.small;
-    }

@@ -2,7 +2,7 @@
 use Rattle.std.specs.Prelude.{◌≡◌, ◌⊎◌, ℕ, ◌≤◌, List, [], length}
 use Rattle.std.specs.List.{Contains}
 use Rattle.disk_core.specs.Files.{State, IsImage}
-use Rattle.disk_core.specs.Kept.{KeepsFront}
+use Rattle.disk_core.specs.Fronts.{KeepsFront}
 use Rattle.meter_journal.specs.History.{HasHistory}
 use Rattle.meter_journal.specs.Reading.{IsNotMade}
 

@@ -4,7 +4,7 @@ use Rattle.std.specs.Prelude.{◌≡◌, ◌≢◌, ◌⊎◌, ℕ, ◌+◌, ◌
 use Rattle.std.specs.List.{flat_map, AllByRecursion}
 use Rattle.std.specs.Int.{w32, to_be_bytes}
 use Rattle.office_types.specs.declared.command.Entry.{Entry}
-use Rattle.entry_codec.specs.Spelling.{Fits, spelling}
+use Rattle.entry_codec.specs.Spelling.{EntryFits, spelling}
 use Rattle.disk_core.specs.Files.{State, IsImage, synced_file}
 
 -- the mark of a journal file, the text METERJRN1
@@ -20,21 +20,21 @@ abbrev pub framed : List ℕ → List ℕ
 framed bytes = to_be_bytes w32 (length bytes) ++ bytes
 
 -- what stands before the first gate, and then these entries, each behind an open gate
-unfoldable pub whole : List ℕ → List Entry → List ℕ
-whole head entries = head ++ flat_map (λ e. 0xA5 ∷ framed (spelling e)) entries
+unfoldable pub journal_bytes : List ℕ → List Entry → List ℕ
+journal_bytes head entries = head ++ flat_map (λ e. 0xA5 ∷ framed (spelling e)) entries
 
 -- the place of the gate behind these entries
 abbrev pub end_gate : List ℕ → List Entry → ℕ
-end_gate head entries = length (whole head entries)
+end_gate head entries = length (journal_bytes head entries)
 
 -- behind this head a file holds these entries, up to the first gate that is not open;
 -- a frame ends in bounds with the gate behind it
 pub record HasEntries (head : List ℕ) (entries : List Entry) (file : List ℕ) : Type 0 where
   pub gate : ℕ
   pub rest : List ℕ
-  pub parts : file ≡ whole head entries ++ gate ∷ rest
+  pub parts : file ≡ journal_bytes head entries ++ gate ∷ rest
   pub closed : gate ≢ 0xA5
-  pub each : AllByRecursion Fits entries
+  pub each : AllByRecursion EntryFits entries
   pub small : (entries ≡ []) ⊎ (end_gate head entries + 1 ≤ 2 ^ 45)
 
 -- a made file holds these entries

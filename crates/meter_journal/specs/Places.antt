@@ -3,13 +3,13 @@ use Rattle.std.specs.Prelude.{ℕ}
 
 -- a journal: its disk, the place of the next gate, which is its end gate once it was read, and the limit of its
 -- length, in bytes
-pub record Placed (D : Type 0) : Type 0 where
+pub record JournalView (D : Type 0) : Type 0 where
   pub disk : D
   pub gate : ℕ
   pub limit : ℕ
 
 -- a journal that is read: its disk, the place of the next gate, the limit, and the length of the file, in bytes
-pub record Reading (D : Type 0) : Type 0 where
+pub record ReadingView (D : Type 0) : Type 0 where
   pub disk : D
   pub gate : ℕ
   pub limit : ℕ

@@ -5,10 +5,10 @@ use Rattle.std.specs.List.{AllByRecursion}
 use Rattle.office_base.specs.Faults.{Rose}
 use Rattle.office_types.specs.declared.command.Entry.{Entry}
 use Rattle.entry_codec.specs.Reading.{entry_of}
-use Rattle.entry_codec.specs.Spelling.{Fits, spelling}
+use Rattle.entry_codec.specs.Spelling.{EntryFits, spelling}
 use Rattle.meter_journal.specs.declared.fault.OpenFault.{OpenFault}
 use Rattle.meter_journal.specs.declared.fault.OpenFault.TheVariants as faults
-use Rattle.meter_journal.specs.History.{mark, whole, end_gate}
+use Rattle.meter_journal.specs.History.{mark, journal_bytes, end_gate}
 
 -- the file is too short, or just long enough with a closed gate at its head
 abbrev pub IsNotMade : List ℕ → Type 0
@@ -56,8 +56,8 @@ entry_frame next (Ok e) = Whole e next
 entry_frame next (Err at) = Broken
 
 -- the n bytes behind the length, as an entry
-abbrev pub entry_at : ℕ → ℕ → List ℕ → Frame
-entry_at gate n file = entry_frame (gate + 5 + n) (entry_of (take n (drop (gate + 5) file)))
+abbrev pub entry_frame_at : ℕ → ℕ → List ℕ → Frame
+entry_frame_at gate n file = entry_frame (gate + 5 + n) (entry_of (take n (drop (gate + 5) file)))
 
 -- the length behind the gate
 abbrev pub size_at : ℕ → List ℕ → ℕ
@@ -69,7 +69,7 @@ body_at gate file =
     if nat_lt (length file) (gate + 5) then Broken
     else (if nat_lt (length file) (gate + 6 + size_at gate file) || nat_lt (2 ^ 45) (gate + 6 + size_at gate file)
     then Broken
-    else entry_at gate (size_at gate file) file)
+    else entry_frame_at gate (size_at gate file) file)
 
 -- what stands at the gate at this place; past the end of the file stands nothing
 unfoldable pub frame_at : ℕ → List ℕ → Frame
@@ -78,34 +78,34 @@ frame_at gate file =
     else (if get_or file gate 0 == 0xA5 then body_at gate file else Ended)
 
 -- what a function that reads at a gate answers where it fails
-abbrev pub Fails : OpenFault → ℕ → Frame → Type 0
-Fails faults.NoMemory gate frame = Unit {0}
-Fails faults.StoreFault gate frame = Unit {0}
-Fails (faults.Damaged at) gate frame = (at ≡ gate) × (frame ≡ Broken)
-Fails faults.NotMade gate frame = ⊥
-Fails faults.Foreign gate frame = ⊥
+abbrev pub FrameFails : OpenFault → ℕ → Frame → Type 0
+FrameFails faults.NoMemory gate frame = Unit {0}
+FrameFails faults.StoreFault gate frame = Unit {0}
+FrameFails (faults.Damaged at) gate frame = (at ≡ gate) × (frame ≡ Broken)
+FrameFails faults.NotMade gate frame = ⊥
+FrameFails faults.Foreign gate frame = ⊥
 
 -- what a function that reads behind an open gate answers
 abbrev pub BodyGives : Result (Entry × ℕ) OpenFault → ℕ → Frame → Type 0
 BodyGives (Ok x) gate frame = frame ≡ Whole x.0 x.1
-BodyGives (Err e) gate frame = Fails e gate frame
+BodyGives (Err e) gate frame = FrameFails e gate frame
 
 -- what a function that reads at a gate answers
 abbrev pub FrameGives : Result (Option (Entry × ℕ)) OpenFault → ℕ → Frame → Type 0
 FrameGives (Ok (Some x)) gate frame = frame ≡ Whole x.0 x.1
 FrameGives (Ok None) gate frame = frame ≡ Ended
-FrameGives (Err e) gate frame = Fails e gate frame
+FrameGives (Err e) gate frame = FrameFails e gate frame
 
 -- what reading the next entry answers, and where the next reading starts
 abbrev pub NextGives : Result (Option Entry) OpenFault → ℕ → ℕ → Frame → Type 0
 NextGives (Ok (Some e)) old new frame = frame ≡ Whole e new
 NextGives (Ok None) old new frame = (new ≡ old) × (frame ≡ Ended)
-NextGives (Err e) old new frame = (new ≡ old) × Fails e old frame
+NextGives (Err e) old new frame = (new ≡ old) × FrameFails e old frame
 
 -- what reading the next entry answers on every disk: an entry in range, whose frame is passed over; else the place
 -- stays
 abbrev pub Advances : Result (Option Entry) OpenFault → ℕ → ℕ → Type 0
-Advances (Ok (Some e)) old new = Fits e × (new ≡ old + 5 + length (spelling e))
+Advances (Ok (Some e)) old new = EntryFits e × (new ≡ old + 5 + length (spelling e))
 Advances (Ok None) old new = new ≡ old
 Advances (Err e) old new = new ≡ old
 
@@ -116,14 +116,14 @@ pub record HasStoreCause {T : Type 0} (before now : ℕ) (result : Result T Open
 
 -- behind this head these entries stand in the file before the gate at this place
 pub record HasPrefix (head : List ℕ) (entries : List Entry) (gate : ℕ) (file : List ℕ) : Type 0 where
-  pub parts : file ≡ whole head entries ++ drop gate file
+  pub parts : file ≡ journal_bytes head entries ++ drop gate file
   pub size : gate ≡ end_gate head entries
-  pub each : AllByRecursion Fits entries
+  pub each : AllByRecursion EntryFits entries
   pub small : (entries ≡ []) ⊎ (gate + 1 ≤ 2 ^ 45)
 
 -- what stands at the gate behind the first of these entries: the end behind all of them, or the next one
-abbrev pub GoesOn : List Entry → List Entry → ℕ → List ℕ → Type 0
-GoesOn front entries gate file =
+abbrev pub HasNextAt : List Entry → List Entry → ℕ → List ℕ → Type 0
+HasNextAt front entries gate file =
     ((front ≡ entries) × (frame_at gate file ≡ Ended))
     ⊎ ((e : Entry) × (more : List Entry) × (entries ≡ front ++ e ∷ more)
     × (frame_at gate file ≡ Whole e (gate + 5 + length (spelling e))))

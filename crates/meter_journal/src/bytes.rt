@@ -2,7 +2,7 @@
 ghost use Rattle.std.specs.Prelude.{◌≡◌, ◌+◌, ◌<◌, ◌≤◌, ◌^◌, length, take, drop, IsErrOf, IfOk};
 ghost use Rattle.std.specs.Int.{w32};
 ghost use Rattle.entry_codec.specs.Reading.{entry_of};
-ghost use Rattle.entry_codec.specs.Spelling.{Fits, spelling};
+ghost use Rattle.entry_codec.specs.Spelling.{EntryFits, spelling};
 ghost use Rattle.meter_journal.specs.Reading.{HeadGives, BodyGives, FrameGives, entry_frame, body_at, frame_at, size_at};
 
 use crate::fault::OpenFault;
@@ -36,7 +36,7 @@ pub(crate) fn entry_in(alloc: Global, gate: u64, bytes: &[u8]) -> Result<(Entry,
     ensures exact { BodyGives result gate (entry_frame (gate + 5 + length bytes.now) (entry_of bytes.now)) }
     ensures told { IsErrOf result OpenFault.StoreFault → ⊥ }
     ensures place { IfOk result (λ x. x.1 ≡ gate + 5 + length bytes.now) }
-    ensures spelled { IfOk result (λ x. Fits x.0 × (x.1 ≡ gate + 5 + length (spelling x.0))) }
+    ensures spelled { IfOk result (λ x. EntryFits x.0 × (x.1 ≡ gate + 5 + length (spelling x.0))) }
 {
     match decode(alloc, bytes) {
         Ok(entry) => Ok((entry, gate + 5 + bytes.len() as u64)),

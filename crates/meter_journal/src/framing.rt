@@ -4,7 +4,7 @@ ghost use Rattle.std.specs.Int.{w32, to_be_bytes};
 ghost use Rattle.office_base.specs.Faults.{HasCause};
 ghost use Rattle.disk_core.specs.Files.{put, synced_file};
 ghost use Rattle.disk_core.specs.Moments.{KeepsTo};
-ghost use Rattle.disk_core.specs.Kept.{KeepsJournal};
+ghost use Rattle.disk_core.specs.Fronts.{KeepsJournal};
 
 use disk_core::{Disk, Failed, FileNo};
 
@@ -16,7 +16,7 @@ pub(crate) fn write_frame<D: Disk>(disk: &mut D, gate: u64, entry: &[u8]) -> Res
 
     ensures any_moment { IsTrue D.honest → (front : List ℕ)
         → KeepsJournal (gate + 1) front (D.state disk.old) (D.state disk.old)
-        → KeepsTo D.state D.moment D.had_since disk.old disk.new (KeepsJournal (gate + 1) front (D.state disk.old)) }
+        → KeepsTo D.Disk disk.old disk.new (KeepsJournal (gate + 1) front (D.state disk.old)) }
 
     ensures done { IsTrue D.honest → OnOk result ((D.state disk.new).journal
         ≡ synced_file (put (gate + 1) (to_be_bytes w32 (length entry.now) ++ entry.now ++ 0 ∷ [])

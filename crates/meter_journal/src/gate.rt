@@ -3,7 +3,7 @@ ghost use Rattle.std.specs.Prelude.{◌≡◌, ◌<◌, [], ◌∷◌, ℕ, List
 ghost use Rattle.office_base.specs.Faults.{HasCause};
 ghost use Rattle.disk_core.specs.Files.{put, synced_file};
 ghost use Rattle.disk_core.specs.Moments.{KeepsTo};
-ghost use Rattle.disk_core.specs.Kept.{IsButOne};
+ghost use Rattle.disk_core.specs.Fronts.{IsButOne};
 
 use disk_core::{Disk, Failed, FileNo};
 
@@ -16,7 +16,7 @@ pub(crate) fn open_gate<D: Disk>(disk: &mut D, gate: u64) -> Result<(), Failed>
 
     ensures any_moment { IsTrue D.honest → (bytes : List ℕ) → gate < length bytes
         → (D.state disk.old).journal ≡ synced_file bytes
-        → KeepsTo D.state D.moment D.had_since disk.old disk.new (IsButOne gate bytes (D.state disk.old)) }
+        → KeepsTo D.Disk disk.old disk.new (IsButOne gate bytes (D.state disk.old)) }
 
     ensures done { IsTrue D.honest → OnOk result ((D.state disk.new).journal
         ≡ synced_file (put gate (0xA5 ∷ []) (D.state disk.old).journal.seen)) }

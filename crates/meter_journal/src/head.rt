@@ -2,7 +2,7 @@
 ghost use Rattle.std.specs.Prelude.{◌≡◌, ◌⊎◌, ◌≤◌, List, ℕ, IsTrue, length, take, IfOk, IfErr, OnOk, IsErrOf};
 ghost use Rattle.office_base.specs.Faults.{HasCause};
 ghost use Rattle.disk_core.specs.Files.{synced_file};
-ghost use Rattle.disk_core.specs.Kept.{Narrower};
+ghost use Rattle.disk_core.specs.Fronts.{Narrower};
 ghost use Rattle.disk_core.specs.Moments.{KeepsTo, Untouched};
 ghost use Rattle.meter_journal.specs.Reading.{HeadGives, HasStoreCause};
 ghost use Rattle.meter_journal.specs.declared.fault.OpenFault.TheVariants.{StoreFault, NoMemory};
@@ -37,8 +37,7 @@ pub(crate) fn judge(front: &[u8; 10], end: u64) -> Result<(), OpenFault>
 
 // Syncs the journal file.
 pub(crate) fn sync_journal<D: Disk>(disk: &mut D) -> Result<(), Failed>
-    ensures any_moment { IsTrue D.honest → KeepsTo D.state D.moment D.had_since disk.old disk.new
-        (Narrower (D.state disk.old)) }
+    ensures any_moment { IsTrue D.honest → KeepsTo D.Disk disk.old disk.new (Narrower (D.state disk.old)) }
     ensures done { IsTrue D.honest → OnOk result ((D.state disk.new).journal
         ≡ synced_file (D.state disk.old).journal.seen) }
     ensures cause { HasCause (D.fault_count disk.old) (D.fault_count disk.new) result }
@@ -50,7 +49,7 @@ pub(crate) fn sync_journal<D: Disk>(disk: &mut D) -> Result<(), Failed>
 fn check_head<D: Disk>(disk: &mut D, end: u64) -> Result<(), OpenFault>
     requires known { IsTrue D.honest → end ≡ length (D.state disk.old).journal.seen }
     ensures exact { IsTrue D.honest → HeadGives result (D.state disk.old).journal.seen }
-    ensures untouched { IsTrue D.honest → Untouched D.state D.moment D.had_since disk.old disk.new }
+    ensures untouched { IsTrue D.honest → Untouched D.Disk disk.old disk.new }
     ensures cause { HasStoreCause (D.fault_count disk.old) (D.fault_count disk.new) result }
 {
     if end < 11 {
@@ -67,8 +66,7 @@ fn check_head<D: Disk>(disk: &mut D, end: u64) -> Result<(), OpenFault>
 pub(crate) fn look<D: Disk>(disk: &mut D) -> Result<u64, OpenFault>
     ensures exact { IsTrue D.honest → HeadGives result (D.state disk.old).journal.seen }
     ensures size { IsTrue D.honest → IfOk result (λ n. n ≡ length (D.state disk.old).journal.seen) }
-    ensures any_moment { IsTrue D.honest → KeepsTo D.state D.moment D.had_since disk.old disk.new
-        (Narrower (D.state disk.old)) }
+    ensures any_moment { IsTrue D.honest → KeepsTo D.Disk disk.old disk.new (Narrower (D.state disk.old)) }
     ensures done { IsTrue D.honest → (IsErrOf result OpenFault.StoreFault → ⊥)
         → (D.state disk.new).journal ≡ synced_file (D.state disk.old).journal.seen }
     ensures cause { HasStoreCause (D.fault_count disk.old) (D.fault_count disk.new) result }
@@ -93,7 +91,7 @@ pub(crate) fn look<D: Disk>(disk: &mut D) -> Result<u64, OpenFault>
 pub fn read_all<D: Disk>(alloc: Global, disk: &mut D) -> Result<Vec<u8>, OpenFault>
     ensures bytes { IsTrue D.honest → IfOk result (λ bytes. bytes.items ≡ (D.state disk.old).journal.seen) }
     ensures err { IfErr result (λ e. (e ≡ StoreFault) ⊎ (e ≡ NoMemory)) }
-    ensures untouched { IsTrue D.honest → Untouched D.state D.moment D.had_since disk.old disk.new }
+    ensures untouched { IsTrue D.honest → Untouched D.Disk disk.old disk.new }
     ensures cause { HasStoreCause (D.fault_count disk.old) (D.fault_count disk.new) result }
 {
     let Ok(end) = disk.length(FileNo::Journal) else {

@@ -2,10 +2,10 @@
 ghost use Rattle.std.specs.Prelude.{◌≡◌, ◌+◌, ◌<◌, ◌≤◌, ◌^◌, ◌++◌, [], ◌∷◌, List, ℕ, IsTrue, length, OnOk, IfOk, IfErr, IfSome, Err, IsErrOf, ◌↔◌};
 ghost use Rattle.office_base.specs.Faults.{Rose, HasCause};
 ghost use Rattle.disk_core.specs.Files.{synced_file};
-ghost use Rattle.disk_core.specs.Kept.{Narrower};
+ghost use Rattle.disk_core.specs.Fronts.{Narrower};
 ghost use Rattle.disk_core.specs.Moments.{KeepsTo, Untouched};
 ghost use Rattle.office_types.specs.declared.command.Entry.{Entry};
-ghost use Rattle.entry_codec.specs.Spelling.{IsEntry, Fits, entry_limit, spelling};
+ghost use Rattle.entry_codec.specs.Spelling.{IsEntry, EntryFits, entry_limit, spelling};
 ghost use Rattle.meter_journal.specs.History.{IsAtRest, BeforeOrAfter};
 ghost use Rattle.meter_journal.specs.Reading.{frame_at, size_at, NextGives, HeadGives, IsMade, HasStoreCause, from_or_first, Advances};
 ghost use Rattle.meter_journal.specs.declared.fault.OpenFault.TheVariants.{StoreFault};
@@ -39,9 +39,9 @@ pub struct Journal<D: Disk> {
 
 impl<D: Disk> Model for Journal<D> {
     ghost use Rattle.std.specs.Prelude.{◌≤◌, ◌^◌};
-    ghost use Rattle.meter_journal.specs.Places.{Placed};
+    ghost use Rattle.meter_journal.specs.Places.{JournalView};
 
-    ghost Value = { Placed D };
+    ghost Value = { JournalView D };
 
     ghost view = { λ j. record { disk = j.disk; gate = j.gate; limit = j.limit } };
 
@@ -54,12 +54,12 @@ fn commit<D: Disk>(disk: &mut D, gate: u64, entry: &[u8]) -> Result<(), Failed>
     requires at_rest { IsTrue D.honest → (head : List ℕ) × (entries : List Entry)
         × IsAtRest head (D.state disk.old) gate entries }
 
-    ensures any_moment { IsTrue D.honest → (head : List ℕ) (entries : List Entry) (e : Entry) → Fits e
+    ensures any_moment { IsTrue D.honest → (head : List ℕ) (entries : List Entry) (e : Entry) → EntryFits e
         → entry.now ≡ spelling e
         → IsAtRest head (D.state disk.old) gate entries
-        → KeepsTo D.state D.moment D.had_since disk.old disk.new (BeforeOrAfter head entries e (D.state disk.old)) }
+        → KeepsTo D.Disk disk.old disk.new (BeforeOrAfter head entries e (D.state disk.old)) }
 
-    ensures acknowledged { IsTrue D.honest → (head : List ℕ) (entries : List Entry) (e : Entry) → Fits e
+    ensures acknowledged { IsTrue D.honest → (head : List ℕ) (entries : List Entry) (e : Entry) → EntryFits e
         → entry.now ≡ spelling e
         → IsAtRest head (D.state disk.old) gate entries
         → OnOk result (IsAtRest head (D.state disk.new) (gate + 5 + length entry.now) (entries ++ e ∷ [])) }
@@ -111,7 +111,7 @@ impl<D: Disk> Journal<D> {
         ensures refused { IsTrue D.honest → IfErr result (λ e. (e ≡ StoreFault → ⊥)
             → (D.state self.new.disk).journal ≡ synced_file (D.state self.old.disk).journal.seen) }
 
-        ensures any_moment { IsTrue D.honest → KeepsTo D.state D.moment D.had_since self.old.disk self.new.disk
+        ensures any_moment { IsTrue D.honest → KeepsTo D.Disk self.old.disk self.new.disk
             (Narrower (D.state self.old.disk)) }
         ensures limit { self.new.limit ≡ self.old.limit }
         ensures cause { HasStoreCause (D.fault_count self.old.disk) (D.fault_count self.new.disk) result }
@@ -141,7 +141,7 @@ impl<D: Disk> Journal<D> {
         requires known { IsTrue D.honest → end ≡ length (D.state self.old.disk).journal.seen }
         ensures exact { IsTrue D.honest → NextGives result self.old.gate self.new.gate
             (frame_at self.old.gate (D.state self.old.disk).journal.seen) }
-        ensures untouched { IsTrue D.honest → Untouched D.state D.moment D.had_since self.old.disk self.new.disk }
+        ensures untouched { IsTrue D.honest → Untouched D.Disk self.old.disk self.new.disk }
         ensures cause { HasStoreCause (D.fault_count self.old.disk) (D.fault_count self.new.disk) result }
         ensures rises { IfOk result (λ read. IfSome read (λ e. (self.old.gate < self.new.gate)
             × (self.new.gate ≤ 2 ^ 45))) }
@@ -188,14 +188,13 @@ impl<D: Disk> Journal<D> {
 
         // At every moment of the call every image of the journal file has the entries from before, or those and the
         // new one.
-        ensures any_moment { IsTrue D.honest → (head : List ℕ) (entries : List Entry) (e : Entry) → Fits e
+        ensures any_moment { IsTrue D.honest → (head : List ℕ) (entries : List Entry) (e : Entry) → EntryFits e
             → entry.now ≡ spelling e
             → IsAtRest head (D.state self.old.disk) self.old.gate entries
-            → KeepsTo D.state D.moment D.had_since self.old.disk self.new.disk
-            (BeforeOrAfter head entries e (D.state self.old.disk)) }
+            → KeepsTo D.Disk self.old.disk self.new.disk (BeforeOrAfter head entries e (D.state self.old.disk)) }
 
         // After `Ok` it is the latter.
-        ensures acknowledged { IsTrue D.honest → (head : List ℕ) (entries : List Entry) (e : Entry) → Fits e
+        ensures acknowledged { IsTrue D.honest → (head : List ℕ) (entries : List Entry) (e : Entry) → EntryFits e
             → entry.now ≡ spelling e
             → IsAtRest head (D.state self.old.disk) self.old.gate entries
             → OnOk result (IsAtRest head (D.state self.new.disk) self.new.gate (entries ++ e ∷ [])) }

@@ -2,7 +2,7 @@
 ghost use Rattle.std.specs.Prelude.{◌≡◌, ◌↔◌, ℕ, List};
 ghost use Rattle.office_types.specs.declared.command.Entry.{Entry};
 ghost use Rattle.meter_journal.specs.History.{HasEntries};
-ghost use Rattle.meter_journal.specs.Reading.{IsMade, IsNotMade, IsForeign, HasPrefix, GoesOn};
+ghost use Rattle.meter_journal.specs.Reading.{IsMade, IsNotMade, IsForeign, HasPrefix, HasNextAt};
 
 /// States that a file is exactly one of made, not made and foreign. It does nothing.
 pub fn one_head()
@@ -20,5 +20,5 @@ pub fn one_history()
 pub fn reads_all()
     ensures { (head : List ℕ) (front entries : List Entry) (gate : ℕ) (file : List ℕ) → HasEntries head entries file
         → HasPrefix head front gate file
-        → GoesOn front entries gate file }
+        → HasNextAt front entries gate file }
 {}

@@ -2,7 +2,7 @@
 ghost use Rattle.std.specs.Prelude.{◌≡◌, ◌+◌, ◌≤◌, ◌<◌, ◌^◌, [], ◌∷◌, List, ℕ, IsTrue, length, IfOk, OnOk, IfErr, IsErrOf};
 ghost use Rattle.office_base.specs.Faults.{HasCause};
 ghost use Rattle.disk_core.specs.Files.{put, synced_file};
-ghost use Rattle.disk_core.specs.Kept.{Narrower};
+ghost use Rattle.disk_core.specs.Fronts.{Narrower};
 ghost use Rattle.disk_core.specs.Moments.{KeepsTo};
 ghost use Rattle.meter_journal.specs.History.{IsAtRest, header};
 ghost use Rattle.meter_journal.specs.Created.{Bounded, NoneOrEmpty, BeforeOrEmpty};
@@ -19,7 +19,7 @@ fn put_synced<D: Disk>(disk: &mut D, at: u64, bytes: &[u8]) -> Result<(), Failed
 
     ensures any_moment { IsTrue D.honest → (m k : ℕ) (front : List ℕ) → k ≤ at → at + length bytes.now ≤ m
         → Bounded m k front (D.state disk.old) (D.state disk.old)
-        → KeepsTo D.state D.moment D.had_since disk.old disk.new (Bounded m k front (D.state disk.old)) }
+        → KeepsTo D.Disk disk.old disk.new (Bounded m k front (D.state disk.old)) }
 
     ensures done { IsTrue D.honest → OnOk result ((D.state disk.new).journal
         ≡ synced_file (put at bytes.now (D.state disk.old).journal.seen)) }
@@ -34,7 +34,7 @@ fn put_synced<D: Disk>(disk: &mut D, at: u64, bytes: &[u8]) -> Result<(), Failed
 fn empty_file<D: Disk>(disk: &mut D) -> Result<(), Failed>
     ensures any_moment { IsTrue D.honest → (bytes : List ℕ) → (D.state disk.old).journal ≡ synced_file bytes
         → IsNotMade bytes
-        → KeepsTo D.state D.moment D.had_since disk.old disk.new (NoneOrEmpty (D.state disk.old)) }
+        → KeepsTo D.Disk disk.old disk.new (NoneOrEmpty (D.state disk.old)) }
 
     ensures done { IsTrue D.honest → OnOk result ((D.state disk.new).journal ≡ synced_file []) }
 
@@ -48,7 +48,7 @@ fn empty_file<D: Disk>(disk: &mut D) -> Result<(), Failed>
 fn make<D: Disk>(disk: &mut D) -> Result<(), Failed>
     ensures any_moment { IsTrue D.honest → (bytes : List ℕ) → (D.state disk.old).journal ≡ synced_file bytes
         → IsNotMade bytes
-        → KeepsTo D.state D.moment D.had_since disk.old disk.new (NoneOrEmpty (D.state disk.old)) }
+        → KeepsTo D.Disk disk.old disk.new (NoneOrEmpty (D.state disk.old)) }
 
     ensures made { IsTrue D.honest → OnOk result (IsAtRest header (D.state disk.new) 10 []) }
 
@@ -95,11 +95,10 @@ pub fn create<D: Disk>(disk: &mut D) -> Result<Made, OpenFault>
 
     // Of one that is made or foreign each image is one from before.
     ensures unchanged { IsTrue D.honest → (IsNotMade (D.state disk.old).journal.seen → ⊥)
-        → KeepsTo D.state D.moment D.had_since disk.old disk.new (Narrower (D.state disk.old)) }
+        → KeepsTo D.Disk disk.old disk.new (Narrower (D.state disk.old)) }
 
     // Of any other it is one from before, or not made, or made and without entries.
-    ensures any_moment { IsTrue D.honest → KeepsTo D.state D.moment D.had_since disk.old disk.new
-        (BeforeOrEmpty (D.state disk.old)) }
+    ensures any_moment { IsTrue D.honest → KeepsTo D.Disk disk.old disk.new (BeforeOrEmpty (D.state disk.old)) }
 
     ensures cause { HasStoreCause (D.fault_count disk.old) (D.fault_count disk.new) result }
 {

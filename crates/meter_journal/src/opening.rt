@@ -3,7 +3,7 @@ ghost use Rattle.std.specs.Prelude.{◌≡◌, ◌+◌, ◌<◌, ◌≤◌, ◌^
 ghost use Rattle.office_base.specs.Faults.{Rose};
 ghost use Rattle.entry_codec.specs.Spelling.{entry_limit};
 ghost use Rattle.disk_core.specs.Files.{synced_file};
-ghost use Rattle.disk_core.specs.Kept.{Narrower};
+ghost use Rattle.disk_core.specs.Fronts.{Narrower};
 ghost use Rattle.disk_core.specs.Moments.{KeepsTo, Untouched};
 ghost use Rattle.meter_journal.specs.Reading.{frame_at, size_at, NextGives, HeadGives, IsMade, HasStoreCause, from_or_first, Advances};
 ghost use Rattle.meter_journal.specs.declared.fault.OpenFault.TheVariants.{StoreFault};
@@ -23,11 +23,16 @@ pub struct Opening<D: Disk> {
 }
 
 impl<D: Disk> Model for Opening<D> {
-    ghost use Rattle.meter_journal.specs.Places.{Reading};
+    ghost use Rattle.meter_journal.specs.Places.{ReadingView};
 
-    ghost Value = { Reading D };
+    ghost Value = { ReadingView D };
 
-    ghost view = { λ o. record { disk = o.journal.disk; gate = o.journal.gate; limit = o.journal.limit; length = o.end } };
+    ghost view = { λ o. record {
+      disk = o.journal.disk;
+      gate = o.journal.gate;
+      limit = o.journal.limit;
+      length = o.end;
+    } };
 }
 
 impl<D: Disk> Opening<D> {
@@ -55,10 +60,10 @@ impl<D: Disk> Opening<D> {
         ensures refused { IsTrue D.honest → IfErr result (λ e. (e.0 ≡ StoreFault → ⊥)
             → (D.state e.1).journal ≡ synced_file (D.state disk).journal.seen) }
 
-        ensures any_moment { IsTrue D.honest → IfOk result (λ o. KeepsTo D.state D.moment D.had_since disk o.disk
+        ensures any_moment { IsTrue D.honest → IfOk result (λ o. KeepsTo D.Disk disk o.disk
             (Narrower (D.state disk))) }
         ensures any_moment_err { IsTrue D.honest → IfErr result
-            (λ e. KeepsTo D.state D.moment D.had_since disk e.1 (Narrower (D.state disk))) }
+            (λ e. KeepsTo D.Disk disk e.1 (Narrower (D.state disk))) }
 
         ensures later { IfOk result (λ o. D.fault_count disk ≤ D.fault_count o.disk) }
         ensures fault { IfErr result (λ e. (D.fault_count disk ≤ D.fault_count e.1)
@@ -85,7 +90,7 @@ impl<D: Disk> Opening<D> {
         requires known { IsTrue D.honest → self.old.length ≡ length (D.state self.old.disk).journal.seen }
         ensures exact { IsTrue D.honest → NextGives result self.old.gate self.new.gate
             (frame_at self.old.gate (D.state self.old.disk).journal.seen) }
-        ensures untouched { IsTrue D.honest → Untouched D.state D.moment D.had_since self.old.disk self.new.disk }
+        ensures untouched { IsTrue D.honest → Untouched D.Disk self.old.disk self.new.disk }
         ensures cause { HasStoreCause (D.fault_count self.old.disk) (D.fault_count self.new.disk) result }
         ensures rises { IfOk result (λ read. IfSome read (λ e. (self.old.gate < self.new.gate)
             × (self.new.gate ≤ 2 ^ 45))) }

@@ -2,9 +2,9 @@
 ghost use Rattle.std.specs.Prelude.{◌≡◌, ◌+◌, ◌<◌, ◌≤◌, ◌^◌, IsTrue, IsErrOf, length, get_or, IfOk, IfSome};
 ghost use Rattle.std.specs.Int.{w32};
 ghost use Rattle.office_base.specs.Faults.{HasCause};
-ghost use Rattle.entry_codec.specs.Spelling.{Fits, entry_limit, spelling};
+ghost use Rattle.entry_codec.specs.Spelling.{EntryFits, entry_limit, spelling};
 ghost use Rattle.disk_core.specs.Moments.{Untouched};
-ghost use Rattle.meter_journal.specs.Reading.{body_at, frame_at, size_at, entry_at, BodyGives, FrameGives, HasStoreCause};
+ghost use Rattle.meter_journal.specs.Reading.{body_at, frame_at, size_at, entry_frame_at, BodyGives, FrameGives, HasStoreCause};
 
 use crate::bytes::entry_in;
 use crate::fault::OpenFault;
@@ -17,7 +17,7 @@ use std::alloc::Global;
 fn byte_at<D: Disk>(disk: &mut D, at: u64) -> Result<u8, Failed>
     requires { IsTrue D.honest → at < length (D.state disk.old).journal.seen }
     ensures byte { IsTrue D.honest → IfOk result (λ b. b ≡ get_or (D.state disk.old).journal.seen at 0) }
-    ensures untouched { IsTrue D.honest → Untouched D.state D.moment D.had_since disk.old disk.new }
+    ensures untouched { IsTrue D.honest → Untouched D.Disk disk.old disk.new }
     ensures cause { HasCause (D.fault_count disk.old) (D.fault_count disk.new) result }
 {
     let mut room = [0];
@@ -29,7 +29,7 @@ fn size_of<D: Disk>(disk: &mut D, gate: u64) -> Result<u32, Failed>
     requires small { gate < 2 ^ 46 }
     requires inside { IsTrue D.honest → gate + 5 ≤ length (D.state disk.old).journal.seen }
     ensures size { IsTrue D.honest → IfOk result (λ n. n ≡ size_at gate (D.state disk.old).journal.seen) }
-    ensures untouched { IsTrue D.honest → Untouched D.state D.moment D.had_since disk.old disk.new }
+    ensures untouched { IsTrue D.honest → Untouched D.Disk disk.old disk.new }
     ensures cause { HasCause (D.fault_count disk.old) (D.fault_count disk.new) result }
 {
     let mut room = [0; 4];
@@ -45,10 +45,10 @@ fn entry_of<D: Disk>(
 ) -> Result<(Entry, u64), OpenFault>
     requires small { gate + size < 2 ^ 46 }
     requires inside { IsTrue D.honest → gate + 5 + size ≤ length (D.state disk.old).journal.seen }
-    ensures exact { IsTrue D.honest → BodyGives result gate (entry_at gate size (D.state disk.old).journal.seen) }
+    ensures exact { IsTrue D.honest → BodyGives result gate (entry_frame_at gate size (D.state disk.old).journal.seen) }
     ensures place { IfOk result (λ x. x.1 ≡ gate + 5 + size) }
-    ensures spelled { IfOk result (λ x. Fits x.0 × (x.1 ≡ gate + 5 + length (spelling x.0))) }
-    ensures untouched { IsTrue D.honest → Untouched D.state D.moment D.had_since disk.old disk.new }
+    ensures spelled { IfOk result (λ x. EntryFits x.0 × (x.1 ≡ gate + 5 + length (spelling x.0))) }
+    ensures untouched { IsTrue D.honest → Untouched D.Disk disk.old disk.new }
     ensures cause { HasStoreCause (D.fault_count disk.old) (D.fault_count disk.new) result }
 {
     let Ok(mut room) = vec![in alloc; 0u8; size as usize] else {
@@ -77,10 +77,10 @@ fn body_of<D: Disk>(
     requires known { IsTrue D.honest → end ≡ length (D.state disk.old).journal.seen }
     ensures exact { IsTrue D.honest → BodyGives result gate (body_at gate (D.state disk.old).journal.seen) }
     ensures rises { IfOk result (λ x. (gate < x.1) × (x.1 ≤ 2 ^ 45)) }
-    ensures spelled { IfOk result (λ x. Fits x.0 × (x.1 ≡ gate + 5 + length (spelling x.0))) }
+    ensures spelled { IfOk result (λ x. EntryFits x.0 × (x.1 ≡ gate + 5 + length (spelling x.0))) }
     ensures memory { IsTrue D.honest → IsErrOf result OpenFault.NoMemory
         → size_at gate (D.state disk.old).journal.seen ≤ entry_limit }
-    ensures untouched { IsTrue D.honest → Untouched D.state D.moment D.had_since disk.old disk.new }
+    ensures untouched { IsTrue D.honest → Untouched D.Disk disk.old disk.new }
     ensures cause { HasStoreCause (D.fault_count disk.old) (D.fault_count disk.new) result }
 {
     if end - gate < 5 || gate > MAX {
@@ -110,10 +110,11 @@ pub(crate) fn frame_of<D: Disk>(
     requires known { IsTrue D.honest → end ≡ length (D.state disk.old).journal.seen }
     ensures exact { IsTrue D.honest → FrameGives result gate (frame_at gate (D.state disk.old).journal.seen) }
     ensures rises { IfOk result (λ read. IfSome read (λ x. (gate < x.1) × (x.1 ≤ 2 ^ 45))) }
-    ensures spelled { IfOk result (λ read. IfSome read (λ x. Fits x.0 × (x.1 ≡ gate + 5 + length (spelling x.0)))) }
+    ensures spelled { IfOk result
+        (λ read. IfSome read (λ x. EntryFits x.0 × (x.1 ≡ gate + 5 + length (spelling x.0)))) }
     ensures memory { IsTrue D.honest → IsErrOf result OpenFault.NoMemory
         → size_at gate (D.state disk.old).journal.seen ≤ entry_limit }
-    ensures untouched { IsTrue D.honest → Untouched D.state D.moment D.had_since disk.old disk.new }
+    ensures untouched { IsTrue D.honest → Untouched D.Disk disk.old disk.new }
     ensures cause { HasStoreCause (D.fault_count disk.old) (D.fault_count disk.new) result }
 {
     if end <= gate {

@@ -154,8 +154,8 @@ fn an_entry_is_added_within_the_limit(rt: HostRuntime) -> Result<(), Fail> {
     Ok(())
 }
 
-// Adds the entry on a disk that fails at a call, opens the journal again, and adds the entry once more. Tells whether the
-// first one was there, the answer to the second, and the file.
+// Adds the entry on a disk that fails at a call, opens the journal again, and adds the entry once more. Tells whether
+// the first one was there, the answer to the second, and the file.
 fn added_again(
     alloc: Global,
     failing: u64,
@@ -196,8 +196,8 @@ fn is_logs(command: &Command) -> bool {
     }
 }
 
-// What the frame at a gate says: its moment, whether it makes the bucket logs, and the next gate; none where the gate is
-// closed.
+// What the frame at a gate says: its moment, whether it makes the bucket logs, and the next gate; none where the gate
+// is closed.
 fn told_at(alloc: Global, file: &[u8], gate: u64) -> Result<Option<(u64, bool, u64)>, OpenFault> {
     match frame(alloc, file, gate) {
         Ok(Some((entry, next))) => Ok(Some((entry.moment.ms(), is_logs(&entry.command), next))),

@@ -6,7 +6,7 @@ use Rattle.std.proofs.lemmas.List.{drop_all}
 use Rattle.csv.specs.Writing.{default_writer, row_text}
 use Rattle.stay_explain.specs.Ledgers.{Tables}
 use Rattle.stay_explain.specs.Pages.{rows_csv, tables_of}
-use Rattle.stay_explain.specs.Table.{header_row, table_rows, tables_csv}
+use Rattle.stay_explain.specs.Table.{stays_header, table_rows, tables_csv}
 
 pub no_rows : rows_csv [] ≡ []
 unfolding rows_csv
@@ -18,7 +18,7 @@ rows_more a b =
     ap (flat_map (row_text default_writer)) (flat_map-append table_rows a b)
     ∙ flat_map-append (row_text default_writer) (flat_map table_rows a) (flat_map table_rows b)
 
-pub header_first : (tables : Tables) → tables_csv tables ≡ row_text default_writer header_row ++ rows_csv tables
+pub header_first : (tables : Tables) → tables_csv tables ≡ row_text default_writer stays_header ++ rows_csv tables
 unfolding rows_csv tables_csv
 header_first tables = refl
 

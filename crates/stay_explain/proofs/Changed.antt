@@ -125,8 +125,12 @@ module _ (t : ℕ) (p : Office) (said : Reply) (accepts : is_accepted (done said
 
   closing_keeps : (month : ℕ) → Keeps (close t month p)
   closing_keeps month =
-      refused_or (nat_lt t (month_end month)) (nat_lt month (month_to_close t p)) (nat_lt (month_to_close t p) month) (MonthNotOver (month_end month)) AlreadyClosed (EarlierMonthOpen (month_to_close t p)) (ok_or p.tariff NoTariff >>= closing month)
-      (bound_keeps (ok_or p.tariff NoTariff) (closing month) (λ tariff. due_keeps (due_before t (month_end month) p.accounts) (record p { closed = p.closed ++ (month, tariff) ∷ [] }, reply.Closed month) refl))
+      refused_or (nat_lt t (month_end month)) (nat_lt month (month_to_close t p)) (nat_lt (month_to_close t p) month)
+      (MonthNotOver (month_end month)) AlreadyClosed (EarlierMonthOpen (month_to_close t p))
+      (ok_or p.tariff NoTariff >>= closing month)
+      (bound_keeps (ok_or p.tariff NoTariff) (closing month) (λ tariff.
+      due_keeps (due_before t (month_end month) p.accounts)
+      (record p { closed = p.closed ++ (month, tariff) ∷ [] }, reply.Closed month) refl))
 
   pub closed_keeps : (month : ℕ) → (step t (command.Close month) p).0.accounts ≡ p.accounts
   unfolding step outcome

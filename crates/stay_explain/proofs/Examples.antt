@@ -1,9 +1,8 @@
 -- A table of stays, computed.
 use Rattle.std.specs.Prelude.{◌≡◌, [], ◌∷◌, codes, refl}
 use Rattle.std.specs.Fmt.{digits}
-use Rattle.jiff_core.specs.Calendar.{days_of_months}
 use Rattle.csv.specs.Writing.{escaped, fields_text, is_blank}
-use Rattle.moments.specs.Months.{first_day, months_over}
+use Rattle.moments.specs.Months.{days_of_months, first_day, months_over}
 use Rattle.moments.specs.Texts.{moment_text}
 use Rattle.class_rules.specs.Lines.{object_lines, part_line}
 use Rattle.class_rules.specs.declared.class.Class.TheVariants.{Standard, Glacier}
@@ -24,6 +23,7 @@ two_stays : tables_csv ((
   (record { key = codes "u,v"; item = of_part 1 2 }, ended_stay (part_line Glacier 7) 1_704_067_200_000 1_704_070_800_000)
       ∷ (record { key = codes "u,v"; item = of_version (Number 3) }, open_stay (object_lines Glacier 7) 1_704_070_800_000) ∷ [],
 ) ∷ [])
-    ≡ codes "bucket,key,item,class,bytes,from,to\nlogs,\"u,v\",u:1/2,STANDARD,7,2024-01-01T00:00:00.000Z,2024-01-01T01:00:00.000Z\nlogs,\"u,v\",v:3,GLACIER,32775,2024-01-01T01:00:00.000Z,open\nlogs,\"u,v\",v:3,STANDARD,8192,2024-01-01T01:00:00.000Z,open\n"
+    ≡ codes
+    "bucket,key,item,class,bytes,from,to\nlogs,\"u,v\",u:1/2,STANDARD,7,2024-01-01T00:00:00.000Z,2024-01-01T01:00:00.000Z\nlogs,\"u,v\",v:3,GLACIER,32775,2024-01-01T01:00:00.000Z,open\nlogs,\"u,v\",v:3,STANDARD,8192,2024-01-01T01:00:00.000Z,open\n"
 unfolding tables_csv escaped fields_text is_blank digits moment_text months_over first_day days_of_months
 two_stays = refl

@@ -1,7 +1,6 @@
 -- The ledger after one entry more.
-use Rattle.std.proofs.Common.{◌≡◌, ◌⊎◌, inl, inr, ⊎_elim, ℕ, ◌+◌, ◌*◌, ◌^◌, ◌<◌, ◌≤◌, Bool, true, false, if◌then◌else◌, List, [], ◌∷◌, ◌++◌, length, map, Option, Some, None, Result, Ok, Err, refl, sym, ap, ◌∙◌, subst, arith, length-append}
+use Rattle.std.proofs.Common.{◌≡◌, ◌⊎◌, inl, inr, ⊎_elim, ℕ, ◌+◌, ◌^◌, ◌<◌, ◌≤◌, Bool, true, false, if◌then◌else◌, List, [], ◌∷◌, ◌++◌, length, map, Option, Some, None, Result, Ok, Err, refl, sym, ap, ◌∙◌, subst, arith, length-append}
 use Rattle.std.specs.Prelude.{IsTrue}
-use Rattle.std.specs.List.{flat_map}
 use Rattle.plain_office.specs.Office.{Office, empty_office}
 use Rattle.plain_office.specs.Step.{step, is_accepted}
 use Rattle.plain_office.specs.Run.{accept, is_not_before}
@@ -13,9 +12,8 @@ use Rattle.office_types.specs.declared.refusal.Refusal.TheVariants as refusals
 use Rattle.plain_office.proofs.Runs.{IsStep, accepted_by, refused_by, nothing_by, early_refused, run_more, run_none}
 use Rattle.bucket_account.specs.Standing.{most_commands}
 use Rattle.office_machine.specs.Standing.{Records, StandsForOffice, Does, accepted_after}
-use Rattle.entry_codec.specs.Spelling.{spelling}
-use Rattle.entry_codec.proofs.Sizes.{spelling_long}
-use Rattle.meter_journal.specs.History.{framed, whole, header, end_gate}
+use Rattle.meter_journal.specs.History.{header, end_gate}
+use Rattle.meter_journal.proofs.History.{gate_high}
 use Rattle.stay_explain.specs.declared.fault.ExplainFault.{ExplainFault}
 use Rattle.stay_explain.specs.declared.fault.ExplainFault.TheVariants as faults
 use Rattle.stay_explain.specs.Ledgers.{LedgerRecord, IsLedgerOf, IsNotTaken, Tables, planned, tables_after, IsBookable}
@@ -76,13 +74,15 @@ lacks_or_not : (refusal : Refusal) → (refusal ≡ refusals.NoMemory) ⊎ (refu
 lacks_or_not refusals.NoMemory = inl refl
 lacks_or_not refusal = inr (λ e. absurd cc)
 
-pub not_taken : (old : LedgerRecord) (new : Records) (e : Entry) (refusal : Refusal) (fault : ExplainFault) (gate : ℕ) → ((p : Office) → StandsForOffice old.office p → Does (step e.moment e.command p) p new (Err refusal))
+pub not_taken : (old : LedgerRecord) (new : Records) (e : Entry) (refusal : Refusal) (fault : ExplainFault) (gate : ℕ)
+    → ((p : Office) → StandsForOffice old.office p → Does (step e.moment e.command p) p new (Err refusal))
     → (refusal ≡ refusals.NoMemory → fault ≡ faults.NoMemory) → ((refusal ≡ refusals.NoMemory → ⊥) → fault ≡ faults.Damaged gate) → IsNotTaken old e fault gate
 not_taken old new e refusal fault gate does memory damaged = ⊎_elim
     (λ lacks. inl (memory lacks))
     (λ other. inr (damaged other, λ history is. not_accepted is.plain e new refusal other (does is.plain is.stands))) (lacks_or_not refusal)
 
-pub nothing_due : (old : LedgerRecord) (new : Records) (e : Entry) (reply : Reply) (fault : ExplainFault) (gate : ℕ) → ((p : Office) → StandsForOffice old.office p → Does (step e.moment e.command p) p new (Ok reply))
+pub nothing_due : (old : LedgerRecord) (new : Records) (e : Entry) (reply : Reply) (fault : ExplainFault) (gate : ℕ)
+    → ((p : Office) → StandsForOffice old.office p → Does (step e.moment e.command p) p new (Ok reply))
     → fault ≡ faults.Damaged gate → reply ≡ NothingDue → IsNotTaken old e fault gate
 nothing_due old new e reply fault gate does at nothing =
     inr (at, λ history is. nothing_accepted is.plain e new (subst (λ (r : Reply). Does (step e.moment e.command is.plain) is.plain new (Ok r)) nothing (does is.plain is.stands)))
@@ -132,14 +132,6 @@ none_yet records stands none = record { plain = empty_office; is_run = run_none;
 
 -- ---- how many commands a journal holds
 
-frames_long : (entries : List Entry) → 14 * length entries ≤ length (flat_map (λ e. 0xA5 ∷ framed (spelling e)) entries)
-frames_long [] = omega arith
-frames_long (e ∷ entries) = omega (arith, frames_long entries, spelling_long e, length-append (0xA5 ∷ framed (spelling e)) (flat_map (λ (e : Entry). 0xA5 ∷ framed (spelling e)) entries))
-
--- a frame has a gate, a length and nine bytes at least
-gate_high : (history : List Entry) → 14 * length history ≤ end_gate header history
-unfolding whole
-gate_high history = omega (arith, frames_long history, length-append header (flat_map (λ (e : Entry). 0xA5 ∷ framed (spelling e)) history))
-
-pub few : (history : List Entry) (ledger : LedgerRecord) (gate : ℕ) → IsLedgerOf history ledger → gate ≡ end_gate header history → gate ≤ 2 ^ 45 → ledger.office.accepted < most_commands
-few history ledger gate is end small = omega (arith, is.counted, end, small, gate_high history)
+pub few : (history : List Entry) (ledger : LedgerRecord) (gate : ℕ) → IsLedgerOf history ledger → gate ≡ end_gate header history
+    → gate ≤ 2 ^ 45 → ledger.office.accepted < most_commands
+few history ledger gate is end small = omega (arith, is.counted, end, small, gate_high header history)

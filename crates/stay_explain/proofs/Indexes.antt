@@ -159,9 +159,14 @@ module _ (owner : Owner) (at : ℕ) where
       ∷ none_end rows (λ p is. let no : suc p ≡ 0 = one (suc p) (record { row = is.row; there = is.there; owns = is.owns; open_yet = is.open_yet }) in absurd (omega (arith, no))) i
   one_ends (r ∷ rows) (suc place) row there owns open_yet one = λ i.
       sym (stays_as r (λ o t. let no : 0 ≡ suc place = one 0 (record { row = r; there = refl; owns = o; open_yet = t }) in absurd (omega (arith, no)))) i
-      ∷ one_ends rows place row there owns open_yet (λ p is. let e : suc p ≡ suc place = one (suc p) (record { row = is.row; there = is.there; owns = is.owns; open_yet = is.open_yet }) in omega (arith, e)) i
+      ∷ one_ends rows place row there owns open_yet (λ p is.
+      let e : suc p ≡ suc place = one (suc p)
+      (record { row = is.row; there = is.there; owns = is.owns; open_yet = is.open_yet }) in
+      omega (arith, e)) i
 
-module _ (rows : List Row) (find find_after : Owner → Option ℕ) (owner : Owner) (test : Owner → Bool) (same : (other : Owner) → test other ≡ true → other ≡ owner) (itself : test owner ≡ true) (index : IsIndex rows find) where
+module _ (rows : List Row) (find find_after : Owner → Option ℕ) (owner : Owner) (test : Owner → Bool)
+    (same : (other : Owner) → test other ≡ true → other ≡ owner) (itself : test owner ≡ true)
+    (index : IsIndex rows find) where
   some_is : (p q : ℕ) → Some p ≡ Some q → p ≡ q
   some_is p q h = cc
 
@@ -254,7 +259,9 @@ module _ (rows : List Row) (find find_after : Owner → Option ℕ) (owner : Own
 
   -- ---- a beginning
 
-  module _ (updates : (other : Owner) → find_after other ≡ cond (test other) (Some (length rows)) (find other)) (free : filter (is_open_stay owner.key (item_of owner.item)) (map booked_of rows) ≡ []) (row : Row) (owns : row.owner ≡ owner) (open_yet : row.to ≡ None) where
+  module _ (updates : (other : Owner) → find_after other ≡ cond (test other) (Some (length rows)) (find other))
+      (free : filter (is_open_stay owner.key (item_of owner.item)) (map booked_of rows) ≡ []) (row : Row)
+      (owns : row.owner ≡ owner) (open_yet : row.to ≡ None) where
     not_open : (p : ℕ) → IsOpenAt owner p rows → ⊥
     not_open p o =
         none_passes (is_open_stay owner.key (item_of owner.item)) (map booked_of rows) p (booked_of o.row) (get_mapped rows p o.row o.there) free
@@ -268,7 +275,9 @@ module _ (rows : List Row) (find find_after : Owner → Option ℕ) (owner : Own
         let o = index.found other p h in
         record { row = o.row; there = get_front rows (row ∷ []) p o.row o.there; owns = o.owns; open_yet = o.open_yet }
 
-    begun_kept : (other : Owner) (p : ℕ) (b : Bool) (o : IsOpenAt other p (rows ++ row ∷ [])) → test other ≡ b → (slice_get rows p ≡ Some o.row) ⊎ ((p ≡ length rows) × (row ≡ o.row)) → cond b (Some (length rows)) (find other) ≡ Some p
+    begun_kept : (other : Owner) (p : ℕ) (b : Bool) (o : IsOpenAt other p (rows ++ row ∷ [])) → test other ≡ b
+        → (slice_get rows p ≡ Some o.row) ⊎ ((p ≡ length rows) × (row ≡ o.row))
+        → cond b (Some (length rows)) (find other) ≡ Some p
     begun_kept other p true o hits (inl front) =
         absurd (not_open p (subst (λ (x : Owner). IsOpenAt x p rows) (same other hits) (record { row = o.row; there = front; owns = o.owns; open_yet = o.open_yet })))
     begun_kept other p true o hits (inr last) = ap (λ (n : ℕ). Some n) (sym last.0)
@@ -284,7 +293,9 @@ module _ (rows : List Row) (find find_after : Owner → Option ℕ) (owner : Own
     }
 
 -- a row is pushed, and its place entered
-module _ (rows pushed : List Row) (find find_after : Owner → Option ℕ) (owner : Owner) (test : Owner → Bool) (same : (other : Owner) → test other ≡ true → other ≡ owner) (itself : test owner ≡ true) (index : IsIndex rows find) where
+module _ (rows pushed : List Row) (find find_after : Owner → Option ℕ) (owner : Owner) (test : Owner → Bool)
+    (same : (other : Owner) → test other ≡ true → other ≡ owner) (itself : test owner ≡ true)
+    (index : IsIndex rows find) where
   pub index_pushed : (place : ℕ) → place ≡ length rows → ((other : Owner) → find_after other ≡ cond (test other) (Some place) (find other))
       → (stays : List Booked) → map booked_of rows ≡ stays → (key : List ℕ) (item : Spot) → owner ≡ record { key = key; item = item } → filter (is_open_stay key (item_of item)) stays ≡ []
       → (row : Row) → row.owner ≡ owner → row.to ≡ None → pushed ≡ rows ++ row ∷ [] → IsIndex pushed find_after

@@ -87,8 +87,12 @@ module _ (records : Records) (p : Office) (stands : StandsForOffice records p) (
         let has_after : HasOpenStays c.after =
         found_every by_name (λ (e : List ℕ × Account). HasOpenStays e.1) name c.after (with_name name c.after p.accounts)
         (subst (λ (l : List (List ℕ × Account)). AllByRecursion (λ (e : List ℕ × Account). HasOpenStays e.1) l) c.accounts orderly.stays) (at_written by_name name c.after p.accounts) in
-        subst (λ (plan : Option Plan). (map stays_of (step t asked p).0.accounts ≡ tables_by (Some name) plan (map stays_of p.accounts)) × IsFreeIn (Some name) plan (map stays_of p.accounts)) (sym plan_is)
-        (subst (λ (l : List (List ℕ × Account)). (map stays_of l ≡ tables_by (Some name) (plan_of t asked c.before.bucket) (map stays_of p.accounts)) × IsFreeIn (Some name) (plan_of t asked c.before.bucket) (map stays_of p.accounts)) (sym c.accounts)
+        subst (λ (plan : Option Plan).
+        (map stays_of (step t asked p).0.accounts ≡ tables_by (Some name) plan (map stays_of p.accounts))
+        × IsFreeIn (Some name) plan (map stays_of p.accounts)) (sym plan_is)
+        (subst (λ (l : List (List ℕ × Account)).
+        (map stays_of l ≡ tables_by (Some name) (plan_of t asked c.before.bucket) (map stays_of p.accounts))
+        × IsFreeIn (Some name) (plan_of t asked c.before.bucket) (map stays_of p.accounts)) (sym c.accounts)
         (by_plan name c.before c.after c.there (plan_of t asked c.before.bucket) tells has_after))
 
     abbrev Steps : Command → Type 0
@@ -117,5 +121,7 @@ module _ (records : Records) (p : Office) (stands : StandsForOffice records p) (
 -- the tables after a command are those of the office after it, and what it begins has no open stay
 pub tables_step : (records : Records) (p : Office) (stands : StandsForOffice records p) (t : ℕ) (asked : Command) (said : Reply) → is_accepted (Ok said) ≡ true
     → Ok said ≡ (step t asked p).1 → IsOrderly (step t asked p).0
-    → (map stays_of (step t asked p).0.accounts ≡ tables_after asked (planned t asked records.accounts) (map stays_of p.accounts)) × IsBookable asked (planned t asked records.accounts) (map stays_of p.accounts)
+    → (map stays_of (step t asked p).0.accounts
+    ≡ tables_after asked (planned t asked records.accounts) (map stays_of p.accounts))
+    × IsBookable asked (planned t asked records.accounts) (map stays_of p.accounts)
 tables_step records p stands t asked said accepts told orderly = steps records p stands t said accepts asked told orderly

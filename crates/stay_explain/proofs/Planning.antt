@@ -34,7 +34,7 @@ use Rattle.plain_office.specs.Books.{is_open_stay, with_end, with_early, without
 use Rattle.plain_office.specs.Changes.{versions_of, add_version, remove_version, next_id, books_moved, move_version, add_part, remove_upload, remove_upload_at, effect}
 use Rattle.plain_office.specs.Orderly.{HasOpenStays, stay_of_version}
 use Rattle.plain_office.specs.Step.{◌>>=◌, refuse_if, of_stack, Change, has_stack, put_object, delete, delete_version, put_part, complete, abort, act, shown_action, marker_made}
-use Rattle.stay_explain.specs.Plans.{Plan, end_stays, begin_stay, after_ends, stays_by, stays_after, goes, null_ends, comes, marked, deleted, moves, part_put, part_items, dropped, whole, completed, action_done, acted}
+use Rattle.stay_explain.specs.Plans.{Plan, end_stays, begin_stay, after_ends, stays_by, stays_after, goes, null_ends, comes, marked, deleted, moves, part_put, part_items, dropped, made_whole, completed, action_done, acted}
 
 -- ---- stays of an item that has none open
 
@@ -65,7 +65,9 @@ module _ (key : List ℕ) (item : Item) (at : ℕ) where
 
     pub still_none : (stays : List Booked) → open_of other spot stays ≡ [] → open_of other spot (end_stays key item at stays) ≡ []
     still_none [] h = refl
-    still_none (stay ∷ stays) h = closed_at stay (open_of other spot stays) (open_of other spot (end_stays key item at stays)) (is_open_stay key item stay) (is_open_stay other spot stay) refl h (still_none stays)
+    still_none (stay ∷ stays) h =
+        closed_at stay (open_of other spot stays) (open_of other spot (end_stays key item at stays))
+        (is_open_stay key item stay) (is_open_stay other spot stay) refl h (still_none stays)
 
 still_after : (key : List ℕ) (items : List Item) (at : ℕ) (other : List ℕ) (spot : Item) (stays : List Booked) → open_of other spot stays ≡ [] → open_of other spot (after_ends key items at stays) ≡ []
 still_after key [] at other spot stays h = h
@@ -177,7 +179,8 @@ Tells change plan stays = (told : Account × Reply) → change ≡ Ok told → t
 abbrev pub done : Account × Reply → Change
 done made = Ok made
 
-pub told_is : (made told : Account × Reply) (plan : Option Plan) (stays : List Booked) → made.0.books.stays ≡ stays_after plan stays → done made ≡ done told → told.0.books.stays ≡ stays_after plan stays
+pub told_is : (made told : Account × Reply) (plan : Option Plan) (stays : List Booked)
+    → made.0.books.stays ≡ stays_after plan stays → done made ≡ done told → told.0.books.stays ≡ stays_after plan stays
 told_is made told plan stays h is = let same : made ≡ told = cc in subst (λ (x : Account × Reply). x.0.books.stays ≡ stays_after plan stays) same h
 
 pub tells_ok : (made : Account × Reply) (plan : Option Plan) (stays : List Booked) → made.0.books.stays ≡ stays_after plan stays → Tells (Ok made) plan stays
@@ -186,11 +189,13 @@ tells_ok made plan stays h told is = told_is made told plan stays h is
 pub tells_err : (refusal : Refusal) (plan : Option Plan) (stays : List Booked) → Tells (Err refusal) plan stays
 tells_err refusal plan stays told is = absurd cc
 
-pub tells_unless : (b : Bool) (refusal : Refusal) (made : Account × Reply) (plan : Option Plan) (stays : List Booked) → made.0.books.stays ≡ stays_after plan stays → Tells (refuse_if b refusal made) plan stays
+pub tells_unless : (b : Bool) (refusal : Refusal) (made : Account × Reply) (plan : Option Plan) (stays : List Booked)
+    → made.0.books.stays ≡ stays_after plan stays → Tells (refuse_if b refusal made) plan stays
 tells_unless true refusal made plan stays h = tells_err refusal plan stays
 tells_unless false refusal made plan stays h = tells_ok made plan stays h
 
-pub tells_stack : (o : Option StackRecord) (f : StackRecord → Change) (plan : Option Plan) (stays : List Booked) → ((s : StackRecord) → Tells (f s) plan stays) → Tells (ok_or o NoSuchKey >>= f) plan stays
+pub tells_stack : (o : Option StackRecord) (f : StackRecord → Change) (plan : Option Plan) (stays : List Booked)
+    → ((s : StackRecord) → Tells (f s) plan stays) → Tells (ok_or o NoSuchKey >>= f) plan stays
 tells_stack None f plan stays h = tells_err NoSuchKey plan stays
 tells_stack (Some s) f plan stays h = h s
 
@@ -203,7 +208,10 @@ module _ (t : ℕ) (account : Account) (has : HasOpenStays account) where
   stays = account.books.stays
 
   pub tells_put : (key : List ℕ) (size : ℕ) (class : Class) (tags : List Tag) → Tells (put_object t key size class tags account) (Some (comes account.bucket key [] (object_lines class size) t)) stays
-  tells_put key size class tags = tells_ok (add_version key (Object size class tags t) t account, Stored t (next_id account.bucket)) (Some (comes account.bucket key [] (object_lines class size) t)) stays (added key (Object size class tags t) t account has)
+  tells_put key size class tags =
+      tells_ok (add_version key (Object size class tags t) t account, Stored t (next_id account.bucket))
+      (Some (comes account.bucket key [] (object_lines class size) t)) stays
+      (added key (Object size class tags t) t account has)
 
   tells_marked : (key : List ℕ) → (add_version key Marker t account).books.stays ≡ stays_by (marked account.bucket key t) stays
   tells_marked key = added key Marker t account has
@@ -216,7 +224,9 @@ module _ (t : ℕ) (account : Account) (has : HasOpenStays account) where
 
   deleted_by : (key : List ℕ) (versioning : Versioning) → Tells (delete_as key versioning) (Some (deleted versioning account.bucket key t)) stays
   unfolding delete_as
-  deleted_by key Unversioned = tells_unless (not (has_stack key account)) NoSuchKey (remove_version key Null t account, Deleted None) (Some (goes key (of_version Null) t)) stays (removed key Null t account has)
+  deleted_by key Unversioned =
+      tells_unless (not (has_stack key account)) NoSuchKey (remove_version key Null t account, Deleted None)
+      (Some (goes key (of_version Null) t)) stays (removed key Null t account has)
   deleted_by key Enabled = tells_ok (add_version key Marker t account, Deleted (Some (next_id account.bucket))) (Some (marked account.bucket key t)) stays (tells_marked key)
   deleted_by key Suspended = tells_ok (add_version key Marker t account, Deleted (Some (next_id account.bucket))) (Some (marked account.bucket key t)) stays (tells_marked key)
 
@@ -226,19 +236,32 @@ module _ (t : ℕ) (account : Account) (has : HasOpenStays account) where
 
   pub tells_delete_version : (key : List ℕ) (id : VersionId) → Tells (delete_version t key id account) (Some (goes key (of_version id) t)) stays
   tells_delete_version key id =
-      tells_stack (at_name key account.bucket.stacks) (λ s. of_stack (found id s.versions) >>= (λ (v : Version). Ok (remove_version key id t account, VersionDeleted id))) (Some (goes key (of_version id) t)) stays
-      (λ s. tells_bound (of_stack (found id s.versions)) (λ (v : Version). Ok (remove_version key id t account, VersionDeleted id)) (Some (goes key (of_version id) t)) stays (λ v. tells_ok (remove_version key id t account, VersionDeleted id) (Some (goes key (of_version id) t)) stays (removed key id t account has)))
+      tells_stack (at_name key account.bucket.stacks) (λ s. of_stack (found id s.versions)
+      >>= (λ (v : Version). Ok (remove_version key id t account, VersionDeleted id)))
+      (Some (goes key (of_version id) t)) stays
+      (λ s. tells_bound (of_stack (found id s.versions))
+      (λ (v : Version). Ok (remove_version key id t account, VersionDeleted id))
+      (Some (goes key (of_version id) t)) stays (λ v. tells_ok
+      (remove_version key id t account, VersionDeleted id) (Some (goes key (of_version id) t)) stays
+      (removed key id t account has)))
 
   part_by : (number part size : ℕ) (o : Option UploadRecord)
-      → Tells (ok_or o NoSuchUpload >>= (λ upload. refuse_if (not (admits_part part (new_part size t) upload.parts)) BadPart (add_part number upload part size t account, PartStored part))) (part_put number part size t o) stays
+      → Tells (ok_or o NoSuchUpload
+      >>= (λ upload. refuse_if (not (admits_part part (new_part size t) upload.parts)) BadPart
+      (add_part number upload part size t account, PartStored part))) (part_put number part size t o) stays
   part_by number part size None = tells_err NoSuchUpload None stays
-  part_by number part size (Some upload) = tells_unless (not (admits_part part (new_part size t) upload.parts)) BadPart (add_part number upload part size t account, PartStored part) (part_put number part size t (Some upload)) stays refl
+  part_by number part size (Some upload) =
+      tells_unless (not (admits_part part (new_part size t) upload.parts)) BadPart
+      (add_part number upload part size t account, PartStored part) (part_put number part size t (Some upload))
+      stays refl
 
   pub tells_part : (number part size : ℕ) → Tells (put_part t number part size account) (part_put number part size t (at_number number account.bucket.uploads)) stays
   tells_part number part size = part_by number part size (at_number number account.bucket.uploads)
 
   whole_stays : (number : ℕ) (upload : UploadRecord)
-      → (add_version upload.key (Object (total_size upload.parts) upload.class upload.tags t) t (remove_upload number upload t account)).books.stays ≡ stays_by (whole account.bucket number t upload) stays
+      → (add_version upload.key (Object (total_size upload.parts) upload.class upload.tags t) t
+      (remove_upload number upload t account)).books.stays
+      ≡ stays_by (made_whole account.bucket number t upload) stays
   whole_stays number upload =
       let account_without = remove_upload number upload t account in
       added_after upload.key (Object (total_size upload.parts) upload.class upload.tags t) t (part_items number upload.parts) stays account_without (gone number upload t account)
@@ -246,12 +269,23 @@ module _ (t : ℕ) (account : Account) (has : HasOpenStays account) where
       ∙ still_after upload.key (part_items number upload.parts) t upload.key (of_version Null) stays (knows_none upload.key Null account has is))
 
   completed_by : (number : ℕ) (upload : UploadRecord) (b : Bool)
-      → Tells (cond b (Err NoParts) (put_object t upload.key (total_size upload.parts) upload.class upload.tags (remove_upload number upload t account))) (cond b None (Some (whole account.bucket number t upload))) stays
+      → Tells (cond b (Err NoParts) (put_object t upload.key (total_size upload.parts) upload.class upload.tags
+      (remove_upload number upload t account))) (cond b None (Some (made_whole account.bucket number t upload)))
+      stays
   completed_by number upload true = tells_err NoParts None stays
-  completed_by number upload false = tells_ok (add_version upload.key (Object (total_size upload.parts) upload.class upload.tags t) t (remove_upload number upload t account), Stored t (next_id account.bucket)) (Some (whole account.bucket number t upload)) stays (whole_stays number upload)
+  completed_by number upload false =
+      tells_ok (
+        add_version upload.key (Object (total_size upload.parts) upload.class upload.tags t) t
+            (remove_upload number upload t account),
+        Stored t (next_id account.bucket),
+      ) (Some (made_whole account.bucket number t upload)) stays
+      (whole_stays number upload)
 
   complete_by : (number : ℕ) (o : Option UploadRecord)
-      → Tells (ok_or o NoSuchUpload >>= (λ upload. cond (is_empty upload.parts) (Err NoParts) (put_object t upload.key (total_size upload.parts) upload.class upload.tags (remove_upload number upload t account)))) (completed account.bucket number t o) stays
+      → Tells (ok_or o NoSuchUpload
+      >>= (λ upload. cond (is_empty upload.parts) (Err NoParts) (put_object t upload.key (total_size upload.parts)
+      upload.class upload.tags (remove_upload number upload t account))))
+      (completed account.bucket number t o) stays
   complete_by number None = tells_err NoSuchUpload None stays
   complete_by number (Some upload) = completed_by number upload (is_empty upload.parts)
 
@@ -288,7 +322,10 @@ module _ (t : ℕ) (account : Account) (has : HasOpenStays account) where
   acted_by : (o : Option Action) → Tells (act_of o) (acted account.bucket o) account.books.stays
   unfolding act_of
   acted_by None = tells_ok (account, NothingDue) None account.books.stays refl
-  acted_by (Some a) = tells_ok (effect a account, shown_action a (marker_made a.kind account.bucket) account.bucket) (acted account.bucket (Some a)) account.books.stays (effect_by a.key a.rule a.since a.kind a.target account has)
+  acted_by (Some a) =
+      tells_ok (effect a account, shown_action a (marker_made a.kind account.bucket) account.bucket)
+      (acted account.bucket (Some a)) account.books.stays
+      (effect_by a.key a.rule a.since a.kind a.target account has)
 
   pub tells_act : Tells (act t account) (acted account.bucket (choice account.bucket t)) account.books.stays
   unfolding act_of

@@ -21,7 +21,7 @@ use Rattle.plain_office.specs.Changes.{versions_of}
 use Rattle.plain_office.specs.Orderly.{HasOpenStays, stays_expected, part_stays_expected, stay_of_version, stay_of_part}
 use Rattle.office_laws.proofs.Maps.{bytes_itself}
 use Rattle.office_laws.proofs.Stays.{item_itself}
-use Rattle.stay_explain.specs.Plans.{Plan, stays_by, after_begin, after_ends, BeginsFree, IsFree}
+use Rattle.stay_explain.specs.Plans.{Plan, stays_by, after_begin, after_ends, BeginsFree, HasNoOpenStay}
 use Rattle.stay_explain.specs.Table.{stays_of}
 use Rattle.stay_explain.specs.Ledgers.{Tables}
 
@@ -78,7 +78,8 @@ none_left : (xs : List Booked) → length xs + 1 ≤ 1 → xs ≡ []
 none_left [] h = refl
 none_left (x ∷ xs) h = absurd (omega (arith, h))
 
-free_at : (key : List ℕ) (o : Option (Item × List (Class × ℕ))) (at : ℕ) (ended : List Booked) (after : Account) → HasOpenStays after → after.books.stays ≡ after_begin key o at ended → IsFree key o ended
+free_at : (key : List ℕ) (o : Option (Item × List (Class × ℕ))) (at : ℕ) (ended : List Booked) (after : Account)
+    → HasOpenStays after → after.books.stays ≡ after_begin key o at ended → HasNoOpenStay key o ended
 free_at key None at ended after has is = tt
 free_at key (Some begun) at ended after has is =
     let test = is_open_stay key begun.0 in

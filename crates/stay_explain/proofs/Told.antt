@@ -24,7 +24,9 @@ plan_tells t (command.Put name key size class tags) account has = tells_put t ac
 plan_tells t (command.Delete name key) account has = tells_delete t account has key
 plan_tells t (command.DeleteVersion name key id) account has = tells_delete_version t account has key id
 plan_tells t (command.SetTags name key id tags) account has =
-    tells_stack (at_name key account.bucket.stacks) _ None account.books.stays (λ s. tells_bound (of_stack (tags_at id s.versions)) _ None account.books.stays (λ before. tells_ok _ None account.books.stays refl))
+    tells_stack (at_name key account.bucket.stacks) _ None account.books.stays (λ s.
+    tells_bound (of_stack (tags_at id s.versions)) _ None account.books.stays
+    (λ before. tells_ok _ None account.books.stays refl))
 plan_tells t (command.StartUpload name key class tags) account has = tells_ok _ None account.books.stays refl
 plan_tells t (command.PutPart name upload part size) account has = tells_part t account has upload part size
 plan_tells t (command.Complete name upload) account has = tells_complete t account has upload

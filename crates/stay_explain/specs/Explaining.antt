@@ -31,11 +31,11 @@ pub record IsDamagedAt (at : ℕ) (file : List ℕ) : Type 0 where
       ⊎ ((entry : Entry) × (next : ℕ) × (frame_at at file ≡ Whole entry next) × (accept office entry ≡ None))
 
 -- why a journal of these bytes is not explained; want of memory is no fault of the bytes
-abbrev pub Fails : ExplainFault → List ℕ → Type 0
-Fails faults.NotMade file = IsNotMade file
-Fails faults.Foreign file = IsForeign file
-Fails (faults.Damaged at) file = IsDamagedAt at file
-Fails faults.NoMemory file = Unit {0}
+abbrev pub ExplainFails : ExplainFault → List ℕ → Type 0
+ExplainFails faults.NotMade file = IsNotMade file
+ExplainFails faults.Foreign file = IsForeign file
+ExplainFails (faults.Damaged at) file = IsDamagedAt at file
+ExplainFails faults.NoMemory file = Unit {0}
 
 -- the frame at the gate is damaged, or memory ran out
 abbrev pub IsFaultAt : ExplainFault → ℕ → Frame → Type 0

@@ -55,12 +55,12 @@ abbrev pub stays_by : Plan → List Booked → List Booked
 stays_by plan stays = after_begin plan.key plan.begins plan.at (after_ends plan.key plan.ends plan.at stays)
 
 -- what begins has no open stay once the ends are booked
-abbrev pub IsFree : List ℕ → Option (Item × List (Class × ℕ)) → List Booked → Type 0
-IsFree key None stays = Unit {0}
-IsFree key (Some begun) stays = filter (is_open_stay key begun.0) stays ≡ []
+abbrev pub HasNoOpenStay : List ℕ → Option (Item × List (Class × ℕ)) → List Booked → Type 0
+HasNoOpenStay key None stays = Unit {0}
+HasNoOpenStay key (Some begun) stays = filter (is_open_stay key begun.0) stays ≡ []
 
 abbrev pub BeginsFree : Plan → List Booked → Type 0
-BeginsFree plan stays = IsFree plan.key plan.begins (after_ends plan.key plan.ends plan.at stays)
+BeginsFree plan stays = HasNoOpenStay plan.key plan.begins (after_ends plan.key plan.ends plan.at stays)
 
 abbrev pub stays_after : Option Plan → List Booked → List Booked
 stays_after None stays = stays
@@ -118,14 +118,14 @@ dropped number at None = None
 dropped number at (Some upload) =
     Some (record { key = upload.key; ends = part_items number upload.parts; begins = None; at = at })
 
-abbrev pub whole : BucketRecord → ℕ → ℕ → UploadRecord → Plan
-whole bucket number at upload =
+abbrev pub made_whole : BucketRecord → ℕ → ℕ → UploadRecord → Plan
+made_whole bucket number at upload =
     comes bucket upload.key (part_items number upload.parts) (object_lines upload.class (total_size upload.parts)) at
 
 abbrev pub completed : BucketRecord → ℕ → ℕ → Option UploadRecord → Option Plan
 completed bucket number at None = None
 completed bucket number at (Some upload) =
-    if is_empty upload.parts then None else Some (whole bucket number at upload)
+    if is_empty upload.parts then None else Some (made_whole bucket number at upload)
 
 abbrev pub action_done : BucketRecord → List ℕ → ℕ → ActionKind → Target → Option Plan
 action_done bucket key since action.Remove (target.Version id) = Some (goes key (of_version id) since)

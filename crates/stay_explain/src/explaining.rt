@@ -4,7 +4,7 @@ ghost use Rattle.office_types.specs.declared.command.Entry.{Entry};
 ghost use Rattle.meter_journal.specs.History.{HasHistory};
 ghost use Rattle.meter_journal.specs.Reading.{Frame, HeadGives, IsMade};
 ghost use Rattle.meter_journal.specs.Reading as reading;
-ghost use Rattle.stay_explain.specs.Explaining.{Fails, IsFaultAt, IsTableOf};
+ghost use Rattle.stay_explain.specs.Explaining.{ExplainFails, IsFaultAt, IsTableOf};
 ghost use Rattle.bucket_account.specs.Standing.{most_commands};
 ghost use Rattle.stay_explain.specs.Ledgers.{IsLedgerOf, IsNotTaken};
 
@@ -22,8 +22,8 @@ const FIRST: u64 = 10;
 
 fn fault_of(fault: OpenFault) -> ExplainFault
     requires { fault ≡ OpenFault.StoreFault → ⊥ }
-    ensures head { (file : List ℕ) → HeadGives {T = ℕ} (Err fault) file → Fails result file }
-    ensures damaged { (gate : ℕ) (frame : Frame) → reading.Fails fault gate frame → IsFaultAt result gate frame }
+    ensures head { (file : List ℕ) → HeadGives {T = ℕ} (Err fault) file → ExplainFails result file }
+    ensures damaged { (gate : ℕ) (frame : Frame) → reading.FrameFails fault gate frame → IsFaultAt result gate frame }
 {
     match fault {
         OpenFault::NotMade => ExplainFault::NotMade,
@@ -49,7 +49,7 @@ fn read(alloc: Global, journal: &[u8]) -> Result<Ledger, ExplainFault>
     requires made { IsMade journal.now }
     ensures read { IfOk result (λ ledger. (history : List Entry) × HasHistory history journal.now
         × IsLedgerOf history ledger) }
-    ensures fails { IfErr result (λ fault. Fails fault journal.now) }
+    ensures fails { IfErr result (λ fault. ExplainFails fault journal.now) }
 {
     let mut ledger = Ledger::new(alloc);
     let mut gate = FIRST;
@@ -84,7 +84,7 @@ pub fn explain<R: Threads + Sync>(
 ) -> Result<Vec<u8>, ExplainFault>
     requires workers { (1 ≤ workers) × (workers ≤ 64) }
     ensures table { IfOk result (λ text. IsTableOf journal.now text.items) }
-    ensures fault { IfErr result (λ fault. Fails fault journal.now) }
+    ensures fault { IfErr result (λ fault. ExplainFails fault journal.now) }
 {
     if let Err(fault) = made(journal) {
         return Err(fault_of(fault));

@@ -6,8 +6,8 @@ ghost use Rattle.csv.specs.Writing.{default_writer, row_text};
 ghost use Rattle.class_rules.specs.Lines.{lines_of};
 ghost use Rattle.plain_office.specs.Office.{Booked};
 ghost use Rattle.stay_explain.specs.Rows.{item_of, booked_of};
-ghost use Rattle.stay_explain.specs.Sheets.{IsReady, held};
-ghost use Rattle.stay_explain.specs.Table.{end_text, header_row, item_text, line_row};
+ghost use Rattle.stay_explain.specs.Sheets.{IsAtRowStart, bytes_written};
+ghost use Rattle.stay_explain.specs.Table.{end_text, stays_header, item_text, stay_row};
 ghost use Rattle.stay_explain.specs.Table.{stay_rows, table_rows};
 ghost use Rattle.stay_explain.specs.Pages.{rows_csv};
 
@@ -22,17 +22,17 @@ use std::alloc::{AllocError, Global};
 type Sheet = Writer<Vec<u8>>;
 
 fn start(alloc: Global) -> Sheet
-    ensures ready { IsReady result }
-    ensures empty { held result ≡ Some [] }
+    ensures ready { IsAtRowStart result }
+    ensures empty { bytes_written result ≡ Some [] }
 {
     WriterBuilder::new().from_writer(Vec::new(alloc))
 }
 
 fn put_row(sheet: &mut Sheet, fields: &[&[u8]]) -> Result<(), NoMemory>
-    requires { IsReady sheet.old }
-    ensures ready { OnOk result (IsReady sheet.new) }
-    ensures bytes { OnOk result (held sheet.new
-        ≡ append_known (held sheet.old) (row_text default_writer (map (λ f. f.now) fields.now))) }
+    requires { IsAtRowStart sheet.old }
+    ensures ready { OnOk result (IsAtRowStart sheet.new) }
+    ensures bytes { OnOk result (bytes_written sheet.new
+        ≡ append_known (bytes_written sheet.old) (row_text default_writer (map (λ f. f.now) fields.now))) }
 {
     match sheet.write_fields(fields) {
         Ok(()) => Ok(()),
@@ -51,19 +51,20 @@ fn put_texts<'a>(
     from: &'a [u8],
     to: &'a [u8],
 ) -> Result<(), NoMemory>
-    requires { IsReady sheet.old }
-    ensures ready { OnOk result (IsReady sheet.new) }
-    ensures bytes { OnOk result (held sheet.new ≡ append_known (held sheet.old) (row_text default_writer
+    requires { IsAtRowStart sheet.old }
+    ensures ready { OnOk result (IsAtRowStart sheet.new) }
+    ensures bytes { OnOk result
+        (bytes_written sheet.new ≡ append_known (bytes_written sheet.old) (row_text default_writer
         (bucket.now ∷ key.now ∷ item.now ∷ class.now ∷ bytes.now ∷ from.now ∷ to.now ∷ []))) }
 {
     put_row(sheet, &[bucket, key, item, class, bytes, from, to])
 }
 
 fn put_header(sheet: &mut Sheet) -> Result<(), NoMemory>
-    requires { IsReady sheet.old }
-    ensures ready { OnOk result (IsReady sheet.new) }
-    ensures bytes { OnOk result (held sheet.new
-        ≡ append_known (held sheet.old) (row_text default_writer header_row)) }
+    requires { IsAtRowStart sheet.old }
+    ensures ready { OnOk result (IsAtRowStart sheet.new) }
+    ensures bytes { OnOk result (bytes_written sheet.new
+        ≡ append_known (bytes_written sheet.old) (row_text default_writer stays_header)) }
 {
     put_texts(
         sheet, b"bucket", b"key", b"item", b"class", b"bytes", b"from", b"to",
@@ -108,12 +109,12 @@ fn put_line(
     class: Class,
     bytes: u64,
 ) -> Result<(), NoMemory>
-    requires ready { IsReady sheet.old }
+    requires ready { IsAtRowStart sheet.old }
     requires item { item.now ≡ item_text (item_of row.now.owner.item) }
     requires end { end.now ≡ end_text row.now.to }
-    ensures ready { OnOk result (IsReady sheet.new) }
-    ensures bytes { OnOk result (held sheet.new ≡ append_known (held sheet.old)
-        (row_text default_writer (line_row bucket.now (booked_of row.now) (class, bytes)))) }
+    ensures ready { OnOk result (IsAtRowStart sheet.new) }
+    ensures bytes { OnOk result (bytes_written sheet.new ≡ append_known (bytes_written sheet.old)
+        (row_text default_writer (stay_row bucket.now (booked_of row.now) (class, bytes)))) }
 {
     put_texts(
         sheet,
@@ -135,11 +136,11 @@ fn put_lines(
     item: &[u8],
     end: &[u8],
 ) -> Result<(), NoMemory>
-    requires ready { IsReady sheet.old }
+    requires ready { IsAtRowStart sheet.old }
     requires item { item.now ≡ item_text (item_of row.now.owner.item) }
     requires end { end.now ≡ end_text row.now.to }
-    ensures ready { OnOk result (IsReady sheet.new) }
-    ensures bytes { OnOk result (held sheet.new ≡ append_known (held sheet.old)
+    ensures ready { OnOk result (IsAtRowStart sheet.new) }
+    ensures bytes { OnOk result (bytes_written sheet.new ≡ append_known (bytes_written sheet.old)
         (flat_map (row_text default_writer) (stay_rows bucket.now (booked_of row.now)))) }
 {
     put_line(
@@ -171,9 +172,9 @@ fn put_stay(
     bucket: &BucketName,
     row: &Row,
 ) -> Result<(), NoMemory>
-    requires { IsReady sheet.old }
-    ensures ready { OnOk result (IsReady sheet.new) }
-    ensures bytes { OnOk result (held sheet.new ≡ append_known (held sheet.old)
+    requires { IsAtRowStart sheet.old }
+    ensures ready { OnOk result (IsAtRowStart sheet.new) }
+    ensures bytes { OnOk result (bytes_written sheet.new ≡ append_known (bytes_written sheet.old)
         (flat_map (row_text default_writer) (stay_rows bucket.now (booked_of row.now)))) }
 {
     let Ok(item) = item_text(alloc, row.owner.item) else {
@@ -191,9 +192,9 @@ fn put_stays(
     bucket: &BucketName,
     rows: &[Row],
 ) -> Result<(), NoMemory>
-    requires { IsReady sheet.old }
-    ensures ready { OnOk result (IsReady sheet.new) }
-    ensures bytes { OnOk result (held sheet.new ≡ append_known (held sheet.old)
+    requires { IsAtRowStart sheet.old }
+    ensures ready { OnOk result (IsAtRowStart sheet.new) }
+    ensures bytes { OnOk result (bytes_written sheet.new ≡ append_known (bytes_written sheet.old)
         (flat_map (row_text default_writer) (table_rows (bucket.now, map booked_of rows.now)))) }
 {
     for row in rows {
@@ -203,16 +204,16 @@ fn put_stays(
 }
 
 fn put_table(sheet: &mut Sheet, alloc: Global, table: &Table<'_>) -> Result<(), NoMemory>
-    requires { IsReady sheet.old }
-    ensures ready { OnOk result (IsReady sheet.new) }
-    ensures bytes { OnOk result (held sheet.new ≡ append_known (held sheet.old)
+    requires { IsAtRowStart sheet.old }
+    ensures ready { OnOk result (IsAtRowStart sheet.new) }
+    ensures bytes { OnOk result (bytes_written sheet.new ≡ append_known (bytes_written sheet.old)
         (flat_map (row_text default_writer) (table_rows table.now))) }
 {
     put_stays(sheet, alloc, table.bucket, table.rows)
 }
 
 fn finish(sheet: Sheet) -> Result<Vec<u8>, NoMemory>
-    ensures { IfOk result (λ v. held sheet ≡ Some v.items) }
+    ensures { IfOk result (λ v. bytes_written sheet ≡ Some v.items) }
 {
     match sheet.into_inner() {
         Ok(bytes) => Ok(bytes),
@@ -222,7 +223,7 @@ fn finish(sheet: Sheet) -> Result<Vec<u8>, NoMemory>
 
 /// Prints the header.
 pub(crate) fn header_text(alloc: Global) -> Result<Vec<u8>, NoMemory>
-    ensures { IfOk result (λ text. text.items ≡ row_text default_writer header_row) }
+    ensures { IfOk result (λ text. text.items ≡ row_text default_writer stays_header) }
 {
     let mut sheet = start(alloc);
     put_header(&mut sheet)?;

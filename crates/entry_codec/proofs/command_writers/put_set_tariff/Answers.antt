@@ -1,9 +1,9 @@
 use Rattle.std.proofs.Common.{◌≡◌, true, ◌&&◌, sym, subst, arith}
+use Rattle.std.proofs.lemmas.Bool.{and_parts}
 use Rattle.std.specs.List.{list_all}
 use Rattle.tariff.specs.Prices.{is_price}
 use Rattle.office_types.specs.declared.command.Command.TheVariants as command
 use Rattle.entry_codec.specs.Spelling.{CommandFits}
-use Rattle.entry_codec.proofs.FormatLaws.{both}
 use Rattle.entry_codec.proofs.PriceLemmas.{tariff_put, tariff_fits}
 use Rattle.entry_codec.proofs.command_writers.put_set_tariff.Goals as goal
 
@@ -19,5 +19,5 @@ returns-clause-fits c =
     let s = c.tariff.inside.storage in
     let t = c.tariff.inside.transition in
     let all : list_all is_price s && list_all is_price t ≡ true = c.tariff.invariant in
-    let parts = both (list_all is_price s) (list_all is_price t) all in
+    let parts = and_parts (list_all is_price s) (list_all is_price t) all in
     subst (λ tariff. CommandFits (command.SetTariff tariff)) c.tariff.view_is (tariff_fits s t (omega arith) (omega arith) parts.0 parts.1)

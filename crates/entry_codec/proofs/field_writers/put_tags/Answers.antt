@@ -10,4 +10,7 @@ put_tag-requires c =
     tag_at c.pairs-pairs.result.now c.loop-pair.pair-index c.pair-item.result all c.loop-pair-test.true c.pair-item.is
 
 pub returns-clause-bytes : goal.returns-clause-bytes
-returns-clause-bytes c = c.loop-pair.invariant ∙ ap (λ bytes. c.args.out.now.items ++ bytes) (all_written c.loop-pair.pair-index c.pairs-pairs.result.now c.args.tags.now c.loop-pair-test.false c.pairs-pairs.ensures.same)
+returns-clause-bytes c =
+    c.loop-pair.invariant
+    ∙ ap (λ bytes. c.args.out.now.items ++ bytes) (all_written c.loop-pair.pair-index c.pairs-pairs.result.now
+    c.args.tags.now c.loop-pair-test.false c.pairs-pairs.ensures.same)

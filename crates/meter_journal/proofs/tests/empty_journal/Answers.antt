@@ -1,6 +1,6 @@
 use Rattle.std.proofs.Common.{[], take, refl, arith}
 use Rattle.std.proofs.lemmas.List.{length-take}
-use Rattle.meter_journal.proofs.Prefix.{read_start, read_end}
+use Rattle.meter_journal.proofs.Prefix.{prefix_start, read_end}
 use Rattle.meter_journal.proofs.tests.empty_journal.Goals as goal
 
 pub returns-in-None : goal.returns-in-None
@@ -10,7 +10,7 @@ returns-in-None g c told =
     let ok = c.in-Ok.ensures.ok told in
     let opening = c.in-Ok.opening in
     let head = take opening.gate file in
-    let prefix = read_start head [] opening.gate file refl refl (omega (arith, length-take opening.gate file, ok.0.0, c.in-Ok.ensures.start.0)) in
-    let rest = read_end head (state opening.disk) (state opening.disk) (state c.next.new.self.disk) file [] opening.gate c.next.new.self.gate c.in-Ok-next.read
-    refl (c.next.ensures.untouched told).now ok.2 prefix c.in-None.is (c.in-Ok-next.ensures.exact told) in
+    let prefix = prefix_start head opening.gate file refl (omega (arith, length-take opening.gate file, ok.0.0, c.in-Ok.ensures.start.0)) in
+    let rest = read_end {first = state opening.disk} prefix refl ok.2 (state c.next.new.self.disk) c.next.new.self.gate c.in-Ok-next.read
+    (c.next.ensures.untouched told).now c.in-None.is (c.in-Ok-next.ensures.exact told) in
     (head, [], rw (c.ready.ensures.0, c.ready.ensures.1) rest)

@@ -1,7 +1,7 @@
 use Rattle.std.proofs.Common.{[], ◌∷◌, take, refl, arith}
 use Rattle.std.proofs.lemmas.List.{length-take}
 use Rattle.disk_core.specs.declared.disk.FileNo.TheVariants.{Journal}
-use Rattle.meter_journal.proofs.Prefix.{read_start, read_more, read_end}
+use Rattle.meter_journal.proofs.Prefix.{prefix_start, read_more, read_end}
 use Rattle.meter_journal.proofs.tests.read_again.Goals as goal
 
 pub returns-in_default : goal.returns-in_default
@@ -11,11 +11,11 @@ returns-in_default g c told =
     let opened = c.open.new.self in
     let ok = c.in-Ok.ensures.ok told in
     let head = take opened.gate file in
-    let prefix = read_start head [] opened.gate file refl refl (omega (arith, length-take opened.gate file, ok.0.0, c.in-Ok.ensures.start)) in (
+    let prefix = prefix_start head opened.gate file refl (omega (arith, length-take opened.gate file, ok.0.0, c.in-Ok.ensures.start)) in (
       head,
       [],
-      read_end head (state opened.disk) (state opened.disk) (state c.next.new.self.disk) file [] opened.gate c.next.new.self.gate c.in-Ok-next.first
-          refl (c.next.ensures.untouched told).now ok.2 prefix c.in_default.is (c.in-Ok-next.ensures.exact told),
+      read_end {first = state opened.disk} prefix refl ok.2 (state c.next.new.self.disk) c.next.new.self.gate c.in-Ok-next.first
+          (c.next.ensures.untouched told).now c.in_default.is (c.in-Ok-next.ensures.exact told),
     )
 
 pub returns-in-None : goal.returns-in-None
@@ -27,11 +27,11 @@ returns-in-None g c told =
     let entries = c.in-Some.entry ∷ [] in
     let ok = c.in-Ok.ensures.ok told in
     let head = take opened.gate file in
-    let prefix = read_start head [] opened.gate file refl refl (omega (arith, length-take opened.gate file, ok.0.0, c.in-Ok.ensures.start)) in
-    let longer = read_more head (state opened.disk) (state opened.disk) file [] entries opened.gate after.gate c.in-Ok-next.first c.in-Some.entry
-    refl ok.2 (g.met.D.Disk.holds_bytes told opened.disk Journal) prefix c.in-Some.is (c.in-Ok-next.ensures.exact told) refl in (
+    let prefix = prefix_start head opened.gate file refl (omega (arith, length-take opened.gate file, ok.0.0, c.in-Ok.ensures.start)) in
+    let longer = read_more {first = state opened.disk} prefix refl ok.2 after.gate c.in-Ok-next.first c.in-Some.entry
+    (g.met.D.Disk.holds_bytes told opened.disk Journal) c.in-Some.is (c.in-Ok-next.ensures.exact told) in (
       head,
       entries,
-      read_end head (state opened.disk) (state after.disk) (state c.next-2.new.self.disk) file entries after.gate c.next-2.new.self.gate c.in-Ok-next-2.second
-          (c.next.ensures.untouched told).now (c.next-2.ensures.untouched told).now ok.2 longer c.in-None.is (c.in-Ok-next-2.ensures.exact told),
+      read_end longer (c.next.ensures.untouched told).now ok.2 (state c.next-2.new.self.disk) c.next-2.new.self.gate c.in-Ok-next-2.second
+          (c.next-2.ensures.untouched told).now c.in-None.is (c.in-Ok-next-2.ensures.exact told),
     )

@@ -2,7 +2,8 @@ use Rattle.std.proofs.Common.{◌≡◌, rules, arith, List, ◌++◌, ◌∷◌
 use Rattle.office_types.specs.declared.command.Entry.{Entry}
 use Rattle.meter_journal.specs.Reading.{frame_at, Whole, Ended}
 use Rattle.stay_explain.specs.Ledgers.{IsLedgerOf}
-use Rattle.stay_explain.proofs.Readings.{none_read, one_read, all_read, few_read, frame_next, take_fails}
+use Rattle.meter_journal.proofs.Prefix.{frame_next}
+use Rattle.stay_explain.proofs.Readings.{none_read, one_read, all_read, few_read, take_fails}
 use Rattle.stay_explain.proofs.explaining.read.Goals as goal
 
 pub reading-init : goal.reading-init
