@@ -1,5 +1,5 @@
 -- What the office's answer and the journal's append make of a call.
-use Rattle.std.proofs.Common.{◌≡◌, inl, inr, ℕ, ◌+◌, ◌^◌, ◌≤◌, Bool, true, false, List, [], ◌∷◌, ◌++◌, length, Option, Some, None, Result, Ok, Err, refl, sym, ap, ◌∙◌, subst, arith, length-append}
+use Rattle.std.proofs.Common.{◌≡◌, inl, inr, ℕ, ◌+◌, ◌^◌, ◌≤◌, Bool, true, false, List, [], ◌∷◌, ◌++◌, length, Option, Some, None, Result, Ok, Err, refl, sym, ap, ◌∙◌, subst, arith}
 use Rattle.std.specs.Prelude.{IsTrue}
 use Rattle.office_base.specs.Faults.{Rose}
 use Rattle.disk_core.specs.declared.disk.Disk as disks
@@ -7,7 +7,7 @@ use Rattle.disk_core.specs.Moments.{KeepsTo}
 use Rattle.plain_office.specs.Answers.{answer}
 use Rattle.plain_office.specs.Office.{Office}
 use Rattle.plain_office.specs.Step.{step, is_accepted}
-use Rattle.plain_office.specs.Run.{entry_at, is_not_before}
+use Rattle.plain_office.specs.Run.{is_not_before}
 use Rattle.office_types.specs.declared.command.Ask.TheVariants as ask
 use Rattle.office_types.specs.declared.command.Command.{Command}
 use Rattle.office_types.specs.declared.command.Query.{Query}
@@ -15,34 +15,33 @@ use Rattle.office_types.specs.declared.command.Entry.{Entry}
 use Rattle.office_types.specs.declared.reply.Reply.{Reply}
 use Rattle.office_types.specs.declared.refusal.Refusal.{Refusal}
 use Rattle.office_types.specs.declared.refusal.Refusal.TheVariants.{NoMemory, ClockEnd}
+use Rattle.office_types.specs.Entries.{entry_at}
 use Rattle.office_machine.specs.Standing.{Records, StandsForOffice, Does, accepted_after}
 use Rattle.entry_codec.specs.Spelling.{spelling}
-use Rattle.meter_journal.specs.History.{framed, whole, header, end_gate, IsAtRest, BeforeOrAfter}
-use Rattle.meter_journal.proofs.History.{whole-push}
+use Rattle.meter_journal.specs.History.{header, end_gate, IsAtRest, BeforeOrAfter}
+use Rattle.meter_journal.proofs.History.{end_gate-push}
 use Rattle.desk_core.specs.declared.fault.DeskFault.{DeskFault}
 use Rattle.desk_core.specs.declared.fault.DeskFault.TheVariants as faults
 use Rattle.desk_core.specs.Answers.{Answer}
-use Rattle.desk_core.specs.Desk.{Parts, Holds}
+use Rattle.desk_core.specs.Desk.{EngineView, HoldsHistory}
 use Rattle.desk_core.specs.Offices.{StandsAfter}
-use Rattle.desk_core.specs.Keeping.{IsAnswerOf, Stays, Adds, Keeps, IsEnded}
+use Rattle.desk_core.specs.Answering.{IsAnswerOf, Stays, AddsEntry, AnswersInTime, AnswersEnded}
 use Rattle.desk_core.proofs.Offices.{answer_is, reply_is, taken, more_after, same_after}
 
 -- the end gate behind one entry more
-pub end_more : (head : List ℕ) (before : List Entry) (e : Entry) → end_gate head (before ++ e ∷ []) ≡ end_gate head before + 5 + length (spelling e)
-end_more head before e = omega (arith, ap length (whole-push head before e), length-append (whole head before) (0xA5 ∷ framed (spelling e)))
-
-pub end_by : (old new place : ℕ) (bytes : List ℕ) (before : List Entry) (e : Entry) → old ≡ end_gate header before → bytes ≡ spelling e → (place ≡ new) × (place ≡ old + 5 + length bytes) → new ≡ end_gate header (before ++ e ∷ [])
-end_by old new place bytes before e is spelled at = omega (arith, is, ap length spelled, at.0, at.1, end_more header before e)
+pub end_by : (old new place : ℕ) (bytes : List ℕ) (before : List Entry) (e : Entry) → old ≡ end_gate header before → bytes ≡ spelling e
+    → (place ≡ new) × (place ≡ old + 5 + length bytes) → new ≡ end_gate header (before ++ e ∷ [])
+end_by old new place bytes before e is spelled at = omega (arith, is, ap length spelled, at.0, at.1, end_gate-push header before e)
 
 -- two answers that are the same are accepted, or both are not
 accepted_as : (one other : Result Reply Refusal) (b : Bool) → one ≡ other → is_accepted other ≡ b → is_accepted one ≡ b
 accepted_as one other b same is = ap (λ (x : Result Reply Refusal). is_accepted x) same ∙ is
 
 module _ {D C : Type 0} (d : disks.Ghosts D) where
-  abbrev made : ℕ → ℕ → Result Reply Refusal → Parts D C → Answer
+  abbrev made : ℕ → ℕ → Result Reply Refusal → EngineView D C → Answer
   made t number reply desk = record { moment = t; told = number; reply = reply; position = desk.gate; disk_moment = d.moment desk.disk }
 
-  is_made : (t m number : ℕ) (reply : Result Reply Refusal) (desk : Parts D C) (said : Answer) → m ≡ t → said ≡ made m number reply desk → IsAnswerOf d.moment t number desk said
+  is_made : (t m number : ℕ) (reply : Result Reply Refusal) (desk : EngineView D C) (said : Answer) → m ≡ t → said ≡ made m number reply desk → IsAnswerOf d.moment t number desk said
   is_made t m number reply desk said at same = record {
     moment = ap (λ (a : Answer). a.moment) same ∙ at;
     told = ap (λ (a : Answer). a.told) same;
@@ -50,9 +49,9 @@ module _ {D C : Type 0} (d : disks.Ghosts D) where
     disk_moment = ap (λ (a : Answer). a.disk_moment) same;
   }
 
-  module _ (t number : ℕ) (before : List Entry) (old : Parts D C) (hold : Holds d before old) where
+  module _ (t number : ℕ) (before : List Entry) (old : EngineView D C) (hold : HoldsHistory d before old) where
     -- a desk that holds the same office, and the same disk and journal
-    stayed_as : (new : Parts D C) → Holds d before (record old { office = new.office }) → new.disk ≡ old.disk → new.gate ≡ old.gate → new.limit ≡ old.limit → Stays d before old new
+    stayed_as : (new : EngineView D C) → HoldsHistory d before (record old { office = new.office }) → new.disk ≡ old.disk → new.gate ≡ old.gate → new.limit ≡ old.limit → Stays d before old new
     stayed_as new same disk gate limit = record {
       holds = record {
         office = same.office;
@@ -67,20 +66,20 @@ module _ {D C : Type 0} (d : disks.Ghosts D) where
     pub stayed : Stays d before old old
     stayed = record { holds = hold; disk = λ i. old.disk }
 
-    pub ended : (said : Answer) → said ≡ made t number (Err (ClockEnd t)) old → IsEnded d t number before old old (Ok said)
+    pub ended : (said : Answer) → said ≡ made t number (Err (ClockEnd t)) old → AnswersEnded d t number before old old (Ok said)
     ended said same = (is_made t t number (Err (ClockEnd t)) old said refl same, ap (λ (a : Answer). a.reply) same, stayed)
 
     -- ---- a query
 
     pub queried : (m : ℕ) (query : Query) (reply : Result Reply Refusal) (said : Answer) → m ≡ t → reply ≡ answer t query hold.office.plain → said ≡ made m number reply old
-        → Keeps d t number (ask.Query query) hold.office.plain before old old (Ok said)
+        → AnswersInTime d t number (ask.Query query) hold.office.plain before old old (Ok said)
     queried m query reply said at is same = (is_made t m number reply old said at same, (ap (λ (a : Answer). a.reply) same ∙ is, stayed))
 
     -- ---- a command
 
     module _ (command : Command) where
-      abbrev Keeping : Parts D C → Result Answer DeskFault → Type 0
-      Keeping new said = Keeps d t number (ask.Command command) hold.office.plain before old new said
+      abbrev Keeping : EngineView D C → Result Answer DeskFault → Type 0
+      Keeping new said = AnswersInTime d t number (ask.Command command) hold.office.plain before old new said
 
       abbrev entry : Entry
       entry = entry_at t command
@@ -90,13 +89,13 @@ module _ {D C : Type 0} (d : disks.Ghosts D) where
 
       -- in between each image has the entry or has it not
       abbrev Run : D → D → Type 0
-      Run first x = KeepsTo d.state d.moment d.had_since first x (BeforeOrAfter header before entry (d.state first))
+      Run first x = KeepsTo d first x (BeforeOrAfter header before entry (d.state first))
 
       module _ (fits : old.gate + 6 + length (spelling entry) ≤ old.limit) where
-        pub added : (mid new : Parts D C) (reply : Reply) (said : Result Answer DeskFault) → is_accepted (Ok reply) ≡ true → IsTrue (is_not_before old.office.last t)
+        pub added : (mid new : EngineView D C) (reply : Reply) (said : Result Answer DeskFault) → is_accepted (Ok reply) ≡ true → IsTrue (is_not_before old.office.last t)
             → ((p : Office) → StandsForOffice old.office p → Does (step t command p) p mid.office (Ok reply))
             → mid.office.accepted ≡ accepted_after (Ok reply) old.office.accepted → mid.disk ≡ old.disk → new.office ≡ mid.office → new.limit ≡ old.limit
-            → Adds d t number (Ok reply) before entry mid new said → Keeping new said
+            → AddsEntry d t number (Ok reply) before entry mid new said → Keeping new said
         added mid new reply (Ok said) accepts later all counted same office limit adds =
             let does = all hold.office.plain hold.office.stands in
             let replied : said.reply ≡ Ok reply = ap (λ (a : Answer). a.reply) adds.0 in
@@ -138,14 +137,22 @@ module _ {D C : Type 0} (d : disks.Ghosts D) where
         added mid new reply (Err (faults.Broken fault)) accepts later all counted same office limit adds = absurd adds
         added mid new reply (Err faults.NoMemory) accepts later all counted same office limit adds = absurd adds
 
-        unaccepted_stays : (new : Parts D C) (reply : Result Reply Refusal) → is_accepted reply ≡ false → Does expected hold.office.plain new.office reply → new.office.accepted ≡ accepted_after reply old.office.accepted
+        unaccepted_stays : (new : EngineView D C) (reply : Result Reply Refusal) → is_accepted reply ≡ false
+            → Does expected hold.office.plain new.office reply → new.office.accepted ≡ accepted_after reply old.office.accepted
             → new.disk ≡ old.disk → new.gate ≡ old.gate → new.limit ≡ old.limit → Stays d before old new
         unaccepted_stays new reply not_accepted does counted disk gate limit =
-            stayed_as new (record { office = same_after before entry old.office new.office reply hold.office not_accepted does counted; end = hold.end; limit = hold.limit; at_rest = hold.at_rest }) disk gate limit
+            stayed_as new (record {
+              office = same_after before entry old.office new.office reply hold.office not_accepted does counted;
+              end = hold.end;
+              limit = hold.limit;
+              at_rest = hold.at_rest;
+            }) disk gate limit
 
         -- an answer that is not accepted, and not for want of memory
-        pub unaccepted : (m : ℕ) (new : Parts D C) (reply : Result Reply Refusal) (said : Answer) → m ≡ t → is_accepted reply ≡ false → (reply ≡ Err NoMemory → ⊥) → Does expected hold.office.plain new.office reply
-            → new.office.accepted ≡ accepted_after reply old.office.accepted → new.disk ≡ old.disk → new.gate ≡ old.gate → new.limit ≡ old.limit → said ≡ made m number reply new → Keeping new (Ok said)
+        pub unaccepted : (m : ℕ) (new : EngineView D C) (reply : Result Reply Refusal) (said : Answer) → m ≡ t → is_accepted reply ≡ false
+            → (reply ≡ Err NoMemory → ⊥) → Does expected hold.office.plain new.office reply
+            → new.office.accepted ≡ accepted_after reply old.office.accepted → new.disk ≡ old.disk → new.gate ≡ old.gate
+            → new.limit ≡ old.limit → said ≡ made m number reply new → Keeping new (Ok said)
         unaccepted m new reply said at not_accepted other does counted disk gate limit same =
             let replied : said.reply ≡ reply = ap (λ (a : Answer). a.reply) same in (
               is_made t m number reply new said at same,
@@ -156,6 +163,6 @@ module _ {D C : Type 0} (d : disks.Ghosts D) where
               ),
             )
 
-        pub wanting : (new : Parts D C) (refusal : Refusal) → Does expected hold.office.plain new.office (Err refusal) → new.office.accepted ≡ accepted_after (Err refusal) old.office.accepted
+        pub wanting : (new : EngineView D C) (refusal : Refusal) → Does expected hold.office.plain new.office (Err refusal) → new.office.accepted ≡ accepted_after (Err refusal) old.office.accepted
             → new.disk ≡ old.disk → new.gate ≡ old.gate → new.limit ≡ old.limit → Keeping new (Err faults.NoMemory)
         wanting new refusal does counted disk gate limit = unaccepted_stays new (Err refusal) refl does counted disk gate limit

@@ -12,14 +12,14 @@ use Rattle.disk_core.proofs.Time.{started, joined}
 use Rattle.office_types.specs.declared.command.Ask.{Ask}
 use Rattle.desk_core.specs.declared.clock.Clock as clocks
 use Rattle.desk_core.specs.Answers.{Answer, Call}
-use Rattle.desk_core.specs.Asking.{Submits}
-use Rattle.desk_core.specs.Desk.{DeskView, StandsFor, IsNumber}
+use Rattle.desk_core.specs.Submitting.{Submits}
+use Rattle.desk_core.specs.Desk.{DeskView, StandsFor}
 use Rattle.desk_core.specs.Serving.{Opened, Recoverable, KeepsSlots}
 use Rattle.desk_core.specs.declared.fault.DeskFault.{DeskFault}
 use Rattle.desk_core.specs.declared.fault.DeskFault.TheVariants as faults
 use Rattle.desk_core.proofs.Narrowing.{recoverable_more}
 use Rattle.desk_core.specs.Turns.{Moves}
-use Rattle.desk_core.specs.Numbers.{BeginsWith, AreNumbers}
+use Rattle.desk_core.specs.Numbers.{BeginsWith, IsNumber, AreNumbers}
 use Rattle.desk_core.specs.Runs.{stale_by}
 
 pub rose_later : (a b c : ℕ) → a ≤ b → Rose b c → Rose a c
@@ -29,14 +29,18 @@ rose_on : (a b c : ℕ) → Rose a b → b ≤ c → Rose a c
 rose_on a b c rose le = omega (arith, rose, le)
 
 -- a number, then the others
-one_number : (said : Result Answer DeskFault) (a b c : Option (List ℕ)) (rest : List ℕ) → IsNumber a b said → Appends b c rest → (list : List ℕ) × BeginsWith said list rest × Appends a c list
-one_number (Ok answer) a b c rest is more = (answer.told ∷ rest, refl, Appends-trans a b c (answer.told ∷ []) rest is more)
-one_number (Err (faults.StoreFault (Some number) count)) a b c rest is more = (number ∷ rest, refl, Appends-trans a b c (number ∷ []) rest is more)
-one_number (Err (faults.StoreFault None count)) a b c rest is more = (rest, refl, Appends-trans a b c [] rest is more)
-one_number (Err faults.JournalFull) a b c rest is more = (is.0 ∷ rest, (is.0, refl), Appends-trans a b c (is.0 ∷ []) rest is.1 more)
-one_number (Err (faults.Broken fault)) a b c rest is more = (rest, refl, Appends-trans a b c [] rest is more)
-one_number (Err faults.NoMemory) a b c rest (inl is) more = (rest, inl refl, Appends-trans a b c [] rest is more)
-one_number (Err faults.NoMemory) a b c rest (inr is) more = (is.0 ∷ rest, inr (is.0, refl), Appends-trans a b c (is.0 ∷ []) rest is.1 more)
+begins_more : (said : Result Answer DeskFault) (numbers rest : List ℕ) → BeginsWith said numbers [] → BeginsWith said (numbers ++ rest) rest
+begins_more (Ok answer) numbers rest is = ap (λ (xs : List ℕ). xs ++ rest) is
+begins_more (Err (faults.StoreFault (Some number) count)) numbers rest is = ap (λ (xs : List ℕ). xs ++ rest) is
+begins_more (Err (faults.StoreFault None count)) numbers rest is = ap (λ (xs : List ℕ). xs ++ rest) is
+begins_more (Err faults.JournalFull) numbers rest is = (is.0, ap (λ (xs : List ℕ). xs ++ rest) is.1)
+begins_more (Err (faults.Broken fault)) numbers rest is = ap (λ (xs : List ℕ). xs ++ rest) is
+begins_more (Err faults.NoMemory) numbers rest (inl is) = inl (ap (λ (xs : List ℕ). xs ++ rest) is)
+begins_more (Err faults.NoMemory) numbers rest (inr is) = inr (is.0, ap (λ (xs : List ℕ). xs ++ rest) is.1)
+
+one_number : (said : Result Answer DeskFault) (a b c : Option (List ℕ)) (rest : List ℕ) → IsNumber a b said → Appends b c rest
+    → (list : List ℕ) × BeginsWith said list rest × Appends a c list
+one_number said a b c rest is more = (is.0 ++ rest, begins_more said is.0 rest is.1, Appends-trans a b c is.0 rest is.2 more)
 
 module _ {D C : Type 0} (d : disks.Ghosts D) (k : clocks.Ghosts C) where
   abbrev pub Step : DeskView D C → Ask → Result Answer DeskFault → DeskView D C → Type 0
@@ -58,7 +62,8 @@ module _ {D C : Type 0} (d : disks.Ghosts D) (k : clocks.Ghosts C) where
   clock_later old new [] path = omega (arith, ap (λ (s : DeskView D C). k.count s.clock) path)
   clock_later old new (call ∷ calls) path = omega (arith, path.1.clock_later, clock_later path.0 new calls path.2)
 
-  pub numbers_told : (old new : DeskView D C) (calls : List Call) → Path old calls new → k.count new.clock < 2 ^ 64 - 1 → (list : List ℕ) × AreNumbers calls list × Appends (k.told old.clock) (k.told new.clock) list
+  pub numbers_told : (old new : DeskView D C) (calls : List Call) → Path old calls new → k.count new.clock < 2 ^ 64 - 1
+      → (list : List ℕ) × AreNumbers calls list × Appends (k.told old.clock) (k.told new.clock) list
   numbers_told old new [] path few = ([], refl, subst (λ (s : DeskView D C). Appends (k.told old.clock) (k.told s.clock) []) (sym path) (Appends-nil (k.told old.clock)))
   numbers_told old new (call ∷ calls) path few =
       let later = numbers_told path.0 new calls path.2 few in
@@ -74,7 +79,8 @@ module _ {D C : Type 0} (d : disks.Ghosts D) (k : clocks.Ghosts C) where
   pub stale_rose : (old new : DeskView D C) (calls : List Call) → Path old calls new → new.stale ≡ true → (old.stale ≡ true) ⊎ Rose (d.fault_count old.disk) (d.fault_count new.disk)
   stale_rose old new [] path is = inl (sym (ap (λ (s : DeskView D C). s.stale) path) ∙ is)
   stale_rose old new (call ∷ calls) path is = ⊎_elim
-      (λ mid. ⊎_elim (λ before. inl before) (λ rose. inr (rose_on (d.fault_count old.disk) (d.fault_count path.0.disk) (d.fault_count new.disk) rose (disk_later path.0 new calls path.2))) (path.1.grows_stale mid))
+      (λ mid. ⊎_elim (λ before. inl before) (λ rose. inr (rose_on (d.fault_count old.disk) (d.fault_count path.0.disk) (d.fault_count new.disk) rose
+      (disk_later path.0 new calls path.2))) (path.1.grows_stale mid))
       (λ rose. inr (rose_later (d.fault_count old.disk) (d.fault_count path.0.disk) (d.fault_count new.disk) path.1.disk_later rose)) (stale_rose path.0 new calls path.2 is)
 
   -- ---- what the desk stands for, and what each image had at every moment since the entry
@@ -82,21 +88,22 @@ module _ {D C : Type 0} (d : disks.Ghosts D) (k : clocks.Ghosts C) where
   -- from the desk of the opening on
   pub record Followed (opening : D) (opened : Opened) (calls : List Call) (desk : DeskView D C) : Type 0 where
     pub stands : Stands opened calls desk
-    pub ran : IsTrue d.honest → KeepsTo d.state d.moment d.had_since opening desk.disk (Recoverable opened calls)
-    pub slots : IsTrue d.honest → KeepsTo d.state d.moment d.had_since opening desk.disk (KeepsSlots (d.state opening))
+    pub ran : IsTrue d.honest → KeepsTo d opening desk.disk (Recoverable opened calls)
+    pub slots : IsTrue d.honest → KeepsTo d opening desk.disk (KeepsSlots (d.state opening))
 
-  follow_on : (opening : D) (opened : Opened) (so_far : List Call) (old new : DeskView D C) (calls : List Call) → Followed opening opened so_far old → Path old calls new → Followed opening opened (so_far ++ calls) new
-  follow_on opening opened so_far old new [] followed path = subst (λ (s : DeskView D C). Followed opening opened (so_far ++ []) s) (sym path) (subst (λ (l : List Call). Followed opening opened l old) (sym (append-nil so_far)) followed)
+  follow_on : (opening : D) (opened : Opened) (so_far : List Call) (old new : DeskView D C) (calls : List Call)
+      → Followed opening opened so_far old → Path old calls new → Followed opening opened (so_far ++ calls) new
+  follow_on opening opened so_far old new [] followed path =
+      subst (λ (s : DeskView D C). Followed opening opened (so_far ++ []) s) (sym path)
+      (subst (λ (l : List Call). Followed opening opened l old) (sym (append-nil so_far)) followed)
   follow_on opening opened so_far old new (call ∷ calls) followed path =
       let went = path.1.stands opened so_far followed.stands in
       let next : Followed opening opened (so_far ++ call ∷ []) path.0 = record {
         stands = went.stands;
-        ran = λ tells. joined d.state d.moment d.had_since opening old.disk path.0.disk (Recoverable opened so_far) (Recoverable opened (so_far ++ call ∷ [])) (Recoverable opened (so_far ++ call ∷ []))
-            (recoverable_more opened so_far (call ∷ [])) (λ s p. p) (followed.ran tells) (went.any_moment tells);
+        ran = λ tells. joined (Recoverable opened (so_far ++ call ∷ [])) (followed.ran tells) (went.any_moment tells) (recoverable_more opened so_far (call ∷ [])) (λ s p. p);
         slots = λ tells.
             let run = followed.slots tells in
-            joined d.state d.moment d.had_since opening old.disk path.0.disk (KeepsSlots (d.state opening)) (KeepsSlots (d.state old.disk)) (KeepsSlots (d.state opening))
-            (λ s p. p) (λ s p. (p.0 ∙ run.now.0, p.1 ∙ run.now.1)) run (went.slots tells);
+            joined (KeepsSlots (d.state opening)) run (went.slots tells) (λ s p. p) (λ s p. (p.0 ∙ run.now.0, p.1 ∙ run.now.1));
       } in
       subst (λ (l : List Call). Followed opening opened l new) (append_assoc so_far (call ∷ []) calls) (follow_on opening opened (so_far ++ call ∷ []) path.0 new calls next path.2)
 
@@ -104,9 +111,9 @@ module _ {D C : Type 0} (d : disks.Ghosts D) (k : clocks.Ghosts C) where
     pub follow : (opened : Opened) (old new : DeskView D C) (calls : List Call) → Stands opened [] old → Path old calls new → Followed old.disk opened calls new
     follow opened old new calls stands path = follow_on old.disk opened [] old new calls (record {
       stands = stands;
-      ran = λ tells. started d.state d.moment d.had_since old.disk (Recoverable opened []) (only_now old.disk) (λ image is.
+      ran = λ tells. started d old.disk (Recoverable opened []) (only_now old.disk) (λ image is.
           let serves = stands.serves tells in
           let r = serves.left (d.moment old.disk) (d.state old.disk) image serves.later (omega arith) (counts_now old.disk (d.moment old.disk) (omega arith)) is in
           (r.history, r.count, r.has, r.most, r.legal));
-      slots = λ tells. started d.state d.moment d.had_since old.disk (KeepsSlots (d.state old.disk)) (only_now old.disk) (refl, refl);
+      slots = λ tells. started d old.disk (KeepsSlots (d.state old.disk)) (only_now old.disk) (refl, refl);
     }) path

@@ -1,13 +1,13 @@
 pub mod Adding
-pub mod Again
-pub mod Breaking
+pub mod Damage
 pub mod Following
-pub mod Keeping
 pub mod Narrowing
 pub mod Offices
-pub mod OneMore
+pub mod OneCallMore
 pub mod Opened
+pub mod Reopened
 pub mod Runs
+pub mod Serving
 pub mod Standing
 pub mod Submitted
 pub mod Told

@@ -4,15 +4,15 @@ use Rattle.std.proofs.lemmas.Bool.{cases_lt}
 use Rattle.std.proofs.lemmas.List.{take-append-le}
 use Rattle.disk_core.specs.declared.disk.Disk as disks
 use Rattle.disk_core.specs.Files.{State, IsImage}
-use Rattle.disk_core.specs.Kept.{Narrower}
+use Rattle.disk_core.specs.Fronts.{Narrower}
 use Rattle.disk_core.specs.Moments.{KeepsTo}
 use Rattle.disk_core.proofs.Time.{weakened}
 use Rattle.office_types.specs.declared.command.Entry.{Entry}
 use Rattle.desk_core.specs.Answers.{Answer, Call}
 use Rattle.desk_core.specs.Calls.{Legal}
-use Rattle.desk_core.specs.Histories.{HasAcceptedHistory, BeginsButOne}
-use Rattle.desk_core.specs.Serving.{IsAckedAt, IsToldBy, AreToldBy, Opened, Recoverable, Recovers, Agrees, Serves}
-use Rattle.desk_core.proofs.OneMore.{HasImageOf, last_faults, legal_append, acked_split, told_later, told_more}
+use Rattle.desk_core.specs.Histories.{HasAcceptedHistory, IsPrefixButOne}
+use Rattle.desk_core.specs.Serving.{IsAckedAt, IsToldBy, AreToldBy, Opened, Recoverable, Recovers, Agrees, DiskServes}
+use Rattle.desk_core.proofs.OneCallMore.{HasImageOf, last_faults, legal_append, acked_split, told_later, told_more}
 
 pub told_all : (calls : List Call) (before now : ℕ) → before ≤ now → AreToldBy before calls → AreToldBy now calls
 told_all [] before now le all = tt
@@ -38,15 +38,15 @@ module _ {D : Type 0} (d : disks.Ghosts D)
     (only_now : (disk : D) (s : State) → d.had_since disk (d.moment disk) s → s ≡ d.state disk)
     (since_earlier : (disk : D) (t u : ℕ) (s : State) → t ≤ u → d.had_since disk u s → d.had_since disk t s) where
   abbrev Serving : Opened → D → List Call → Type 0
-  Serving = Serves d
+  Serving = DiskServes d
 
-  pub run_more : (opened : Opened) (first disk : D) (calls more : List Call) → KeepsTo d.state d.moment d.had_since first disk (Recoverable opened calls) → KeepsTo d.state d.moment d.had_since first disk (Recoverable opened (calls ++ more))
+  pub run_more : (opened : Opened) (first disk : D) (calls more : List Call) → KeepsTo d first disk (Recoverable opened calls) → KeepsTo d first disk (Recoverable opened (calls ++ more))
   run_more opened first disk calls more run =
-      weakened d.state d.moment d.had_since first disk (Recoverable opened calls) (Recoverable opened (calls ++ more)) (recoverable_more opened calls more) run
+      weakened (Recoverable opened (calls ++ more)) run (recoverable_more opened calls more)
 
   -- ---- a disk with fewer images
 
-  module _ (opened : Opened) (old new : D) (calls : List Call) (serves : Serving opened old calls) (run : KeepsTo d.state d.moment d.had_since old new (Narrower (d.state old))) where
+  module _ (opened : Opened) (old new : D) (calls : List Call) (serves : Serving opened old calls) (run : KeepsTo d old new (Narrower (d.state old))) where
     old_now : (image : List ℕ) (t : ℕ) → opened.moment ≤ t → t ≤ d.moment old → IsImage (d.state old).journal image → Recovers opened calls t image
     old_now image t since le is = serves.left t (d.state old) image since le (counts_now old t le) is
 
@@ -82,12 +82,12 @@ module _ {D : Type 0} (d : disks.Ghosts D)
 
     -- what a crash of the old disk would have left is in each image of the new one, but for one entry at its end
     steady_old : (t : ℕ) (s : State) (image : List ℕ) (h : List Entry) → opened.moment ≤ t → t ≤ d.moment old → d.had_since old t s → IsImage s.journal image → HasAcceptedHistory h image
-        → (image_now : List ℕ) (now : List Entry) → IsImage (d.state new).journal image_now → HasAcceptedHistory now image_now → BeginsButOne h now
+        → (image_now : List ℕ) (now : List Entry) → IsImage (d.state new).journal image_now → HasAcceptedHistory now image_now → IsPrefixButOne h now
     steady_old t s image h since le had is stands image_now now is_now stands_now =
         serves.steady t s image h since le had is stands image_now now (run.now.journal image_now is_now) stands_now
 
     steady_narrower : (t : ℕ) (s : State) (image : List ℕ) (h : List Entry) → opened.moment ≤ t → d.had_since new t s → IsImage s.journal image → HasAcceptedHistory h image
-        → (image_now : List ℕ) (now : List Entry) → IsImage (d.state new).journal image_now → HasAcceptedHistory now image_now → BeginsButOne h now
+        → (image_now : List ℕ) (now : List Entry) → IsImage (d.state new).journal image_now → HasAcceptedHistory now image_now → IsPrefixButOne h now
     steady_narrower t s image h since had is stands image_now now is_now stands_now = elim (cases_lt (d.moment old) t) [
       | inl later ↦
           let narrow = run.each s (since_earlier new (d.moment old) t s (omega (arith, later)) had) in
@@ -112,8 +112,8 @@ module _ {D : Type 0} (d : disks.Ghosts D)
         let was = old_now image (d.moment old) serves.later (omega arith) (narrow.journal image is) in
         (was.history, was.count, was.has, was.most, was.legal)
 
-    pub narrowed_run : KeepsTo d.state d.moment d.had_since old new (Recoverable opened calls)
-    narrowed_run = weakened d.state d.moment d.had_since old new (Narrower (d.state old)) (Recoverable opened calls) narrower_front run
+    pub narrowed_run : KeepsTo d old new (Recoverable opened calls)
+    narrowed_run = weakened (Recoverable opened calls) run narrower_front
 
   -- ---- a call that changes nothing
 
@@ -131,7 +131,8 @@ module _ {D : Type 0} (d : disks.Ghosts D)
       acked = λ place answer is le. was.acked place answer (before_it place answer is) le;
     }
 
-    pub idle : ((history : List Entry) → HasImageOf (d.state disk) history → Legal true opened.limit (last_faults opened.faults calls) (call ∷ []) history history) → IsToldBy (d.fault_count disk) call.said → Serving opened disk (calls ++ call ∷ [])
+    pub idle : ((history : List Entry) → HasImageOf (d.state disk) history → Legal true opened.limit (last_faults opened.faults calls) (call ∷ []) history history)
+        → IsToldBy (d.fault_count disk) call.said → Serving opened disk (calls ++ call ∷ [])
     idle stays told = record {
       later = serves.later;
       left = λ t s image since le had is. recovers_idle t image (serves.left t s image since le had is);

@@ -1,7 +1,6 @@
 -- The office in memory after one entry more.
-use Rattle.std.proofs.Common.{◌≡◌, inl, inr, ℕ, ◌+◌, ◌*◌, ◌^◌, ◌<◌, ◌≤◌, Bool, true, false, if◌then◌else◌, List, [], ◌∷◌, ◌++◌, length, Option, Some, None, Result, Ok, Err, sym, ap, ◌∙◌, subst, arith, length-append}
+use Rattle.std.proofs.Common.{◌≡◌, inl, inr, ℕ, ◌+◌, ◌^◌, ◌<◌, ◌≤◌, Bool, true, false, if◌then◌else◌, List, [], ◌∷◌, ◌++◌, Option, Some, None, Result, Ok, Err, sym, ap, ◌∙◌, subst, arith, length-append}
 use Rattle.std.specs.Prelude.{IsTrue}
-use Rattle.std.specs.List.{flat_map}
 use Rattle.plain_office.specs.Office.{Office, empty_office}
 use Rattle.plain_office.specs.Step.{step, is_accepted}
 use Rattle.plain_office.specs.Run.{accept, is_not_before}
@@ -14,9 +13,8 @@ use Rattle.office_types.specs.declared.refusal.Refusal.TheVariants.{NoMemory}
 use Rattle.plain_office.proofs.Runs.{IsStep, accepted_by, refused_by, nothing_by, step_refused, step_nothing, run_more, run_none}
 use Rattle.bucket_account.specs.Standing.{most_commands}
 use Rattle.office_machine.specs.Standing.{Records, StandsForOffice, Does, accepted_after}
-use Rattle.entry_codec.specs.Spelling.{spelling}
-use Rattle.entry_codec.proofs.Sizes.{spelling_long}
-use Rattle.meter_journal.specs.History.{framed, whole, header, end_gate}
+use Rattle.meter_journal.specs.History.{header, end_gate}
+use Rattle.meter_journal.proofs.History.{gate_high}
 use Rattle.desk_core.specs.Offices.{StandsAfter}
 
 abbrev Answer : Type 0
@@ -114,14 +112,5 @@ same_after history e old new answer is not_accepted does counted = record {
 
 -- ---- how many commands a journal holds
 
-frames_long : (entries : List Entry) → 14 * length entries ≤ length (flat_map (λ e. 0xA5 ∷ framed (spelling e)) entries)
-frames_long [] = omega arith
-frames_long (e ∷ entries) = omega (arith, frames_long entries, spelling_long e, length-append (0xA5 ∷ framed (spelling e)) (flat_map (λ (e : Entry). 0xA5 ∷ framed (spelling e)) entries))
-
--- a frame has a gate, a length and nine bytes at least
-pub gate_high : (history : List Entry) → 14 * length history ≤ end_gate header history
-unfolding whole
-gate_high history = omega (arith, frames_long history, length-append header (flat_map (λ (e : Entry). 0xA5 ∷ framed (spelling e)) history))
-
 pub few : (history : List Entry) (records : Records) (gate : ℕ) → StandsAfter history records → gate ≡ end_gate header history → gate ≤ 2 ^ 45 → records.accepted < most_commands
-few history records gate is end small = omega (arith, is.counted, end, small, gate_high history)
+few history records gate is end small = omega (arith, is.counted, end, small, gate_high header history)

@@ -3,20 +3,20 @@ use Rattle.std.proofs.Common.{◌≡◌, ℕ, ◌≤◌, ◌^◌, false, length,
 use Rattle.std.specs.Prelude.{IsTrue, OnOk, IfErr}
 use Rattle.disk_core.specs.declared.disk.Disk as disks
 use Rattle.disk_core.specs.Files.{State, File, IsImage, synced_file}
-use Rattle.disk_core.specs.Kept.{Narrower}
+use Rattle.disk_core.specs.Fronts.{Narrower}
 use Rattle.disk_core.specs.Moments.{KeepsTo, Untouched}
 use Rattle.disk_core.proofs.Time.{then_untouched}
 use Rattle.meter_journal.specs.History.{header, IsAtRest}
 use Rattle.meter_journal.specs.Reading.{IsMade}
 use Rattle.meter_journal.proofs.History.{each_image}
 use Rattle.meter_journal.specs.declared.fault.OpenFault.{OpenFault}
-use Rattle.desk_core.specs.Asking.{Reopens}
-use Rattle.desk_core.specs.Breaking.{HasReplayed}
+use Rattle.desk_core.specs.Submitting.{Reopens}
+use Rattle.desk_core.specs.Damage.{HasReplayed}
 use Rattle.desk_core.specs.Histories.{HasAcceptedHistory}
-use Rattle.desk_core.specs.Desk.{Parts}
+use Rattle.desk_core.specs.Desk.{EngineView}
 use Rattle.desk_core.specs.Opening.{Opens, opened_with}
-use Rattle.desk_core.proofs.Keeping.{rest_image, unique}
-use Rattle.desk_core.proofs.OneMore.{starts}
+use Rattle.desk_core.proofs.Serving.{rest_image, unique}
+use Rattle.desk_core.proofs.OneCallMore.{starts}
 use Rattle.desk_core.proofs.Standing.{view_of, same_parts, still_true}
 
 pub on_done : {P Q : Type 0} (r : Result Unit OpenFault) → (P → Q) → OnOk r P → OnOk r Q
@@ -33,16 +33,17 @@ module _ {D : Type 0} {C : Type 0} (d : disks.Ghosts D)
     (since_earlier : (disk : D) (t u : ℕ) (s : State) → t ≤ u → d.had_since disk u s → d.had_since disk t s)
     (own : IsTrue d.honest → (disk : D) → IsImage (d.state disk).journal (d.state disk).journal.seen) where
   -- all entries of the journal were read
-  pub reopened : (old office : Parts D C) (begun : D) (size : ℕ) → HasReplayed d begun office.disk office.gate office.office → office.limit ≡ old.limit → old.limit ≤ 2 ^ 45 → office.clock ≡ old.clock
+  pub reopened : (old office : EngineView D C) (begun : D) (size : ℕ) → HasReplayed d begun office.disk office.gate office.office → office.limit ≡ old.limit → old.limit ≤ 2 ^ 45
+      → office.clock ≡ old.clock
       → (IsTrue d.honest → IsMade (d.state old.disk).journal.seen × (size ≡ length (d.state begun).journal.seen) × ((d.state begun).journal ≡ synced_file (d.state old.disk).journal.seen))
-      → (IsTrue d.honest → KeepsTo d.state d.moment d.had_since old.disk begun (Narrower (d.state old.disk))) → (IsTrue d.honest → Untouched d.state d.moment d.had_since begun office.disk) → d.fault_count old.disk ≤ d.fault_count office.disk
+      → (IsTrue d.honest → KeepsTo d old.disk begun (Narrower (d.state old.disk))) → (IsTrue d.honest → Untouched d begun office.disk) → d.fault_count old.disk ≤ d.fault_count office.disk
       → Reopens d old office
   reopened old office begun size read limit_is small clock_is begin run untouched later = record {
     history = read.history;
     holds = record { office = read.office_is; end = read.end; limit = subst (λ (n : ℕ). n ≤ 2 ^ 45) (sym limit_is) small; at_rest = rests };
     read = λ tells. subst (HasAcceptedHistory read.history) (seen_is tells)
         (rest_image (d.state office.disk) office.gate read.history read.office_is.plain (rests tells) read.office_is.is_run (d.state office.disk).journal.seen (own tells office.disk));
-    any_moment = λ tells. then_untouched d.state d.moment d.had_since old.disk begun office.disk (Narrower (d.state old.disk)) (run tells) (untouched tells);
+    any_moment = λ tells. then_untouched (run tells) (untouched tells);
     clock = clock_is;
     limit = limit_is;
     later = later;
@@ -55,7 +56,7 @@ module _ {D : Type 0} {C : Type 0} (d : disks.Ghosts D)
       seen_is tells = ap (λ (s : State). s.journal.seen) (untouched tells).now ∙ ap (λ (f : File). f.seen) (begin tells).2
 
   -- the desk over them stands for no call yet
-  pub opened : (old office : Parts D C) → Reopens d old office → Opens d old.disk old.clock old.limit (view_of office false)
+  pub opened : (old office : EngineView D C) → Reopens d old office → Opens d old.disk old.clock old.limit (view_of office false)
   opened old office again = record {
     history = again.history;
     stands = record {

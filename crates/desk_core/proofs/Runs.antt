@@ -4,7 +4,6 @@ use Rattle.std.specs.Prelude.{IsTrue}
 use Rattle.std.specs.Io.KnownBytes.{Appends}
 use Rattle.disk_core.specs.declared.disk.Disk as disks
 use Rattle.disk_core.specs.Files.{State, IsImage}
-use Rattle.disk_core.specs.Kept.{Narrower}
 use Rattle.disk_core.proofs.Time.{joined}
 use Rattle.meter_journal.specs.History.{header}
 use Rattle.meter_journal.proofs.Unique.{entries_unique}
@@ -14,15 +13,15 @@ use Rattle.plain_office.proofs.Runs.{run_none}
 use Rattle.desk_core.specs.declared.clock.Clock as clocks
 use Rattle.desk_core.specs.Answers.{Call}
 use Rattle.desk_core.specs.Calls.{Legal}
-use Rattle.desk_core.specs.Desk.{DeskView, parts_of, Holds, StandsFor}
+use Rattle.desk_core.specs.Desk.{DeskView, engine_of, HoldsHistory, StandsFor}
 use Rattle.desk_core.specs.Numbers.{AreNumbers}
 use Rattle.desk_core.specs.Opening.{Opens, opened_with}
 use Rattle.desk_core.specs.Runs.{KeepsHistories, KeepsCalls, AnswersCalls, outside, stale_by}
-use Rattle.desk_core.specs.Serving.{Opened, KeepsSlots, Serves}
-use Rattle.desk_core.proofs.Again.{by_honesty, honest_legal}
+use Rattle.desk_core.specs.Serving.{Opened, KeepsSlots, DiskServes}
+use Rattle.desk_core.proofs.Reopened.{by_honesty, honest_legal}
 use Rattle.desk_core.proofs.Following.{Path, Followed, follow, numbers_told, stale_is}
-use Rattle.desk_core.proofs.Keeping.{rest_image, some_run}
-use Rattle.desk_core.proofs.OneMore.{calls_grow}
+use Rattle.desk_core.proofs.Serving.{rest_image, some_run}
+use Rattle.desk_core.proofs.OneCallMore.{calls_grow}
 use Rattle.desk_core.proofs.Standing.{still_true}
 
 module _ {D C : Type 0} (d : disks.Ghosts D) (k : clocks.Ghosts C)
@@ -31,15 +30,19 @@ module _ {D C : Type 0} (d : disks.Ghosts D) (k : clocks.Ghosts C)
     (own : IsTrue d.honest → (disk : D) → IsImage (d.state disk).journal (d.state disk).journal.seen) where
   -- a history to which the calls lead, and which the desk holds if it is not stale
   abbrev Led : Opened → List Call → DeskView D C → Type 0
-  Led opened calls desk = (history : List Entry) × Legal d.honest opened.limit opened.faults calls opened.history history × (desk.stale ≡ false → Holds d history (parts_of desk))
+  Led opened calls desk = (history : List Entry) × Legal d.honest opened.limit opened.faults calls opened.history history × (desk.stale ≡ false → HoldsHistory d history (engine_of desk))
 
   led_stale : (opened : Opened) (calls : List Call) (desk : DeskView D C) → StandsFor d opened calls desk → desk.stale ≡ true → Led opened calls desk
   led_stale opened calls desk s stale = by_honesty d.honest
       (λ tells.
       let seen = (d.state desk.disk).journal.seen in
       let serves = s.serves tells in
-      let recovers = serves.left (d.moment desk.disk) (d.state desk.disk) seen serves.later (omega arith) (counts_now desk.disk (d.moment desk.disk) (omega arith)) (own tells desk.disk) in
-      (recovers.history, honest_legal d.honest opened.limit opened.faults calls opened.history recovers.history tells (serves.whole seen recovers.history (own tells desk.disk) recovers.has), λ fresh. absurd (still_true desk.stale stale fresh)))
+      let recovers = serves.left (d.moment desk.disk) (d.state desk.disk) seen serves.later (omega arith) (counts_now desk.disk (d.moment desk.disk) (omega arith)) (own tells desk.disk) in (
+        recovers.history,
+        honest_legal d.honest opened.limit opened.faults calls opened.history recovers.history tells
+            (serves.whole seen recovers.history (own tells desk.disk) recovers.has),
+        λ fresh. absurd (still_true desk.stale stale fresh),
+      ))
       (λ not. ([], s.lost not stale [] (some_run [] empty_office run_none), λ fresh. absurd (still_true desk.stale stale fresh)))
 
   led : (opened : Opened) (calls : List Call) (desk : DeskView D C) → StandsFor d opened calls desk → Led opened calls desk
@@ -49,7 +52,7 @@ module _ {D C : Type 0} (d : disks.Ghosts D) (k : clocks.Ghosts C)
       by_bool true is_true is_false = is_true refl
       by_bool false is_true is_false = is_false refl
 
-  keeps_histories : (opened : Opened) (calls : List Call) (disk : D) → Serves d opened disk calls → KeepsHistories d opened disk
+  keeps_histories : (opened : Opened) (calls : List Call) (disk : D) → DiskServes d opened disk calls → KeepsHistories d opened disk
   keeps_histories opened calls disk serves t s image from to had is =
       let r = serves.left t s image from to had is in (
         r.history,
@@ -60,7 +63,7 @@ module _ {D C : Type 0} (d : disks.Ghosts D) (k : clocks.Ghosts C)
 
   keeps_calls : (disk : D) (clock : C) (limit : ℕ) (old new : DeskView D C) (calls : List Call) (opens : Opens d disk clock limit old)
       (followed : Followed d k old.disk (opened_with d opens.history old) calls new)
-      → Path d k old calls new → (history : List Entry) → (new.stale ≡ false → Holds d history (parts_of new)) → IsTrue d.honest
+      → Path d k old calls new → (history : List Entry) → (new.stale ≡ false → HoldsHistory d history (engine_of new)) → IsTrue d.honest
       → KeepsCalls d disk new.disk (opened_with d opens.history old) calls history
   keeps_calls disk clock limit old new calls opens followed path history holds tells = record {
     read = opens.read tells;
@@ -76,8 +79,7 @@ module _ {D C : Type 0} (d : disks.Ghosts D) (k : clocks.Ghosts C)
         rest_image (d.state new.disk) new.gate history h.office.plain (h.at_rest tells) h.office.is_run image is;
     slots =
         let first = opens.any_moment tells in
-        joined d.state d.moment d.had_since disk old.disk new.disk (Narrower (d.state disk)) (KeepsSlots (d.state old.disk)) (KeepsSlots (d.state disk))
-        (λ s narrow. (narrow.slot0, narrow.slot1)) (λ s keeps. (keeps.0 ∙ first.now.slot0, keeps.1 ∙ first.now.slot1)) first (followed.slots tells);
+        joined (KeepsSlots (d.state disk)) first (followed.slots tells) (λ s narrow. (narrow.slot0, narrow.slot1)) (λ s keeps. (keeps.0 ∙ first.now.slot0, keeps.1 ∙ first.now.slot1));
   }
 
   -- an office that was opened answers the calls by which its desk moved
@@ -93,6 +95,7 @@ module _ {D C : Type 0} (d : disks.Ghosts D) (k : clocks.Ghosts C)
         limit_is = opens.limit_is;
         history = lead.0;
         legal = lead.1;
+        calls_are = record { first = old; opens = opens; opened_is = refl; last = new; moved = path; disk = refl; clock = refl };
         faults = (opens.later, followed.stands.faults.1);
         numbers = λ few. subst (λ (c : C). (list : List ℕ) × AreNumbers calls list × Appends (k.told c) (k.told new.clock) list) opens.clock_is (numbers_told d k old new calls path few);
         disk = λ tells. keeps_calls disk clock limit old new calls opens followed path lead.0 lead.2 tells;

@@ -9,12 +9,12 @@ use Rattle.disk_core.specs.Moments.{KeepsTo}
 use Rattle.disk_core.proofs.Time.{started, weakened}
 use Rattle.plain_office.specs.Office.{Office}
 use Rattle.plain_office.specs.Step.{step, is_accepted}
-use Rattle.plain_office.specs.Run.{entry_at}
 use Rattle.office_types.specs.declared.command.Ask.{Ask}
 use Rattle.office_types.specs.declared.command.Ask.TheVariants as ask
 use Rattle.office_types.specs.declared.command.Command.{Command}
 use Rattle.office_types.specs.declared.command.Entry.{Entry}
 use Rattle.office_types.specs.declared.refusal.Refusal.TheVariants.{ClockEnd}
+use Rattle.office_types.specs.Entries.{entry_at}
 use Rattle.plain_office.proofs.Runs.{run_more}
 use Rattle.entry_codec.specs.Spelling.{spelling}
 use Rattle.entry_codec.proofs.Sizes.{same_length}
@@ -24,12 +24,12 @@ use Rattle.desk_core.specs.declared.fault.DeskFault.{DeskFault}
 use Rattle.desk_core.specs.declared.fault.DeskFault.TheVariants as faults
 use Rattle.desk_core.specs.Answers.{Answer, Call}
 use Rattle.desk_core.specs.Calls.{Legal, IsLegal, IsReply, IsFull, IsKeptAt, moment_after}
-use Rattle.desk_core.specs.Serving.{Opened, IsToldBy, AreToldBy, KeepsSlots, Serves}
-use Rattle.desk_core.specs.Asking.{PassesLimit}
-use Rattle.desk_core.specs.Desk.{Parts, DeskView, parts_of, Holds, GoesOn, stale_after}
-use Rattle.desk_core.specs.Keeping.{IsAnswerOf, Grows, Fails, IsDone, HasFailed, Keeps, IsEnded, Answers, Asks}
-use Rattle.desk_core.proofs.Keeping.{one_legal, rose_from, last_below, unique, makes_still, makes_grown, makes_failed}
-use Rattle.desk_core.proofs.OneMore.{last_faults, IsKept, Makes, one_more, recoverable, legal_append, told_more}
+use Rattle.desk_core.specs.Serving.{Opened, IsToldBy, AreToldBy, KeepsSlots, DiskServes}
+use Rattle.desk_core.specs.Submitting.{PassesLimit}
+use Rattle.desk_core.specs.Desk.{EngineView, DeskView, engine_of, HoldsHistory, GoesOn, stale_after}
+use Rattle.desk_core.specs.Answering.{IsAnswerOf, Grows, StoreFails, IsDoneAt, HasFailed, AnswersInTime, AnswersEnded, AnswersAt, AnswersAsk}
+use Rattle.desk_core.proofs.Serving.{one_legal, rose_from, last_below, unique, makes_still, makes_grown, makes_failed}
+use Rattle.desk_core.proofs.OneCallMore.{last_faults, IsKept, Makes, one_more, recoverable, legal_append, told_more}
 
 -- ---- legal answers
 
@@ -42,7 +42,7 @@ still_true true is not = absurd cc
 still_true false is not = absurd cc
 
 module _ {D : Type 0} {C : Type 0} (d : disks.Ghosts D) where
-  module _ (b : Bool) (limit counted t number : ℕ) (question : Ask) (office : Office) (said : Answer) (before after : List Entry) (new : Parts D C)
+  module _ (b : Bool) (limit counted t number : ℕ) (question : Ask) (office : Office) (said : Answer) (before after : List Entry) (new : EngineView D C)
       (at : t ≡ moment_after number office.last) (made : IsAnswerOf d.moment t number new said) (end : new.gate ≡ end_gate header after) where
     at_moment : said.moment ≡ moment_after said.told office.last
     at_moment = made.moment ∙ at ∙ ap (λ (n : ℕ). moment_after n office.last) (sym made.told)
@@ -64,30 +64,31 @@ module _ {D : Type 0} {C : Type 0} (d : disks.Ghosts D) where
     }
 
 -- the desk over this office
-abbrev pub view_of : {D C : Type 0} → Parts D C → Bool → DeskView D C
+abbrev pub view_of : {D C : Type 0} → EngineView D C → Bool → DeskView D C
 view_of parts stale = record { disk = parts.disk; clock = parts.clock; office = parts.office; gate = parts.gate; limit = parts.limit; stale = stale }
 
-pub same_parts : {D C : Type 0} (d : disks.Ghosts D) (history : List Entry) (parts : Parts D C) (stale : Bool) → Holds d history parts → Holds d history (parts_of (view_of parts stale))
+pub same_parts : {D C : Type 0} (d : disks.Ghosts D) (history : List Entry) (parts : EngineView D C) (stale : Bool) → HoldsHistory d history parts
+    → HoldsHistory d history (engine_of (view_of parts stale))
 same_parts d history parts stale h = record { office = h.office; end = h.end; limit = h.limit; at_rest = h.at_rest }
 
 -- an office over its journal stands for a list of calls since the opening of its desk
-pub record StandsAt {D C : Type 0} (d : disks.Ghosts D) (opened : Opened) (calls : List Call) (parts : Parts D C) : Type 0 where
+pub record StandsAt {D C : Type 0} (d : disks.Ghosts D) (opened : Opened) (calls : List Call) (parts : EngineView D C) : Type 0 where
   pub limit : parts.limit ≡ opened.limit
   pub faults : (opened.faults ≤ d.fault_count parts.disk) × AreToldBy (d.fault_count parts.disk) calls
   pub history : List Entry
   pub legal : Legal d.honest opened.limit opened.faults calls opened.history history
-  pub holds : Holds d history parts
-  pub serves : IsTrue d.honest → Serves d opened parts.disk calls
+  pub holds : HoldsHistory d history parts
+  pub serves : IsTrue d.honest → DiskServes d opened parts.disk calls
 
 module _ {D : Type 0} {C : Type 0} (d : disks.Ghosts D)
     (counts_now : (disk : D) (t : ℕ) → t ≤ d.moment disk → d.had_since disk t (d.state disk))
     (only_now : (disk : D) (s : State) → d.had_since disk (d.moment disk) s → s ≡ d.state disk)
     (since_earlier : (disk : D) (t u : ℕ) (s : State) → t ≤ u → d.had_since disk u s → d.had_since disk t s)
     (own : IsTrue d.honest → (disk : D) → IsImage (d.state disk).journal (d.state disk).journal.seen) where
-  abbrev Stands : Opened → List Call → Parts D C → Type 0
+  abbrev Stands : Opened → List Call → EngineView D C → Type 0
   Stands opened calls parts = StandsAt d opened calls parts
 
-  at_clock : (opened : Opened) (calls : List Call) (parts : Parts D C) (clock : C) → Stands opened calls parts → Stands opened calls (record parts { clock = clock })
+  at_clock : (opened : Opened) (calls : List Call) (parts : EngineView D C) (clock : C) → Stands opened calls parts → Stands opened calls (record parts { clock = clock })
   at_clock opened calls parts clock s = record {
     limit = s.limit;
     faults = s.faults;
@@ -97,21 +98,27 @@ module _ {D : Type 0} {C : Type 0} (d : disks.Ghosts D)
     serves = s.serves;
   }
 
-  module _ (old new : Parts D C) (same_limit : new.limit ≡ old.limit) (later : d.fault_count old.disk ≤ d.fault_count new.disk) (opened : Opened) (calls : List Call) (s : Stands opened calls old) where
+  module _ (old new : EngineView D C) (same_limit : new.limit ≡ old.limit) (later : d.fault_count old.disk ≤ d.fault_count new.disk)
+      (opened : Opened) (calls : List Call) (s : Stands opened calls old) where
     abbrev last : ℕ
     last = last_faults opened.faults calls
 
     abbrev Next : Call → Type 0
     Next call = GoesOn d opened (calls ++ call ∷ []) old.disk (view_of new (stale_after false call.said))
 
-    grown_by : (call : Call) (after : List Entry) → ((b : Bool) → Legal b opened.limit last (call ∷ []) s.history after) → (stale_after false call.said ≡ false → Holds d after new)
-        → ((IsTrue d.honest → ⊥) → stale_after false call.said ≡ true → (history : List Entry) → Legal d.honest opened.limit last (call ∷ []) s.history history) → IsToldBy (d.fault_count new.disk) call.said
-        → (IsTrue d.honest → KeepsTo d.state d.moment d.had_since old.disk new.disk (KeepsSlots (d.state old.disk))) → (IsTrue d.honest → Makes d old.disk new.disk opened.limit last call) → Next call
+    grown_by : (call : Call) (after : List Entry) → ((b : Bool) → Legal b opened.limit last (call ∷ []) s.history after) → (stale_after false call.said ≡ false → HoldsHistory d after new)
+        → ((IsTrue d.honest → ⊥) → stale_after false call.said ≡ true → (history : List Entry) → Legal d.honest opened.limit last (call ∷ []) s.history history)
+        → IsToldBy (d.fault_count new.disk) call.said
+        → (IsTrue d.honest → KeepsTo d old.disk new.disk (KeepsSlots (d.state old.disk))) → (IsTrue d.honest → Makes d old.disk new.disk opened.limit last call) → Next call
     grown_by call after rule holds lost told slots makes = record {
       stands = record {
         limit = same_limit ∙ s.limit;
         faults = (omega (arith, later, s.faults.0), told_more calls call (d.fault_count old.disk) (d.fault_count new.disk) later s.faults.1 told);
-        holds = λ fine. (after, legal_append d.honest opened.limit opened.faults calls (call ∷ []) opened.history s.history after s.legal (rule d.honest), same_parts d after new (stale_after false call.said) (holds fine));
+        holds = λ fine. (
+          after,
+          legal_append d.honest opened.limit opened.faults calls (call ∷ []) opened.history s.history after s.legal (rule d.honest),
+          same_parts d after new (stale_after false call.said) (holds fine),
+        );
         lost = λ not is history some. legal_append d.honest opened.limit opened.faults calls (call ∷ []) opened.history s.history history s.legal (lost not is history);
         serves = λ tells. one_more d counts_now only_now since_earlier opened old.disk new.disk calls call (s.serves tells) (makes tells);
       };
@@ -120,25 +127,30 @@ module _ {D : Type 0} {C : Type 0} (d : disks.Ghosts D)
     }
 
     -- the slots stay while an entry is added
-    adding_keeps : (before : List Entry) (entry : Entry) → KeepsTo d.state d.moment d.had_since old.disk new.disk (BeforeOrAfter header before entry (d.state old.disk)) → KeepsTo d.state d.moment d.had_since old.disk new.disk (KeepsSlots (d.state old.disk))
-    adding_keeps before entry run = weakened d.state d.moment d.had_since old.disk new.disk (BeforeOrAfter header before entry (d.state old.disk)) (KeepsSlots (d.state old.disk)) (λ t both. (both.slot0, both.slot1)) run
+    adding_keeps : (before : List Entry) (entry : Entry)
+        → KeepsTo d old.disk new.disk (BeforeOrAfter header before entry (d.state old.disk))
+        → KeepsTo d old.disk new.disk (KeepsSlots (d.state old.disk))
+    adding_keeps before entry run = weakened (KeepsSlots (d.state old.disk)) run (λ t both. (both.slot0, both.slot1))
 
-    abbrev held : Holds d s.history old
+    abbrev held : HoldsHistory d s.history old
     held = s.holds
 
     abbrev plain : Office
     plain = held.office.plain
 
     -- a call that wrote nothing
-    still_by : (call : Call) → stale_after false call.said ≡ false → new.disk ≡ old.disk → Holds d s.history new → ((b : Bool) → IsLegal b opened.limit last call.ask call.said plain s.history s.history) → IsToldBy (d.fault_count new.disk) call.said
+    still_by : (call : Call) → stale_after false call.said ≡ false → new.disk ≡ old.disk → HoldsHistory d s.history new
+        → ((b : Bool) → IsLegal b opened.limit last call.ask call.said plain s.history s.history)
+        → IsToldBy (d.fault_count new.disk) call.said
         → (IsTrue d.honest → IsKept d new.disk call.said) → Next call
     still_by call fine same holds legal told kept =
         let rule : (b : Bool) → Legal b opened.limit last (call ∷ []) s.history s.history = λ b. one_legal b opened.limit last call s.history s.history plain held.office.is_run (legal b) in
         grown_by call s.history rule (λ _. holds) (λ not is. absurd (still_true (stale_after false call.said) is fine)) told
-        (λ _. subst (λ (z : D). KeepsTo d.state d.moment d.had_since old.disk z (KeepsSlots (d.state old.disk))) (sym same) (started d.state d.moment d.had_since old.disk (KeepsSlots (d.state old.disk)) (only_now old.disk) (refl, refl))) (λ tells.
-        makes_still d counts_now only_now since_earlier old.disk old.gate s.history plain (held.at_rest tells) held.office.is_run (own tells old.disk) opened.limit last call new.disk same (rule true) (kept tells) told)
+        (λ _. subst (λ (z : D). KeepsTo d old.disk z (KeepsSlots (d.state old.disk))) (sym same) (started d old.disk (KeepsSlots (d.state old.disk)) (only_now old.disk) (refl, refl))) (λ tells.
+        makes_still d counts_now only_now since_earlier old.disk old.gate s.history plain (held.at_rest tells) held.office.is_run
+        (own tells old.disk) opened.limit last call new.disk same (rule true) (kept tells) told)
 
-    kept_at : (after : List Entry) (t number : ℕ) (said : Answer) → Holds d after new → IsAnswerOf d.moment t number new said
+    kept_at : (after : List Entry) (t number : ℕ) (said : Answer) → HoldsHistory d after new → IsAnswerOf d.moment t number new said
         → IsTrue d.honest → IsKept d new.disk (Ok said)
     kept_at after t number said holds made tells = (
       made.disk_moment,
@@ -155,11 +167,11 @@ module _ {D : Type 0} {C : Type 0} (d : disks.Ghosts D)
       at_plain = at ∙ ap (λ (o : Option ℕ). moment_after number o) held.office.stands.last
 
       -- an answer with which nothing was written
-      answered_still : (question : Ask) (said : Answer) → IsAnswerOf d.moment t number new said → new.disk ≡ old.disk → Holds d s.history new
+      answered_still : (question : Ask) (said : Answer) → IsAnswerOf d.moment t number new said → new.disk ≡ old.disk → HoldsHistory d s.history new
           → ((b : Bool) → IsLegal b opened.limit last question (Ok said) plain s.history s.history) → Next (asked question (Ok said))
       answered_still question said made disk holds legal = still_by (asked question (Ok said)) refl disk holds legal tt (kept_at s.history t number said holds made)
 
-      ended_call : (question : Ask) (said : Result Answer DeskFault) → end_of_time ≤ t → IsEnded d t number s.history old new said → Next (asked question said)
+      ended_call : (question : Ask) (said : Result Answer DeskFault) → end_of_time ≤ t → AnswersEnded d t number s.history old new said → Next (asked question said)
       ended_call question (Ok said) past ended =
           answered_still question said ended.0 ended.2.disk ended.2.holds
           (λ b. past_end d b opened.limit last t number question plain said s.history s.history new at_plain ended.0 ended.2.holds.end past ended.1 refl)
@@ -189,22 +201,27 @@ module _ {D : Type 0} {C : Type 0} (d : disks.Ghosts D)
               e grows.holds.office.plain grows.holds.office.is_run (rule true) new.disk new.gate (grows.run tells) (grows.holds.at_rest tells)
               (kept_at after t number said grows.holds made tells) (later, tt))
 
-          failed : (count : ℕ) → count ≡ d.fault_count new.disk → Fails d plain s.history e old new
+          failed : (count : ℕ) → count ≡ d.fault_count new.disk → StoreFails d plain s.history e old new
               → Next (asked (ask.Command command) (Err (faults.StoreFault (Some number) count)))
           failed count is fails =
               let call = asked (ask.Command command) (Err (faults.StoreFault (Some number) count)) in
-              let rose : Rose last count = subst (λ (k : ℕ). Rose last k) (sym is) (rose_from last (d.fault_count old.disk) (d.fault_count new.disk) (last_below opened.faults (d.fault_count old.disk) calls s.faults.0 s.faults.1) fails.rose) in
-              let rule : (b : Bool) → Legal b opened.limit last (call ∷ []) s.history s.history = λ b. one_legal b opened.limit last call s.history s.history plain held.office.is_run (tt, rose, λ _. inl refl) in
+              let rose : Rose last count = subst (λ (k : ℕ). Rose last k) (sym is) (rose_from last (d.fault_count old.disk) (d.fault_count new.disk)
+              (last_below opened.faults (d.fault_count old.disk) calls s.faults.0 s.faults.1) fails.rose) in
+              let rule : (b : Bool) → Legal b opened.limit last (call ∷ []) s.history s.history = λ b. one_legal b opened.limit last call
+              s.history s.history plain held.office.is_run (tt, rose, λ _. inl refl) in
               let accepted : IsTrue (is_accepted (step t command plain).1) = fails.accepted plain held.office.stands in
               let there : IsKeptAt (moment_after number plain.last) (ask.Command command) plain s.history (s.history ++ e ∷ []) =
               subst (λ (m : ℕ). (m < end_of_time) × IsTrue (is_accepted (step m command plain).1) × (s.history ++ e ∷ [] ≡ s.history ++ entry_at m command ∷ [])) at_plain (lt, accepted, refl) in
               let kept = one_legal true opened.limit last call s.history (s.history ++ e ∷ []) plain held.office.is_run (tt, rose, λ _. inr there) in
               let told : IsToldBy (d.fault_count new.disk) call.said = omega (arith, is) in
-              grown_by call s.history rule (λ not. absurd (still_true true refl not)) (λ not _ history. one_legal d.honest opened.limit last call s.history history plain held.office.is_run (tt, rose, λ tells. absurd (not tells))) told (λ tells. adding_keeps s.history e (fails.run tells)) (λ tells.
+              grown_by call s.history rule (λ not. absurd (still_true true refl not)) (λ not _ history.
+              one_legal d.honest opened.limit last call s.history history plain held.office.is_run
+              (tt, rose, λ tells. absurd (not tells))) told
+              (λ tells. adding_keeps s.history e (fails.run tells)) (λ tells.
               makes_failed d counts_now only_now since_earlier old.disk old.gate s.history plain (held.at_rest tells) held.office.is_run (own tells old.disk) opened.limit last call
               e fails.next.0 (run_more s.history e plain fails.next.0 held.office.is_run fails.next.1) kept new.disk (rule true) (fails.run tells) tt (later, told))
 
-        done : (question : Ask) (said : Answer) → IsAnswerOf d.moment t number new said → IsDone d t question plain s.history old new said.reply
+        done : (question : Ask) (said : Answer) → IsAnswerOf d.moment t number new said → IsDoneAt d t question plain s.history old new said.reply
             → Next (asked question (Ok said))
         done (ask.Command command) said made is = ⊎_elim (λ grew. grown command said made is.0 is.1 grew.0 grew.1)
             (λ stayed. answered_still (ask.Command command) said made stayed.1.disk stayed.1.holds
@@ -217,7 +234,7 @@ module _ {D : Type 0} {C : Type 0} (d : disks.Ghosts D)
         failed_call (ask.Command command) count is fails = failed command count is fails
         failed_call (ask.Query query) count is fails = absurd fails
 
-        kept_call : (question : Ask) (said : Result Answer DeskFault) → Keeps d t number question plain s.history old new said → Next (asked question said)
+        kept_call : (question : Ask) (said : Result Answer DeskFault) → AnswersInTime d t number question plain s.history old new said → Next (asked question said)
         kept_call question (Ok said) keeps = done question said keeps.0 keeps.1
         kept_call question (Err (faults.StoreFault (Some told) count)) keeps =
             subst (λ (n : ℕ). Next (asked question (Err (faults.StoreFault (Some n) count)))) (sym keeps.0) (failed_call question count keeps.1 keeps.2)
@@ -228,13 +245,14 @@ module _ {D : Type 0} {C : Type 0} (d : disks.Ghosts D)
         kept_call question (Err (faults.Broken fault)) keeps = absurd keeps
         kept_call question (Err faults.NoMemory) keeps = still_by (asked question (Err faults.NoMemory)) refl keeps.disk keeps.holds (λ b. refl) tt (λ tells. tt)
 
-      pub answers_call : (question : Ask) (said : Result Answer DeskFault) → Answers d t number question plain s.history old new said → Next (asked question said)
+      pub answers_call : (question : Ask) (said : Result Answer DeskFault) → AnswersAt d t number question plain s.history old new said → Next (asked question said)
       answers_call question said (inl in_time) = kept_call in_time.0 question said in_time.1
       answers_call question said (inr past) = ended_call question said past.0 past.1
 
   -- a call of which the clock told its number
-  pub submitted : (old new : Parts D C) (opened : Opened) (calls : List Call) (number : ℕ) (question : Ask) (said : Result Answer DeskFault) → Stands opened calls old → new.limit ≡ old.limit → d.fault_count old.disk ≤ d.fault_count new.disk
-      → Asks d number question old new said
+  pub submitted : (old new : EngineView D C) (opened : Opened) (calls : List Call) (number : ℕ) (question : Ask) (said : Result Answer DeskFault)
+      → Stands opened calls old → new.limit ≡ old.limit → d.fault_count old.disk ≤ d.fault_count new.disk
+      → AnswersAsk d number question old new said
       → GoesOn d opened (calls ++ record { ask = question; said = said } ∷ []) old.disk (view_of new (stale_after false said))
   unfolding at_clock
   submitted old new opened calls number question said s limit later asks =

@@ -6,42 +6,47 @@ use Rattle.office_base.specs.Faults.{Rose}
 use Rattle.moments.specs.Time.{end_of_time}
 use Rattle.disk_core.specs.declared.disk.Disk as disks
 use Rattle.disk_core.specs.Files.{State}
-use Rattle.disk_core.specs.Kept.{Narrower}
+use Rattle.disk_core.specs.Fronts.{Narrower}
+use Rattle.disk_core.specs.Moments.{KeepsTo}
+use Rattle.disk_core.proofs.Time.{started, weakened}
 use Rattle.plain_office.specs.Office.{Office}
 use Rattle.plain_office.specs.Step.{is_accepted}
-use Rattle.plain_office.specs.Run.{entry_at}
+use Rattle.plain_office.specs.Run.{run}
 use Rattle.office_types.specs.declared.command.Ask.{Ask}
 use Rattle.office_types.specs.declared.command.Ask.TheVariants as ask
+use Rattle.office_types.specs.declared.command.Command.{Command}
 use Rattle.office_types.specs.declared.command.Entry.{Entry}
 use Rattle.office_types.specs.declared.reply.Reply.{Reply}
 use Rattle.office_types.specs.declared.refusal.Refusal.{Refusal}
+use Rattle.office_types.specs.Entries.{entry_at}
 use Rattle.desk_core.specs.declared.clock.Clock as clocks
 use Rattle.desk_core.specs.declared.fault.DeskFault.{DeskFault}
 use Rattle.desk_core.specs.declared.fault.DeskFault.TheVariants as faults
 use Rattle.desk_core.specs.Answers.{Answer}
 use Rattle.desk_core.specs.Calls.{moment_after}
-use Rattle.desk_core.specs.Asking.{LeavesDisk, HasStoreReason, IsAcceptedAt, PassesLimit, IsClockEnd, HasCauses}
-use Rattle.desk_core.specs.Desk.{Parts, Holds, IsReady, IsNumber, IsLast, IsStamped, stale_after}
-use Rattle.desk_core.specs.Keeping.{IsDone, HasFailed, Keeps, IsEnded, Answers, Asks}
+use Rattle.desk_core.specs.Submitting.{LeavesDisk, HasStoreReason, IsAcceptedAt, PassesLimit, IsClockEnd, KeepsOrAdds, HasCauses}
+use Rattle.desk_core.specs.Desk.{EngineView, HoldsHistory, IsReady, IsLast, IsStamped, stale_after}
+use Rattle.desk_core.specs.Answering.{IsDoneAt, HasFailed, AnswersInTime, AnswersEnded, AnswersAt, AnswersAsk}
 use Rattle.plain_office.proofs.Runs.{run_more}
-use Rattle.meter_journal.specs.History.{header, HasEntries}
+use Rattle.meter_journal.specs.History.{header, HasEntries, BeforeOrAfter}
 use Rattle.desk_core.specs.Histories.{IsSound}
-use Rattle.desk_core.proofs.Keeping.{rest_image, some_run}
+use Rattle.desk_core.specs.Numbers.{IsNumber}
+use Rattle.desk_core.proofs.Serving.{rest_image, some_run}
 use Rattle.desk_core.proofs.Standing.{still_true}
 
 accepted_not : (reply : Result Reply Refusal) → IsTrue (is_accepted reply) → is_accepted reply ≡ false → ⊥
 accepted_not reply is not = still_true (is_accepted reply) is not
 
 module _ {D : Type 0} {C : Type 0} (d : disks.Ghosts D)
-    (t number : ℕ) (question : Ask) (office : Office) (before : List Entry) (old new : Parts D C) where
+    (t number : ℕ) (question : Ask) (office : Office) (before : List Entry) (old new : EngineView D C) where
   abbrev Kept : Result Answer DeskFault → Type 0
-  Kept said = Keeps d t number question office before old new said
+  Kept said = AnswersInTime d t number question office before old new said
 
   abbrev Ended : Result Answer DeskFault → Type 0
-  Ended said = IsEnded d t number before old new said
+  Ended said = AnswersEnded d t number before old new said
 
   abbrev Asked : Result Answer DeskFault → Type 0
-  Asked said = Answers d t number question office before old new said
+  Asked said = AnswersAt d t number question office before old new said
 
   -- ---- the answer's numbers
 
@@ -60,13 +65,13 @@ module _ {D : Type 0} {C : Type 0} (d : disks.Ghosts D)
   in_time_of fault (inr past) = absurd past.1
 
   pub numbered : (a b : Option (List ℕ)) (said : Result Answer DeskFault) → Appends a b (number ∷ []) → Asked said → IsNumber a b said
-  numbered a b (Ok said) more asked = subst (λ (n : ℕ). Appends a b (n ∷ [])) (sym (told_is said asked)) more
+  numbered a b (Ok said) more asked = (number ∷ [], ap (λ (n : ℕ). n ∷ []) (sym (told_is said asked)), more)
   numbered a b (Err (faults.StoreFault (Some told) count)) more asked =
-      subst (λ (n : ℕ). Appends a b (n ∷ [])) (sym (in_time_of (faults.StoreFault (Some told) count) asked).1.0) more
+      (number ∷ [], ap (λ (n : ℕ). n ∷ []) (sym (in_time_of (faults.StoreFault (Some told) count) asked).1.0), more)
   numbered a b (Err (faults.StoreFault None count)) more asked = absurd (in_time_of (faults.StoreFault None count) asked).1
-  numbered a b (Err faults.JournalFull) more asked = (number, more)
+  numbered a b (Err faults.JournalFull) more asked = (number ∷ [], (number, refl), more)
   numbered a b (Err (faults.Broken fault)) more asked = absurd (in_time_of (faults.Broken fault) asked).1
-  numbered a b (Err faults.NoMemory) more asked = inr (number, more)
+  numbered a b (Err faults.NoMemory) more asked = (number ∷ [], inr (number, refl), more)
 
   pub last_told : (last : ℕ) (said : Result Answer DeskFault) → last ≡ number → Asked said → IsLast last said
   last_told last (Ok said) is asked = told_is said asked ∙ sym is
@@ -94,8 +99,8 @@ module _ {D : Type 0} {C : Type 0} (d : disks.Ghosts D)
 -- ---- the disk, and causes in it
 
 module _ {D : Type 0} {C : Type 0} (d : disks.Ghosts D)
-    (t number : ℕ) (office : Office) (before : List Entry) (old new : Parts D C) where
-  done_leaves : (question : Ask) (said : Answer) → IsDone d t question office before old new said.reply → LeavesDisk (Ok said) question old.disk new.disk
+    (t number : ℕ) (office : Office) (before : List Entry) (old new : EngineView D C) where
+  done_leaves : (question : Ask) (said : Answer) → IsDoneAt d t question office before old new said.reply → LeavesDisk (Ok said) question old.disk new.disk
   done_leaves (ask.Command command) said is = λ not. ⊎_elim (λ grew. absurd (accepted_not said.reply grew.0 not)) (λ stayed. stayed.1.disk) is.2
   done_leaves (ask.Query query) said is = is.1.disk
 
@@ -103,14 +108,14 @@ module _ {D : Type 0} {C : Type 0} (d : disks.Ghosts D)
   ended_leaves (ask.Command command) said same = λ not. same
   ended_leaves (ask.Query query) said same = same
 
-  kept_leaves : (question : Ask) (said : Result Answer DeskFault) → Keeps d t number question office before old new said → LeavesDisk said question old.disk new.disk
+  kept_leaves : (question : Ask) (said : Result Answer DeskFault) → AnswersInTime d t number question office before old new said → LeavesDisk said question old.disk new.disk
   kept_leaves question (Ok said) keeps = done_leaves question said keeps.1
   kept_leaves question (Err (faults.StoreFault told count)) keeps = tt
   kept_leaves question (Err faults.JournalFull) keeps = keeps.1.disk
   kept_leaves question (Err (faults.Broken fault)) keeps = absurd keeps
   kept_leaves question (Err faults.NoMemory) keeps = keeps.disk
 
-  pub leaves : (question : Ask) (said : Result Answer DeskFault) → Answers d t number question office before old new said → LeavesDisk said question old.disk new.disk
+  pub leaves : (question : Ask) (said : Result Answer DeskFault) → AnswersAt d t number question office before old new said → LeavesDisk said question old.disk new.disk
   leaves question said (inl in_time) = kept_leaves question said in_time.1
   leaves question (Ok said) (inr past) = ended_leaves question said past.1.2.disk
   leaves question (Err fault) (inr past) = absurd past.1
@@ -119,7 +124,7 @@ module _ {D : Type 0} {C : Type 0} (d : disks.Ghosts D)
   failed_reason (ask.Command command) lt fails = (fails.rose, (lt, fails.accepted))
   failed_reason (ask.Query query) lt fails = absurd fails
 
-  pub reason : (question : Ask) (said : Result Answer DeskFault) → t ≡ moment_after number old.office.last → Answers d t number question office before old new said
+  pub reason : (question : Ask) (said : Result Answer DeskFault) → t ≡ moment_after number old.office.last → AnswersAt d t number question office before old new said
       → HasStoreReason said question old.office (d.fault_count old.disk) (d.fault_count new.disk)
   reason question (Ok said) at answers = tt
   reason question (Err (faults.StoreFault (Some told) count)) at answers =
@@ -135,27 +140,27 @@ module _ {D : Type 0} {C : Type 0} (d : disks.Ghosts D)
 
   -- ---- a further call
 
-  done_holds : (question : Ask) (said : Answer) → IsDone d t question office before old new said.reply → (history : List Entry) × Holds d history new
+  done_holds : (question : Ask) (said : Answer) → IsDoneAt d t question office before old new said.reply → (history : List Entry) × HoldsHistory d history new
   done_holds (ask.Command command) said is = ⊎_elim (λ grew. (before ++ entry_at t command ∷ [], grew.1.holds)) (λ stayed. (before, stayed.1.holds)) is.2
   done_holds (ask.Query query) said is = (before, is.1.holds)
 
-  kept_holds : (question : Ask) (said : Result Answer DeskFault) → stale_after false said ≡ false → Keeps d t number question office before old new said
-      → (history : List Entry) × Holds d history new
+  kept_holds : (question : Ask) (said : Result Answer DeskFault) → stale_after false said ≡ false → AnswersInTime d t number question office before old new said
+      → (history : List Entry) × HoldsHistory d history new
   kept_holds question (Ok said) fine keeps = done_holds question said keeps.1
   kept_holds question (Err (faults.StoreFault told count)) fine keeps = absurd (still_true true refl fine)
   kept_holds question (Err faults.JournalFull) fine keeps = (before, keeps.1.holds)
   kept_holds question (Err (faults.Broken fault)) fine keeps = absurd keeps
   kept_holds question (Err faults.NoMemory) fine keeps = (before, keeps.holds)
 
-  pub ready_on : (question : Ask) (said : Result Answer DeskFault) → stale_after false said ≡ false → Answers d t number question office before old new said
-      → (history : List Entry) × Holds d history new
+  pub ready_on : (question : Ask) (said : Result Answer DeskFault) → stale_after false said ≡ false → AnswersAt d t number question office before old new said
+      → (history : List Entry) × HoldsHistory d history new
   ready_on question said fine (inl in_time) = kept_holds question said fine in_time.1
   ready_on question (Ok said) fine (inr past) = (before, past.1.2.holds)
   ready_on question (Err fault) fine (inr past) = absurd past.1
 
 -- ---- histories of images
 
-pub holds_sound : {D C : Type 0} (d : disks.Ghosts D) (history : List Entry) (parts : Parts D C) → Holds d history parts → IsTrue d.honest → IsSound (d.state parts.disk)
+pub holds_sound : {D C : Type 0} (d : disks.Ghosts D) (history : List Entry) (parts : EngineView D C) → HoldsHistory d history parts → IsTrue d.honest → IsSound (d.state parts.disk)
 holds_sound d history parts holds tells image is =
     (history, rest_image (d.state parts.disk) parts.gate history holds.office.plain (holds.at_rest tells) holds.office.is_run image is)
 
@@ -163,7 +168,7 @@ pub narrower_sound : (first s : State) → IsSound first → Narrower first s �
 narrower_sound first s sound narrow image is = sound image (narrow.journal image is)
 
 module _ {D : Type 0} {C : Type 0} (d : disks.Ghosts D)
-    (t number : ℕ) (before : List Entry) (old new : Parts D C) (hold : Holds d before old) where
+    (t number : ℕ) (before : List Entry) (old new : EngineView D C) (hold : HoldsHistory d before old) where
   failed_sound : (question : Ask) → HasFailed d t question hold.office.plain before old new → IsTrue d.honest → IsSound (d.state new.disk)
   failed_sound (ask.Command command) fails tells = λ image is.
       let entry = entry_at t command in
@@ -173,7 +178,7 @@ module _ {D : Type 0} {C : Type 0} (d : disks.Ghosts D)
       ((fails.run tells).now.journal image is)
   failed_sound (ask.Query query) fails tells = absurd fails
 
-  pub sound_on : (question : Ask) (said : Result Answer DeskFault) → Answers d t number question hold.office.plain before old new said → IsTrue d.honest → IsSound (d.state new.disk)
+  pub sound_on : (question : Ask) (said : Result Answer DeskFault) → AnswersAt d t number question hold.office.plain before old new said → IsTrue d.honest → IsSound (d.state new.disk)
   sound_on question (Ok said) answers tells =
       let on = ready_on d t number hold.office.plain before old new question (Ok said) refl answers in
       holds_sound d on.0 new on.1 tells
@@ -190,20 +195,67 @@ module _ {D : Type 0} {C : Type 0} (d : disks.Ghosts D)
       let on = ready_on d t number hold.office.plain before old new question (Err faults.NoMemory) refl answers in
       holds_sound d on.0 new on.1 tells
 
+-- ---- what a crash inside the call leaves
+
+module _ {D : Type 0} {C : Type 0} (d : disks.Ghosts D) (only_now : (disk : D) (s : State) → d.had_since disk (d.moment disk) s → s ≡ d.state disk)
+    (tells : IsTrue d.honest) (t number : ℕ) (before : List Entry) (old new : EngineView D C) (hold : HoldsHistory d before old) where
+  abbrev Inside : Ask → Type 0
+  Inside question = KeepsTo d old.disk new.disk (KeepsOrAdds t question before)
+
+  here : (question : Ask) → KeepsOrAdds t question before (d.state old.disk)
+  here (ask.Command command) = λ image is. inl (rest_image (d.state old.disk) old.gate before hold.office.plain (hold.at_rest tells) hold.office.is_run image is)
+  here (ask.Query query) = λ image is. rest_image (d.state old.disk) old.gate before hold.office.plain (hold.at_rest tells) hold.office.is_run image is
+
+  stays_inside : (question : Ask) → new.disk ≡ old.disk → Inside question
+  stays_inside question same = subst (λ (z : D). KeepsTo d old.disk z (KeepsOrAdds t question before)) (sym same)
+      (started d old.disk (KeepsOrAdds t question before) (only_now old.disk) (here question))
+
+  adds_inside : (command : Command) (more : Office) → run (before ++ entry_at t command ∷ []) ≡ Some more
+      → KeepsTo d old.disk new.disk (BeforeOrAfter header before (entry_at t command) (d.state old.disk)) → Inside (ask.Command command)
+  adds_inside command more is_more ran = weakened (KeepsOrAdds t (ask.Command command) before) ran (λ s both image is. ⊎_elim
+      (λ (e : HasEntries header before image). inl (record { entries = e; accepted = some_run before hold.office.plain hold.office.is_run }))
+      (λ (e : HasEntries header (before ++ entry_at t command ∷ []) image).
+      inr (record { entries = e; accepted = some_run (before ++ entry_at t command ∷ []) more is_more }))
+      (both.journal image is))
+
+  done_inside : (question : Ask) (said : Answer) → IsDoneAt d t question hold.office.plain before old new said.reply → Inside question
+  done_inside (ask.Command command) said is =
+      ⊎_elim (λ grew. adds_inside command grew.1.holds.office.plain grew.1.holds.office.is_run (grew.1.run tells))
+      (λ stayed. stays_inside (ask.Command command) stayed.1.disk) is.2
+  done_inside (ask.Query query) said is = stays_inside (ask.Query query) is.1.disk
+
+  failed_inside : (question : Ask) → HasFailed d t question hold.office.plain before old new → Inside question
+  failed_inside (ask.Command command) fails =
+      adds_inside command fails.next.0 (run_more before (entry_at t command) hold.office.plain fails.next.0 hold.office.is_run fails.next.1) (fails.run tells)
+  failed_inside (ask.Query query) fails = absurd fails
+
+  kept_inside : (question : Ask) (said : Result Answer DeskFault) → AnswersInTime d t number question hold.office.plain before old new said → Inside question
+  kept_inside question (Ok said) keeps = done_inside question said keeps.1
+  kept_inside question (Err (faults.StoreFault (Some told) count)) keeps = failed_inside question keeps.2
+  kept_inside question (Err (faults.StoreFault None count)) keeps = absurd keeps
+  kept_inside question (Err faults.JournalFull) keeps = stays_inside question keeps.1.disk
+  kept_inside question (Err (faults.Broken fault)) keeps = absurd keeps
+  kept_inside question (Err faults.NoMemory) keeps = stays_inside question keeps.disk
+
+  pub inside_of : (question : Ask) (said : Result Answer DeskFault) → AnswersAt d t number question hold.office.plain before old new said → Inside question
+  inside_of question said (inl in_time) = kept_inside question said in_time.1
+  inside_of question (Ok said) (inr past) = stays_inside question past.1.2.disk
+  inside_of question (Err fault) (inr past) = absurd past.1
+
 -- ---- a call of which the clock told its number
 
 module _ {D : Type 0} {C : Type 0} (d : disks.Ghosts D)
-    (number : ℕ) (question : Ask) (old new : Parts D C) (said : Result Answer DeskFault) (asks : Asks d number question old new said) (ready : IsReady d old) where
-  abbrev told : Parts D C
+    (number : ℕ) (question : Ask) (old new : EngineView D C) (said : Result Answer DeskFault) (asks : AnswersAsk d number question old new said) (ready : IsReady d old) where
+  abbrev told : EngineView D C
   told = record old { clock = asks.clock }
 
   abbrev before : List Entry
   before = ready.0
 
-  abbrev hold : Holds d before told
+  abbrev hold : HoldsHistory d before told
   hold = record { office = ready.1.office; end = ready.1.end; limit = ready.1.limit; at_rest = ready.1.at_rest }
 
-  abbrev one : Answers d asks.t number question hold.office.plain before told new said
+  abbrev one : AnswersAt d asks.t number question hold.office.plain before told new said
   one = asks.answers before hold
 
   pub stamped_by : IsStamped said new.gate (d.moment new.disk)
@@ -218,13 +270,21 @@ module _ {D : Type 0} {C : Type 0} (d : disks.Ghosts D)
   pub ready_by : stale_after false said ≡ false → IsReady d new
   ready_by fine = ready_on d asks.t number hold.office.plain before told new question said fine one
 
-  pub tells_by : (k : clocks.Ghosts C) → k.last new.clock ≡ number → k.count new.clock ≡ min (k.count old.clock + 1) (2 ^ 64 - 1)
-      → (PassesLimit (moment_after (k.last new.clock) old.office.last) old.gate old.limit question → (said ≡ Err faults.JournalFull) ⊎ (said ≡ Err faults.NoMemory)) → HasCauses d k old question said new
-  tells_by k last_is once full =
+  pub tells_by : (k : clocks.Ghosts C)
+      → ((disk : D) (s : State) → d.had_since disk (d.moment disk) s → s ≡ d.state disk) → k.last new.clock ≡ number
+      → k.count new.clock ≡ min (k.count old.clock + 1) (2 ^ 64 - 1)
+      → (PassesLimit (moment_after (k.last new.clock) old.office.last) old.gate old.limit question
+      → (said ≡ Err faults.JournalFull) ⊎ (said ≡ Err faults.NoMemory))
+      → HasCauses d k old question said new
+  tells_by k only_now last_is once full =
       let now_is : asks.t ≡ moment_after (k.last new.clock) old.office.last = asks.at ∙ ap (λ (n : ℕ). moment_after n old.office.last) (sym last_is) in
       record {
         once = once;
         quiet = leaves d asks.t number hold.office.plain before told new question said one;
+        inside = λ tells b holds.
+            let other : HoldsHistory d b told = record { office = holds.office; end = holds.end; limit = holds.limit; at_rest = holds.at_rest } in
+            subst (λ (t : ℕ). KeepsTo d old.disk new.disk (KeepsOrAdds t question b)) now_is
+            (inside_of d only_now tells asks.t number b told new other question said (asks.answers b other));
         reason = reason d asks.t number hold.office.plain before told new question said asks.at one;
         ended = subst (λ (t : ℕ). end_of_time ≤ t → IsClockEnd t said) now_is (λ past. ended_so d asks.t number question hold.office.plain before told new said past one);
         full = full;

@@ -4,7 +4,7 @@ use Rattle.std.proofs.lemmas.List.{map-append}
 use Rattle.disk_core.specs.declared.disk.Disk as disks
 use Rattle.office_types.specs.declared.command.Ask.{Ask}
 use Rattle.desk_core.specs.Answers.{Answer, Call}
-use Rattle.desk_core.specs.Asking.{Submits}
+use Rattle.desk_core.specs.Submitting.{Submits}
 use Rattle.desk_core.specs.Desk.{DeskView}
 use Rattle.desk_core.specs.Turns.{Moves, calls_from, Reaches}
 use Rattle.desk_core.specs.declared.clock.Clock as clocks

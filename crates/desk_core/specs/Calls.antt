@@ -8,10 +8,11 @@ use Rattle.office_types.specs.declared.command.Entry.{Entry}
 use Rattle.office_types.specs.declared.reply.Reply.{Reply}
 use Rattle.office_types.specs.declared.refusal.Refusal.{Refusal}
 use Rattle.office_types.specs.declared.refusal.Refusal.TheVariants.{ClockEnd}
+use Rattle.office_types.specs.Entries.{entry_at}
 use Rattle.plain_office.specs.Answers.{answer}
 use Rattle.plain_office.specs.Office.{Office}
 use Rattle.plain_office.specs.Step.{step, is_accepted}
-use Rattle.plain_office.specs.Run.{run, entry_at}
+use Rattle.plain_office.specs.Run.{run}
 use Rattle.entry_codec.specs.Spelling.{spelling}
 use Rattle.meter_journal.specs.History.{header, end_gate}
 use Rattle.desk_core.specs.Answers.{Answer, Call}
@@ -35,12 +36,14 @@ GrowsBy reply entry before after =
 -- the office's reply at this moment: to a command where its frame fits, and to a query, which changes nothing
 abbrev pub IsReply : ℕ → ℕ → Ask → Office → Result Reply Refusal → List Entry → List Entry → Type 0
 IsReply limit t (ask.Command command) office reply before after =
-    (reply ≡ (step t command office).1) × GrowsBy reply (entry_at t command) before after × FitsIn limit before (entry_at t command)
+    (reply ≡ (step t command office).1) × GrowsBy reply (entry_at t command) before after
+    × FitsIn limit before (entry_at t command)
 IsReply limit t (ask.Query query) office reply before after = (reply ≡ answer t query office) × (after ≡ before)
 
--- An answer is the plain office's at the call's moment, and its position is the end of the journal then. From the end of
--- time on the answer to every ask is that the clock has ended, and nothing is done (own).
-pub record IsAnswered (limit : ℕ) (question : Ask) (office : Office) (said : Answer) (before after : List Entry) : Type 0 where
+-- An answer is the plain office's at the call's moment, and its position is the end of the journal then. From the end
+-- of time on the answer to every ask is that the clock has ended, and nothing is done (own).
+pub record IsAnswered (limit : ℕ) (question : Ask) (office : Office) (said : Answer) (before after : List Entry)
+    : Type 0 where
   pub moment : said.moment ≡ moment_after said.told office.last
   pub reply : said.moment < end_of_time → IsReply limit said.moment question office said.reply before after
   pub ended : end_of_time ≤ said.moment → (said.reply ≡ Err (ClockEnd said.moment)) × (after ≡ before)
@@ -59,7 +62,8 @@ IsKeptAt t (ask.Query query) office before after = ⊥
 -- a command that the office accepts may have been kept though a fault was told; a call that read no clock kept
 -- nothing
 abbrev pub MayBeKept : Option ℕ → Ask → Office → List Entry → List Entry → Type 0
-MayBeKept (Some told) question office before after = IsKeptAt (moment_after told office.last) question office before after
+MayBeKept (Some told) question office before after =
+    IsKeptAt (moment_after told office.last) question office before after
 MayBeKept None question office before after = ⊥
 
 -- the command's frame does not fit; its size is the same at each moment
@@ -67,8 +71,8 @@ abbrev pub IsFull : ℕ → Ask → List Entry → Type 0
 IsFull limit (ask.Command command) before = ¬ FitsIn limit before (entry_at 0 command)
 IsFull limit (ask.Query query) before = ⊥
 
--- A number of the clock stands in a fault of the store where a command was to be added. Without one the journal was to be
--- opened again, whatever was asked.
+-- A number of the clock stands in a fault of the store where a command was to be added. Without one the journal was to
+-- be opened again, whatever was asked.
 abbrev pub IsAsking : Option ℕ → Ask → Type 0
 IsAsking (Some number) question = IsCommand question
 IsAsking None question = Unit {0}
@@ -76,15 +80,18 @@ IsAsking None question = Unit {0}
 -- what a fault of the store leaves: the history as it was, or with the command; a disk that does not tell what it holds
 -- may leave any
 abbrev pub IsLeft : Bool → Option ℕ → Ask → Office → List Entry → List Entry → Type 0
-IsLeft honest number question office before after = IsTrue honest → (after ≡ before) ⊎ MayBeKept number question office before after
+IsLeft honest number question office before after =
+    IsTrue honest → (after ≡ before) ⊎ MayBeKept number question office before after
 
 -- one call, on the office of the history before it; counted is the disk's count of faults that the last fault of the
 -- store told, and before the first one that of the opening. A journal that breaks is no journal of an honest disk.
 abbrev pub IsLegal : Bool → ℕ → ℕ → Ask → Result Answer DeskFault → Office → List Entry → List Entry → Type 0
-IsLegal honest limit counted question (Ok answer) office before after = IsAnswered limit question office answer before after
+IsLegal honest limit counted question (Ok answer) office before after =
+    IsAnswered limit question office answer before after
 IsLegal honest limit counted question (Err (faults.StoreFault number count)) office before after =
     IsAsking number question × Rose counted count × IsLeft honest number question office before after
-IsLegal honest limit counted question (Err faults.JournalFull) office before after = IsFull limit question before × (after ≡ before)
+IsLegal honest limit counted question (Err faults.JournalFull) office before after =
+    IsFull limit question before × (after ≡ before)
 IsLegal honest limit counted question (Err (faults.Broken fault)) office before after = IsTrue honest → ⊥
 IsLegal honest limit counted question (Err faults.NoMemory) office before after = after ≡ before
 

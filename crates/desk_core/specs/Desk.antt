@@ -1,6 +1,5 @@
 -- What a desk stands for, and what a call does to it.
 use Rattle.std.specs.Prelude.{◌≡◌, ◌⊎◌, ℕ, ◌^◌, ◌≤◌, Bool, true, false, List, [], ◌∷◌, Option, Some, None, Result, Ok, Err, IsTrue, IsSome}
-use Rattle.std.specs.Io.KnownBytes.{Appends}
 use Rattle.office_base.specs.Faults.{Rose}
 use Rattle.disk_core.specs.declared.disk.Disk as disks
 use Rattle.disk_core.specs.Moments.{KeepsTo}
@@ -11,13 +10,13 @@ use Rattle.meter_journal.specs.History.{header, end_gate, IsAtRest}
 use Rattle.desk_core.specs.Answers.{Answer, Call}
 use Rattle.desk_core.specs.Calls.{Legal}
 use Rattle.desk_core.specs.Offices.{StandsAfter}
-use Rattle.desk_core.specs.Serving.{Opened, AreToldBy, Recoverable, KeepsSlots, Serves}
+use Rattle.desk_core.specs.Serving.{Opened, AreToldBy, Recoverable, KeepsSlots, DiskServes}
 use Rattle.desk_core.specs.declared.fault.DeskFault.{DeskFault}
 use Rattle.desk_core.specs.declared.fault.DeskFault.TheVariants as faults
 
--- what contracts see of an office over its journal: its disk and clock, the office in memory, the offset of the journal's
--- end gate and the journal's limit, both in bytes
-pub record Parts (D C : Type 0) : Type 0 where
+-- what contracts see of an office over its journal: its disk and clock, the office in memory, the offset of the
+-- journal's end gate and the journal's limit, both in bytes
+pub record EngineView (D C : Type 0) : Type 0 where
   pub disk : D
   pub clock : C
   pub office : Records
@@ -33,23 +32,25 @@ pub record DeskView (D C : Type 0) : Type 0 where
   pub limit : ℕ
   pub stale : Bool
 
-abbrev pub parts_of : {D C : Type 0} → DeskView D C → Parts D C
-parts_of desk = record { disk = desk.disk; clock = desk.clock; office = desk.office; gate = desk.gate; limit = desk.limit }
+abbrev pub engine_of : {D C : Type 0} → DeskView D C → EngineView D C
+engine_of desk =
+    record { disk = desk.disk; clock = desk.clock; office = desk.office; gate = desk.gate; limit = desk.limit }
 
 -- the office is the one after this history, and the gate the end of its journal, whose limit is at most 2^45 bytes; an
 -- honest disk holds that journal, synced
-pub record Holds {D C : Type 0} (d : disks.Ghosts D) (history : List Entry) (parts : Parts D C) : Type 0 where
+pub record HoldsHistory {D C : Type 0} (d : disks.Ghosts D) (history : List Entry)
+    (parts : EngineView D C) : Type 0 where
   pub office : StandsAfter history parts.office
   pub end : parts.gate ≡ end_gate header history
   pub limit : parts.limit ≤ 2 ^ 45
   pub at_rest : IsTrue d.honest → IsAtRest header (d.state parts.disk) parts.gate history
 
 -- so it is of some history
-abbrev pub IsReady : {D C : Type 0} → disks.Ghosts D → Parts D C → Type 0
-IsReady d parts = (history : List Entry) × Holds d history parts
+abbrev pub IsReady : {D C : Type 0} → disks.Ghosts D → EngineView D C → Type 0
+IsReady d parts = (history : List Entry) × HoldsHistory d history parts
 
--- Whether a desk is stale after a call: the journal has to be opened again after a fault of the store, and where it broke.
--- Want of memory leaves the desk as it was.
+-- Whether a desk is stale after a call: the journal has to be opened again after a fault of the store, and where it
+-- broke. Want of memory leaves the desk as it was.
 abbrev pub stale_after : Bool → Result Answer DeskFault → Bool
 stale_after stale (Ok answer) = false
 stale_after stale (Err (faults.StoreFault number count)) = true
@@ -57,34 +58,27 @@ stale_after stale (Err faults.JournalFull) = false
 stale_after stale (Err (faults.Broken fault)) = true
 stale_after stale (Err faults.NoMemory) = stale
 
--- The desk stands for a list of calls since its opening. They are legal, and a desk that is not stale holds a history to
--- which they lead. An honest disk serves them at every moment; one that does not tell what it holds may hold any history
--- once the desk is stale.
+-- The desk stands for a list of calls since its opening. They are legal, and a desk that is not stale holds a history
+-- to which they lead. An honest disk serves them at every moment; one that does not tell what it holds may hold any
+-- history once the desk is stale.
 pub record StandsFor {D C : Type 0} (d : disks.Ghosts D)
     (opened : Opened) (calls : List Call) (desk : DeskView D C) : Type 0 where
   pub limit : desk.limit ≡ opened.limit
   pub faults : (opened.faults ≤ d.fault_count desk.disk) × AreToldBy (d.fault_count desk.disk) calls
-  pub holds : desk.stale ≡ false → (history : List Entry) × Legal d.honest opened.limit opened.faults calls opened.history history × Holds d history (parts_of desk)
-  pub lost : (IsTrue d.honest → ⊥) → desk.stale ≡ true → (history : List Entry) → IsSome (run history) → Legal d.honest opened.limit opened.faults calls opened.history history
-  pub serves : IsTrue d.honest → Serves d opened desk.disk calls
+  pub holds : desk.stale ≡ false
+      → (history : List Entry) × Legal d.honest opened.limit opened.faults calls opened.history history
+      × HoldsHistory d history (engine_of desk)
+  pub lost : (IsTrue d.honest → ⊥) → desk.stale ≡ true → (history : List Entry) → IsSome (run history)
+      → Legal d.honest opened.limit opened.faults calls opened.history history
+  pub serves : IsTrue d.honest → DiskServes d opened desk.disk calls
 
 -- the desk went on from this disk: it stands for these calls, and at every moment since, each image has the history
 -- after some number of the first of them
 pub record GoesOn {D C : Type 0} (d : disks.Ghosts D)
     (opened : Opened) (calls : List Call) (first : D) (desk : DeskView D C) : Type 0 where
   pub stands : StandsFor d opened calls desk
-  pub any_moment : IsTrue d.honest → KeepsTo d.state d.moment d.had_since first desk.disk (Recoverable opened calls)
-  pub slots : IsTrue d.honest → KeepsTo d.state d.moment d.had_since first desk.disk (KeepsSlots (d.state first))
-
--- One number was told for an answer and for a full journal, and for a fault of the store the one that stands in it, if
--- any. None was told where the journal broke; where memory ran out one may have been.
-abbrev pub IsNumber : Option (List ℕ) → Option (List ℕ) → Result Answer DeskFault → Type 0
-IsNumber before after (Ok answer) = Appends before after (answer.told ∷ [])
-IsNumber before after (Err (faults.StoreFault (Some number) count)) = Appends before after (number ∷ [])
-IsNumber before after (Err (faults.StoreFault None count)) = Appends before after []
-IsNumber before after (Err faults.JournalFull) = (number : ℕ) × Appends before after (number ∷ [])
-IsNumber before after (Err (faults.Broken fault)) = Appends before after []
-IsNumber before after (Err faults.NoMemory) = Appends before after [] ⊎ ((number : ℕ) × Appends before after (number ∷ []))
+  pub any_moment : IsTrue d.honest → KeepsTo d first desk.disk (Recoverable opened calls)
+  pub slots : IsTrue d.honest → KeepsTo d first desk.disk (KeepsSlots (d.state first))
 
 -- the last number that the clock told is that of the answer, or of the fault of the store
 abbrev pub IsLast : ℕ → Result Answer DeskFault → Type 0

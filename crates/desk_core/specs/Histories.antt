@@ -16,9 +16,11 @@ abbrev pub IsSound : State → Type 0
 IsSound s = (image : List ℕ) → IsImage s.journal image → (history : List Entry) × HasAcceptedHistory history image
 
 -- the second begins with the first
-abbrev pub Begins : List Entry → List Entry → Type 0
-Begins history longer = (rest : List Entry) × (longer ≡ history ++ rest)
+abbrev pub IsPrefixOf : List Entry → List Entry → Type 0
+IsPrefixOf history longer = (rest : List Entry) × (longer ≡ history ++ rest)
 
 -- so it does but for the last entry of the first
-abbrev pub BeginsButOne : List Entry → List Entry → Type 0
-BeginsButOne history longer = Begins history longer ⊎ ((front : List Entry) × (entry : Entry) × (history ≡ front ++ entry ∷ []) × Begins front longer)
+abbrev pub IsPrefixButOne : List Entry → List Entry → Type 0
+IsPrefixButOne history longer =
+    IsPrefixOf history longer
+    ⊎ ((front : List Entry) × (entry : Entry) × (history ≡ front ++ entry ∷ []) × IsPrefixOf front longer)

@@ -1,7 +1,7 @@
 -- What opening a desk gives.
 use Rattle.std.specs.Prelude.{◌≡◌, ℕ, ◌≤◌, false, List, [], IsTrue}
 use Rattle.disk_core.specs.declared.disk.Disk as disks
-use Rattle.disk_core.specs.Kept.{Narrower}
+use Rattle.disk_core.specs.Fronts.{Narrower}
 use Rattle.disk_core.specs.Moments.{KeepsTo}
 use Rattle.office_types.specs.declared.command.Entry.{Entry}
 use Rattle.desk_core.specs.Histories.{HasAcceptedHistory}
@@ -23,5 +23,5 @@ pub record Opens {D C : Type 0} (d : disks.Ghosts D)
   pub limit_is : desk.limit ≡ limit
   pub clock_is : desk.clock ≡ clock
   pub read : IsTrue d.honest → HasAcceptedHistory history (d.state disk).journal.seen
-  pub any_moment : IsTrue d.honest → KeepsTo d.state d.moment d.had_since disk desk.disk (Narrower (d.state disk))
+  pub any_moment : IsTrue d.honest → KeepsTo d disk desk.disk (Narrower (d.state disk))
   pub later : d.fault_count disk ≤ d.fault_count desk.disk

@@ -3,16 +3,19 @@ use Rattle.std.specs.Prelude.{◌≡◌, ℕ, ◌-◌, ◌^◌, ◌<◌, ◌≤�
 use Rattle.std.specs.Io.KnownBytes.{Appends}
 use Rattle.disk_core.specs.declared.disk.Disk as disks
 use Rattle.disk_core.specs.Files.{State, IsImage}
-use Rattle.disk_core.specs.Kept.{Narrower}
+use Rattle.disk_core.specs.Fronts.{Narrower}
 use Rattle.disk_core.specs.Moments.{KeepsTo}
 use Rattle.office_types.specs.declared.command.Entry.{Entry}
 use Rattle.desk_core.specs.declared.clock.Clock as clocks
 use Rattle.desk_core.specs.Answers.{Call}
+use Rattle.desk_core.specs.Submitting.{Submits}
 use Rattle.desk_core.specs.Calls.{Legal}
-use Rattle.desk_core.specs.Desk.{stale_after}
-use Rattle.desk_core.specs.Histories.{HasAcceptedHistory, Begins, BeginsButOne}
+use Rattle.desk_core.specs.Desk.{DeskView, stale_after}
+use Rattle.desk_core.specs.Histories.{HasAcceptedHistory, IsPrefixOf, IsPrefixButOne}
 use Rattle.desk_core.specs.Numbers.{AreNumbers}
-use Rattle.desk_core.specs.Serving.{Opened, Recoverable, AreToldBy, KeepsSlots, Serves}
+use Rattle.desk_core.specs.Opening.{Opens, opened_with}
+use Rattle.desk_core.specs.Turns.{Moves}
+use Rattle.desk_core.specs.Serving.{Opened, Recoverable, AreToldBy, KeepsSlots, DiskServes}
 
 -- whether the desk is stale after these calls
 abbrev pub stale_by : Bool → List Call → Bool
@@ -20,34 +23,39 @@ stale_by stale [] = stale
 stale_by stale (call ∷ calls) = stale_by (stale_after stale call.said) calls
 
 module _ {D : Type 0} (d : disks.Ghosts D) where
-  -- A crash at any moment since the opening leaves a history that begins with the one of the opening, and of which the office
-  -- accepts each entry at its place; but for its last entry it is there at the end.
+  -- A crash at any moment since the opening leaves a history that begins with the one of the opening, and of which
+  -- the office accepts each entry at its place; but for its last entry it is there at the end.
   abbrev pub KeepsHistories : Opened → D → Type 0
   KeepsHistories opened new =
-      (t : ℕ) (s : State) (image : List ℕ) → opened.moment ≤ t → t ≤ d.moment new → d.had_since new t s → IsImage s.journal image
-      → (history : List Entry) × HasAcceptedHistory history image × Begins opened.history history
-      × ((at_end : List ℕ) (last : List Entry) → IsImage (d.state new).journal at_end → HasAcceptedHistory last at_end → BeginsButOne history last)
+      (t : ℕ) (s : State) (image : List ℕ) → opened.moment ≤ t → t ≤ d.moment new
+      → d.had_since new t s → IsImage s.journal image
+      → (history : List Entry) × HasAcceptedHistory history image × IsPrefixOf opened.history history
+      × ((at_end : List ℕ) (last : List Entry) → IsImage (d.state new).journal at_end → HasAcceptedHistory last at_end
+      → IsPrefixButOne history last)
 
   -- What an honest disk keeps of the calls of an office, at every moment from the entry on.
   pub record KeepsCalls (old new : D) (opened : Opened) (calls : List Call) (history : List Entry) : Type 0 where
     -- it began from the history of what the disk read at the entry
     pub read : HasAcceptedHistory opened.history (d.state old).journal.seen
     -- which is the history of every image, where they have one in common
-    pub only : (first : List Entry) → ((image : List ℕ) → IsImage (d.state old).journal image → HasAcceptedHistory first image) → opened.history ≡ first
+    pub only : (first : List Entry)
+        → ((image : List ℕ) → IsImage (d.state old).journal image → HasAcceptedHistory first image)
+        → opened.history ≡ first
     -- up to the opening each image is one that there was at the entry
     pub opening : D
     pub begun : opened.moment ≡ d.moment opening
-    pub before : KeepsTo d.state d.moment d.had_since old opening (Narrower (d.state old))
+    pub before : KeepsTo d old opening (Narrower (d.state old))
     -- from the opening on each image has the history after some number of the first calls
-    pub since : KeepsTo d.state d.moment d.had_since opening new (Recoverable opened calls)
+    pub since : KeepsTo d opening new (Recoverable opened calls)
     -- and each call that was acknowledged by then is among them
-    pub serves : Serves d opened new calls
+    pub serves : DiskServes d opened new calls
     -- no history is lost, but for a last entry
     pub steady : KeepsHistories opened new
     -- at the return, where the desk is not stale
-    pub all : stale_by false calls ≡ false → (image : List ℕ) → IsImage (d.state new).journal image → HasAcceptedHistory history image
+    pub all : stale_by false calls ≡ false → (image : List ℕ) → IsImage (d.state new).journal image
+        → HasAcceptedHistory history image
     -- the files of checkpoints stay
-    pub slots : KeepsTo d.state d.moment d.had_since old new (KeepsSlots (d.state old))
+    pub slots : KeepsTo d old new (KeepsSlots (d.state old))
 
 -- what stands under an office: its disk and its clock
 pub record Outside (D C : Type 0) : Type 0 where
@@ -58,14 +66,27 @@ abbrev pub outside : {D C : Type 0} → D → C → Outside D C
 outside disk clock = record { disk = disk; clock = clock }
 
 module _ {D C : Type 0} (d : disks.Ghosts D) (k : clocks.Ghosts C) where
+  -- A desk was opened over what stands under the office, and each of these calls, in order, was one call of it: so each
+  -- has the cause that a call of a desk has, and a fault of the store comes only in a call in which the disk failed.
+  pub record MovesBy (limit : ℕ) (old new : Outside D C) (opened : Opened) (calls : List Call) : Type 0 where
+    pub first : DeskView D C
+    pub opens : Opens d old.disk old.clock limit first
+    pub opened_is : opened ≡ opened_with d opens.history first
+    pub last : DeskView D C
+    pub moved : Moves (Submits d k) first calls last
+    pub disk : new.disk ≡ last.disk
+    pub clock : new.clock ≡ last.clock
+
   -- The office was opened over what stands under it, answered these calls in order, and was closed.
   pub record AnswersCalls (limit : ℕ) (old new : Outside D C) (calls : List Call) : Type 0 where
     pub opened : Opened
     pub limit_is : opened.limit ≡ limit
     pub history : List Entry
     pub legal : Legal d.honest opened.limit opened.faults calls opened.history history
+    pub calls_are : MovesBy limit old new opened calls
     -- each count of faults that was told rose since the entry, and is not above that at the return
     pub faults : (d.fault_count old.disk ≤ opened.faults) × AreToldBy (d.fault_count new.disk) calls
     -- the clock told the numbers of the calls, where it did not count to its end
-    pub numbers : k.count new.clock < 2 ^ 64 - 1 → (list : List ℕ) × AreNumbers calls list × Appends (k.told old.clock) (k.told new.clock) list
+    pub numbers : k.count new.clock < 2 ^ 64 - 1
+        → (list : List ℕ) × AreNumbers calls list × Appends (k.told old.clock) (k.told new.clock) list
     pub disk : IsTrue d.honest → KeepsCalls d old.disk new.disk opened calls history

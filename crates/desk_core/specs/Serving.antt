@@ -6,7 +6,7 @@ use Rattle.office_types.specs.declared.command.Entry.{Entry}
 use Rattle.meter_journal.specs.History.{header, end_gate}
 use Rattle.desk_core.specs.Answers.{Answer, Call}
 use Rattle.desk_core.specs.Calls.{Legal}
-use Rattle.desk_core.specs.Histories.{HasAcceptedHistory, Begins, BeginsButOne}
+use Rattle.desk_core.specs.Histories.{HasAcceptedHistory, IsPrefixOf, IsPrefixButOne}
 use Rattle.desk_core.specs.declared.fault.DeskFault.{DeskFault}
 use Rattle.desk_core.specs.declared.fault.DeskFault.TheVariants as faults
 
@@ -56,7 +56,8 @@ pub record Recovers (opened : Opened) (calls : List Call) (moment : ℕ) (image 
 -- the image has the history after some number of the first calls
 abbrev pub HasFront : Opened → List Call → List ℕ → Type 0
 HasFront opened calls image =
-    (history : List Entry) × (count : ℕ) × HasAcceptedHistory history image × (count ≤ length calls) × Legal true opened.limit opened.faults (take count calls) opened.history history
+    (history : List Entry) × (count : ℕ) × HasAcceptedHistory history image × (count ≤ length calls)
+    × Legal true opened.limit opened.faults (take count calls) opened.history history
 
 -- each image of the journal file does
 abbrev pub Recoverable : Opened → List Call → State → Type 0
@@ -71,20 +72,26 @@ module _ {D : Type 0} (d : disks.Ghosts D) where
   pub record Agrees (disk : D) (answer : Answer) : Type 0 where
     pub entries : List Entry
     pub place : end_gate header entries ≡ answer.position
-    pub kept : (s : State) (image : List ℕ) (history : List Entry) → d.had_since disk answer.disk_moment s → IsImage s.journal image → HasAcceptedHistory history image
-        → Begins entries history
+    pub kept : (s : State) (image : List ℕ) (history : List Entry) → d.had_since disk answer.disk_moment s
+        → IsImage s.journal image → HasAcceptedHistory history image
+        → IsPrefixOf entries history
 
   -- What holds of an honest disk since the opening, whatever was asked and answered.
-  pub record Serves (opened : Opened) (disk : D) (calls : List Call) : Type 0 where
+  pub record DiskServes (opened : Opened) (disk : D) (calls : List Call) : Type 0 where
     pub later : opened.moment ≤ d.moment disk
     -- at every moment since the opening, and of every image
-    pub left : (t : ℕ) (s : State) (image : List ℕ) → opened.moment ≤ t → t ≤ d.moment disk → d.had_since disk t s → IsImage s.journal image → Recovers opened calls t image
+    pub left : (t : ℕ) (s : State) (image : List ℕ) → opened.moment ≤ t → t ≤ d.moment disk → d.had_since disk t s
+        → IsImage s.journal image → Recovers opened calls t image
     pub agrees : (place : ℕ) (answer : Answer) → IsAckedAt calls place answer → Agrees disk answer
     -- of every image now the calls are all there
-    pub whole : (image : List ℕ) (history : List Entry) → IsImage (d.state disk).journal image → HasAcceptedHistory history image → Legal true opened.limit opened.faults calls opened.history history
+    pub whole : (image : List ℕ) (history : List Entry) → IsImage (d.state disk).journal image
+        → HasAcceptedHistory history image → Legal true opened.limit opened.faults calls opened.history history
     -- what a crash would have left is there still, but for one entry at its end
-    pub steady : (t : ℕ) (s : State) (image : List ℕ) (history : List Entry) → opened.moment ≤ t → t ≤ d.moment disk → d.had_since disk t s → IsImage s.journal image → HasAcceptedHistory history image
-        → (image_now : List ℕ) (history_now : List Entry) → IsImage (d.state disk).journal image_now → HasAcceptedHistory history_now image_now → BeginsButOne history history_now
+    pub steady : (t : ℕ) (s : State) (image : List ℕ) (history : List Entry) → opened.moment ≤ t → t ≤ d.moment disk
+        → d.had_since disk t s → IsImage s.journal image → HasAcceptedHistory history image
+        → (image_now : List ℕ) (history_now : List Entry) → IsImage (d.state disk).journal image_now
+        → HasAcceptedHistory history_now image_now → IsPrefixButOne history history_now
     -- no moment or count that was told is one to come
-    pub told : (place : ℕ) (answer : Answer) → IsAckedAt calls place answer → (opened.moment ≤ answer.disk_moment) × (answer.disk_moment ≤ d.moment disk)
+    pub told : (place : ℕ) (answer : Answer) → IsAckedAt calls place answer
+        → (opened.moment ≤ answer.disk_moment) × (answer.disk_moment ≤ d.moment disk)
     pub faults : (opened.faults ≤ d.fault_count disk) × AreToldBy (d.fault_count disk) calls

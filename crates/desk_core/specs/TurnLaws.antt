@@ -10,7 +10,7 @@ use Rattle.plain_office.specs.Run.{run}
 use Rattle.office_types.specs.declared.command.Ask.{Ask}
 use Rattle.office_types.specs.declared.command.Entry.{Entry}
 use Rattle.desk_core.specs.Answers.{Answer, Call}
-use Rattle.desk_core.specs.Asking.{Submits}
+use Rattle.desk_core.specs.Submitting.{Submits}
 use Rattle.desk_core.specs.Calls.{Legal}
 use Rattle.desk_core.specs.Desk.{DeskView, StandsFor}
 use Rattle.desk_core.specs.Serving.{Opened}
@@ -22,8 +22,10 @@ by_honesty : {P : Type 0} (honest : Bool) → (IsTrue honest → P) → ((IsTrue
 by_honesty true tells silent = tells refl
 by_honesty false tells silent = silent (λ is. absurd cc)
 
-honest_legal : (honest : Bool) (limit counted : ℕ) (calls : List Call) (before after : List Entry) → IsTrue honest → Legal true limit counted calls before after → Legal honest limit counted calls before after
-honest_legal honest limit counted calls before after tells rule = subst (λ (b : Bool). Legal b limit counted calls before after) (sym tells) rule
+honest_legal : (honest : Bool) (limit counted : ℕ) (calls : List Call) (before after : List Entry) → IsTrue honest
+    → Legal true limit counted calls before after → Legal honest limit counted calls before after
+honest_legal honest limit counted calls before after tells rule =
+    subst (λ (b : Bool). Legal b limit counted calls before after) (sym tells) rule
 
 none_runs : IsSome (run [])
 unfolding run
@@ -33,7 +35,8 @@ module _ {D C : Type 0} (d : disks.Ghosts D) (k : clocks.Ghosts C) where
   abbrev Step : DeskView D C → Ask → Result Answer DeskFault → DeskView D C → Type 0
   Step = Submits d k
 
-  pub stands_on : (opened : Opened) (done calls : List Call) (old new : DeskView D C) → StandsFor d opened done old → Moves Step old calls new
+  pub stands_on : (opened : Opened) (done calls : List Call) (old new : DeskView D C) → StandsFor d opened done old
+      → Moves Step old calls new
       → StandsFor d opened (done ++ calls) new
   stands_on opened done [] old new s same =
       subst (λ (list : List Call). StandsFor d opened list new) (sym (append-nil done))
@@ -43,7 +46,8 @@ module _ {D C : Type 0} (d : disks.Ghosts D) (k : clocks.Ghosts C) where
       (stands_on opened (done ++ call ∷ []) calls path.0 new (path.1.stands opened done s).stands path.2)
 
   module _ (counts_now : (disk : D) (t : ℕ) → t ≤ d.moment disk → d.had_since disk t (d.state disk))
-      (reads_image : IsTrue d.honest → (disk : D) (file : FileNo) → IsImage (file_in file (d.state disk)) (seen_in file (d.state disk))) where
+      (reads_image : IsTrue d.honest → (disk : D) (file : FileNo)
+      → IsImage (file_in file (d.state disk)) (seen_in file (d.state disk))) where
     module _ (opened : Opened) (calls : List Call) (desk : DeskView D C) (s : StandsFor d opened calls desk) where
       abbrev Leads : Type 0
       Leads = (history : List Entry) × Legal d.honest opened.limit opened.faults calls opened.history history
@@ -55,8 +59,12 @@ module _ {D C : Type 0} (d : disks.Ghosts D) (k : clocks.Ghosts C) where
           let disk = desk.disk in
           let seen = (d.state disk).journal.seen in
           let own = reads_image tells disk Journal in
-          let r = serves.left (d.moment disk) (d.state disk) seen serves.later (omega arith) (counts_now disk (d.moment disk) (omega arith)) own in
-          (r.history, honest_legal d.honest opened.limit opened.faults calls opened.history r.history tells (serves.whole seen r.history own r.has))
+          let r = serves.left (d.moment disk) (d.state disk) seen serves.later (omega arith)
+          (counts_now disk (d.moment disk) (omega arith)) own in (
+            r.history,
+            honest_legal d.honest opened.limit opened.faults calls opened.history r.history tells
+                (serves.whole seen r.history own r.has),
+          )
 
       by_staleness : (stale : Bool) → desk.stale ≡ stale → Leads
       by_staleness false is = let h = s.holds is in (h.0, h.1)
@@ -65,6 +73,8 @@ module _ {D C : Type 0} (d : disks.Ghosts D) (k : clocks.Ghosts C) where
       legal : Leads
       legal = by_staleness desk.stale refl
 
-    pub legal_since : (first desk : DeskView D C) (pairs : List (Ask × Result Answer DeskFault)) → Reaches d k first desk pairs
+    pub legal_since : (first desk : DeskView D C) (pairs : List (Ask × Result Answer DeskFault))
+        → Reaches d k first desk pairs
         → LegalSince d first pairs
-    legal_since first desk pairs path opened stood = legal opened (calls_from pairs) desk (stands_on opened [] (calls_from pairs) first desk stood path)
+    legal_since first desk pairs path opened stood =
+        legal opened (calls_from pairs) desk (stands_on opened [] (calls_from pairs) first desk stood path)

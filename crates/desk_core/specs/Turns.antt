@@ -4,7 +4,7 @@ use Rattle.disk_core.specs.declared.disk.Disk as disks
 use Rattle.office_types.specs.declared.command.Ask.{Ask}
 use Rattle.office_types.specs.declared.command.Entry.{Entry}
 use Rattle.desk_core.specs.Answers.{Answer, Call}
-use Rattle.desk_core.specs.Asking.{Submits}
+use Rattle.desk_core.specs.Submitting.{Submits}
 use Rattle.desk_core.specs.Calls.{Legal}
 use Rattle.desk_core.specs.Desk.{DeskView, StandsFor}
 use Rattle.desk_core.specs.Serving.{Opened}

@@ -27,7 +27,13 @@ impl Model for Acked {
 
     ghost Value = { Answer };
 
-    ghost view = { λ a. record { moment = a.moment; told = a.told; reply = a.reply; position = a.position; disk_moment = a.at.value } };
+    ghost view = { λ a. record {
+      moment = a.moment;
+      told = a.told;
+      reply = a.reply;
+      position = a.position;
+      disk_moment = a.at.value;
+    } };
 
     // Want of memory is no answer of the office, and each answer is one that can be printed.
     ghost invariant = { λ a. (a.reply ≡ Err NoMemory → ⊥) × AnswerFits a.reply };
@@ -43,7 +49,8 @@ impl Acked {
     ) -> Acked
         requires enough { reply ≡ Err NoMemory → ⊥ }
         requires reply_fits { AnswerFits reply }
-        ensures { result ≡ record { moment = moment; told = told; reply = reply; position = position; disk_moment = at.value } }
+        ensures { result
+            ≡ record { moment = moment; told = told; reply = reply; position = position; disk_moment = at.value } }
     {
         Acked {
             moment,

@@ -2,18 +2,19 @@
 ghost use Rattle.std.specs.Prelude.{◌≡◌, ◌⊎◌, ◌<◌, ◌≤◌, ◌-◌, ◌^◌, ◌++◌, ◌∷◌};
 ghost use Rattle.std.specs.Prelude.{[], List, true, false, IsTrue, IsOk, IfOk, IfErr, Err};
 ghost use Rattle.office_base.specs.Faults.{Rose};
-ghost use Rattle.disk_core.specs.Kept.{Narrower};
+ghost use Rattle.disk_core.specs.Fronts.{Narrower};
 ghost use Rattle.disk_core.specs.Moments.{KeepsTo};
 ghost use Rattle.moments.specs.Time.{end_of_time};
 ghost use Rattle.office_types.specs.Fits.{AnswerFits};
 ghost use Rattle.office_types.specs.declared.command.Entry.{Entry};
 ghost use Rattle.desk_core.specs.Answers.{Call};
-ghost use Rattle.desk_core.specs.Asking.{IsOffice, HasCauses, Submits, Unopened};
-ghost use Rattle.desk_core.specs.Breaking.{OpenFails};
-ghost use Rattle.desk_core.specs.Desk.{Parts, DeskView, parts_of, StandsFor, GoesOn};
-ghost use Rattle.desk_core.specs.Desk.{TellsFault, IsNumber, IsLast, IsStamped, stale_after};
+ghost use Rattle.desk_core.specs.Submitting.{IsOffice, HasCauses, Submits, Unopened};
+ghost use Rattle.desk_core.specs.Damage.{OpenFails};
+ghost use Rattle.desk_core.specs.Desk.{EngineView, DeskView, engine_of, StandsFor, GoesOn};
+ghost use Rattle.desk_core.specs.Desk.{TellsFault, IsLast, IsStamped, stale_after};
 ghost use Rattle.desk_core.specs.Histories.{HasAcceptedHistory};
 ghost use Rattle.desk_core.specs.Looking.{IsReadAfter};
+ghost use Rattle.desk_core.specs.Numbers.{IsNumber};
 ghost use Rattle.desk_core.specs.Opening.{Opens};
 ghost use Rattle.desk_core.specs.Serving.{Opened};
 
@@ -43,10 +44,18 @@ impl<D: Disk + Drop, C: Clock + Drop> Model for Desk<D, C> {
 
     ghost Value = { DeskView D C };
 
-    ghost view = { λ d. record { disk = d.engine.disk; clock = d.engine.clock; office = d.engine.office; gate = d.engine.gate; limit = d.engine.limit; stale = d.stale } };
+    ghost view = { λ d. record {
+      disk = d.engine.disk;
+      clock = d.engine.clock;
+      office = d.engine.office;
+      gate = d.engine.gate;
+      limit = d.engine.limit;
+      stale = d.stale;
+    } };
 
     // A desk that is not stale holds its journal as it was read, and each image of an honest disk has a history.
-    ghost invariant = { λ d. (d.stale ≡ false → IsReady D.Disk d.engine) × (IsTrue D.honest → IsSound (D.state d.engine.disk)) };
+    ghost invariant = { λ d. (d.stale ≡ false → IsReady D.Disk d.engine)
+        × (IsTrue D.honest → IsSound (D.state d.engine.disk)) };
 }
 
 // Whether the journal has to be opened again after a call.
@@ -97,7 +106,7 @@ impl<D: Disk + Drop, C: Clock + Drop> Desk<D, C> {
 
         // Then each image of the disk is one that it had, at every moment of the call.
         ensures any_moment { IsTrue D.honest
-            → IfErr result (λ e. KeepsTo D.state D.moment D.had_since disk e.1 (Narrower (D.state disk))) }
+            → IfErr result (λ e. KeepsTo D.Disk disk e.1 (Narrower (D.state disk))) }
         ensures clock { IfErr result (λ e. e.2 ≡ clock) }
         ensures later { IfErr result (λ e. D.fault_count disk ≤ D.fault_count e.1) }
         ensures fault { IfErr result (λ e. e.0 ≡ OpenFault.StoreFault → Rose (D.fault_count disk) (D.fault_count e.1)) }
@@ -149,9 +158,9 @@ impl<D: Disk + Drop, C: Clock + Drop> Desk<D, C> {
             → GoesOn D.Disk opened (calls ++ record { ask = ask.now; said = result } ∷ []) self.old.disk self.new }
 
         // The office that answers is the desk's own, or of a stale desk one that was opened again, where it could be.
-        ensures causes { Unopened D.Disk self.old.stale (parts_of self.old) (parts_of self.new) result
-            ⊎ ((office : Parts D C) × IsOffice D.Disk self.old.stale (parts_of self.old) office
-            × HasCauses D.Disk C.Clock office ask.now result (parts_of self.new)) }
+        ensures causes { Unopened D.Disk self.old.stale (engine_of self.old) (engine_of self.new) result
+            ⊎ ((office : EngineView D C) × IsOffice D.Disk self.old.stale (engine_of self.old) office
+            × HasCauses D.Disk C.Clock office ask.now result (engine_of self.new)) }
 
         // So an honest disk has no broken journal.
         ensures not_broken { IsTrue D.honest → (fault : OpenFault) → (result ≡ Err (DeskFault.Broken fault) → ⊥) }
@@ -172,7 +181,7 @@ impl<D: Disk + Drop, C: Clock + Drop> Desk<D, C> {
         if let Err(fault) = self.engine.refresh(self.stale) {
             return Err(fault);
         }
-        let said = self.engine.ask(ask);
+        let said = self.engine.answer_now(ask);
         self.stale = is_stale(self.stale, &said);
         said
     }

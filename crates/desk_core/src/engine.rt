@@ -7,16 +7,18 @@ ghost use Rattle.office_types.specs.declared.command.Entry.{Entry};
 ghost use Rattle.office_types.specs.declared.command.Ask.TheVariants as ask_of;
 ghost use Rattle.office_types.specs.declared.refusal.Refusal.TheVariants.{NoMemory};
 ghost use Rattle.office_types.specs.Fits.{ReplyFits, AnswerFits};
-ghost use Rattle.plain_office.specs.Run.{is_not_before, entry_at};
-ghost use Rattle.entry_codec.specs.Spelling.{Fits, IsEntry, spelling};
+ghost use Rattle.office_types.specs.Entries.{entry_at};
+ghost use Rattle.plain_office.specs.Run.{is_not_before};
+ghost use Rattle.entry_codec.specs.Spelling.{EntryFits, IsEntry, spelling};
 ghost use Rattle.meter_journal.specs.History.{header, end_gate, IsAtRest};
 ghost use Rattle.desk_core.specs.Calls.{moment_after};
-ghost use Rattle.desk_core.specs.Desk.{Parts, Holds, IsReady, IsNumber, IsLast, IsStamped, stale_after};
-ghost use Rattle.desk_core.specs.Asking.{PassesLimit, HasCauses};
+ghost use Rattle.desk_core.specs.Desk.{EngineView, HoldsHistory, IsReady, IsLast, IsStamped, stale_after};
+ghost use Rattle.desk_core.specs.Submitting.{PassesLimit, HasCauses};
 ghost use Rattle.desk_core.specs.Histories.{IsSound};
 ghost use Rattle.desk_core.specs.Looking.{IsRead};
+ghost use Rattle.desk_core.specs.Numbers.{IsNumber};
 ghost use Rattle.desk_core.specs.Offices.{StandsAfter};
-ghost use Rattle.desk_core.specs.Keeping.{Adds, Keeps, Answers, Asks};
+ghost use Rattle.desk_core.specs.Answering.{AddsEntry, AnswersInTime, AnswersAt, AnswersAsk};
 
 use crate::acked::Acked;
 use crate::clock::Clock;
@@ -41,11 +43,17 @@ pub(crate) struct Engine<D: Disk + Drop, C: Clock + Drop> {
 
 impl<D: Disk + Drop, C: Clock + Drop> Model for Engine<D, C> {
     ghost use Rattle.std.specs.Prelude.{◌≤◌, ◌^◌};
-    ghost use Rattle.desk_core.specs.Desk.{Parts};
+    ghost use Rattle.desk_core.specs.Desk.{EngineView};
 
-    ghost Value = { Parts D C };
+    ghost Value = { EngineView D C };
 
-    ghost view = { λ e. record { disk = e.journal.disk; clock = e.clock; office = e.office; gate = e.journal.gate; limit = e.journal.limit } };
+    ghost view = { λ e. record {
+      disk = e.journal.disk;
+      clock = e.clock;
+      office = e.office;
+      gate = e.journal.gate;
+      limit = e.journal.limit;
+    } };
 
     ghost invariant = { λ e. e.journal.limit ≤ 2 ^ 45 };
 }
@@ -87,7 +95,14 @@ impl<D: Disk + Drop, C: Clock + Drop> Engine<D, C> {
     fn answer(&self, moment: u64, told: u64, reply: Result<Reply, Refusal>) -> Acked
         requires enough { reply ≡ Err NoMemory → ⊥ }
         requires reply_fits { AnswerFits reply }
-        ensures { result ≡ record { moment = moment; told = told; reply = reply; position = self.now.gate; disk_moment = D.moment self.now.disk } }
+        ensures { result
+            ≡ record {
+              moment = moment;
+              told = told;
+              reply = reply;
+              position = self.now.gate;
+              disk_moment = D.moment self.now.disk;
+            } }
     {
         Acked::new(
             moment,
@@ -99,7 +114,7 @@ impl<D: Disk + Drop, C: Clock + Drop> Engine<D, C> {
     }
 
     // Adds the entry of a command that the office did.
-    fn add(
+    fn append_then_answer(
         &mut self,
         moment: Moment,
         told: u64,
@@ -112,10 +127,10 @@ impl<D: Disk + Drop, C: Clock + Drop> Engine<D, C> {
         requires at_rest { IsTrue D.honest → (before : List Entry)
             × IsAtRest header (D.state self.old.disk) self.old.gate before }
 
-        ensures adds { (before : List Entry) (e : Entry) → Fits e → bytes.now ≡ spelling e
+        ensures adds { (before : List Entry) (e : Entry) → EntryFits e → bytes.now ≡ spelling e
             → self.old.gate ≡ end_gate header before
             → (IsTrue D.honest → IsAtRest header (D.state self.old.disk) self.old.gate before)
-            → Adds D.Disk moment told (Ok reply) before e self.old self.new result }
+            → AddsEntry D.Disk moment told (Ok reply) before e self.old self.new result }
         ensures office { self.new.office ≡ self.old.office }
         ensures clock { self.new.clock ≡ self.old.clock }
         ensures limit { self.new.limit ≡ self.old.limit }
@@ -134,7 +149,7 @@ impl<D: Disk + Drop, C: Clock + Drop> Engine<D, C> {
     }
 
     // Does a command at a moment, and adds its entry where the office accepts it.
-    fn keep(
+    fn apply_then_append(
         &mut self,
         moment: Moment,
         told: u64,
@@ -142,13 +157,14 @@ impl<D: Disk + Drop, C: Clock + Drop> Engine<D, C> {
         bytes: &[u8],
     ) -> Result<Acked, DeskFault>
         requires spelled { bytes.now ≡ spelling (entry_at moment command.now) }
-        requires entry { Fits (entry_at moment command.now) }
+        requires entry { EntryFits (entry_at moment command.now) }
         requires later { IsTrue (is_not_before self.old.office.last moment) }
         requires fits { self.old.gate + 6 + length bytes.now ≤ self.old.limit }
         requires ready { IsReady D.Disk self.old }
 
-        ensures keeps { (before : List Entry) (hold : Holds D.Disk before self.old)
-            → Keeps D.Disk moment told (ask_of.Command command.now) hold.office.plain before self.old self.new result }
+        ensures keeps { (before : List Entry) (hold : HoldsHistory D.Disk before self.old)
+            → AnswersInTime D.Disk moment told
+            (ask_of.Command command.now) hold.office.plain before self.old self.new result }
         ensures clock { self.new.clock ≡ self.old.clock }
         ensures limit { self.new.limit ≡ self.old.limit }
         ensures later { D.fault_count self.old.disk ≤ D.fault_count self.new.disk }
@@ -156,7 +172,7 @@ impl<D: Disk + Drop, C: Clock + Drop> Engine<D, C> {
         match self.office.apply(moment, command) {
             Ok(reply) => match reply {
                 Reply::NothingDue => { Ok(self.answer(moment.ms(), told, Ok(Reply::NothingDue))) }
-                done => self.add(moment, told, done, bytes),
+                done => self.append_then_answer(moment, told, done, bytes),
             },
             Err(refusal) => match refusal {
                 Refusal::NoMemory => Err(DeskFault::NoMemory),
@@ -166,12 +182,18 @@ impl<D: Disk + Drop, C: Clock + Drop> Engine<D, C> {
     }
 
     // Does a command at a moment, where its frame fits.
-    fn command(&mut self, moment: Moment, told: u64, command: &Command) -> Result<Acked, DeskFault>
+    fn run_command(
+        &mut self,
+        moment: Moment,
+        told: u64,
+        command: &Command,
+    ) -> Result<Acked, DeskFault>
         requires later { IsTrue (is_not_before self.old.office.last moment) }
         requires ready { IsReady D.Disk self.old }
 
-        ensures keeps { (before : List Entry) (hold : Holds D.Disk before self.old)
-            → Keeps D.Disk moment told (ask_of.Command command.now) hold.office.plain before self.old self.new result }
+        ensures keeps { (before : List Entry) (hold : HoldsHistory D.Disk before self.old)
+            → AnswersInTime D.Disk moment told
+            (ask_of.Command command.now) hold.office.plain before self.old self.new result }
         ensures full { PassesLimit moment self.old.gate self.old.limit (ask_of.Command command.now)
             → (result ≡ Err DeskFault.JournalFull) ⊎ (result ≡ Err DeskFault.NoMemory) }
         ensures clock { self.new.clock ≡ self.old.clock }
@@ -184,16 +206,17 @@ impl<D: Disk + Drop, C: Clock + Drop> Engine<D, C> {
         if !self.journal.fits(bytes.len() as u64) {
             return Err(DeskFault::JournalFull);
         }
-        self.keep(moment, told, command, &bytes)
+        self.apply_then_append(moment, told, command, &bytes)
     }
 
     // Answers a query at a moment.
-    fn query(&self, moment: Moment, told: u64, query: &Query) -> Result<Acked, DeskFault>
+    fn answer_query(&self, moment: Moment, told: u64, query: &Query) -> Result<Acked, DeskFault>
         requires later { IsTrue (is_not_before self.now.office.last moment) }
         requires ready { IsReady D.Disk self.now }
 
-        ensures keeps { (before : List Entry) (hold : Holds D.Disk before self.now)
-            → Keeps D.Disk moment told (ask_of.Query query.now) hold.office.plain before self.now self.now result }
+        ensures keeps { (before : List Entry) (hold : HoldsHistory D.Disk before self.now)
+            → AnswersInTime D.Disk moment told
+            (ask_of.Query query.now) hold.office.plain before self.now self.now result }
     {
         match self.office.answer(moment, query) {
             Ok(reply) => Ok(self.answer(moment.ms(), told, Ok(reply))),
@@ -219,12 +242,12 @@ impl<D: Disk + Drop, C: Clock + Drop> Engine<D, C> {
     }
 
     // Answers an ask at a moment, which may be past the end of time.
-    fn submit_at(&mut self, moment: u64, told: u64, ask: &Ask) -> Result<Acked, DeskFault>
+    fn answer_at(&mut self, moment: u64, told: u64, ask: &Ask) -> Result<Acked, DeskFault>
         requires later { IsTrue (is_not_before self.old.office.last moment) }
         requires ready { IsReady D.Disk self.old }
 
-        ensures answers { (before : List Entry) (hold : Holds D.Disk before self.old)
-            → Answers D.Disk moment told ask.now hold.office.plain before self.old self.new result }
+        ensures answers { (before : List Entry) (hold : HoldsHistory D.Disk before self.old)
+            → AnswersAt D.Disk moment told ask.now hold.office.plain before self.old self.new result }
         ensures full { PassesLimit moment self.old.gate self.old.limit ask.now → (result ≡ Err DeskFault.JournalFull)
             ⊎ (result ≡ Err DeskFault.NoMemory) }
         ensures clock { self.new.clock ≡ self.old.clock }
@@ -235,16 +258,16 @@ impl<D: Disk + Drop, C: Clock + Drop> Engine<D, C> {
             return Ok(self.answer(moment, told, Err(Refusal::ClockEnd { moment })));
         };
         match ask {
-            Ask::Command(command) => self.command(at, told, command),
-            Ask::Query(query) => self.query(at, told, query),
+            Ask::Command(command) => self.run_command(at, told, command),
+            Ask::Query(query) => self.answer_query(at, told, query),
         }
     }
 
     // Asks the clock, and answers at its number.
-    pub(crate) fn ask(&mut self, ask: &Ask) -> Result<Acked, DeskFault>
+    pub(crate) fn answer_now(&mut self, ask: &Ask) -> Result<Acked, DeskFault>
         requires ready { IsReady D.Disk self.old }
 
-        ensures asks { Asks D.Disk (C.last self.new.clock) ask.now self.old self.new result }
+        ensures asks { AnswersAsk D.Disk (C.last self.new.clock) ask.now self.old self.new result }
         ensures tells { HasCauses D.Disk C.Clock self.old ask.now result self.new }
         ensures number { C.count self.new.clock < 2 ^ 64 - 1
             → IsNumber (C.told self.old.clock) (C.told self.new.clock) result }
@@ -260,6 +283,6 @@ impl<D: Disk + Drop, C: Clock + Drop> Engine<D, C> {
     {
         let told = self.clock.now();
         let moment = moment_for(told, self.office.last());
-        self.submit_at(moment, told, ask)
+        self.answer_at(moment, told, ask)
     }
 }

@@ -3,7 +3,7 @@ ghost use Rattle.std.specs.Prelude.{◌≡◌, ◌⊎◌, ◌+◌, ◌<◌, ◌�
 ghost use Rattle.std.specs.Prelude.{length, true, IsTrue, Some, None, Ok, Err, IfErr, IfOk, OnOk, IsErrOf};
 ghost use Rattle.office_base.specs.Faults.{Rose};
 ghost use Rattle.disk_core.specs.Files.{synced_file};
-ghost use Rattle.disk_core.specs.Kept.{Narrower};
+ghost use Rattle.disk_core.specs.Fronts.{Narrower};
 ghost use Rattle.disk_core.specs.Moments.{KeepsTo, Untouched};
 ghost use Rattle.office_types.specs.declared.command.Entry.{Entry};
 ghost use Rattle.office_types.specs.declared.reply.Reply.TheVariants.{NothingDue};
@@ -11,8 +11,8 @@ ghost use Rattle.plain_office.specs.Run.{accept, is_not_before};
 ghost use Rattle.plain_office.specs.Step.{is_accepted};
 ghost use Rattle.bucket_account.specs.Standing.{most_commands};
 ghost use Rattle.meter_journal.specs.Reading.{IsMade, HasStoreCause};
-ghost use Rattle.desk_core.specs.Asking.{Reopens, IsOffice, Unopened};
-ghost use Rattle.desk_core.specs.Breaking.{HasReplayed, ReplayFails, OpenFails, IsBroken};
+ghost use Rattle.desk_core.specs.Submitting.{Reopens, IsOffice, Unopened};
+ghost use Rattle.desk_core.specs.Damage.{HasReplayed, ReplayFails, OpenFails, IsBroken};
 ghost use Rattle.desk_core.specs.Offices.{StandsAfter};
 
 use crate::clock::Clock;
@@ -87,7 +87,7 @@ fn replay<D: Disk>(
     ensures read { OnOk result (HasReplayed D.Disk journal.old.disk journal.new.disk journal.new.gate office.new) }
     ensures fails { IsTrue D.honest → (file : List ℕ) → (D.state journal.old.disk).journal ≡ synced_file file
         → IsMade file → IfErr result (λ e. ReplayFails e file) }
-    ensures untouched { IsTrue D.honest → Untouched D.state D.moment D.had_since journal.old.disk journal.new.disk }
+    ensures untouched { IsTrue D.honest → Untouched D.Disk journal.old.disk journal.new.disk }
     ensures limit { journal.new.limit ≡ journal.old.limit }
     ensures cause { HasStoreCause (D.fault_count journal.old.disk) (D.fault_count journal.new.disk) result }
 {
@@ -114,7 +114,7 @@ impl<D: Disk + Drop, C: Clock + Drop> Engine<D, C> {
         ensures opens { OnOk result (Reopens D.Disk self.old self.new) }
         ensures fails { IsTrue D.honest → IfErr result (λ e. OpenFails e (D.state self.old.disk).journal.seen) }
         ensures any_moment { IsTrue D.honest
-            → KeepsTo D.state D.moment D.had_since self.old.disk self.new.disk (Narrower (D.state self.old.disk)) }
+            → KeepsTo D.Disk self.old.disk self.new.disk (Narrower (D.state self.old.disk)) }
         ensures clock { self.new.clock ≡ self.old.clock }
         ensures limit { self.new.limit ≡ self.old.limit }
         ensures cause { HasStoreCause (D.fault_count self.old.disk) (D.fault_count self.new.disk) result }
@@ -131,7 +131,7 @@ impl<D: Disk + Drop, C: Clock + Drop> Engine<D, C> {
     pub(crate) fn refresh(&mut self, stale: bool) -> Result<(), DeskFault>
         ensures office { OnOk result (IsOffice D.Disk stale self.old self.new) }
         ensures any_moment { IsTrue D.honest
-            → KeepsTo D.state D.moment D.had_since self.old.disk self.new.disk (Narrower (D.state self.old.disk)) }
+            → KeepsTo D.Disk self.old.disk self.new.disk (Narrower (D.state self.old.disk)) }
         ensures unopened { IfErr result (λ fault. Unopened D.Disk stale self.old self.new (Err fault)) }
     {
         if !stale {

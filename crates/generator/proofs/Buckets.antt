@@ -19,11 +19,11 @@ use Rattle.office_types.specs.declared.refusal.What.TheVariants.{Buckets, Versio
 use Rattle.plain_office.specs.Office.{Office, Account, empty_office}
 use Rattle.plain_office.specs.Counts.{count_of, first_full, over_buckets, version_count}
 use Rattle.plain_office.specs.Step.{◌>>=◌, Change, Outcome, refuse_if, unless_full, within_limits, on_bucket, new_account, create_bucket, settled, outcome, step, put_object, delete, set_versioning, set_rules, delete_version, start_upload, put_part, complete, act}
-use Rattle.generator.specs.Drafts.{name_of, key_named, id_of, rules_set, command_of}
+use Rattle.generator.specs.Drafts.{name_of, key_named, drafted_id, rules_set, draft_command}
 use Rattle.generator.specs.Draws.{draw, state_after}
-use Rattle.generator.specs.Places.{class_at, first_draft, draft_of, kind_at, drawn, draft_at, place_after}
+use Rattle.generator.specs.Places.{class_ranked, first_draft, draft_of, kind_drawn, drawn, draft_at, place_after}
 use Rattle.generator.specs.Generated.{Progress, after_entry, after_entries, generated, progress}
-use Rattle.generator.specs.Working.{in_buckets, upload_count}
+use Rattle.generator.specs.Working.{counted_in_first, upload_count}
 use Rattle.generator.specs.declared.draft.Draft.{Draft}
 use Rattle.generator.specs.declared.draft.Draft.TheVariants as draft
 use Rattle.generator.specs.declared.place.Place.{Place}
@@ -106,13 +106,13 @@ within_if false false false false false false d0 d1 d2 d3 d4 d5 d6 x0 x1 x2 x3 x
 later_within : (kind bucket key x : ℕ) → bucket < 4 → IsWithin (draft_of kind bucket key x)
 later_within kind bucket key x small =
     within_if (nat_lt kind 7) (kind == 7) (kind == 8) (kind == 9) (kind == 10) (kind == 11)
-    (draft.Put bucket key (draw 0 x % 1_048_576) (class_at (draw 1 x % 6))) (draft.Delete bucket key)
+    (draft.Put bucket key (draw 0 x % 1_048_576) (class_ranked (draw 1 x % 6))) (draft.Delete bucket key)
     (draft.DeleteVersion bucket key (draw 0 x % 8)) (draft.StartUpload bucket key)
     (draft.PutPart bucket (1 + draw 0 x % 8) (1 + draw 1 x % 4) (draw 2 x % 1_048_576))
     (draft.Complete bucket (1 + draw 0 x % 8)) (draft.Act bucket) small small small small small small small
 
 drawn_within : (x : ℕ) → IsWithin (drawn x)
-drawn_within x = later_within (kind_at x) (draw 1 x % 4) (draw 3 x % 500) (state_after 4 x) (omega arith)
+drawn_within x = later_within (kind_drawn x) (draw 1 x % 4) (draw 3 x % 500) (state_after 4 x) (omega arith)
 
 draft_within_by : (place : Place) (b : Bool) → nat_lt place.made 8 ≡ b → 4 ≤ place.made → IsWithin (cond b (first_draft place.made) (drawn place.state))
 draft_within_by place true is from = first_within place.made from is
@@ -161,7 +161,7 @@ module _ (p : Office) (same : names p.accounts ≡ four) where
     create_keeps : (t : ℕ) → Keeps (create_bucket t (name_of bucket) p)
     create_keeps t = refuse_keeps (is_some (at_name (name_of bucket) p.accounts)) BucketExists _ (written (new_account t))
 
-  outcome_keeps : (t : ℕ) (d : Draft) → IsWithin d → Keeps (outcome t (command_of d) p)
+  outcome_keeps : (t : ℕ) (d : Draft) → IsWithin d → Keeps (outcome t (draft_command d) p)
   unfolding outcome
   outcome_keeps t (draft.CreateBucket bucket) h = within_keeps (Buckets ∷ []) _ (create_keeps bucket h t)
   outcome_keeps t (draft.Enable bucket) h = bucket_keeps bucket h (set_versioning t true)
@@ -170,7 +170,7 @@ module _ (p : Office) (same : names p.accounts ≡ four) where
   outcome_keeps t (draft.Put bucket key size class) h =
       within_keeps (Versions ∷ Names ∷ []) _ (bucket_keeps bucket h (put_object t (key_named key) size class []))
   outcome_keeps t (draft.Delete bucket key) h = within_keeps _ _ (bucket_keeps bucket h (delete t (key_named key)))
-  outcome_keeps t (draft.DeleteVersion bucket key id) h = bucket_keeps bucket h (delete_version t (key_named key) (id_of id))
+  outcome_keeps t (draft.DeleteVersion bucket key id) h = bucket_keeps bucket h (delete_version t (key_named key) (drafted_id id))
   outcome_keeps t (draft.StartUpload bucket key) h =
       within_keeps (Uploads ∷ Names ∷ []) _ (bucket_keeps bucket h (start_upload t (key_named key) Standard []))
   outcome_keeps t (draft.PutPart bucket upload part size) h = within_keeps (Parts ∷ []) _ (bucket_keeps bucket h (put_part t upload part size))
@@ -182,9 +182,9 @@ module _ (p : Office) (same : names p.accounts ≡ four) where
   settled_keeps t (Ok (after, NothingDue)) k = same
   settled_keeps t (Ok (after, reply)) k = k
 
-  step_keeps : (t : ℕ) (d : Draft) → IsWithin d → names (step t (command_of d) p).0.accounts ≡ four
+  step_keeps : (t : ℕ) (d : Draft) → IsWithin d → names (step t (draft_command d) p).0.accounts ≡ four
   unfolding step
-  step_keeps t d h = settled_keeps t (outcome t (command_of d) p) (outcome_keeps t d h)
+  step_keeps t d h = settled_keeps t (outcome t (draft_command d) p) (outcome_keeps t d h)
 
 -- ---- after the first four commands they are there
 
@@ -211,7 +211,7 @@ with_accounts accounts = record empty_office { accounts = accounts }
 
 sum_named : (count : BucketRecord → ℕ) (n0 n1 n2 n3 : List ℕ) (a b c d : Account)
     → n0 ≡ name_of 0 → n1 ≡ name_of 1 → n2 ≡ name_of 2 → n3 ≡ name_of 3
-    → in_buckets count 4 (with_accounts ((n0, a) ∷ (n1, b) ∷ (n2, c) ∷ (n3, d) ∷ []))
+    → counted_in_first count 4 (with_accounts ((n0, a) ∷ (n1, b) ∷ (n2, c) ∷ (n3, d) ∷ []))
     ≡ over_buckets count (with_accounts ((n0, a) ∷ (n1, b) ∷ (n2, c) ∷ (n3, d) ∷ []))
 unfolding digits
 sum_named count n0 n1 n2 n3 a b c d is0 is1 is2 is3 = rw (is0, is1, is2, is3) (omega arith)
@@ -224,7 +224,7 @@ head_is : (n m : List ℕ) (ns ms : List (List ℕ)) → n ∷ ns ≡ m ∷ ms �
 head_is n m ns ms e = cc
 
 sum_all : (count : BucketRecord → ℕ) (accounts : List (List ℕ × Account)) → names accounts ≡ four
-    → in_buckets count 4 (with_accounts accounts) ≡ over_buckets count (with_accounts accounts)
+    → counted_in_first count 4 (with_accounts accounts) ≡ over_buckets count (with_accounts accounts)
 sum_all count [] is = absurd cc
 sum_all count (a ∷ []) is = let h = ap tail_of is in absurd cc
 sum_all count (a ∷ b ∷ []) is = let h = ap (λ (ns : List (List ℕ)). tail_of (tail_of ns)) is in absurd cc
@@ -235,31 +235,31 @@ sum_all count (a ∷ b ∷ c ∷ d ∷ []) is =
 sum_all count (a ∷ b ∷ c ∷ d ∷ e ∷ accounts) is =
     let h = ap (λ (ns : List (List ℕ)). tail_of (tail_of (tail_of (tail_of ns)))) is in absurd cc
 
-versions_by : (number n : ℕ) → in_buckets version_count 4 (progress number (n + 4)).office ≡ count_of Versions (progress number (n + 4)).office
+versions_by : (number n : ℕ) → counted_in_first version_count 4 (progress number (n + 4)).office ≡ count_of Versions (progress number (n + 4)).office
 unfolding count_of
 versions_by number n = sum_all version_count (progress number (n + 4)).office.accounts (four_after number n)
 
-uploads_by : (number n : ℕ) → in_buckets upload_count 4 (progress number (n + 4)).office ≡ count_of Uploads (progress number (n + 4)).office
+uploads_by : (number n : ℕ) → counted_in_first upload_count 4 (progress number (n + 4)).office ≡ count_of Uploads (progress number (n + 4)).office
 unfolding count_of
 uploads_by number n = sum_all upload_count (progress number (n + 4)).office.accounts (four_after number n)
 
 plus_four : (n : ℕ) → n + 4 ≡ suc (suc (suc (suc n)))
 plus_four n = omega arith
 
-pub all_versions : (number n : ℕ) → in_buckets version_count 4 (progress number n).office ≡ count_of Versions (progress number n).office
+pub all_versions : (number n : ℕ) → counted_in_first version_count 4 (progress number n).office ≡ count_of Versions (progress number n).office
 unfolding generated after_entries after_entry place_after step outcome count_of digits
 all_versions number zero = refl
 all_versions number (suc zero) = refl
 all_versions number (suc (suc zero)) = refl
 all_versions number (suc (suc (suc zero))) = refl
 all_versions number (suc (suc (suc (suc n)))) =
-    subst (λ (m : ℕ). in_buckets version_count 4 (progress number m).office ≡ count_of Versions (progress number m).office) (plus_four n) (versions_by number n)
+    subst (λ (m : ℕ). counted_in_first version_count 4 (progress number m).office ≡ count_of Versions (progress number m).office) (plus_four n) (versions_by number n)
 
-pub all_uploads : (number n : ℕ) → in_buckets upload_count 4 (progress number n).office ≡ count_of Uploads (progress number n).office
+pub all_uploads : (number n : ℕ) → counted_in_first upload_count 4 (progress number n).office ≡ count_of Uploads (progress number n).office
 unfolding generated after_entries after_entry place_after step outcome count_of digits
 all_uploads number zero = refl
 all_uploads number (suc zero) = refl
 all_uploads number (suc (suc zero)) = refl
 all_uploads number (suc (suc (suc zero))) = refl
 all_uploads number (suc (suc (suc (suc n)))) =
-    subst (λ (m : ℕ). in_buckets upload_count 4 (progress number m).office ≡ count_of Uploads (progress number m).office) (plus_four n) (uploads_by number n)
+    subst (λ (m : ℕ). counted_in_first upload_count 4 (progress number m).office ≡ count_of Uploads (progress number m).office) (plus_four n) (uploads_by number n)

@@ -5,7 +5,7 @@ use Rattle.entry_codec.specs.Formats.{front_items}
 use Rattle.entry_codec.specs.Fields.{format, moment_format}
 use Rattle.entry_codec.specs.Kinds.{kind_format}
 use Rattle.entry_codec.specs.Spelling.{command_spelling, spelling}
-use Rattle.meter_journal.specs.History.{whole}
+use Rattle.meter_journal.specs.History.{journal_bytes}
 use Rattle.plain_office.proofs.Examples as office
 use Rattle.generator.specs.Draws.{next_state, draw}
 use Rattle.generator.specs.Places.{place_after}
@@ -14,7 +14,7 @@ use Rattle.generator.specs.Generated.{generated, after_entry, after_entries, tal
 -- what an example unfolds to compute
 unfoldable to_compute : ⊤
 unfolding next_state place_after generated after_entry after_entries office.to_compute
-    whole spelling command_spelling moment_format kind_format format front_items
+    journal_bytes spelling command_spelling moment_format kind_format format front_items
 to_compute = tt
 
 -- the first draws of 1

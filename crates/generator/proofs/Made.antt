@@ -16,20 +16,21 @@ use Rattle.office_types.specs.declared.reply.Reply.{Reply}
 use Rattle.office_types.specs.declared.reply.Reply.TheVariants.{NothingDue}
 use Rattle.office_types.specs.declared.refusal.Refusal.{Refusal}
 use Rattle.office_types.specs.declared.refusal.Refusal.TheVariants.{NoSuchBucket}
+use Rattle.office_types.specs.Entries.{entry_at}
 use Rattle.plain_office.specs.Office.{Office, Account}
 use Rattle.plain_office.specs.Counts.{version_count}
 use Rattle.plain_office.specs.Answers.{answer, bucket_shown}
 use Rattle.plain_office.specs.Step.{◌>>=◌, step}
-use Rattle.plain_office.specs.Run.{run, entry_at}
+use Rattle.plain_office.specs.Run.{run}
 use Rattle.meter_journal.specs.History.{header, end_gate}
 use Rattle.desk_core.specs.Answers.{Answer}
 use Rattle.desk_core.specs.Calls.{moment_after, GrowsBy, IsAnswered}
-use Rattle.desk_core.specs.Desk.{DeskView, parts_of, Holds}
+use Rattle.desk_core.specs.Desk.{DeskView, engine_of, HoldsHistory}
 use Rattle.generator.specs.Drafts.{name_of}
 use Rattle.generator.specs.Places.{place_after}
-use Rattle.generator.specs.Clocks.{numbers_told}
+use Rattle.generator.specs.Clocks.{moments_told}
 use Rattle.generator.specs.Generated.{Progress, noted, after_entry, progress, tally}
-use Rattle.generator.specs.Working.{Stands, AreAnswers, AreKept, IsNoted, in_bucket, upload_count, counts_of, shown_in}
+use Rattle.generator.specs.Working.{IsDeskAfter, AreAnswers, AreKept, IsCounted, counted_in, upload_count, counts_of, shown_in}
 use Rattle.generator.specs.declared.clock.PlaceClock.{PlaceClock}
 use Rattle.generator.specs.declared.work.Answers.{Answers}
 use Rattle.generator.specs.declared.work.Kept.{Kept}
@@ -43,13 +44,15 @@ use Rattle.generator.proofs.Progress.{last_of, runs, last_within, last_before, e
 
 -- the desk answered, and its clock told the moment of one command more
 pub next_asked : {E : Type 0} (number told : ℕ) (history : List Entry) (question : Ask) (old new : DeskView MemoryDisk PlaceClock) (r : Result Answer E)
-    → told < 2 ^ 33 → Stands number told history old
-    → IfOk r (λ said. (after : List Entry) × IsSomeAnd (run history) (λ office. IsAnswered old.limit question office said history after) × Holds memory.ghosts after (parts_of new))
+    → told < 2 ^ 33 → IsDeskAfter number told history old
+    → IfOk r (λ said. (after : List Entry) × IsSomeAnd (run history) (λ office. IsAnswered old.limit question office said history after) × HoldsHistory memory.ghosts after (engine_of new))
     → OnOk r (new.stale ≡ false)
     → OnOk r (new.clock.place.made + 1 ≡ min (old.clock.place.made + 1 + 1) (2 ^ 64 - 1))
-    → (new.clock.place.made + 1 < 2 ^ 64 - 1 → IfOk r (λ said. Appends (Some (numbers_told old.clock.number old.clock.place.made)) (Some (numbers_told new.clock.number new.clock.place.made)) (said.told ∷ [])))
+    → (new.clock.place.made + 1 < 2 ^ 64 - 1
+    → IfOk r (λ said. Appends (Some (moments_told old.clock.number old.clock.place.made))
+    (Some (moments_told new.clock.number new.clock.place.made)) (said.told ∷ [])))
     → IfOk r (λ said. (after : List Entry) × IsSomeAnd (run history) (λ office. IsAnswered old.limit question office said history after)
-    × (said.told ≡ (place_after number (told + 1)).moment) × Stands number (told + 1) after new)
+    × (said.told ≡ (place_after number (told + 1)).moment) × IsDeskAfter number (told + 1) after new)
 next_asked number told history question old new (Err e) small s answers fresh once appends = tt
 next_asked number told history question old new (Ok said) small s (after, answered, holds) fresh once appends =
     let more : new.clock.place.made ≡ suc old.clock.place.made = omega (arith, once, s.told_is, small) in
@@ -109,7 +112,8 @@ one_more number n limit said command after told is some =
     (replied, grown p e after grows ∙ ap (λ (x : Progress). x.accepted) (sym (progress_next number n)))
 
 -- and how it is counted
-noted_by : (answers new : Answers) (p : Progress) (e : Entry) (office : Office) (reply : Result Reply Refusal) → AreAnswers answers p → IsNoted answers reply new → AreAnswers new (noted p e office reply)
+noted_by : (answers new : Answers) (p : Progress) (e : Entry) (office : Office) (reply : Result Reply Refusal)
+    → AreAnswers answers p → IsCounted answers reply new → AreAnswers new (noted p e office reply)
 noted_by answers new p e office (Err refusal) are is = record {
   accepted = ap (λ (a : Answers). a.accepted) is ∙ are.accepted;
   refused = ap (λ (a : Answers). a.refused) is ∙ ap (λ (n : ℕ). n + 1) are.refused;
@@ -126,15 +130,15 @@ noted_by answers new p e office (Ok reply) are is = record {
   nothing = ap (λ (a : Answers). a.nothing) is ∙ are.nothing;
 }
 
-noted_next : (answers new : Answers) (p : Progress) (e : Entry) → AreAnswers answers p → IsNoted answers (step e.moment e.command p.office).1 new → AreAnswers new (after_entry p e)
+noted_next : (answers new : Answers) (p : Progress) (e : Entry) → AreAnswers answers p → IsCounted answers (step e.moment e.command p.office).1 new → AreAnswers new (after_entry p e)
 unfolding after_entry
 noted_next answers new p e are is = noted_by answers new p e (step e.moment e.command p.office).0 (step e.moment e.command p.office).1 are is
 
-pub noted_more : (number n : ℕ) (answers new : Answers) (reply : Result Reply Refusal) → reply ≡ reply_at number n → AreAnswers answers (progress number n) → IsNoted answers reply new
+pub noted_more : (number n : ℕ) (answers new : Answers) (reply : Result Reply Refusal) → reply ≡ reply_at number n → AreAnswers answers (progress number n) → IsCounted answers reply new
     → AreAnswers new (progress number (suc n))
 noted_more number n answers new reply replied are is =
     subst (λ (p : Progress). AreAnswers new p) (sym (progress_next number n))
-    (noted_next answers new (progress number n) (entry_at_place number n) are (subst (λ (r : Result Reply Refusal). IsNoted answers r new) replied is))
+    (noted_next answers new (progress number n) (entry_at_place number n) are (subst (λ (r : Result Reply Refusal). IsCounted answers r new) replied is))
 
 -- ---- what is asked of a bucket
 
@@ -143,13 +147,13 @@ shown_of : (bucket : ℕ) (o : Option Account) → shown_in (ok_or o NoSuchBucke
 shown_of bucket None = refl
 shown_of bucket (Some account) = refl
 
-shown_is : (t bucket : ℕ) (office : Office) → shown_in (answer t (query.Bucket (name_of bucket)) office) ≡ (in_bucket version_count bucket office, in_bucket upload_count bucket office)
+shown_is : (t bucket : ℕ) (office : Office) → shown_in (answer t (query.Bucket (name_of bucket)) office) ≡ (counted_in version_count bucket office, counted_in upload_count bucket office)
 unfolding answer
 shown_is t bucket office = shown_of bucket (at_name (name_of bucket) office.accounts)
 
 pub bucket_asked : (number n told limit bucket : ℕ) (said : Answer) (after : List Entry) → said.told ≡ (place_after number (told + 1)).moment
     → IsSomeAnd (run (progress number n).accepted) (λ office. IsAnswered limit (ask.Query (query.Bucket (name_of bucket))) office said (progress number n).accepted after)
-    → (after ≡ (progress number n).accepted) × (shown_in said.reply ≡ (in_bucket version_count bucket (progress number n).office, in_bucket upload_count bucket (progress number n).office))
+    → (after ≡ (progress number n).accepted) × (shown_in said.reply ≡ (counted_in version_count bucket (progress number n).office, counted_in upload_count bucket (progress number n).office))
     × (said.position ≡ end_gate header (progress number n).accepted)
 bucket_asked number n told limit bucket said after is some =
     let p = progress number n in
@@ -167,11 +171,11 @@ bucket_asked number n told limit bucket said after is some =
 -- the desk was asked what the first buckets hold, this many
 pub record Keeps (bucket : ℕ) (first desk : DeskView MemoryDisk PlaceClock) (kept : Kept) : Type 0 where
   pub small : kept.versions + kept.uploads ≤ bucket * 2 ^ 33
-  pub stands : (number made : ℕ) → made < 2 ^ 32 → Stands number made (progress number made).accepted first
-      → Stands number (made + bucket) (progress number made).accepted desk × AreKept bucket (progress number made) kept
+  pub stands : (number made : ℕ) → made < 2 ^ 32 → IsDeskAfter number made (progress number made).accepted first
+      → IsDeskAfter number (made + bucket) (progress number made).accepted desk × AreKept bucket (progress number made) kept
 
-told_at : (number n m : ℕ) (history : List Entry) (desk : DeskView MemoryDisk PlaceClock) → n ≡ m → Stands number n history desk → Stands number m history desk
-told_at number n m history desk is s = subst (λ (k : ℕ). Stands number k history desk) is s
+told_at : (number n m : ℕ) (history : List Entry) (desk : DeskView MemoryDisk PlaceClock) → n ≡ m → IsDeskAfter number n history desk → IsDeskAfter number m history desk
+told_at number n m history desk is s = subst (λ (k : ℕ). IsDeskAfter number k history desk) is s
 
 pub keeps_first : (desk : DeskView MemoryDisk PlaceClock) (kept : Kept) → kept ≡ record { versions = 0; uploads = 0; position = 10 } → Keeps 0 desk desk kept
 keeps_first desk kept is = record {
@@ -189,9 +193,9 @@ keeps_first desk kept is = record {
 -- what the desk of a load answers to a question
 abbrev pub AnswersNext : DeskView MemoryDisk PlaceClock → Ask → Answer → DeskView MemoryDisk PlaceClock → Type 0
 AnswersNext old question said new =
-    (number told : ℕ) (history : List Entry) → told < 2 ^ 33 → Stands number told history old
+    (number told : ℕ) (history : List Entry) → told < 2 ^ 33 → IsDeskAfter number told history old
     → (after : List Entry) × IsSomeAnd (run history) (λ office. IsAnswered old.limit question office said history after)
-    × (said.told ≡ (place_after number (told + 1)).moment) × Stands number (told + 1) after new
+    × (said.told ≡ (place_after number (told + 1)).moment) × IsDeskAfter number (told + 1) after new
 
 pub keeps_next : (bucket : ℕ) (first desk new : DeskView MemoryDisk PlaceClock) (kept more : Kept) (name : List ℕ) (said : Answer) → bucket < 4 → name ≡ name_of bucket
     → Keeps bucket first desk kept → AnswersNext desk (ask.Query (query.Bucket name)) said new
@@ -205,9 +209,9 @@ keeps_next bucket first desk new kept more name said below is keeps answers vers
       let told = answers number (made + bucket) p.accepted (omega (arith, few, below)) before.0 in
       let found = bucket_asked number made (made + bucket) desk.limit bucket said told.0 told.2
       (subst (λ (n : List ℕ). IsSomeAnd (run p.accepted) (λ office. IsAnswered desk.limit (ask.Query (query.Bucket n)) office said p.accepted told.0)) is told.1) in
-      let here : Stands number (made + bucket + 1) p.accepted new = subst (λ (h : List Entry). Stands number (made + bucket + 1) h new) found.0 told.3 in
-      let v : (shown_in said.reply).0 ≡ in_bucket version_count bucket p.office = ap (λ (x : ℕ × ℕ). x.0) found.1 in
-      let u : (shown_in said.reply).1 ≡ in_bucket upload_count bucket p.office = ap (λ (x : ℕ × ℕ). x.1) found.1 in
+      let here : IsDeskAfter number (made + bucket + 1) p.accepted new = subst (λ (h : List Entry). IsDeskAfter number (made + bucket + 1) h new) found.0 told.3 in
+      let v : (shown_in said.reply).0 ≡ counted_in version_count bucket p.office = ap (λ (x : ℕ × ℕ). x.0) found.1 in
+      let u : (shown_in said.reply).1 ≡ counted_in upload_count bucket p.office = ap (λ (x : ℕ × ℕ). x.1) found.1 in
       let one : bucket + 1 ≡ suc bucket = omega arith in (
         told_at number (made + bucket + 1) (made + (bucket + 1)) p.accepted new (omega arith) here,
         record {
@@ -225,7 +229,16 @@ counts_as counts = counts
 
 -- the counts of the commands that were made
 pub counted_all : (number made : ℕ) (answers : Answers) (kept : Kept) → AreAnswers answers (progress number made) → AreKept 4 (progress number made) kept
-    → counts_as (record { made = made; accepted = answers.accepted; refused = answers.refused; nothing = answers.nothing; versions = kept.versions; uploads = kept.uploads; journal = kept.position + 1 }) ≡ tally number made
+    → counts_as (record {
+      made = made;
+      accepted = answers.accepted;
+      refused = answers.refused;
+      nothing = answers.nothing;
+      versions = kept.versions;
+      uploads = kept.uploads;
+      journal = kept.position + 1;
+    })
+    ≡ tally number made
 counted_all number made answers kept are holds =
     let end = holds.position (omega arith) in
     rw (are.accepted, are.refused, are.nothing, holds.versions, holds.uploads, end, all_versions number made, all_uploads number made) refl

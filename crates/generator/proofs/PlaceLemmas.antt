@@ -3,7 +3,7 @@ use Rattle.std.proofs.Common.{◌≡◌, ℕ, zero, suc, ◌+◌, ◌%◌, ◌�
 use Rattle.std.specs.Prelude.{nat_lt}
 use Rattle.moments.specs.Time.{last_moment}
 use Rattle.generator.specs.Draws.{draw, state_after}
-use Rattle.generator.specs.Places.{place_before, next_place, kind_at, draws_of, place_after}
+use Rattle.generator.specs.Places.{place_before, next_place, kind_drawn, draws_of, place_after}
 use Rattle.generator.specs.declared.place.Place.{Place}
 
 -- the place behind one of the first commands, or another one
@@ -14,7 +14,7 @@ later_place : Place → Place
 later_place place = record {
   made = place.made + 1;
   moment = min (place.moment + draw 0 place.state % 21_600_000) last_moment;
-  state = state_after (draws_of (kind_at place.state)) (state_after 4 place.state);
+  state = state_after (draws_of (kind_drawn place.state)) (state_after 4 place.state);
 }
 
 made_by : (b : Bool) (place : Place) → (cond b (first_place place) (later_place place)).made ≡ place.made + 1

@@ -12,7 +12,7 @@ use Rattle.plain_office.specs.Step.{Outcome, outcome, settled, step, is_accepted
 use Rattle.plain_office.specs.Run.{is_not_before, accept, run}
 use Rattle.plain_office.proofs.Runs.{step_refused, step_nothing, run_more, run_none}
 use Rattle.generator.specs.Places.{next_place, place_after}
-use Rattle.generator.specs.Generated.{Progress, at_first, noted, after_entry, after_entries, entry_of, generated, progress}
+use Rattle.generator.specs.Generated.{Progress, at_first, noted, after_entry, after_entries, entry_behind, generated, progress}
 use Rattle.generator.proofs.PlaceLemmas.{later_after}
 
 -- ---- one command more
@@ -28,7 +28,7 @@ progress_none number = refl
 
 -- the command behind as many
 abbrev pub entry_at_place : ℕ → ℕ → Entry
-entry_at_place number n = entry_of (place_after number n)
+entry_at_place number n = entry_behind (place_after number n)
 
 pub progress_next : (number n : ℕ) → progress number (suc n) ≡ after_entry (progress number n) (entry_at_place number n)
 unfolding generated
@@ -91,7 +91,8 @@ accepted_next p e later made = rw (later, made) refl
 abbrev Runs : Progress → Type 0
 Runs p = run p.accepted ≡ Some p.office
 
-runs_noted : (p : Progress) (e : Entry) (reply : Result Reply Refusal) → (step e.moment e.command p.office).1 ≡ reply → is_not_before p.office.last e.moment ≡ true → Runs p → Runs (noted p e (step e.moment e.command p.office).0 reply)
+runs_noted : (p : Progress) (e : Entry) (reply : Result Reply Refusal) → (step e.moment e.command p.office).1 ≡ reply
+    → is_not_before p.office.last e.moment ≡ true → Runs p → Runs (noted p e (step e.moment e.command p.office).0 reply)
 runs_noted p e (Err refusal) is later runs = runs ∙ ap (λ (o : Office). Some o) (sym (step_refused e.moment e.command p.office refusal is))
 runs_noted p e (Ok NothingDue) is later runs = runs ∙ ap (λ (o : Office). Some o) (sym (step_nothing e.moment e.command p.office is))
 runs_noted p e (Ok reply) is later runs =

@@ -22,9 +22,9 @@ abbrev pub key_named : ℕ → List ℕ
 key_named key = codes "k" ++ decimal key
 
 -- a version; 0 stands for the null version
-abbrev pub id_of : ℕ → VersionId
-id_of zero = Null
-id_of (suc n) = Number (suc n)
+abbrev pub drafted_id : ℕ → VersionId
+drafted_id zero = Null
+drafted_id (suc n) = Number (suc n)
 
 -- every price is 1,000
 abbrev pub prices : Prices
@@ -49,15 +49,16 @@ rule_named name = record {
 abbrev pub rules_set : Configuration
 rules_set = record { rules = rule_named (codes "rule-1") ∷ []; mode = All128K }
 
-abbrev pub command_of : Draft → Command
-command_of (draft.CreateBucket bucket) = command.CreateBucket (name_of bucket)
-command_of (draft.Enable bucket) = command.SetVersioning (name_of bucket) true
-command_of (draft.SetRules bucket) = command.SetRules (name_of bucket) rules_set
-command_of draft.SetTariff = command.SetTariff prices
-command_of (draft.Put bucket key size class) = command.Put (name_of bucket) (key_named key) size class []
-command_of (draft.Delete bucket key) = command.Delete (name_of bucket) (key_named key)
-command_of (draft.DeleteVersion bucket key id) = command.DeleteVersion (name_of bucket) (key_named key) (id_of id)
-command_of (draft.StartUpload bucket key) = command.StartUpload (name_of bucket) (key_named key) Standard []
-command_of (draft.PutPart bucket upload part size) = command.PutPart (name_of bucket) upload part size
-command_of (draft.Complete bucket upload) = command.Complete (name_of bucket) upload
-command_of (draft.Act bucket) = command.Act (name_of bucket)
+abbrev pub draft_command : Draft → Command
+draft_command (draft.CreateBucket bucket) = command.CreateBucket (name_of bucket)
+draft_command (draft.Enable bucket) = command.SetVersioning (name_of bucket) true
+draft_command (draft.SetRules bucket) = command.SetRules (name_of bucket) rules_set
+draft_command draft.SetTariff = command.SetTariff prices
+draft_command (draft.Put bucket key size class) = command.Put (name_of bucket) (key_named key) size class []
+draft_command (draft.Delete bucket key) = command.Delete (name_of bucket) (key_named key)
+draft_command (draft.DeleteVersion bucket key id) =
+    command.DeleteVersion (name_of bucket) (key_named key) (drafted_id id)
+draft_command (draft.StartUpload bucket key) = command.StartUpload (name_of bucket) (key_named key) Standard []
+draft_command (draft.PutPart bucket upload part size) = command.PutPart (name_of bucket) upload part size
+draft_command (draft.Complete bucket upload) = command.Complete (name_of bucket) upload
+draft_command (draft.Act bucket) = command.Act (name_of bucket)

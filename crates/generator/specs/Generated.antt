@@ -5,24 +5,24 @@ use Rattle.office_types.specs.declared.reply.Reply.{Reply}
 use Rattle.office_types.specs.declared.reply.Reply.TheVariants.{NothingDue}
 use Rattle.office_types.specs.declared.refusal.Refusal.{Refusal}
 use Rattle.office_types.specs.declared.refusal.What.TheVariants.{Versions, Uploads}
+use Rattle.office_types.specs.Entries.{entry_at}
 use Rattle.plain_office.specs.Office.{Office, empty_office}
 use Rattle.plain_office.specs.Counts.{count_of}
-use Rattle.plain_office.specs.Run.{entry_at}
 use Rattle.plain_office.specs.Step.{step}
 use Rattle.meter_journal.specs.History.{header, end_gate}
-use Rattle.generator.specs.Drafts.{command_of}
+use Rattle.generator.specs.Drafts.{draft_command}
 use Rattle.generator.specs.Places.{draft_at, next_place, place_after}
 use Rattle.generator.specs.declared.place.Place.{Place}
 use Rattle.generator.specs.declared.tally.Tally.{Tally}
 
 -- the command behind a place, at its moment
-abbrev pub entry_of : Place → Entry
-entry_of place = entry_at (next_place place).moment (command_of (draft_at place))
+abbrev pub entry_behind : Place → Entry
+entry_behind place = entry_at (next_place place).moment (draft_command (draft_at place))
 
 -- the commands of a number, this many
 unfoldable pub generated : ℕ → ℕ → List Entry
 generated number zero = []
-generated number (suc n) = generated number n ++ entry_of (place_after number n) ∷ []
+generated number (suc n) = generated number n ++ entry_behind (place_after number n) ∷ []
 
 -- ---- what comes of them
 

@@ -25,13 +25,13 @@ first_draft made =
 -- ---- the commands behind them
 
 -- the class of this rank
-abbrev pub class_at : ℕ → Class
-class_at rank = get_or all_classes rank DeepArchive
+abbrev pub class_ranked : ℕ → Class
+class_ranked rank = get_or all_classes rank DeepArchive
 
 -- A command of this kind, one of 16: seven are puts, five are none but an act. Further draws begin at the state x.
 abbrev pub draft_of : ℕ → ℕ → ℕ → ℕ → Draft
 draft_of kind bucket key x =
-    if nat_lt kind 7 then Put bucket key (draw 0 x % 1_048_576) (class_at (draw 1 x % 6))
+    if nat_lt kind 7 then Put bucket key (draw 0 x % 1_048_576) (class_ranked (draw 1 x % 6))
     else if kind == 7 then Delete bucket key
     else if kind == 8 then DeleteVersion bucket key (draw 0 x % 8)
     else if kind == 9 then StartUpload bucket key
@@ -45,11 +45,11 @@ draws_of kind =
     if nat_lt kind 7 then 2 else if kind == 8 then 1 else if kind == 10 then 3 else if kind == 11 then 1 else 0
 
 -- The draws of a command begin with its moment, its bucket, its kind and its key.
-abbrev pub kind_at : ℕ → ℕ
-kind_at x = draw 2 x % 16
+abbrev pub kind_drawn : ℕ → ℕ
+kind_drawn x = draw 2 x % 16
 
 abbrev pub drawn : ℕ → Draft
-drawn x = draft_of (kind_at x) (draw 1 x % 4) (draw 3 x % 500) (state_after 4 x)
+drawn x = draft_of (kind_drawn x) (draw 1 x % 4) (draw 3 x % 500) (state_after 4 x)
 
 -- ---- from place to place
 
@@ -63,7 +63,7 @@ next_place place =
     else record {
       made = place.made + 1;
       moment = min (place.moment + draw 0 place.state % 21_600_000) last_moment;
-      state = state_after (draws_of (kind_at place.state)) (state_after 4 place.state);
+      state = state_after (draws_of (kind_drawn place.state)) (state_after 4 place.state);
     }
 
 -- the place behind as many commands

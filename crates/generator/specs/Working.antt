@@ -11,7 +11,7 @@ use Rattle.due_core.specs.Buckets.{BucketRecord}
 use Rattle.plain_office.specs.Office.{Office, Account}
 use Rattle.plain_office.specs.Counts.{version_count}
 use Rattle.meter_journal.specs.History.{header, end_gate}
-use Rattle.desk_core.specs.Desk.{DeskView, parts_of, Holds}
+use Rattle.desk_core.specs.Desk.{DeskView, engine_of, HoldsHistory}
 use Rattle.generator.specs.Drafts.{name_of}
 use Rattle.generator.specs.Places.{place_after}
 use Rattle.generator.specs.Generated.{Progress, progress}
@@ -21,8 +21,8 @@ use Rattle.generator.specs.declared.work.Kept.{Kept}
 use Rattle.generator.specs.declared.work.Work.{Work}
 
 -- the desk holds the journal of these entries, and its clock has told the number and as many moments behind it
-pub record Stands (number told : ℕ) (history : List Entry) (desk : DeskView MemoryDisk PlaceClock) : Type 0 where
-  pub holds : Holds memory.ghosts history (parts_of desk)
+pub record IsDeskAfter (number told : ℕ) (history : List Entry) (desk : DeskView MemoryDisk PlaceClock) : Type 0 where
+  pub holds : HoldsHistory memory.ghosts history (engine_of desk)
   pub fresh : desk.stale ≡ false
   pub number_is : desk.clock.number ≡ number
   pub told_is : desk.clock.place.made ≡ told
@@ -34,15 +34,15 @@ pub record AreAnswers (answers : Answers) (progress : Progress) : Type 0 where
   pub nothing : answers.nothing ≡ progress.nothing
 
 -- one more was answered so
-abbrev pub IsNoted : Answers → Result Reply Refusal → Answers → Type 0
-IsNoted old (Err refusal) new = new ≡ record old { refused = old.refused + 1 }
-IsNoted old (Ok NothingDue) new = new ≡ record old { nothing = old.nothing + 1 }
-IsNoted old (Ok reply) new = new ≡ record old { accepted = old.accepted + 1 }
+abbrev pub IsCounted : Answers → Result Reply Refusal → Answers → Type 0
+IsCounted old (Err refusal) new = new ≡ record old { refused = old.refused + 1 }
+IsCounted old (Ok NothingDue) new = new ≡ record old { nothing = old.nothing + 1 }
+IsCounted old (Ok reply) new = new ≡ record old { accepted = old.accepted + 1 }
 
 -- the first commands of its number were made, as many as its place says
 pub record IsWork (work : Work) : Type 0 where
   pub place : work.place ≡ place_after work.number work.place.made
-  pub stands : Stands work.number work.place.made (progress work.number work.place.made).accepted work.desk
+  pub stands : IsDeskAfter work.number work.place.made (progress work.number work.place.made).accepted work.desk
   pub answers : AreAnswers work.answers (progress work.number work.place.made)
 
 -- ---- what is kept
@@ -53,13 +53,13 @@ counts_of count None = 0
 counts_of count (Some account) = count account.bucket
 
 -- of one of the buckets
-abbrev pub in_bucket : (BucketRecord → ℕ) → ℕ → Office → ℕ
-in_bucket count bucket office = counts_of count (at_name (name_of bucket) office.accounts)
+abbrev pub counted_in : (BucketRecord → ℕ) → ℕ → Office → ℕ
+counted_in count bucket office = counts_of count (at_name (name_of bucket) office.accounts)
 
 -- in the first buckets, this many
-abbrev pub in_buckets : (BucketRecord → ℕ) → ℕ → Office → ℕ
-in_buckets count zero office = 0
-in_buckets count (suc n) office = in_buckets count n office + in_bucket count n office
+abbrev pub counted_in_first : (BucketRecord → ℕ) → ℕ → Office → ℕ
+counted_in_first count zero office = 0
+counted_in_first count (suc n) office = counted_in_first count n office + counted_in count n office
 
 abbrev pub upload_count : BucketRecord → ℕ
 upload_count bucket = length bucket.uploads
@@ -72,6 +72,6 @@ shown_in (Err refusal) = (0, 0)
 
 -- behind these commands the first buckets hold so much, and there the journal ends
 pub record AreKept (buckets : ℕ) (progress : Progress) (kept : Kept) : Type 0 where
-  pub versions : kept.versions ≡ in_buckets version_count buckets progress.office
-  pub uploads : kept.uploads ≡ in_buckets upload_count buckets progress.office
+  pub versions : kept.versions ≡ counted_in_first version_count buckets progress.office
+  pub uploads : kept.uploads ≡ counted_in_first upload_count buckets progress.office
   pub position : 0 < buckets → kept.position ≡ end_gate header progress.accepted

@@ -30,13 +30,13 @@ impl PlaceClock {
 
 #[tactic(auto, using(crate::proofs::ClockLemmas::told_facts))]
 impl Clock for PlaceClock {
-    ghost use Rattle.generator.specs.Clocks.{numbers_told};
+    ghost use Rattle.generator.specs.Clocks.{moments_told};
 
     ghost count = { λ c. c.place.made + 1 };
 
     ghost last = { λ c. c.last };
 
-    ghost told = { λ c. Some (numbers_told c.number c.place.made) };
+    ghost told = { λ c. Some (moments_told c.number c.place.made) };
 
     fn now(&mut self) -> u64 {
         if self.place.made == u64::MAX - 1 {

@@ -2,7 +2,7 @@
 ghost use Rattle.std.specs.Prelude.{◌≡◌, [], ◌∷◌, true, IfOk};
 ghost use Rattle.std.specs.List.{list_all};
 ghost use Rattle.rules_core.specs.Configurations.{has_midnights};
-ghost use Rattle.generator.specs.Drafts.{name_of, key_named, id_of, prices, rule_named, rules_set, command_of};
+ghost use Rattle.generator.specs.Drafts.{name_of, key_named, drafted_id, prices, rule_named, rules_set, draft_command};
 
 use class_rules::Class;
 use moments::Moment;
@@ -105,7 +105,7 @@ fn no_tags(alloc: Global) -> Result<Tags, NoMemory>
 }
 
 fn version_id(number: u64) -> VersionId
-    ensures { result ≡ id_of number }
+    ensures { result ≡ drafted_id number }
 {
     match Nth::of(number) {
         Some(number) => VersionId::Number(number),
@@ -178,7 +178,7 @@ fn configuration(alloc: Global) -> Result<RuleSet, NoMemory>
 impl Draft {
     // The command, with its names and keys.
     pub(crate) fn command(&self, alloc: Global) -> Result<Command, NoMemory>
-        ensures { IfOk result (λ command. command ≡ command_of self.now) }
+        ensures { IfOk result (λ command. command ≡ draft_command self.now) }
     {
         let command = match *self {
             Draft::CreateBucket { bucket } => Command::CreateBucket {

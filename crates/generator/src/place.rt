@@ -1,8 +1,8 @@
 // Where the generator stands between two commands.
 ghost use Rattle.std.specs.Prelude.{◌≡◌, ◌<◌, ◌-◌, ◌^◌, ℕ};
 ghost use Rattle.generator.specs.Draws.{draw, next_state, state_after};
-ghost use Rattle.generator.specs.Places.{place_before, class_at, first_draft, draft_of};
-ghost use Rattle.generator.specs.Places.{draws_of, kind_at, drawn, draft_at, next_place};
+ghost use Rattle.generator.specs.Places.{place_before, class_ranked, first_draft, draft_of};
+ghost use Rattle.generator.specs.Places.{draws_of, kind_drawn, drawn, draft_at, next_place};
 
 use crate::draft::Draft;
 use crate::draws::Draws;
@@ -28,7 +28,7 @@ pub(crate) struct Place {
 
 // The class of this rank.
 fn class_at(rank: u64) -> Class
-    ensures { result ≡ class_at rank }
+    ensures { result ≡ class_ranked rank }
 {
     match rank {
         0 => Class::Standard,
@@ -108,7 +108,7 @@ fn of_kind(draws: &mut Draws, kind: u64, bucket: u64, key: u64) -> Draft
 fn drawn(draws: &mut Draws) -> Draft
     ensures draft { (x : ℕ) → draws.old.state ≡ next_state x → result ≡ drawn x }
     ensures state { (x : ℕ) → draws.old.state ≡ next_state x
-        → draws.new.state ≡ state_after (draws_of (kind_at x)) (state_after 4 x) }
+        → draws.new.state ≡ state_after (draws_of (kind_drawn x)) (state_after 4 x) }
 {
     let bucket = draws.draw() % 4;
     let kind = draws.draw() % 16;

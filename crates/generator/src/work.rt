@@ -5,10 +5,10 @@ ghost use Rattle.std.specs.Io.KnownBytes.{Appends};
 ghost use Rattle.office_types.specs.declared.command.Entry.{Entry};
 ghost use Rattle.plain_office.specs.Run.{run};
 ghost use Rattle.desk_core.specs.Calls.{IsAnswered};
-ghost use Rattle.desk_core.specs.Desk.{Holds, parts_of};
+ghost use Rattle.desk_core.specs.Desk.{HoldsHistory, engine_of};
 ghost use Rattle.generator.specs.Places.{place_after};
 ghost use Rattle.generator.specs.Generated.{progress, tally};
-ghost use Rattle.generator.specs.Working.{Stands, IsWork, AreKept, IsNoted, shown_in};
+ghost use Rattle.generator.specs.Working.{IsDeskAfter, IsWork, AreKept, IsCounted, shown_in};
 
 use crate::clock::PlaceClock;
 use crate::draft::bucket_name;
@@ -45,7 +45,7 @@ impl Answers {
 
     fn note(&mut self, reply: &Result<Reply, Refusal>)
         requires { self.old.accepted + self.old.refused + self.old.nothing < 2 ^ 64 - 1 }
-        ensures { IsNoted self.old reply.now self.new }
+        ensures { IsCounted self.old reply.now self.new }
     {
         match reply {
             Ok(Reply::NothingDue) => self.nothing += 1,
@@ -74,11 +74,11 @@ pub(crate) struct Work {
 
 // Asks a desk that is not stale. One over a disk that does not fail lacks nothing but memory.
 fn ask<D: Disk + Drop, C: Clock + Drop>(desk: &mut Desk<D, C>, ask: &Ask) -> Result<Acked, NoMemory>
-    ensures answers { (history : List Entry) → Holds D.Disk history (parts_of desk.old)
+    ensures answers { (history : List Entry) → HoldsHistory D.Disk history (engine_of desk.old)
         → desk.old.stale ≡ false
         → IfOk result (λ said. (after : List Entry)
         × IsSomeAnd (run history) (λ office. IsAnswered desk.old.limit ask.now office said history after)
-        × Holds D.Disk after (parts_of desk.new)) }
+        × HoldsHistory D.Disk after (engine_of desk.new)) }
     ensures fresh { OnOk result (desk.new.stale ≡ false) }
     ensures once { desk.old.stale ≡ false
         → OnOk result (C.count desk.new.clock ≡ min (C.count desk.old.clock + 1) (2 ^ 64 - 1)) }
@@ -93,11 +93,11 @@ fn ask<D: Disk + Drop, C: Clock + Drop>(desk: &mut Desk<D, C>, ask: &Ask) -> Res
 
 // Asks the desk of a load.
 fn ask_next(desk: &mut Desk<MemoryDisk, PlaceClock>, question: &Ask) -> Result<Acked, NoMemory>
-    ensures { (number told : ℕ) (history : List Entry) → told < 2 ^ 33 → Stands number told history desk.old
+    ensures { (number told : ℕ) (history : List Entry) → told < 2 ^ 33 → IsDeskAfter number told history desk.old
         → IfOk result (λ said. (after : List Entry)
         × IsSomeAnd (run history) (λ office. IsAnswered desk.old.limit question.now office said history after)
         × (said.told ≡ (place_after number (told + 1)).moment)
-        × Stands number (told + 1) after desk.new) }
+        × IsDeskAfter number (told + 1) after desk.new) }
 {
     ask(desk, question)
 }
@@ -108,7 +108,7 @@ fn open<D: Disk + Drop, C: Clock + Drop>(
     mut disk: D,
     clock: C,
 ) -> Result<Desk<D, C>, NoMemory>
-    ensures holds { IsTrue D.honest → IfOk result (λ desk. Holds D.Disk [] (parts_of desk)) }
+    ensures holds { IsTrue D.honest → IfOk result (λ desk. HoldsHistory D.Disk [] (engine_of desk)) }
     ensures fresh { IfOk result (λ desk. desk.stale ≡ false) }
     ensures clock { IfOk result (λ desk. desk.clock ≡ clock) }
 {
@@ -165,7 +165,7 @@ impl Kept {
 
 // Asks what the four buckets hold.
 fn kept_in(alloc: Global, desk: &mut Desk<MemoryDisk, PlaceClock>) -> Result<Kept, NoMemory>
-    ensures { (number made : ℕ) → made < 2 ^ 32 → Stands number made (progress number made).accepted desk.old
+    ensures { (number made : ℕ) → made < 2 ^ 32 → IsDeskAfter number made (progress number made).accepted desk.old
         → IfOk result (λ kept. AreKept 4 (progress number made) kept) }
 {
     let mut kept = Kept::none();

@@ -3,13 +3,13 @@ use Rattle.disk_core.specs.declared.disk.FileNo.TheVariants.{Journal}
 use Rattle.disk_core.proofs.Time.{started, untouched_then}
 use Rattle.meter_journal.specs.declared.fault.OpenFault.TheVariants.{NoMemory, Damaged}
 use Rattle.plain_office.specs.Run.{accept}
-use Rattle.desk_core.proofs.Breaking.{none_read, one_read, all_read, next_fails, take_fails, few_read}
+use Rattle.desk_core.proofs.Damage.{none_read, one_read, all_read, next_fails, take_fails, few_read}
 use Rattle.desk_core.proofs.reopening.replay.Goals as goal
 
 pub reading-init : goal.reading-init
 reading-init g c = record {
   known = c.requires.known;
-  untouched = λ told. started g.D.Disk.state g.D.Disk.moment g.D.Disk.had_since c.args.journal.now.disk (λ s. s ≡ g.D.Disk.state c.args.journal.now.disk) (g.met.D.Disk.only_now c.args.journal.now.disk) refl;
+  untouched = λ told. started g.D.Disk c.args.journal.now.disk (λ s. s ≡ g.D.Disk.state c.args.journal.now.disk) (g.met.D.Disk.only_now c.args.journal.now.disk) refl;
   read = none_read g.D.Disk c.args.journal.now.disk c.args.journal.now.gate c.args.office.now c.requires.first c.requires.empty;
   limit = refl;
   later = omega arith;
@@ -20,9 +20,12 @@ reading-preserved g c =
     let d = g.D.Disk in
     record {
       known = search rules;
-      untouched = λ told. untouched_then d.state d.moment d.had_since c.args.journal.now.disk c.reading.journal.disk c.next.new.self.disk (c.reading.invariant.untouched told) (c.next.ensures.untouched told);
-      read = one_read d c.args.journal.now.disk c.reading.journal.disk c.reading.journal.gate c.next.new.self.gate c.reading.office c.take.new.office c.in-Ok.read c.in-Some.entry c.reading.invariant.read
-          (λ told. (c.reading.invariant.untouched told).now) (λ told. g.met.D.Disk.holds_bytes told c.args.journal.now.disk Journal) c.in-Some.is c.in-Ok.ensures.exact c.in-Ok.ensures.advances (search rules) c.in-Ok-take.ensures.ok;
+      untouched = λ told. untouched_then (c.reading.invariant.untouched told) (c.next.ensures.untouched told);
+      read =
+          one_read d c.args.journal.now.disk c.reading.journal.disk c.reading.journal.gate c.next.new.self.gate c.reading.office
+          c.take.new.office c.in-Ok.read c.in-Some.entry c.reading.invariant.read
+          (λ told. (c.reading.invariant.untouched told).now) (λ told. g.met.D.Disk.holds_bytes told c.args.journal.now.disk Journal)
+          c.in-Some.is c.in-Ok.ensures.exact c.in-Ok.ensures.advances (search rules) c.in-Ok-take.ensures.ok;
       limit = search rules;
       later = omega (arith, c.reading.invariant.later, c.next.ensures.cause.later);
     }
@@ -35,18 +38,18 @@ returns-in-None-clause-read g c =
 
 pub returns-in-Err-clause-fails : goal.returns-in-Err-clause-fails
 returns-in-Err-clause-fails g c told file on_disk made =
-    let state = g.D.Disk.state in
     let so_far = c.reading.invariant.read in
-    next_fails (state c.args.journal.now.disk) (state c.reading.journal.disk) c.in-Err.fault so_far.history so_far.office_is.plain c.reading.journal.gate c.next.new.self.gate file
-    (c.reading.invariant.untouched told).now on_disk made (so_far.prefix told file on_disk made) so_far.office_is.is_run (c.in-Err.ensures.exact told)
+    next_fails (c.reading.invariant.untouched told).now on_disk made (so_far.prefix told file on_disk made) so_far.office_is.is_run
+    c.in-Err.fault c.next.new.self.gate (c.in-Err.ensures.exact told)
 
 pub returns-in-Err-take-clause-fails : goal.returns-in-Err-take-clause-fails
 returns-in-Err-take-clause-fails g c told file on_disk made =
-    let state = g.D.Disk.state in
     let so_far = c.reading.invariant.read in
-    take_fails (state c.args.journal.now.disk) (state c.reading.journal.disk) c.in-Err-take.fault so_far.history so_far.office_is.plain c.reading.journal.gate c.next.new.self.gate file c.in-Ok.read c.in-Some.entry
-    (c.reading.invariant.untouched told).now on_disk made (so_far.prefix told file on_disk made) so_far.office_is.is_run c.in-Some.is (c.in-Ok.ensures.exact told)
-    (subst (λ (k : ℕ). (c.in-Err-take.fault ≡ NoMemory) ⊎ ((c.in-Err-take.fault ≡ Damaged k) × (accept so_far.office_is.plain c.in-Some.entry ≡ None))) c.end-gate.ensures
+    let fault = c.in-Err-take.fault in
+    let accepted = accept so_far.office_is.plain c.in-Some.entry in
+    take_fails (c.reading.invariant.untouched told).now on_disk made (so_far.prefix told file on_disk made) so_far.office_is.is_run
+    fault c.next.new.self.gate c.in-Ok.read c.in-Some.entry c.in-Some.is (c.in-Ok.ensures.exact told)
+    (subst (λ (k : ℕ). (fault ≡ NoMemory) ⊎ ((fault ≡ Damaged k) × (accepted ≡ None))) c.end-gate.ensures
     (⊎_elim (λ want. inl want) (λ x. inr (x.0, x.1 so_far.history so_far.office_is)) c.in-Err-take.ensures.damaged))
 
 pub take-requires : goal.take-requires

@@ -1,7 +1,7 @@
 use Rattle.std.proofs.Common.{◌≡◌, inr, refl, false, rules}
 use Rattle.std.specs.Prelude.{IsTrue}
 use Rattle.plain_office.specs.Run.{is_not_before}
-use Rattle.desk_core.proofs.Breaking.{not_taken, nothing_due, not_in_order}
+use Rattle.desk_core.proofs.Damage.{not_taken, nothing_due, not_in_order}
 use Rattle.desk_core.proofs.Offices.{more_after}
 use Rattle.desk_core.proofs.Opened.{on_done, on_fault}
 use Rattle.desk_core.proofs.reopening.take.Goals as goal
@@ -19,7 +19,9 @@ returns-in-Ok-clause-damaged c =
     (λ e told. nothing_due c.args.office.now c.apply.new.self c.args.entry c.in-Ok.reply e c.args.gate c.in-Ok.ensures.step told.0 told.1) c.taken.ensures.damaged
 
 pub returns-clause-damaged : goal.returns-clause-damaged
-returns-clause-damaged c = not_taken c.args.office.now c.apply.new.self c.args.entry c.in-Err.refusal c.refused.result c.args.gate c.in-Err.ensures.step c.refused.ensures.memory c.refused.ensures.damaged
+returns-clause-damaged c =
+    not_taken c.args.office.now c.apply.new.self c.args.entry c.in-Err.refusal c.refused.result c.args.gate
+    c.in-Err.ensures.step c.refused.ensures.memory c.refused.ensures.damaged
 
 pub returns-then-not-is_in_order-clause-damaged : goal.returns-then-not-is_in_order-clause-damaged
 returns-then-not-is_in_order-clause-damaged c =

@@ -1,8 +1,8 @@
 use Rattle.std.proofs.Common.{◌∷◌, [], ◌++◌, Err, inr, sym, subst}
 use Rattle.disk_core.specs.declared.disk.FileNo.TheVariants.{Journal}
-use Rattle.desk_core.specs.Asking.{IsOffice}
-use Rattle.desk_core.specs.Desk.{Parts, DeskView, parts_of, StandsFor, GoesOn}
-use Rattle.desk_core.proofs.Again.{unopened_call, asked_call, sound_unbroken}
+use Rattle.desk_core.specs.Submitting.{IsOffice}
+use Rattle.desk_core.specs.Desk.{EngineView, DeskView, engine_of, StandsFor, GoesOn}
+use Rattle.desk_core.proofs.Reopened.{unopened_call, asked_call, sound_unbroken}
 use Rattle.desk_core.proofs.Standing.{view_of, still_true}
 use Rattle.desk_core.proofs.Submitted.{narrower_sound}
 use Rattle.desk_core.proofs.desk.Desk.answer_current.Goals as goal
@@ -15,7 +15,8 @@ returns-in-Err-clause-stands g c opened calls stands =
     let desk : S = view_of c.self.inside.engine c.self.inside.stale in
     let s = subst (λ (x : S). StandsFor d opened calls x) (sym c.self.view_is) stands in
     subst (λ (x : S). GoesOn d opened (calls ++ record { ask = c.args.ask.now; said = Err c.in-Err.fault } ∷ []) x.disk (view_of c.refresh.new.self c.self.inside.stale)) c.self.view_is
-    (unopened_call d m.counts_now m.only_now m.since_earlier (λ tells disk. m.reads_image tells disk Journal) desk opened calls s c.args.ask.now c.refresh.new.self c.in-Err.fault c.in-Err.ensures.unopened)
+    (unopened_call d m.counts_now m.only_now m.since_earlier (λ tells disk. m.reads_image tells disk Journal) desk
+    opened calls s c.args.ask.now c.refresh.new.self c.in-Err.fault c.in-Err.ensures.unopened)
 
 pub returns-clause-stands : goal.returns-clause-stands
 returns-clause-stands g c opened calls stands =
@@ -24,10 +25,10 @@ returns-clause-stands g c opened calls stands =
     let S : Type 0 = DeskView g.row.D.Denot g.row.C.Denot in
     let desk : S = view_of c.self.inside.engine c.self.inside.stale in
     let s = subst (λ (x : S). StandsFor d opened calls x) (sym c.self.view_is) stands in
-    let new = c.ask-said.new.self in
-    let said = c.ask-said.result in
+    let new = c.answer_now-said.new.self in
+    let said = c.answer_now-said.result in
     let goes = asked_call d m.counts_now m.only_now m.since_earlier (λ tells disk. m.reads_image tells disk Journal) desk opened calls s c.args.ask.now c.refresh.new.self new
-    (g.C.Clock.last new.clock) said c.in_default.ensures.office c.ask-said.ensures.limit c.ask-said.ensures.disk_later c.ask-said.ensures.asks in
+    (g.C.Clock.last new.clock) said c.in_default.ensures.office c.answer_now-said.ensures.limit c.answer_now-said.ensures.disk_later c.answer_now-said.ensures.asks in
     let stale = subst (λ (b : _). GoesOn d opened (calls ++ record { ask = c.args.ask.now; said = said } ∷ []) desk.disk (view_of new b)) (sym c.is_stale-self-inside.ensures) goes in
     subst (λ (x : S). GoesOn d opened (calls ++ record { ask = c.args.ask.now; said = said } ∷ []) x.disk (view_of new c.is_stale-self-inside.result)) c.self.view_is stale
 
@@ -35,9 +36,9 @@ pub returns-clause-causes : goal.returns-clause-causes
 returns-clause-causes g c =
     let d = g.D.Disk in
     let S : Type 0 = DeskView g.row.D.Denot g.row.C.Denot in
-    let P : Type 0 = Parts g.row.D.Denot g.row.C.Denot in
+    let P : Type 0 = EngineView g.row.D.Denot g.row.C.Denot in
     let k = g.C.Clock in
-    inr (c.refresh.new.self, subst (λ (x : S). IsOffice d x.stale (parts_of x) c.refresh.new.self) c.self.view_is c.in_default.ensures.office, c.ask-said.ensures.tells)
+    inr (c.refresh.new.self, subst (λ (x : S). IsOffice d x.stale (engine_of x) c.refresh.new.self) c.self.view_is c.in_default.ensures.office, c.answer_now-said.ensures.tells)
 
 pub returns-in-Err-clause-not_broken : goal.returns-in-Err-clause-not_broken
 returns-in-Err-clause-not_broken g c tells fault is =

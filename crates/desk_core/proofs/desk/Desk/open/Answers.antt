@@ -1,8 +1,8 @@
 use Rattle.std.proofs.Common.{ℕ, false, subst}
 use Rattle.disk_core.specs.declared.disk.FileNo.TheVariants.{Journal}
-use Rattle.desk_core.specs.Breaking.{OpenFails}
+use Rattle.desk_core.specs.Damage.{OpenFails}
 use Rattle.desk_core.specs.Opening.{Opens}
-use Rattle.desk_core.proofs.Breaking.{opens}
+use Rattle.desk_core.proofs.Damage.{opens}
 use Rattle.desk_core.proofs.Opened.{opened}
 use Rattle.desk_core.proofs.Standing.{view_of}
 use Rattle.desk_core.proofs.Submitted.{holds_sound}

@@ -18,11 +18,12 @@ use Rattle.desk_core.specs.Answers.{Answer, Call}
 use Rattle.desk_core.specs.Calls.{Legal, IsLegal, faults_after}
 use Rattle.desk_core.specs.Histories.{HasAcceptedHistory}
 use Rattle.desk_core.specs.Serving.{AreToldBy, IsToldBy}
-use Rattle.desk_core.proofs.OneMore.{HasImageOf, last_faults, InCall, IsKept, Makes}
+use Rattle.desk_core.proofs.OneCallMore.{HasImageOf, last_faults, InCall, IsKept, Makes}
 
 -- ---- one call alone
 
-pub one_legal : (honest : Bool) (limit told : ℕ) (call : Call) (before after : List Entry) (p : Office) → run before ≡ Some p → IsLegal honest limit told call.ask call.said p before after → Legal honest limit told (call ∷ []) before after
+pub one_legal : (honest : Bool) (limit told : ℕ) (call : Call) (before after : List Entry) (p : Office) → run before ≡ Some p
+    → IsLegal honest limit told call.ask call.said p before after → Legal honest limit told (call ∷ []) before after
 one_legal honest limit told call before after p is legal =
     (after, subst (λ (o : Option Office). IsSomeAnd o (λ office. IsLegal honest limit told call.ask call.said office before after)) (sym is) legal, refl)
 
@@ -45,7 +46,8 @@ last_below first now (call ∷ calls) le told = last_below (faults_after first c
 pub some_run : (before : List Entry) (p : Office) → run before ≡ Some p → IsSome (run before)
 some_run before p is = subst (λ (o : Option Office). IsSome o) (sym is) refl
 
-pub rest_image : (s : State) (gate : ℕ) (before : List Entry) (p : Office) → IsAtRest header s gate before → run before ≡ Some p → (image : List ℕ) → IsImage s.journal image → HasAcceptedHistory before image
+pub rest_image : (s : State) (gate : ℕ) (before : List Entry) (p : Office) → IsAtRest header s gate before → run before ≡ Some p
+    → (image : List ℕ) → IsImage s.journal image → HasAcceptedHistory before image
 rest_image s gate before p rest is image has = record { entries = each_image header s gate before rest image has; accepted = some_run before p is }
 
 pub unique : (h before : List Entry) (image : List ℕ) → HasAcceptedHistory h image → HasEntries header before image → h ≡ before
@@ -57,7 +59,8 @@ module _ {D : Type 0} (d : disks.Ghosts D)
     (since_earlier : (disk : D) (t u : ℕ) (s : State) → t ≤ u → d.had_since disk u s → d.had_since disk t s) where
   -- ---- what a call makes of the disk, where the journal lay at rest on it
 
-  module _ (old : D) (gate : ℕ) (before : List Entry) (p : Office) (rest : IsAtRest header (d.state old) gate before) (is_run : run before ≡ Some p) (reads : IsImage (d.state old).journal (d.state old).journal.seen)
+  module _ (old : D) (gate : ℕ) (before : List Entry) (p : Office) (rest : IsAtRest header (d.state old) gate before)
+      (is_run : run before ≡ Some p) (reads : IsImage (d.state old).journal (d.state old).journal.seen)
       (limit last : ℕ) (call : Call) where
     abbrev Rule : List Entry → Type 0
     Rule after = Legal true limit last (call ∷ []) before after
@@ -78,7 +81,7 @@ module _ {D : Type 0} (d : disks.Ghosts D)
     makes_still new same rule kept told = record {
       settled = before;
       is_settled = settled;
-      run = subst (λ (z : D). KeepsTo d.state d.moment d.had_since old z In) (sym same) (started d.state d.moment d.had_since old In (only_now old) still);
+      run = subst (λ (z : D). KeepsTo d old z In) (sym same) (started d old In (only_now old) still);
       done = λ image h is has.
           let here = subst (λ (z : D). IsImage (d.state z).journal image) same is in
           subst Rule (sym (unique h before image has (each_image header (d.state old) gate before rest image here))) rule;
@@ -95,23 +98,23 @@ module _ {D : Type 0} (d : disks.Ghosts D)
             (λ (e : HasEntries header (before ++ entry ∷ []) image). inr (subst Rule (sym (unique h (before ++ entry ∷ []) image has e)) grown)) (both.journal image is);
       }
 
-      pub makes_grown : (new : D) (end : ℕ) → KeepsTo d.state d.moment d.had_since old new (BeforeOrAfter header before entry (d.state old)) → IsAtRest header (d.state new) end (before ++ entry ∷ [])
+      pub makes_grown : (new : D) (end : ℕ) → KeepsTo d old new (BeforeOrAfter header before entry (d.state old)) → IsAtRest header (d.state new) end (before ++ entry ∷ [])
           → IsKept d new call.said → (d.fault_count old ≤ d.fault_count new) × IsToldBy (d.fault_count new) call.said → Makes d old new limit last call
       makes_grown new end kept_to rest_new kept told = record {
         settled = before;
         is_settled = settled;
-        run = weakened d.state d.moment d.had_since old new (BeforeOrAfter header before entry (d.state old)) In in_call kept_to;
+        run = weakened In kept_to in_call;
         done = λ image h is has. subst Rule (sym (unique h (before ++ entry ∷ []) image has (each_image header (d.state new) end (before ++ entry ∷ []) rest_new image is))) grown;
         kept = kept;
         faults = told;
       }
 
-      pub makes_failed : (new : D) → Rule before → KeepsTo d.state d.moment d.had_since old new (BeforeOrAfter header before entry (d.state old))
+      pub makes_failed : (new : D) → Rule before → KeepsTo d old new (BeforeOrAfter header before entry (d.state old))
           → IsKept d new call.said → (d.fault_count old ≤ d.fault_count new) × IsToldBy (d.fault_count new) call.said → Makes d old new limit last call
       makes_failed new rule kept_to kept told = record {
         settled = before;
         is_settled = settled;
-        run = weakened d.state d.moment d.had_since old new (BeforeOrAfter header before entry (d.state old)) In in_call kept_to;
+        run = weakened In kept_to in_call;
         done = λ image h is has. ⊎_elim (λ (e : HasEntries header before image). subst Rule (sym (unique h before image has e)) rule)
             (λ (e : HasEntries header (before ++ entry ∷ []) image). subst Rule (sym (unique h (before ++ entry ∷ []) image has e)) grown) (kept_to.now.journal image is);
         kept = kept;

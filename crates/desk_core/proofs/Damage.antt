@@ -16,16 +16,16 @@ use Rattle.bucket_account.specs.Standing.{most_commands}
 use Rattle.office_machine.specs.Standing.{Records, StandsForOffice, Does}
 use Rattle.meter_journal.specs.declared.fault.OpenFault.{OpenFault}
 use Rattle.meter_journal.specs.declared.fault.OpenFault.TheVariants as faults
-use Rattle.entry_codec.specs.Spelling.{Fits, spelling}
-use Rattle.meter_journal.specs.History.{whole, header, end_gate}
+use Rattle.entry_codec.specs.Spelling.{EntryFits, spelling}
+use Rattle.meter_journal.specs.History.{header, end_gate}
 use Rattle.meter_journal.specs.Reading.{IsMade, HeadGives, NextGives, Advances, HasPrefix, frame_at, Whole, Ended}
 use Rattle.meter_journal.proofs.Heads.{made_head, made_not_none, made_not_foreign, history_made}
-use Rattle.meter_journal.proofs.Prefix.{read_start, read_more, read_end}
+use Rattle.meter_journal.proofs.History.{end_gate-none, end_gate-push}
+use Rattle.meter_journal.proofs.Prefix.{prefix_start, read_more, read_end}
 use Rattle.meter_journal.proofs.Unique.{goes_on, never_broken}
 use Rattle.desk_core.specs.Histories.{HasAcceptedHistory}
-use Rattle.desk_core.specs.Breaking.{IsDamagedAt, OpenFails, ReplayFails, HasReplayed}
+use Rattle.desk_core.specs.Damage.{IsDamagedAt, OpenFails, ReplayFails, HasReplayed}
 use Rattle.desk_core.specs.Offices.{StandsAfter}
-use Rattle.desk_core.proofs.Adding.{end_more}
 use Rattle.desk_core.proofs.Offices.{few, nothing_taken, not_taken as refused}
 
 -- the entries up to this gate were read, on every disk; on an honest one they are those of its journal file
@@ -61,40 +61,41 @@ not_in_order old e early history is = early_refused is.plain e (subst (λ (last 
 
 -- ---- reading all entries
 
-end_none : end_gate header [] ≡ 10
-unfolding whole
-end_none = refl
-
 module _ {D : Type 0} (d : disks.Ghosts D) where
   pub none_read : (disk : D) (gate : ℕ) (office : Records) → gate ≡ 10 → StandsAfter [] office → HasRead d disk gate office
   none_read disk gate office first empty = record {
     history = [];
     office_is = empty;
-    end = first ∙ sym end_none;
+    end = first ∙ sym (end_gate-none header);
     small = omega (arith, first);
-    prefix = λ tells file on_disk made. subst (λ (k : ℕ). HasPrefix header [] k file) (sym first) (read_start header [] 10 file refl (made_head file made) refl);
+    prefix = λ tells file on_disk made. subst (λ (k : ℕ). HasPrefix header [] k file) (sym first)
+        (prefix_start header 10 file (made_head file made) refl);
   }
 
   pub one_read : (disk mid : D) (gate next : ℕ) (office after : Records) (o : Option Entry) (e : Entry) → HasRead d disk gate office → (IsTrue d.honest → d.state mid ≡ d.state disk)
-      → (IsTrue d.honest → (i : ℕ) → get_or (d.state disk).journal.seen i 0 < 256) → o ≡ Some e → (IsTrue d.honest → NextGives (Ok o) gate next (frame_at gate (d.state mid).journal.seen)) → Advances (Ok o) gate next
+      → (IsTrue d.honest → (i : ℕ) → get_or (d.state disk).journal.seen i 0 < 256) → o ≡ Some
+      e → (IsTrue d.honest → NextGives (Ok o) gate next (frame_at gate (d.state mid).journal.seen)) → Advances (Ok o) gate next
       → next ≤ 2 ^ 45 → ((history : List Entry) → StandsAfter history office → StandsAfter (history ++ e ∷ []) after) → HasRead d disk next after
   one_read disk mid gate next office after o e read same bytes is gives advances small taken =
-      let passed : Fits e × (next ≡ gate + 5 + length (spelling e)) = subst (λ (x : Option Entry). Advances (Ok x) gate next) is advances in
+      let passed : EntryFits e × (next ≡ gate + 5 + length (spelling e)) = subst (λ (x : Option Entry). Advances (Ok x) gate next) is advances in
       record {
         history = read.history ++ e ∷ [];
         office_is = taken read.history read.office_is;
-        end = omega (arith, passed.1, read.end, end_more header read.history e);
+        end = omega (arith, passed.1, read.end, end_gate-push header read.history e);
         small = small;
-        prefix = λ tells file on_disk made. read_more header (d.state disk) (d.state mid) file read.history (read.history ++ e ∷ []) gate next o e (same tells) on_disk (bytes tells) (read.prefix tells file on_disk made) is (gives tells) refl;
+        prefix = λ tells file on_disk made.
+            read_more (read.prefix tells file on_disk made) (same tells) on_disk next o e (bytes tells) is (gives tells);
       }
 
-  pub all_read : (disk mid new : D) (gate next : ℕ) (office : Records) (o : Option Entry) → HasRead d disk gate office → (IsTrue d.honest → d.state mid ≡ d.state disk) → (IsTrue d.honest → d.state new ≡ d.state mid)
+  pub all_read : (disk mid new : D) (gate next : ℕ) (office : Records) (o : Option Entry) → HasRead d disk gate office
+      → (IsTrue d.honest → d.state mid ≡ d.state disk) → (IsTrue d.honest → d.state new ≡ d.state mid)
       → o ≡ None → (IsTrue d.honest → NextGives (Ok o) gate next (frame_at gate (d.state mid).journal.seen)) → Advances (Ok o) gate next → HasReplayed d disk new next office
   all_read disk mid new gate next office o read same still is gives advances = record {
     history = read.history;
     office_is = read.office_is;
     end = subst (λ (x : Option Entry). Advances (Ok x) gate next) is advances ∙ read.end;
-    at_rest = λ tells file on_disk made. read_end header (d.state disk) (d.state mid) (d.state new) file read.history gate next o (same tells) (still tells) on_disk (read.prefix tells file on_disk made) is (gives tells);
+    at_rest = λ tells file on_disk made.
+        read_end (read.prefix tells file on_disk made) (same tells) on_disk (d.state new) next o (still tells) is (gives tells);
   }
 
   -- the next entry is taken as far as the office can count
@@ -115,26 +116,31 @@ broken_at (faults.Damaged at) history office gate next file made before is gives
 broken_at faults.StoreFault history office gate next file made before is gives = tt
 broken_at faults.NoMemory history office gate next file made before is gives = tt
 
-pub next_fails : (first mid : State) (fault : OpenFault) (history : List Entry) (office : Office) (gate next : ℕ) (file : List ℕ) → mid ≡ first → first.journal ≡ synced_file file → IsMade file
-    → HasPrefix header history gate file → run history ≡ Some office → NextGives (Err fault) gate next (frame_at gate mid.journal.seen) → ReplayFails fault file
-next_fails first mid fault history office gate next file same on_disk made before is gives =
-    broken_at fault history office gate next file made before is (subst (λ (t : List ℕ). NextGives (Err fault) gate next (frame_at gate t)) (seen_is first mid file same on_disk) gives)
+-- at this gate, behind entries that the office accepts
+module _ {first mid : State} {history : List Entry} {office : Office} {gate : ℕ} {file : List ℕ} (same : mid ≡ first)
+    (on_disk : first.journal ≡ synced_file file) (made : IsMade file) (before : HasPrefix header history gate file)
+    (is : run history ≡ Some office) where
+  pub next_fails : (fault : OpenFault) (next : ℕ) → NextGives (Err fault) gate next (frame_at gate mid.journal.seen) → ReplayFails fault file
+  next_fails fault next gives =
+      broken_at fault history office gate next file made before is
+      (subst (λ (t : List ℕ). NextGives (Err fault) gate next (frame_at gate t)) (seen_is first mid file same on_disk) gives)
 
--- the entry at the gate is not accepted
-pub take_fails : (first mid : State) (fault : OpenFault) (history : List Entry) (office : Office) (gate next : ℕ) (file : List ℕ) (read : Option Entry) (entry : Entry) → mid ≡ first → first.journal ≡ synced_file file → IsMade file
-    → HasPrefix header history gate file → run history ≡ Some office → read ≡ Some entry → NextGives (Ok read) gate next (frame_at gate mid.journal.seen)
-    → (fault ≡ faults.NoMemory) ⊎ ((fault ≡ faults.Damaged gate) × (accept office entry ≡ None)) → ReplayFails fault file
-take_fails first mid fault history office gate next file read entry same on_disk made before is some gives (inl want) = subst (λ (f : OpenFault). ReplayFails f file) (sym want) tt
-take_fails first mid fault history office gate next file read entry same on_disk made before is some gives (inr x) =
-    let frame : frame_at gate mid.journal.seen ≡ Whole entry next = subst (λ (r : Option Entry). NextGives (Ok r) gate next (frame_at gate mid.journal.seen)) some gives in
-    subst (λ (f : OpenFault). ReplayFails f file) (sym x.0) (record {
-      made = made;
-      history = history;
-      office = office;
-      before = before;
-      is_run = is;
-      breaks = inr (entry, next, ap (frame_at gate) (sym (seen_is first mid file same on_disk)) ∙ frame, x.1);
-    })
+  -- the entry at the gate is not accepted
+  pub take_fails : (fault : OpenFault) (next : ℕ) (read : Option Entry) (entry : Entry) → read ≡ Some entry
+      → NextGives (Ok read) gate next (frame_at gate mid.journal.seen)
+      → (fault ≡ faults.NoMemory) ⊎ ((fault ≡ faults.Damaged gate) × (accept office entry ≡ None)) → ReplayFails fault file
+  take_fails fault next read entry some gives (inl want) = subst (λ (f : OpenFault). ReplayFails f file) (sym want) tt
+  take_fails fault next read entry some gives (inr x) =
+      let frame : frame_at gate mid.journal.seen ≡ Whole entry next =
+      subst (λ (r : Option Entry). NextGives (Ok r) gate next (frame_at gate mid.journal.seen)) some gives in
+      subst (λ (f : OpenFault). ReplayFails f file) (sym x.0) (record {
+        made = made;
+        history = history;
+        office = office;
+        before = before;
+        is_run = is;
+        breaks = inr (entry, next, ap (frame_at gate) (sym (seen_is first mid file same on_disk)) ∙ frame, x.1);
+      })
 
 pub replay_open : (fault : OpenFault) (file : List ℕ) → ReplayFails fault file → OpenFails fault file
 replay_open faults.NotMade file fails = absurd fails

@@ -4,7 +4,7 @@ use Rattle.std.specs.Prelude.{IsTrue, IsSome}
 use Rattle.office_base.specs.Faults.{Rose}
 use Rattle.disk_core.specs.declared.disk.Disk as disks
 use Rattle.disk_core.specs.Files.{State, IsImage}
-use Rattle.disk_core.specs.Kept.{Narrower}
+use Rattle.disk_core.specs.Fronts.{Narrower}
 use Rattle.disk_core.specs.Moments.{KeepsTo}
 use Rattle.disk_core.proofs.Time.{joined, weakened}
 use Rattle.plain_office.specs.Office.{Office}
@@ -16,17 +16,17 @@ use Rattle.meter_journal.specs.declared.fault.OpenFault.TheVariants as opens
 use Rattle.desk_core.specs.declared.fault.DeskFault.{DeskFault}
 use Rattle.desk_core.specs.declared.fault.DeskFault.TheVariants as faults
 use Rattle.desk_core.specs.Answers.{Answer, Call}
-use Rattle.desk_core.specs.Asking.{Reopens, IsUnopened, IsOffice, Unopened}
-use Rattle.desk_core.specs.Breaking.{IsBroken, OpenFails}
+use Rattle.desk_core.specs.Submitting.{Reopens, IsUnopened, IsOffice, Unopened}
+use Rattle.desk_core.specs.Damage.{IsBroken, OpenFails}
 use Rattle.desk_core.specs.Calls.{Legal, IsLegal}
 use Rattle.desk_core.specs.Histories.{IsSound}
 use Rattle.desk_core.specs.Serving.{Opened, IsToldBy, Recoverable, KeepsSlots}
-use Rattle.desk_core.specs.Desk.{Parts, DeskView, parts_of, StandsFor, GoesOn, stale_after}
-use Rattle.desk_core.specs.Keeping.{Asks}
-use Rattle.desk_core.proofs.Breaking.{opens as never_fails}
-use Rattle.desk_core.proofs.Keeping.{one_legal, rose_from, last_below, some_run}
+use Rattle.desk_core.specs.Desk.{EngineView, DeskView, engine_of, StandsFor, GoesOn, stale_after}
+use Rattle.desk_core.specs.Answering.{AnswersAsk}
+use Rattle.desk_core.proofs.Damage.{opens as never_fails}
+use Rattle.desk_core.proofs.Serving.{one_legal, rose_from, last_below, some_run}
 use Rattle.desk_core.proofs.Narrowing.{narrowed, narrowed_run, idle, recoverable_more, run_more, told_all}
-use Rattle.desk_core.proofs.OneMore.{last_faults, legal_append, told_more}
+use Rattle.desk_core.proofs.OneCallMore.{last_faults, legal_append, told_more}
 use Rattle.desk_core.proofs.Standing.{StandsAt, view_of, still_true, submitted}
 
 -- a disk tells what it holds, or it does not
@@ -34,7 +34,8 @@ pub by_honesty : {P : Type 0} (honest : Bool) → (IsTrue honest → P) → ((Is
 by_honesty true tells silent = tells refl
 by_honesty false tells silent = silent (λ is. still_true false is refl)
 
-pub honest_legal : (honest : Bool) (limit counted : ℕ) (calls : List Call) (before after : List Entry) → IsTrue honest → Legal true limit counted calls before after → Legal honest limit counted calls before after
+pub honest_legal : (honest : Bool) (limit counted : ℕ) (calls : List Call) (before after : List Entry) → IsTrue honest
+    → Legal true limit counted calls before after → Legal honest limit counted calls before after
 honest_legal honest limit counted calls before after tells rule = subst (λ (b : Bool). Legal b limit counted calls before after) (sym tells) rule
 
 run_some : {P : Type 0} (o : Option Office) → IsSome o → ((p : Office) → o ≡ Some p → P) → P
@@ -53,8 +54,9 @@ no_broken at broken (inl is) = absurd (subst IsBroken is broken)
 no_broken at broken (inr is) = absurd (subst IsBroken is broken)
 
 -- where each image has a history, what is read is no broken journal
-pub sound_unbroken : {D C : Type 0} (d : disks.Ghosts D) (stale : Bool) (old new : Parts D C) (fault : DeskFault) (at : OpenFault)
-    → IsImage (d.state old.disk).journal (d.state old.disk).journal.seen → Unopened d stale old new (Err fault) → IsTrue d.honest → IsSound (d.state old.disk) → answer_err fault ≡ answer_err (faults.Broken at) → ⊥
+pub sound_unbroken : {D C : Type 0} (d : disks.Ghosts D) (stale : Bool) (old new : EngineView D C) (fault : DeskFault) (at : OpenFault)
+    → IsImage (d.state old.disk).journal (d.state old.disk).journal.seen → Unopened d stale old new (Err fault) → IsTrue d.honest
+    → IsSound (d.state old.disk) → answer_err fault ≡ answer_err (faults.Broken at) → ⊥
 sound_unbroken d stale old new fault at own u tells sound is =
     let why = subst (λ (r : Result Answer DeskFault). IsUnopened d old.disk new.disk r) is u.why in
     let seen = (d.state old.disk).journal.seen in
@@ -69,7 +71,7 @@ module _ {D : Type 0} {C : Type 0} (d : disks.Ghosts D)
   abbrev Stands : Opened → List Call → DeskView D C → Type 0
   Stands opened calls desk = StandsFor d opened calls desk
 
-  abbrev At : Opened → List Call → Parts D C → Type 0
+  abbrev At : Opened → List Call → EngineView D C → Type 0
   At opened calls parts = StandsAt d opened calls parts
 
   module _ (desk : DeskView D C) (opened : Opened) (calls : List Call) (s : Stands opened calls desk) where
@@ -80,14 +82,15 @@ module _ {D : Type 0} {C : Type 0} (d : disks.Ghosts D)
     Rule history = Legal d.honest opened.limit opened.faults calls opened.history history
 
     -- a desk that is not stale
-    pub stands_fresh : desk.stale ≡ false → At opened calls (parts_of desk)
+    pub stands_fresh : desk.stale ≡ false → At opened calls (engine_of desk)
     stands_fresh fresh = let h = s.holds fresh in record { limit = s.limit; faults = s.faults; history = h.0; legal = h.1; holds = h.2; serves = s.serves }
 
     -- one that opened its journal again
-    module _ (office : Parts D C) (stale : desk.stale ≡ true) (again : Reopens d (parts_of desk) office) where
+    module _ (office : EngineView D C) (stale : desk.stale ≡ true) (again : Reopens d (engine_of desk) office) where
       led : Rule again.history
       led = by_honesty d.honest
-          (λ tells. honest_legal d.honest opened.limit opened.faults calls opened.history again.history tells ((s.serves tells).whole (d.state desk.disk).journal.seen again.history (own tells desk.disk) (again.read tells)))
+          (λ tells. honest_legal d.honest opened.limit opened.faults calls opened.history again.history tells
+          ((s.serves tells).whole (d.state desk.disk).journal.seen again.history (own tells desk.disk) (again.read tells)))
           (λ not. s.lost not stale again.history (some_run again.history again.holds.office.plain again.holds.office.is_run))
 
       pub stands_again : At opened calls office
@@ -103,13 +106,12 @@ module _ {D : Type 0} {C : Type 0} (d : disks.Ghosts D)
       pub run_again : (new : DeskView D C) (call : Call) → GoesOn d opened (calls ++ call ∷ []) office.disk new → GoesOn d opened (calls ++ call ∷ []) desk.disk new
       run_again new call goes = record {
         stands = goes.stands;
-        any_moment = λ tells. joined d.state d.moment d.had_since desk.disk office.disk new.disk (Recoverable opened calls) (Recoverable opened (calls ++ call ∷ [])) (Recoverable opened (calls ++ call ∷ []))
-            (recoverable_more opened calls (call ∷ [])) (λ t p. p)
-            (narrowed_run d counts_now only_now since_earlier opened desk.disk office.disk calls (s.serves tells) (again.any_moment tells)) (goes.any_moment tells);
+        any_moment = λ tells. joined (Recoverable opened (calls ++ call ∷ []))
+            (narrowed_run d counts_now only_now since_earlier opened desk.disk office.disk calls (s.serves tells) (again.any_moment tells))
+            (goes.any_moment tells) (recoverable_more opened calls (call ∷ [])) (λ t p. p);
         slots = λ tells.
             let run = again.any_moment tells in
-            joined d.state d.moment d.had_since desk.disk office.disk new.disk (Narrower (d.state desk.disk)) (KeepsSlots (d.state office.disk)) (KeepsSlots (d.state desk.disk))
-            (λ t narrow. (narrow.slot0, narrow.slot1)) (λ t keeps. (keeps.0 ∙ run.now.slot0, keeps.1 ∙ run.now.slot1)) run (goes.slots tells);
+            joined (KeepsSlots (d.state desk.disk)) run (goes.slots tells) (λ t narrow. (narrow.slot0, narrow.slot1)) (λ t keeps. (keeps.0 ∙ run.now.slot0, keeps.1 ∙ run.now.slot1));
       }
 
     -- ---- a call that leaves the history
@@ -118,11 +120,13 @@ module _ {D : Type 0} {C : Type 0} (d : disks.Ghosts D)
       abbrev call_of : DeskFault → Call
       call_of fault = record { ask = question; said = Err fault }
 
-      kept_by : (b : Bool) (call : Call) → ((p : Office) (history : List Entry) → IsLegal b opened.limit last call.ask call.said p history history) → (history : List Entry) → IsSome (run history) → Legal b opened.limit last (call ∷ []) history history
+      kept_by : (b : Bool) (call : Call)
+          → ((p : Office) (history : List Entry) → IsLegal b opened.limit last call.ask call.said p history history)
+          → (history : List Entry) → IsSome (run history) → Legal b opened.limit last (call ∷ []) history history
       kept_by b call legal history some = run_of history some (λ p is. one_legal b opened.limit last call history history p is (legal p history))
 
       -- want of memory leaves a stale desk stale
-      pub stays_stale : (new : Parts D C) → desk.stale ≡ true → GoesOn d opened (calls ++ call_of faults.NoMemory ∷ []) desk.disk (view_of new false)
+      pub stays_stale : (new : EngineView D C) → desk.stale ≡ true → GoesOn d opened (calls ++ call_of faults.NoMemory ∷ []) desk.disk (view_of new false)
           → GoesOn d opened (calls ++ call_of faults.NoMemory ∷ []) desk.disk (view_of new true)
       stays_stale new stale goes = record {
         stands = record {
@@ -138,8 +142,9 @@ module _ {D : Type 0} {C : Type 0} (d : disks.Ghosts D)
       }
 
       -- the journal could not be opened again
-      module _ (new : DeskView D C) (fault : DeskFault) (stale : desk.stale ≡ true) (stays : new.stale ≡ true) (same_limit : new.limit ≡ desk.limit) (later : d.fault_count desk.disk ≤ d.fault_count new.disk)
-          (run_is : IsTrue d.honest → KeepsTo d.state d.moment d.had_since desk.disk new.disk (Narrower (d.state desk.disk))) where
+      module _ (new : DeskView D C) (fault : DeskFault) (stale : desk.stale ≡ true) (stays : new.stale ≡ true)
+          (same_limit : new.limit ≡ desk.limit) (later : d.fault_count desk.disk ≤ d.fault_count new.disk)
+          (run_is : IsTrue d.honest → KeepsTo d desk.disk new.disk (Narrower (d.state desk.disk))) where
         abbrev call : Call
         call = call_of fault
 
@@ -156,30 +161,33 @@ module _ {D : Type 0} {C : Type 0} (d : disks.Ghosts D)
             limit = same_limit ∙ s.limit;
             faults = (omega (arith, later, s.faults.0), told_more calls call (d.fault_count desk.disk) (d.fault_count new.disk) later s.faults.1 told);
             holds = λ fine. absurd (still_true new.stale stays fine);
-            lost = λ not is history some. legal_append d.honest opened.limit opened.faults calls (call ∷ []) opened.history history history (s.lost not stale history some) (kept_by d.honest call legal history some);
+            lost = λ not is history some. legal_append d.honest opened.limit opened.faults calls (call ∷ []) opened.history history history
+                (s.lost not stale history some) (kept_by d.honest call legal history some);
             serves = λ tells. idle d counts_now only_now since_earlier opened new.disk calls call
                 (narrowed d counts_now only_now since_earlier opened desk.disk new.disk calls (s.serves tells) (run_is tells) later)
                 not_acked (λ history has. kept_by true call (legal_true tells) history has.has.accepted) told;
           };
           any_moment = λ tells. run_more d counts_now only_now since_earlier opened desk.disk new.disk calls (call ∷ [])
               (narrowed_run d counts_now only_now since_earlier opened desk.disk new.disk calls (s.serves tells) (run_is tells));
-          slots = λ tells. weakened d.state d.moment d.had_since desk.disk new.disk (Narrower (d.state desk.disk)) (KeepsSlots (d.state desk.disk)) (λ t narrow. (narrow.slot0, narrow.slot1)) (run_is tells);
+          slots = λ tells. weakened (KeepsSlots (d.state desk.disk)) (run_is tells) (λ t narrow. (narrow.slot0, narrow.slot1));
         }
 
         rose_last : (count : ℕ) → Rose (d.fault_count desk.disk) (d.fault_count new.disk) × (count ≡ d.fault_count new.disk) → Rose last count
-        rose_last count why = subst (λ (k : ℕ). Rose last k) (sym why.1) (rose_from last (d.fault_count desk.disk) (d.fault_count new.disk) (last_below opened.faults (d.fault_count desk.disk) calls s.faults.0 s.faults.1) why.0)
+        rose_last count why = subst (λ (k : ℕ). Rose last k) (sym why.1) (rose_from last (d.fault_count desk.disk) (d.fault_count new.disk)
+            (last_below opened.faults (d.fault_count desk.disk) calls s.faults.0 s.faults.1) why.0)
 
         -- an honest disk has no broken journal
         pub not_broken : (at : OpenFault) → IsBroken at → (IsTrue d.honest → OpenFails at (d.state desk.disk).journal.seen) → IsTrue d.honest → ⊥
         not_broken at broken fails tells =
             let seen = (d.state desk.disk).journal.seen in
-            let recovers = (s.serves tells).left (d.moment desk.disk) (d.state desk.disk) seen (s.serves tells).later (omega arith) (counts_now desk.disk (d.moment desk.disk) (omega arith)) (own tells desk.disk) in
+            let recovers = (s.serves tells).left (d.moment desk.disk) (d.state desk.disk) seen (s.serves tells).later (omega arith)
+            (counts_now desk.disk (d.moment desk.disk) (omega arith)) (own tells desk.disk) in
             no_broken at broken (never_fails at recovers.history seen recovers.has (fails tells))
 
       -- ---- one call more
 
       -- that no office answers
-      pub unopened_call : (new : Parts D C) (fault : DeskFault) → Unopened d desk.stale (parts_of desk) new (Err fault)
+      pub unopened_call : (new : EngineView D C) (fault : DeskFault) → Unopened d desk.stale (engine_of desk) new (Err fault)
           → GoesOn d opened (calls ++ call_of fault ∷ []) desk.disk (view_of new desk.stale)
       unopened_call new (faults.StoreFault None count) u =
           let seat = view_of new desk.stale in
@@ -199,11 +207,11 @@ module _ {D : Type 0} {C : Type 0} (d : disks.Ghosts D)
       abbrev all : Result Answer DeskFault → List Call
       all said = calls ++ record { ask = question; said = said } ∷ []
 
-      abbrev Goes : Parts D C → Result Answer DeskFault → Bool → Type 0
+      abbrev Goes : EngineView D C → Result Answer DeskFault → Bool → Type 0
       Goes new said is = GoesOn d opened (all said) desk.disk (view_of new is)
 
       -- want of memory alone leaves a stale desk stale
-      restaled : (new : Parts D C) (said : Result Answer DeskFault) → desk.stale ≡ true → Goes new said (stale_after false said) → Goes new said (stale_after true said)
+      restaled : (new : EngineView D C) (said : Result Answer DeskFault) → desk.stale ≡ true → Goes new said (stale_after false said) → Goes new said (stale_after true said)
       restaled new (Ok answer) stale goes = goes
       restaled new (Err (faults.StoreFault number count)) stale goes = goes
       restaled new (Err faults.JournalFull) stale goes = goes
@@ -211,13 +219,13 @@ module _ {D : Type 0} {C : Type 0} (d : disks.Ghosts D)
       restaled new (Err faults.NoMemory) stale goes = stays_stale new stale goes
 
       -- that this office answers
-      pub asked_call : (office new : Parts D C) (number : ℕ) (said : Result Answer DeskFault) → IsOffice d desk.stale (parts_of desk) office
-          → new.limit ≡ office.limit → d.fault_count office.disk ≤ d.fault_count new.disk → Asks d number question office new said → Goes new said (stale_after desk.stale said)
+      pub asked_call : (office new : EngineView D C) (number : ℕ) (said : Result Answer DeskFault) → IsOffice d desk.stale (engine_of desk) office
+          → new.limit ≡ office.limit → d.fault_count office.disk ≤ d.fault_count new.disk → AnswersAsk d number question office new said → Goes new said (stale_after desk.stale said)
       asked_call office new number said (inl (fresh, same)) limit later asks =
-          let stands = subst (λ (x : Parts D C). At opened calls x) (sym same) (stands_fresh fresh) in
+          let stands = subst (λ (x : EngineView D C). At opened calls x) (sym same) (stands_fresh fresh) in
           let goes = submitted d counts_now only_now since_earlier own office new opened calls number question said stands limit later asks in
           subst (λ (b : Bool). Goes new said (stale_after b said)) (sym fresh)
-          (subst (λ (x : Parts D C). GoesOn d opened (all said) x.disk (view_of new (stale_after false said))) same goes)
+          (subst (λ (x : EngineView D C). GoesOn d opened (all said) x.disk (view_of new (stale_after false said))) same goes)
       asked_call office new number said (inr (stale, again)) limit later asks =
           let goes = submitted d counts_now only_now since_earlier own office new opened calls number question said (stands_again office stale again) limit later asks in
           subst (λ (b : Bool). Goes new said (stale_after b said)) (sym stale)

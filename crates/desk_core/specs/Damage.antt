@@ -21,7 +21,8 @@ pub record IsDamagedAt (at : ℕ) (file : List ℕ) : Type 0 where
   pub office : Office
   pub before : HasPrefix header history at file
   pub is_run : run history ≡ Some office
-  pub breaks : (frame_at at file ≡ Broken) ⊎ ((entry : Entry) × (next : ℕ) × (frame_at at file ≡ Whole entry next) × (accept office entry ≡ None))
+  pub breaks : (frame_at at file ≡ Broken)
+      ⊎ ((entry : Entry) × (next : ℕ) × (frame_at at file ≡ Whole entry next) × (accept office entry ≡ None))
 
 -- why a journal file of these bytes is not opened; a failing disk and want of memory are no fault of the bytes
 abbrev pub OpenFails : OpenFault → List ℕ → Type 0
@@ -44,7 +45,8 @@ pub record HasReplayed {D : Type 0} (d : disks.Ghosts D) (old new : D) (gate : �
   pub history : List Entry
   pub office_is : StandsAfter history office
   pub end : gate ≡ end_gate header history
-  pub at_rest : IsTrue d.honest → (file : List ℕ) → (d.state old).journal ≡ synced_file file → IsMade file → IsAtRest header (d.state new) gate history
+  pub at_rest : IsTrue d.honest → (file : List ℕ) → (d.state old).journal ≡ synced_file file → IsMade file
+      → IsAtRest header (d.state new) gate history
 
 -- the bytes are no journal, or a damaged one
 abbrev pub IsBroken : OpenFault → Type 0

@@ -9,19 +9,20 @@ use Rattle.disk_core.specs.Files.{State, IsImage}
 use Rattle.disk_core.specs.Moments.{KeepsTo}
 use Rattle.disk_core.proofs.Time.{weakened}
 use Rattle.plain_office.specs.Office.{Office}
-use Rattle.plain_office.specs.Run.{run, entry_at}
+use Rattle.plain_office.specs.Run.{run}
 use Rattle.office_types.specs.declared.command.Ask.{Ask}
 use Rattle.office_types.specs.declared.command.Ask.TheVariants as ask
 use Rattle.office_types.specs.declared.command.Entry.{Entry}
 use Rattle.office_types.specs.declared.reply.Reply.{Reply}
 use Rattle.office_types.specs.declared.refusal.Refusal.{Refusal}
+use Rattle.office_types.specs.Entries.{entry_at}
 use Rattle.meter_journal.specs.History.{header, end_gate}
 use Rattle.desk_core.specs.declared.fault.DeskFault.{DeskFault}
 use Rattle.desk_core.specs.declared.fault.DeskFault.TheVariants as faults
 use Rattle.desk_core.specs.Answers.{Answer, Call}
 use Rattle.desk_core.specs.Calls.{Legal, IsLegal, IsReply, IsKeptAt, MayBeKept, GrowsBy, faults_after, moment_after}
-use Rattle.desk_core.specs.Histories.{HasAcceptedHistory, IsSound, Begins, BeginsButOne}
-use Rattle.desk_core.specs.Serving.{IsAckedAt, IsToldBy, AreToldBy, Opened, Recoverable, Recovers, Agrees, Serves}
+use Rattle.desk_core.specs.Histories.{HasAcceptedHistory, IsSound, IsPrefixOf, IsPrefixButOne}
+use Rattle.desk_core.specs.Serving.{IsAckedAt, IsToldBy, AreToldBy, Opened, Recoverable, Recovers, Agrees, DiskServes}
 
 -- some image of the journal file has this history
 pub record HasImageOf (s : State) (history : List Entry) : Type 0 where
@@ -38,7 +39,8 @@ module _ {D : Type 0} (d : disks.Ghosts D) where
   -- in a call each image has the history on which it settled, one from before, or what the call made of the settled one
   pub record InCall (old : D) (limit last : ℕ) (call : Call) (settled : List Entry) (s : State) : Type 0 where
     pub sound : IsSound s
-    pub each : (image : List ℕ) (history : List Entry) → IsImage s.journal image → HasAcceptedHistory history image → HasImageOf (d.state old) history ⊎ Legal true limit last (call ∷ []) settled history
+    pub each : (image : List ℕ) (history : List Entry) → IsImage s.journal image → HasAcceptedHistory history image
+        → HasImageOf (d.state old) history ⊎ Legal true limit last (call ∷ []) settled history
 
   -- the acknowledgement has the moment of the return, where all images have one history, which ends at its position
   abbrev pub IsKept : D → Result Answer DeskFault → Type 0
@@ -51,14 +53,15 @@ module _ {D : Type 0} (d : disks.Ghosts D) where
   pub record Makes (old new : D) (limit last : ℕ) (call : Call) : Type 0 where
     pub settled : List Entry
     pub is_settled : HasImageOf (d.state old) settled
-    pub run : KeepsTo d.state d.moment d.had_since old new (InCall old limit last call settled)
+    pub run : KeepsTo d old new (InCall old limit last call settled)
     pub done : (image : List ℕ) (history : List Entry) → IsImage (d.state new).journal image → HasAcceptedHistory history image → Legal true limit last (call ∷ []) settled history
     pub kept : IsKept new call.said
     pub faults : (d.fault_count old ≤ d.fault_count new) × IsToldBy (d.fault_count new) call.said
 
 -- ---- legal lists
 
-pub legal_append : (honest : Bool) (limit faults : ℕ) (calls more : List Call) (a b c : List Entry) → Legal honest limit faults calls a b → Legal honest limit (last_faults faults calls) more b c → Legal honest limit faults (calls ++ more) a c
+pub legal_append : (honest : Bool) (limit faults : ℕ) (calls more : List Call) (a b c : List Entry) → Legal honest limit faults calls a b
+    → Legal honest limit (last_faults faults calls) more b c → Legal honest limit faults (calls ++ more) a c
 legal_append honest limit faults [] more a b c first second = subst (λ (h : List Entry). Legal honest limit faults more h c) first second
 legal_append honest limit faults (call ∷ calls) more a b c first second =
     (first.0, first.1, legal_append honest limit (faults_after faults call.said) calls more first.0 b c first.2 second)
@@ -86,7 +89,8 @@ kept_grows : (number : Option ℕ) (question : Ask) (office : Office) (before af
 kept_grows (Some number) question office before after is = kept_grows_at (moment_after number office.last) question office before after is
 kept_grows None question office before after is = absurd is
 
-one_grows : (limit told : ℕ) (question : Ask) (said : Result Answer DeskFault) (office : Office) (before after : List Entry) → IsLegal true limit told question said office before after → Grows before after
+one_grows : (limit told : ℕ) (question : Ask) (said : Result Answer DeskFault) (office : Office) (before after : List Entry)
+    → IsLegal true limit told question said office before after → Grows before after
 one_grows limit told question (Ok answer) office before after is = elim (cases_lt answer.moment end_of_time) [
   | inl lt ↦ asked_grows limit answer.moment question office answer.reply before after (is.reply lt)
   | inr past ↦ same_grows before after (is.ended past).1
@@ -106,25 +110,25 @@ call_grows limit faults call before after is =
     some_and (run before) (λ office. IsLegal true limit faults call.ask call.said office before is.0)
     (λ office legal. subst (λ (h : List Entry). Grows before h) (sym is.2) (one_grows limit faults call.ask call.said office before is.0 legal)) is.1
 
-begins_grown : (before after : List Entry) → Grows before after → Begins before after
+begins_grown : (before after : List Entry) → Grows before after → IsPrefixOf before after
 begins_grown before after (inl same) = ([], same ∙ sym (append-nil before))
 begins_grown before after (inr more) = (more.0 ∷ [], more.1)
 
-begins_then : (a b c : List Entry) → Begins a b → Begins b c → Begins a c
+begins_then : (a b c : List Entry) → IsPrefixOf a b → IsPrefixOf b c → IsPrefixOf a c
 begins_then a b c first second = (first.0 ++ second.0, second.1 ∙ ap (λ (l : List Entry). l ++ second.0) first.1 ∙ append_assoc a first.0 second.0)
 
 -- calls leave the history that they began with, and what they added
-pub calls_grow : (limit faults : ℕ) (calls : List Call) (before after : List Entry) → Legal true limit faults calls before after → Begins before after
+pub calls_grow : (limit faults : ℕ) (calls : List Call) (before after : List Entry) → Legal true limit faults calls before after → IsPrefixOf before after
 calls_grow limit faults [] before after is = ([], is ∙ sym (append-nil before))
 calls_grow limit faults (call ∷ calls) before after is =
     begins_then before is.0 after (begins_grown before is.0 (call_grows limit faults call before is.0 (is.0, is.1, refl))) (calls_grow limit (faults_after faults call.said) calls is.0 after is.2)
 
-but_one_then : (a b c : List Entry) → BeginsButOne a b → Begins b c → BeginsButOne a c
+but_one_then : (a b c : List Entry) → IsPrefixButOne a b → IsPrefixOf b c → IsPrefixButOne a c
 but_one_then a b c (inl whole) more = inl (begins_then a b c whole more)
 but_one_then a b c (inr (front, entry, is, whole)) more = inr (front, entry, is, begins_then front b c whole more)
 
-grown_but_one : (before after : List Entry) (now : List Entry) → Grows before after → Begins before now → BeginsButOne after now
-grown_but_one before after now (inl same) begins = inl (subst (λ (l : List Entry). Begins l now) (sym same) begins)
+grown_but_one : (before after : List Entry) (now : List Entry) → Grows before after → IsPrefixOf before now → IsPrefixButOne after now
+grown_but_one before after now (inl same) begins = inl (subst (λ (l : List Entry). IsPrefixOf l now) (sym same) begins)
 grown_but_one before after now (inr more) begins = inr (before, more.0, more.1, begins)
 
 -- ---- places
@@ -156,7 +160,7 @@ module _ {D : Type 0} (d : disks.Ghosts D)
     (only_now : (disk : D) (s : State) → d.had_since disk (d.moment disk) s → s ≡ d.state disk)
     (since_earlier : (disk : D) (t u : ℕ) (s : State) → t ≤ u → d.had_since disk u s → d.had_since disk t s) where
   abbrev Serving : Opened → D → List Call → Type 0
-  Serving = Serves d
+  Serving = DiskServes d
 
   abbrev Making : D → D → ℕ → ℕ → Call → Type 0
   Making = Makes d
@@ -216,7 +220,8 @@ module _ {D : Type 0} (d : disks.Ghosts D)
       acked = λ place answer is le. omega (arith, size, acked_inside all place answer is);
     }
 
-    recovers_by : (t : ℕ) (image : List ℕ) (history : List Entry) → t < d.moment new → HasAcceptedHistory history image → HasImageOf (d.state old) history ⊎ Legal true opened.limit Last (call ∷ []) makes.settled history → Recovers opened all t image
+    recovers_by : (t : ℕ) (image : List ℕ) (history : List Entry) → t < d.moment new → HasAcceptedHistory history image
+        → HasImageOf (d.state old) history ⊎ Legal true opened.limit Last (call ∷ []) makes.settled history → Recovers opened all t image
     recovers_by t image history lt stands (inl has) = recovers_old t image history lt stands has
     recovers_by t image history lt stands (inr one) = recovers_whole t image history stands (whole_of_new makes.settled history makes.is_settled one)
 
@@ -246,7 +251,8 @@ module _ {D : Type 0} (d : disks.Ghosts D)
       | inr le ↦ ⊎_elim (λ was. from_old t image lt (serves.left t s image since le was is)) (λ now. in_call t s image lt is now) (makes.run.before t s le had)
     ]
 
-    begins_in_call : (entries history : List Entry) → ((h : List Entry) → HasImageOf (d.state old) h → Begins entries h) → HasImageOf (d.state old) history ⊎ Legal true opened.limit Last (call ∷ []) makes.settled history → Begins entries history
+    begins_in_call : (entries history : List Entry) → ((h : List Entry) → HasImageOf (d.state old) h → IsPrefixOf entries h)
+        → HasImageOf (d.state old) history ⊎ Legal true opened.limit Last (call ∷ []) makes.settled history → IsPrefixOf entries history
     begins_in_call entries history of_old (inl has) = of_old history has
     begins_in_call entries history of_old (inr one) =
         begins_then entries makes.settled history (of_old makes.settled makes.is_settled) (begins_grown makes.settled history (call_grows opened.limit Last call makes.settled history one))
@@ -255,7 +261,7 @@ module _ {D : Type 0} (d : disks.Ghosts D)
     agrees_still place answer is =
         let was = serves.agrees place answer is in
         let le = (serves.told place answer is).1 in
-        let of_old : (history : List Entry) → HasImageOf (d.state old) history → Begins was.entries history =
+        let of_old : (history : List Entry) → HasImageOf (d.state old) history → IsPrefixOf was.entries history =
         λ history has. was.kept (d.state old) has.image history (counts_now old answer.disk_moment le) has.is_image has.has in
         record {
           entries = was.entries;
@@ -266,26 +272,29 @@ module _ {D : Type 0} (d : disks.Ghosts D)
 
     -- ---- what is there stays, but for one entry
 
-    old_but_one : (h b : List Entry) → HasImageOf (d.state old) h → HasImageOf (d.state old) b → BeginsButOne h b
-    old_but_one h b has base = serves.steady (d.moment old) (d.state old) has.image h serves.later (omega arith) (counts_now old (d.moment old) (omega arith)) has.is_image has.has base.image b base.is_image base.has
+    old_but_one : (h b : List Entry) → HasImageOf (d.state old) h → HasImageOf (d.state old) b → IsPrefixButOne h b
+    old_but_one h b has base =
+        serves.steady (d.moment old) (d.state old) has.image h serves.later (omega arith) (counts_now old (d.moment old) (omega arith))
+        has.is_image has.has base.image b base.is_image base.has
 
     -- from what each history before the call begins with but for one, to the return
-    but_one_at_return : (h now : List Entry) → ((b : List Entry) → HasImageOf (d.state old) b → BeginsButOne h b) → Legal true opened.limit Last (call ∷ []) makes.settled now → BeginsButOne h now
+    but_one_at_return : (h now : List Entry) → ((b : List Entry) → HasImageOf (d.state old) b → IsPrefixButOne h b) → Legal true opened.limit Last (call ∷ []) makes.settled now → IsPrefixButOne h now
     but_one_at_return h now each done =
         but_one_then h makes.settled now (each makes.settled makes.is_settled) (begins_grown makes.settled now (call_grows opened.limit Last call makes.settled now done))
 
-    but_one_in_call : (h now : List Entry) → HasImageOf (d.state old) h ⊎ Legal true opened.limit Last (call ∷ []) makes.settled h → Legal true opened.limit Last (call ∷ []) makes.settled now → BeginsButOne h now
+    but_one_in_call : (h now : List Entry) → HasImageOf (d.state old) h ⊎ Legal true opened.limit Last (call ∷ []) makes.settled h
+        → Legal true opened.limit Last (call ∷ []) makes.settled now → IsPrefixButOne h now
     but_one_in_call h now (inl has) done = but_one_at_return h now (λ b base. old_but_one h b has base) done
     but_one_in_call h now (inr one) done =
         grown_but_one makes.settled h now (call_grows opened.limit Last call makes.settled h one) (begins_grown makes.settled now (call_grows opened.limit Last call makes.settled now done))
 
     steady_call : (s : State) (image : List ℕ) (h : List Entry) → InCall d old opened.limit Last call makes.settled s → IsImage s.journal image → HasAcceptedHistory h image
-        → (image_now : List ℕ) (now : List Entry) → IsImage (d.state new).journal image_now → HasAcceptedHistory now image_now → BeginsButOne h now
+        → (image_now : List ℕ) (now : List Entry) → IsImage (d.state new).journal image_now → HasAcceptedHistory now image_now → IsPrefixButOne h now
     steady_call s image h has is stands image_now now is_now stands_now =
         but_one_in_call h now (has.each image h is stands) (makes.done image_now now is_now stands_now)
 
     steady_new : (t : ℕ) (s : State) (image : List ℕ) (h : List Entry) → opened.moment ≤ t → d.had_since new t s → IsImage s.journal image → HasAcceptedHistory h image
-        → (image_now : List ℕ) (now : List Entry) → IsImage (d.state new).journal image_now → HasAcceptedHistory now image_now → BeginsButOne h now
+        → (image_now : List ℕ) (now : List Entry) → IsImage (d.state new).journal image_now → HasAcceptedHistory now image_now → IsPrefixButOne h now
     steady_new t s image h since had is stands image_now now is_now stands_now = elim (cases_lt (d.moment old) t) [
       | inl in_it ↦ steady_call s image h (makes.run.each s (since_earlier new (d.moment old) t s (omega (arith, in_it)) had)) is stands image_now now is_now stands_now
       | inr le ↦ ⊎_elim
@@ -319,8 +328,8 @@ module _ {D : Type 0} (d : disks.Ghosts D)
         (λ one. (sound.0, length calls + 1, sound.1, omega (arith, size), all_of_new sound.0 (whole_of_new makes.settled sound.0 makes.is_settled one)))
         (call_has.each image sound.0 is sound.1)
 
-    pub recoverable : KeepsTo d.state d.moment d.had_since old new (Recoverable opened all)
-    recoverable = weakened d.state d.moment d.had_since old new (InCall d old opened.limit Last call makes.settled) (Recoverable opened all) recoverable_in makes.run
+    pub recoverable : KeepsTo d old new (Recoverable opened all)
+    recoverable = weakened (Recoverable opened all) makes.run recoverable_in
 
     pub one_more : Serving opened new all
     one_more = record {

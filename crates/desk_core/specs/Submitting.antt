@@ -2,24 +2,26 @@
 use Rattle.std.specs.Prelude.{◌≡◌, ◌⊎◌, ℕ, ◌+◌, ◌-◌, ◌^◌, ◌<◌, ◌≤◌, min, Bool, true, false, List, [], ◌∷◌, ◌++◌, length, Some, None, Result, Ok, Err, IsTrue}
 use Rattle.office_base.specs.Faults.{Rose}
 use Rattle.disk_core.specs.declared.disk.Disk as disks
-use Rattle.disk_core.specs.Kept.{Narrower}
+use Rattle.disk_core.specs.Files.{State, IsImage}
+use Rattle.disk_core.specs.Fronts.{Narrower}
 use Rattle.disk_core.specs.Moments.{KeepsTo}
 use Rattle.moments.specs.Time.{end_of_time}
 use Rattle.plain_office.specs.Office.{Office}
 use Rattle.plain_office.specs.Step.{step, is_accepted}
-use Rattle.plain_office.specs.Run.{entry_at}
 use Rattle.office_types.specs.declared.command.Ask.{Ask}
 use Rattle.office_types.specs.declared.command.Ask.TheVariants as ask
 use Rattle.office_types.specs.declared.command.Entry.{Entry}
 use Rattle.office_types.specs.declared.refusal.Refusal.TheVariants.{ClockEnd}
+use Rattle.office_types.specs.Entries.{entry_at}
 use Rattle.office_machine.specs.Standing.{Records, StandsForOffice}
 use Rattle.entry_codec.specs.Spelling.{spelling}
 use Rattle.meter_journal.specs.declared.fault.OpenFault.{OpenFault}
 use Rattle.desk_core.specs.Answers.{Answer, Call}
 use Rattle.desk_core.specs.Calls.{moment_after}
 use Rattle.desk_core.specs.Histories.{HasAcceptedHistory}
-use Rattle.desk_core.specs.Breaking.{IsBroken, OpenFails}
-use Rattle.desk_core.specs.Desk.{Parts, DeskView, parts_of, Holds, StandsFor, GoesOn, IsNumber, IsLast, IsStamped, TellsFault, stale_after}
+use Rattle.desk_core.specs.Damage.{IsBroken, OpenFails}
+use Rattle.desk_core.specs.Desk.{EngineView, DeskView, engine_of, HoldsHistory, StandsFor, GoesOn, IsLast, IsStamped, TellsFault, stale_after}
+use Rattle.desk_core.specs.Numbers.{IsNumber}
 use Rattle.desk_core.specs.Serving.{Opened}
 use Rattle.desk_core.specs.declared.clock.Clock as clocks
 use Rattle.desk_core.specs.declared.fault.DeskFault.{DeskFault}
@@ -56,7 +58,8 @@ HasStoreReason (Err faults.NoMemory) question records before after = Unit {0}
 
 -- the ask is a command before the end of time, and its frame, with the gate behind it, would end past the limit
 abbrev pub PassesLimit : ℕ → ℕ → ℕ → Ask → Type 0
-PassesLimit t gate limit (ask.Command command) = (t < end_of_time) × (limit < gate + 6 + length (spelling (entry_at t command)))
+PassesLimit t gate limit (ask.Command command) =
+    (t < end_of_time) × (limit < gate + 6 + length (spelling (entry_at t command)))
 PassesLimit t gate limit (ask.Query query) = ⊥
 
 -- the answer is that the clock has ended at this moment
@@ -64,25 +67,43 @@ abbrev pub IsClockEnd : ℕ → Result Answer DeskFault → Type 0
 IsClockEnd t (Ok answer) = answer.reply ≡ Err (ClockEnd t)
 IsClockEnd t (Err fault) = ⊥
 
+-- each image of the journal file has this history; of a command it may have this history with its entry at this moment
+-- at the end
+abbrev pub KeepsOrAdds : ℕ → Ask → List Entry → State → Type 0
+KeepsOrAdds t (ask.Command command) before s = (image : List ℕ) → IsImage s.journal image
+    → HasAcceptedHistory before image ⊎ HasAcceptedHistory (before ++ entry_at t command ∷ []) image
+KeepsOrAdds t (ask.Query query) before s = (image : List ℕ) → IsImage s.journal image → HasAcceptedHistory before image
+
 -- what a call tells of the office that answers it, where the clock's last number is then this
-pub record HasCauses {D C : Type 0} (d : disks.Ghosts D) (k : clocks.Ghosts C) (office : Parts D C) (question : Ask)
-    (said : Result Answer DeskFault) (new : Parts D C) : Type 0 where
+pub record HasCauses {D C : Type 0} (d : disks.Ghosts D) (k : clocks.Ghosts C) (office : EngineView D C)
+    (question : Ask)
+    (said : Result Answer DeskFault) (new : EngineView D C) : Type 0 where
   -- the clock is asked once
   pub once : k.count new.clock ≡ min (k.count office.clock + 1) (2 ^ 64 - 1)
   pub quiet : LeavesDisk said question office.disk new.disk
+  -- a crash at any moment of the call leaves the history that the office is after, or that and the command's entry
+  pub inside : IsTrue d.honest → (before : List Entry) → HoldsHistory d before office
+      → KeepsTo d office.disk new.disk
+      (KeepsOrAdds (moment_after (k.last new.clock) office.office.last) question before)
   pub reason : HasStoreReason said question office.office (d.fault_count office.disk) (d.fault_count new.disk)
   -- from the end of time on this is the answer to every ask
-  pub ended : end_of_time ≤ moment_after (k.last new.clock) office.office.last → IsClockEnd (moment_after (k.last new.clock) office.office.last) said
-  -- where the command's frame would pass the limit nothing else is told, but want of memory, and nowhere else is the journal called full
-  pub full : PassesLimit (moment_after (k.last new.clock) office.office.last) office.gate office.limit question → (said ≡ Err faults.JournalFull) ⊎ (said ≡ Err faults.NoMemory)
-  pub full_alone : said ≡ Err faults.JournalFull → PassesLimit (moment_after (k.last new.clock) office.office.last) office.gate office.limit question
+  pub ended : end_of_time ≤ moment_after (k.last new.clock) office.office.last
+      → IsClockEnd (moment_after (k.last new.clock) office.office.last) said
+  -- where the command's frame would pass the limit nothing else is told, but want of memory, and nowhere else is the
+  -- journal called full
+  pub full : PassesLimit (moment_after (k.last new.clock) office.office.last) office.gate office.limit question
+      → (said ≡ Err faults.JournalFull) ⊎ (said ≡ Err faults.NoMemory)
+  pub full_alone : said ≡ Err faults.JournalFull
+      → PassesLimit (moment_after (k.last new.clock) office.office.last) office.gate office.limit question
 
 -- ---- opening again
 
 -- why it could not be opened again, in the words of a call
 abbrev pub IsUnopened : {D : Type 0} → disks.Ghosts D → D → D → Result Answer DeskFault → Type 0
-IsUnopened d old new (Err (faults.StoreFault None count)) = Rose (d.fault_count old) (d.fault_count new) × (count ≡ d.fault_count new)
-IsUnopened d old new (Err (faults.Broken fault)) = IsBroken fault × (IsTrue d.honest → OpenFails fault (d.state old).journal.seen)
+IsUnopened d old new (Err (faults.StoreFault None count)) =
+    Rose (d.fault_count old) (d.fault_count new) × (count ≡ d.fault_count new)
+IsUnopened d old new (Err (faults.Broken fault)) =
+    IsBroken fault × (IsTrue d.honest → OpenFails fault (d.state old).journal.seen)
 IsUnopened d old new (Err faults.NoMemory) = Unit {0}
 IsUnopened d old new (Err (faults.StoreFault (Some number) count)) = ⊥
 IsUnopened d old new (Err faults.JournalFull) = ⊥
@@ -91,38 +112,39 @@ IsUnopened d old new (Ok answer) = ⊥
 module _ {D C : Type 0} (d : disks.Ghosts D) where
   -- The journal was opened again: the office is the one after a history, on an honest disk that of the bytes that its
   -- journal file reads, and every image since is one that it had.
-  pub record Reopens (old office : Parts D C) : Type 0 where
+  pub record Reopens (old office : EngineView D C) : Type 0 where
     pub history : List Entry
-    pub holds : Holds d history office
+    pub holds : HoldsHistory d history office
     pub read : IsTrue d.honest → HasAcceptedHistory history (d.state old.disk).journal.seen
-    pub any_moment : IsTrue d.honest → KeepsTo d.state d.moment d.had_since old.disk office.disk (Narrower (d.state old.disk))
+    pub any_moment : IsTrue d.honest → KeepsTo d old.disk office.disk (Narrower (d.state old.disk))
     pub clock : office.clock ≡ old.clock
     pub limit : office.limit ≡ old.limit
     pub later : d.fault_count old.disk ≤ d.fault_count office.disk
 
   -- the office that answers a call: that of the desk, and of a stale desk the one that is opened again
-  abbrev pub IsOffice : Bool → Parts D C → Parts D C → Type 0
+  abbrev pub IsOffice : Bool → EngineView D C → EngineView D C → Type 0
   IsOffice stale old office = ((stale ≡ false) × (office ≡ old)) ⊎ ((stale ≡ true) × Reopens old office)
 
   -- no office answers a call of a stale desk: its journal could not be opened again, and the clock is not asked
-  pub record Unopened (stale : Bool) (old new : Parts D C) (said : Result Answer DeskFault) : Type 0 where
+  pub record Unopened (stale : Bool) (old new : EngineView D C) (said : Result Answer DeskFault) : Type 0 where
     pub is_stale : stale ≡ true
     pub why : IsUnopened d old.disk new.disk said
     pub clock : new.clock ≡ old.clock
-    pub any_moment : IsTrue d.honest → KeepsTo d.state d.moment d.had_since old.disk new.disk (Narrower (d.state old.disk))
+    pub any_moment : IsTrue d.honest → KeepsTo d old.disk new.disk (Narrower (d.state old.disk))
     pub limit : new.limit ≡ old.limit
     pub later : d.fault_count old.disk ≤ d.fault_count new.disk
 
 -- ---- a call
 
--- What a call does: whatever list of calls the desk stood for, it stands for that list with this call at its end. The office
--- that answers is the desk's own, or of a stale desk one that was opened again, where it could be.
+-- What a call does: whatever list of calls the desk stood for, it stands for that list with this call at its end. The
+-- office that answers is the desk's own, or of a stale desk one that was opened again, where it could be.
 pub record Submits {D C : Type 0} (d : disks.Ghosts D) (k : clocks.Ghosts C) (old : DeskView D C) (question : Ask)
     (said : Result Answer DeskFault) (new : DeskView D C) : Type 0 where
   pub stands : (opened : Opened) (calls : List Call) → StandsFor d opened calls old
       → GoesOn d opened (calls ++ record { ask = question; said = said } ∷ []) old.disk new
-  pub causes : Unopened d old.stale (parts_of old) (parts_of new) said
-      ⊎ ((office : Parts D C) × IsOffice d old.stale (parts_of old) office × HasCauses d k office question said (parts_of new))
+  pub causes : Unopened d old.stale (engine_of old) (engine_of new) said
+      ⊎ ((office : EngineView D C) × IsOffice d old.stale (engine_of old) office
+      × HasCauses d k office question said (engine_of new))
   pub not_broken : IsTrue d.honest → (fault : OpenFault) → said ≡ Err (faults.Broken fault) → ⊥
   pub number : k.count new.clock < 2 ^ 64 - 1 → IsNumber (k.told old.clock) (k.told new.clock) said
   pub last_told : IsLast (k.last new.clock) said

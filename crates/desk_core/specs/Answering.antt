@@ -1,0 +1,119 @@
+-- What a call does once its moment is told.
+use Rattle.std.specs.Prelude.{◌≡◌, ◌⊎◌, ℕ, ◌+◌, ◌<◌, ◌≤◌, false, List, [], ◌∷◌, ◌++◌, length, Some, None, Result, Ok, Err, IsTrue}
+use Rattle.office_base.specs.Faults.{Rose}
+use Rattle.moments.specs.Time.{end_of_time}
+use Rattle.disk_core.specs.declared.disk.Disk as disks
+use Rattle.disk_core.specs.Moments.{KeepsTo}
+use Rattle.plain_office.specs.Answers.{answer}
+use Rattle.plain_office.specs.Office.{Office}
+use Rattle.plain_office.specs.Step.{step, is_accepted}
+use Rattle.plain_office.specs.Run.{accept}
+use Rattle.office_types.specs.declared.command.Ask.{Ask}
+use Rattle.office_types.specs.declared.command.Ask.TheVariants as ask
+use Rattle.office_types.specs.declared.command.Entry.{Entry}
+use Rattle.office_types.specs.declared.reply.Reply.{Reply}
+use Rattle.office_types.specs.declared.refusal.Refusal.{Refusal}
+use Rattle.office_types.specs.declared.refusal.Refusal.TheVariants.{ClockEnd}
+use Rattle.office_types.specs.Entries.{entry_at}
+use Rattle.office_machine.specs.Standing.{StandsForOffice}
+use Rattle.entry_codec.specs.Spelling.{spelling}
+use Rattle.meter_journal.specs.History.{header, end_gate, IsAtRest, BeforeOrAfter}
+use Rattle.desk_core.specs.Answers.{Answer}
+use Rattle.desk_core.specs.Calls.{moment_after}
+use Rattle.desk_core.specs.Desk.{EngineView, HoldsHistory}
+use Rattle.desk_core.specs.Submitting.{PassesLimit}
+use Rattle.desk_core.specs.declared.fault.DeskFault.{DeskFault}
+use Rattle.desk_core.specs.declared.fault.DeskFault.TheVariants as faults
+
+-- the answer has this moment and number, and was given by this office, at its disk's moment
+pub record IsAnswerOf {D C : Type 0} (disk_time : D → ℕ) (t number : ℕ) (new : EngineView D C)
+    (said : Answer) : Type 0 where
+  pub moment : said.moment ≡ t
+  pub told : said.told ≡ number
+  pub position : said.position ≡ new.gate
+  pub disk_moment : said.disk_moment ≡ disk_time new.disk
+
+module _ {D C : Type 0} (d : disks.Ghosts D) where
+  -- the history grew by the entry, and in between each image had it or had it not
+  pub record Grows (before : List Entry) (entry : Entry) (old new : EngineView D C) : Type 0 where
+    pub holds : HoldsHistory d (before ++ entry ∷ []) new
+    pub run : IsTrue d.honest → KeepsTo d old.disk new.disk (BeforeOrAfter header before entry (d.state old.disk))
+
+  -- nothing was written
+  pub record Stays (before : List Entry) (old new : EngineView D C) : Type 0 where
+    pub holds : HoldsHistory d before new
+    pub disk : new.disk ≡ old.disk
+
+  -- the disk failed while the entry was added
+  pub record StoreFails (office : Office) (before : List Entry) (entry : Entry)
+      (old new : EngineView D C) : Type 0 where
+    pub accepted : (plain : Office) → StandsForOffice old.office plain
+        → IsTrue (is_accepted (step entry.moment entry.command plain).1)
+    pub next : (after : Office) × (accept office entry ≡ Some after)
+    pub run : IsTrue d.honest → KeepsTo d old.disk new.disk (BeforeOrAfter header before entry (d.state old.disk))
+    pub rose : Rose (d.fault_count old.disk) (d.fault_count new.disk)
+
+  -- what adding the entry of a command does, to which this is the reply: the entry is there, or the disk failed
+  abbrev pub AddsEntry : ℕ → ℕ → Result Reply Refusal → List Entry → Entry → EngineView D C → EngineView D C
+      → Result Answer DeskFault → Type 0
+  AddsEntry t number reply before entry old new (Ok said) =
+      (said ≡ record { moment = t; told = number; reply = reply; position = new.gate; disk_moment = d.moment new.disk })
+      × (new.gate ≡ end_gate header (before ++ entry ∷ []))
+      × (IsTrue d.honest → IsAtRest header (d.state new.disk) new.gate (before ++ entry ∷ [])
+      × KeepsTo d old.disk new.disk (BeforeOrAfter header before entry (d.state old.disk)))
+  AddsEntry t number reply before entry old new (Err (faults.StoreFault (Some told) count)) =
+      (told ≡ number) × (count ≡ d.fault_count new.disk) × Rose (d.fault_count old.disk) (d.fault_count new.disk)
+      × (IsTrue d.honest → KeepsTo d old.disk new.disk (BeforeOrAfter header before entry (d.state old.disk)))
+  AddsEntry t number reply before entry old new (Err (faults.StoreFault None count)) = ⊥
+  AddsEntry t number reply before entry old new (Err faults.JournalFull) = ⊥
+  AddsEntry t number reply before entry old new (Err (faults.Broken fault)) = ⊥
+  AddsEntry t number reply before entry old new (Err faults.NoMemory) = ⊥
+
+  -- what an ask does that is answered before the end of time: by a command that is accepted the history grows, and by
+  -- none else is anything written
+  abbrev pub IsDoneAt : ℕ → Ask → Office → List Entry → EngineView D C → EngineView D C → Result Reply Refusal → Type 0
+  IsDoneAt t (ask.Command command) office before old new reply =
+      (reply ≡ (step t command office).1) × (old.gate + 6 + length (spelling (entry_at t command)) ≤ old.limit)
+      × ((IsTrue (is_accepted reply) × Grows before (entry_at t command) old new)
+      ⊎ ((is_accepted reply ≡ false) × Stays before old new))
+  IsDoneAt t (ask.Query query) office before old new reply = (reply ≡ answer t query office) × Stays before old new
+
+  -- what an ask does that the disk failed
+  abbrev pub HasFailed : ℕ → Ask → Office → List Entry → EngineView D C → EngineView D C → Type 0
+  HasFailed t (ask.Command command) office before old new = StoreFails office before (entry_at t command) old new
+  HasFailed t (ask.Query query) office before old new = ⊥
+
+  -- what an ask does before the end of time, on the plain office after this history
+  abbrev pub AnswersInTime : ℕ → ℕ → Ask → Office → List Entry → EngineView D C → EngineView D C
+      → Result Answer DeskFault → Type 0
+  AnswersInTime t number question office before old new (Ok said) =
+      IsAnswerOf d.moment t number new said × IsDoneAt t question office before old new said.reply
+  AnswersInTime t number question office before old new (Err (faults.StoreFault (Some told) count)) =
+      (told ≡ number) × (count ≡ d.fault_count new.disk) × HasFailed t question office before old new
+  AnswersInTime t number question office before old new (Err (faults.StoreFault None count)) = ⊥
+  AnswersInTime t number question office before old new (Err faults.JournalFull) =
+      PassesLimit t old.gate old.limit question × Stays before old new
+  AnswersInTime t number question office before old new (Err (faults.Broken fault)) = ⊥
+  AnswersInTime t number question office before old new (Err faults.NoMemory) = Stays before old new
+
+  -- from the end of time on the ask is answered so, and nothing is written
+  abbrev pub AnswersEnded : ℕ → ℕ → List Entry → EngineView D C → EngineView D C → Result Answer DeskFault → Type 0
+  AnswersEnded t number before old new (Ok said) =
+      IsAnswerOf d.moment t number new said × (said.reply ≡ Err (ClockEnd t)) × Stays before old new
+  AnswersEnded t number before old new (Err fault) = ⊥
+
+  -- what an ask does
+  abbrev pub AnswersAt : ℕ → ℕ → Ask → Office → List Entry → EngineView D C → EngineView D C → Result Answer DeskFault
+      → Type 0
+  AnswersAt t number question office before old new said =
+      ((t < end_of_time) × AnswersInTime t number question office before old new said)
+      ⊎ ((end_of_time ≤ t) × AnswersEnded t number before old new said)
+
+  -- an ask does so at the moment that this number of the clock gives it
+  pub record AnswersAsk (number : ℕ) (question : Ask) (old new : EngineView D C)
+      (said : Result Answer DeskFault) : Type 0 where
+    pub t : ℕ
+    pub at : t ≡ moment_after number old.office.last
+    pub clock : C
+    pub answers : (before : List Entry) (hold : HoldsHistory d before (record old { clock = clock }))
+        → AnswersAt t number question hold.office.plain before (record old { clock = clock }) new said
