@@ -9,7 +9,7 @@ use Rattle.std.specs.Str.{bytes_eq}
 use Rattle.std.specs.Str.Parse.{digits_value, ParsesUnsigned}
 use Rattle.office_base.specs.Versions.{begins_with_number}
 use Rattle.office_base.proofs.Versions.{no_number, number_read as id_read}
-use Rattle.command_line.specs.Lines.{number_in}
+use Rattle.command_line.specs.Lines.{number_between}
 use Rattle.command_line.specs.Laws.{HasExactNumbers}
 
 -- the text writes this number, which is in range
@@ -40,10 +40,10 @@ by_test : (b : Bool) (n : ℕ) → (b ≡ true → ⊥) → cond b (Some n) None
 by_test true n not = absurd (not refl)
 by_test false n not = refl
 
-pub none_in : (least most : ℕ) (text : List ℕ) → ((n : ℕ) → Writes least most text n → ⊥) → None ≡ number_in least most text
+pub none_in : (least most : ℕ) (text : List ℕ) → ((n : ℕ) → Writes least most text n → ⊥) → None ≡ number_between least most text
 none_in least most text not = sym (by_test (test least most text (digits_value 10 text)) _ (λ e. not _ (tested least most text _ e)))
 
-pub some_in : (least most : ℕ) (text : List ℕ) (n : ℕ) → n < 2 ^ 64 → Writes least most text n → Some n ≡ number_in least most text
+pub some_in : (least most : ℕ) (text : List ℕ) (n : ℕ) → n < 2 ^ 64 → Writes least most text n → Some n ≡ number_between least most text
 some_in least most text n small w =
     let value : digits_value 10 text ≡ n = ap (digits_value 10) w.0 ∙ (decimal_is_IsNumeral n small).1 in
     rw (value, passes least most text n w) refl
@@ -66,23 +66,13 @@ zero_text : decimal 0 ≡ codes "0"
 unfolding digits
 zero_text = refl
 
-zero_of : (least : ℕ) → least ≤ 0 → least ≡ 0
-zero_of least is = omega (arith, is)
-
-pub zero_in : (least most : ℕ) → least ≡ 0 → Some 0 ≡ number_in least most (codes "0")
+pub zero_in : (least most : ℕ) → least ≡ 0 → Some 0 ≡ number_between least most (codes "0")
 zero_in least most is = some_in least most (codes "0") 0 (omega arith) (sym zero_text, omega (arith, is), omega arith)
-
-one_digit : (n : ℕ) → n < 2 ^ 64 → codes "0" ≡ decimal n → n ≡ 0
-one_digit n small is = sym (decimal_is_IsNumeral n small).1 ∙ ap (digits_value 10) (sym is)
-
-pub no_zero_in : (least most : ℕ) → most < 2 ^ 64 → (least ≡ 0 → ⊥) → None ≡ number_in least most (codes "0")
-no_zero_in least most small above = none_in least most (codes "0") (λ n w.
-    let none : n ≡ 0 = one_digit n (omega (arith, w, small)) w.0 in above (zero_of least (omega (arith, w, none))))
 
 -- ---- other texts
 
 -- a text that is not 0 and does not begin with a digit above 0 writes none
-pub none_begins : (least most : ℕ) (text : List ℕ) → most < 2 ^ 64 → (text ≡ codes "0" → ⊥) → begins_with_number text ≡ false → None ≡ number_in least most text
+pub none_begins : (least most : ℕ) (text : List ℕ) → most < 2 ^ 64 → (text ≡ codes "0" → ⊥) → begins_with_number text ≡ false → None ≡ number_between least most text
 none_begins least most text small other not = none_in least most text (λ n w. numbered n w)
   where
     numbered : (n : ℕ) → Writes least most text n → ⊥
@@ -90,18 +80,12 @@ none_begins least most text small other not = none_in least most text (λ n w. n
     numbered (suc n) w = no_number text not (suc n) (omega (arith, w), omega (arith, w, small)) w.0
 
 pub number_read : {E : Type 0} (least most : ℕ) (text : List ℕ) (r : Result ℕ E) (n : ℕ) → r ≡ Ok n → begins_with_number text ≡ true → ParsesUnsigned 64 10 text r → least ≤ n → n ≤ most
-    → Some n ≡ number_in least most text
+    → Some n ≡ number_between least most text
 number_read {E} least most text r n is begins read from to =
     let wide : ParsesUnsigned {E = E} 64 10 text (Ok n) = subst (λ q. ParsesUnsigned 64 10 text q) is read in
     let id = id_read {E = E} text (Ok n) n refl begins wide in
     some_in least most text n id.0.1 (id.1, from, to)
 
-pub number_outside : {E : Type 0} (least most : ℕ) (text : List ℕ) (r : Result ℕ E) (n : ℕ) → most < 2 ^ 64 → r ≡ Ok n → ParsesUnsigned 64 10 text r → (least ≤ n → n ≤ most → ⊥)
-    → None ≡ number_in least most text
-number_outside least most text r n small is read out = none_in least most text (λ m w.
-    let ok : r ≡ Ok m = parse-decimal 64 m text r (omega arith) (omega (arith, w, small)) w.0 read in
-    let same : n ≡ m = cc in out (omega (arith, w, same)) (omega (arith, w, same)))
-
-pub number_not_read : {E : Type 0} (least most : ℕ) (text : List ℕ) (r : Result ℕ E) (e : E) → most < 2 ^ 64 → r ≡ Err e → ParsesUnsigned 64 10 text r → None ≡ number_in least most text
+pub number_not_read : {E : Type 0} (least most : ℕ) (text : List ℕ) (r : Result ℕ E) (e : E) → most < 2 ^ 64 → r ≡ Err e → ParsesUnsigned 64 10 text r → None ≡ number_between least most text
 number_not_read least most text r e small is read =
     none_in least most text (λ n w. let ok : r ≡ Ok n = parse-decimal 64 n text r (omega arith) (omega (arith, w)) w.0 read in absurd cc)

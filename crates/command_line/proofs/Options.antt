@@ -4,7 +4,7 @@ use Rattle.clap.specs.Walk.{Row, rows_of}
 use Rattle.clap.specs.Matches.{first_value}
 use Rattle.clap.specs.declared.parser.matches.Found.{Found}
 use Rattle.clap.proofs.WalkLemmas.{first_value-rows}
-use Rattle.command_line.specs.Lines.{serve, report, explain, gen, number_in, number_or, most_seed, most_commands, serve_of, report_of, explain_of, gen_of, month_of_text, is_set, given, workers_of, connections_of}
+use Rattle.command_line.specs.Lines.{serve, report, explain, gen, number_between, number_or, most_seed, most_generated, serve_of, report_of, explain_of, gen_of, month_of_text, is_set, given, workers_of, connections_of}
 
 -- what clap gives for an option is what the words gave it
 pub given_is : (found : Found) (name : List ℕ) (text : Option (Bor (List ℕ))) → option_map (λ t. t.now) text ≡ first_value found name → given (rows_of found) name ≡ option_map (λ t. t.now) text
@@ -50,16 +50,16 @@ explains rows workers works = rw works refl
 
 -- what clap gives for a word is what the words gave it, and its number is the number that was read
 pub word_is : (found : Found) (name : List ℕ) (most : ℕ) (text : Option (Bor (List ℕ))) (number : Option ℕ) → option_map (λ t. t.now) text ≡ first_value found name
-    → number ≡ option_and_then (number_in 0 most) (option_map (λ t. t.now) text) → option_and_then (number_in 0 most) (given (rows_of found) name) ≡ number
-word_is found name most text number is read = ap (option_and_then (number_in 0 most)) (given_is found name text is) ∙ sym read
+    → number ≡ option_and_then (number_between 0 most) (option_map (λ t. t.now) text) → option_and_then (number_between 0 most) (given (rows_of found) name) ≡ number
+word_is found name most text number is read = ap (option_and_then (number_between 0 most)) (given_is found name text is) ∙ sym read
 
-pub no_number : (rows : List Row) → option_and_then (number_in 0 most_seed) (given rows (codes "number")) ≡ None → gen_of rows ≡ None
+pub no_number : (rows : List Row) → option_and_then (number_between 0 most_seed) (given rows (codes "number")) ≡ None → gen_of rows ≡ None
 no_number rows none = rw none refl
 
-pub no_count : (rows : List Row) (number : ℕ) → option_and_then (number_in 0 most_seed) (given rows (codes "number")) ≡ Some number
-    → option_and_then (number_in 0 most_commands) (given rows (codes "count")) ≡ None → gen_of rows ≡ None
+pub no_count : (rows : List Row) (number : ℕ) → option_and_then (number_between 0 most_seed) (given rows (codes "number")) ≡ Some number
+    → option_and_then (number_between 0 most_generated) (given rows (codes "count")) ≡ None → gen_of rows ≡ None
 no_count rows number some none = rw (some, none) refl
 
-pub generates : (rows : List Row) (number count : ℕ) → option_and_then (number_in 0 most_seed) (given rows (codes "number")) ≡ Some number
-    → option_and_then (number_in 0 most_commands) (given rows (codes "count")) ≡ Some count → gen_of rows ≡ Some (gen number count)
+pub generates : (rows : List Row) (number count : ℕ) → option_and_then (number_between 0 most_seed) (given rows (codes "number")) ≡ Some number
+    → option_and_then (number_between 0 most_generated) (given rows (codes "count")) ≡ Some count → gen_of rows ≡ Some (gen number count)
 generates rows number count some counts = rw (some, counts) refl

@@ -9,7 +9,7 @@ use Rattle.clap.proofs.WalkLemmas.{both}
 use Rattle.clap.specs.Walk.{Row, is_empty}
 use Rattle.clap.specs.Faults.{fault_of}
 use Rattle.clap.specs.Simple.{subcommand_of}
-use Rattle.command_line.specs.Lines.{Line, init, run, serve, report, explain, gen, asked, command_of, serve_of, report_of, explain_of, gen_of, month_of_text, is_set, number_in, most_seed, most_commands, number_to, number_or, workers_of, connections_of, given, most_workers, default_workers}
+use Rattle.command_line.specs.Lines.{Line, init, run, serve, report, explain, gen, asked, subcommand_line, serve_of, report_of, explain_of, gen_of, month_of_text, is_set, number_between, most_seed, most_generated, number_to, number_or, workers_of, connections_of, given, most_workers, default_workers}
 use Rattle.command_line.specs.Words.{office_words}
 
 if_some : {A : Type 0} (b : Bool) (x y : A) → (if b then Some x else None) ≡ Some y → (b ≡ true) × (x ≡ y)
@@ -87,10 +87,10 @@ module _ (listen : List ℕ) (workers connections : ℕ) where
   named_serve false false false true e f rows is = absurd (no_report (option_and_then month_of_text (given rows (codes "month"))) (is_set (given rows (codes "text"))) is)
   named_serve false false false false true f rows is = absurd (no_explain (workers_of rows) is)
   named_serve false false false false false true rows is =
-      absurd (no_gen (option_and_then (number_in 0 most_seed) (given rows (codes "number"))) (option_and_then (number_in 0 most_commands) (given rows (codes "count"))) is)
+      absurd (no_gen (option_and_then (number_between 0 most_seed) (given rows (codes "number"))) (option_and_then (number_between 0 most_generated) (given rows (codes "count"))) is)
   named_serve false false false false false false rows is = absurd cc
 
-  command_in_range : (entered : List ℕ × List Row) → command_of entered ≡ Some Served → (0 < workers) × (workers ≤ 64)
+  command_in_range : (entered : List ℕ × List Row) → subcommand_line entered ≡ Some Served → (0 < workers) × (workers ≤ 64)
   command_in_range (name, rows) is =
       served_in_range rows (named_serve (bytes_eq name (codes "init")) (bytes_eq name (codes "run")) (bytes_eq name (codes "serve")) (bytes_eq name (codes "report"))
       (bytes_eq name (codes "explain")) (bytes_eq name (codes "gen")) rows is)
@@ -99,8 +99,8 @@ module _ (listen : List ℕ) (workers connections : ℕ) where
   pub serve_in_range : (words : List (List ℕ)) → asked words ≡ Some Served → (0 < workers) × (workers ≤ 64)
   unfolding asked
   serve_in_range words is =
-      option_and_then_some command_of (subcommand_of office_words words) Served
-      (if_passed (is_empty (fault_of office_words words)) (option_and_then command_of (subcommand_of office_words words)) Served is)
+      option_and_then_some subcommand_line (subcommand_of office_words words) Served
+      (if_passed (is_empty (fault_of office_words words)) (option_and_then subcommand_line (subcommand_of office_words words)) Served is)
       (λ entered _ found. command_in_range entered found)
 
 -- ---- explain
@@ -147,10 +147,10 @@ module _ (workers : ℕ) where
   named_explain false false false true e f rows is = absurd (not_reported (option_and_then month_of_text (given rows (codes "month"))) (is_set (given rows (codes "text"))) is)
   named_explain false false false false true f rows is = is
   named_explain false false false false false true rows is =
-      absurd (not_generated (option_and_then (number_in 0 most_seed) (given rows (codes "number"))) (option_and_then (number_in 0 most_commands) (given rows (codes "count"))) is)
+      absurd (not_generated (option_and_then (number_between 0 most_seed) (given rows (codes "number"))) (option_and_then (number_between 0 most_generated) (given rows (codes "count"))) is)
   named_explain false false false false false false rows is = absurd cc
 
-  explained_command : (entered : List ℕ × List Row) → command_of entered ≡ Some Explained → (0 < workers) × (workers ≤ 64)
+  explained_command : (entered : List ℕ × List Row) → subcommand_line entered ≡ Some Explained → (0 < workers) × (workers ≤ 64)
   explained_command (name, rows) is =
       explained_in_range rows (named_explain (bytes_eq name (codes "init")) (bytes_eq name (codes "run")) (bytes_eq name (codes "serve")) (bytes_eq name (codes "report"))
       (bytes_eq name (codes "explain")) (bytes_eq name (codes "gen")) rows is)
@@ -159,6 +159,6 @@ module _ (workers : ℕ) where
   pub explain_in_range : (words : List (List ℕ)) → asked words ≡ Some Explained → (0 < workers) × (workers ≤ 64)
   unfolding asked
   explain_in_range words is =
-      option_and_then_some command_of (subcommand_of office_words words) Explained
-      (if_passed (is_empty (fault_of office_words words)) (option_and_then command_of (subcommand_of office_words words)) Explained is)
+      option_and_then_some subcommand_line (subcommand_of office_words words) Explained
+      (if_passed (is_empty (fault_of office_words words)) (option_and_then subcommand_line (subcommand_of office_words words)) Explained is)
       (λ entered _ found. explained_command entered found)

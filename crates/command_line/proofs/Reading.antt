@@ -8,8 +8,8 @@ use Rattle.clap.specs.declared.builder.command.Command.{Command}
 use Rattle.clap.specs.declared.parser.matches.ArgMatches.{ArgMatches}
 use Rattle.clap.specs.declared.error.kind.ErrorKind.{ErrorKind}
 use Rattle.clap.specs.declared.error.kind.ErrorKind.TheVariants.{OutOfMemory}
-use Rattle.command_line.specs.Words.{IsCommand, office_words}
-use Rattle.command_line.specs.Lines.{Line, asked, command_of}
+use Rattle.command_line.specs.Words.{IsWholeCommand, office_words}
+use Rattle.command_line.specs.Lines.{Line, asked, subcommand_line}
 
 office_is_simple : is_simple office_words ≡ true
 office_is_simple = refl
@@ -17,12 +17,12 @@ office_is_simple = refl
 office_is_free : is_simple_and_free office_words ≡ true
 office_is_free = refl
 
-asked_from : (words : List Text) (entered : _) → fault_of office_words words ≡ [] → entered ≡ subcommand_of office_words words → asked words ≡ option_and_then command_of entered
+asked_from : (words : List Text) (entered : _) → fault_of office_words words ≡ [] → entered ≡ subcommand_of office_words words → asked words ≡ option_and_then subcommand_line entered
 unfolding asked
 asked_from words entered passes is = rw (passes, is) refl
 
-pub line_read : (command : Command) (m : ArgMatches) (words : List Text) → IsCommand office_words command → HasMatchesOf (app_of command) words m
-    → (is_simple_and_free (app_of command) ≡ true → fault_of (app_of command) words ≡ []) → asked words ≡ option_and_then command_of (subcommand_rows_of m)
+pub line_read : (command : Command) (m : ArgMatches) (words : List Text) → IsWholeCommand office_words command → HasMatchesOf (app_of command) words m
+    → (is_simple_and_free (app_of command) ≡ true → fault_of (app_of command) words ≡ []) → asked words ≡ option_and_then subcommand_line (subcommand_rows_of m)
 line_read command m words is matches passes =
     let simple = ap is_simple is.is ∙ office_is_simple in
     let free = ap is_simple_and_free is.is ∙ office_is_free in
@@ -36,7 +36,7 @@ asked_for_none : (words : List Text) (kind : ErrorKind) → IsAmong kind (fault_
 unfolding asked
 asked_for_none words kind among = some_fault kind (fault_of office_words words) _ among
 
-pub line_refused : (command : Command) (words : List Text) (kind : ErrorKind) → IsCommand office_words command → kind ≢ OutOfMemory
+pub line_refused : (command : Command) (words : List Text) (kind : ErrorKind) → IsWholeCommand office_words command → kind ≢ OutOfMemory
     → (is_simple_and_free (app_of command) ≡ true → (kind ≡ OutOfMemory) ⊎ IsAmong kind (fault_of (app_of command) words)) → asked words ≡ None
 line_refused command words kind is other faults =
     let fault = faults (ap is_simple_and_free is.is ∙ office_is_free) in

@@ -14,8 +14,8 @@ use Rattle.command_line.specs.declared.line.CommandLine.{CommandLine}
 use Rattle.command_line.specs.declared.line.CommandLine.TheVariants as command_line
 
 -- what a command line asks for: that the journal is made; a run; service at an address, by so many workers, each of
--- which ends after so many connections; the report of a month, as text or as CSV; the table of stays, by so many workers; or a
--- load of so many commands that are generated of a number
+-- which ends after so many connections; the report of a month, as text or as CSV; the table of stays, by so many
+-- workers; or a load of so many commands that are generated of a number
 pub data Line : Type 0 where
   init : Line
   run : Line
@@ -36,13 +36,13 @@ line_of (command_line.Gen number count) = gen number count
 -- ---- numbers
 
 -- the number in a range whose decimal digits the text is: it has no sign and no leading zero
-abbrev pub number_in : ℕ → ℕ → List ℕ → Option ℕ
-number_in least most text =
+abbrev pub number_between : ℕ → ℕ → List ℕ → Option ℕ
+number_between least most text =
     let n = digits_value 10 text in
     if bytes_eq text (decimal n) && (nat_le least n && nat_le n most) then Some n else None
 
 abbrev pub number_to : ℕ → List ℕ → Option ℕ
-number_to most text = number_in 1 most text
+number_to most text = number_between 1 most text
 
 -- the same of an option's text, and a default where the option was not given
 abbrev pub number_or : ℕ → ℕ → Option (List ℕ) → Option ℕ
@@ -53,8 +53,8 @@ number_or default most (Some text) = number_to most text
 abbrev pub most_seed : ℕ
 most_seed = 2 ^ 64 - 1
 
-abbrev pub most_commands : ℕ
-most_commands = 1_000_000
+abbrev pub most_generated : ℕ
+most_generated = 1_000_000
 
 abbrev pub most_workers : ℕ
 most_workers = 64
@@ -103,12 +103,12 @@ explain_of rows = option_map explain (workers_of rows)
 abbrev pub gen_of : List Row → Option Line
 gen_of rows =
     option_and_then (λ number. option_map (gen number)
-    (option_and_then (number_in 0 most_commands) (given rows (codes "count"))))
-    (option_and_then (number_in 0 most_seed) (given rows (codes "number")))
+    (option_and_then (number_between 0 most_generated) (given rows (codes "count"))))
+    (option_and_then (number_between 0 most_seed) (given rows (codes "number")))
 
 -- what a subcommand asks for, by its name and what was given to its options
-abbrev pub command_of : List ℕ × List Row → Option Line
-command_of (name, rows) =
+abbrev pub subcommand_line : List ℕ × List Row → Option Line
+subcommand_line (name, rows) =
     if bytes_eq name (codes "init") then Some init
     else (if bytes_eq name (codes "run") then Some run
     else (if bytes_eq name (codes "serve") then serve_of rows
@@ -119,14 +119,14 @@ command_of (name, rows) =
 -- what the words behind the program's name ask for, where they are a command line
 unfoldable pub asked : List (List ℕ) → Option Line
 asked words =
-    if is_empty (fault_of office_words words) then option_and_then command_of (subcommand_of office_words words)
+    if is_empty (fault_of office_words words) then option_and_then subcommand_line (subcommand_of office_words words)
     else None
 
 -- ---- what clap found in words
 
 -- what the words ask for
 abbrev pub asked_by : ArgMatches → Option Line
-asked_by matches = option_and_then command_of (subcommand_rows_of matches)
+asked_by matches = option_and_then subcommand_line (subcommand_rows_of matches)
 
 -- what they gave to each option of a command
 abbrev pub options_of : ArgMatches → List Row

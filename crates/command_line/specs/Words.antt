@@ -73,7 +73,7 @@ abbrev pub alone : Shape → App
 alone shape = record { top = shape; subs = [] }
 
 -- the command is this one, whole, and none of its arguments is global
-pub record IsCommand (app : App) (command : Command) : Type 0 where
+pub record IsWholeCommand (app : App) (command : Command) : Type 0 where
   pub is : app_of command ≡ app
   pub whole : is_broken command ≡ false
   pub local : (out-Command command).has_globals ≡ false
@@ -81,9 +81,11 @@ pub record IsCommand (app : App) (command : Command) : Type 0 where
 -- it has got one more option
 abbrev pub GetsOption : Command → Arg → Command → Type 0
 GetsOption command arg now =
-    (app : App) (rule : Rule) → IsCommand app command → rule_of arg ≡ rule → IsCommand (with_rule app rule) now
+    (app : App) (rule : Rule) → IsWholeCommand app command → rule_of arg ≡ rule
+    → IsWholeCommand (with_rule app rule) now
 
 -- it has got one more subcommand
 abbrev pub GetsSubcommand : Command → Command → Command → Type 0
 GetsSubcommand command sub now =
-    (app below : App) → IsCommand app command → IsCommand below sub → IsCommand (with_subcommand app below.top) now
+    (app below : App) → IsWholeCommand app command → IsWholeCommand below sub
+    → IsWholeCommand (with_subcommand app below.top) now

@@ -1,6 +1,6 @@
 // What a command line asks for.
 ghost use Rattle.std.specs.Prelude.{◌≡◌, ◌≢◌, Some, None, ◌≤◌, IfOk, IfSome, IsErrOf, map, string_bytes, option_map, option_and_then};
-ghost use Rattle.command_line.specs.Lines.{asked, asked_by, command_of, line_of, options_of, serve_of, report_of, explain_of, gen_of, month_of_text, is_set, number_in};
+ghost use Rattle.command_line.specs.Lines.{asked, asked_by, subcommand_line, line_of, options_of, serve_of, report_of, explain_of, gen_of, month_of_text, is_set, number_between};
 
 use crate::numbers::{number, number_of};
 use crate::words::office;
@@ -119,8 +119,8 @@ fn command(alloc: Global, matches: &ArgMatches) -> Result<CommandLine, LineFault
 
 // What a subcommand asks for.
 fn named(alloc: Global, name: &str, given: &ArgMatches) -> Result<CommandLine, LineFault>
-    ensures read { IfOk result (λ line. command_of (name.now, options_of given.now) ≡ Some (line_of line)) }
-    ensures refused { IsErrOf result LineFault.NotALine → command_of (name.now, options_of given.now) ≡ None }
+    ensures read { IfOk result (λ line. subcommand_line (name.now, options_of given.now) ≡ Some (line_of line)) }
+    ensures refused { IsErrOf result LineFault.NotALine → subcommand_line (name.now, options_of given.now) ≡ None }
 {
     if name == "init" {
         return Ok(CommandLine::Init);
@@ -190,7 +190,7 @@ fn explain(given: &ArgMatches) -> Result<CommandLine, LineFault>
 
 // The number that a word gives, where there is one.
 fn number_given(text: Option<&str>, most: u64) -> Option<u64>
-    ensures exact { result ≡ option_and_then (number_in 0 most) (option_map (λ t. t.now) text.entry) }
+    ensures exact { result ≡ option_and_then (number_between 0 most) (option_map (λ t. t.now) text.entry) }
     ensures within { IfSome result (λ n. n ≤ most) }
 {
     match text {

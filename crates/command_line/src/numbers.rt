@@ -1,7 +1,7 @@
 // Numbers as they are written in words.
 ghost use Rattle.std.specs.Prelude.{◌≡◌, ◌≤◌, option_map, IfSome, codes};
 ghost use Rattle.office_base.specs.Versions.{begins_with_number};
-ghost use Rattle.command_line.specs.Lines.{number_in, number_or};
+ghost use Rattle.command_line.specs.Lines.{number_between, number_or};
 
 // Whether the first byte is a digit from 1 to 9.
 fn begins_with_digit_above_zero(text: &[u8]) -> bool
@@ -15,14 +15,14 @@ fn begins_with_digit_above_zero(text: &[u8]) -> bool
 
 // Zero, where it is in a range from this number on.
 fn zero_from(least: u64, most: u64) -> Option<u64>
-    ensures { result ≡ number_in least most (codes "0") }
+    ensures { result ≡ number_between least most (codes "0") }
 {
     if least == 0 { Some(0) } else { None }
 }
 
 /// Reads a number in a range, in digits without a leading zero.
 pub(crate) fn number(text: &str, least: u64, most: u64) -> Option<u64>
-    ensures exact { result ≡ number_in least most text.now }
+    ensures exact { result ≡ number_between least most text.now }
     ensures within { IfSome result (λ n. n ≤ most) }
 {
     if text == "0" {

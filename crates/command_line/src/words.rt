@@ -3,7 +3,7 @@ ghost use Rattle.std.specs.Prelude.{◌≡◌, IfOk, false};
 ghost use Rattle.clap.specs.Walk.{rule_of};
 ghost use Rattle.clap.specs.Simple.{new_shape};
 ghost use Rattle.command_line.specs.Words.{option, needed_option, needed_word, flag, run_words, init_words, serve_words, report_words, explain_words, gen_words, alone};
-ghost use Rattle.command_line.specs.Words.{office_top, office_words, IsCommand, GetsOption, GetsSubcommand};
+ghost use Rattle.command_line.specs.Words.{office_top, office_words, IsWholeCommand, GetsOption, GetsSubcommand};
 
 use clap::{Arg, ArgAction, Command};
 use std::alloc::{AllocError, Global};
@@ -42,7 +42,7 @@ fn flag<'a>(alloc: Global, name: &'a str) -> Arg<'a>
 
 // A subcommand without options.
 fn bare<'a>(alloc: Global, name: &'a str) -> Command<'a>
-    ensures { IsCommand (alone (new_shape name.entry.now)) result }
+    ensures { IsWholeCommand (alone (new_shape name.entry.now)) result }
 {
     Command::new(alloc, name)
 }
@@ -64,7 +64,7 @@ fn with_subcommand<'a>(command: Command<'a>, sub: Command<'a>) -> Result<Command
 
 // `serve --listen ADDRESS [--workers N] [--connections K]`.
 fn serve<'a>(alloc: Global) -> Result<Command<'a>, AllocError>
-    ensures { IfOk result (IsCommand (alone serve_words)) }
+    ensures { IfOk result (IsWholeCommand (alone serve_words)) }
 {
     let command = with_option(bare(alloc, "serve"), needed_option(alloc, "listen"))?;
     let command = with_option(command, option(alloc, "workers"))?;
@@ -73,7 +73,7 @@ fn serve<'a>(alloc: Global) -> Result<Command<'a>, AllocError>
 
 // `report MONTH [--text]`.
 fn report<'a>(alloc: Global) -> Result<Command<'a>, AllocError>
-    ensures { IfOk result (IsCommand (alone report_words)) }
+    ensures { IfOk result (IsWholeCommand (alone report_words)) }
 {
     let command = with_option(bare(alloc, "report"), needed_word(alloc, "month"))?;
     with_option(command, flag(alloc, "text"))
@@ -81,14 +81,14 @@ fn report<'a>(alloc: Global) -> Result<Command<'a>, AllocError>
 
 // `explain [--workers N]`.
 fn explain<'a>(alloc: Global) -> Result<Command<'a>, AllocError>
-    ensures { IfOk result (IsCommand (alone explain_words)) }
+    ensures { IfOk result (IsWholeCommand (alone explain_words)) }
 {
     with_option(bare(alloc, "explain"), option(alloc, "workers"))
 }
 
 // `gen NUMBER COUNT`.
 fn generate<'a>(alloc: Global) -> Result<Command<'a>, AllocError>
-    ensures { IfOk result (IsCommand (alone gen_words)) }
+    ensures { IfOk result (IsWholeCommand (alone gen_words)) }
 {
     let command = with_option(bare(alloc, "gen"), needed_word(alloc, "number"))?;
     with_option(command, needed_word(alloc, "count"))
@@ -96,7 +96,7 @@ fn generate<'a>(alloc: Global) -> Result<Command<'a>, AllocError>
 
 // The command without its subcommands.
 fn top<'a>(alloc: Global) -> Command<'a>
-    ensures { IsCommand office_top result }
+    ensures { IsWholeCommand office_top result }
 {
     Command::new(alloc, "office")
         .no_binary_name(true)
@@ -108,7 +108,7 @@ fn top<'a>(alloc: Global) -> Command<'a>
 
 /// Gives the words that the office takes.
 pub(crate) fn office<'a>(alloc: Global) -> Result<Command<'a>, AllocError>
-    ensures { IfOk result (IsCommand office_words) }
+    ensures { IfOk result (IsWholeCommand office_words) }
 {
     let command = with_subcommand(top(alloc), bare(alloc, "init"))?;
     let command = with_subcommand(command, bare(alloc, "run"))?;

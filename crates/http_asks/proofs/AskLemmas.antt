@@ -2,9 +2,9 @@
 use Rattle.std.proofs.Common.{◌≡◌, sym, subst, Option, Some, None, Result, Err}
 use Rattle.std.specs.Prelude.{IfSome, option_map}
 use Rattle.rules_core.specs.Configurations.{Configuration}
-use Rattle.rules_json.specs.Faults.{told_of}
+use Rattle.rules_json.specs.Faults.{told_fault}
 use Rattle.rules_json.specs.declared.fault.RulesFault.{RulesFault}
-use Rattle.http_bodies.specs.Flaws.{BodyFlaw, flaw_of}
+use Rattle.http_bodies.specs.Flaws.{BodyFlaw, body_flaw_of}
 use Rattle.http_bodies.specs.declared.fault.BodyFault.{BodyFault}
 use Rattle.tariff.specs.Faults.{TariffFlaw}
 use Rattle.tariff.specs.Faults as prices
@@ -19,10 +19,10 @@ some_same : {x y : Refused} → Some x ≡ Some y → x ≡ y
 some_same is = cc
 
 -- a fault of a body that is told as it is
-pub flaw_told : {T : Type 0} (fault : BodyFault) (told : Fault) (read : Result T BodyFlaw) → IfSome (flaw_of fault) (λ (flaw : BodyFlaw). read ≡ Err flaw)
-    → OnBroken told (λ (broken : Refused). option_map flawed (flaw_of fault) ≡ Some broken) → OnBroken told (HasFlaw read)
+pub flaw_told : {T : Type 0} (fault : BodyFault) (told : Fault) (read : Result T BodyFlaw) → IfSome (body_flaw_of fault) (λ (flaw : BodyFlaw). read ≡ Err flaw)
+    → OnBroken told (λ (broken : Refused). option_map flawed (body_flaw_of fault) ≡ Some broken) → OnBroken told (HasFlaw read)
 flaw_told {T} fault faults.NoMemory read is same = tt
-flaw_told {T} fault (faults.Bad bad) read is same = by_flaw (flaw_of fault) is same
+flaw_told {T} fault (faults.Bad bad) read is same = by_flaw (body_flaw_of fault) is same
   where
     by_flaw : (o : Option BodyFlaw) → IfSome o (λ (flaw : BodyFlaw). read ≡ Err flaw) → OnBroken (faults.Bad bad) (λ (broken : Refused). option_map flawed o ≡ Some broken)
         → OnBroken (faults.Bad bad) (HasFlaw read)
@@ -30,10 +30,10 @@ flaw_told {T} fault (faults.Bad bad) read is same = by_flaw (flaw_of fault) is s
     by_flaw (Some flaw) is same = subst (λ (r : Result T BodyFlaw). HasFlaw r (refused_of bad)) (sym is) (sym (some_same same))
 
 -- a fault of a lifecycle configuration that is told as it is
-pub fault_told : (fault : RulesFault) (told : Fault) (read : Result Configuration RulesFault) → IfSome (told_of fault) (λ (f : RulesFault). read ≡ Err f)
-    → OnBroken told (λ (broken : Refused). option_map broken_by (told_of fault) ≡ Some broken) → OnBroken told (HasFault read)
+pub fault_told : (fault : RulesFault) (told : Fault) (read : Result Configuration RulesFault) → IfSome (told_fault fault) (λ (f : RulesFault). read ≡ Err f)
+    → OnBroken told (λ (broken : Refused). option_map broken_by (told_fault fault) ≡ Some broken) → OnBroken told (HasFault read)
 fault_told fault faults.NoMemory read is same = tt
-fault_told fault (faults.Bad bad) read is same = by_fault (told_of fault) is same
+fault_told fault (faults.Bad bad) read is same = by_fault (told_fault fault) is same
   where
     by_fault : (o : Option RulesFault) → IfSome o (λ (f : RulesFault). read ≡ Err f) → OnBroken (faults.Bad bad) (λ (broken : Refused). option_map broken_by o ≡ Some broken)
         → OnBroken (faults.Bad bad) (HasFault read)
@@ -41,10 +41,10 @@ fault_told fault (faults.Bad bad) read is same = by_fault (told_of fault) is sam
     by_fault (Some f) is same = subst (λ (r : Result Configuration RulesFault). HasFault r (refused_of bad)) (sym is) (sym (some_same same))
 
 -- a fault of a tariff that is told as it is
-pub price_flaw_told : (fault : TariffFault) (told : Fault) (read : Result Prices TariffFlaw) → IfSome (prices.flaw_of fault) (λ (flaw : TariffFlaw). read ≡ Err flaw)
-    → OnBroken told (λ (broken : Refused). option_map refused_by (prices.flaw_of fault) ≡ Some broken) → OnBroken told (HasPriceFlaw read)
+pub price_flaw_told : (fault : TariffFault) (told : Fault) (read : Result Prices TariffFlaw) → IfSome (prices.tariff_flaw_of fault) (λ (flaw : TariffFlaw). read ≡ Err flaw)
+    → OnBroken told (λ (broken : Refused). option_map refused_by (prices.tariff_flaw_of fault) ≡ Some broken) → OnBroken told (HasPriceFlaw read)
 price_flaw_told fault faults.NoMemory read is same = tt
-price_flaw_told fault (faults.Bad bad) read is same = by_flaw (prices.flaw_of fault) is same
+price_flaw_told fault (faults.Bad bad) read is same = by_flaw (prices.tariff_flaw_of fault) is same
   where
     by_flaw : (o : Option TariffFlaw) → IfSome o (λ (flaw : TariffFlaw). read ≡ Err flaw) → OnBroken (faults.Bad bad) (λ (broken : Refused). option_map refused_by o ≡ Some broken)
         → OnBroken (faults.Bad bad) (HasPriceFlaw read)

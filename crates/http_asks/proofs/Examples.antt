@@ -20,10 +20,10 @@ use Rattle.tariff.specs.Prices.{Prices}
 use Rattle.tariff.specs.Reading.{tariff_of}
 use Rattle.http_bodies.specs.Flaws.{BodyFlaw, bad_body}
 use Rattle.http_bodies.specs.Multipart.{part_of}
-use Rattle.http_bodies.specs.Settings.{status_of}
+use Rattle.http_bodies.specs.Settings.{versioning_of}
 use Rattle.http_routes.specs.Spelled.{key_of}
 use Rattle.http_routes.specs.Targets as targets
-use Rattle.http_asks.specs.Meaning.{Meant, asks, refuses, not_a_month, bad_bucket_name, bad_key, flaw_in, not_json, no_such_version, no_such_upload, bad_part, missing_class, flawed, not_built, by_key, by_body, by_rules, by_tariff, meant_of, bucket_meant, versioning_meant, lifecycle_meant, object_meant, version_meant, upload_meant, part_meant, act_meant, due_meant, meters_meant, tariff_meant, close_meant, report_meant}
+use Rattle.http_asks.specs.Meaning.{Meant, asks, refuses, not_a_month, bad_bucket_name, bad_key, flaw_in, not_json, no_such_version, no_such_upload, bad_part, missing_class, flawed, not_built, by_object_key, by_body, by_rules, by_tariff, meant_of, bucket_meant, versioning_meant, lifecycle_meant, object_meant, version_meant, upload_meant, part_meant, act_meant, due_meant, meters_meant, tariff_meant, close_meant, report_meant}
 use Rattle.http_asks.specs.Numbers.{number_in, version_in, part_in}
 
 -- ---- numbers and ids
@@ -103,11 +103,11 @@ unfolding bucket_meant is_bucket_name
 another_method = refl
 
 -- versioning is set as the body says
-sets : (body : List ℕ) (enabled : Bool) → status_of body ≡ Ok enabled → meant_of (targets.versioning (codes "logs")) (codes "PUT") body ≡ asks (Command (SetVersioning (codes "logs") enabled))
+sets : (body : List ℕ) (enabled : Bool) → versioning_of body ≡ Ok enabled → meant_of (targets.versioning (codes "logs")) (codes "PUT") body ≡ asks (Command (SetVersioning (codes "logs") enabled))
 unfolding versioning_meant is_bucket_name
 sets body enabled is = ap (λ (said : Result Bool BodyFlaw). by_body said (λ e. asks (Command (SetVersioning (codes "logs") e)))) is
 
-no_status : (body : List ℕ) → status_of body ≡ Err (bad_body (codes "Status")) → meant_of (targets.versioning (codes "logs")) (codes "PUT") body ≡ refuses (flawed (bad_body (codes "Status")))
+no_status : (body : List ℕ) → versioning_of body ≡ Err (bad_body (codes "Status")) → meant_of (targets.versioning (codes "logs")) (codes "PUT") body ≡ refuses (flawed (bad_body (codes "Status")))
 unfolding versioning_meant is_bucket_name
 no_status body is = ap (λ (said : Result Bool BodyFlaw). by_body said (λ e. asks (Command (SetVersioning (codes "logs") e)))) is
 
@@ -142,10 +142,10 @@ no_json meant = refl
 -- ---- objects
 
 -- the key is what the part spells
-keyed : (part : List ℕ) (meant : List ℕ → Meant) → is_key (key_of part) ≡ true → by_key part meant ≡ meant (key_of part)
+keyed : (part : List ℕ) (meant : List ℕ → Meant) → is_key (key_of part) ≡ true → by_object_key part meant ≡ meant (key_of part)
 keyed part meant is = ap (λ (b : Bool). if b then meant (key_of part) else refuses bad_key) is
 
-not_keyed : (part : List ℕ) (meant : List ℕ → Meant) → is_key (key_of part) ≡ false → by_key part meant ≡ refuses bad_key
+not_keyed : (part : List ℕ) (meant : List ℕ → Meant) → is_key (key_of part) ≡ false → by_object_key part meant ≡ refuses bad_key
 not_keyed part meant is = ap (λ (b : Bool). if b then meant (key_of part) else refuses bad_key) is
 
 -- a bad name comes before a bad key, and that before a bad body
@@ -186,7 +186,9 @@ null_upload : meant_of (targets.upload (codes "logs") (codes "null")) (codes "GE
 unfolding upload_meant is_bucket_name number_in
 null_upload = refl
 
-puts_part : (body : List ℕ) (size : ℕ) → part_of body ≡ Ok size → meant_of (targets.part (codes "logs") (codes "7") (codes "00002")) (codes "PUT") body ≡ asks (Command (PutPart (codes "logs") 7 2 size))
+puts_part : (body : List ℕ) (size : ℕ) → part_of body ≡ Ok size
+    → meant_of (targets.part (codes "logs") (codes "7") (codes "00002")) (codes "PUT") body
+    ≡ asks (Command (PutPart (codes "logs") 7 2 size))
 unfolding part_meant is_bucket_name number_in part_in
 puts_part body size is = ap (λ (said : Result ℕ BodyFlaw). by_body said (λ n. asks (Command (PutPart (codes "logs") 7 2 n)))) is
 

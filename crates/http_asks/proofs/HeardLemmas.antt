@@ -5,27 +5,25 @@ use Rattle.std.specs.Io.KnownBytes.{prepend_known, IsAtEnd}
 use Rattle.httparse.specs.Spans.{span_bytes}
 use Rattle.http_routes.specs.Targets.{Resource}
 use Rattle.http_routes.proofs.Leads.{one_route}
-use Rattle.http_wire.specs.Answers.{Gave, Answers, Refuses, AwaitsLongBody, OnRequest, OnRefused}
+use Rattle.http_wire.specs.Answers.{Gave, HasRequest, Refuses, AwaitsLongBody, OnRequest, OnRefused}
 use Rattle.http_wire.specs.Held.{Held, take_limit}
 use Rattle.http_wire.specs.Messages.{Framed, Request, request, refused, Stands, IsCutShort, IsUnsettled}
-use Rattle.http_wire.specs.Parts.{Parts, body_of}
+use Rattle.http_wire.specs.Parts.{MessageParts, body_of}
 use Rattle.http_wire.specs.declared.framing.FramingRefusal.{FramingRefusal}
 use Rattle.http_wire.specs.declared.framing.FramingRefusal.TheVariants.{BadHead, BodyTooLarge, ChunkedBody, HeadTooLarge, CutShort}
 use Rattle.http_wire.specs.declared.message.Next.{Next}
 use Rattle.http_wire.specs.declared.message.Next.TheVariants as next
 use Rattle.http_wire.specs.declared.message.MessageStop.{MessageStop}
-use Rattle.http_wire.specs.declared.message.MessageStop.TheVariants as message_stops
+use Rattle.http_wire.specs.declared.message.MessageStop.TheVariants as stops
 use Rattle.http_wire.proofs.Unique.{stands_unique, stands_rest, stands_more, nothing_stands}
-use Rattle.http_asks.specs.Counts.{Given, AreEnough}
+use Rattle.http_asks.specs.Counts.{AreEnough}
 use Rattle.http_asks.specs.Faults.{refused_of}
 use Rattle.http_asks.specs.Hearing.{IsHeard, last_of}
 use Rattle.http_asks.specs.Meaning.{Refused, not_a_date, not_midnight, not_a_month, bad_bucket_name, bad_key, flaw_in, not_json, unknown_field, wrong_shape, no_such_version, no_such_upload, bad_part, not_toml, missing_class, bad_price, tariff_field, flawed, not_built, Meant, asks, refuses, meant_of, Means, IsMeant}
 use Rattle.http_asks.specs.Streams.{IsItem, IsUnbuilt, StandsUnbuilt, WantsMemory}
-use Rattle.http_asks.specs.Tells.{Tells, TellsRefused, IfServed, OnItem}
+use Rattle.http_asks.specs.Tells.{TellsHeard, TellsRefused}
 use Rattle.http_asks.specs.declared.reader.Heard.{Heard}
 use Rattle.http_asks.specs.declared.reader.Heard.TheVariants as heards
-use Rattle.http_asks.specs.declared.reader.Stop.{Stop}
-use Rattle.http_asks.specs.declared.reader.Stop.TheVariants as stops
 
 -- ---- one thing is meant
 
@@ -58,14 +56,14 @@ one_item stream first second last other rest after x y =
 -- ---- a request stands
 
 -- its parts are the message's
-meant_parts : (bytes : List ℕ) (held : Held) (m : Parts) (answers : Answers bytes held m) (meant : Meant)
+meant_parts : (bytes : List ℕ) (held : Held) (m : MessageParts) (answers : HasRequest bytes held m) (meant : Meant)
     → Means (span_bytes held.bytes m.head.path) (span_bytes held.bytes m.head.method) (body_of m held.bytes) meant → IsMeant answers.found meant
 meant_parts bytes held m a meant means =
     subst (λ (t : List ℕ). Means a.found.head.target a.found.head.method t meant) a.body
     (subst (λ (t : List ℕ). Means a.found.head.target t (body_of m held.bytes) meant) a.head.method
     (subst (λ (t : List ℕ). Means t (span_bytes held.bytes m.head.method) (body_of m held.bytes) meant) a.head.path means))
 
-item_stands : (bytes more after : List ℕ) (held : Held) (m : Parts) (meant : Meant) (last : Bool) → Answers bytes held m → after ≡ drop m.used held.bytes
+item_stands : (bytes more after : List ℕ) (held : Held) (m : MessageParts) (meant : Meant) (last : Bool) → HasRequest bytes held m → after ≡ drop m.used held.bytes
     → Means (span_bytes held.bytes m.head.path) (span_bytes held.bytes m.head.method) (body_of m held.bytes) meant
     → meant ≢ refuses not_built → last ≡ m.last → IsItem (bytes ++ more) meant last (after ++ more)
 item_stands bytes more after held m meant last a rest means built ends = record {
@@ -86,7 +84,7 @@ some_stand : (bytes more : List ℕ) (found : Framed) (rest : List ℕ) → Stan
 some_stand bytes more found rest stands is =
     nothing_stands found rest (subst (λ (t : List ℕ). Stands t found rest) (no_bytes bytes more is) stands)
 
-unserved_stands : (bytes more : List ℕ) (held : Held) (m : Parts) → Answers bytes held m
+unserved_stands : (bytes more : List ℕ) (held : Held) (m : MessageParts) → HasRequest bytes held m
     → Means (span_bytes held.bytes m.head.path) (span_bytes held.bytes m.head.method) (body_of m held.bytes) (refuses not_built) → IsUnbuilt (bytes ++ more)
 unserved_stands bytes more held m a means = record {
   some = some_stand bytes more (request a.found) (drop m.used held.bytes) a.stands;
@@ -96,7 +94,7 @@ unserved_stands bytes more held m a means = record {
       x.built (means_one a.found meant (refuses not_built) (subst (λ (r : Request). IsMeant r meant) same x.means) (meant_parts bytes held m a (refuses not_built) means));
 }
 
-refused_told : (bytes more after : List ℕ) (held : Held) (m : Parts) (broken : Refused) (last : Bool) → Answers bytes held m → after ≡ drop m.used held.bytes
+refused_told : (bytes more after : List ℕ) (held : Held) (m : MessageParts) (broken : Refused) (last : Bool) → HasRequest bytes held m → after ≡ drop m.used held.bytes
     → Means (span_bytes held.bytes m.head.path) (span_bytes held.bytes m.head.method) (body_of m held.bytes) (refuses broken)
     → last ≡ last_of broken m.last → TellsRefused (Some (bytes ++ more)) broken last (Some (after ++ more))
 refused_told bytes more after held m not_built last a rest means ends = (unserved_stands bytes more held m a means, ends)
@@ -118,9 +116,9 @@ refused_told bytes more after held m (bad_price table class) last a rest means e
 refused_told bytes more after held m (tariff_field name) last a rest means ends = item_stands bytes more after held m (refuses (tariff_field name)) last a rest means (λ is. cc) ends
 refused_told bytes more after held m (flawed flaw) last a rest means ends = item_stands bytes more after held m (refuses (flawed flaw)) last a rest means (λ is. cc) ends
 
-request_told : (bytes more after : List ℕ) (held : Held) (m : Parts) (heard : Heard) → Answers bytes held m → after ≡ drop m.used held.bytes
+request_told : (bytes more after : List ℕ) (held : Held) (m : MessageParts) (heard : Heard) → HasRequest bytes held m → after ≡ drop m.used held.bytes
     → IsHeard (Means (span_bytes held.bytes m.head.path) (span_bytes held.bytes m.head.method) (body_of m held.bytes)) m.last heard
-    → Tells (Some (bytes ++ more)) heard (Some (after ++ more))
+    → TellsHeard (Some (bytes ++ more)) heard (Some (after ++ more))
 request_told bytes more after held m (heards.Asked ask last) a rest is = item_stands bytes more after held m (asks ask) last a rest is.0 (λ is. cc) is.1
 request_told bytes more after held m (heards.Bad bad last) a rest is = refused_told bytes more after held m (refused_of bad) last a rest is.0 is.1
 request_told bytes more after held m heards.End a rest is = absurd is
@@ -149,18 +147,18 @@ tells_refused_none (bad_price table class) bad_last last after is = tt
 tells_refused_none (tariff_field name) bad_last last after is = tt
 tells_refused_none (flawed flaw) bad_last last after is = tt
 
-tells_none : (heard : Heard) (Means : Meant → Type 0) (last : Bool) (after : Option (List ℕ)) → IsHeard Means last heard → Tells None heard after
+tells_none : (heard : Heard) (Means : Meant → Type 0) (last : Bool) (after : Option (List ℕ)) → IsHeard Means last heard → TellsHeard None heard after
 tells_none (heards.Asked ask ends) Means last after is = tt
 tells_none (heards.Bad bad ends) Means last after is = tells_refused_none (refused_of bad) ends last after is.1
 tells_none heards.End Means last after is = tt
 
-pub heard_told : (a b c : Held) (la lb : Option (List ℕ)) (m : Parts) (heard : Heard) → Gave a b la lb (λ (bytes : List ℕ). Answers bytes b m) → c.bytes ≡ drop m.used b.bytes
+pub heard_told : (a b c : Held) (la lb : Option (List ℕ)) (m : MessageParts) (heard : Heard) → Gave a b la lb (λ (bytes : List ℕ). HasRequest bytes b m) → c.bytes ≡ drop m.used b.bytes
     → IsHeard (Means (span_bytes b.bytes m.head.path) (span_bytes b.bytes m.head.method) (body_of m b.bytes)) m.last heard
-    → Tells (prepend_known a.bytes la) heard (prepend_known c.bytes lb)
+    → TellsHeard (prepend_known a.bytes la) heard (prepend_known c.bytes lb)
 heard_told a b c None lb m heard gave rest is = tells_none heard (Means (span_bytes b.bytes m.head.path) (span_bytes b.bytes m.head.method) (body_of m b.bytes)) m.last (prepend_known c.bytes lb) is
 heard_told a b c (Some xs) None m heard gave rest is = absurd gave.left
 heard_told a b c (Some xs) (Some ys) m heard gave rest is =
-    subst (λ (t : List ℕ). Tells (Some t) heard (Some (c.bytes ++ ys))) (sym (whole_stream a.bytes xs ys gave.given gave.left))
+    subst (λ (t : List ℕ). TellsHeard (Some t) heard (Some (c.bytes ++ ys))) (sym (whole_stream a.bytes xs ys gave.given gave.left))
     (request_told (a.bytes ++ gave.given) ys c.bytes b m heard gave.so rest is)
 
 -- ---- what the framing refuses
@@ -196,26 +194,12 @@ unbuilt_told a b (Some xs) (Some ys) bad gave =
 
 -- ---- counts and the end
 
-pub given_of : (a b : Held) (la lb : Option (List ℕ)) (P : List ℕ → Type 0) (taken : ℕ) → Gave a b la lb P → taken ≡ b.taken → Given a.taken taken la lb
-given_of a b la lb P taken gave same = record { given = gave.given; counted = same ∙ gave.counted; left = gave.left }
-
-no_front : (xs ys : List ℕ) → xs ++ ys ≡ [] → ys ≡ []
-no_front [] ys is = is
-no_front (x ∷ xs) ys is = absurd cc
-
--- at the end nothing was held and nothing is left
-pub end_told : (a b : Held) (la lb : Option (List ℕ)) → Gave a b la lb (λ (bytes : List ℕ). bytes ≡ []) → IsAtEnd lb → IsAtEnd (prepend_known a.bytes la)
-end_told a b None lb gave end = tt
-end_told a b (Some xs) None gave end = absurd gave.left
-end_told a b (Some xs) (Some ys) gave end =
-    whole_stream a.bytes xs ys gave.given gave.left ∙ ap (λ (t : List ℕ). (a.bytes ++ gave.given) ++ t) end ∙ append-nil (a.bytes ++ gave.given) ∙ gave.so
-
 pub unsettled_same : (a b : Held) → a ≡ b → (IsUnsettled a.bytes → ⊥) → IsUnsettled b.bytes → ⊥
 unsettled_same a b same settled none = settled (subst (λ (h : Held). IsUnsettled h.bytes) (sym same) none)
 
 -- ---- the bytes are enough
 
-pub request_enough : (a b c : Held) (la lb : Option (List ℕ)) (m : Parts) → Gave a b la lb (λ (bytes : List ℕ). Answers bytes b m) → c.taken ≡ b.taken → Gave a c la lb (AreEnough c.taken lb)
+pub request_enough : (a b c : Held) (la lb : Option (List ℕ)) (m : MessageParts) → Gave a b la lb (λ (bytes : List ℕ). HasRequest bytes b m) → c.taken ≡ b.taken → Gave a c la lb (AreEnough c.taken lb)
 request_enough a b c la lb m gave same = record {
   given = gave.given;
   counted = same ∙ gave.counted;
@@ -241,37 +225,12 @@ refused_enough a b la lb bad few gave = record {
 pub end_enough : (a b : Held) (la lb : Option (List ℕ)) → b.taken < take_limit → Gave a b la lb (λ (bytes : List ℕ). bytes ≡ []) → IsAtEnd lb → Gave a b la lb (AreEnough b.taken lb)
 end_enough a b la lb few gave end = record { given = gave.given; counted = gave.counted; left = gave.left; so = inr (few, end) }
 
-served_if : (broken : Refused) (P : Type 0) → P → IfServed broken P
-served_if not_built P p = tt
-served_if not_a_date P p = p
-served_if not_midnight P p = p
-served_if not_a_month P p = p
-served_if bad_bucket_name P p = p
-served_if bad_key P p = p
-served_if (flaw_in flaw rule) P p = p
-served_if not_json P p = p
-served_if (unknown_field name) P p = p
-served_if (wrong_shape field) P p = p
-served_if no_such_version P p = p
-served_if no_such_upload P p = p
-served_if bad_part P p = p
-served_if not_toml P p = p
-served_if (missing_class table class) P p = p
-served_if (bad_price table class) P p = p
-served_if (tariff_field name) P p = p
-served_if (flawed flaw) P p = p
-
-pub on_item : (heard : Heard) (P : Type 0) → P → OnItem {E = Stop} (Ok heard) P
-on_item (heards.Asked ask last) P p = p
-on_item (heards.Bad bad last) P p = served_if (refused_of bad) P p
-on_item heards.End P p = tt
-
 -- ---- memory is wanting
 
 pub body_wants : (a b : Held) (la lb : Option (List ℕ)) → Gave a b la lb AwaitsLongBody → Gave a b la lb WantsMemory
 body_wants a b la lb gave = record { given = gave.given; counted = gave.counted; left = gave.left; so = inl gave.so }
 
-pub request_wants : (a b : Held) (la lb : Option (List ℕ)) (m : Parts) → Gave a b la lb (λ (bytes : List ℕ). Answers bytes b m) → Gave a b la lb WantsMemory
+pub request_wants : (a b : Held) (la lb : Option (List ℕ)) (m : MessageParts) → Gave a b la lb (λ (bytes : List ℕ). HasRequest bytes b m) → Gave a b la lb WantsMemory
 request_wants a b la lb m gave = record {
   given = gave.given;
   counted = gave.counted;
@@ -279,20 +238,19 @@ request_wants a b la lb m gave = record {
   so = inr (gave.so.found, drop m.used b.bytes, gave.so.stands);
 }
 
-abbrev error_or : Stop → Result Heard Stop → Stop
+abbrev error_or : MessageStop → Result Heard MessageStop → MessageStop
 error_or other (Ok heard) = other
 error_or other (Err e) = e
 
-err_same : (x y : Stop) → IsErrOf {T = Heard} (Err x) y → x ≡ y
+err_same : (x y : MessageStop) → IsErrOf {T = Heard} (Err x) y → x ≡ y
 err_same x y is = ap (error_or x) is
 
-pub stop_wants : (stop : MessageStop) (told : Stop) → (told ≡ stops.NoMemory → stop ≡ message_stops.NoMemory) → IsErrOf {T = Heard} (Err told) stops.NoMemory
-    → IsErrOf {T = Next} (Err stop) message_stops.NoMemory
-stop_wants stop told means is = ap Err (means (err_same told stops.NoMemory is))
+pub stop_wants : (stop : MessageStop) → IsErrOf {T = Heard} (Err stop) stops.NoMemory → IsErrOf {T = Next} (Err stop) stops.NoMemory
+stop_wants stop is = ap Err (err_same stop stops.NoMemory is)
 
 -- ---- what was read
 
-pub on_request : (read : Next) (m : Parts) (P : Parts → Type 0) → read ≡ next.Request m → OnRequest {E = MessageStop} (Ok read) P → P m
+pub on_request : (read : Next) (m : MessageParts) (P : MessageParts → Type 0) → read ≡ next.Request m → OnRequest {E = MessageStop} (Ok read) P → P m
 on_request read m P is on = subst (λ (x : Next). OnRequest {E = MessageStop} (Ok x) P) is on
 
 pub on_refused : (read : Next) (bad : FramingRefusal) (P : FramingRefusal → Type 0) → read ≡ next.Refused bad → OnRefused {E = MessageStop} (Ok read) P → P bad

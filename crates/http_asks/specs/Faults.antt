@@ -54,9 +54,9 @@ HasFlaw (Ok said) broken = ⊥
 HasFlaw (Err flaw) broken = broken ≡ flawed flaw
 
 -- an answer is what a body says, or its flaw
-abbrev pub IsSaid : {T : Type 0} → Result T flaws.BodyFlaw → Result T Fault → Type 0
-IsSaid said (Ok value) = said ≡ Ok value
-IsSaid said (Err fault) = OnBroken fault (HasFlaw said)
+abbrev pub IsFromBody : {T : Type 0} → Result T flaws.BodyFlaw → Result T Fault → Type 0
+IsFromBody said (Ok value) = said ≡ Ok value
+IsFromBody said (Err fault) = OnBroken fault (HasFlaw said)
 
 -- reading a lifecycle configuration breaks this rule
 abbrev pub HasFault : Result Configuration RulesFault → Refused → Type 0
@@ -69,9 +69,9 @@ HasPriceFlaw (Ok tariff) broken = ⊥
 HasPriceFlaw (Err flaw) broken = broken ≡ refused_by flaw
 
 -- an answer is what a part of the path is read as, or this refusal
-abbrev pub IsRead : {T : Type 0} → Option T → Refused → Result T Fault → Type 0
-IsRead part refused (Ok value) = part ≡ Some value
-IsRead part refused (Err fault) = OnBroken fault (λ broken. (broken ≡ refused) × (part ≡ None))
+abbrev pub IsFromPath : {T : Type 0} → Option T → Refused → Result T Fault → Type 0
+IsFromPath part refused (Ok value) = part ≡ Some value
+IsFromPath part refused (Err fault) = OnBroken fault (λ broken. (broken ≡ refused) × (part ≡ None))
 
 -- P of what was read, where memory did not run out
 abbrev pub OnMeant : Result Ask Fault → (Meant → Type 0) → Type 0

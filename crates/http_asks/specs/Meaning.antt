@@ -25,9 +25,9 @@ use Rattle.office_types.specs.declared.command.Command.TheVariants.{Put, Delete,
 use Rattle.office_types.specs.declared.command.Command.TheVariants.{StartUpload, PutPart, Complete, Abort, Act, SetTariff, Close}
 use Rattle.office_types.specs.declared.command.Query.TheVariants.{Bucket, Rules, Stack, Upload, Due, Meters, Tariff, Report}
 use Rattle.http_bodies.specs.Flaws.{BodyFlaw, unsupported_class}
-use Rattle.http_bodies.specs.Multipart.{upload_of, part_of}
+use Rattle.http_bodies.specs.Multipart.{upload_said, part_of}
 use Rattle.http_bodies.specs.Puts.{put_of}
-use Rattle.http_bodies.specs.Settings.{status_of, tagging_of}
+use Rattle.http_bodies.specs.Settings.{versioning_of, tagging_of}
 use Rattle.http_routes.specs.Spelled.{key_of}
 use Rattle.http_routes.specs.Targets.{Resource, HasRoute}
 use Rattle.http_routes.specs.Targets as targets
@@ -131,8 +131,8 @@ abbrev pub by_upload : List ℕ → (ℕ → Meant) → Meant
 by_upload id meant = by_part (number_in id) no_such_upload meant
 
 -- this, of the key of an object, which a part of the path spells
-abbrev pub by_key : List ℕ → (List ℕ → Meant) → Meant
-by_key part meant = if is_key (key_of part) then meant (key_of part) else refuses bad_key
+abbrev pub by_object_key : List ℕ → (List ℕ → Meant) → Meant
+by_object_key part meant = if is_key (key_of part) then meant (key_of part) else refuses bad_key
 
 -- ---- what is asked: the parts of the path from left to right, then the body
 
@@ -144,33 +144,34 @@ set_rules_meant name body =
 -- an object is put
 abbrev pub put_meant : List ℕ → List ℕ → List ℕ → Meant
 put_meant name part body =
-    if_name name (by_key part (λ key.
+    if_name name (by_object_key part (λ key.
     by_body (put_of body) (λ said. asks (Command (Put name key said.size said.class said.tags)))))
 
 -- the versions of an object are asked for
 abbrev pub stack_meant : List ℕ → List ℕ → Meant
-stack_meant name part = if_name name (by_key part (λ key. asks (Query (Stack name key))))
+stack_meant name part = if_name name (by_object_key part (λ key. asks (Query (Stack name key))))
 
 -- an object is deleted
 abbrev pub delete_meant : List ℕ → List ℕ → Meant
-delete_meant name part = if_name name (by_key part (λ key. asks (Command (Delete name key))))
+delete_meant name part = if_name name (by_object_key part (λ key. asks (Command (Delete name key))))
 
 -- a version is removed
 abbrev pub remove_meant : List ℕ → List ℕ → List ℕ → Meant
 remove_meant name id part =
-    if_name name (by_version id (λ version. by_key part (λ key. asks (Command (DeleteVersion name key version)))))
+    if_name name
+    (by_version id (λ version. by_object_key part (λ key. asks (Command (DeleteVersion name key version)))))
 
 -- the tags of a version are set
 abbrev pub set_tags_meant : List ℕ → List ℕ → List ℕ → List ℕ → Meant
 set_tags_meant name id part body =
-    if_name name (by_version id (λ version. by_key part (λ key.
+    if_name name (by_version id (λ version. by_object_key part (λ key.
     by_body (tagging_of body) (λ tags. asks (Command (SetTags name key version tags))))))
 
 -- an upload is started
 abbrev pub start_meant : List ℕ → List ℕ → List ℕ → Meant
 start_meant name part body =
-    if_name name (by_key part (λ key.
-    by_body (upload_of body) (λ said. asks (Command (StartUpload name key said.class said.tags)))))
+    if_name name (by_object_key part (λ key.
+    by_body (upload_said body) (λ said. asks (Command (StartUpload name key said.class said.tags)))))
 
 -- an upload is asked for, completed or aborted
 abbrev pub shown_meant : List ℕ → List ℕ → Meant
@@ -201,7 +202,7 @@ bucket_meant method name =
 unfoldable pub versioning_meant : List ℕ → List ℕ → List ℕ → Meant
 versioning_meant method name body =
     if is_put method
-    then if_name name (by_body (status_of body) (λ enabled. asks (Command (SetVersioning name enabled))))
+    then if_name name (by_body (versioning_of body) (λ enabled. asks (Command (SetVersioning name enabled))))
     else refuses not_built
 
 -- the lifecycle configuration of a bucket

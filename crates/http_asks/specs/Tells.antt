@@ -14,10 +14,10 @@ TellsRefused before not_built last after = StandsUnbuilt before × (last ≡ tru
 TellsRefused before broken last after = StandsItem before (refuses broken) last after
 
 -- what was heard stands at the front of the stream, which is then the later one
-abbrev pub Tells : Option (List ℕ) → Heard → Option (List ℕ) → Type 0
-Tells before (Asked ask last) after = StandsItem before (asks ask) last after
-Tells before (Bad bad last) after = TellsRefused before (refused_of bad) last after
-Tells before End after = IsAtEnd before
+abbrev pub TellsHeard : Option (List ℕ) → Heard → Option (List ℕ) → Type 0
+TellsHeard before (Asked ask last) after = StandsItem before (asks ask) last after
+TellsHeard before (Bad bad last) after = TellsRefused before (refused_of bad) last after
+TellsHeard before End after = IsAtEnd before
 
 -- P, where the rule is one that an item breaks
 abbrev pub IfServed : Refused → Type 0 → Type 0

@@ -1,9 +1,9 @@
 // Why a request asks nothing.
 ghost use Rattle.std.specs.Prelude.{◌≡◌, Some, option_map};
-ghost use Rattle.http_bodies.specs.Flaws.{flaw_of};
+ghost use Rattle.http_bodies.specs.Flaws.{body_flaw_of};
 ghost use Rattle.http_asks.specs.Faults.{OnBroken};
 ghost use Rattle.http_asks.specs.Meaning.{flawed, broken_by, refused_by};
-ghost use Rattle.rules_json.specs.Faults.{told_of};
+ghost use Rattle.rules_json.specs.Faults.{told_fault};
 ghost use Rattle.tariff.specs.Faults as prices;
 
 use class_rules::Class;
@@ -96,7 +96,7 @@ pub(crate) enum Fault {
 }
 
 pub(crate) fn fault_of(fault: BodyFault) -> Fault
-    ensures { OnBroken result (λ broken. option_map flawed (flaw_of fault) ≡ Some broken) }
+    ensures { OnBroken result (λ broken. option_map flawed (body_flaw_of fault) ≡ Some broken) }
 {
     match fault {
         BodyFault::BadBody { field } => Fault::Bad(Bad::BadBody { field }),
@@ -108,7 +108,7 @@ pub(crate) fn fault_of(fault: BodyFault) -> Fault
 }
 
 pub(crate) fn rules_fault(fault: RulesFault) -> Fault
-    ensures { OnBroken result (λ broken. option_map broken_by (told_of fault) ≡ Some broken) }
+    ensures { OnBroken result (λ broken. option_map broken_by (told_fault fault) ≡ Some broken) }
 {
     match fault {
         RulesFault::NotADate => Fault::Bad(Bad::NotADate),
@@ -129,7 +129,7 @@ pub(crate) fn rules_fault(fault: RulesFault) -> Fault
 }
 
 pub(crate) fn tariff_fault(fault: TariffFault) -> Fault
-    ensures { OnBroken result (λ broken. option_map refused_by (prices.flaw_of fault) ≡ Some broken) }
+    ensures { OnBroken result (λ broken. option_map refused_by (prices.tariff_flaw_of fault) ≡ Some broken) }
 {
     match fault {
         TariffFault::NotToml => Fault::Bad(Bad::NotToml),

@@ -1,11 +1,11 @@
 // What the bodies of requests say.
 ghost use Rattle.std.specs.Prelude.{◌≡◌, Ok, IfOk, IfErr};
-ghost use Rattle.http_bodies.specs.Multipart.{upload_of, part_of};
+ghost use Rattle.http_bodies.specs.Multipart.{upload_said, part_of};
 ghost use Rattle.http_bodies.specs.Puts.{put_of};
-ghost use Rattle.http_bodies.specs.Settings.{status_of, tagging_of};
+ghost use Rattle.http_bodies.specs.Settings.{versioning_of, tagging_of};
 ghost use Rattle.rules_json.specs.Reading.{rules_of};
 ghost use Rattle.tariff.specs.Reading.{tariff_of};
-ghost use Rattle.http_asks.specs.Faults.{OnBroken, HasFault, HasPriceFlaw, IsSaid};
+ghost use Rattle.http_asks.specs.Faults.{OnBroken, HasFault, HasPriceFlaw, IsFromBody};
 
 use crate::bad::{Fault, fault_of, rules_fault, tariff_fault};
 use http_bodies::{PutBody, UploadBody, read_part, read_put, read_status, read_tags, read_upload};
@@ -17,7 +17,7 @@ use tariff::Tariff;
 
 #[tactic(auto, using(crate::proofs::AskLemmas::flaw_told))]
 pub(crate) fn put_body(alloc: Global, bytes: &[u8]) -> Result<PutBody, Fault>
-    ensures { IsSaid (put_of bytes.now) result }
+    ensures { IsFromBody (put_of bytes.now) result }
 {
     match read_put(alloc, bytes) {
         Ok(body) => Ok(body),
@@ -27,7 +27,7 @@ pub(crate) fn put_body(alloc: Global, bytes: &[u8]) -> Result<PutBody, Fault>
 
 #[tactic(auto, using(crate::proofs::AskLemmas::flaw_told))]
 pub(crate) fn status_body(alloc: Global, bytes: &[u8]) -> Result<bool, Fault>
-    ensures { IsSaid (status_of bytes.now) result }
+    ensures { IsFromBody (versioning_of bytes.now) result }
 {
     match read_status(alloc, bytes) {
         Ok(enabled) => Ok(enabled),
@@ -37,7 +37,7 @@ pub(crate) fn status_body(alloc: Global, bytes: &[u8]) -> Result<bool, Fault>
 
 #[tactic(auto, using(crate::proofs::AskLemmas::flaw_told))]
 pub(crate) fn tags_body(alloc: Global, bytes: &[u8]) -> Result<Tags, Fault>
-    ensures { IsSaid (tagging_of bytes.now) result }
+    ensures { IsFromBody (tagging_of bytes.now) result }
 {
     match read_tags(alloc, bytes) {
         Ok(tags) => Ok(tags),
@@ -47,7 +47,7 @@ pub(crate) fn tags_body(alloc: Global, bytes: &[u8]) -> Result<Tags, Fault>
 
 #[tactic(auto, using(crate::proofs::AskLemmas::flaw_told))]
 pub(crate) fn upload_body(alloc: Global, bytes: &[u8]) -> Result<UploadBody, Fault>
-    ensures { IsSaid (upload_of bytes.now) result }
+    ensures { IsFromBody (upload_said bytes.now) result }
 {
     match read_upload(alloc, bytes) {
         Ok(body) => Ok(body),
@@ -57,7 +57,7 @@ pub(crate) fn upload_body(alloc: Global, bytes: &[u8]) -> Result<UploadBody, Fau
 
 #[tactic(auto, using(crate::proofs::AskLemmas::flaw_told))]
 pub(crate) fn part_body(alloc: Global, bytes: &[u8]) -> Result<u64, Fault>
-    ensures { IsSaid (part_of bytes.now) result }
+    ensures { IsFromBody (part_of bytes.now) result }
 {
     match read_part(alloc, bytes) {
         Ok(size) => Ok(size),

@@ -16,4 +16,4 @@ mod upload_asks;
 
 pub use bad::Bad;
 pub use laws::{means_one_thing, one_item};
-pub use reader::{Heard, Reader, Stop};
+pub use reader::{Heard, Reader};

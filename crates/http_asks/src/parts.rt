@@ -5,7 +5,7 @@ ghost use Rattle.office_base.specs.Names.{is_bucket_name};
 ghost use Rattle.moments.specs.Dates.{is_month, year_in, month_in};
 ghost use Rattle.moments.specs.Months.{month_number};
 ghost use Rattle.http_routes.specs.Spelled.{key_of};
-ghost use Rattle.http_asks.specs.Faults.{OnBroken, IsRead};
+ghost use Rattle.http_asks.specs.Faults.{OnBroken, IsFromPath};
 ghost use Rattle.http_asks.specs.Meaning.{bad_bucket_name, bad_key, not_a_month};
 ghost use Rattle.http_asks.specs.Meaning.{no_such_version, no_such_upload, bad_part};
 ghost use Rattle.http_asks.specs.Numbers.{number_in, version_in, are_digits, is_part_number, part_in};
@@ -54,7 +54,7 @@ pub(crate) fn month_of(part: &str) -> Result<Month, Fault>
 
 #[tactic(auto, using(crate::proofs::NumberLemmas::no_version))]
 pub(crate) fn version_id(part: &str) -> Result<VersionId, Fault>
-    ensures { IsRead (version_in part.now) no_such_version result }
+    ensures { IsFromPath (version_in part.now) no_such_version result }
 {
     match VersionId::read(part) {
         Some(id) => Ok(id),
@@ -65,7 +65,7 @@ pub(crate) fn version_id(part: &str) -> Result<VersionId, Fault>
 // The number of an upload is written as that of a version.
 #[tactic(auto, using(crate::proofs::NumberLemmas::upload_texts))]
 pub(crate) fn upload_number(part: &str) -> Result<u64, Fault>
-    ensures { IsRead (number_in part.now) no_such_upload result }
+    ensures { IsFromPath (number_in part.now) no_such_upload result }
 {
     match VersionId::read(part) {
         Some(id) => match id {
@@ -91,7 +91,7 @@ fn is_part_number(text: &str) -> bool
 
 #[tactic(auto, using(crate::proofs::NumberLemmas::part_read), unfolding(crate::specs::Numbers::part_in))]
 pub(crate) fn part_number(part: &str) -> Result<u32, Fault>
-    ensures { IsRead (part_in part.now) bad_part result }
+    ensures { IsFromPath (part_in part.now) bad_part result }
 {
     if !is_part_number(part) {
         return Err(Fault::Bad(Bad::BadPart));

@@ -12,7 +12,7 @@ ghost use Rattle.http_asks.specs.Faults.{refused_of};
 ghost use Rattle.http_asks.specs.Hearing.{IsHeard, last_of};
 ghost use Rattle.http_asks.specs.Meaning.{Means};
 ghost use Rattle.http_asks.specs.Streams.{WantsMemory};
-ghost use Rattle.http_asks.specs.Tells.{Tells, OnItem};
+ghost use Rattle.http_asks.specs.Tells.{TellsHeard, OnItem};
 
 use crate::asks::ask_of;
 use crate::bad::{Bad, Fault};
@@ -44,17 +44,6 @@ pub enum Heard {
     End,
 }
 
-/// Why nothing was heard.
-#[derive(Clone, Copy, Debug, PartialEq, Eq)]
-pub enum Stop {
-    /// The source failed.
-    ReadFault,
-    /// 2^40 bytes were taken, and a further read is needed.
-    Spent,
-    /// Memory ran out. Nothing was heard.
-    NoMemory,
-}
-
 /// What reads the messages of a stream, one after another: the bytes that were taken and not used, and the routes.
 #[derive(Drop)]
 pub struct Reader {
@@ -68,18 +57,6 @@ impl Model for Reader {
     ghost Value = { Held };
 
     ghost view = { λ r. r.buffer };
-}
-
-fn stop_of(stop: MessageStop) -> Stop
-    ensures fault { result ≡ Stop.ReadFault → stop ≡ MessageStop.ReadFault }
-    ensures spent { result ≡ Stop.Spent → stop ≡ MessageStop.Spent }
-    ensures no_memory { result ≡ Stop.NoMemory → stop ≡ MessageStop.NoMemory }
-{
-    match stop {
-        MessageStop::ReadFault => Stop::ReadFault,
-        MessageStop::Spent => Stop::Spent,
-        MessageStop::NoMemory => Stop::NoMemory,
-    }
 }
 
 // What is not served is the last of its session.
@@ -143,8 +120,8 @@ impl Reader {
     /// `Spent`: 2^40 = 1,099,511,627,776 bytes were taken and a further read is needed, also where it would find the
     /// end. `ReadFault`: the source failed. `NoMemory`: memory ran out for a request whose head was read. Nothing was
     /// heard then, and nothing is promised of a later call.
-    pub fn next<R: Source>(&mut self, alloc: Global, source: &mut R) -> Result<Heard, Stop>
-        ensures tells { IfOk result (λ heard. Tells (prepend_known self.old.bytes (R.left source.old)) heard
+    pub fn next<R: Source>(&mut self, alloc: Global, source: &mut R) -> Result<Heard, MessageStop>
+        ensures tells { IfOk result (λ heard. TellsHeard (prepend_known self.old.bytes (R.left source.old)) heard
             (prepend_known self.new.bytes (R.left source.new))) }
         ensures given { Given self.old.taken self.new.taken (R.left source.old) (R.left source.new) }
         ensures limit { self.new.taken ≤ take_limit }
@@ -157,21 +134,24 @@ impl Reader {
             (AreEnough self.new.taken (R.left source.new))) }
         // The end is found by a read, so fewer bytes than the limit were taken.
         ensures at_end { result ≡ Ok Heard.End → (self.new.taken < take_limit) × IsAtEnd (R.left source.new) }
-        ensures spent { IsErrOf result Stop.Spent → (self.new.taken ≡ take_limit)
+        ensures spent { IsErrOf result MessageStop.Spent → (self.new.taken ≡ take_limit)
             × Gave self.old self.new (R.left source.old) (R.left source.new) IsUnsettled }
+        // The source fails only where what was taken settles nothing.
+        ensures failed { IsErrOf result MessageStop.ReadFault
+            → Gave self.old self.new (R.left source.old) (R.left source.new) IsUnsettled }
         // Memory is wanted for a request whose head was read.
-        ensures no_memory { IsErrOf result Stop.NoMemory
+        ensures no_memory { IsErrOf result MessageStop.NoMemory
             → Gave self.old self.new (R.left source.old) (R.left source.new) WantsMemory }
         // A message whose bytes are held is heard without a read.
         ensures settled { (IsUnsettled self.old.bytes → ⊥) → source.new ≡ source.old }
         ensures stream { R.stream source.new ≡ R.stream source.old }
         ensures later { R.faults source.old ≤ R.faults source.new }
-        ensures fault { IsErrOf result Stop.ReadFault → Rose (R.faults source.old) (R.faults source.new) }
+        ensures fault { IsErrOf result MessageStop.ReadFault → Rose (R.faults source.old) (R.faults source.new) }
     {
         match read_message(alloc, source, &mut self.buffer) {
             Ok(Next::Request(message)) => {
                 let Ok(heard) = self.read(alloc, &message) else {
-                    return Err(Stop::NoMemory);
+                    return Err(MessageStop::NoMemory);
                 };
                 self.buffer.drop_front(message.used());
                 Ok(heard)
@@ -181,7 +161,7 @@ impl Reader {
                 last: true,
             }),
             Ok(Next::End) => Ok(Heard::End),
-            Err(stop) => Err(stop_of(stop)),
+            Err(stop) => Err(stop),
         }
     }
 }

@@ -1,5 +1,5 @@
 use super::*;
-use http_wire::MemorySource;
+use http_wire::{MemorySource, MessageStop};
 use office_base::{Key, Tags, VersionId};
 use office_types::{Ask, Command, Query};
 use std::alloc::Global;
@@ -228,7 +228,7 @@ fn hear(
             (if last { " last" } else { "; " }, last)
         }
         Ok(Heard::End) => ("End", true),
-        Err(Stop::ReadFault) => ("ReadFault", true),
+        Err(MessageStop::ReadFault) => ("ReadFault", true),
         Err(_) => ("Stop", true),
     };
     text.push_str(ending)?;
@@ -689,7 +689,8 @@ const ENDINGS: [(&str, &str); 10] = [
         "BadBucketName last",
     ),
     (
-        "PUT /buckets/logs HTTP/1.1\r\nContent-Length: 40\r\n\r\n0123456789012345678901234567890123456789GET /buckets/logs HTTP/1.0\r\n\r\n",
+        "PUT /buckets/logs HTTP/1.1\r\nContent-Length: 40\r\n\r\n0123456789012345678901234567890123456789GET \
+/buckets/logs HTTP/1.0\r\n\r\n",
         "CreateBucket logs; Bucket logs last",
     ),
     (

@@ -5,7 +5,7 @@ use Rattle.std.proofs.lemmas.Str.{IsUtf8-from_is_utf8, is_utf8-from_IsUtf8}
 use Rattle.serde_json.specs.Data.{Data}
 use Rattle.serde_json.specs.Read.{read}
 use Rattle.serde_json.specs.Find.{as_object}
-use Rattle.http_bodies.specs.Bodies.{json_of, body_of}
+use Rattle.http_bodies.specs.Bodies.{json_of, body_object}
 use Rattle.http_bodies.specs.Flaws.{BodyFlaw, bad_body}
 
 json_is : (text : List ℕ) (value : Data) → IsUtf8 text → read text ≡ Some value → json_of text ≡ Some value
@@ -18,20 +18,14 @@ no_json_by text true is none = rw is (none (IsUtf8-from_is_utf8 text is))
 no_json_by text false is none = rw is refl
 
 -- a JSON text of an object is a body
-pub body_is : (bytes : List ℕ) (value : Data) → (length bytes == 0) ≡ false → IsUtf8 bytes → read bytes ≡ Some value → is_some (as_object value) ≡ true → body_of bytes ≡ Some value
-unfolding body_of
+pub body_is : (bytes : List ℕ) (value : Data) → (length bytes == 0) ≡ false → IsUtf8 bytes → read bytes ≡ Some value → is_some (as_object value) ≡ true → body_object bytes ≡ Some value
+unfolding body_object
 body_is [] value some utf8 is object = absurd cc
 body_is (b ∷ bytes) value some utf8 is object = rw (json_is (b ∷ bytes) value utf8 is, object) refl
 
--- a JSON text of another kind is no body
-pub no_object : (bytes : List ℕ) (value : Data) → (length bytes == 0) ≡ false → IsUtf8 bytes → read bytes ≡ Some value → is_some (as_object value) ≡ false → body_of bytes ≡ None
-unfolding body_of
-no_object [] value some utf8 is other = absurd cc
-no_object (b ∷ bytes) value some utf8 is other = rw (json_is (b ∷ bytes) value utf8 is, other) refl
-
 -- what is no JSON text is no body
-pub no_text : (bytes : List ℕ) → (length bytes == 0) ≡ false → (IsUtf8 bytes → read bytes ≡ None) → body_of bytes ≡ None
-unfolding body_of
+pub no_text : (bytes : List ℕ) → (length bytes == 0) ≡ false → (IsUtf8 bytes → read bytes ≡ None) → body_object bytes ≡ None
+unfolding body_object
 no_text [] some none = absurd cc
 no_text (b ∷ bytes) some none = rw (no_json_by (b ∷ bytes) (is_utf8 (b ∷ bytes)) refl none) refl
 

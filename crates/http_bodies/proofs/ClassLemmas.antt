@@ -3,10 +3,9 @@ use Rattle.std.proofs.Common.{◌≡◌, ◌≢◌, ℕ, Bool, true, false, List
 use Rattle.std.specs.List.{find}
 use Rattle.std.specs.Str.{bytes_eq}
 use Rattle.std.proofs.lemmas.Slice.Eq.{bytes_eq-Decides}
-use Rattle.class_rules.specs.Classes.{all_classes, class_name}
+use Rattle.class_rules.specs.Classes.{all_classes, class_name, class_with}
 use Rattle.class_rules.specs.declared.class.Class.{Class}
 use Rattle.class_rules.specs.declared.class.Class.TheVariants.{Standard, StandardIa, OnezoneIa, GlacierIr, Glacier, DeepArchive}
-use Rattle.http_bodies.specs.Ranges.{class_with}
 
 -- a name finds its class
 pub with_name : (name : List ℕ) (class : Class) → name ≡ class_name class → class_with name ≡ Some class

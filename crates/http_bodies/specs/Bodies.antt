@@ -1,12 +1,13 @@
 -- The JSON body of a request (RFC 8259) and the fields that it has.
-use Rattle.std.specs.Prelude.{ℕ, List, [], ◌∷◌, Bool, not, if◌then◌else◌}
+use Rattle.std.specs.Prelude.{ℕ, List, [], ◌∷◌, not, if◌then◌else◌}
 use Rattle.std.specs.Prelude.{Option, Some, None, option_map, option_and_then, is_some}
-use Rattle.std.specs.List.{find, list_any}
-use Rattle.std.specs.Str.{is_utf8, bytes_eq}
+use Rattle.std.specs.List.{find}
+use Rattle.std.specs.Str.{is_utf8}
 use Rattle.serde_json.specs.Data.{Data, object, Members, no_members, member}
 use Rattle.serde_json.specs.Read.{read}
 use Rattle.serde_json.specs.Find.{get, as_object, as_number, as_u64, as_str}
 use Rattle.office_base.specs.Tags.{Tag}
+use Rattle.office_base.specs.Texts.{is_among}
 
 -- the value of a text in UTF-8 (RFC 8259, "Character Encoding"); an object has each name once, in the order of the
 -- names' bytes, with the value that stands last (own; RFC 8259, "Objects", leaves the choice open)
@@ -18,18 +19,14 @@ abbrev pub if_object : Data → Option Data
 if_object value = if is_some (as_object value) then Some value else None
 
 -- the object that a body is; an empty body is one without fields (own)
-unfoldable pub body_of : List ℕ → Option Data
-body_of [] = Some (object no_members)
-body_of (byte ∷ bytes) = option_and_then if_object (json_of (byte ∷ bytes))
+unfoldable pub body_object : List ℕ → Option Data
+body_object [] = Some (object no_members)
+body_object (byte ∷ bytes) = option_and_then if_object (json_of (byte ∷ bytes))
 
 -- the names of members, in their order
 abbrev pub names_of : Members → List (List ℕ)
 names_of no_members = []
 names_of (member name value ms) = name ∷ names_of ms
-
--- the name is one of these
-abbrev pub is_among : List (List ℕ) → List ℕ → Bool
-is_among known name = list_any (bytes_eq name) known
 
 -- the first field, in the order of the names' bytes, that is none of these
 abbrev pub first_unknown : List (List ℕ) → Data → Option (List ℕ)

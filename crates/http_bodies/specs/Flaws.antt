@@ -1,7 +1,7 @@
 -- What is wrong with a body.
 use Rattle.std.specs.Prelude.{◌≡◌, ℕ, List, [], Option, Some, None, Result, Ok, Err, IfSome, ok_or, string_bytes}
 use Rattle.serde_json.specs.Data.{Data}
-use Rattle.http_bodies.specs.Bodies.{body_of, first_unknown}
+use Rattle.http_bodies.specs.Bodies.{body_object, first_unknown}
 use Rattle.http_bodies.specs.declared.fault.BodyFault.{BodyFault}
 use Rattle.http_bodies.specs.declared.fault.BodyFault.TheVariants.{BadBody, BadSize, UnsupportedClass}
 use Rattle.http_bodies.specs.declared.fault.BodyFault.TheVariants.{BadTags, NoMemory}
@@ -20,17 +20,17 @@ abbrev pub ◌>>=◌ : {A B : Type 0} → Result A BodyFlaw → (A → Result B 
 (Err flaw) >>= f = Err flaw
 
 -- the flaw that a fault tells of; none where memory ran out
-abbrev pub flaw_of : BodyFault → Option BodyFlaw
-flaw_of (BadBody field) = Some (bad_body (string_bytes field))
-flaw_of BadSize = Some bad_size
-flaw_of (UnsupportedClass name) = Some (unsupported_class (string_bytes name))
-flaw_of BadTags = Some bad_tags
-flaw_of NoMemory = None
+abbrev pub body_flaw_of : BodyFault → Option BodyFlaw
+body_flaw_of (BadBody field) = Some (bad_body (string_bytes field))
+body_flaw_of BadSize = Some bad_size
+body_flaw_of (UnsupportedClass name) = Some (unsupported_class (string_bytes name))
+body_flaw_of BadTags = Some bad_tags
+body_flaw_of NoMemory = None
 
 -- an answer, seen by view, is what reading gives, unless memory ran out
-abbrev pub Gives : {X Y : Type 0} → (X → Y) → Result X BodyFault → Result Y BodyFlaw → Type 0
-Gives view (Ok x) read = read ≡ Ok (view x)
-Gives view (Err fault) read = IfSome (flaw_of fault) (λ flaw. read ≡ Err flaw)
+abbrev pub BodySays : {X Y : Type 0} → (X → Y) → Result X BodyFault → Result Y BodyFlaw → Type 0
+BodySays view (Ok x) read = read ≡ Ok (view x)
+BodySays view (Err fault) read = IfSome (body_flaw_of fault) (λ flaw. read ≡ Err flaw)
 
 -- a body without a field that is unknown
 abbrev pub if_known : Data → Option (List ℕ) → Result Data BodyFlaw
@@ -43,4 +43,4 @@ with_fields known body = if_known body (first_unknown known body)
 
 -- the object that the bytes of a body are, which has these fields alone
 abbrev pub body_with : List (List ℕ) → List ℕ → Result Data BodyFlaw
-body_with known bytes = ok_or (body_of bytes) (bad_body []) >>= with_fields known
+body_with known bytes = ok_or (body_object bytes) (bad_body []) >>= with_fields known

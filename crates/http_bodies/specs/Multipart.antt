@@ -15,8 +15,8 @@ upload_in_range name pairs = do
   Ok (record { class = class; tags = tags })
 
 -- what the bytes of the body that starts an upload say, or the first rule that they break
-unfoldable pub upload_of : List ℕ → Result UploadBody BodyFlaw
-upload_of bytes = do
+unfoldable pub upload_said : List ℕ → Result UploadBody BodyFlaw
+upload_said bytes = do
   body ← body_with (codes "class" ∷ codes "tags" ∷ []) bytes
   class ← ok_or (if_held as_str (codes "class") body) (bad_body (codes "class"))
   tags ← ok_or (if_held text_pairs (codes "tags") body) (bad_body (codes "tags"))

@@ -1,10 +1,8 @@
 -- The ranges of what fields hold.
 use Rattle.std.specs.Prelude.{ℕ, List, [], Option, Some, None, Result, Ok, Err, ok_or, nat_lt, if◌then◌else◌}
-use Rattle.std.specs.List.{find}
-use Rattle.std.specs.Str.{bytes_eq}
 use Rattle.office_base.specs.Sizes.{largest_size}
 use Rattle.office_base.specs.Tags.{Tag, are_tags, by_key}
-use Rattle.class_rules.specs.Classes.{all_classes, class_name}
+use Rattle.class_rules.specs.Classes.{class_with}
 use Rattle.class_rules.specs.declared.class.Class.{Class}
 use Rattle.class_rules.specs.declared.class.Class.TheVariants.{Standard}
 use Rattle.http_bodies.specs.Flaws.{BodyFlaw, bad_size, unsupported_class, bad_tags}
@@ -12,10 +10,6 @@ use Rattle.http_bodies.specs.Flaws.{BodyFlaw, bad_size, unsupported_class, bad_t
 -- a size has at most 5 TiB (S3 User Guide, "Uploading objects")
 abbrev pub size_in_range : ℕ → Result ℕ BodyFlaw
 size_in_range bytes = if nat_lt largest_size bytes then Err bad_size else Ok bytes
-
--- the class with this name (S3 User Guide, "Understanding and managing Amazon S3 storage classes")
-abbrev pub class_with : List ℕ → Option Class
-class_with name = find (λ class. bytes_eq name (class_name class)) all_classes
 
 -- a class that is not named is STANDARD (the same page)
 abbrev pub class_in_range : Option (List ℕ) → Result Class BodyFlaw

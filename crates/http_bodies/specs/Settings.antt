@@ -16,14 +16,14 @@ status_named word =
     else if bytes_eq word (codes "Suspended") then Some false
     else None
 
-abbrev pub status : Data → Option Bool
-status value = option_and_then status_named (as_str value)
+abbrev pub versioning_status : Data → Option Bool
+versioning_status value = option_and_then status_named (as_str value)
 
 -- the versioning that the bytes of a body ask for, or the first rule that they break
-unfoldable pub status_of : List ℕ → Result Bool BodyFlaw
-status_of bytes = do
+unfoldable pub versioning_of : List ℕ → Result Bool BodyFlaw
+versioning_of bytes = do
   body ← body_with (codes "Status" ∷ []) bytes
-  ok_or (held status (codes "Status") body) (bad_body (codes "Status"))
+  ok_or (held versioning_status (codes "Status") body) (bad_body (codes "Status"))
 
 -- the tags that the bytes of a body ask for, or the first rule that they break (S3 User Guide, "Categorizing your
 -- objects using tags")

@@ -6,19 +6,20 @@ ghost use Rattle.std.specs.Map.{keys_of};
 ghost use Rattle.serde_json.specs.Find.{as_str};
 ghost use Rattle.serde_json.specs.View.{view, members_view};
 ghost use Rattle.office_base.specs.Tags.{tags_of};
-ghost use Rattle.http_bodies.specs.Bodies.{body_of, names_of, is_among, first_unknown, whole_number};
+ghost use Rattle.office_base.specs.Texts.{is_among};
+ghost use Rattle.http_bodies.specs.Bodies.{body_object, names_of, first_unknown, whole_number};
 ghost use Rattle.http_bodies.specs.Bodies.{text_members, text_pairs, held, if_held};
-ghost use Rattle.http_bodies.specs.Flaws.{Gives, bad_body, with_fields, body_with};
-ghost use Rattle.http_bodies.specs.Settings.{status_named, status};
+ghost use Rattle.http_bodies.specs.Flaws.{BodySays, bad_body, with_fields, body_with};
+ghost use Rattle.http_bodies.specs.Settings.{status_named, versioning_status};
 
 use crate::fault::{BodyFault, bad_field};
 use serde_json::{Map, Value};
 use std::alloc::{AllocError, Global};
 
 // Reads the object that a body is.
-#[tactic(auto, unfolding(crate::specs::Bodies::body_of, crate::specs::Bodies::json_of))]
+#[tactic(auto, unfolding(crate::specs::Bodies::body_object, crate::specs::Bodies::json_of))]
 fn read_body(alloc: Global, bytes: &[u8]) -> Result<Value, BodyFault>
-    ensures { Gives view result (ok_or (body_of bytes.now) (bad_body [])) }
+    ensures { BodySays view result (ok_or (body_object bytes.now) (bad_body [])) }
 {
     if bytes.is_empty() {
         return Ok(Value::Object(Map::new(alloc)));
@@ -85,7 +86,7 @@ fn first_unknown<'b>(body: &'b Value, known: &[&str]) -> Option<&'b str>
 
 // Refuses a field that is none of these.
 fn check_fields(alloc: Global, body: &Value, known: &[&str]) -> Result<(), BodyFault>
-    ensures { Gives (λ _. view body.now) result (with_fields (map (λ k. k.now) known.now) (view body.now)) }
+    ensures { BodySays (λ _. view body.now) result (with_fields (map (λ k. k.now) known.now) (view body.now)) }
 {
     match first_unknown(body, known) {
         Some(name) => Err(bad_field(alloc, name)),
@@ -95,7 +96,7 @@ fn check_fields(alloc: Global, body: &Value, known: &[&str]) -> Result<(), BodyF
 
 // Reads the object that a body is, which has these fields alone.
 pub(crate) fn read_object(alloc: Global, bytes: &[u8], known: &[&str]) -> Result<Value, BodyFault>
-    ensures { Gives view result (body_with (map (λ k. k.now) known.now) bytes.now) }
+    ensures { BodySays view result (body_with (map (λ k. k.now) known.now) bytes.now) }
 {
     let body = read_body(alloc, bytes)?;
     check_fields(alloc, &body, known)?;
@@ -104,7 +105,7 @@ pub(crate) fn read_object(alloc: Global, bytes: &[u8], known: &[&str]) -> Result
 
 // The whole number of a field that has to be there.
 pub(crate) fn whole_number(alloc: Global, body: &Value, name: &str) -> Result<u64, BodyFault>
-    ensures { Gives (λ n. n) result (ok_or (held whole_number name.now (view body.now)) (bad_body name.now)) }
+    ensures { BodySays (λ n. n) result (ok_or (held whole_number name.now (view body.now)) (bad_body name.now)) }
 {
     match body.get(name) {
         Some(value) => match value.as_u64() {
@@ -128,7 +129,7 @@ fn status_named(word: &str) -> Option<bool>
 }
 
 fn status_in(value: &Value) -> Option<bool>
-    ensures { result ≡ status (view value.now) }
+    ensures { result ≡ versioning_status (view value.now) }
 {
     match value.as_str() {
         Some(word) => status_named(word),
@@ -138,7 +139,8 @@ fn status_in(value: &Value) -> Option<bool>
 
 // Whether versioning is enabled, by a field that has to be there.
 pub(crate) fn status(alloc: Global, body: &Value, name: &str) -> Result<bool, BodyFault>
-    ensures { Gives (λ enabled. enabled) result (ok_or (held status name.now (view body.now)) (bad_body name.now)) }
+    ensures { BodySays (λ enabled. enabled) result
+        (ok_or (held versioning_status name.now (view body.now)) (bad_body name.now)) }
 {
     match body.get(name) {
         Some(value) => match status_in(value) {
@@ -155,7 +157,7 @@ pub(crate) fn text<'b>(
     body: &'b Value,
     name: &str,
 ) -> Result<Option<&'b str>, BodyFault>
-    ensures { Gives (λ found. option_map (λ t. t.now) found) result
+    ensures { BodySays (λ found. option_map (λ t. t.now) found) result
         (ok_or (if_held as_str name.now (view body.now)) (bad_body name.now)) }
 {
     match body.get(name) {
@@ -195,7 +197,7 @@ fn text_pairs(alloc: Global, value: Value) -> Result<Option<Vec<(String, String)
 
 // The pairs of texts that the field of this name holds.
 fn pairs_of(alloc: Global, value: Value, name: &str) -> Result<Vec<(String, String)>, BodyFault>
-    ensures { Gives (λ pairs. tags_of pairs.items) result (ok_or (text_pairs (view value)) (bad_body name.now)) }
+    ensures { BodySays (λ pairs. tags_of pairs.items) result (ok_or (text_pairs (view value)) (bad_body name.now)) }
 {
     match text_pairs(alloc, value) {
         Ok(Some(pairs)) => Ok(pairs),
@@ -210,7 +212,7 @@ pub(crate) fn take_needed_pairs(
     body: &mut Value,
     name: &str,
 ) -> Result<Vec<(String, String)>, BodyFault>
-    ensures { Gives (λ pairs. tags_of pairs.items) result
+    ensures { BodySays (λ pairs. tags_of pairs.items) result
         (ok_or (held text_pairs name.now (view body.old)) (bad_body name.now)) }
 {
     match body.get_mut(name) {
@@ -225,7 +227,7 @@ pub(crate) fn take_pairs(
     body: &mut Value,
     name: &str,
 ) -> Result<Option<Vec<(String, String)>>, BodyFault>
-    ensures { Gives (λ found. option_map (λ pairs. tags_of pairs.items) found) result
+    ensures { BodySays (λ found. option_map (λ pairs. tags_of pairs.items) found) result
         (ok_or (if_held text_pairs name.now (view body.old)) (bad_body name.now)) }
 {
     match body.get_mut(name) {

@@ -1,6 +1,6 @@
 // What is wrong with a body.
 ghost use Rattle.std.specs.Prelude.{◌≡◌, IfSome};
-ghost use Rattle.http_bodies.specs.Flaws.{bad_body, flaw_of};
+ghost use Rattle.http_bodies.specs.Flaws.{bad_body, body_flaw_of};
 
 use std::alloc::Global;
 
@@ -22,7 +22,7 @@ pub enum BodyFault {
 
 // The fault of a field.
 pub(crate) fn bad_field(alloc: Global, field: &str) -> BodyFault
-    ensures { IfSome (flaw_of result) (λ flaw. flaw ≡ bad_body field.now) }
+    ensures { IfSome (body_flaw_of result) (λ flaw. flaw ≡ bad_body field.now) }
 {
     match String::from_str(alloc, field) {
         Ok(field) => BodyFault::BadBody { field },

@@ -1,6 +1,6 @@
 // The bodies of a multipart upload.
-ghost use Rattle.http_bodies.specs.Flaws.{Gives};
-ghost use Rattle.http_bodies.specs.Multipart.{upload_of, part_of};
+ghost use Rattle.http_bodies.specs.Flaws.{BodySays};
+ghost use Rattle.http_bodies.specs.Multipart.{upload_said, part_of};
 
 use crate::body::{read_object, take_pairs, text, whole_number};
 use crate::fault::BodyFault;
@@ -30,9 +30,9 @@ pub struct UploadBody {
 /// The first of these that is so. `BadBody`, with an empty field: the bytes are no JSON object. `BadBody`, with the
 /// field: it is none of the two (of these the first in the order of their bytes); `class` is no text; `tags` is no
 /// object of texts. `UnsupportedClass`, `BadTags`: a value is out of range. `NoMemory`: memory ran out.
-#[tactic(auto, unfolding(crate::specs::Multipart::upload_of, crate::specs::Multipart::upload_in_range))]
+#[tactic(auto, unfolding(crate::specs::Multipart::upload_said, crate::specs::Multipart::upload_in_range))]
 pub fn read_upload(alloc: Global, bytes: &[u8]) -> Result<UploadBody, BodyFault>
-    ensures exact { Gives (λ body. body) result (upload_of bytes.now) }
+    ensures exact { BodySays (λ body. body) result (upload_said bytes.now) }
 {
     let mut body = read_object(alloc, bytes, &["class", "tags"])?;
     let class = class_in_range(alloc, text(alloc, &body, "class")?);
@@ -56,7 +56,7 @@ pub fn read_upload(alloc: Global, bytes: &[u8]) -> Result<UploadBody, BodyFault>
 /// ran out.
 #[tactic(auto, unfolding(crate::specs::Multipart::part_of))]
 pub fn read_part(alloc: Global, bytes: &[u8]) -> Result<u64, BodyFault>
-    ensures exact { Gives (λ size. size) result (part_of bytes.now) }
+    ensures exact { BodySays (λ size. size) result (part_of bytes.now) }
 {
     let body = read_object(alloc, bytes, &["size"])?;
     whole_number(alloc, &body, "size")

@@ -1,5 +1,5 @@
 // The body of a PUT of an object.
-ghost use Rattle.http_bodies.specs.Flaws.{Gives};
+ghost use Rattle.http_bodies.specs.Flaws.{BodySays};
 ghost use Rattle.http_bodies.specs.Puts.{put_of};
 
 use crate::body::{read_object, take_pairs, text, whole_number};
@@ -38,7 +38,7 @@ pub struct PutBody {
 /// of range. `NoMemory`: memory ran out.
 #[tactic(auto, unfolding(crate::specs::Puts::put_of, crate::specs::Puts::put_in_range))]
 pub fn read_put(alloc: Global, bytes: &[u8]) -> Result<PutBody, BodyFault>
-    ensures exact { Gives (λ body. body) result (put_of bytes.now) }
+    ensures exact { BodySays (λ body. body) result (put_of bytes.now) }
 {
     let mut body = read_object(alloc, bytes, &["size", "class", "tags"])?;
     let size = whole_number(alloc, &body, "size")?;

@@ -1,7 +1,7 @@
 // What fields hold, in range.
 ghost use Rattle.std.specs.Prelude.{◌≡◌, option_map, IfSome};
 ghost use Rattle.office_base.specs.Tags.{tags_of};
-ghost use Rattle.http_bodies.specs.Flaws.{Gives, flaw_of, unsupported_class};
+ghost use Rattle.http_bodies.specs.Flaws.{BodySays, body_flaw_of, unsupported_class};
 ghost use Rattle.http_bodies.specs.Ranges.{size_in_range, class_in_range, tags_in_range};
 
 use crate::fault::BodyFault;
@@ -10,7 +10,7 @@ use office_base::{NameRefusal, Size, Tags};
 use std::alloc::Global;
 
 pub(crate) fn size_in_range(bytes: u64) -> Result<Size, BodyFault>
-    ensures { Gives (λ size. size) result (size_in_range bytes) }
+    ensures { BodySays (λ size. size) result (size_in_range bytes) }
 {
     match Size::of(bytes) {
         Ok(size) => Ok(size),
@@ -20,7 +20,7 @@ pub(crate) fn size_in_range(bytes: u64) -> Result<Size, BodyFault>
 
 // The fault of a name that no class has.
 fn unsupported(alloc: Global, name: &str) -> BodyFault
-    ensures { IfSome (flaw_of result) (λ flaw. flaw ≡ unsupported_class name.now) }
+    ensures { IfSome (body_flaw_of result) (λ flaw. flaw ≡ unsupported_class name.now) }
 {
     match String::from_str(alloc, name) {
         Ok(name) => BodyFault::UnsupportedClass { name },
@@ -30,7 +30,7 @@ fn unsupported(alloc: Global, name: &str) -> BodyFault
 
 #[tactic(auto, using(crate::proofs::ClassLemmas::with_name, crate::proofs::ClassLemmas::with_no_name))]
 pub(crate) fn class_in_range(alloc: Global, name: Option<&str>) -> Result<Class, BodyFault>
-    ensures { Gives (λ class. class) result (class_in_range (option_map (λ n. n.now) name.entry)) }
+    ensures { BodySays (λ class. class) result (class_in_range (option_map (λ n. n.now) name.entry)) }
 {
     match name {
         Some(name) => match Class::named(name) {
@@ -46,7 +46,7 @@ pub(crate) fn tags_in_range(
     alloc: Global,
     pairs: Option<Vec<(String, String)>>,
 ) -> Result<Tags, BodyFault>
-    ensures { Gives (λ tags. tags) result (tags_in_range (option_map (λ found. tags_of found.items) pairs)) }
+    ensures { BodySays (λ tags. tags) result (tags_in_range (option_map (λ found. tags_of found.items) pairs)) }
 {
     let pairs = match pairs {
         Some(pairs) => pairs,

@@ -1,6 +1,6 @@
 // The bodies that set the versioning of a bucket, or the tags of a version.
-ghost use Rattle.http_bodies.specs.Flaws.{Gives};
-ghost use Rattle.http_bodies.specs.Settings.{status_of, tagging_of};
+ghost use Rattle.http_bodies.specs.Flaws.{BodySays};
+ghost use Rattle.http_bodies.specs.Settings.{versioning_of, tagging_of};
 
 use crate::body::{read_object, status, take_needed_pairs};
 use crate::fault::BodyFault;
@@ -19,9 +19,9 @@ use std::alloc::Global;
 /// `BadBody`, with an empty field: the bytes are no JSON object. `BadBody`, with the field: it is not `Status` (of
 /// these the first in the order of their bytes); `Status` is missing, or is neither of the two texts. `NoMemory`:
 /// memory ran out.
-#[tactic(auto, unfolding(crate::specs::Settings::status_of))]
+#[tactic(auto, unfolding(crate::specs::Settings::versioning_of))]
 pub fn read_status(alloc: Global, bytes: &[u8]) -> Result<bool, BodyFault>
-    ensures exact { Gives (λ enabled. enabled) result (status_of bytes.now) }
+    ensures exact { BodySays (λ enabled. enabled) result (versioning_of bytes.now) }
 {
     let body = read_object(alloc, bytes, &["Status"])?;
     status(alloc, &body, "Status")
@@ -40,7 +40,7 @@ pub fn read_status(alloc: Global, bytes: &[u8]) -> Result<bool, BodyFault>
 /// range. `NoMemory`: memory ran out.
 #[tactic(auto, unfolding(crate::specs::Settings::tagging_of))]
 pub fn read_tags(alloc: Global, bytes: &[u8]) -> Result<Tags, BodyFault>
-    ensures exact { Gives (λ tags. tags) result (tagging_of bytes.now) }
+    ensures exact { BodySays (λ tags. tags) result (tagging_of bytes.now) }
 {
     let mut body = read_object(alloc, bytes, &["tags"])?;
     let pairs = take_needed_pairs(alloc, &mut body, "tags")?;

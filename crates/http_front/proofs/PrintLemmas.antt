@@ -1,14 +1,15 @@
 -- The texts, written out, and how long they are.
 use Rattle.std.proofs.Common.{◌≡◌, ℕ, ◌+◌, ◌*◌, ◌/◌, ◌%◌, ◌^◌, ◌<◌, ◌≤◌, List, [], ◌∷◌, ◌++◌, length, take, codes, decimal, refl, sym, ap, ◌∙◌, arith, append_assoc, length-append, unwrap_or, IfOk, OnOk, OnErr, Result, Ok, Err, IsOk}
-use Rattle.std.proofs.lemmas.Fmt.{decimal_digit, decimal_step, length-decimal-le}
+use Rattle.std.proofs.lemmas.Fmt.{decimal_digit, decimal_step}
 use Rattle.std.proofs.lemmas.List.{take_all}
 use Rattle.http.specs.StatusCode.{reason_phrase}
 use Rattle.json.specs.Print.{escape_byte, quoted}
 use Rattle.serde_json.proofs.OnLiterals.{serde_json_on_literals}
-use Rattle.http_text.specs.Room.{Holds, Puts}
+use Rattle.http_text.specs.Room.{HoldsText, Puts}
 use Rattle.http_text.specs.Replies.{error_text, head_text, reply_with}
 use Rattle.http_text.proofs.Texts.{error_is}
 use Rattle.http_text.proofs.Whole.{head_parts}
+use Rattle.http_text.proofs.Small.{decimal_small}
 use Rattle.meter_journal.specs.declared.fault.OpenFault.{OpenFault}
 use Rattle.meter_journal.specs.declared.fault.OpenFault.TheVariants as opening
 use Rattle.desk_core.specs.declared.fault.DeskFault.{DeskFault}
@@ -77,7 +78,9 @@ unfolding escape_byte
 no_memory_plain = refl
 
 pub no_memory_is : codes "HTTP/1.1 500 Internal Server Error\r\ncontent-type: application/json\r\ncontent-length: 33\r\n\r\n{\"error\":\"NoMemory\",\"number\":115}" ≡ no_memory_text
-no_memory_is = reply_is 500 115 (codes "500") (codes "Internal Server Error") (codes "33") (codes "NoMemory") (codes "115") is_500 refl (body_is (codes "NoMemory") (codes "115") 115 no_memory_plain is_115) is_33
+no_memory_is =
+    reply_is 500 115 (codes "500") (codes "Internal Server Error") (codes "33") (codes "NoMemory") (codes "115") is_500
+    refl (body_is (codes "NoMemory") (codes "115") 115 no_memory_plain is_115) is_33
 
 -- ---- bodies that tell more
 
@@ -97,16 +100,20 @@ unfolding serde_json_on_literals rule_text
 rule_is error number rule = refl
 
 pub price_is : (error : List ℕ) (number : ℕ) (table : TariffTable) (class : Class)
-    → codes "{\"class\":" ++ (quoted (class_name class) ++ (codes ",\"error\":" ++ (quoted error ++ (codes ",\"number\":" ++ (decimal number ++ (codes ",\"table\":" ++ (quoted (table_name table) ++ codes "}"))))))) ≡ price_text error number table class
+    → codes "{\"class\":"
+    ++ (quoted (class_name class)
+    ++ (codes ",\"error\":"
+    ++ (quoted error
+    ++ (codes ",\"number\":"
+    ++ (decimal number
+    ++ (codes ",\"table\":" ++ (quoted (table_name table) ++ codes "}")))))))
+    ≡ price_text error number table class
 unfolding serde_json_on_literals price_text
 price_is error number table class = refl
 
 pub damaged_is : (offset : ℕ) → codes "{\"error\":\"Damaged\",\"number\":" ++ (decimal 112 ++ (codes ",\"offset\":" ++ (decimal offset ++ codes "}"))) ≡ damaged_text offset
 unfolding serde_json_on_literals damaged_text
 damaged_is offset = refl
-
-decimal_small : (n : ℕ) → n < 2 ^ 64 → length (decimal n) ≤ 20
-decimal_small n fits = length-decimal-le 20 n (omega arith) (omega (arith, fits)) fits
 
 pub damaged_small : (offset : ℕ) → offset < 2 ^ 64 → length (damaged_text offset) ≤ 16_000
 damaged_small offset fits =
@@ -142,7 +149,7 @@ fault_low faults.NoMemory = (omega arith, omega arith)
 -- a text that was put whole
 pub printed : (old new text : List ℕ) (end : ℕ) → Puts old 0 new end text → length new < 2 ^ 63 → end ≤ length new → (end ≡ length text) × (take end new ≡ text)
 printed old new text end puts fits ends =
-    let start : Holds old 0 [] = record { counts = refl; written = λ _. refl } in
+    let start : HoldsText old 0 [] = record { counts = refl; written = λ _. refl } in
     let all = puts [] start in
     let is_end : end ≡ length text = omega (arith, all.counts, fits, ends) in
     (is_end, ap (λ (n : ℕ). take n new) is_end ∙ all.written (omega (arith, is_end, ends)))
@@ -150,7 +157,7 @@ printed old new text end puts fits ends =
 -- a text that is longer than the room
 pub too_long : (old new text : List ℕ) (end : ℕ) → Puts old 0 new end text → length new < 2 ^ 63 → length new < end → length new < length text
 too_long old new text end puts fits ends =
-    let start : Holds old 0 [] = record { counts = refl; written = λ _. refl } in
+    let start : HoldsText old 0 [] = record { counts = refl; written = λ _. refl } in
     let all = puts [] start in
     omega (arith, all.counts, fits, ends)
 

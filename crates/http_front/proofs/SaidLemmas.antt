@@ -1,5 +1,5 @@
 -- Bytes that are said one after another, and calls and texts of two parts of a session.
-use Rattle.std.proofs.Common.{◌≡◌, ℕ, List, [], ◌++◌, take, sym, ap, subst, ◌∙◌, append_assoc, append-nil, Option, Some, None, Result, Err, inl, inr}
+use Rattle.std.proofs.Common.{◌≡◌, ℕ, List, take, sym, subst, Option, Result, Err, inl, inr}
 use Rattle.std.specs.Prelude.{◌⊎◌}
 use Rattle.std.specs.Io.KnownBytes.{Appends}
 use Rattle.desk_core.specs.Answers.{Answer}
@@ -9,16 +9,6 @@ use Rattle.http_front.specs.declared.answering.SessionEnd.TheVariants as ends
 use Rattle.http_front.specs.Session.{IsLong}
 use Rattle.http_front.specs.Talk.{IsSaid}
 use Rattle.http_front.specs.Texts.{no_memory_text}
-
-pub appends_none : (said : Option (List ℕ)) → Appends said said []
-appends_none None = tt
-appends_none (Some xs) = sym (append-nil xs)
-
-pub appends_then : (a b c : Option (List ℕ)) (x y : List ℕ) → Appends a b x → Appends b c y → Appends a c (x ++ y)
-appends_then None b c x y first second = tt
-appends_then (Some xs) None c x y first second = absurd first
-appends_then (Some xs) (Some ys) None x y first second = absurd second
-appends_then (Some xs) (Some ys) (Some zs) x y first second = second ∙ ap (λ (t : List ℕ). t ++ y) first ∙ append_assoc xs x y
 
 -- want of memory, said in place of a long answer
 pub said_instead : (sa sb ma mb : Option (List ℕ)) (told : Result Answer DeskFault) (end : SessionEnd) → mb ≡ ma → IsLong told

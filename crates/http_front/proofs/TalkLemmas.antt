@@ -1,10 +1,11 @@
 -- A session goes on.
 use Rattle.std.proofs.Common.{◌≡◌, ℕ, ◌+◌, ◌-◌, ◌<◌, ◌≤◌, Bool, true, false, List, [], ◌∷◌, ◌++◌, take, length, refl, sym, ap, ◌∙◌, subst, arith, append_assoc, append-nil, length-append, Option, Some, None, Result, Ok, Err, inl, inr, ⊎_elim, OnOk, IfErr}
 use Rattle.std.specs.Prelude.{◌⊎◌, option_map, IsOk}
-use Rattle.std.specs.Io.KnownBytes.{Appends, Consumes, IsAtEnd, prepend_known}
+use Rattle.std.specs.Io.KnownBytes.{Appends, IsAtEnd, prepend_known}
 use Rattle.std.proofs.Math.Seq.{take-append-add, take-append_seam}
 use Rattle.std.proofs.lemmas.Grind.{flat_map-append}
 use Rattle.std.proofs.lemmas.List.Elements.{All-nil, All-cons, All-append}
+use Rattle.std.proofs.KnownBytes.{Appends-nil, Appends-trans, Consumes-nil, Consumes-trans}
 use Rattle.office_types.specs.declared.command.Ask.{Ask}
 use Rattle.desk_core.specs.Answers.{Answer, Call}
 use Rattle.desk_core.specs.declared.fault.DeskFault.{DeskFault}
@@ -12,7 +13,7 @@ use Rattle.desk_core.specs.declared.fault.DeskFault.TheVariants as faults
 use Rattle.http_wire.specs.Answers.{Gave as GaveTo}
 use Rattle.http_wire.specs.Held.{Held, head_room, take_limit}
 use Rattle.http_wire.specs.Messages.{IsUnsettled}
-use Rattle.http_wire.proofs.Unique.{stands_more}
+use Rattle.http_wire.proofs.MessageLemmas.{unsettled_front}
 use Rattle.http_asks.specs.Counts.{Given, AreEnough}
 use Rattle.http_asks.specs.Meaning.{Refused, not_built, asks, refuses}
 use Rattle.http_asks.specs.Streams.{IsItem, StandsItem, StandsUnbuilt}
@@ -20,24 +21,24 @@ use Rattle.http_asks.specs.Faults.{refused_of}
 use Rattle.http_asks.specs.Tells.{TellsRefused, IfServed, OnItem}
 use Rattle.http_asks.specs.declared.reader.Heard.{Heard}
 use Rattle.http_asks.specs.declared.reader.Heard.TheVariants as heards
-use Rattle.http_asks.specs.declared.reader.Stop.{Stop}
-use Rattle.http_asks.specs.declared.reader.Stop.TheVariants as stops
+use Rattle.http_wire.specs.declared.message.MessageStop.{MessageStop}
+use Rattle.http_wire.specs.declared.message.MessageStop.TheVariants as stops
 use Rattle.http_front.specs.declared.answering.SessionEnd.{SessionEnd}
 use Rattle.http_front.specs.declared.answering.SessionEnd.TheVariants as ends
-use Rattle.http_front.specs.Counts.{Gave, total_of, IsUnder, IsSpent, IsUnspent, Spends, reading, IsHeldBack}
-use Rattle.http_front.specs.Exchanges.{Exchange, answered, refused, meant_of, calls_of, exchange_moment, moments_of, Goes, Hears}
+use Rattle.http_front.specs.Counts.{GaveBytes, total_of, IsUnder, IsSpent, IsUnspent, Spends, reading, IsHeldBack, IsBegun}
+use Rattle.http_front.specs.Exchanges.{Exchange, answered, refused, exchange_meant, calls_of, exchange_moment, moments_of, Goes, Hears}
 use Rattle.desk_core.specs.Turns.{Moves}
 use Rattle.http_front.specs.Session.{IsCut, IsLong, IsUnsaid, IsWritten, NoneLacks, LastLacks, LacksBy, Session}
-use Rattle.http_front.specs.Talk.{IsPart, IsRefusedBy, Answers, Talked, Closed, Went}
+use Rattle.http_front.specs.declared.replies.Replies as sinks
+use Rattle.http_front.specs.Talk.{SaysFront, IsRefusedBy, AnswersOne, Talked, Closed, Went}
 use Rattle.http_front.specs.Texts.{exchange_text, text_of, bad_text, texts, not_built_text, no_memory_text}
-use Rattle.http_front.proofs.SaidLemmas.{appends_none, appends_then}
 
 -- ---- what was heard
 
 -- an item behind another one
-goes_on : (exchange : Exchange) (second : List Exchange) (a b c : List ℕ) (closed : Bool) → IsItem a (meant_of exchange) false b → Goes b second c closed → Goes a (exchange ∷ second) c closed
+goes_on : (exchange : Exchange) (second : List Exchange) (a b c : List ℕ) (closed : Bool) → IsItem a (exchange_meant exchange) false b → Goes b second c closed → Goes a (exchange ∷ second) c closed
 goes_on exchange [] a b c closed here (same, going) =
-    subst (λ (t : List ℕ). IsItem a (meant_of exchange) closed t) (sym same) (subst (λ (x : Bool). IsItem a (meant_of exchange) x b) (sym going) here)
+    subst (λ (t : List ℕ). IsItem a (exchange_meant exchange) closed t) (sym same) (subst (λ (x : Bool). IsItem a (exchange_meant exchange) x b) (sym going) here)
 goes_on exchange (next ∷ more) a b c closed here later = (b, here, later)
 
 goes_then : (first second : List Exchange) (a b c : List ℕ) (closed : Bool) → Goes a first b false → Goes b second c closed → Goes a (first ++ second) c closed
@@ -55,7 +56,7 @@ hears_none : (a : Option (List ℕ)) → Hears a [] a false
 hears_none None = tt
 hears_none (Some a) = (refl, refl)
 
-hears_one : (a b : Option (List ℕ)) (exchange : Exchange) (last : Bool) → StandsItem a (meant_of exchange) last b → Hears a (exchange ∷ []) b last
+hears_one : (a b : Option (List ℕ)) (exchange : Exchange) (last : Bool) → StandsItem a (exchange_meant exchange) last b → Hears a (exchange ∷ []) b last
 hears_one None b exchange last item = tt
 hears_one (Some a) None exchange last item = absurd item
 hears_one (Some a) (Some b) exchange last item = item
@@ -103,7 +104,7 @@ moments-append first second = flat_map-append exchange_moment first second
 
 stamped_then : (ma mb mc : Option (List ℕ)) (first second : List Exchange) → Appends ma mb (moments_of first) → Appends mb mc (moments_of second) → Appends ma mc (moments_of (first ++ second))
 stamped_then ma mb mc first second x y =
-    subst (Appends ma mc) (sym (moments-append first second)) (appends_then ma mb mc (moments_of first) (moments_of second) x y)
+    subst (Appends ma mc) (sym (moments-append first second)) (Appends-trans ma mb mc (moments_of first) (moments_of second) x y)
 
 -- ---- what the calls were told
 
@@ -177,34 +178,23 @@ written_then total later totals ends.NoMemory first second whole rest closed w e
 
 -- ---- counts
 
-consumes_none : (left : Option (List ℕ)) → Consumes left left []
-consumes_none None = tt
-consumes_none (Some xs) = refl
-
-consumes_then : (a b c : Option (List ℕ)) (x y : List ℕ) → Consumes a b x → Consumes b c y → Consumes a c (x ++ y)
-consumes_then None b c x y first second = tt
-consumes_then (Some xs) None c x y first second = absurd first
-consumes_then (Some xs) (Some ys) None x y first second = absurd second
-consumes_then (Some xs) (Some ys) (Some zs) x y first second =
-    first ∙ ap (λ (t : List ℕ). x ++ t) second ∙ sym (append_assoc x y zs)
-
 pub given_none : (taken : ℕ) (left : Option (List ℕ)) → Given taken taken left left
-given_none taken left = record { given = []; counted = omega arith; left = consumes_none left }
+given_none taken left = record { given = []; counted = omega arith; left = Consumes-nil left }
 
 pub given_then : (a b c : ℕ) (la lb lc : Option (List ℕ)) → Given a b la lb → Given b c lb lc → Given a c la lc
 given_then a b c la lb lc first second = record {
   given = first.given ++ second.given;
   counted = omega (arith, first.counted, second.counted, length-append first.given second.given);
-  left = consumes_then la lb lc first.given second.given first.left second.left;
+  left = Consumes-trans la lb lc first.given second.given first.left second.left;
 }
 
-pub gave_none : (left : Option (List ℕ)) → (n : ℕ) × (n ≤ take_limit) × Gave left left n
-gave_none left = (0, omega arith, ([], refl, consumes_none left))
+pub gave_none : (left : Option (List ℕ)) → (n : ℕ) × (n ≤ take_limit) × GaveBytes left left n
+gave_none left = (0, omega arith, ([], refl, Consumes-nil left))
 
-pub gave_some : (a b : ℕ) (la lb : Option (List ℕ)) → Given a b la lb → a ≡ 0 → b ≤ take_limit → (n : ℕ) × (n ≤ take_limit) × Gave la lb n
+pub gave_some : (a b : ℕ) (la lb : Option (List ℕ)) → Given a b la lb → a ≡ 0 → b ≤ take_limit → (n : ℕ) × (n ≤ take_limit) × GaveBytes la lb n
 gave_some a b la lb given none few = (b, few, (given.given, omega (arith, given.counted, none), given.left))
 
-pub gave_all : (a b : ℕ) (la lb : Option (List ℕ)) → Given a b la lb → a ≡ 0 → b ≡ take_limit → Gave la lb take_limit
+pub gave_all : (a b : ℕ) (la lb : Option (List ℕ)) → Given a b la lb → a ≡ 0 → b ≡ take_limit → GaveBytes la lb take_limit
 gave_all a b la lb given none all = (given.given, omega (arith, given.counted, none, all), given.left)
 
 no_totals : (later : Option ℕ) → Totals None later
@@ -240,8 +230,12 @@ spent_here old new (Some xs) (Some ys) gave all = record {
   unsettled = gave.so;
 }
 
-unsettled_front : (front more : List ℕ) → IsUnsettled (front ++ more) → IsUnsettled front
-unsettled_front front more none found rest stands = none found (rest ++ more) (stands_more front more found rest stands)
+-- the bytes that are held settle nothing
+pub begun_here : (old new : Held) (la lb : Option (List ℕ)) → GaveTo old new la lb IsUnsettled → IsBegun (prepend_known old.bytes la) lb
+begun_here old new None lb gave = tt
+begun_here old new (Some xs) None gave = absurd gave.left
+begun_here old new (Some xs) (Some ys) gave =
+    (old.bytes ++ gave.given, gave.so, ap (λ (t : List ℕ). old.bytes ++ t) gave.left ∙ sym (append_assoc old.bytes gave.given ys))
 
 -- the first of two equal texts of two parts goes on where its first part is the longer one
 longer : (a b c d : List ℕ) → a ++ b ≡ c ++ d → length d ≤ length b → (n : ℕ) × (c ≡ a ++ take n b)
@@ -285,8 +279,8 @@ module _ {T : Type 0} (moves : T → Ask → Result Answer DeskFault → T → T
     exchanges = [];
     moved = refl;
     heard = hears_none stream;
-    said = appends_none said;
-    stamped = appends_none moments;
+    said = Appends-nil said;
+    stamped = Appends-nil moments;
     enough = All-nil IsNoLack;
   }
 
@@ -295,7 +289,7 @@ module _ {T : Type 0} (moves : T → Ask → Result Answer DeskFault → T → T
     exchanges = first.exchanges ++ second.exchanges;
     moved = moved_then first.exchanges second.exchanges old mid new first.moved second.moved;
     heard = hears_then first.exchanges second.exchanges a b c false first.heard second.heard;
-    said = subst (Appends sa sc) (sym (texts-append first.exchanges second.exchanges)) (appends_then sa sb sc (texts first.exchanges) (texts second.exchanges) first.said second.said);
+    said = subst (Appends sa sc) (sym (texts-append first.exchanges second.exchanges)) (Appends-trans sa sb sc (texts first.exchanges) (texts second.exchanges) first.said second.said);
     stamped = stamped_then ma mb mc first.exchanges second.exchanges first.stamped second.stamped;
     enough = enough_then first.exchanges second.exchanges first.enough second.enough;
   }
@@ -303,20 +297,26 @@ module _ {T : Type 0} (moves : T → Ask → Result Answer DeskFault → T → T
   module _ (remains : Option (List ℕ)) where
     closed_on : (total later : Option ℕ) → Totals total later → (old mid new : T) (sa sb sc ma mb mc a b : Option (List ℕ)) (end : SessionEnd)
         → Talked moves old mid sa sb ma mb a b → Closed moves mid new sb sc mb mc (reading b remains) later end → Closed moves old new sa sc ma mc (reading a remains) total end
-    closed_on total later totals old mid new sa sb sc ma mb mc a b end first second = record {
-      exchanges = first.exchanges ++ second.exchanges;
-      moved = moved_then first.exchanges second.exchanges old mid new first.moved second.moved;
-      rest = second.rest;
-      closed = second.closed;
-      heard = hears_then first.exchanges second.exchanges a b second.rest second.closed first.heard second.heard;
-      whole = first.exchanges ++ second.whole;
-      written = texts first.exchanges ++ second.written;
-      said = appends_then sa sb sc (texts first.exchanges) second.written first.said second.said;
-      stamped = stamped_then ma mb mc first.exchanges second.whole first.stamped second.stamped;
-      is_written = written_then total later totals end first.exchanges second.exchanges second.whole second.rest second.closed second.written first.enough second.is_written;
-      lacked = lacked_then end first.exchanges second.exchanges first.enough second.lacked;
-      behind = second.behind;
-    }
+    closed_on total later totals old mid new sa sb sc ma mb mc a b end first second =
+        let x = first.exchanges in
+        let y = second.talk in
+        record {
+          talk = record {
+            exchanges = x ++ y.exchanges;
+            rest = y.rest;
+            closed = y.closed;
+            heard = hears_then x y.exchanges a b y.rest y.closed first.heard y.heard;
+            whole = x ++ y.whole;
+            written = texts x ++ y.written;
+            is_written = written_then total later totals end x y.exchanges y.whole y.rest y.closed y.written first.enough y.is_written;
+            lacked = lacked_then end x y.exchanges first.enough y.lacked;
+            behind = y.behind;
+            begun = y.begun;
+          };
+          moved = moved_then x y.exchanges old mid new first.moved second.moved;
+          said = Appends-trans sa sb sc (texts x) y.written first.said second.said;
+          stamped = stamped_then ma mb mc x y.whole first.stamped second.stamped;
+        }
 
     pub closed_then : (ta tb : ℕ) (la lb : Option (List ℕ)) → Given ta tb la lb → (old mid new : T) (sa sb sc ma mb mc a b : Option (List ℕ)) (end : SessionEnd)
         → Talked moves old mid sa sb ma mb a b → Closed moves mid new sb sc mb mc (reading b remains) (total_of tb lb) end → Closed moves old new sa sc ma mc (reading a remains) (total_of ta la) end
@@ -324,27 +324,21 @@ module _ {T : Type 0} (moves : T → Ask → Result Answer DeskFault → T → T
         closed_on (total_of ta la) (total_of tb lb) (totals ta tb la lb given) old mid new sa sb sc ma mb mc a b end first second
 
     -- the end of a session from its beginning
-    whole_session : (old new : T) (sa sb ma mb left : Option (List ℕ)) (end : SessionEnd) → Closed moves old new sa sb ma mb (reading left remains) (option_map length left) end → Session moves old new sa sb ma mb (reading left remains) end
-    whole_session old new sa sb ma mb left end all = record {
-      exchanges = all.exchanges;
-      moved = all.moved;
-      rest = all.rest;
-      closed = all.closed;
-      heard = all.heard;
-      whole = all.whole;
-      written = all.written;
-      said = all.said;
-      stamped = all.stamped;
-      is_written = all.is_written;
-      lacked = all.lacked;
-      behind = all.behind;
-    }
+    whole_session : {W : Type 0} (w : sinks.Ghosts W) (old new : T) (out_old out_new : W) (left : Option (List ℕ)) (end : SessionEnd)
+        → Closed moves old new (w.said out_old) (w.said out_new) (w.moments out_old) (w.moments out_new) (reading left remains) (option_map length left) end
+        → Session moves w old new out_old out_new (reading left remains) end
+    whole_session w old new out_old out_new left end all = record { talk = all.talk; moved = all.moved; said = all.said; stamped = all.stamped }
 
     -- a session that began with nothing taken
-    pub session_of : (taken : ℕ) (held : List ℕ) (old new : T) (sa sb ma mb left : Option (List ℕ)) (end : SessionEnd) → taken ≡ 0 → held ≡ []
-        → Closed moves old new sa sb ma mb (reading (prepend_known held left) remains) (total_of taken left) end → Session moves old new sa sb ma mb (reading left remains) end
-    session_of taken held old new sa sb ma mb left end none empty closed =
-        whole_session old new sa sb ma mb left end (
+    pub session_of : {W : Type 0} (w : sinks.Ghosts W) (taken : ℕ) (held : List ℕ) (old new : T) (out_old out_new : W) (left : Option (List ℕ)) (end : SessionEnd) → taken ≡ 0 → held ≡ []
+        → Closed moves old new (w.said out_old) (w.said out_new) (w.moments out_old) (w.moments out_new) (reading (prepend_known held left) remains) (total_of taken left) end
+        → Session moves w old new out_old out_new (reading left remains) end
+    session_of w taken held old new out_old out_new left end none empty closed =
+        let sa = w.said out_old in
+        let sb = w.said out_new in
+        let ma = w.moments out_old in
+        let mb = w.moments out_new in
+        whole_session w old new out_old out_new left end (
         closed_on (option_map length left) (total_of taken left) (total_from taken left none) old old new sa sa sb ma ma mb left left end (talked_none old sa ma left)
         (subst (λ (s : Option (List ℕ)). Closed moves old new sa sb ma mb (reading s remains) (total_of taken left) end) (from_start held left empty) closed)
         )
@@ -376,36 +370,41 @@ module _ {T : Type 0} (moves : T → Ask → Result Answer DeskFault → T → T
     -- want of memory has no moment
     lack_moment : (ma mb : Option (List ℕ)) (ask : Ask) (told : Result Answer DeskFault) → mb ≡ ma → told ≡ Err faults.NoMemory → Appends ma mb (moments_of (one_call ask told))
     lack_moment ma mb ask told same is =
-        subst (λ (t : Result Answer DeskFault). Appends ma mb (moments_of (one_call ask t))) (sym is) (subst (λ (m : Option (List ℕ)). Appends ma m []) (sym same) (appends_none ma))
+        subst (λ (t : Result Answer DeskFault). Appends ma mb (moments_of (one_call ask t))) (sym is) (subst (λ (m : Option (List ℕ)). Appends ma m []) (sym same) (Appends-nil ma))
 
-    closed_one : (old new : T) (sa sb ma mb a b : Option (List ℕ)) (total : Option ℕ) (ask : Ask) (last : Bool) (said : Result Answer DeskFault) (end : SessionEnd) (whole : List Exchange) (written : List ℕ)
-        → moves old ask said new → StandsItem a (asks ask) last b → IsHeldBack b remains → Appends sa sb written → Appends ma mb (moments_of whole) → IsWritten total end (one_call ask said) whole b last written
-        → LacksBy end (one_call ask said) → Closed moves old new sa sb ma mb (reading a remains) total end
-    closed_one old new sa sb ma mb a b total ask last said end whole written moved heard held wrote stamped is lacked = record {
-      exchanges = one_call ask said;
+    closed_one : (old new : T) (sa sb ma mb a b : Option (List ℕ)) (total : Option ℕ) (ask : Ask) (last : Bool)
+        (said : Result Answer DeskFault) (end : SessionEnd) (whole : List Exchange) (written : List ℕ)
+        → moves old ask said new → StandsItem a (asks ask) last b → IsHeldBack b remains → Appends sa sb written
+        → Appends ma mb (moments_of whole) → IsWritten total end (one_call ask said) whole b last written
+        → LacksBy end (one_call ask said) → (end ≡ ends.ReadFault → ⊥) → Closed moves old new sa sb ma mb (reading a remains) total end
+    closed_one old new sa sb ma mb a b total ask last said end whole written moved heard held wrote stamped is lacked other = record {
+      talk = record {
+        exchanges = one_call ask said;
+        rest = b;
+        closed = last;
+        heard = hears_one a b (answered (record { ask = ask; said = said })) last heard;
+        whole = whole;
+        written = written;
+        is_written = is;
+        lacked = lacked;
+        behind = λ is. held;
+        begun = λ is. absurd (other is);
+      };
       moved = (new, moved, refl);
-      rest = b;
-      closed = last;
-      heard = hears_one a b (answered (record { ask = ask; said = said })) last heard;
-      whole = whole;
-      written = written;
       said = wrote;
       stamped = stamped;
-      is_written = is;
-      lacked = lacked;
-      behind = λ is. held;
     }
 
     -- it was answered, and the session goes on unless it was the last
     pub asked_on : (old new : T) (sa sb ma mb a b : Option (List ℕ)) (total : Option ℕ) (ask : Ask) (last : Bool) (done result : Result Unit SessionEnd) → IsOk done
-        → Answers moves old new sa sb ma mb ask done → StandsItem a (asks ask) last b → IsHeldBack b remains → (last ≡ false → IsOk result) → (last ≡ true → result ≡ Err ends.Ended)
+        → AnswersOne moves old new sa sb ma mb ask done → StandsItem a (asks ask) last b → IsHeldBack b remains → (last ≡ false → IsOk result) → (last ≡ true → result ≡ Err ends.Ended)
         → Went moves old new sa sb ma mb (reading a remains) b total result
     asked_on old new sa sb ma mb a b total ask last (Err e) result ok told heard held goes stops = absurd cc
     asked_on old new sa sb ma mb a b total ask true (Ok x) result ok told heard held goes stops =
         let exchange = answered (record { ask = ask; said = told.told }) in
         subst (Went moves old new sa sb ma mb (reading a remains) b total) (sym (stops refl))
         (closed_one old new sa sb ma mb a b total ask true told.told ends.Ended (one_call ask told.told) (texts (one_call ask told.told)) told.moved heard held (one_text sa sb exchange told.said.0)
-        (one_moment ma mb exchange told.said.1) (refl, inl (refl, refl)) (one_enough ask told.told told.said.2))
+        (one_moment ma mb exchange told.said.1) (refl, inl (refl, refl)) (one_enough ask told.told told.said.2) (λ is. absurd cc))
     asked_on old new sa sb ma mb a b total ask false (Ok x) (Err e) ok told heard held goes stops = absurd (let e = goes refl in cc)
     asked_on old new sa sb ma mb a b total ask false (Ok x) (Ok y) ok told heard held goes stops = record {
       exchanges = one_call ask told.told;
@@ -418,16 +417,16 @@ module _ {T : Type 0} (moves : T → Ask → Result Answer DeskFault → T → T
 
     -- its text was cut, or that of want of memory in its place
     asked_cut : (old new : T) (sa sb ma mb a b : Option (List ℕ)) (total : Option ℕ) (ask : Ask) (last : Bool) (told : Result Answer DeskFault) → moves old ask told new
-        → StandsItem a (asks ask) last b → IsHeldBack b remains → mb ≡ ma → IsPart sa sb (text_of told) ⊎ (IsLong told × IsPart sa sb no_memory_text)
+        → StandsItem a (asks ask) last b → IsHeldBack b remains → mb ≡ ma → SaysFront sa sb (text_of told) ⊎ (IsLong told × SaysFront sa sb no_memory_text)
         → Closed moves old new sa sb ma mb (reading a remains) total ends.WriteFault
     asked_cut old new sa sb ma mb a b total ask last told moved heard held same (inl x) =
         closed_one old new sa sb ma mb a b total ask last told ends.WriteFault [] (take x.0 (text_of told)) moved heard held x.1
-        (subst (λ (m : Option (List ℕ)). Appends ma m []) (sym same) (appends_none ma))
-        (inl (record { last = answered (record { ask = ask; said = told }); n = x.0; are = refl; is = refl })) (one_either ask told)
+        (subst (λ (m : Option (List ℕ)). Appends ma m []) (sym same) (Appends-nil ma))
+        (inl (record { last = answered (record { ask = ask; said = told }); n = x.0; are = refl; is = refl })) (one_either ask told) (λ is. absurd cc)
     asked_cut old new sa sb ma mb a b total ask last told moved heard held same (inr (long, x)) =
         closed_one old new sa sb ma mb a b total ask last told ends.WriteFault [] (take x.0 no_memory_text) moved heard held x.1
-        (subst (λ (m : Option (List ℕ)). Appends ma m []) (sym same) (appends_none ma))
-        (inr (inl (x.0, record { last = record { ask = ask; said = told }; are = refl; long = long; is = refl }))) (one_either ask told)
+        (subst (λ (m : Option (List ℕ)). Appends ma m []) (sym same) (Appends-nil ma))
+        (inr (inl (x.0, record { last = record { ask = ask; said = told }; are = refl; long = long; is = refl }))) (one_either ask told) (λ is. absurd cc)
 
     -- memory ran out, in the call or for its text
     asked_lack : (old new : T) (sa sb ma mb a b : Option (List ℕ)) (total : Option ℕ) (ask : Ask) (last : Bool) (told : Result Answer DeskFault) → moves old ask told new
@@ -436,14 +435,14 @@ module _ {T : Type 0} (moves : T → Ask → Result Answer DeskFault → T → T
     asked_lack old new sa sb ma mb a b total ask last told moved heard held same (inl (is, x)) =
         closed_one old new sa sb ma mb a b total ask last told ends.NoMemory (one_call ask told) (texts (one_call ask told)) moved heard held
         (one_text sa sb (answered (record { ask = ask; said = told })) x) (lack_moment ma mb ask told same is)
-        (inr (refl, inl (one_lacks ask told is, refl))) (inr (one_lacks ask told is))
+        (inr (refl, inl (one_lacks ask told is, refl))) (inr (one_lacks ask told is)) (λ is. absurd cc)
     asked_lack old new sa sb ma mb a b total ask last told moved heard held same (inr (long, x)) =
         closed_one old new sa sb ma mb a b total ask last told ends.NoMemory [] no_memory_text moved heard held x
-        (subst (λ (m : Option (List ℕ)). Appends ma m []) (sym same) (appends_none ma))
-        (inl (record { last = record { ask = ask; said = told }; are = refl; long = long; is = refl })) (one_either ask told)
+        (subst (λ (m : Option (List ℕ)). Appends ma m []) (sym same) (Appends-nil ma))
+        (inl (record { last = record { ask = ask; said = told }; are = refl; long = long; is = refl })) (one_either ask told) (λ is. absurd cc)
 
     -- it was answered, or not in full, and this ended the session
-    pub asked_end : (old new : T) (sa sb ma mb a b : Option (List ℕ)) (total : Option ℕ) (ask : Ask) (last : Bool) (end : SessionEnd) → Answers moves old new sa sb ma mb ask (Err end)
+    pub asked_end : (old new : T) (sa sb ma mb a b : Option (List ℕ)) (total : Option ℕ) (ask : Ask) (last : Bool) (end : SessionEnd) → AnswersOne moves old new sa sb ma mb ask (Err end)
         → StandsItem a (asks ask) last b → IsHeldBack b remains → Closed moves old new sa sb ma mb (reading a remains) total end
     asked_end old new sa sb ma mb a b total ask last ends.WriteFault done heard held =
         asked_cut old new sa sb ma mb a b total ask last done.told done.moved heard held done.said.0 done.said.1
@@ -459,69 +458,78 @@ module _ {T : Type 0} (moves : T → Ask → Result Answer DeskFault → T → T
     one_refusal broken = refused broken ∷ []
 
     closed_refusal : (old : T) (sa sb m a b : Option (List ℕ)) (total : Option ℕ) (broken : Refused) (last : Bool) (end : SessionEnd) (whole : List Exchange) (written : List ℕ)
-        → StandsItem a (refuses broken) last b → IsHeldBack b remains → Appends sa sb written → Appends m m (moments_of whole) → IsWritten total end (one_refusal broken) whole b last written → LacksBy end (one_refusal broken)
-        → Closed moves old old sa sb m m (reading a remains) total end
-    closed_refusal old sa sb m a b total broken last end whole written heard held wrote stamped is lacked = record {
-      exchanges = one_refusal broken;
+        → StandsItem a (refuses broken) last b → IsHeldBack b remains → Appends sa sb written
+        → Appends m m (moments_of whole) → IsWritten total end (one_refusal broken) whole b last written
+        → LacksBy end (one_refusal broken)
+        → (end ≡ ends.ReadFault → ⊥) → Closed moves old old sa sb m m (reading a remains) total end
+    closed_refusal old sa sb m a b total broken last end whole written heard held wrote stamped is lacked other = record {
+      talk = record {
+        exchanges = one_refusal broken;
+        rest = b;
+        closed = last;
+        heard = hears_one a b (refused broken) last heard;
+        whole = whole;
+        written = written;
+        is_written = is;
+        lacked = lacked;
+        behind = λ is. held;
+        begun = λ is. absurd (other is);
+      };
       moved = refl;
-      rest = b;
-      closed = last;
-      heard = hears_one a b (refused broken) last heard;
-      whole = whole;
-      written = written;
       said = wrote;
       stamped = stamped;
-      is_written = is;
-      lacked = lacked;
-      behind = λ is. held;
     }
 
     -- it was answered, and the session goes on unless it was the last
     refused_on : (old : T) (sa sb m a b : Option (List ℕ)) (total : Option ℕ) (broken : Refused) (last : Bool) (done result : Result Unit SessionEnd) → IsOk done → IsRefusedBy sa sb broken done
-        → StandsItem a (refuses broken) last b → IsHeldBack b remains → (last ≡ false → IsOk result) → (last ≡ true → result ≡ Err ends.Ended) → Went moves old old sa sb m m (reading a remains) b total result
+        → StandsItem a (refuses broken) last b → IsHeldBack b remains → (last ≡ false → IsOk result)
+        → (last ≡ true → result ≡ Err ends.Ended) → Went moves old old sa sb m m (reading a remains) b total result
     refused_on old sa sb m a b total broken last (Err e) result ok told heard held goes stops = absurd cc
     refused_on old sa sb m a b total broken true (Ok x) result ok told heard held goes stops =
         subst (Went moves old old sa sb m m (reading a remains) b total) (sym (stops refl))
-        (closed_refusal old sa sb m a b total broken true ends.Ended (one_refusal broken) (texts (one_refusal broken)) heard held (one_text sa sb (refused broken) told) (appends_none m)
-        (refl, inl (refl, refl)) (All-nil IsNoLack))
+        (closed_refusal old sa sb m a b total broken true ends.Ended (one_refusal broken) (texts (one_refusal broken)) heard held (one_text sa sb (refused broken) told) (Appends-nil m)
+        (refl, inl (refl, refl)) (All-nil IsNoLack) (λ is. absurd cc))
     refused_on old sa sb m a b total broken false (Ok x) (Err e) ok told heard held goes stops = absurd (let e = goes refl in cc)
     refused_on old sa sb m a b total broken false (Ok x) (Ok y) ok told heard held goes stops = record {
       exchanges = one_refusal broken;
       moved = refl;
       heard = hears_one a b (refused broken) false heard;
       said = one_text sa sb (refused broken) told;
-      stamped = appends_none m;
+      stamped = Appends-nil m;
       enough = All-nil IsNoLack;
     }
 
     -- nothing was answered
     pub closed_here : (old : T) (sa sb m a : Option (List ℕ)) (total : Option ℕ) (end : SessionEnd) (written : List ℕ) → Appends sa sb written → IsWritten total end [] [] a false written
-        → LacksBy end [] → Closed moves old old sa sb m m (reading a remains) total end
-    closed_here old sa sb m a total end written wrote is lacked = record {
-      exchanges = [];
+        → LacksBy end [] → (end ≡ ends.ReadFault → IsBegun a remains) → Closed moves old old sa sb m m (reading a remains) total end
+    closed_here old sa sb m a total end written wrote is lacked begun = record {
+      talk = record {
+        exchanges = [];
+        rest = a;
+        closed = false;
+        heard = hears_none a;
+        whole = [];
+        written = written;
+        is_written = is;
+        lacked = lacked;
+        behind = λ is. absurd (let e : false ≡ true = is in cc);
+        begun = begun;
+      };
       moved = refl;
-      rest = a;
-      closed = false;
-      heard = hears_none a;
-      whole = [];
-      written = written;
       said = wrote;
-      stamped = appends_none m;
-      is_written = is;
-      lacked = lacked;
-      behind = λ is. absurd (let e : false ≡ true = is in cc);
+      stamped = Appends-nil m;
     }
 
     -- its text was cut, or there was no memory for it
     refused_end : (old : T) (sa sb m a b : Option (List ℕ)) (total : Option ℕ) (broken : Refused) (last : Bool) (end : SessionEnd) → IsRefusedBy sa sb broken (Err end)
         → StandsItem a (refuses broken) last b → IsHeldBack b remains → Closed moves old old sa sb m m (reading a remains) total end
     refused_end old sa sb m a b total broken last ends.WriteFault (inl x) heard held =
-        closed_refusal old sa sb m a b total broken last ends.WriteFault [] (take x.0 (bad_text broken)) heard held x.1 (appends_none m)
-        (inl (record { last = refused broken; n = x.0; are = refl; is = refl })) (inl (All-nil IsNoLack))
+        closed_refusal old sa sb m a b total broken last ends.WriteFault [] (take x.0 (bad_text broken)) heard held x.1 (Appends-nil m)
+        (inl (record { last = refused broken; n = x.0; are = refl; is = refl })) (inl (All-nil IsNoLack)) (λ is. absurd cc)
     refused_end old sa sb m a b total broken last ends.WriteFault (inr x) heard held =
-        closed_here old sa sb m a total ends.WriteFault (take x.0 no_memory_text) x.1 (inr (inr (refl, refl, inr (x.0, refl)))) (inl (All-nil IsNoLack))
+        closed_here old sa sb m a total ends.WriteFault (take x.0 no_memory_text) x.1 (inr (inr (refl, refl, inr (x.0, refl)))) (inl (All-nil IsNoLack)) (λ is. absurd cc)
     refused_end old sa sb m a b total broken last ends.NoMemory said heard held =
-        closed_here old sa sb m a total ends.NoMemory no_memory_text said (inr (refl, inr (refl, All-nil IsNoLack, refl))) (inl (All-nil IsNoLack))
+        closed_here old sa sb m a total ends.NoMemory no_memory_text said (inr (refl, inr (refl, All-nil IsNoLack, refl))) (inl (All-nil IsNoLack)) (λ is. absurd cc)
     refused_end old sa sb m a b total broken last ends.Ended said heard held = absurd said
     refused_end old sa sb m a b total broken last ends.ReadFault said heard held = absurd said
     refused_end old sa sb m a b total broken last ends.Spent said heard held = absurd said
@@ -534,22 +542,26 @@ module _ {T : Type 0} (moves : T → Ask → Result Answer DeskFault → T → T
     unbuilt_on old sa sb m a b total last (Err e) result ok said stands within stops = absurd cc
     unbuilt_on old sa sb m a b total last (Ok x) result ok said stands within stops =
         subst (Went moves old old sa sb m m (reading a remains) b total) (sym (stops stands.1))
-        (closed_here old sa sb m a total ends.Ended not_built_text said (refl, inr (refl, inr (stands.0, within, refl))) (All-nil IsNoLack))
+        (closed_here old sa sb m a total ends.Ended not_built_text said (refl, inr (refl, inr (stands.0, within, refl))) (All-nil IsNoLack) (λ is. absurd cc))
 
-    unbuilt_end : (old : T) (sa sb m a : Option (List ℕ)) (total : Option ℕ) (end : SessionEnd) → IsRefusedBy sa sb not_built (Err end) → StandsUnbuilt a → IsUnspent total a → Closed moves old old sa sb m m (reading a remains) total end
+    unbuilt_end : (old : T) (sa sb m a : Option (List ℕ)) (total : Option ℕ) (end : SessionEnd)
+        → IsRefusedBy sa sb not_built (Err end) → StandsUnbuilt a → IsUnspent total a
+        → Closed moves old old sa sb m m (reading a remains) total end
     unbuilt_end old sa sb m a total ends.WriteFault (inl x) stands within =
-        closed_here old sa sb m a total ends.WriteFault (take x.0 not_built_text) x.1 (inr (inr (refl, refl, inl (x.0, stands, within, refl)))) (inl (All-nil IsNoLack))
+        closed_here old sa sb m a total ends.WriteFault (take x.0 not_built_text) x.1 (inr (inr (refl, refl, inl (x.0, stands, within, refl)))) (inl (All-nil IsNoLack)) (λ is. absurd cc)
     unbuilt_end old sa sb m a total ends.WriteFault (inr x) stands within =
-        closed_here old sa sb m a total ends.WriteFault (take x.0 no_memory_text) x.1 (inr (inr (refl, refl, inr (x.0, refl)))) (inl (All-nil IsNoLack))
+        closed_here old sa sb m a total ends.WriteFault (take x.0 no_memory_text) x.1 (inr (inr (refl, refl, inr (x.0, refl)))) (inl (All-nil IsNoLack)) (λ is. absurd cc)
     unbuilt_end old sa sb m a total ends.NoMemory said stands within =
-        closed_here old sa sb m a total ends.NoMemory no_memory_text said (inr (refl, inr (refl, All-nil IsNoLack, refl))) (inl (All-nil IsNoLack))
+        closed_here old sa sb m a total ends.NoMemory no_memory_text said (inr (refl, inr (refl, All-nil IsNoLack, refl))) (inl (All-nil IsNoLack)) (λ is. absurd cc)
     unbuilt_end old sa sb m a total ends.Ended said stands within = absurd said
     unbuilt_end old sa sb m a total ends.ReadFault said stands within = absurd said
     unbuilt_end old sa sb m a total ends.Spent said stands within = absurd said
 
     -- a message that asks nothing was answered
     some_bad_on : (old : T) (sa sb m a b : Option (List ℕ)) (total : Option ℕ) (broken : Refused) (last : Bool) (done result : Result Unit SessionEnd) → IsOk done → IsRefusedBy sa sb broken done
-        → TellsRefused a broken last b → IsUnspent total a → IfServed broken (IsHeldBack b remains) → (last ≡ false → IsOk result) → (last ≡ true → result ≡ Err ends.Ended) → Went moves old old sa sb m m (reading a remains) b total result
+        → TellsRefused a broken last b → IsUnspent total a → IfServed broken (IsHeldBack b remains)
+        → (last ≡ false → IsOk result) → (last ≡ true → result ≡ Err ends.Ended)
+        → Went moves old old sa sb m m (reading a remains) b total result
     some_bad_on old sa sb m a b total not_built last done result ok said tells within held goes stops = unbuilt_on old sa sb m a b total last done result ok said tells within stops
     some_bad_on old sa sb m a b total broken last done result ok said tells within held goes stops = refused_on old sa sb m a b total broken last done result ok said tells held goes stops
 
@@ -558,10 +570,15 @@ module _ {T : Type 0} (moves : T → Ask → Result Answer DeskFault → T → T
     some_bad_end old sa sb m a b total not_built last end said tells within held = unbuilt_end old sa sb m a total end said tells.0 within
     some_bad_end old sa sb m a b total broken last end said tells within held = refused_end old sa sb m a b total broken last end said tells held
 
-    pub bad_on : (old : T) (sa sb ma mb a b : Option (List ℕ)) (total : Option ℕ) (broken : Refused) (last : Bool) (done result : Result Unit SessionEnd) → mb ≡ ma → IsOk done → IsRefusedBy sa sb broken done
-        → TellsRefused a broken last b → IsUnspent total a → IfServed broken (IsHeldBack b remains) → (last ≡ false → IsOk result) → (last ≡ true → result ≡ Err ends.Ended) → Went moves old old sa sb ma mb (reading a remains) b total result
+    pub bad_on : (old : T) (sa sb ma mb a b : Option (List ℕ)) (total : Option ℕ) (broken : Refused) (last : Bool)
+        (done result : Result Unit SessionEnd)
+        → mb ≡ ma → IsOk done → IsRefusedBy sa sb broken done
+        → TellsRefused a broken last b → IsUnspent total a → IfServed broken (IsHeldBack b remains)
+        → (last ≡ false → IsOk result) → (last ≡ true → result ≡ Err ends.Ended)
+        → Went moves old old sa sb ma mb (reading a remains) b total result
     bad_on old sa sb ma mb a b total broken last done result same ok said tells within held goes stops =
-        subst (λ (m : Option (List ℕ)). Went moves old old sa sb ma m (reading a remains) b total result) (sym same) (some_bad_on old sa sb ma a b total broken last done result ok said tells within held goes stops)
+        subst (λ (m : Option (List ℕ)). Went moves old old sa sb ma m (reading a remains) b total result) (sym same)
+        (some_bad_on old sa sb ma a b total broken last done result ok said tells within held goes stops)
 
     pub bad_end : (old : T) (sa sb ma mb a b : Option (List ℕ)) (total : Option ℕ) (broken : Refused) (last : Bool) (end : SessionEnd) → mb ≡ ma → IsRefusedBy sa sb broken (Err end)
         → TellsRefused a broken last b → IsUnspent total a → IfServed broken (IsHeldBack b remains) → Closed moves old old sa sb ma mb (reading a remains) total end
@@ -569,40 +586,51 @@ module _ {T : Type 0} (moves : T → Ask → Result Answer DeskFault → T → T
         subst (λ (m : Option (List ℕ)). Closed moves old old sa sb ma m (reading a remains) total end) (sym same) (some_bad_end old sa sb ma a b total broken last end said tells within held)
 
     last_words : (old : T) (sa sb m a : Option (List ℕ)) (total : Option ℕ) (end : SessionEnd)
-        → ((end ≡ ends.NoMemory) × Appends sa sb no_memory_text) ⊎ ((end ≡ ends.WriteFault) × ((n : ℕ) × Appends sa sb (take n no_memory_text))) → Closed moves old old sa sb m m (reading a remains) total end
+        → ((end ≡ ends.NoMemory) × Appends sa sb no_memory_text)
+        ⊎ ((end ≡ ends.WriteFault) × ((n : ℕ) × Appends sa sb (take n no_memory_text)))
+        → Closed moves old old sa sb m m (reading a remains) total end
     last_words old sa sb m a total end (inl x) =
         subst (λ (e : SessionEnd). Closed moves old old sa sb m m (reading a remains) total e) (sym x.0)
-        (closed_here old sa sb m a total ends.NoMemory no_memory_text x.1 (inr (refl, inr (refl, All-nil IsNoLack, refl))) (inl (All-nil IsNoLack)))
+        (closed_here old sa sb m a total ends.NoMemory no_memory_text x.1 (inr (refl, inr (refl, All-nil IsNoLack, refl))) (inl (All-nil IsNoLack)) (λ is. absurd cc))
     last_words old sa sb m a total end (inr x) =
         subst (λ (e : SessionEnd). Closed moves old old sa sb m m (reading a remains) total e) (sym x.0)
-        (closed_here old sa sb m a total ends.WriteFault (take x.1.0 no_memory_text) x.1.1 (inr (inr (refl, refl, inr (x.1.0, refl)))) (inl (All-nil IsNoLack)))
+        (closed_here old sa sb m a total ends.WriteFault (take x.1.0 no_memory_text) x.1.1 (inr (inr (refl, refl, inr (x.1.0, refl)))) (inl (All-nil IsNoLack)) (λ is. absurd cc))
 
     silent : (old : T) (sa sb m a : Option (List ℕ)) (total : Option ℕ) (end kind : SessionEnd) → (end ≡ kind) × (sb ≡ sa) → IsWritten total kind [] [] a false [] → LacksBy kind []
-        → Closed moves old old sa sb m m (reading a remains) total end
-    silent old sa sb m a total end kind x is lacked =
+        → (kind ≡ ends.ReadFault → IsBegun a remains) → Closed moves old old sa sb m m (reading a remains) total end
+    silent old sa sb m a total end kind x is lacked begun =
         subst (λ (e : SessionEnd). Closed moves old old sa sb m m (reading a remains) total e) (sym x.0)
-        (closed_here old sa sb m a total kind [] (subst (λ (s : Option (List ℕ)). Appends sa s []) (sym x.1) (appends_none sa)) is lacked)
+        (closed_here old sa sb m a total kind [] (subst (λ (s : Option (List ℕ)). Appends sa s []) (sym x.1) (Appends-nil sa)) is lacked begun)
 
-    some_stop : (old : T) (sa sb m a : Option (List ℕ)) (total : Option ℕ) (stop : Stop) (end : SessionEnd)
+    some_stop : (old : T) (sa sb m a : Option (List ℕ)) (total : Option ℕ) (stop : MessageStop) (end : SessionEnd)
         → (stop ≡ stops.NoMemory → ((end ≡ ends.NoMemory) × Appends sa sb no_memory_text) ⊎ ((end ≡ ends.WriteFault) × ((n : ℕ) × Appends sa sb (take n no_memory_text))))
         → (stop ≡ stops.ReadFault → (end ≡ ends.ReadFault) × (sb ≡ sa)) → (stop ≡ stops.Spent → (end ≡ ends.Spent) × (sb ≡ sa)) → (stop ≡ stops.Spent → IsSpent total a)
-        → Closed moves old old sa sb m m (reading a remains) total end
-    some_stop old sa sb m a total stops.NoMemory end said read spent unsettled = last_words old sa sb m a total end (said refl)
-    some_stop old sa sb m a total stops.ReadFault end said read spent unsettled = silent old sa sb m a total end ends.ReadFault (read refl) (refl, refl, refl) (All-nil IsNoLack)
-    some_stop old sa sb m a total stops.Spent end said read spent unsettled = silent old sa sb m a total end ends.Spent (spent refl) (refl, refl, unsettled refl, refl) (All-nil IsNoLack)
+        → (stop ≡ stops.ReadFault → IsBegun a remains) → Closed moves old old sa sb m m (reading a remains) total end
+    some_stop old sa sb m a total stops.NoMemory end said read spent unsettled begun = last_words old sa sb m a total end (said refl)
+    some_stop old sa sb m a total stops.ReadFault end said read spent unsettled begun =
+        silent old sa sb m a total end ends.ReadFault (read refl) (refl, refl, refl) (All-nil IsNoLack) (λ is. begun refl)
+    some_stop old sa sb m a total stops.Spent end said read spent unsettled begun =
+        silent old sa sb m a total end ends.Spent (spent refl) (refl, refl, unsettled refl, refl) (All-nil IsNoLack) (λ is. absurd cc)
 
-    pub last_stop : (old : T) (sa sb ma mb a : Option (List ℕ)) (total : Option ℕ) (stop : Stop) (end : SessionEnd) → mb ≡ ma
+    pub last_stop : (old : T) (sa sb ma mb a : Option (List ℕ)) (total : Option ℕ) (stop : MessageStop) (end : SessionEnd) → mb ≡ ma
         → (stop ≡ stops.NoMemory → ((end ≡ ends.NoMemory) × Appends sa sb no_memory_text) ⊎ ((end ≡ ends.WriteFault) × ((n : ℕ) × Appends sa sb (take n no_memory_text))))
         → (stop ≡ stops.ReadFault → (end ≡ ends.ReadFault) × (sb ≡ sa)) → (stop ≡ stops.Spent → (end ≡ ends.Spent) × (sb ≡ sa)) → (stop ≡ stops.Spent → IsSpent total a)
-        → Closed moves old old sa sb ma mb (reading a remains) total end
-    last_stop old sa sb ma mb a total stop end same said read spent unsettled =
-        subst (λ (m : Option (List ℕ)). Closed moves old old sa sb ma m (reading a remains) total end) (sym same) (some_stop old sa sb ma a total stop end said read spent unsettled)
+        → (stop ≡ stops.ReadFault → IsBegun a remains) → Closed moves old old sa sb ma mb (reading a remains) total end
+    last_stop old sa sb ma mb a total stop end same said read spent unsettled begun =
+        subst (λ (m : Option (List ℕ)). Closed moves old old sa sb ma m (reading a remains) total end) (sym same) (some_stop old sa sb ma a total stop end said read spent unsettled begun)
 
     -- a session that had no memory to begin with
-    pub session_lacks : (old : T) (sa sb ma mb left : Option (List ℕ)) (end : SessionEnd) → mb ≡ ma
-        → ((end ≡ ends.NoMemory) × Appends sa sb no_memory_text) ⊎ ((end ≡ ends.WriteFault) × ((n : ℕ) × Appends sa sb (take n no_memory_text))) → Session moves old old sa sb ma mb (reading left remains) end
-    session_lacks old sa sb ma mb left end same said =
-        subst (λ (m : Option (List ℕ)). Session moves old old sa sb ma m (reading left remains) end) (sym same) (whole_session old old sa sb ma ma left end (last_words old sa sb ma left (option_map length left) end said))
+    pub session_lacks : {W : Type 0} (w : sinks.Ghosts W) (old : T) (out_old out_new : W) (left : Option (List ℕ)) (end : SessionEnd) → w.moments out_new ≡ w.moments out_old
+        → ((end ≡ ends.NoMemory) × Appends (w.said out_old) (w.said out_new) no_memory_text)
+        ⊎ ((end ≡ ends.WriteFault) × ((n : ℕ) × Appends (w.said out_old) (w.said out_new) (take n no_memory_text)))
+        → Session moves w old old out_old out_new (reading left remains) end
+    session_lacks w old out_old out_new left end same said =
+        let sa = w.said out_old in
+        let sb = w.said out_new in
+        let ma = w.moments out_old in
+        whole_session w old old out_old out_new left end
+        (subst (λ (m : Option (List ℕ)). Closed moves old old sa sb ma m (reading left remains) (option_map length left) end) (sym same)
+        (last_words old sa sb ma left (option_map length left) end said))
 
     -- ---- how a message went
 
@@ -621,8 +649,8 @@ held_if not_built P Q f p = tt
 held_if broken P Q f p = f p
 
 -- what is held behind an item
-pub held_back : (heard : Heard) (now : Held) (left : Option (List ℕ)) → OnItem {E = Stop} (Ok heard) (length now.bytes ≤ head_room)
-    → OnItem {E = Stop} (Ok heard) (IsHeldBack (prepend_known now.bytes left) left)
+pub held_back : (heard : Heard) (now : Held) (left : Option (List ℕ)) → OnItem {E = MessageStop} (Ok heard) (length now.bytes ≤ head_room)
+    → OnItem {E = MessageStop} (Ok heard) (IsHeldBack (prepend_known now.bytes left) left)
 held_back (heards.Asked ask last) now left short = (now.bytes, short, refl)
 held_back (heards.Bad bad last) now left short = held_if (refused_of bad) (length now.bytes ≤ head_room) (IsHeldBack (prepend_known now.bytes left) left) (λ few. (now.bytes, few, refl)) short
 held_back heards.End now left short = tt

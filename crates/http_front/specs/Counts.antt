@@ -5,8 +5,8 @@ use Rattle.http_wire.specs.Held.{head_room, take_limit}
 use Rattle.http_wire.specs.Messages.{IsUnsettled}
 
 -- the source gave so many bytes
-abbrev pub Gave : Option (List ℕ) → Option (List ℕ) → ℕ → Type 0
-Gave left_old left_new count = (given : List ℕ) × (length given ≡ count) × Consumes left_old left_new given
+abbrev pub GaveBytes : Option (List ℕ) → Option (List ℕ) → ℕ → Type 0
+GaveBytes left_old left_new count = (given : List ℕ) × (length given ≡ count) × Consumes left_old left_new given
 
 -- the bytes of the source in all, where so many were taken and these are left
 abbrev pub total_of : ℕ → Option (List ℕ) → Option ℕ
@@ -17,8 +17,8 @@ abbrev pub IsUnder : Option ℕ → Type 0
 IsUnder None = ⊤
 IsUnder (Some total) = total < take_limit
 
--- As many bytes as the limit were taken of a source of so many, and rest is left of the stream behind the messages: its front
--- is what was taken of it, and settles nothing.
+-- As many bytes as the limit were taken of a source of so many, and rest is left of the stream behind the messages: its
+-- front is what was taken of it, and settles nothing.
 pub record Spends (total : ℕ) (rest : List ℕ) : Type 0 where
   pub front : List ℕ
   pub more : List ℕ
@@ -41,13 +41,19 @@ IsUnspent (Some total) (Some rest) = ¬ (Spends total rest)
 -- ---- what is left of a source
 
 -- what a source has left at the start of a session, and at its end, where it tells
-pub record Reading : Type 0 where
+pub record StreamEnds : Type 0 where
   pub stream : Option (List ℕ)
   pub left : Option (List ℕ)
 
-abbrev pub reading : Option (List ℕ) → Option (List ℕ) → Reading
+abbrev pub reading : Option (List ℕ) → Option (List ℕ) → StreamEnds
 reading stream left = record { stream = stream; left = left }
 
 -- of this rest of a stream no more than a head's room was taken
 abbrev pub IsHeldBack : Option (List ℕ) → Option (List ℕ) → Type 0
 IsHeldBack rest left = (held : List ℕ) × (length held ≤ head_room) × (rest ≡ prepend_known held left)
+
+-- what was taken of this rest of a stream settles nothing: no whole message is among it
+abbrev pub IsBegun : Option (List ℕ) → Option (List ℕ) → Type 0
+IsBegun None left = ⊤
+IsBegun (Some rest) None = ⊥
+IsBegun (Some rest) (Some left) = (front : List ℕ) × IsUnsettled front × (rest ≡ front ++ left)

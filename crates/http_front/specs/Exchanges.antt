@@ -12,9 +12,9 @@ pub data Exchange : Type 0 where
   refused : Refused → Exchange
 
 -- what the message means
-abbrev pub meant_of : Exchange → Meant
-meant_of (answered call) = asks call.ask
-meant_of (refused broken) = refuses broken
+abbrev pub exchange_meant : Exchange → Meant
+exchange_meant (answered call) = asks call.ask
+exchange_meant (refused broken) = refuses broken
 
 -- the calls among them, in order
 abbrev pub calls_of : List Exchange → List Call
@@ -39,8 +39,9 @@ moments_of exchanges = flat_map exchange_moment exchanges
 -- session, which is then closed.
 abbrev pub Goes : List ℕ → List Exchange → List ℕ → Bool → Type 0
 Goes stream [] rest closed = (rest ≡ stream) × (closed ≡ false)
-Goes stream (exchange ∷ []) rest closed = IsItem stream (meant_of exchange) closed rest
-Goes stream (exchange ∷ next ∷ more) rest closed = (mid : List ℕ) × IsItem stream (meant_of exchange) false mid × Goes mid (next ∷ more) rest closed
+Goes stream (exchange ∷ []) rest closed = IsItem stream (exchange_meant exchange) closed rest
+Goes stream (exchange ∷ next ∷ more) rest closed =
+    (mid : List ℕ) × IsItem stream (exchange_meant exchange) false mid × Goes mid (next ∷ more) rest closed
 
 -- the same of a stream that may not be told
 abbrev pub Hears : Option (List ℕ) → List Exchange → Option (List ℕ) → Bool → Type 0

@@ -11,7 +11,8 @@ use Rattle.http_text.specs.Shorts.{IsShort}
 use Rattle.http_asks.specs.Streams.{StandsUnbuilt}
 use Rattle.http_front.specs.declared.answering.SessionEnd.{SessionEnd}
 use Rattle.http_front.specs.declared.answering.SessionEnd.TheVariants as ends
-use Rattle.http_front.specs.Counts.{IsUnder, IsSpent, IsUnspent, Reading, IsHeldBack}
+use Rattle.http_front.specs.declared.replies.Replies as sinks
+use Rattle.http_front.specs.Counts.{IsUnder, IsSpent, IsUnspent, StreamEnds, IsHeldBack, IsBegun}
 use Rattle.http_front.specs.Exchanges.{Exchange, answered, calls_of, moments_of, Hears}
 use Rattle.http_front.specs.Texts.{exchange_text, texts, not_built_text, no_memory_text}
 
@@ -68,8 +69,10 @@ IsWritten total ends.Ended exchanges whole rest closed written =
     ⊎ ((closed ≡ false) × ((IsAtEnd rest × IsUnder total × (written ≡ texts exchanges))
     ⊎ (StandsUnbuilt rest × IsUnspent total rest × (written ≡ texts exchanges ++ not_built_text))))
     )
-IsWritten total ends.ReadFault exchanges whole rest closed written = (whole ≡ exchanges) × (closed ≡ false) × (written ≡ texts exchanges)
-IsWritten total ends.Spent exchanges whole rest closed written = (whole ≡ exchanges) × (closed ≡ false) × IsSpent total rest × (written ≡ texts exchanges)
+IsWritten total ends.ReadFault exchanges whole rest closed written =
+    (whole ≡ exchanges) × (closed ≡ false) × (written ≡ texts exchanges)
+IsWritten total ends.Spent exchanges whole rest closed written =
+    (whole ≡ exchanges) × (closed ≡ false) × IsSpent total rest × (written ≡ texts exchanges)
 IsWritten total ends.WriteFault exchanges whole rest closed written =
     IsCut exchanges whole written
     ⊎ (((n : ℕ) × IsUnsaid exchanges whole written (take n no_memory_text))
@@ -86,21 +89,29 @@ IsWritten total ends.NoMemory exchanges whole rest closed written =
 
 -- ---- a session
 
-module _ {T : Type 0} (moves : T → Ask → Result Answer DeskFault → T → Type 0) where
-  -- A session over what was read: the messages that it heard, each with what the teller answered or as a refusal,
-  -- whether the last one closed it, and what was said, with the disk's moments of the answers that were said whole.
-  pub record Session (old new : T) (said_old said_new moments_old moments_new : Option (List ℕ)) (read : Reading)
-      (end : SessionEnd) : Type 0 where
-    pub exchanges : List Exchange
-    pub moved : Moves moves old (calls_of exchanges) new
-    pub rest : Option (List ℕ)
-    pub closed : Bool
-    pub heard : Hears read.stream exchanges rest closed
-    pub whole : List Exchange
-    pub written : List ℕ
-    pub said : Appends said_old said_new written
-    pub stamped : Appends moments_old moments_new (moments_of whole)
-    pub is_written : IsWritten (option_map length read.stream) end exchanges whole rest closed written
-    pub lacked : LacksBy end exchanges
-    -- behind a message that closes it nothing is read but what was held with it
-    pub behind : closed ≡ true → IsHeldBack rest read.left
+-- The transcript of a session over what was read, of a source with so many bytes in all: the messages that it heard,
+-- each with what was answered or as a refusal, what is left behind them, whether the last one closed it, and what was
+-- written.
+pub record Transcript (total : Option ℕ) (read : StreamEnds) (end : SessionEnd) : Type 0 where
+  pub exchanges : List Exchange
+  pub rest : Option (List ℕ)
+  pub closed : Bool
+  pub heard : Hears read.stream exchanges rest closed
+  -- the exchanges whose texts were written whole, and all that was written
+  pub whole : List Exchange
+  pub written : List ℕ
+  pub is_written : IsWritten total end exchanges whole rest closed written
+  pub lacked : LacksBy end exchanges
+  -- behind a message that closes it nothing is read but what was held with it
+  pub behind : closed ≡ true → IsHeldBack rest read.left
+  -- where the source failed, each message that had come whole is an exchange
+  pub begun : end ≡ ends.ReadFault → IsBegun rest read.left
+
+module _ {T W : Type 0} (moves : T → Ask → Result Answer DeskFault → T → Type 0) (w : sinks.Ghosts W) where
+  -- A session: the teller moved by the calls of its transcript, in order, and what was written was said, with the
+  -- disk's moments of the answers that were said whole.
+  pub record Session (old new : T) (out_old out_new : W) (read : StreamEnds) (end : SessionEnd) : Type 0 where
+    pub talk : Transcript (option_map length read.stream) read end
+    pub moved : Moves moves old (calls_of talk.exchanges) new
+    pub said : Appends (w.said out_old) (w.said out_new) talk.written
+    pub stamped : Appends (w.moments out_old) (w.moments out_new) (moments_of talk.whole)

@@ -9,22 +9,24 @@ use Rattle.desk_core.specs.declared.fault.DeskFault.TheVariants as faults
 use Rattle.http_asks.specs.Meaning.{Refused}
 use Rattle.http_front.specs.declared.answering.SessionEnd.{SessionEnd}
 use Rattle.http_front.specs.declared.answering.SessionEnd.TheVariants as ends
-use Rattle.http_front.specs.Counts.{Reading, reading, IsHeldBack}
+use Rattle.http_front.specs.Counts.{StreamEnds}
 use Rattle.http_front.specs.Exchanges.{Exchange, calls_of, moment_of, moments_of, Hears}
-use Rattle.http_front.specs.Session.{IsLong, IsWritten, NoneLacks, LacksBy}
+use Rattle.http_front.specs.Session.{IsLong, NoneLacks, Transcript}
 use Rattle.http_front.specs.Texts.{text_of, bad_text, no_memory_text, texts}
 
 -- a front of the text was said
-abbrev pub IsPart : Option (List ℕ) → Option (List ℕ) → List ℕ → Type 0
-IsPart said_old said_new text = (n : ℕ) × Appends said_old said_new (take n text)
+abbrev pub SaysFront : Option (List ℕ) → Option (List ℕ) → List ℕ → Type 0
+SaysFront said_old said_new text = (n : ℕ) × Appends said_old said_new (take n text)
 
 -- what was said of an answer, with its moment, and how the session goes on: it ends where memory ran out, also for the
 -- text of a long one
-abbrev pub IsSaid : Option (List ℕ) → Option (List ℕ) → Option (List ℕ) → Option (List ℕ) → Result Answer DeskFault → Result Unit SessionEnd → Type 0
+abbrev pub IsSaid : Option (List ℕ) → Option (List ℕ) → Option (List ℕ) → Option (List ℕ) → Result Answer DeskFault
+    → Result Unit SessionEnd → Type 0
 IsSaid said_old said_new moments_old moments_new told (Ok x) =
-    Appends said_old said_new (text_of told) × Appends moments_old moments_new (moment_of told) × (told ≡ Err faults.NoMemory → ⊥)
+    Appends said_old said_new (text_of told) × Appends moments_old moments_new (moment_of told)
+    × (told ≡ Err faults.NoMemory → ⊥)
 IsSaid said_old said_new moments_old moments_new told (Err ends.WriteFault) = (moments_new ≡ moments_old) × (
-    IsPart said_old said_new (text_of told) ⊎ (IsLong told × IsPart said_old said_new no_memory_text))
+    SaysFront said_old said_new (text_of told) ⊎ (IsLong told × SaysFront said_old said_new no_memory_text))
 IsSaid said_old said_new moments_old moments_new told (Err ends.NoMemory) = (moments_new ≡ moments_old) × (
     ((told ≡ Err faults.NoMemory) × Appends said_old said_new (text_of told))
     ⊎ (IsLong told × Appends said_old said_new no_memory_text))
@@ -32,10 +34,12 @@ IsSaid said_old said_new moments_old moments_new told (Err ends.Ended) = ⊥
 IsSaid said_old said_new moments_old moments_new told (Err ends.ReadFault) = ⊥
 IsSaid said_old said_new moments_old moments_new told (Err ends.Spent) = ⊥
 
--- what was said of a refusal, and how the session goes on: it ends where there was no memory for the text, and this is said
+-- what was said of a refusal, and how the session goes on: it ends where there was no memory for the text, and this is
+-- said
 abbrev pub IsRefusedBy : Option (List ℕ) → Option (List ℕ) → Refused → Result Unit SessionEnd → Type 0
 IsRefusedBy said_old said_new broken (Ok x) = Appends said_old said_new (bad_text broken)
-IsRefusedBy said_old said_new broken (Err ends.WriteFault) = IsPart said_old said_new (bad_text broken) ⊎ IsPart said_old said_new no_memory_text
+IsRefusedBy said_old said_new broken (Err ends.WriteFault) =
+    SaysFront said_old said_new (bad_text broken) ⊎ SaysFront said_old said_new no_memory_text
 IsRefusedBy said_old said_new broken (Err ends.NoMemory) = Appends said_old said_new no_memory_text
 IsRefusedBy said_old said_new broken (Err ends.Ended) = ⊥
 IsRefusedBy said_old said_new broken (Err ends.ReadFault) = ⊥
@@ -43,13 +47,15 @@ IsRefusedBy said_old said_new broken (Err ends.Spent) = ⊥
 
 module _ {T : Type 0} (moves : T → Ask → Result Answer DeskFault → T → Type 0) where
   -- One ask was answered.
-  pub record Answers (old new : T) (said_old said_new moments_old moments_new : Option (List ℕ)) (ask : Ask) (result : Result Unit SessionEnd) : Type 0 where
+  pub record AnswersOne (old new : T) (said_old said_new moments_old moments_new : Option (List ℕ)) (ask : Ask)
+      (result : Result Unit SessionEnd) : Type 0 where
     pub told : Result Answer DeskFault
     pub moved : moves old ask told new
     pub said : IsSaid said_old said_new moments_old moments_new told result
 
   -- Messages that were answered, one after another, of which none is the last of the session.
-  pub record Talked (old new : T) (said_old said_new moments_old moments_new stream rest : Option (List ℕ)) : Type 0 where
+  pub record Talked (old new : T) (said_old said_new moments_old moments_new stream rest : Option (List ℕ))
+      : Type 0 where
     pub exchanges : List Exchange
     pub moved : Moves moves old (calls_of exchanges) new
     pub heard : Hears stream exchanges rest false
@@ -58,23 +64,15 @@ module _ {T : Type 0} (moves : T → Ask → Result Answer DeskFault → T → T
     pub enough : NoneLacks (calls_of exchanges)
 
   -- The same up to the end of the session, whose source has so many bytes in all.
-  pub record Closed (old new : T) (said_old said_new moments_old moments_new : Option (List ℕ)) (read : Reading)
+  pub record Closed (old new : T) (said_old said_new moments_old moments_new : Option (List ℕ)) (read : StreamEnds)
       (total : Option ℕ) (end : SessionEnd) : Type 0 where
-    pub exchanges : List Exchange
-    pub moved : Moves moves old (calls_of exchanges) new
-    pub rest : Option (List ℕ)
-    pub closed : Bool
-    pub heard : Hears read.stream exchanges rest closed
-    pub whole : List Exchange
-    pub written : List ℕ
-    pub said : Appends said_old said_new written
-    pub stamped : Appends moments_old moments_new (moments_of whole)
-    pub is_written : IsWritten total end exchanges whole rest closed written
-    pub lacked : LacksBy end exchanges
-    pub behind : closed ≡ true → IsHeldBack rest read.left
+    pub talk : Transcript total read end
+    pub moved : Moves moves old (calls_of talk.exchanges) new
+    pub said : Appends said_old said_new talk.written
+    pub stamped : Appends moments_old moments_new (moments_of talk.whole)
 
   -- how a message went: the session goes on, or it ends
-  abbrev pub Went : T → T → Option (List ℕ) → Option (List ℕ) → Option (List ℕ) → Option (List ℕ) → Reading
+  abbrev pub Went : T → T → Option (List ℕ) → Option (List ℕ) → Option (List ℕ) → Option (List ℕ) → StreamEnds
       → Option (List ℕ) → Option ℕ → Result Unit SessionEnd → Type 0
   Went old new said_old said_new moments_old moments_new read rest total (Ok x) =
       Talked old new said_old said_new moments_old moments_new read.stream rest

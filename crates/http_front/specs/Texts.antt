@@ -10,7 +10,7 @@ use Rattle.rules_core.specs.declared.flaw.RuleFlaw.TheVariants as flaws
 use Rattle.tariff.specs.Reading.{table_name}
 use Rattle.tariff.specs.declared.fault.TariffTable.{TariffTable}
 use Rattle.http_bodies.specs.Flaws.{BodyFlaw, bad_body, bad_size, unsupported_class, bad_tags}
-use Rattle.http_text.specs.Replies.{whole, error_data, error_text, reply_with, answer_text}
+use Rattle.http_text.specs.Replies.{whole_data, error_data, error_text, reply_with, answer_text}
 use Rattle.http_asks.specs.Faults.{refused_of}
 use Rattle.http_asks.specs.Meaning.{Refused, not_a_date, not_midnight, not_a_month, bad_bucket_name, bad_key}
 use Rattle.http_asks.specs.Meaning.{flaw_in, not_json, unknown_field, wrong_shape}
@@ -45,7 +45,7 @@ unfoldable pub field_text : List ℕ → ℕ → List ℕ → List ℕ
 field_text error number field = compact_text (error_data error number ((codes "field", string field) ∷ []))
 
 unfoldable pub rule_text : List ℕ → ℕ → ℕ → List ℕ
-rule_text error number rule = compact_text (error_data error number ((codes "rule", whole rule) ∷ []))
+rule_text error number rule = compact_text (error_data error number ((codes "rule", whole_data rule) ∷ []))
 
 unfoldable pub price_text : List ℕ → ℕ → TariffTable → Class → List ℕ
 price_text error number table class =
@@ -128,7 +128,7 @@ bad_text broken = reply_with (refused_status broken) (refused_body broken)
 
 -- the body tells the place of the gate whose frame is damaged
 unfoldable pub damaged_text : ℕ → List ℕ
-damaged_text offset = compact_text (error_data (codes "Damaged") 112 ((codes "offset", whole offset) ∷ []))
+damaged_text offset = compact_text (error_data (codes "Damaged") 112 ((codes "offset", whole_data offset) ∷ []))
 
 -- why the journal was not opened again
 abbrev pub open_body : OpenFault → List ℕ

@@ -8,9 +8,9 @@ ghost use Rattle.http_wire.specs.Held.{take_limit};
 ghost use Rattle.http_text.specs.Shorts.{IsShort};
 ghost use Rattle.http_asks.specs.Counts.{Given};
 ghost use Rattle.http_asks.specs.Faults.{refused_of};
-ghost use Rattle.http_asks.specs.Tells.{Tells, OnItem};
+ghost use Rattle.http_asks.specs.Tells.{TellsHeard, OnItem};
 ghost use Rattle.http_front.specs.Counts.{IsUnder, IsUnspent, IsHeldBack, reading, total_of};
-ghost use Rattle.http_front.specs.Talk.{IsSaid, IsRefusedBy, Answers, Talked, Closed, Went};
+ghost use Rattle.http_front.specs.Talk.{IsSaid, IsRefusedBy, AnswersOne, Talked, Closed, Went};
 ghost use Rattle.http_front.specs.Texts.{bad_text_of, no_memory_text};
 
 use crate::bad::Bad;
@@ -20,9 +20,9 @@ use crate::replies::Replies;
 use crate::teller::Teller;
 use crate::texts::no_memory;
 use desk_core::{Acked, DeskFault};
-use http_asks::{Heard, Reader, Stop};
+use http_asks::{Heard, Reader};
 use http_text::is_short;
-use http_wire::Source;
+use http_wire::{MessageStop, Source};
 use office_types::Ask;
 use std::alloc::Global;
 
@@ -174,7 +174,7 @@ fn answer<W: Replies, T: Teller>(
     teller: &mut T,
 ) -> Result<(), SessionEnd>
     requires room { 16384 ≤ length room.old }
-    ensures answers { Answers T.moves teller.old teller.new (W.said out.old) (W.said out.new) (W.moments out.old)
+    ensures answers { AnswersOne T.moves teller.old teller.new (W.said out.old) (W.said out.new) (W.moments out.old)
         (W.moments out.new) ask.now result }
     ensures room { 16384 ≤ length room.new }
     ensures texts { W.texts out.new ≡ W.texts out.old }
@@ -204,25 +204,25 @@ fn say_bad<W: Replies>(alloc: Global, out: &mut W, bad: http_asks::Bad) -> Resul
     }
 }
 
-fn say_stop<W: Replies>(out: &mut W, stop: Stop) -> SessionEnd
-    ensures said { (stop ≡ Stop.NoMemory) → ((result ≡ SessionEnd.NoMemory)
+fn say_stop<W: Replies>(out: &mut W, stop: MessageStop) -> SessionEnd
+    ensures said { (stop ≡ MessageStop.NoMemory) → ((result ≡ SessionEnd.NoMemory)
         × Appends (W.said out.old) (W.said out.new) no_memory_text)
         ⊎ ((result ≡ SessionEnd.WriteFault) × ((n : ℕ)
         × Appends (W.said out.old) (W.said out.new) (take n no_memory_text))) }
-    ensures read_fault { (stop ≡ Stop.ReadFault) → (result ≡ SessionEnd.ReadFault) × (W.said out.new ≡ W.said out.old) }
-    ensures spent { (stop ≡ Stop.Spent) → (result ≡ SessionEnd.Spent) × (W.said out.new ≡ W.said out.old) }
+    ensures read_fault { (stop ≡ MessageStop.ReadFault) → (result ≡ SessionEnd.ReadFault) × (W.said out.new ≡ W.said out.old) }
+    ensures spent { (stop ≡ MessageStop.Spent) → (result ≡ SessionEnd.Spent) × (W.said out.new ≡ W.said out.old) }
     ensures moments { W.moments out.new ≡ W.moments out.old }
     ensures texts { W.texts out.new ≡ W.texts out.old }
     ensures noted { W.noted out.new ≡ W.noted out.old }
     ensures later { W.faults out.old ≤ W.faults out.new }
     ensures fault { result ≡ SessionEnd.WriteFault → Rose (W.faults out.old) (W.faults out.new) }
-    ensures read_only { result ≡ SessionEnd.ReadFault → stop ≡ Stop.ReadFault }
-    ensures spent_only { result ≡ SessionEnd.Spent → stop ≡ Stop.Spent }
+    ensures read_only { result ≡ SessionEnd.ReadFault → stop ≡ MessageStop.ReadFault }
+    ensures spent_only { result ≡ SessionEnd.Spent → stop ≡ MessageStop.Spent }
 {
     match stop {
-        Stop::ReadFault => SessionEnd::ReadFault,
-        Stop::Spent => SessionEnd::Spent,
-        Stop::NoMemory => say_no_memory(out),
+        MessageStop::ReadFault => SessionEnd::ReadFault,
+        MessageStop::Spent => SessionEnd::Spent,
+        MessageStop::NoMemory => say_no_memory(out),
     }
 }
 
@@ -242,13 +242,13 @@ fn answer_heard<W: Replies, T: Teller>(
     teller: &mut T,
 ) -> Result<(), SessionEnd>
     requires room { 16384 ≤ length room.old }
-    ensures went { (stream rest left : Option (List ℕ)) (total : Option ℕ) → Tells stream heard rest
+    ensures went { (stream rest left : Option (List ℕ)) (total : Option ℕ) → TellsHeard stream heard rest
         → (heard ≡ Heard.End → IsUnder total) → IsUnspent total stream
-        → OnItem {E = Stop} (Ok heard) (IsHeldBack rest left)
+        → OnItem {E = MessageStop} (Ok heard) (IsHeldBack rest left)
         → Went T.moves teller.old teller.new (W.said out.old) (W.said out.new) (W.moments out.old) (W.moments out.new)
         (reading stream left) rest total result }
-    ensures item { (stream rest : Option (List ℕ)) (few many : ℕ) → Tells stream heard rest
-        → OnItem {E = Stop} (Ok heard) (few < many) → OnOk result (few < many) }
+    ensures item { (stream rest : Option (List ℕ)) (few many : ℕ) → TellsHeard stream heard rest
+        → OnItem {E = MessageStop} (Ok heard) (few < many) → OnOk result (few < many) }
     ensures room { 16384 ≤ length room.new }
     ensures texts { W.texts out.new ≡ W.texts out.old }
     ensures noted { W.noted out.new ≡ W.noted out.old }
@@ -290,7 +290,8 @@ pub(crate) fn answer_one<R: Source, W: Replies, T: Teller>(
     ensures room { 16384 ≤ length room.new }
     ensures given { Given reader.old.taken reader.new.taken (R.left source.old) (R.left source.new) }
     ensures limit { reader.new.taken ≤ take_limit }
-    ensures uses { OnOk result (reader.old.taken + length reader.new.bytes < reader.new.taken + length reader.old.bytes) }
+    ensures uses { OnOk result
+        (reader.old.taken + length reader.new.bytes < reader.new.taken + length reader.old.bytes) }
     ensures texts { W.texts out.new ≡ W.texts out.old }
     ensures noted { W.noted out.new ≡ W.noted out.old }
     ensures stream { R.stream source.new ≡ R.stream source.old }

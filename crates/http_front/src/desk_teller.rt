@@ -5,7 +5,7 @@ use disk_core::Disk;
 use office_types::Ask;
 
 impl<D: Disk + Drop, C: Clock + Drop> Teller for Desk<D, C> {
-    ghost use Rattle.desk_core.specs.Asking.{Submits};
+    ghost use Rattle.desk_core.specs.Submitting.{Submits};
 
     ghost moves = { λ old ask said new. Submits D.Disk C.Clock old ask said new };
 

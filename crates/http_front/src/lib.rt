@@ -16,7 +16,7 @@ mod texts;
 
 pub use answering::SessionEnd;
 pub use bad::Bad;
-pub use http_asks::{Heard, Reader, Stop};
+pub use http_asks::{Heard, Reader};
 pub use http_wire::{MemorySource, ReaderSource, Source};
 pub use memory_replies::MemoryReplies;
 pub use printing::{NoRoom, print_fault, print_query, print_reply};

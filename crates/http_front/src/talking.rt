@@ -4,7 +4,7 @@ ghost use Rattle.std.specs.Io.KnownBytes.{prepend_known};
 ghost use Rattle.office_base.specs.Faults.{Rose};
 ghost use Rattle.http_wire.specs.Held.{take_limit};
 ghost use Rattle.http_asks.specs.Counts.{Given};
-ghost use Rattle.http_front.specs.Counts.{Gave, reading, total_of};
+ghost use Rattle.http_front.specs.Counts.{GaveBytes, reading, total_of};
 ghost use Rattle.http_front.specs.Session.{Session};
 ghost use Rattle.http_front.specs.Talk.{Closed};
 
@@ -63,9 +63,9 @@ pub fn session<R: Source, W: Replies, T: Teller>(
     out: &mut W,
     teller: &mut T,
 ) -> SessionEnd
-    ensures session { Session T.moves teller.old teller.new (W.said out.old) (W.said out.new) (W.moments out.old)
-        (W.moments out.new) (reading (R.left source.old) (R.left source.new)) result }
-    ensures taken { (n : ℕ) × (n ≤ take_limit) × Gave (R.left source.old) (R.left source.new) n }
+    ensures session { Session T.moves W.Replies teller.old teller.new out.old out.new
+        (reading (R.left source.old) (R.left source.new)) result }
+    ensures taken { (n : ℕ) × (n ≤ take_limit) × GaveBytes (R.left source.old) (R.left source.new) n }
     ensures texts { W.texts out.new ≡ W.texts out.old }
     ensures noted { W.noted out.new ≡ W.noted out.old }
     ensures stream { R.stream source.new ≡ R.stream source.old }
@@ -73,7 +73,7 @@ pub fn session<R: Source, W: Replies, T: Teller>(
     ensures write_later { W.faults out.old ≤ W.faults out.new }
     ensures read_fault { result ≡ SessionEnd.ReadFault → Rose (R.faults source.old) (R.faults source.new) }
     ensures write_fault { result ≡ SessionEnd.WriteFault → Rose (W.faults out.old) (W.faults out.new) }
-    ensures spent { result ≡ SessionEnd.Spent → Gave (R.left source.old) (R.left source.new) take_limit }
+    ensures spent { result ≡ SessionEnd.Spent → GaveBytes (R.left source.old) (R.left source.new) take_limit }
 {
     let Ok(mut reader) = Reader::new(alloc) else {
         return say_no_memory(out);

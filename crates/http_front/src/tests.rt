@@ -16,16 +16,20 @@ const MADE: &[u8] =
     b"HTTP/1.1 201 Created\r\ncontent-type: application/json\r\ncontent-length: 17\r\n\r\n{\"bucket\":\"logs\"}";
 
 const FULL: &[u8] =
-    b"HTTP/1.1 507 Insufficient Storage\r\ncontent-type: application/json\r\ncontent-length: 36\r\n\r\n{\"error\":\"JournalFull\",\"number\":113}";
+    b"HTTP/1.1 507 Insufficient Storage\r\ncontent-type: application/json\r\ncontent-length: 36\r\n\r\n\
+{\"error\":\"JournalFull\",\"number\":113}";
 
 const FAILED: &[u8] =
-    b"HTTP/1.1 503 Service Unavailable\r\ncontent-type: application/json\r\ncontent-length: 35\r\n\r\n{\"error\":\"StoreFault\",\"number\":114}";
+    b"HTTP/1.1 503 Service Unavailable\r\ncontent-type: application/json\r\ncontent-length: 35\r\n\r\n\
+{\"error\":\"StoreFault\",\"number\":114}";
 
 const LACKS: &[u8] =
-    b"HTTP/1.1 500 Internal Server Error\r\ncontent-type: application/json\r\ncontent-length: 33\r\n\r\n{\"error\":\"NoMemory\",\"number\":115}";
+    b"HTTP/1.1 500 Internal Server Error\r\ncontent-type: application/json\r\ncontent-length: 33\r\n\r\n\
+{\"error\":\"NoMemory\",\"number\":115}";
 
 const NOT_BUILT: &[u8] =
-    b"HTTP/1.1 501 Not Implemented\r\ncontent-type: application/json\r\ncontent-length: 33\r\n\r\n{\"error\":\"NotBuilt\",\"number\":119}";
+    b"HTTP/1.1 501 Not Implemented\r\ncontent-type: application/json\r\ncontent-length: 33\r\n\r\n\
+{\"error\":\"NotBuilt\",\"number\":119}";
 
 const PUT: &[u8] = b"PUT /buckets/logs HTTP/1.1\r\nHost: x\r\n\r\n";
 
@@ -501,10 +505,12 @@ fn a_last_message_ends_the_session(rt: HostRuntime) -> Result<(), Fail> {
 }
 
 const STORED: &[u8] =
-    b"HTTP/1.1 201 Created\r\ncontent-type: application/json\r\ncontent-length: 54\r\n\r\n{\"moment\":\"2024-01-01T00:00:00.000Z\",\"version\":\"null\"}";
+    b"HTTP/1.1 201 Created\r\ncontent-type: application/json\r\ncontent-length: 54\r\n\r\n\
+{\"moment\":\"2024-01-01T00:00:00.000Z\",\"version\":\"null\"}";
 
 const SHOWN: &[u8] =
-    b"HTTP/1.1 200 OK\r\ncontent-type: application/json\r\ncontent-length: 79\r\n\r\n{\"bucket\":\"logs\",\"rules\":0,\"uploads\":0,\"versioning\":\"Unversioned\",\"versions\":1}";
+    b"HTTP/1.1 200 OK\r\ncontent-type: application/json\r\ncontent-length: 79\r\n\r\n{\"bucket\":\"logs\",\"rules\":0,\
+\"uploads\":0,\"versioning\":\"Unversioned\",\"versions\":1}";
 
 /// A desk over an empty journal in memory.
 fn open_desk(alloc: Global) -> Result<Desk<MemoryDisk, ListClock>, Fail> {

@@ -6,5 +6,6 @@ ghost use Rattle.http_front.specs.Texts.{no_memory_text};
 pub(crate) fn no_memory() -> &'static [u8]
     ensures { result.now ≡ no_memory_text }
 {
-    b"HTTP/1.1 500 Internal Server Error\r\ncontent-type: application/json\r\ncontent-length: 33\r\n\r\n{\"error\":\"NoMemory\",\"number\":115}"
+    b"HTTP/1.1 500 Internal Server Error\r\ncontent-type: application/json\r\ncontent-length: 33\r\n\r\n\
+{\"error\":\"NoMemory\",\"number\":115}"
 }

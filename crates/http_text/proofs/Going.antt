@@ -1,29 +1,27 @@
 -- Lists that are written item by item.
-use Rattle.std.proofs.Common.{◌≡◌, ◌∙◌, ℕ, ◌+◌, ◌<◌, Bool, true, false, ◌&&◌, List, [], ◌∷◌, ◌++◌, length, map, get_or, drop, refl, sym, ap, append_assoc, Ordering, Less, Equal, Greater, nat_cmp, String}
+use Rattle.std.proofs.Common.{◌≡◌, ◌∙◌, ℕ, ◌+◌, ◌<◌, Bool, true, false, List, [], ◌∷◌, ◌++◌, length, map, get_or, drop, refl, sym, ap, append_assoc, Ordering, Less, Equal, Greater, nat_cmp, String}
 use Rattle.std.specs.declared.alloc.Global.{Global}
 use Rattle.std.specs.List.{list_all}
 use Rattle.std.specs.Ordering.{match_ordering, is_lt}
 use Rattle.std.specs.Cmp.Lexicographic.{slice_cmp}
 use Rattle.std.proofs.lemmas.List.{drop_more}
+use Rattle.std.proofs.lemmas.Bool.{and_parts}
 use Rattle.json.specs.Print.{quoted}
 use Rattle.serde_json.specs.Data.{Data, string, Members, no_members, member, put}
 use Rattle.serde_json.specs.View.{items_of}
 use Rattle.serde_json.specs.Written.{comma_if, compact_text, items_text, members_text}
-use Rattle.office_base.specs.Tags.{Tag, comes_before, keys_rise, tag_of, tags_of}
+use Rattle.office_base.specs.Tags.{Tag, is_tag_before, keys_rise, tag_of, tags_of}
 use Rattle.uploads.specs.declared.part.Part.{Part}
 use Rattle.http_text.specs.Bodies.{part_data, tags_text}
 use Rattle.http_text.specs.Json.{members, tag_members}
 use Rattle.http_text.specs.Parts.{tag_part, upload_part}
 use Rattle.http_text.specs.Room.{Puts}
-use Rattle.http_text.proofs.RoomLemmas.{puts_then, puts_nothing, puts_same}
+use Rattle.http_text.proofs.RoomLemmas.{puts_then, puts_same}
 
 -- ---- a text of which some is written, and this is left
 
 abbrev pub Going : List ℕ → ℕ → List ℕ → ℕ → List ℕ → List ℕ → Type 0
 Going old at new end left whole = (done : List ℕ) × Puts old at new end done × (done ++ left ≡ whole)
-
-pub going_start : (a : List ℕ) (at : ℕ) (whole : List ℕ) → Going a at a at whole whole
-going_start a at whole = ([], puts_nothing a at, refl)
 
 pub going_on : {a b c : List ℕ} {at mid end : ℕ} (left whole x more : List ℕ) → Going a at b mid left whole → left ≡ x ++ more → Puts b mid c end x → Going a at c end more whole
 going_on left whole x more (done, puts, is) parts next =
@@ -56,21 +54,16 @@ first_by Less a b c is = refl
 first_by Equal a b c is = absurd cc
 first_by Greater a b c is = absurd cc
 
-both : (a b : Bool) → a && b ≡ true → (a ≡ true) × (b ≡ true)
-both true true is = (refl, refl)
-both true false is = absurd cc
-both false b is = absurd cc
-
-put_first : (tag : Tag) (tags : List Tag) → list_all (comes_before tag) tags ≡ true → put tag.0 (string tag.1) (row tags) ≡ row (tag ∷ tags)
+put_first : (tag : Tag) (tags : List Tag) → list_all (is_tag_before tag) tags ≡ true → put tag.0 (string tag.1) (row tags) ≡ row (tag ∷ tags)
 put_first tag [] all = refl
 put_first tag (next ∷ tags) all =
-    first_by (slice_cmp nat_cmp tag.0 next.0) (member tag.0 (string tag.1) (row (next ∷ tags))) _ _ (both (comes_before tag next) (list_all (comes_before tag) tags) all).0
+    first_by (slice_cmp nat_cmp tag.0 next.0) (member tag.0 (string tag.1) (row (next ∷ tags))) _ _ (and_parts (is_tag_before tag next) (list_all (is_tag_before tag) tags) all).0
 
 -- tags whose keys rise are members in their order
 pub in_row : (tags : List Tag) → keys_rise tags ≡ true → members (tag_members tags) ≡ row tags
 in_row [] rises = refl
 in_row (tag ∷ tags) rises =
-    let parts = both (list_all (comes_before tag) tags) (keys_rise tags) rises in
+    let parts = and_parts (list_all (is_tag_before tag) tags) (keys_rise tags) rises in
     ap (put tag.0 (string tag.1)) (in_row tags parts.1) ∙ put_first tag tags parts.0
 
 pub tags_in_row : (tags : List Tag) → keys_rise tags ≡ true → 123 ∷ members_text false (row tags) ≡ tags_text tags

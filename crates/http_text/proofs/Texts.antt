@@ -108,7 +108,12 @@ unfolding serde_json_on_literals meters_text
 meters_is m = refl
 
 pub classes_is : (a b c d e f : ClassMeters)
-    → codes "[" ++ (meters_text a ++ ((codes "," ++ meters_text b) ++ ((codes "," ++ meters_text c) ++ ((codes "," ++ meters_text d) ++ ((codes "," ++ meters_text e) ++ ((codes "," ++ meters_text f) ++ codes "]"))))))
+    → codes "["
+    ++ (meters_text a
+    ++ ((codes "," ++ meters_text b)
+    ++ ((codes "," ++ meters_text c)
+    ++ ((codes "," ++ meters_text d)
+    ++ ((codes "," ++ meters_text e) ++ ((codes "," ++ meters_text f) ++ codes "]"))))))
     ≡ classes_text (a ∷ b ∷ c ∷ d ∷ e ∷ f ∷ [])
 unfolding classes_text meters_text
 classes_is a b c d e f = refl
@@ -231,7 +236,21 @@ pub no_memory_is : error_text (codes "NoMemory") 115 ≡ body_text (Err NoMemory
 unfolding body_text error_text
 no_memory_is = refl
 
-pub ruleset refusal_texts = (exists_is, missing_is, no_rules_is, not_enabled_is, no_key_is, no_version_is, is_marker_is, no_upload_is, bad_part_is, no_parts_is, already_closed_is, no_tariff_is, no_memory_is)
+pub ruleset refusal_texts = (
+  exists_is,
+  missing_is,
+  no_rules_is,
+  not_enabled_is,
+  no_key_is,
+  no_version_is,
+  is_marker_is,
+  no_upload_is,
+  bad_part_is,
+  no_parts_is,
+  already_closed_is,
+  no_tariff_is,
+  no_memory_is,
+)
 
 -- a list of six, by its places
 pub classes_by_place : (cs : List ClassMeters) (d : ClassMeters) → length cs ≡ 6

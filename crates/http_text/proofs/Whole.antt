@@ -3,7 +3,7 @@ use Rattle.std.proofs.Common.{◌≡◌, ℕ, ◌<◌, ◌≤◌, List, [], ◌+
 use Rattle.std.proofs.lemmas.Fmt.{length-decimal-le}
 use Rattle.std.proofs.lemmas.List.{take_all}
 use Rattle.http.specs.StatusCode.{reason_phrase}
-use Rattle.http_text.specs.Room.{Holds, Puts}
+use Rattle.http_text.specs.Room.{HoldsText, Puts}
 use Rattle.rules_core.specs.Configurations.{Configuration}
 use Rattle.rules_json.specs.Printing.{printed}
 use Rattle.office_types.specs.declared.reply.Reply.{Reply}
@@ -28,7 +28,7 @@ head_with_parts media status size = refl
 -- a text that is put into no room is counted
 pub counted : (none some text : List ℕ) (size : ℕ) → length none ≡ 0 → length text ≤ 16_000 → Puts none 0 some size text → size ≡ length text
 counted none some text size empty small puts =
-    let nothing : Holds none 0 [] = record { counts = refl; written = λ _. refl } in
+    let nothing : HoldsText none 0 [] = record { counts = refl; written = λ _. refl } in
     omega (arith, (puts [] nothing).counts, small)
 
 pub whole : {old mid new : List ℕ} {at end : ℕ} (status size : ℕ) (body : List ℕ) → size ≡ length body

@@ -23,7 +23,7 @@ use Rattle.office_types.specs.declared.reply.Reply.TheVariants.{VersionDeleted, 
 use Rattle.office_types.specs.declared.reply.Reply.TheVariants.{Aborted, Chosen, NothingDue, TariffSet, Closed}
 use Rattle.office_types.specs.declared.reply.Reply.TheVariants.{BucketShown, RulesShown, StackShown, UploadShown}
 use Rattle.office_types.specs.declared.reply.Reply.TheVariants.{MetersShown, TariffShown, Report}
-use Rattle.http_text.specs.Json.{json_object, array_of, whole, digits_of, moment_data, id_data, tags_data}
+use Rattle.http_text.specs.Json.{json_object, array_of, whole_data, digits_of, moment_data, id_data, tags_data}
 use Rattle.http_text.specs.Names.{month_text, versioning_name, action_name}
 use Rattle.usage_report.specs.Csv.{report_csv}
 
@@ -46,14 +46,14 @@ marker_fields (Some id) = (codes "marker", id_data id) ∷ []
 
 abbrev pub target_field : Target → List ℕ × Data
 target_field (target.Version id) = (codes "version", id_data id)
-target_field (target.Upload number) = (codes "upload", whole number)
+target_field (target.Upload number) = (codes "upload", whole_data number)
 
 -- ---- versions, newest first: the first is the current one (S3 User Guide, "How S3 Versioning works")
 
 abbrev pub kind_fields : Kind → List (List ℕ × Data)
 kind_fields Marker = (codes "kind", string (codes "marker")) ∷ []
 kind_fields (Object size class tags entered) =
-    (codes "kind", string (codes "object")) ∷ (codes "size", whole size) ∷ (codes "class", class_data class)
+    (codes "kind", string (codes "object")) ∷ (codes "size", whole_data size) ∷ (codes "class", class_data class)
     ∷ (codes "tags", tags_data tags) ∷ (codes "entered", moment_data entered) ∷ []
 
 abbrev pub version_fields : Version → List (List ℕ × Data)
@@ -76,17 +76,17 @@ versions_data (current ∷ noncurrent) = dated_version None current ∷ map nonc
 -- ---- uploads, meters, prices
 
 abbrev pub part_data : ℕ × Part → Data
-part_data part = json_object ((codes "part", whole part.0) ∷ (codes "size", whole part.1.size) ∷ [])
+part_data part = json_object ((codes "part", whole_data part.0) ∷ (codes "size", whole_data part.1.size) ∷ [])
 
 -- byte-milliseconds are texts of digits (own), since they may be larger than what a reader's numbers hold (RFC 8259,
 -- "Numbers")
 abbrev pub meters_data : ClassMeters → Data
 meters_data meters = json_object (
     (codes "class", class_data meters.class) ∷ (codes "byte_ms", digits_of meters.byte_ms)
-    ∷ (codes "early_byte_ms", digits_of meters.early_byte_ms) ∷ (codes "moves", whole meters.moves) ∷ [])
+    ∷ (codes "early_byte_ms", digits_of meters.early_byte_ms) ∷ (codes "moves", whole_data meters.moves) ∷ [])
 
 abbrev pub price_fields : (Class → ℕ) → List Class → List (List ℕ × Data)
-price_fields price classes = map (λ class. (class_name class, whole (price class))) classes
+price_fields price classes = map (λ class. (class_name class, whole_data (price class))) classes
 
 -- by rank from STANDARD on, and from STANDARD_IA on
 abbrev pub storage_data : Prices → Data
@@ -127,16 +127,16 @@ abbrev pub reply_body : Reply → Body
 reply_body (BucketMade bucket) = json (json_object ((codes "bucket", string bucket) ∷ []))
 reply_body (VersioningSet versioning) =
     json (json_object ((codes "versioning", string (versioning_name versioning)) ∷ []))
-reply_body (RulesSet rules) = json (json_object ((codes "rules", whole rules) ∷ []))
+reply_body (RulesSet rules) = json (json_object ((codes "rules", whole_data rules) ∷ []))
 reply_body (Stored moment version) =
     json (json_object ((codes "moment", moment_data moment) ∷ (codes "version", id_data version) ∷ []))
 reply_body (Deleted (Some marker)) = json (json_object ((codes "marker", id_data marker) ∷ []))
 reply_body (Deleted None) = json (json_object ((codes "removed", string (codes "null")) ∷ []))
 reply_body (VersionDeleted removed) = json (json_object ((codes "removed", id_data removed) ∷ []))
-reply_body (TagsSet tags) = json (json_object ((codes "tags", whole tags) ∷ []))
-reply_body (UploadStarted upload) = json (json_object ((codes "upload", whole upload) ∷ []))
-reply_body (PartStored part) = json (json_object ((codes "part", whole part) ∷ []))
-reply_body (Aborted upload) = json (json_object ((codes "aborted", whole upload) ∷ []))
+reply_body (TagsSet tags) = json (json_object ((codes "tags", whole_data tags) ∷ []))
+reply_body (UploadStarted upload) = json (json_object ((codes "upload", whole_data upload) ∷ []))
+reply_body (PartStored part) = json (json_object ((codes "part", whole_data part) ∷ []))
+reply_body (Aborted upload) = json (json_object ((codes "aborted", whole_data upload) ∷ []))
 reply_body (Chosen kind key target rule since marker) = json (json_object (
     class_fields kind ++ (marker_fields marker ++ (
     (codes "action", string (action_name kind)) ∷ (codes "key", string key) ∷ target_field target
@@ -146,13 +146,14 @@ reply_body TariffSet = json (json_object ((codes "tariff", string (codes "set"))
 reply_body (Closed month) = json (json_object ((codes "closed", string (month_text month)) ∷ []))
 reply_body (BucketShown bucket rules uploads versioning versions) = json (json_object (
     (codes "bucket", string bucket) ∷ (codes "versioning", string (versioning_name versioning))
-    ∷ (codes "rules", whole rules) ∷ (codes "versions", whole versions) ∷ (codes "uploads", whole uploads) ∷ []))
+    ∷ (codes "rules", whole_data rules) ∷ (codes "versions", whole_data versions)
+    ∷ (codes "uploads", whole_data uploads) ∷ []))
 reply_body (RulesShown rules) = json (configuration_data rules)
 reply_body (StackShown key stack) = json (json_object (
     (codes "key", string key) ∷ (codes "changed", moment_data stack.changed)
     ∷ (codes "versions", array_of (versions_data stack.versions)) ∷ []))
 reply_body (UploadShown number upload) = json (json_object (
-    (codes "upload", whole number) ∷ (codes "key", string upload.key) ∷ (codes "class", class_data upload.class)
+    (codes "upload", whole_data number) ∷ (codes "key", string upload.key) ∷ (codes "class", class_data upload.class)
     ∷ (codes "tags", tags_data upload.tags) ∷ (codes "started", moment_data upload.started)
     ∷ (codes "parts", array_of (map part_data upload.parts)) ∷ []))
 reply_body (MetersShown bucket month classes) = json (json_object (

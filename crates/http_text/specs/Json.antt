@@ -19,8 +19,8 @@ json_object fields = object (members fields)
 abbrev pub array_of : List Data → Data
 array_of values = array (items_of values)
 
-abbrev pub whole : ℕ → Data
-whole n = number (unsigned n)
+abbrev pub whole_data : ℕ → Data
+whole_data n = number (unsigned n)
 
 -- a number as a text of digits
 abbrev pub digits_of : ℕ → Data
@@ -50,4 +50,4 @@ unfoldable pub text_object : List ℕ → List ℕ → List ℕ
 text_object name text = compact_text (json_object ((name, string text) ∷ []))
 
 unfoldable pub number_object : List ℕ → ℕ → List ℕ
-number_object name n = compact_text (json_object ((name, whole n) ∷ []))
+number_object name n = compact_text (json_object ((name, whole_data n) ∷ []))

@@ -9,11 +9,11 @@ use Rattle.office_types.specs.declared.refusal.Refusal.TheVariants.{IsMarker, No
 use Rattle.office_types.specs.declared.refusal.Refusal.TheVariants.{MonthNotOver, AlreadyClosed, EarlierMonthOpen}
 use Rattle.office_types.specs.declared.refusal.Refusal.TheVariants.{NoTariff, DueActions, Full, ClockEnd, NoMemory}
 use Rattle.http_text.specs.Bodies.{target_field}
-use Rattle.http_text.specs.Json.{json_object, whole, moment_data}
+use Rattle.http_text.specs.Json.{json_object, whole_data, moment_data}
 use Rattle.http_text.specs.Names.{month_text, what_name}
 
 abbrev pub error_data : List ℕ → ℕ → List (List ℕ × Data) → Data
-error_data name n more = json_object ((codes "error", string name) ∷ (codes "number", whole n) ∷ more)
+error_data name n more = json_object ((codes "error", string name) ∷ (codes "number", whole_data n) ∷ more)
 
 -- of one that tells nothing else
 unfoldable pub error_text : List ℕ → ℕ → List ℕ
@@ -39,6 +39,6 @@ refusal_data (DueActions bucket key target) =
     error_data (codes "DueActions") 85
     ((codes "bucket", string bucket) ∷ (codes "key", string key) ∷ target_field target ∷ [])
 refusal_data (Full what limit) =
-    error_data (codes "Full") 90 ((codes "what", string (what_name what)) ∷ (codes "limit", whole limit) ∷ [])
-refusal_data (ClockEnd moment) = error_data (codes "ClockEnd") 91 ((codes "moment", whole moment) ∷ [])
+    error_data (codes "Full") 90 ((codes "what", string (what_name what)) ∷ (codes "limit", whole_data limit) ∷ [])
+refusal_data (ClockEnd moment) = error_data (codes "ClockEnd") 91 ((codes "moment", whole_data moment) ∷ [])
 refusal_data NoMemory = error_data (codes "NoMemory") 115 []

@@ -10,7 +10,7 @@ use Rattle.office_types.specs.declared.refusal.Refusal.TheVariants.{NotEnabledBe
 use Rattle.office_types.specs.declared.refusal.Refusal.TheVariants.{IsMarker, NoSuchUpload, BadPart, NoParts}
 use Rattle.office_types.specs.declared.refusal.Refusal.TheVariants.{MonthNotOver, AlreadyClosed, EarlierMonthOpen}
 use Rattle.office_types.specs.declared.refusal.Refusal.TheVariants.{NoTariff, DueActions, Full, ClockEnd, NoMemory}
-pub use Rattle.http_text.specs.Json.{whole}
+pub use Rattle.http_text.specs.Json.{whole_data}
 pub use Rattle.http_text.specs.Refusals.{error_data, error_text}
 use Rattle.http_text.specs.Bodies.{Body, json, csv, reply_body}
 use Rattle.http_text.specs.Refusals.{refusal_data}

@@ -3,9 +3,9 @@ ghost use Rattle.std.specs.Prelude.{◌≡◌, ◌<◌, ◌≤◌, ◌^◌, ◌+
 ghost use Rattle.http.specs.StatusCode.{reason_phrase};
 ghost use Rattle.office_types.specs.Fits.{AnswerFits};
 ghost use Rattle.office_types.specs.declared.reply.Reply.TheVariants.{RulesShown, Report};
+ghost use Rattle.office_types.specs.Reports.{charges};
 ghost use Rattle.http_text.specs.Replies.{answer_text, body_text, head_text, head_with};
 ghost use Rattle.http_text.specs.Replies.{refusal_status, reply_status, status_of};
-ghost use Rattle.usage_report.specs.Lines.{charges};
 ghost use Rattle.http_text.specs.Room.{Puts};
 ghost use Rattle.http_text.specs.Shorts.{IsInParts, IsShort, IsShortReply};
 

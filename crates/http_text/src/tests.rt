@@ -323,21 +323,25 @@ fn actions(rt: HostRuntime) -> Result<(), Fail> {
     let null = Target::Version(VersionId::Null);
     let removal = Ok(chosen(alloc, ActionKind::Remove, b"a", null, "r2", None)?);
     let body =
-        "{\"action\":\"remove\",\"key\":\"a\",\"moment\":\"2024-01-10T00:00:00.000Z\",\"rule\":\"r2\",\"version\":\"null\"}";
+        "{\"action\":\"remove\",\"key\":\"a\",\"moment\":\"2024-01-10T00:00:00.000Z\",\"rule\":\"r2\",\
+\"version\":\"null\"}";
     is_printed(&rt, alloc, &removal, "200 OK", body)?;
     let kind = ActionKind::Transition(Class::StandardIa);
     let first = Target::Version(id(1)?);
     let moved = Ok(chosen(alloc, kind, b"a", first, "r1", None)?);
     let body =
-        "{\"action\":\"transition\",\"class\":\"STANDARD_IA\",\"key\":\"a\",\"moment\":\"2024-01-10T00:00:00.000Z\",\"rule\":\"r1\",\"version\":\"1\"}";
+        "{\"action\":\"transition\",\"class\":\"STANDARD_IA\",\"key\":\"a\",\"moment\":\"2024-01-10T00:00:00.000Z\",\
+\"rule\":\"r1\",\"version\":\"1\"}";
     is_printed(&rt, alloc, &moved, "200 OK", body)?;
     let marked = Ok(chosen(alloc, ActionKind::Marker, b"a", first, "r2", Some(id(2)?))?);
     let body =
-        "{\"action\":\"marker\",\"key\":\"a\",\"marker\":\"2\",\"moment\":\"2024-01-10T00:00:00.000Z\",\"rule\":\"r2\",\"version\":\"1\"}";
+        "{\"action\":\"marker\",\"key\":\"a\",\"marker\":\"2\",\"moment\":\"2024-01-10T00:00:00.000Z\",\"rule\":\"r2\",\
+\"version\":\"1\"}";
     is_printed(&rt, alloc, &marked, "200 OK", body)?;
     let due = Ok(chosen(alloc, ActionKind::Marker, b"a", first, "r2", None)?);
     let body =
-        "{\"action\":\"marker\",\"key\":\"a\",\"moment\":\"2024-01-10T00:00:00.000Z\",\"rule\":\"r2\",\"version\":\"1\"}";
+        "{\"action\":\"marker\",\"key\":\"a\",\"moment\":\"2024-01-10T00:00:00.000Z\",\"rule\":\"r2\",\
+\"version\":\"1\"}";
     is_printed(&rt, alloc, &due, "200 OK", body)?;
     let abort = Ok(chosen(
         alloc,
@@ -348,7 +352,8 @@ fn actions(rt: HostRuntime) -> Result<(), Fail> {
         None,
     )?);
     let body =
-        "{\"action\":\"abort\",\"key\":\"\\t\\u0001\",\"moment\":\"2024-01-10T00:00:00.000Z\",\"rule\":\"r\",\"upload\":1}";
+        "{\"action\":\"abort\",\"key\":\"\\t\\u0001\",\"moment\":\"2024-01-10T00:00:00.000Z\",\"rule\":\"r\",\
+\"upload\":1}";
     is_printed(&rt, alloc, &abort, "200 OK", body)?;
     let nothing = Ok(Reply::NothingDue);
     is_printed(&rt, alloc, &nothing, "200 OK", "{\"action\":\"none\"}")
@@ -401,13 +406,15 @@ fn meters(rt: HostRuntime) -> Result<(), Fail> {
     });
     let nothing = "\"early_byte_ms\":\"0\",\"moves\":0}";
     let body = format!(in alloc;
-        "{{\"bucket\":\"logs\",\"classes\":[{}{nothing},{},{}{nothing},{}{nothing},{}{nothing},{}],\"month\":\"2024-01\"}}",
+        "{{\"bucket\":\"logs\",\"classes\":[{}{nothing},{},{}{nothing},{}{nothing},{}{nothing},{}],\
+\"month\":\"2024-01\"}}",
         "{\"byte_ms\":\"259200000000\",\"class\":\"STANDARD\",",
         "{\"byte_ms\":\"0\",\"class\":\"STANDARD_IA\",\"early_byte_ms\":\"345600000000000\",\"moves\":1}",
         "{\"byte_ms\":\"0\",\"class\":\"ONEZONE_IA\",",
         "{\"byte_ms\":\"0\",\"class\":\"GLACIER_IR\",",
         "{\"byte_ms\":\"0\",\"class\":\"GLACIER\",",
-        "{\"byte_ms\":\"340282366920938463463374607431768211455\",\"class\":\"DEEP_ARCHIVE\",\"early_byte_ms\":\"0\",\"moves\":18446744073709551615}"
+        "{\"byte_ms\":\"340282366920938463463374607431768211455\",\"class\":\"DEEP_ARCHIVE\",\"early_byte_ms\":\"0\",\
+\"moves\":18446744073709551615}"
     )?;
     is_printed(&rt, alloc, &shown, "200 OK", &body)
 }
@@ -488,7 +495,10 @@ fn the_versions_of_a_key(rt: HostRuntime) -> Result<(), Fail> {
         stack: two_versions(alloc)?,
     });
     let body =
-        "{\"changed\":\"2024-01-02T00:00:00.000Z\",\"key\":\"a\",\"versions\":[{\"class\":\"GLACIER\",\"created\":\"2024-01-02T00:00:00.000Z\",\"entered\":\"2024-01-02T00:00:00.000Z\",\"kind\":\"object\",\"size\":5,\"tags\":{\"keep\":\"n\\\"o\",\"kind\":\"raw\"},\"version\":\"2\"},{\"created\":\"2024-01-01T00:00:00.000Z\",\"kind\":\"marker\",\"noncurrent_since\":\"2024-01-02T00:00:00.000Z\",\"version\":\"null\"}]}";
+        "{\"changed\":\"2024-01-02T00:00:00.000Z\",\"key\":\"a\",\"versions\":[{\"class\":\"GLACIER\",\
+\"created\":\"2024-01-02T00:00:00.000Z\",\"entered\":\"2024-01-02T00:00:00.000Z\",\"kind\":\"object\",\"size\":5,\
+\"tags\":{\"keep\":\"n\\\"o\",\"kind\":\"raw\"},\"version\":\"2\"},{\"created\":\"2024-01-01T00:00:00.000Z\",\
+\"kind\":\"marker\",\"noncurrent_since\":\"2024-01-02T00:00:00.000Z\",\"version\":\"null\"}]}";
     is_kept(&rt, alloc, &shown, JSON, body)
 }
 
@@ -511,7 +521,8 @@ fn an_upload(rt: HostRuntime) -> Result<(), Fail> {
         upload: upload_of_parts(alloc)?,
     });
     let body =
-        "{\"class\":\"GLACIER\",\"key\":\"a\",\"parts\":[{\"part\":1,\"size\":5},{\"part\":3,\"size\":7}],\"started\":\"2024-01-01T00:00:00.000Z\",\"tags\":{},\"upload\":1}";
+        "{\"class\":\"GLACIER\",\"key\":\"a\",\"parts\":[{\"part\":1,\"size\":5},{\"part\":3,\"size\":7}],\
+\"started\":\"2024-01-01T00:00:00.000Z\",\"tags\":{},\"upload\":1}";
     is_kept(&rt, alloc, &shown, JSON, body)
 }
 
@@ -526,7 +537,9 @@ fn the_prices(rt: HostRuntime) -> Result<(), Fail> {
         tariff: tariff.ok_or("no tariff")?,
     });
     let body =
-        "{\"storage\":{\"DEEP_ARCHIVE\":990,\"GLACIER\":3600,\"GLACIER_IR\":4000,\"ONEZONE_IA\":10000,\"STANDARD\":23000,\"STANDARD_IA\":12500},\"transition\":{\"DEEP_ARCHIVE\":50,\"GLACIER\":30,\"GLACIER_IR\":20,\"ONEZONE_IA\":11,\"STANDARD_IA\":10}}";
+        "{\"storage\":{\"DEEP_ARCHIVE\":990,\"GLACIER\":3600,\"GLACIER_IR\":4000,\"ONEZONE_IA\":10000,\
+\"STANDARD\":23000,\"STANDARD_IA\":12500},\"transition\":{\"DEEP_ARCHIVE\":50,\"GLACIER\":30,\"GLACIER_IR\":20,\
+\"ONEZONE_IA\":11,\"STANDARD_IA\":10}}";
     is_kept(&rt, alloc, &shown, JSON, body)
 }
 
@@ -542,7 +555,8 @@ fn a_configuration(rt: HostRuntime) -> Result<(), Fail> {
     };
     let shown = Ok(Reply::RulesShown { rules });
     let body =
-        "{\"Rules\":[{\"Expiration\":{\"Days\":60},\"Filter\":{\"Prefix\":\"\"},\"ID\":\"rest\",\"Status\":\"Enabled\"}],\"TransitionDefaultMinimumObjectSize\":\"all_storage_classes_128K\"}";
+        "{\"Rules\":[{\"Expiration\":{\"Days\":60},\"Filter\":{\"Prefix\":\"\"},\"ID\":\"rest\",\
+\"Status\":\"Enabled\"}],\"TransitionDefaultMinimumObjectSize\":\"all_storage_classes_128K\"}";
     is_kept(&rt, alloc, &shown, JSON, body)
 }
 
@@ -568,6 +582,7 @@ fn a_report(rt: HostRuntime) -> Result<(), Fail> {
     let alloc = rt.alloc();
     let report = Ok(january(alloc)?);
     let body =
-        "bucket,line,class,quantity,price,charge\nlogs,storage,STANDARD,2875910101401600000,23000,23000\n,total,,,,23000\n";
+        "bucket,line,class,quantity,price,charge\nlogs,storage,STANDARD,2875910101401600000,23000,23000\n,total,,,,\
+23000\n";
     is_kept(&rt, alloc, &report, "text/csv", body)
 }

@@ -155,14 +155,16 @@ uncapped : (o : Option ℕ) → None ≡ option_map (λ (m : ℕ). min m (2 ^ 64
 uncapped None is = refl
 uncapped (Some m) is = absurd cc
 
-pub fit_length : (bytes : List ℕ) (hs : List HeaderSpan) (h : RequestHead) (s : Span) (n : ℕ) → found_of (values_named bytes coding_name hs) ≡ Absent → found_of (values_named bytes length_name hs) ≡ Once s
+pub fit_length : (bytes : List ℕ) (hs : List HeaderSpan) (h : RequestHead) (s : Span) (n : ℕ)
+    → found_of (values_named bytes coding_name hs) ≡ Absent → found_of (values_named bytes length_name hs) ≡ Once s
     → Some n ≡ option_map (λ (m : ℕ). min m (2 ^ 64 - 1)) (number_of (span_bytes bytes s)) → n ≤ body_room → Covers bytes hs h → Frames h (Ok n)
 fit_length bytes hs h s n uncoded is read small e =
     let m = capped (number_of (span_bytes bytes s)) n read in
     let same : m.0 ≡ n = omega (arith, m.2, small) in
     (plain bytes hs h uncoded e, written bytes hs h s is e ∙ m.1 ∙ ap Some same, small)
 
-pub great_length : (bytes : List ℕ) (hs : List HeaderSpan) (h : RequestHead) (s : Span) (n : ℕ) → found_of (values_named bytes coding_name hs) ≡ Absent → found_of (values_named bytes length_name hs) ≡ Once s
+pub great_length : (bytes : List ℕ) (hs : List HeaderSpan) (h : RequestHead) (s : Span) (n : ℕ)
+    → found_of (values_named bytes coding_name hs) ≡ Absent → found_of (values_named bytes length_name hs) ≡ Once s
     → Some n ≡ option_map (λ (m : ℕ). min m (2 ^ 64 - 1)) (number_of (span_bytes bytes s)) → body_room < n → Covers bytes hs h → Frames h (Err BodyTooLarge)
 great_length bytes hs h s n uncoded is read great e =
     let m = capped (number_of (span_bytes bytes s)) n read in

@@ -5,6 +5,7 @@ use Rattle.std.specs.Io.KnownBytes.{IsAtEnd}
 use Rattle.std.proofs.lemmas.Bool.{cases_lt}
 use Rattle.std.proofs.lemmas.List.{take_all, drop_all, drop-drop, take-append-le, drop-append-le}
 use Rattle.std.proofs.lemmas.List.Elements.{All-head, All-tail}
+use Rattle.std.proofs.KnownBytes.{Consumes-nil, Consumes-trans}
 use Rattle.httparse.specs.Grammar.{RequestHead, Field, print_request, print_blank, print_version, print_end, print_section, ReadsRequest}
 use Rattle.httparse.specs.Spans.{IsHeaderWithin, IsRequestAt, IsRequestWithin, span_bytes, header_bytes, name_and_value}
 use Rattle.httparse.specs.declared.spans.HeaderSpan.{HeaderSpan}
@@ -16,8 +17,8 @@ use Rattle.http_wire.specs.Headings.{HasHeading}
 use Rattle.http_wire.specs.Held.{Held, Took, TookPast, head_room, take_limit}
 use Rattle.http_wire.specs.Messages.{Request, request, refused, Stands, HasHead, IsUnsettled, IsCutShort, after_length, after_coding, fields_named, is_last}
 use Rattle.http_wire.specs.Framing.{Frames, HasFrame}
-use Rattle.http_wire.specs.Parts.{Parts}
-use Rattle.http_wire.specs.Answers.{Gave, Answers, Refuses, AwaitsLongBody, OnRequest, OnRefused, Tells}
+use Rattle.http_wire.specs.Parts.{MessageParts}
+use Rattle.http_wire.specs.Answers.{Gave, HasRequest, Refuses, AwaitsLongBody, OnRequest, OnRefused, Tells}
 use Rattle.http_wire.specs.declared.body.Gap.{Gap}
 use Rattle.http_wire.specs.declared.body.Gap.TheVariants as gaps
 use Rattle.http_wire.specs.declared.framing.FramingRefusal.{FramingRefusal}
@@ -28,7 +29,6 @@ use Rattle.http_wire.specs.declared.message.MessageStop.{MessageStop}
 use Rattle.http_wire.specs.declared.message.MessageStop.TheVariants.{ReadFault, Spent, NoMemory}
 use Rattle.http_wire.specs.declared.reading.Heading.{Heading}
 use Rattle.http_wire.specs.declared.reading.Heading.TheVariants as heading
-use Rattle.http_wire.proofs.Taking.{consumes_none, consumes_then}
 use Rattle.http_wire.proofs.Unique.{stands_more, short_body, open_unsettled, open_too_large, hopeless_bad}
 
 -- ---- a head that stands at the front stands there whatever follows
@@ -111,7 +111,7 @@ short_frame bytes headers r size last f short =
 
 -- a body that the buffer holds
 whole_held : (held : Held) (r : RequestSpans) (size : ℕ) (last : Bool) → HasFrame held.bytes held.spans r size last → r.len + size ≤ length held.bytes
-    → Answers held.bytes held (record { head = r; used = r.len + size; last = last; apart = None })
+    → HasRequest held.bytes held (record { head = r; used = r.len + size; last = last; apart = None })
 whole_held held r size last f fits =
     let after = drop r.len held.bytes in
     record {
@@ -128,7 +128,7 @@ whole_held held r size last f fits =
 
 -- a body whose rest was taken past the buffer
 whole_apart : (held : Held) (given body : List ℕ) (r : RequestSpans) (size : ℕ) (last : Bool) → HasFrame held.bytes held.spans r size last → length body ≡ size
-    → body ≡ drop r.len held.bytes ++ given → Answers (held.bytes ++ given) held (record { head = r; used = length held.bytes; last = last; apart = Some body })
+    → body ≡ drop r.len held.bytes ++ given → HasRequest (held.bytes ++ given) held (record { head = r; used = length held.bytes; last = last; apart = Some body })
 whole_apart held given body r size last f all is =
     let bytes = held.bytes ++ given in
     let g = frame_more held.bytes given held.spans r size last f in
@@ -164,7 +164,7 @@ pub gave_more : (a b c : Held) (la lb lc : Option (List ℕ)) (P : List ℕ → 
 gave_more a b c la lb lc P first second = record {
   given = first.given ++ second.given;
   counted = omega (arith, first.counted, second.counted, length-append first.given second.given);
-  left = consumes_then la lb lc first.given second.given first.left second.left;
+  left = Consumes-trans la lb lc first.given second.given first.left second.left;
   so = subst P (ap (λ (t : List ℕ). t ++ second.given) first.held ∙ append_assoc a.bytes first.given second.given) second.so;
 }
 
@@ -172,7 +172,7 @@ took_gave : (a b : Held) (la lb : Option (List ℕ)) (P : List ℕ → Type 0) �
 took_gave a b la lb P took so = record { given = took.given; counted = took.counted; left = took.left; so = subst P took.held so }
 
 gave_none : (a : Held) (la : Option (List ℕ)) (P : List ℕ → Type 0) → P a.bytes → Gave a a la la P
-gave_none a la P so = record { given = []; counted = omega arith; left = consumes_none la; so = subst P (sym (append-nil a.bytes)) so }
+gave_none a la P so = record { given = []; counted = omega arith; left = Consumes-nil la; so = subst P (sym (append-nil a.bytes)) so }
 
 weaker : (a b : Held) (la lb : Option (List ℕ)) (P Q : List ℕ → Type 0) → ((bytes : List ℕ) → P bytes → Q bytes) → Gave a b la lb P → Gave a b la lb Q
 weaker a b la lb P Q less gave = record { given = gave.given; counted = gave.counted; left = gave.left; so = less (a.bytes ++ gave.given) gave.so }
@@ -204,7 +204,7 @@ frame_taken a b la lb r size last f took spans =
 pub held_told : (a b : Held) (la lb : Option (List ℕ)) (r : RequestSpans) (size : ℕ) (last : Bool) → HasFrame a.bytes a.spans r size last → Took a b la lb → b.spans ≡ a.spans
     → r.len + size ≤ length b.bytes → Gave a b la lb (Tells b lb (Ok (next.Request (record { head = r; used = r.len + size; last = last; apart = None }))))
 held_told a b la lb r size last f took spans fits =
-    took_gave a b la lb (λ (bytes : List ℕ). Answers bytes b (record { head = r; used = r.len + size; last = last; apart = None })) took
+    took_gave a b la lb (λ (bytes : List ℕ). HasRequest bytes b (record { head = r; used = r.len + size; last = last; apart = None })) took
     (whole_held b r size last (frame_taken a b la lb r size last f took spans) fits)
 
 pub held_short : (a b : Held) (la lb : Option (List ℕ)) (r : RequestSpans) (size : ℕ) (last : Bool) → HasFrame a.bytes a.spans r size last → Took a b la lb → b.spans ≡ a.spans
@@ -219,7 +219,7 @@ apart_told a b la lb r size last body f took all = record {
   given = took.given;
   counted = took.counted;
   left = took.left;
-  so = subst (λ (t : List ℕ). Answers (t ++ took.given) b (record { head = r; used = length t; last = last; apart = Some body })) took.held
+  so = subst (λ (t : List ℕ). HasRequest (t ++ took.given) b (record { head = r; used = length t; last = last; apart = Some body })) took.held
       (whole_apart b took.given body r size last
       (subst (λ (s : List HeaderSpan). HasFrame b.bytes s r size last) (sym took.spans) (subst (λ (t : List ℕ). HasFrame t a.spans r size last) (sym took.held) f)) all
       (took.so.0 ∙ ap (λ (t : List ℕ). drop r.len t ++ took.given) (sym took.held)));
@@ -259,7 +259,7 @@ gap_told gaps.Spent result a b la lb ended spent failed end limit gave =
     (weaker a b la lb IsCutShort (Tells b lb (Err Spent)) (λ bytes cut. (cut.unsettled, limit refl)) gave)
 gap_told gaps.ReadFault result a b la lb ended spent failed end limit gave =
     subst (λ (x : Result Next MessageStop). Gave a b la lb (Tells b lb x)) (sym (failed refl))
-    (weaker a b la lb IsCutShort (Tells b lb (Err ReadFault)) (λ bytes cut. tt) gave)
+    (weaker a b la lb IsCutShort (Tells b lb (Err ReadFault)) (λ bytes cut. cut.unsettled) gave)
 
 -- the head is refused for its fields
 pub refused_told : (a : Held) (la : Option (List ℕ)) (r : RequestSpans) (h : RequestHead) (bad : FramingRefusal) → IsRequestAt a.bytes a.spans r h → r.len ≤ head_room → Frames h (Err bad)
@@ -341,7 +341,7 @@ module _ (a b : Held) (la lb : Option (List ℕ)) where
   abbrev Told : Result Next MessageStop → Type 0
   Told result = Gave a b la lb (Tells b lb result)
 
-  pub request_part : (result : Result Next MessageStop) → Told result → OnRequest result (λ (m : Parts). Gave a b la lb (λ bytes. Answers bytes b m))
+  pub request_part : (result : Result Next MessageStop) → Told result → OnRequest result (λ (m : MessageParts). Gave a b la lb (λ bytes. HasRequest bytes b m))
   request_part (Ok (next.Request m)) gave = gave
   request_part (Ok (next.Refused bad)) gave = tt
   request_part (Ok next.End) gave = tt
@@ -365,6 +365,10 @@ module _ (a b : Held) (la lb : Option (List ℕ)) where
   spent_part (Ok x) gave is = absurd (cc (is))
   spent_part (Err e) gave is = let told = subst Told is gave in (told.so.1, weaker a b la lb _ IsUnsettled (λ bytes x. x.0) told)
 
+  pub failed_part : (result : Result Next MessageStop) → Told result → IsErrOf result ReadFault → Gave a b la lb IsUnsettled
+  failed_part (Ok x) gave is = absurd (cc (is))
+  failed_part (Err e) gave is = subst Told is gave
+
   pub no_memory_part : (result : Result Next MessageStop) → Told result → IsErrOf result NoMemory → Gave a b la lb AwaitsLongBody
   no_memory_part (Ok x) gave is = absurd (cc (is))
   no_memory_part (Err e) gave is = subst Told is gave
@@ -372,13 +376,13 @@ module _ (a b : Held) (la lb : Option (List ℕ)) where
   pub given_part : (result : Result Next MessageStop) → Told result → Gave a b la lb (λ bytes. ⊤)
   given_part result gave = weaker a b la lb _ (λ bytes. ⊤) (λ bytes x. tt) gave
 
-  pub fits_part : (result : Result Next MessageStop) → Told result → OnRequest result (λ (m : Parts). m.used ≤ length b.bytes)
+  pub fits_part : (result : Result Next MessageStop) → Told result → OnRequest result (λ (m : MessageParts). m.used ≤ length b.bytes)
   fits_part (Ok (next.Request m)) gave = gave.so.fits
   fits_part (Ok (next.Refused bad)) gave = tt
   fits_part (Ok next.End) gave = tt
   fits_part (Err e) gave = tt
 
-  pub uses_part : (result : Result Next MessageStop) → Told result → OnRequest result (λ (m : Parts). a.taken + length (drop m.used b.bytes) < b.taken + length a.bytes)
+  pub uses_part : (result : Result Next MessageStop) → Told result → OnRequest result (λ (m : MessageParts). a.taken + length (drop m.used b.bytes) < b.taken + length a.bytes)
   uses_part (Ok (next.Request m)) gave =
       omega (arith, gave.counted, request_uses (a.bytes ++ gave.given) gave.so.found (drop m.used b.bytes) gave.so.stands, length-append a.bytes gave.given)
   uses_part (Ok (next.Refused bad)) gave = tt
@@ -388,8 +392,8 @@ module _ (a b : Held) (la lb : Option (List ℕ)) where
 pub told_more : (a b c : Held) (la lb lc : Option (List ℕ)) (result : Result Next MessageStop) → Took a b la lb → Gave b c lb lc (Tells c lc result) → Gave a c la lc (Tells c lc result)
 told_more a b c la lb lc result took gave = gave_more a b c la lb lc (Tells c lc result) took gave
 
-pub spent_head : (a b : Held) (la lb : Option (List ℕ)) → Took a b la lb → IsOpen b.bytes → length b.bytes < head_room → Gave a b la lb IsUnsettled
-spent_head a b la lb took begun short = took_gave a b la lb IsUnsettled took (open_unsettled b.bytes begun short)
+pub open_head : (a b : Held) (la lb : Option (List ℕ)) → Took a b la lb → IsOpen b.bytes → length b.bytes < head_room → Gave a b la lb IsUnsettled
+open_head a b la lb took begun short = took_gave a b la lb IsUnsettled took (open_unsettled b.bytes begun short)
 
 -- a head is not sought further where the bytes held settle what stands there
 pub head_settled : (a : Held) (Same : Type 0) → ((IsOpen a.bytes → ⊥) → Same) → (head_room ≤ length a.bytes → Same) → (IsUnsettled a.bytes → ⊥) → Same

@@ -3,8 +3,8 @@ use Rattle.std.proofs.Common.{◌≡◌, ℕ, true, false, List, [], ◌∷◌, 
 use Rattle.std.specs.Prelude.{◌⊎◌}
 use Rattle.http_wire.specs.Held.{Held}
 use Rattle.http_wire.specs.Messages.{Framed, request, refused, Stands, IsCutShort, Messages, ends_session}
-use Rattle.http_wire.specs.Parts.{Parts}
-use Rattle.http_wire.specs.Answers.{Gave, Answers, Refuses}
+use Rattle.http_wire.specs.Parts.{MessageParts}
+use Rattle.http_wire.specs.Answers.{Gave, HasRequest, Refuses}
 use Rattle.http_wire.specs.declared.framing.FramingRefusal.{FramingRefusal}
 use Rattle.http_wire.specs.declared.framing.FramingRefusal.TheVariants.{BadHead, BodyTooLarge, ChunkedBody, HeadTooLarge, CutShort}
 use Rattle.http_wire.proofs.Unique.{stands_unique, stands_rest, stands_more, nothing_stands}
@@ -14,10 +14,10 @@ pub stream_is : (old new : Held) (xs ys : List ℕ) (P : List ℕ → Type 0) �
 stream_is old new xs ys P told = ap (λ (t : List ℕ). old.bytes ++ t) told.left ∙ sym (append_assoc old.bytes told.given ys)
 
 -- a request that was answered stands in the stream
-pub request_in_stream : (old new : Held) (xs ys : List ℕ) (m : Parts) → (told : Gave old new (Some xs) (Some ys) (λ bytes. Answers bytes new m))
+pub request_in_stream : (old new : Held) (xs ys : List ℕ) (m : MessageParts) → (told : Gave old new (Some xs) (Some ys) (λ bytes. HasRequest bytes new m))
     → Stands (old.bytes ++ xs) (request told.so.found) (drop m.used new.bytes ++ ys)
 request_in_stream old new xs ys m told =
-    subst (λ (t : List ℕ). Stands t (request told.so.found) (drop m.used new.bytes ++ ys)) (sym (stream_is old new xs ys (λ bytes. Answers bytes new m) told))
+    subst (λ (t : List ℕ). Stands t (request told.so.found) (drop m.used new.bytes ++ ys)) (sym (stream_is old new xs ys (λ bytes. HasRequest bytes new m) told))
     (stands_more (old.bytes ++ told.given) ys (request told.so.found) (drop m.used new.bytes) told.so.stands)
 
 -- a refusal but of a message cut short stands in the stream
@@ -45,7 +45,7 @@ first_of stream f rest (g ∷ later) stands (inl (q, other, how)) =
     go (inl x) = inl (ap ends_session same ∙ x.0, x.1)
     go (inr x) = inr (ap ends_session same ∙ x.0, q, subst (λ (t : Framed). Stands stream t q) (sym same) other, x.1)
 
-pub answers_first : (old new : Held) (xs ys : List ℕ) (m : Parts) (messages : List Framed) → (told : Gave old new (Some xs) (Some ys) (λ bytes. Answers bytes new m))
+pub answers_first : (old new : Held) (xs ys : List ℕ) (m : MessageParts) (messages : List Framed) → (told : Gave old new (Some xs) (Some ys) (λ bytes. HasRequest bytes new m))
     → Messages (old.bytes ++ xs) messages → (later : List Framed) × (messages ≡ request told.so.found ∷ later)
     × (((m.last ≡ true) × (later ≡ [])) ⊎ ((m.last ≡ false) × Messages (drop m.used new.bytes ++ ys) later))
 answers_first old new xs ys m messages told are =

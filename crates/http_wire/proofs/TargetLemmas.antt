@@ -128,9 +128,6 @@ cut_goes_on line blank method token is = (
       ∙ sym (print_request-append (some_head blank method) []),
 )
 
-abbrev IsUri : ℕ → Type 0
-IsUri b = IsTrue (is_uri_byte b)
-
 -- what is read up to the first space, of a text that may still become a head
 cut_line : (line : List ℕ) → AllPass no_space line → MayBecomeRequest (line ++ 32 ∷ [])
     → (blank : List LineEnd) × (method : List ℕ) × IsToken method × (line ≡ print_blank blank ++ method)

@@ -136,7 +136,16 @@ nothing_stands f r (inl (x, is)) = x.2.closed (subst MayBecomeRequest (sym (take
 nothing_stands f r (inr (inl (none, long, is))) = omega arith
 nothing_stands f r (inr (inr (h, after, head, what))) =
     let e = ap length (head.reads.1 ∙ print_request-append h after) in
-    omega (arith, e, length-append (print_blank h.blank) (h.method ++ 32 ∷ (h.target ++ 32 ∷ (print_version h.minor ++ (print_end h.line_end ++ (print_section h.fields h.last ++ after))))), length-append h.method (32 ∷ (h.target ++ 32 ∷ (print_version h.minor ++ (print_end h.line_end ++ (print_section h.fields h.last ++ after))))))
+    omega (
+      arith,
+      e,
+      length-append (print_blank h.blank) (h.method ++ 32
+          ∷ (h.target ++ 32
+          ∷ (print_version h.minor ++ (print_end h.line_end ++ (print_section h.fields h.last ++ after))))),
+      length-append h.method (32
+          ∷ (h.target ++ 32
+          ∷ (print_version h.minor ++ (print_end h.line_end ++ (print_section h.fields h.last ++ after))))),
+    )
 
 -- ---- what the reading of a head finds
 

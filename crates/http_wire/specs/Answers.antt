@@ -5,7 +5,7 @@ use Rattle.httparse.specs.Grammar.{RequestHead, print_request}
 use Rattle.httparse.specs.Spans.{IsRequestAt, IsRequestWithin}
 use Rattle.http_wire.specs.Held.{Held, head_room, take_limit}
 use Rattle.http_wire.specs.Messages.{Request, request, refused, Stands, HasHead, IsUnsettled, IsCutShort, fields_named, body_length, body_room}
-use Rattle.http_wire.specs.Parts.{Parts, body_of}
+use Rattle.http_wire.specs.Parts.{MessageParts, body_of}
 use Rattle.http_wire.specs.declared.framing.FramingRefusal.{FramingRefusal}
 use Rattle.http_wire.specs.declared.framing.FramingRefusal.TheVariants.{BadHead, BodyTooLarge, ChunkedBody, HeadTooLarge, CutShort}
 use Rattle.http_wire.specs.declared.message.Next.{Next}
@@ -21,7 +21,7 @@ pub record Gave (old new : Held) (left_old left_new : Option (List ℕ)) (P : Li
   pub so : P (old.bytes ++ given)
 
 -- A request stands at the front of the bytes, and the buffer's behind it follow. The message has its parts.
-pub record Answers (bytes : List ℕ) (held : Held) (m : Parts) : Type 0 where
+pub record HasRequest (bytes : List ℕ) (held : Held) (m : MessageParts) : Type 0 where
   pub found : Request
   pub stands : Stands bytes (request found) (drop m.used held.bytes)
   pub head : IsRequestAt held.bytes held.spans m.head found.head
@@ -51,7 +51,7 @@ pub record AwaitsLongBody (bytes : List ℕ) : Type 0 where
   pub long : head_room < length (print_request head) + size
 
 -- P of the message, where a request was answered
-abbrev pub OnRequest : {E : Type 0} → Result Next E → (Parts → Type 0) → Type 0
+abbrev pub OnRequest : {E : Type 0} → Result Next E → (MessageParts → Type 0) → Type 0
 OnRequest (Ok (next.Request m)) P = P m
 OnRequest (Ok (next.Refused bad)) P = ⊤
 OnRequest (Ok next.End) P = ⊤
@@ -64,12 +64,12 @@ OnRefused (Ok (next.Refused bad)) P = P bad
 OnRefused (Ok next.End) P = ⊤
 OnRefused (Err e) P = ⊤
 
--- what an answer says of the bytes, with what the buffer then holds and the source has left; the end is found by a read, so
--- fewer bytes than the limit were taken
+-- what an answer says of the bytes, with what the buffer then holds and the source has left; the end is found by a
+-- read, so fewer bytes than the limit were taken
 abbrev pub Tells : Held → Option (List ℕ) → Result Next MessageStop → List ℕ → Type 0
-Tells held left (Ok (next.Request m)) bytes = Answers bytes held m
+Tells held left (Ok (next.Request m)) bytes = HasRequest bytes held m
 Tells held left (Ok (next.Refused bad)) bytes = Refuses left bad bytes × (bad ≡ CutShort → held.taken < take_limit)
 Tells held left (Ok next.End) bytes = (bytes ≡ []) × IsAtEnd left × (held.taken < take_limit)
-Tells held left (Err ReadFault) bytes = ⊤
+Tells held left (Err ReadFault) bytes = IsUnsettled bytes
 Tells held left (Err Spent) bytes = IsUnsettled bytes × (held.taken ≡ take_limit)
 Tells held left (Err NoMemory) bytes = AwaitsLongBody bytes

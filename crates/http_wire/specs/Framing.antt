@@ -14,7 +14,8 @@ use Rattle.http_wire.specs.declared.framing.FramingRefusal.{FramingRefusal}
 
 -- where the values of the fields of this name are
 abbrev pub values_named : List ℕ → List ℕ → List HeaderSpan → List Span
-values_named bytes name headers = map (λ (h : HeaderSpan). h.value) (filter (λ (h : HeaderSpan). same_word (span_bytes bytes h.name) name) headers)
+values_named bytes name headers =
+    map (λ (h : HeaderSpan). h.value) (filter (λ (h : HeaderSpan). same_word (span_bytes bytes h.name) name) headers)
 
 -- none, one or several
 abbrev pub found_of : List Span → Found
@@ -27,10 +28,12 @@ abbrev pub Frames : RequestHead → Result ℕ FramingRefusal → Type 0
 Frames h (Ok size) =
     (fields_named (codes "Transfer-Encoding") h.fields ≡ [])
     × (body_length (fields_named (codes "Content-Length") h.fields) ≡ Some size) × (size ≤ body_room)
-Frames h (Err bad) = (after rest : List ℕ) → after_coding h after (fields_named (codes "Transfer-Encoding") h.fields) (refused bad) rest
+Frames h (Err bad) =
+    (after rest : List ℕ) → after_coding h after (fields_named (codes "Transfer-Encoding") h.fields) (refused bad) rest
 
 -- A head stands at the front of the bytes, and its body has so many.
-pub record HasFrame (bytes : List ℕ) (headers : List HeaderSpan) (spans : RequestSpans) (size : ℕ) (last : Bool) : Type 0 where
+pub record HasFrame (bytes : List ℕ) (headers : List HeaderSpan) (spans : RequestSpans) (size : ℕ) (last : Bool)
+    : Type 0 where
   pub head : RequestHead
   pub at : IsRequestAt bytes headers spans head
   pub within : IsRequestWithin bytes headers spans

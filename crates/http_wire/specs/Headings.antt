@@ -19,9 +19,11 @@ OnHead (Err e) P = ⊤
 
 -- what stands at the front of the bytes held, where the source has these left
 abbrev pub HasHeading : Held → Option (List ℕ) → Heading → Type 0
-HasHeading held left (Whole spans) = IsRequestOf held.bytes held.spans spans × IsRequestWithin held.bytes held.spans spans
+HasHeading held left (Whole spans) =
+    IsRequestOf held.bytes held.spans spans × IsRequestWithin held.bytes held.spans spans
 HasHeading held left Hopeless = IsHopeless held.bytes × (length held.bytes ≤ head_room)
 HasHeading held left TooLarge = IsOpen held.bytes × (length held.bytes ≡ head_room)
 HasHeading held left CutShort =
-    IsOpen held.bytes × (0 < length held.bytes) × (length held.bytes < head_room) × IsAtEnd left × (held.taken < take_limit)
+    IsOpen held.bytes × (0 < length held.bytes) × (length held.bytes < head_room) × IsAtEnd left
+    × (held.taken < take_limit)
 HasHeading held left End = (held.bytes ≡ []) × IsAtEnd left × (held.taken < take_limit)

@@ -34,7 +34,8 @@ body_length (f ∷ g ∷ fields) = None
 
 -- the message is the last of its session
 abbrev pub is_last : RequestHead → Bool
-is_last h = (h.minor == 0) || list_any (λ f. same_word (field_value f) (codes "close")) (fields_named (codes "Connection") h.fields)
+is_last h = (h.minor == 0)
+    || list_any (λ f. same_word (field_value f) (codes "close")) (fields_named (codes "Connection") h.fields)
 
 -- a request: its head, its body, and whether it is the last of its session
 pub record Request : Type 0 where
@@ -56,7 +57,8 @@ after_length h bytes (Some n) found rest =
     × (found ≡ request (record { head = h; body = take n bytes; last = is_last h })))
 
 abbrev pub after_coding : RequestHead → List ℕ → List Field → Framed → List ℕ → Type 0
-after_coding h bytes [] found rest = after_length h bytes (body_length (fields_named (codes "Content-Length") h.fields)) found rest
+after_coding h bytes [] found rest =
+    after_length h bytes (body_length (fields_named (codes "Content-Length") h.fields)) found rest
 after_coding h bytes (f ∷ fields) found rest = found ≡ refused ChunkedBody
 
 -- a head of at most that many bytes stands at the front
@@ -103,16 +105,22 @@ Messages bytes (found ∷ later) =
 
 -- a stream is one list of messages
 abbrev pub MessagesAreUnique : Type 0
-MessagesAreUnique = (bytes : List ℕ) (first second : List Framed) → Messages bytes first → Messages bytes second → first ≡ second
+MessagesAreUnique =
+    (bytes : List ℕ) (first second : List Framed) → Messages bytes first → Messages bytes second → first ≡ second
 
 -- one thing stands at the front of some bytes
 abbrev pub StandsAlone : Type 0
-StandsAlone = (bytes : List ℕ) (first second : Framed) (rest other : List ℕ) → Stands bytes first rest → Stands bytes second other → first ≡ second
+StandsAlone =
+    (bytes : List ℕ) (first second : Framed) (rest other : List ℕ) → Stands bytes first rest → Stands bytes second other
+    → first ≡ second
 
 -- one rest follows a request
 abbrev pub HasOneRest : Type 0
-HasOneRest = (bytes : List ℕ) (first second : Request) (rest other : List ℕ) → Stands bytes (request first) rest → Stands bytes (request second) other → rest ≡ other
+HasOneRest = (bytes : List ℕ) (first second : Request) (rest other : List ℕ) → Stands bytes (request first) rest
+    → Stands bytes (request second) other → rest ≡ other
 
 -- what stands at the front of some bytes stands there whatever follows
 abbrev pub StandsBeforeMore : Type 0
-StandsBeforeMore = (bytes more : List ℕ) (found : Framed) (rest : List ℕ) → Stands bytes found rest → Stands (bytes ++ more) found (rest ++ more)
+StandsBeforeMore =
+    (bytes more : List ℕ) (found : Framed) (rest : List ℕ) → Stands bytes found rest
+    → Stands (bytes ++ more) found (rest ++ more)

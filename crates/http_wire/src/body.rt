@@ -93,7 +93,8 @@ pub(crate) fn fill_body<R: Source>(
     requires inside { start ≤ length buffer.old.bytes }
     requires longer { length buffer.old.bytes ≤ start + length body.old }
     ensures took { TookPast buffer.old buffer.new (R.left source.old) (R.left source.new) (λ given.
-        OnOk result (body.new ≡ drop start buffer.old.bytes ++ given) × OnErr result (length buffer.old.bytes + length given < start + length body.old)) }
+        OnOk result (body.new ≡ drop start buffer.old.bytes ++ given)
+        × OnErr result (length buffer.old.bytes + length given < start + length body.old)) }
     ensures limit { buffer.new.taken ≤ take_limit }
     ensures end { IsErrOf result Gap.Ended → IsAtEnd (R.left source.new) × (buffer.new.taken < take_limit) }
     ensures spent { IsErrOf result Gap.Spent → buffer.new.taken ≡ take_limit }

@@ -39,7 +39,8 @@ impl Model for Buffer {
 
     ghost view = { λ b. record { bytes = take b.len b.room.items; taken = b.taken; spans = b.spans.items } };
 
-    ghost invariant = { λ b. (length b.room.items ≡ 8192) × (b.len ≤ 8192) × (b.taken ≤ 2 ^ 40) × (b.len ≤ b.taken) × (length b.spans.items ≡ 4096) };
+    ghost invariant = { λ b. (length b.room.items ≡ 8192) × (b.len ≤ 8192) × (b.taken ≤ 2 ^ 40) × (b.len ≤ b.taken)
+        × (length b.spans.items ≡ 4096) };
 }
 
 impl Buffer {
@@ -150,10 +151,12 @@ impl Buffer {
     ) -> Result<usize, Failed>
         requires room { at < length room.old }
         requires unspent { self.old.taken < take_limit }
-        ensures took { IfOk result (λ count. TookPast self.old self.new (R.left source.old) (R.left source.new) (λ given. (length given ≡ count) × (take (at + count) room.new ≡ take at room.old ++ given))) }
+        ensures took { IfOk result (λ count. TookPast self.old self.new (R.left source.old) (R.left source.new)
+            (λ given. (length given ≡ count) × (take (at + count) room.new ≡ take at room.old ++ given))) }
         ensures fits { IfOk result (λ count. at + count ≤ length room.old) }
         ensures end { result ≡ Ok 0 → IsAtEnd (R.left source.new) }
-        ensures err { IfErr result (λ _. (self.new ≡ self.old) × (take at room.new ≡ take at room.old) × Keeps (R.left source.old) (R.left source.new)) }
+        ensures err { IfErr result (λ _. (self.new ≡ self.old) × (take at room.new ≡ take at room.old)
+            × Keeps (R.left source.old) (R.left source.new)) }
         ensures stream { R.stream source.new ≡ R.stream source.old }
         ensures cause { HasCause (R.faults source.old) (R.faults source.new) result }
         ensures limit { self.new.taken ≤ take_limit }
@@ -217,10 +220,13 @@ fn read_on<R: Source>(
 ) -> Result<usize, Failed>
     requires some { 0 < most }
     requires fits { len + most ≤ length room.old }
-    ensures took { IfOk result (λ count. (given : List ℕ) × (length given ≡ count) × (take (len + count) room.new ≡ take len room.old ++ given) × Consumes (R.left source.old) (R.left source.new) given) }
+    ensures took { IfOk result (λ count. (given : List ℕ) × (length given ≡ count)
+        × (take (len + count) room.new ≡ take len room.old ++ given)
+        × Consumes (R.left source.old) (R.left source.new) given) }
     ensures fits { IfOk result (λ count. count ≤ most) }
     ensures end { result ≡ Ok 0 → IsAtEnd (R.left source.new) }
-    ensures err { IfErr result (λ _. (take len room.new ≡ take len room.old) × Keeps (R.left source.old) (R.left source.new)) }
+    ensures err { IfErr result
+        (λ _. (take len room.new ≡ take len room.old) × Keeps (R.left source.old) (R.left source.new)) }
     ensures stream { R.stream source.new ≡ R.stream source.old }
     ensures cause { HasCause (R.faults source.old) (R.faults source.new) result }
 {

@@ -78,11 +78,12 @@ fn number(text: &[u8]) -> Option<u64>
 ///
 /// # Errors
 ///
-/// `ChunkedBody`: there is a field Transfer-Encoding. `BadHead`: there are two fields Content-Length, or its value is no
-/// number. `BodyTooLarge`: it is above 1,048,576.
+/// `ChunkedBody`: there is a field Transfer-Encoding. `BadHead`: there are two fields Content-Length, or its value is
+/// no number. `BodyTooLarge`: it is above 1,048,576.
 pub(crate) fn body_size(bytes: &[u8], headers: &[HeaderSpan]) -> Result<usize, FramingRefusal>
     requires within { All (IsHeaderWithin (length bytes.now)) headers.now }
-    ensures { (h : RequestHead) → map (header_bytes bytes.now) headers.now ≡ map name_and_value h.fields → Frames h result }
+    ensures { (h : RequestHead) → map (header_bytes bytes.now) headers.now ≡ map name_and_value h.fields
+        → Frames h result }
 {
     match named(bytes, headers, b"Transfer-Encoding") {
         Found::Absent => {}
@@ -103,7 +104,9 @@ pub(crate) fn body_size(bytes: &[u8], headers: &[HeaderSpan]) -> Result<usize, F
 /// Whether the field is Connection, and closes it.
 fn closes(bytes: &[u8], header: HeaderSpan) -> bool
     requires within { IsHeaderWithin (length bytes.now) header }
-    ensures { result ≡ (same_word (span_bytes bytes.now header.name) (codes "Connection") && same_word (span_bytes bytes.now header.value) (codes "close")) }
+    ensures { result
+        ≡ (same_word (span_bytes bytes.now header.name) (codes "Connection")
+        && same_word (span_bytes bytes.now header.value) (codes "close")) }
 {
     has_name(bytes, header, b"Connection") && is_word(header.value.of(bytes), b"close")
 }
@@ -111,7 +114,8 @@ fn closes(bytes: &[u8], header: HeaderSpan) -> bool
 /// Whether a message of this version and with these fields is the last of its session.
 pub(crate) fn is_closing(bytes: &[u8], version: u8, headers: &[HeaderSpan]) -> bool
     requires within { All (IsHeaderWithin (length bytes.now)) headers.now }
-    ensures { (h : RequestHead) → version ≡ h.minor → map (header_bytes bytes.now) headers.now ≡ map name_and_value h.fields → result ≡ is_last h }
+    ensures { (h : RequestHead) → version ≡ h.minor
+        → map (header_bytes bytes.now) headers.now ≡ map name_and_value h.fields → result ≡ is_last h }
 {
     version == 0 || any_closes(bytes, headers)
 }
@@ -119,7 +123,9 @@ pub(crate) fn is_closing(bytes: &[u8], version: u8, headers: &[HeaderSpan]) -> b
 /// Whether one of the fields closes the connection.
 fn any_closes(bytes: &[u8], headers: &[HeaderSpan]) -> bool
     requires within { All (IsHeaderWithin (length bytes.now)) headers.now }
-    ensures { result ≡ list_any (λ h. same_word (span_bytes bytes.now h.name) (codes "Connection") && same_word (span_bytes bytes.now h.value) (codes "close")) headers.now }
+    ensures { result
+        ≡ list_any (λ h. same_word (span_bytes bytes.now h.name) (codes "Connection")
+        && same_word (span_bytes bytes.now h.value) (codes "close")) headers.now }
 {
     for header in headers {
         if closes(bytes, *header) {

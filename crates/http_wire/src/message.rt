@@ -8,7 +8,7 @@ ghost use Rattle.http_wire.specs.Headings.{HasHeading};
 ghost use Rattle.http_wire.specs.Held.{take_limit};
 ghost use Rattle.http_wire.specs.Messages.{IsUnsettled};
 ghost use Rattle.http_wire.specs.Parts.{body_of};
-ghost use Rattle.http_wire.specs.Answers.{Gave, Answers, Refuses, AwaitsLongBody, OnRequest, OnRefused, Tells};
+ghost use Rattle.http_wire.specs.Answers.{Gave, HasRequest, Refuses, AwaitsLongBody, OnRequest, OnRefused, Tells};
 
 use crate::body::{Gap, fill_body, fill_to};
 use crate::buffer::{Buffer, ROOM};
@@ -31,11 +31,16 @@ pub struct Message {
 
 impl Model for Message {
     ghost use Rattle.std.specs.Prelude.{◌≤◌, option_map};
-    ghost use Rattle.http_wire.specs.Parts.{Parts};
+    ghost use Rattle.http_wire.specs.Parts.{MessageParts};
 
-    ghost Value = { Parts };
+    ghost Value = { MessageParts };
 
-    ghost view = { λ m. record { head = m.head; used = m.used; last = m.last; apart = option_map (λ v. v.items) m.apart } };
+    ghost view = { λ m. record {
+      head = m.head;
+      used = m.used;
+      last = m.last;
+      apart = option_map (λ v. v.items) m.apart;
+    } };
 
     ghost invariant = { λ m. m.head.len ≤ m.used };
 }
@@ -131,7 +136,8 @@ fn read_held<R: Source>(
 ) -> Result<Next, MessageStop>
     requires frame { HasFrame buffer.old.bytes buffer.old.spans head size last }
     requires room { head.len + size ≤ 8192 }
-    ensures tells { Gave buffer.old buffer.new (R.left source.old) (R.left source.new) (Tells buffer.new (R.left source.new) result) }
+    ensures tells { Gave buffer.old buffer.new (R.left source.old) (R.left source.new)
+        (Tells buffer.new (R.left source.new) result) }
     ensures limit { buffer.new.taken ≤ take_limit }
     ensures settled { (IsUnsettled buffer.old.bytes → ⊥) → source.new ≡ source.old }
     ensures stream { R.stream source.new ≡ R.stream source.old }
@@ -161,7 +167,8 @@ fn read_apart<R: Source>(
 ) -> Result<Next, MessageStop>
     requires frame { HasFrame buffer.old.bytes buffer.old.spans head size last }
     requires long { 8192 < head.len + size }
-    ensures tells { Gave buffer.old buffer.new (R.left source.old) (R.left source.new) (Tells buffer.new (R.left source.new) result) }
+    ensures tells { Gave buffer.old buffer.new (R.left source.old) (R.left source.new)
+        (Tells buffer.new (R.left source.new) result) }
     ensures limit { buffer.new.taken ≤ take_limit }
     ensures settled { (IsUnsettled buffer.old.bytes → ⊥) → source.new ≡ source.old }
     ensures stream { R.stream source.new ≡ R.stream source.old }
@@ -192,7 +199,8 @@ fn read_body<R: Source>(
 ) -> Result<Next, MessageStop>
     requires whole { IsRequestOf buffer.old.bytes buffer.old.spans head }
     requires within { IsRequestWithin buffer.old.bytes buffer.old.spans head }
-    ensures tells { Gave buffer.old buffer.new (R.left source.old) (R.left source.new) (Tells buffer.new (R.left source.new) result) }
+    ensures tells { Gave buffer.old buffer.new (R.left source.old) (R.left source.new)
+        (Tells buffer.new (R.left source.new) result) }
     ensures limit { buffer.new.taken ≤ take_limit }
     ensures settled { (IsUnsettled buffer.old.bytes → ⊥) → source.new ≡ source.old }
     ensures stream { R.stream source.new ≡ R.stream source.old }
@@ -220,7 +228,8 @@ fn next_of<R: Source>(
 ) -> Result<Next, MessageStop>
     requires heading { HasHeading buffer.old (R.left source.old) heading }
     requires limit { buffer.old.taken ≤ take_limit }
-    ensures tells { Gave buffer.old buffer.new (R.left source.old) (R.left source.new) (Tells buffer.new (R.left source.new) result) }
+    ensures tells { Gave buffer.old buffer.new (R.left source.old) (R.left source.new)
+        (Tells buffer.new (R.left source.new) result) }
     ensures limit { buffer.new.taken ≤ take_limit }
     ensures settled { (IsUnsettled buffer.old.bytes → ⊥) → source.new ≡ source.old }
     ensures stream { R.stream source.new ≡ R.stream source.old }
@@ -241,25 +250,37 @@ fn next_of<R: Source>(
 /// # Errors
 ///
 /// `Spent`: 2^40 = 1,099,511,627,776 bytes were taken and a further read is needed, also where it would find the end.
-/// `ReadFault`: the source failed. `NoMemory`: memory ran out for a body that does not fit in the buffer. Bytes of a long
-/// body that were taken before are lost.
+/// `ReadFault`: the source failed. `NoMemory`: memory ran out for a body that does not fit in the buffer. Bytes of a
+/// long body that were taken before are lost.
 pub fn read_message<R: Source>(
     alloc: Global,
     source: &mut R,
     buffer: &mut Buffer,
 ) -> Result<Next, MessageStop>
-    ensures request { OnRequest result (λ m. Gave buffer.old buffer.new (R.left source.old) (R.left source.new) (λ bytes. Answers bytes buffer.new m)) }
-    ensures refused { OnRefused result (λ bad. Gave buffer.old buffer.new (R.left source.old) (R.left source.new) (Refuses (R.left source.new) bad)) }
-    ensures end { result ≡ Ok Next.End → Gave buffer.old buffer.new (R.left source.old) (R.left source.new) (λ bytes. bytes ≡ []) × IsAtEnd (R.left source.new) }
+    ensures request { OnRequest result (λ m. Gave buffer.old buffer.new (R.left source.old) (R.left source.new)
+        (λ bytes. HasRequest bytes buffer.new m)) }
+    ensures refused { OnRefused result
+        (λ bad. Gave buffer.old buffer.new (R.left source.old) (R.left source.new) (Refuses (R.left source.new) bad)) }
+    ensures end { result ≡ Ok Next.End
+        → Gave buffer.old buffer.new (R.left source.old) (R.left source.new) (λ bytes. bytes ≡ [])
+        × IsAtEnd (R.left source.new) }
     // The end is found by a read, so fewer bytes than the limit were taken.
-    ensures at_end { (result ≡ Ok (Next.Refused FramingRefusal.CutShort)) ⊎ (result ≡ Ok Next.End) → buffer.new.taken < take_limit }
-    ensures spent { IsErrOf result MessageStop.Spent → (buffer.new.taken ≡ take_limit) × Gave buffer.old buffer.new (R.left source.old) (R.left source.new) IsUnsettled }
-    ensures no_memory { IsErrOf result MessageStop.NoMemory → Gave buffer.old buffer.new (R.left source.old) (R.left source.new) AwaitsLongBody }
+    ensures at_end { (result ≡ Ok (Next.Refused FramingRefusal.CutShort)) ⊎ (result ≡ Ok Next.End)
+        → buffer.new.taken < take_limit }
+    ensures spent { IsErrOf result MessageStop.Spent
+        → (buffer.new.taken ≡ take_limit)
+        × Gave buffer.old buffer.new (R.left source.old) (R.left source.new) IsUnsettled }
+    // The source fails only where what was taken settles nothing.
+    ensures failed { IsErrOf result MessageStop.ReadFault
+        → Gave buffer.old buffer.new (R.left source.old) (R.left source.new) IsUnsettled }
+    ensures no_memory { IsErrOf result MessageStop.NoMemory
+        → Gave buffer.old buffer.new (R.left source.old) (R.left source.new) AwaitsLongBody }
     ensures given { Gave buffer.old buffer.new (R.left source.old) (R.left source.new) (λ bytes. ⊤) }
     ensures limit { buffer.new.taken ≤ take_limit }
     ensures fits { OnRequest result (λ m. m.used ≤ length buffer.new.bytes) }
     // A message has at least one byte.
-    ensures uses { OnRequest result (λ m. buffer.old.taken + length (drop m.used buffer.new.bytes) < buffer.new.taken + length buffer.old.bytes) }
+    ensures uses { OnRequest result
+        (λ m. buffer.old.taken + length (drop m.used buffer.new.bytes) < buffer.new.taken + length buffer.old.bytes) }
     // A message whose bytes are held is answered without a read.
     ensures settled { (IsUnsettled buffer.old.bytes → ⊥) → source.new ≡ source.old }
     ensures stream { R.stream source.new ≡ R.stream source.old }

@@ -47,14 +47,17 @@ pub(crate) fn read_head<R: Source>(source: &mut R, buffer: &mut Buffer) -> Resul
     ensures limit { buffer.new.taken ≤ take_limit }
     ensures whole { OnHead result (IsRequestOf buffer.new.bytes buffer.new.spans) }
     ensures within { OnHead result (IsRequestWithin buffer.new.bytes buffer.new.spans) }
-    ensures hopeless { result ≡ Ok Heading.Hopeless → IsHopeless buffer.new.bytes × (length buffer.new.bytes ≤ head_room) }
+    ensures hopeless { result ≡ Ok Heading.Hopeless
+        → IsHopeless buffer.new.bytes × (length buffer.new.bytes ≤ head_room) }
     ensures too_large { result ≡ Ok Heading.TooLarge → IsOpen buffer.new.bytes × (length buffer.new.bytes ≡ head_room) }
     ensures cut_short { result ≡ Ok Heading.CutShort → IsOpen buffer.new.bytes × (0 < length buffer.new.bytes)
         × (length buffer.new.bytes < head_room) × IsAtEnd (R.left source.new) }
     ensures end { result ≡ Ok Heading.End → (buffer.new.bytes ≡ []) × IsAtEnd (R.left source.new) }
     // The end is found by a read, so fewer bytes than the limit were taken.
     ensures at_end { (result ≡ Ok Heading.CutShort) ⊎ (result ≡ Ok Heading.End) → buffer.new.taken < take_limit }
-    ensures spent { IsErrOf result Stop.Spent → (buffer.new.taken ≡ take_limit) × IsOpen buffer.new.bytes × (length buffer.new.bytes < head_room) }
+    ensures spent { IsErrOf result Stop.Spent
+        → (buffer.new.taken ≡ take_limit) × IsOpen buffer.new.bytes × (length buffer.new.bytes < head_room) }
+    ensures failed { IsErrOf result Stop.ReadFault → IsOpen buffer.new.bytes × (length buffer.new.bytes < head_room) }
     // The source is read only where the bytes that are held settle nothing.
     ensures settled { (IsOpen buffer.old.bytes → ⊥) → source.new ≡ source.old }
     ensures full { head_room ≤ length buffer.old.bytes → source.new ≡ source.old }
@@ -84,7 +87,8 @@ pub(crate) fn read_head<R: Source>(source: &mut R, buffer: &mut Buffer) -> Resul
 
 /// What stands where the stream ends.
 fn ending(buffer: &Buffer) -> Heading
-    ensures { ((result ≡ Heading.CutShort) × (0 < length buffer.now.bytes)) ⊎ ((result ≡ Heading.End) × (buffer.now.bytes ≡ [])) }
+    ensures { ((result ≡ Heading.CutShort) × (0 < length buffer.now.bytes))
+        ⊎ ((result ≡ Heading.End) × (buffer.now.bytes ≡ [])) }
 {
     if buffer.held().is_empty() {
         return Heading::End;

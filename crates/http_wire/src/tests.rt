@@ -151,7 +151,8 @@ fn one_thing_stands_at_the_front(rt: HostRuntime) -> Result<(), Fail> {
             },
         ),
         (
-            b"PUT / HTTP/1.1\r\nContent-Length: 000000000000000000000000000000000000000000000000000000000001\r\n\r\nabcd",
+            b"PUT / HTTP/1.1\r\nContent-Length: 000000000000000000000000000000000000000000000000000000000001\r\n\r\n\
+abcd",
             Seen::Message {
                 body: b"a",
                 last: false,
@@ -278,7 +279,8 @@ fn one_thing_stands_at_the_front(rt: HostRuntime) -> Result<(), Fail> {
 #[test]
 fn messages_stand_behind_one_another(rt: HostRuntime) -> Result<(), Fail> {
     let stream =
-        b"PUT /a HTTP/1.1\r\nContent-Length: 3\r\n\r\nabc\r\nPUT /b HTTP/1.1\r\nContent-Length: 2\r\n\r\ndeGET / HTTP/1.0\r\n\r\nG";
+        b"PUT /a HTTP/1.1\r\nContent-Length: 3\r\n\r\nabc\r\nPUT /b HTTP/1.1\r\nContent-Length: 2\r\n\r\ndeGET / \
+HTTP/1.0\r\n\r\nG";
     let wanted = [
         Seen::Message {
             body: b"abc",

@@ -8,12 +8,16 @@ returns-clause-text c =
 
 pub returns-clause-fits : goal.returns-clause-fits
 returns-clause-fits c =
-    print_fits c.args.room.now c.put_fault-end.new.room (fault_text c.args.fault.now) c.put_fault-end.result c.put_fault-end.ensures.puts c.ended.ensures.short c.ended.result c.put_fault-end.auto.room c.ended.ensures.ok
+    print_fits c.args.room.now c.put_fault-end.new.room (fault_text c.args.fault.now) c.put_fault-end.result
+    c.put_fault-end.ensures.puts c.ended.ensures.short c.ended.result c.put_fault-end.auto.room c.ended.ensures.ok
 
 pub returns-clause-no_room : goal.returns-clause-no_room
 returns-clause-no_room c =
-    print_no_room c.args.room.now c.put_fault-end.new.room (fault_text c.args.fault.now) c.put_fault-end.result c.put_fault-end.ensures.puts c.ended.ensures.short c.ended.result c.put_fault-end.auto.room c.ended.ensures.err
+    print_no_room c.args.room.now c.put_fault-end.new.room (fault_text c.args.fault.now) c.put_fault-end.result
+    c.put_fault-end.ensures.puts c.ended.ensures.short c.ended.result c.put_fault-end.auto.room c.ended.ensures.err
 
 pub returns-clause-enough : goal.returns-clause-enough
 returns-clause-enough c =
-    print_enough c.args.room.now c.put_fault-end.new.room (fault_text c.args.fault.now) c.put_fault-end.result c.put_fault-end.ensures.puts c.ended.ensures.short c.ended.result c.put_fault-end.auto.room c.put_fault-end.ensures.small c.ended.ensures.err
+    print_enough c.args.room.now c.put_fault-end.new.room (fault_text c.args.fault.now) c.put_fault-end.result
+    c.put_fault-end.ensures.puts c.ended.ensures.short c.ended.result c.put_fault-end.auto.room
+    c.put_fault-end.ensures.small c.ended.ensures.err

@@ -1,8 +1,8 @@
 use Rattle.std.proofs.Common.{◌≡◌, ◌+◌, ◌-◌, ◌≤◌, ℕ, List, ◌++◌, take, drop, length, sym, ap, ◌∙◌, subst, arith, length-drop, take-append-drop}
 use Rattle.std.proofs.lemmas.List.{length-take-le, take_all}
 use Rattle.std.proofs.Math.Seq.{take-append-add}
+use Rattle.std.proofs.KnownBytes.{Appends-trans}
 use Rattle.std.specs.Io.KnownBytes.{Appends}
-use Rattle.http_front.proofs.SaidLemmas.{appends_then}
 use Rattle.http_front.proofs.replies.put_all.Goals as goal
 
 take_parts : (d n : ℕ) (xs : List ℕ) → d ≤ length xs → take (d + n) xs ≡ take d xs ++ take n (drop d xs)
@@ -18,6 +18,8 @@ loop-done-preserved g c =
     record {
       inside = omega (arith, c.loop-done.invariant.inside, c.in-Ok.ensures.bound, length-drop d bytes);
       said = subst (Appends (contents c.args.writer.now) (contents c.write.new.self)) (sym (take_parts d n bytes c.loop-done.invariant.inside))
-          (appends_then (contents c.args.writer.now) (contents c.loop-done.writer) (contents c.write.new.self) (take d bytes) (take n (drop d bytes)) c.loop-done.invariant.said
-          (subst (λ (t : List ℕ). Appends (contents c.loop-done.writer) (contents c.write.new.self) (take n t)) (take_all (length bytes - d) (drop d bytes) (omega (arith, length-drop d bytes))) c.in-Ok.ensures.bytes));
+          (Appends-trans (contents c.args.writer.now) (contents c.loop-done.writer) (contents c.write.new.self) (take d bytes) (take n (drop d bytes)) c.loop-done.invariant.said
+          (subst (λ (t : List ℕ). Appends (contents c.loop-done.writer) (contents c.write.new.self) (take n t))
+          (take_all (length bytes - d) (drop d bytes) (omega (arith, length-drop d bytes)))
+          c.in-Ok.ensures.bytes));
     }

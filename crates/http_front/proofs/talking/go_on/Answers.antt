@@ -5,7 +5,8 @@ use Rattle.http_front.proofs.talking.go_on.Goals as goal
 
 pub talking-init : goal.talking-init
 talking-init g c = record {
-  talked = talked_none g.T.Teller.moves c.args.teller.now (g.W.Replies.said c.args.out.now) (g.W.Replies.moments c.args.out.now) (prepend_known c.args.reader.now.bytes (g.R.Source.left c.args.source.now));
+  talked = talked_none g.T.Teller.moves c.args.teller.now (g.W.Replies.said c.args.out.now)
+      (g.W.Replies.moments c.args.out.now) (prepend_known c.args.reader.now.bytes (g.R.Source.left c.args.source.now));
   room = c.requires.room;
   given = given_none c.args.reader.now.taken (g.R.Source.left c.args.source.now);
   limit = c.requires.limit;
@@ -22,8 +23,12 @@ talking-preserved g c =
     let moments = g.W.Replies.moments in
     let left = g.R.Source.left in
     record {
-      talked = talked_then g.T.Teller.moves c.args.teller.now c.talking.teller c.answer_one.new.teller (said c.args.out.now) (said c.talking.out) (said c.answer_one.new.out) (moments c.args.out.now) (moments c.talking.out) (moments c.answer_one.new.out)
-          (prepend_known c.args.reader.now.bytes (left c.args.source.now)) (prepend_known c.talking.reader.bytes (left c.talking.source)) (prepend_known c.answer_one.new.reader.bytes (left c.answer_one.new.source))
+      talked = talked_then g.T.Teller.moves c.args.teller.now c.talking.teller c.answer_one.new.teller
+          (said c.args.out.now) (said c.talking.out) (said c.answer_one.new.out) (moments c.args.out.now)
+          (moments c.talking.out) (moments c.answer_one.new.out)
+          (prepend_known c.args.reader.now.bytes (left c.args.source.now))
+          (prepend_known c.talking.reader.bytes (left c.talking.source))
+          (prepend_known c.answer_one.new.reader.bytes (left c.answer_one.new.source))
           c.talking.invariant.talked c.in-Ok.ensures.goes_on;
       room = c.answer_one.ensures.room;
       given = given_then c.args.reader.now.taken c.talking.reader.taken c.answer_one.new.reader.taken (left c.args.source.now) (left c.talking.source) (left c.answer_one.new.source)
@@ -42,11 +47,13 @@ returns-in-Err-clause-closed g c =
     let moments = g.W.Replies.moments in
     let left = g.R.Source.left in
     closed_then g.T.Teller.moves (left c.answer_one.new.source) c.args.reader.now.taken c.talking.reader.taken (left c.args.source.now) (left c.talking.source) c.talking.invariant.given
-    c.args.teller.now c.talking.teller c.answer_one.new.teller (said c.args.out.now) (said c.talking.out) (said c.answer_one.new.out) (moments c.args.out.now) (moments c.talking.out) (moments c.answer_one.new.out)
+    c.args.teller.now c.talking.teller c.answer_one.new.teller (said c.args.out.now) (said c.talking.out)
+    (said c.answer_one.new.out) (moments c.args.out.now) (moments c.talking.out) (moments c.answer_one.new.out)
     (prepend_known c.args.reader.now.bytes (left c.args.source.now)) (prepend_known c.talking.reader.bytes (left c.talking.source)) c.in-Err.end
     c.talking.invariant.talked c.in-Err.ensures.closed
 
 pub returns-in-Err-clause-given : goal.returns-in-Err-clause-given
 returns-in-Err-clause-given g c =
-    given_then c.args.reader.now.taken c.talking.reader.taken c.answer_one.new.reader.taken (g.R.Source.left c.args.source.now) (g.R.Source.left c.talking.source) (g.R.Source.left c.answer_one.new.source)
+    given_then c.args.reader.now.taken c.talking.reader.taken c.answer_one.new.reader.taken
+    (g.R.Source.left c.args.source.now) (g.R.Source.left c.talking.source) (g.R.Source.left c.answer_one.new.source)
     c.talking.invariant.given c.answer_one.ensures.given

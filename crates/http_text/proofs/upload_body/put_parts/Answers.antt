@@ -13,7 +13,8 @@ loop-number-preserved c =
     let l = c.loop-number in
     let left = c.next.new.self in
     going_on _ _ _ (items_text true (items_of (map part_data left))) l.invariant
-    (ap (λ (parts : List (ℕ × Part)). items_text l.later (items_of (map part_data parts))) c.in-Some.ensures.steps ∙ part_left l.later (c.in-Some.number.now, c.in-Some.part.now) left) c.put_part-at.ensures
+    (ap (λ (parts : List (ℕ × Part)). items_text l.later (items_of (map part_data parts))) c.in-Some.ensures.steps
+    ∙ part_left l.later (c.in-Some.number.now, c.in-Some.part.now) left) c.put_part-at.ensures
 
 pub returns : goal.returns
 returns c =

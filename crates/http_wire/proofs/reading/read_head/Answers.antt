@@ -11,7 +11,14 @@ reading-preserved g c =
           (took_then c.reading.buffer c.look.new.self c.fill.new.self (left c.reading.source) (left c.reading.source) (left c.fill.new.source)
           (took_seen c.reading.buffer c.look.new.self (left c.reading.source) c.look.ensures.bytes c.look.ensures.taken) c.in-Ok.ensures.took);
       unread = λ settled. absurd (settled (subst IsOpen (c.look.ensures.bytes ∙ (c.reading.invariant.unread settled).1) (c.look.ensures.open c.in-Open.is)));
-      full = λ long. absurd (omega (arith, long, ap length c.reading.invariant.took.held, length-append c.args.buffer.now.bytes c.reading.invariant.took.given, ap length c.look.ensures.bytes, ap length c.held.ensures.value));
+      full = λ long. absurd (omega (
+        arith,
+        long,
+        ap length c.reading.invariant.took.held,
+        length-append c.args.buffer.now.bytes c.reading.invariant.took.given,
+        ap length c.look.ensures.bytes,
+        ap length c.held.ensures.value,
+      ));
       stream = c.fill.ensures.stream ∙ c.reading.invariant.stream;
       faults = omega (arith, c.reading.invariant.faults, c.fill.ensures.cause.later);
     }

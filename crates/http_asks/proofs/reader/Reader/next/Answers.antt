@@ -1,13 +1,13 @@
 use Rattle.std.proofs.Common.{◌≡◌, ◌∙◌, ℕ, List, drop, sym, ap, subst, refl, inl, inr, Ok}
 use Rattle.std.specs.Io.KnownBytes.{prepend_known}
-use Rattle.http_wire.specs.Answers.{Gave, Answers, Refuses}
+use Rattle.http_wire.specs.Answers.{Gave, HasRequest, Refuses}
 use Rattle.http_wire.specs.Held.{Held}
-use Rattle.http_wire.specs.Parts.{Parts}
+use Rattle.http_wire.specs.Parts.{MessageParts}
 use Rattle.http_wire.specs.declared.framing.FramingRefusal.{FramingRefusal}
 use Rattle.http_wire.specs.declared.message.Next.TheVariants as next
 use Rattle.http_asks.specs.Counts.{AreEnough}
 use Rattle.http_asks.specs.Streams.{StandsUnbuilt, WantsMemory}
-use Rattle.http_asks.specs.Tells.{Tells}
+use Rattle.http_asks.specs.Tells.{TellsHeard}
 use Rattle.http_asks.proofs.HeardLemmas.{heard_told, request_enough, refused_enough, end_enough, unbuilt_told, unsettled_same, on_request, on_refused, body_wants, request_wants, stop_wants}
 use Rattle.http_asks.proofs.reader.Reader.next.Goals as goal
 use Rattle.http_asks.proofs.reader.Reader.next.Goals.{in-Some-2, in-None-2}
@@ -19,7 +19,10 @@ returns-in_default-clause-no_memory g c wants =
     let m = c.in-Ok-Request.message in
     subst (λ (h : Held). Gave h before (left c.args.source.now) (left c.read_message.new.source) WantsMemory) c.self.view_is
     (request_wants c.self.inside.buffer before (left c.args.source.now) (left c.read_message.new.source) m
-    (on_request c.in-Ok-Request.field-0 m (λ (x : Parts). Gave c.self.inside.buffer before (left c.args.source.now) (left c.read_message.new.source) (λ (bytes : List ℕ). Answers bytes before x)) c.in-Ok-Request.field-0-is c.in-Ok-Request.ensures.request))
+    (on_request c.in-Ok-Request.field-0 m (λ (x : MessageParts).
+    Gave c.self.inside.buffer before (left c.args.source.now) (left c.read_message.new.source)
+    (λ (bytes : List ℕ). HasRequest bytes before x)) c.in-Ok-Request.field-0-is
+    c.in-Ok-Request.ensures.request))
 
 pub returns-in_default-clause-settled : goal.returns-in_default-clause-settled
 returns-in_default-clause-settled g c settled = c.read_message.ensures.settled (unsettled_same c.args.self.now c.self.inside.buffer (sym c.self.view_is) settled)
@@ -31,10 +34,13 @@ returns-in-Ok-clause-tells g c =
     let m = c.in-Ok-Request.message in
     let told = λ (after : Held) (same : after ≡ c.drop_front.new.self).
     heard_told c.self.inside.buffer before after (left c.args.source.now) (left c.read_message.new.source) m c.in-Ok.heard
-    (on_request c.in-Ok-Request.field-0 m (λ (x : Parts). Gave c.self.inside.buffer before (left c.args.source.now) (left c.read_message.new.source) (λ (bytes : List ℕ). Answers bytes before x)) c.in-Ok-Request.field-0-is c.in-Ok-Request.ensures.request)
+    (on_request c.in-Ok-Request.field-0 m (λ (x : MessageParts).
+    Gave c.self.inside.buffer before (left c.args.source.now) (left c.read_message.new.source)
+    (λ (bytes : List ℕ). HasRequest bytes before x)) c.in-Ok-Request.field-0-is
+    c.in-Ok-Request.ensures.request)
     (ap (λ (h : Held). h.bytes) same ∙ c.drop_front.ensures.bytes ∙ ap (λ (n : ℕ). drop n before.bytes) c.used.ensures) c.in-Ok.ensures.heard in
     let after = c.match-message-2.self in
-    subst (λ (h : Held). Tells (prepend_known h.bytes (left c.args.source.now)) c.in-Ok.heard (prepend_known after.bytes (left c.read_message.new.source))) c.self.view_is
+    subst (λ (h : Held). TellsHeard (prepend_known h.bytes (left c.args.source.now)) c.in-Ok.heard (prepend_known after.bytes (left c.read_message.new.source))) c.self.view_is
     (elim c.match-message-2.branch [ in-Some-2 w ↦ told after w.self-is | in-None-2 w ↦ told after w.self-is ])
 
 pub returns-in-Ok-clause-settled : goal.returns-in-Ok-clause-settled
@@ -45,7 +51,9 @@ returns-in-Ok-Refused-clause-tells g c =
     let left = g.R.Source.left in (
       subst (λ (h : Held). StandsUnbuilt (prepend_known h.bytes (left c.args.source.now))) c.self.view_is
           (unbuilt_told c.self.inside.buffer c.read_message.new.buffer (left c.args.source.now) (left c.read_message.new.source) c.in-Ok-Refused.field-0-0
-          (on_refused c.in-Ok-Refused.field-0 c.in-Ok-Refused.field-0-0 (λ (bad : FramingRefusal). Gave c.self.inside.buffer c.read_message.new.buffer (left c.args.source.now) (left c.read_message.new.source) (Refuses (left c.read_message.new.source) bad))
+          (on_refused c.in-Ok-Refused.field-0 c.in-Ok-Refused.field-0-0 (λ (bad : FramingRefusal).
+          Gave c.self.inside.buffer c.read_message.new.buffer (left c.args.source.now)
+          (left c.read_message.new.source) (Refuses (left c.read_message.new.source) bad))
           c.in-Ok-Refused.field-0-is c.in-Ok-Refused.ensures.refused)),
       refl,
     )
@@ -61,7 +69,7 @@ returns-in-Err-clause-no_memory g c wants =
     let left = g.R.Source.left in
     subst (λ (h : Held). Gave h c.read_message.new.buffer (left c.args.source.now) (left c.read_message.new.source) WantsMemory) c.self.view_is
     (body_wants c.self.inside.buffer c.read_message.new.buffer (left c.args.source.now) (left c.read_message.new.source)
-    (c.in-Err.ensures.no_memory (stop_wants c.in-Err.stop c.stop_of.result c.stop_of.ensures.no_memory wants)))
+    (c.in-Err.ensures.no_memory (stop_wants c.in-Err.stop wants)))
 
 pub returns-in-Err-clause-settled : goal.returns-in-Err-clause-settled
 returns-in-Err-clause-settled g c settled = c.read_message.ensures.settled (unsettled_same c.args.self.now c.self.inside.buffer (sym c.self.view_is) settled)
@@ -73,7 +81,10 @@ returns-in-Ok-clause-enough g c =
     let m = c.in-Ok-Request.message in
     let enough = λ (after : Held) (same : after ≡ c.drop_front.new.self).
     request_enough c.self.inside.buffer before after (left c.args.source.now) (left c.read_message.new.source) m
-    (on_request c.in-Ok-Request.field-0 m (λ (x : Parts). Gave c.self.inside.buffer before (left c.args.source.now) (left c.read_message.new.source) (λ (bytes : List ℕ). Answers bytes before x)) c.in-Ok-Request.field-0-is c.in-Ok-Request.ensures.request)
+    (on_request c.in-Ok-Request.field-0 m (λ (x : MessageParts).
+    Gave c.self.inside.buffer before (left c.args.source.now) (left c.read_message.new.source)
+    (λ (bytes : List ℕ). HasRequest bytes before x)) c.in-Ok-Request.field-0-is
+    c.in-Ok-Request.ensures.request)
     (ap (λ (h : Held). h.taken) same ∙ c.drop_front.ensures.taken) in
     let after = c.match-message-2.self in
     subst (λ (h : Held). Gave h after (left c.args.source.now) (left c.read_message.new.source) (AreEnough after.taken (left c.read_message.new.source))) c.self.view_is
@@ -86,7 +97,9 @@ returns-in-Ok-Refused-clause-enough g c =
     subst (λ (h : Held). Gave h now (left c.args.source.now) (left c.read_message.new.source) (AreEnough now.taken (left c.read_message.new.source))) c.self.view_is
     (refused_enough c.self.inside.buffer now (left c.args.source.now) (left c.read_message.new.source) c.in-Ok-Refused.field-0-0
     (λ cut. c.in-Ok-Refused.ensures.at_end (inl (ap Ok (c.in-Ok-Refused.field-0-is ∙ ap next.Refused cut))))
-    (on_refused c.in-Ok-Refused.field-0 c.in-Ok-Refused.field-0-0 (λ (bad : FramingRefusal). Gave c.self.inside.buffer now (left c.args.source.now) (left c.read_message.new.source) (Refuses (left c.read_message.new.source) bad))
+    (on_refused c.in-Ok-Refused.field-0 c.in-Ok-Refused.field-0-0 (λ (bad : FramingRefusal).
+    Gave c.self.inside.buffer now (left c.args.source.now) (left c.read_message.new.source)
+    (Refuses (left c.read_message.new.source) bad))
     c.in-Ok-Refused.field-0-is c.in-Ok-Refused.ensures.refused))
 
 pub returns-in-Ok-End-clause-enough : goal.returns-in-Ok-End-clause-enough
