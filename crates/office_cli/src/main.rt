@@ -28,14 +28,15 @@ fn make_folder<R: Files>(rt: &R) -> Option<()> {
     fs::create_dir_all(rt, FOLDER).ok()
 }
 
-// Makes the names of the files and of their folder durable, so that a file which was made is found after a loss of power.
+// Makes the names of the files and of their folder durable, so that a file which was made is found after a loss of
+// power.
 fn sync_names<R: Files<File = File>>(rt: &R) -> Option<()> {
     File::open(rt, FOLDER).ok()?.sync_all().ok()?;
     File::open(rt, ".").ok()?.sync_all().ok()
 }
 
-// The journal's file, with the lock on it. The lock is that of the open file, so it ends where the file is closed or the process
-// ends. There is none where the file cannot be opened, or another process holds the lock.
+// The journal's file, with the lock on it. The lock is that of the open file, so it ends where the file is closed or
+// the process ends. There is none where the file cannot be opened, or another process holds the lock.
 fn open_journal<R: Files<File = File>>(rt: &R) -> Option<File> {
     let file = open_file(rt, "office-data/journal")?;
     match file.try_lock() {
@@ -44,8 +45,8 @@ fn open_journal<R: Files<File = File>>(rt: &R) -> Option<File> {
     }
 }
 
-// The files of the folder, which is made where it is not there. There are none where the folder cannot be made, the journal cannot
-// be opened, or their names cannot be made durable.
+// The files of the folder, which is made where it is not there. There are none where the folder cannot be made, the
+// journal cannot be opened, or their names cannot be made durable.
 fn open_files<R: Files<File = File>>(rt: &R) -> Option<FileDisk> {
     make_folder(rt)?;
     let journal = open_journal(rt)?;
@@ -64,8 +65,8 @@ fn asks_for_files<R: Alloc<A = Global>>(rt: &R, words: &[String]) -> bool {
     }
 }
 
-// The disk of a command. It has no files where the words ask for none, a file might get the number of a standard stream, or the
-// files cannot be opened.
+// The disk of a command. It has no files where the words ask for none, a file might get the number of a standard
+// stream, or the files cannot be opened.
 fn open_disk<R: Files<File = File> + Alloc<A = Global>>(
     rt: &R,
     words: &[String],
@@ -80,7 +81,8 @@ fn open_disk<R: Files<File = File> + Alloc<A = Global>>(
     }
 }
 
-// Takes the number of a standard stream that is closed, so that no file of the disk gets it and a reply is not written there.
+// Takes the number of a standard stream that is closed, so that no file of the disk gets it and a reply is not written
+// there.
 // What is opened is only read, so that a reply to it fails; the folder is there also where no device is.
 fn hold_number<R: Files>(rt: &R) -> Option<R::File> {
     match File::open(rt, "/dev/null") {

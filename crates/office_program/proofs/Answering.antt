@@ -14,17 +14,18 @@ use Rattle.desk_core.proofs.Following.{Step, Path, stale_rose}
 use Rattle.desk_core.proofs.Runs.{answers_calls, ends_stale}
 use Rattle.desk_core.proofs.Standing.{still_true}
 use Rattle.http_front.specs.declared.replies.Replies as sinks
-use Rattle.http_front.specs.Counts.{Reading}
+use Rattle.http_wire.specs.Held.{take_limit}
+use Rattle.http_front.specs.Counts.{GaveBytes, StreamEnds}
 use Rattle.http_front.specs.Exchanges.{calls_of, moments_of}
 use Rattle.http_front.specs.Session.{Session}
 use Rattle.http_front.specs.declared.answering.SessionEnd.{SessionEnd}
 use Rattle.http_front.specs.declared.answering.SessionEnd.TheVariants as ends
 use Rattle.serving.specs.declared.worker.WorkerEnd.{WorkerEnd}
 use Rattle.serving.specs.declared.worker.WorkerEnd.TheVariants as workers
-use Rattle.office_program.specs.Lines.{status_of, workers_status, end_note, workers_note}
+use Rattle.office_program.specs.Lines.{session_exit, workers_exit, end_note, workers_note}
 use Rattle.office_program.specs.Running.{journal_limit, around, IsNoted, IsSilent, AnswersStream}
 
-four_lost : (end : SessionEnd) (stale : Bool) (status : ℕ) → status ≡ status_of end stale → status ≡ 4 → end ≡ ends.WriteFault
+four_lost : (end : SessionEnd) (stale : Bool) (status : ℕ) → status ≡ session_exit end stale → status ≡ 4 → end ≡ ends.WriteFault
 four_lost ends.WriteFault stale status is four = refl
 four_lost ends.ReadFault stale status is four = absurd (omega (arith, is, four))
 four_lost ends.Spent stale status is four = absurd (omega (arith, is, four))
@@ -37,31 +38,25 @@ module _ {D C W : Type 0} (d : disks.Ghosts D) (k : clocks.Ghosts C) (w : sinks.
     (counts_now : (disk : D) (t : ℕ) → t ≤ d.moment disk → d.had_since disk t (d.state disk))
     (only_now : (disk : D) (s : State) → d.had_since disk (d.moment disk) s → s ≡ d.state disk)
     (own : IsTrue d.honest → (disk : D) → IsImage (d.state disk).journal (d.state disk).journal.seen) where
-  pub stream_answered : (disk : D) (clock : C) (old new : DeskView D C) (out_old out_mid out_new : W) (read : Reading) (end : SessionEnd) (stale : Bool) (status : ℕ)
+  pub stream_answered : (disk : D) (clock : C) (old new : DeskView D C) (out_old out_mid out_new : W) (read : StreamEnds) (end : SessionEnd) (stale : Bool) (status : ℕ)
       → Opens d disk clock journal_limit old
-      → Session (Step d k) old new (w.said out_old) (w.said out_mid) (w.moments out_old) (w.moments out_mid) read end
+      → Session (Step d k) w old new out_old out_mid read end
+      → (n : ℕ) × (n ≤ take_limit) × GaveBytes read.stream read.left n
       → IsSilent w out_mid out_new → w.texts out_mid ≡ w.texts out_old → w.noted out_mid ≡ w.noted out_old → (end ≡ ends.WriteFault → Rose (w.faults out_old) (w.faults out_mid))
-      → IsNoted w out_mid out_new (end_note end stale) → stale ≡ new.stale → status ≡ status_of end stale
+      → IsNoted w out_mid out_new (end_note end stale) → stale ≡ new.stale → status ≡ session_exit end stale
       → AnswersStream d k w read (around disk clock out_old) (around new.disk new.clock out_new) status
-  stream_answered disk clock old new out_old out_mid out_new read end stale status opens s silent same_texts same_noted lost note stale_new is =
-      let calls = calls_of s.exchanges in
+  stream_answered disk clock old new out_old out_mid out_new read end stale status opens s taken silent same_texts same_noted lost note stale_new is =
+      let calls = calls_of s.talk.exchanges in
       let stale_end : stale ≡ stale_by false calls = stale_new ∙ ends_stale d k counts_now only_now own disk clock journal_limit old new calls opens s.moved in
       record {
-        exchanges = s.exchanges;
-        answers = answers_calls d k counts_now only_now own disk clock journal_limit old new calls opens s.moved;
-        rest = s.rest;
-        closed = s.closed;
-        heard = s.heard;
         end = end;
-        whole = s.whole;
-        written = s.written;
-        said_all = subst (λ (x : Option (List ℕ)). Appends (w.said out_old) x s.written) (sym silent.0) s.said;
-        stamped = subst (λ (x : Option (List ℕ)). Appends (w.moments out_old) x (moments_of s.whole)) (sym silent.1) s.stamped;
-        is_written = s.is_written;
-        lacked = s.lacked;
-        behind = s.behind;
+        talk = s.talk;
+        answers = answers_calls d k counts_now only_now own disk clock journal_limit old new calls opens s.moved;
+        said_all = subst (λ (x : Option (List ℕ)). Appends (w.said out_old) x s.talk.written) (sym silent.0) s.said;
+        stamped = subst (λ (x : Option (List ℕ)). Appends (w.moments out_old) x (moments_of s.talk.whole)) (sym silent.1) s.stamped;
+        taken = taken;
         no_text = silent.2 ∙ same_texts;
-        status_is = subst (λ (b : Bool). status ≡ status_of end b) stale_end is;
+        status_is = subst (λ (b : Bool). status ≡ session_exit end b) stale_end is;
         note = record {
           behind = out_mid;
           unnoted = same_noted;
@@ -74,7 +69,7 @@ module _ {D C W : Type 0} (d : disks.Ghosts D) (k : clocks.Ghosts C) (w : sinks.
 -- ---- notes
 
 -- nothing is noted where all was done
-pub zero_unnoted : (end : SessionEnd) (stale : Bool) (status : ℕ) → status ≡ status_of end stale → status ≡ 0 → end_note end stale ≡ []
+pub zero_unnoted : (end : SessionEnd) (stale : Bool) (status : ℕ) → status ≡ session_exit end stale → status ≡ 0 → end_note end stale ≡ []
 unfolding end_note
 zero_unnoted ends.Ended false status is zero = refl
 zero_unnoted ends.Ended true status is zero = absurd (omega (arith, is, zero))
@@ -84,7 +79,7 @@ zero_unnoted ends.Spent stale status is zero = absurd (omega (arith, is, zero))
 zero_unnoted ends.NoMemory true status is zero = absurd (omega (arith, is, zero))
 zero_unnoted ends.NoMemory false status is zero = absurd (omega (arith, is, zero))
 
-pub zero_unnoted_workers : (end : WorkerEnd) (stale : Bool) (status : ℕ) → status ≡ workers_status end stale → status ≡ 0 → workers_note end stale ≡ []
+pub zero_unnoted_workers : (end : WorkerEnd) (stale : Bool) (status : ℕ) → status ≡ workers_exit end stale → status ≡ 0 → workers_note end stale ≡ []
 unfolding workers_note
 zero_unnoted_workers workers.Done false status is zero = refl
 zero_unnoted_workers workers.Done true status is zero = absurd (omega (arith, is, zero))
@@ -94,7 +89,7 @@ zero_unnoted_workers workers.NoMemory false status is zero = absurd (omega (arit
 
 -- ---- causes
 
-two_stale : (end : SessionEnd) (stale : Bool) (status : ℕ) → status ≡ status_of end stale → status ≡ 2 → stale ≡ true
+two_stale : (end : SessionEnd) (stale : Bool) (status : ℕ) → status ≡ session_exit end stale → status ≡ 2 → stale ≡ true
 two_stale end true status is two = refl
 two_stale ends.Ended false status is two = absurd (omega (arith, is, two))
 two_stale ends.ReadFault false status is two = absurd (omega (arith, is, two))
@@ -103,26 +98,26 @@ two_stale ends.Spent false status is two = absurd (omega (arith, is, two))
 two_stale ends.NoMemory false status is two = absurd (omega (arith, is, two))
 
 module _ {D C : Type 0} (d : disks.Ghosts D) (k : clocks.Ghosts C) where
-  pub store_rose : (old new : DeskView D C) (end : SessionEnd) (stale : Bool) (status : ℕ) (calls : List Call) → old.stale ≡ false → stale ≡ new.stale → status ≡ status_of end stale → status ≡ 2
+  pub store_rose : (old new : DeskView D C) (end : SessionEnd) (stale : Bool) (status : ℕ) (calls : List Call) → old.stale ≡ false → stale ≡ new.stale → status ≡ session_exit end stale → status ≡ 2
       → Path d k old calls new → Rose (d.fault_count old.disk) (d.fault_count new.disk)
   store_rose old new end stale status calls fresh stale_new is two path = ⊎_elim
       (λ before. absurd (still_true old.stale before fresh)) (λ rose. rose)
       (stale_rose d k old new calls path (sym stale_new ∙ two_stale end stale status is two))
 
-pub two_stale_workers : (end : WorkerEnd) (stale : Bool) (status : ℕ) → status ≡ workers_status end stale → status ≡ 2 → IsTrue stale
+pub two_stale_workers : (end : WorkerEnd) (stale : Bool) (status : ℕ) → status ≡ workers_exit end stale → status ≡ 2 → IsTrue stale
 two_stale_workers end true status is two = refl
 two_stale_workers workers.PortFault false status is two = absurd (omega (arith, is, two))
 two_stale_workers workers.NoMemory false status is two = absurd (omega (arith, is, two))
 two_stale_workers workers.Done false status is two = absurd (omega (arith, is, two))
 
-pub seven_failed : (end : WorkerEnd) (stale : Bool) (status : ℕ) → status ≡ workers_status end stale → status ≡ 7 → end ≡ workers.PortFault
+pub seven_failed : (end : WorkerEnd) (stale : Bool) (status : ℕ) → status ≡ workers_exit end stale → status ≡ 7 → end ≡ workers.PortFault
 seven_failed workers.PortFault stale status is seven = refl
 seven_failed workers.NoMemory true status is seven = absurd (omega (arith, is, seven))
 seven_failed workers.NoMemory false status is seven = absurd (omega (arith, is, seven))
 seven_failed workers.Done true status is seven = absurd (omega (arith, is, seven))
 seven_failed workers.Done false status is seven = absurd (omega (arith, is, seven))
 
-pub zero_done : (end : WorkerEnd) (stale : Bool) (status : ℕ) → status ≡ workers_status end stale → status ≡ 0 → end ≡ workers.Done
+pub zero_done : (end : WorkerEnd) (stale : Bool) (status : ℕ) → status ≡ workers_exit end stale → status ≡ 0 → end ≡ workers.Done
 zero_done workers.Done stale status is zero = refl
 zero_done workers.PortFault stale status is zero = absurd (omega (arith, is, zero))
 zero_done workers.NoMemory true status is zero = absurd (omega (arith, is, zero))

@@ -10,10 +10,10 @@ use Rattle.http_front.specs.declared.answering.SessionEnd.{SessionEnd}
 use Rattle.http_front.specs.declared.answering.SessionEnd.TheVariants as ends
 use Rattle.serving.specs.declared.worker.WorkerEnd.{WorkerEnd}
 use Rattle.serving.specs.declared.worker.WorkerEnd.TheVariants as workers
-use Rattle.office_program.specs.Lines.{status_of, fault_status, workers_status, IsRunStatus, IsReportStatus, IsServeStatus, IsDone}
+use Rattle.office_program.specs.Lines.{session_exit, fault_exit, workers_exit, IsRunExit, IsReportExit, IsServeExit, IsDoneExit}
 
 module _ (status : ℕ) (store : status ≡ 2 → ⊥) (journal : status ≡ 5 → ⊥) where
-  fault_done : (fault : OpenFault) → status ≡ fault_status fault → IsDone status
+  fault_done : (fault : OpenFault) → status ≡ fault_exit fault → IsDoneExit status
   fault_done faults.StoreFault is = absurd (store is)
   fault_done faults.NotMade is = absurd (journal is)
   fault_done faults.Foreign is = absurd (journal is)
@@ -21,7 +21,7 @@ module _ (status : ℕ) (store : status ≡ 2 → ⊥) (journal : status ≡ 5 �
   fault_done faults.NoMemory is = inr (inl is)
 
   module _ (input : status ≡ 3 → ⊥) (output : status ≡ 4 → ⊥) where
-    end_done : (end : SessionEnd) (stale : Bool) → status ≡ status_of end stale → IsDone status
+    end_done : (end : SessionEnd) (stale : Bool) → status ≡ session_exit end stale → IsDoneExit status
     end_done ends.WriteFault stale is = absurd (output is)
     end_done ends.ReadFault stale is = absurd (input is)
     end_done ends.Spent stale is = inr (inr (inl is))
@@ -30,28 +30,28 @@ module _ (status : ℕ) (store : status ≡ 2 → ⊥) (journal : status ≡ 5 �
     end_done ends.Ended true is = absurd (store is)
     end_done ends.Ended false is = inl is
 
-    pub run_done : IsRunStatus status → IsDone status
+    pub run_done : IsRunExit status → IsDoneExit status
     run_done (inl end) = end_done end.0 end.1 end.2
     run_done (inr fault) = fault_done fault.0 fault.1
 
-    pub report_done : IsReportStatus status → IsDone status
+    pub report_done : IsReportExit status → IsDoneExit status
     report_done (inl ten) = inr (inr (inr ten))
     report_done (inr other) = run_done other
 
   module _ (port : status ≡ 7 → ⊥) where
-    workers_done : (end : WorkerEnd) (stale : Bool) → status ≡ workers_status end stale → IsDone status
+    workers_done : (end : WorkerEnd) (stale : Bool) → status ≡ workers_exit end stale → IsDoneExit status
     workers_done workers.PortFault stale is = absurd (port is)
     workers_done workers.NoMemory true is = absurd (store is)
     workers_done workers.NoMemory false is = inr (inl is)
     workers_done workers.Done true is = absurd (store is)
     workers_done workers.Done false is = inl is
 
-    pub serve_done : IsServeStatus status → IsDone status
+    pub serve_done : IsServeExit status → IsDoneExit status
     serve_done (inl end) = workers_done end.0 end.1 end.2
     serve_done (inr fault) = fault_done fault.0 fault.1
 
 -- a fault that the bytes do not tell of is not status 5
-pub not_five : (fault : OpenFault) (status : ℕ) → (fault ≡ faults.StoreFault) ⊎ (fault ≡ faults.NoMemory) → status ≡ fault_status fault → status ≡ 5 → ⊥
+pub not_five : (fault : OpenFault) (status : ℕ) → (fault ≡ faults.StoreFault) ⊎ (fault ≡ faults.NoMemory) → status ≡ fault_exit fault → status ≡ 5 → ⊥
 not_five faults.StoreFault status other is five = omega (arith, is, five)
 not_five faults.NoMemory status other is five = omega (arith, is, five)
 not_five faults.NotMade status (inl store) is five = absurd cc
@@ -62,12 +62,12 @@ not_five (faults.Damaged at) status (inl store) is five = absurd cc
 not_five (faults.Damaged at) status (inr memory) is five = absurd cc
 
 -- where a text was said, or not
-pub said_is_run : (status : ℕ) → (status ≡ 0) ⊎ ((status ≡ 4) ⊎ (status ≡ 6)) → IsRunStatus status
+pub said_is_run : (status : ℕ) → (status ≡ 0) ⊎ ((status ≡ 4) ⊎ (status ≡ 6)) → IsRunExit status
 said_is_run status (inl is) = inl (ends.Ended, false, is)
 said_is_run status (inr (inl is)) = inl (ends.WriteFault, false, is)
 said_is_run status (inr (inr is)) = inl (ends.NoMemory, false, is)
 
-pub said_is_report : (status : ℕ) → (status ≡ 10) ⊎ ((status ≡ 0) ⊎ ((status ≡ 4) ⊎ (status ≡ 6))) → IsReportStatus status
+pub said_is_report : (status : ℕ) → (status ≡ 10) ⊎ ((status ≡ 0) ⊎ ((status ≡ 4) ⊎ (status ≡ 6))) → IsReportExit status
 said_is_report status (inl ten) = inl ten
 said_is_report status (inr said) = inr (said_is_run status said)
 
@@ -80,14 +80,14 @@ abbrev is_one_of : List ℕ → ℕ → Bool
 is_one_of [] n = false
 is_one_of (first ∷ rest) n = nat_eq first n || is_one_of rest n
 
-abbrev pub is_run_status : ℕ → Bool
-is_run_status = is_one_of (0 ∷ 2 ∷ 3 ∷ 4 ∷ 5 ∷ 6 ∷ 9 ∷ [])
+abbrev pub is_run_exit : ℕ → Bool
+is_run_exit = is_one_of (0 ∷ 2 ∷ 3 ∷ 4 ∷ 5 ∷ 6 ∷ 9 ∷ [])
 
-abbrev pub is_serve_status : ℕ → Bool
-is_serve_status = is_one_of (0 ∷ 2 ∷ 5 ∷ 6 ∷ 7 ∷ [])
+abbrev pub is_serve_exit : ℕ → Bool
+is_serve_exit = is_one_of (0 ∷ 2 ∷ 5 ∷ 6 ∷ 7 ∷ [])
 
-abbrev pub is_said_status : ℕ → Bool
-is_said_status = is_one_of (0 ∷ 4 ∷ 6 ∷ [])
+abbrev pub is_said_exit : ℕ → Bool
+is_said_exit = is_one_of (0 ∷ 4 ∷ 6 ∷ [])
 
 module _ (p : ℕ → Bool) (status : ℕ) where
   there : (n : ℕ) → IsTrue (p n) → status ≡ n → IsTrue (p status)
@@ -97,59 +97,59 @@ module _ (p : ℕ → Bool) (status : ℕ) where
   pub not_one : (n : ℕ) → p n ≡ false → IsTrue (p status) → status ≡ n → ⊥
   not_one n differs held is = absurd_true (sym (subst (λ (x : ℕ). IsTrue (p x)) is held) ∙ differs)
 
-fault_is_run : (fault : OpenFault) (status : ℕ) → status ≡ fault_status fault → IsTrue (is_run_status status)
-fault_is_run faults.StoreFault status is = there is_run_status status 2 refl is
-fault_is_run faults.NotMade status is = there is_run_status status 5 refl is
-fault_is_run faults.Foreign status is = there is_run_status status 5 refl is
-fault_is_run (faults.Damaged at) status is = there is_run_status status 5 refl is
-fault_is_run faults.NoMemory status is = there is_run_status status 6 refl is
+fault_is_run : (fault : OpenFault) (status : ℕ) → status ≡ fault_exit fault → IsTrue (is_run_exit status)
+fault_is_run faults.StoreFault status is = there is_run_exit status 2 refl is
+fault_is_run faults.NotMade status is = there is_run_exit status 5 refl is
+fault_is_run faults.Foreign status is = there is_run_exit status 5 refl is
+fault_is_run (faults.Damaged at) status is = there is_run_exit status 5 refl is
+fault_is_run faults.NoMemory status is = there is_run_exit status 6 refl is
 
-fault_is_serve : (fault : OpenFault) (status : ℕ) → status ≡ fault_status fault → IsTrue (is_serve_status status)
-fault_is_serve faults.StoreFault status is = there is_serve_status status 2 refl is
-fault_is_serve faults.NotMade status is = there is_serve_status status 5 refl is
-fault_is_serve faults.Foreign status is = there is_serve_status status 5 refl is
-fault_is_serve (faults.Damaged at) status is = there is_serve_status status 5 refl is
-fault_is_serve faults.NoMemory status is = there is_serve_status status 6 refl is
+fault_is_serve : (fault : OpenFault) (status : ℕ) → status ≡ fault_exit fault → IsTrue (is_serve_exit status)
+fault_is_serve faults.StoreFault status is = there is_serve_exit status 2 refl is
+fault_is_serve faults.NotMade status is = there is_serve_exit status 5 refl is
+fault_is_serve faults.Foreign status is = there is_serve_exit status 5 refl is
+fault_is_serve (faults.Damaged at) status is = there is_serve_exit status 5 refl is
+fault_is_serve faults.NoMemory status is = there is_serve_exit status 6 refl is
 
-end_is_run : (end : SessionEnd) (stale : Bool) (status : ℕ) → status ≡ status_of end stale → IsTrue (is_run_status status)
-end_is_run ends.WriteFault stale status is = there is_run_status status 4 refl is
-end_is_run ends.ReadFault stale status is = there is_run_status status 3 refl is
-end_is_run ends.Spent stale status is = there is_run_status status 9 refl is
-end_is_run ends.NoMemory true status is = there is_run_status status 2 refl is
-end_is_run ends.NoMemory false status is = there is_run_status status 6 refl is
-end_is_run ends.Ended true status is = there is_run_status status 2 refl is
-end_is_run ends.Ended false status is = there is_run_status status 0 refl is
+end_is_run : (end : SessionEnd) (stale : Bool) (status : ℕ) → status ≡ session_exit end stale → IsTrue (is_run_exit status)
+end_is_run ends.WriteFault stale status is = there is_run_exit status 4 refl is
+end_is_run ends.ReadFault stale status is = there is_run_exit status 3 refl is
+end_is_run ends.Spent stale status is = there is_run_exit status 9 refl is
+end_is_run ends.NoMemory true status is = there is_run_exit status 2 refl is
+end_is_run ends.NoMemory false status is = there is_run_exit status 6 refl is
+end_is_run ends.Ended true status is = there is_run_exit status 2 refl is
+end_is_run ends.Ended false status is = there is_run_exit status 0 refl is
 
-workers_are_serve : (end : WorkerEnd) (stale : Bool) (status : ℕ) → status ≡ workers_status end stale
-    → IsTrue (is_serve_status status)
-workers_are_serve workers.PortFault stale status is = there is_serve_status status 7 refl is
-workers_are_serve workers.NoMemory true status is = there is_serve_status status 2 refl is
-workers_are_serve workers.NoMemory false status is = there is_serve_status status 6 refl is
-workers_are_serve workers.Done true status is = there is_serve_status status 2 refl is
-workers_are_serve workers.Done false status is = there is_serve_status status 0 refl is
+workers_are_serve : (end : WorkerEnd) (stale : Bool) (status : ℕ) → status ≡ workers_exit end stale
+    → IsTrue (is_serve_exit status)
+workers_are_serve workers.PortFault stale status is = there is_serve_exit status 7 refl is
+workers_are_serve workers.NoMemory true status is = there is_serve_exit status 2 refl is
+workers_are_serve workers.NoMemory false status is = there is_serve_exit status 6 refl is
+workers_are_serve workers.Done true status is = there is_serve_exit status 2 refl is
+workers_are_serve workers.Done false status is = there is_serve_exit status 0 refl is
 
-pub run_is : (status : ℕ) → IsRunStatus status → IsTrue (is_run_status status)
+pub run_is : (status : ℕ) → IsRunExit status → IsTrue (is_run_exit status)
 run_is status (inl end) = end_is_run end.0 end.1 status end.2
 run_is status (inr fault) = fault_is_run fault.0 status fault.1
 
-pub serve_is : (status : ℕ) → IsServeStatus status → IsTrue (is_serve_status status)
+pub serve_is : (status : ℕ) → IsServeExit status → IsTrue (is_serve_exit status)
 serve_is status (inl end) = workers_are_serve end.0 end.1 status end.2
 serve_is status (inr fault) = fault_is_serve fault.0 status fault.1
 
-pub run_none : (status n : ℕ) → is_run_status n ≡ false → IsRunStatus status → status ≡ n → ⊥
-run_none status n differs is = not_one is_run_status status n differs (run_is status is)
+pub run_none : (status n : ℕ) → is_run_exit n ≡ false → IsRunExit status → status ≡ n → ⊥
+run_none status n differs is = not_one is_run_exit status n differs (run_is status is)
 
-pub serve_none : (status n : ℕ) → is_serve_status n ≡ false → IsServeStatus status → status ≡ n → ⊥
-serve_none status n differs is = not_one is_serve_status status n differs (serve_is status is)
+pub serve_none : (status n : ℕ) → is_serve_exit n ≡ false → IsServeExit status → status ≡ n → ⊥
+serve_none status n differs is = not_one is_serve_exit status n differs (serve_is status is)
 
 -- where a text was said, or not
-said_is : (status : ℕ) → (status ≡ 0) ⊎ ((status ≡ 4) ⊎ (status ≡ 6)) → IsTrue (is_said_status status)
-said_is status (inl is) = there is_said_status status 0 refl is
-said_is status (inr (inl is)) = there is_said_status status 4 refl is
-said_is status (inr (inr is)) = there is_said_status status 6 refl is
+said_is : (status : ℕ) → (status ≡ 0) ⊎ ((status ≡ 4) ⊎ (status ≡ 6)) → IsTrue (is_said_exit status)
+said_is status (inl is) = there is_said_exit status 0 refl is
+said_is status (inr (inl is)) = there is_said_exit status 4 refl is
+said_is status (inr (inr is)) = there is_said_exit status 6 refl is
 
-pub said_none : (status n : ℕ) → is_said_status n ≡ false → (status ≡ 0) ⊎ ((status ≡ 4) ⊎ (status ≡ 6)) → status ≡ n → ⊥
-said_none status n differs is = not_one is_said_status status n differs (said_is status is)
+pub said_none : (status n : ℕ) → is_said_exit n ≡ false → (status ≡ 0) ⊎ ((status ≡ 4) ⊎ (status ≡ 6)) → status ≡ n → ⊥
+said_none status n differs is = not_one is_said_exit status n differs (said_is status is)
 
 -- of words that are refused
 refusal_is : (fault : LineFault) (status : ℕ) → (fault ≡ refusals.NotALine → status ≡ 1) → (fault ≡ refusals.NoMemory → status ≡ 6)
@@ -158,21 +158,21 @@ refusal_is refusals.NotALine status one six = inl (one refl)
 refusal_is refusals.NoMemory status one six = inr (six refl)
 
 module _ (fault : LineFault) (status : ℕ) (one : fault ≡ refusals.NotALine → status ≡ 1) (six : fault ≡ refusals.NoMemory → status ≡ 6) where
-  abbrev pub is_refusal_status : ℕ → Bool
-  is_refusal_status = is_one_of (1 ∷ 6 ∷ [])
+  abbrev pub is_refusal_exit : ℕ → Bool
+  is_refusal_exit = is_one_of (1 ∷ 6 ∷ [])
 
-  refusal_held : (status ≡ 1) ⊎ (status ≡ 6) → IsTrue (is_refusal_status status)
-  refusal_held (inl is) = there is_refusal_status status 1 refl is
-  refusal_held (inr is) = there is_refusal_status status 6 refl is
+  refusal_held : (status ≡ 1) ⊎ (status ≡ 6) → IsTrue (is_refusal_exit status)
+  refusal_held (inl is) = there is_refusal_exit status 1 refl is
+  refusal_held (inr is) = there is_refusal_exit status 6 refl is
 
-  pub refusal_none : (n : ℕ) → is_refusal_status n ≡ false → status ≡ n → ⊥
-  refusal_none n differs is = not_one is_refusal_status status n differs (refusal_held (refusal_is fault status one six)) is
+  pub refusal_none : (n : ℕ) → is_refusal_exit n ≡ false → status ≡ n → ⊥
+  refusal_none n differs is = not_one is_refusal_exit status n differs (refusal_held (refusal_is fault status one six)) is
 
-  named : (status ≡ 1) ⊎ (status ≡ 6) → (status ≡ 1) ⊎ ((status ≡ 8) ⊎ (IsReportStatus status ⊎ IsServeStatus status))
+  named : (status ≡ 1) ⊎ (status ≡ 6) → (status ≡ 1) ⊎ ((status ≡ 8) ⊎ (IsReportExit status ⊎ IsServeExit status))
   named (inl is) = inl is
   named (inr is) = inr (inr (inr (inr (faults.NoMemory, is))))
 
-  pub refusal_known : (status ≡ 1) ⊎ ((status ≡ 8) ⊎ (IsReportStatus status ⊎ IsServeStatus status))
+  pub refusal_known : (status ≡ 1) ⊎ ((status ≡ 8) ⊎ (IsReportExit status ⊎ IsServeExit status))
   refusal_known = named (refusal_is fault status one six)
 
 six_not_one : (status : ℕ) → status ≡ 6 → status ≡ 1 → ⊥
@@ -190,7 +190,7 @@ late_none status n other none (inl eight) is = absurd_true (sym (subst (λ (x : 
 late_none status n other none (inr holds) is = none holds is
 
 -- of a report
-pub report_none : (status n : ℕ) → is_run_status n ≡ false → nat_eq 10 n ≡ false → IsReportStatus status → status ≡ n → ⊥
+pub report_none : (status n : ℕ) → is_run_exit n ≡ false → nat_eq 10 n ≡ false → IsReportExit status → status ≡ n → ⊥
 report_none status n differs other (inl ten) is = absurd_true (sym (subst (λ (x : ℕ). nat_eq 10 x ≡ true) (sym ten ∙ is) refl) ∙ other)
 report_none status n differs other (inr holds) is = run_none status n differs holds is
 

@@ -1,9 +1,8 @@
 -- A disk whose images have histories keeps to such images.
-use Rattle.std.proofs.Common.{◌≡◌, ⊎_elim, inl, inr, refl, ℕ, Bool, List, subst, sym}
+use Rattle.std.proofs.Common.{⊎_elim, inl, inr, ℕ, Bool, List, subst, sym}
 use Rattle.std.specs.Prelude.{IsTrue}
 use Rattle.disk_core.specs.declared.disk.Disk as disks
-use Rattle.disk_core.specs.Files.{State}
-use Rattle.disk_core.specs.Kept.{Narrower}
+use Rattle.disk_core.specs.Fronts.{Narrower}
 use Rattle.disk_core.specs.Moments.{KeepsTo}
 use Rattle.disk_core.proofs.Time.{weakened, joined}
 use Rattle.office_types.specs.declared.command.Entry.{Entry}
@@ -14,15 +13,12 @@ use Rattle.desk_core.specs.Answers.{Call}
 use Rattle.desk_core.specs.Histories.{HasAcceptedHistory, IsSound}
 use Rattle.desk_core.specs.Runs.{Outside, AnswersCalls}
 use Rattle.desk_core.specs.Serving.{Recoverable}
+use Rattle.desk_core.proofs.Submitted.{narrower_sound}
 use Rattle.http_front.specs.declared.replies.Replies as sinks
 use Rattle.office_program.specs.Making.{Inits}
 use Rattle.office_program.specs.Explaining.{Explains}
 use Rattle.office_program.specs.Reporting.{TellsMonth}
-use Rattle.office_program.specs.Running.{Surroundings, Refuses, Starts}
-
--- what is not touched is narrow
-pub untouched_narrow : (s new : State) → new ≡ s → Narrower s new
-untouched_narrow s new is = subst (Narrower s) (sym is) (record { journal = λ image own. own; slot0 = refl; slot1 = refl })
+use Rattle.office_program.specs.Running.{Surroundings, FailsToOpen, Starts}
 
 -- ---- what is read has a history
 
@@ -33,31 +29,27 @@ module _ (file : List ℕ) (history : List Entry) (has : HasAcceptedHistory hist
   pub not_foreign_there : IsForeign file → ⊥
   not_foreign_there foreign = made_not_foreign file (history_made history file has.entries) foreign
 
-narrow_sound : (first s : State) → IsSound first → Narrower first s → IsSound s
-narrow_sound first s sound narrow image is = sound image (narrow.journal image is)
-
 module _ {D C W : Type 0} (d : disks.Ghosts D) (k : clocks.Ghosts C) (w : sinks.Ghosts W) (tells : IsTrue d.honest) where
   abbrev StaysSound : D → D → Type 0
-  StaysSound old new = KeepsTo d.state d.moment d.had_since old new IsSound
+  StaysSound old new = KeepsTo d old new IsSound
 
   pub calls_sound : (limit : ℕ) (old new : Outside D C) (calls : List Call) → IsSound (d.state old.disk) → AnswersCalls d k limit old new calls → StaysSound old.disk new.disk
   calls_sound limit old new calls sound a =
       let kept = a.disk tells in
-      joined d.state d.moment d.had_since old.disk kept.opening new.disk (Narrower (d.state old.disk)) (Recoverable a.opened calls) IsSound
-      (λ s narrow. narrow_sound (d.state old.disk) s sound narrow) (λ s has image is. let front = has image is in (front.0, front.2)) kept.before kept.since
+      joined IsSound kept.before kept.since (λ s narrow. narrower_sound (d.state old.disk) s sound narrow) (λ s has image is. let front = has image is in (front.0, front.2))
 
-  refused_sound : (old new : Surroundings D C W) (status : ℕ) → IsSound (d.state old.disk) → Refuses d k w old new status → StaysSound old.disk new.disk
+  refused_sound : (old new : Surroundings D C W) (status : ℕ) → IsSound (d.state old.disk) → FailsToOpen d k w old new status → StaysSound old.disk new.disk
   refused_sound old new status sound r =
-      weakened d.state d.moment d.had_since old.disk new.disk (Narrower (d.state old.disk)) IsSound (λ s narrow. narrow_sound (d.state old.disk) s sound narrow) (r.any_moment tells)
+      weakened IsSound (r.any_moment tells) (λ s narrow. narrower_sound (d.state old.disk) s sound narrow)
 
   pub reported_sound : (month : ℕ) (as_text : Bool) (first : ℕ) (old new : Surroundings D C W) (status : ℕ) → IsSound (d.state old.disk) → TellsMonth d k w month as_text first old new status
       → StaysSound old.disk new.disk
   reported_sound month as_text first old new status sound r =
-      weakened d.state d.moment d.had_since old.disk new.disk (Narrower (d.state old.disk)) IsSound (λ s narrow. narrow_sound (d.state old.disk) s sound narrow) (r.any_moment tells)
+      weakened IsSound (r.any_moment tells) (λ s narrow. narrower_sound (d.state old.disk) s sound narrow)
 
   pub explained_sound : (old new : Surroundings D C W) (status : ℕ) → IsSound (d.state old.disk) → Explains d k w old new status → StaysSound old.disk new.disk
   explained_sound old new status sound (inl told) =
-      weakened d.state d.moment d.had_since old.disk new.disk (Narrower (d.state old.disk)) IsSound (λ s narrow. narrow_sound (d.state old.disk) s sound narrow) (told.any_moment tells)
+      weakened IsSound (told.any_moment tells) (λ s narrow. narrower_sound (d.state old.disk) s sound narrow)
   explained_sound old new status sound (inr refused) = refused_sound old new status sound refused
 
   -- also where nothing is touched
@@ -74,7 +66,6 @@ module _ {D C W : Type 0} (d : disks.Ghosts D) (k : clocks.Ghosts C) (w : sinks.
 
 module _ {D W : Type 0} (d : disks.Ghosts D) (w : sinks.Ghosts W) (tells : IsTrue d.honest) where
   pub init_sound : (status : ℕ) (old new : D) (out_old out_new : W) (history : List Entry) → IsSound (d.state old) → HasAcceptedHistory history (d.state old).journal.seen
-      → Inits d w old new out_old out_new status → KeepsTo d.state d.moment d.had_since old new IsSound
+      → Inits d w old new out_old out_new status → KeepsTo d old new IsSound
   init_sound status old new out_old out_new history sound has inits =
-      weakened d.state d.moment d.had_since old new (Narrower (d.state old)) IsSound (λ s narrow. narrow_sound (d.state old) s sound narrow)
-      (inits.unchanged tells (not_none (d.state old).journal.seen history has))
+      weakened IsSound (inits.unchanged tells (not_none (d.state old).journal.seen history has)) (λ s narrow. narrower_sound (d.state old) s sound narrow)

@@ -3,7 +3,7 @@ use Rattle.std.specs.Prelude.{◌≡◌, ◌⊎◌, ◌≤◌, ℕ, Bool, String
 use Rattle.office_base.specs.Faults.{Rose}
 use Rattle.command_line.specs.Lines.{Line, asked, init, run, serve, report}
 use Rattle.http_front.specs.declared.replies.Replies as sinks
-use Rattle.office_program.specs.Lines.{usage_note, IsReportStatus, IsServeStatus}
+use Rattle.office_program.specs.Lines.{usage_note, IsReportExit, IsServeExit}
 use Rattle.office_program.specs.Running.{Surroundings, IsNoted, IsSilent, IsUnread}
 
 -- the command line that these words are, where they are one
@@ -66,9 +66,10 @@ NoneFailed old new =
     (Rose old.disk new.disk → ⊥) × (Rose old.input new.input → ⊥) × (Rose old.output new.output → ⊥)
     × (Rose old.port new.port → ⊥)
 
--- Each status has its cause. The bytes of a journal that is not opened tell why (`Refuses`); `init` refuses a foreign one alone.
+-- Each status has its cause. The bytes of a journal that is not opened tell why (`Refuses`); `init` refuses a foreign
+-- one alone.
 pub record IsCaused (line : Option Line) (old new : FaultCounts) (foreign spent : Type 0) (status : ℕ) : Type 0 where
-  pub known : (status ≡ 1) ⊎ ((status ≡ 8) ⊎ (IsReportStatus status ⊎ IsServeStatus status))
+  pub known : (status ≡ 1) ⊎ ((status ≡ 8) ⊎ (IsReportExit status ⊎ IsServeExit status))
   pub usage : status ≡ 1 → line ≡ None
   pub disk_fault : status ≡ 2 → Rose old.disk new.disk
   pub read_fault : status ≡ 3 → Rose old.input new.input

@@ -11,52 +11,53 @@ use Rattle.serving.specs.declared.worker.WorkerEnd.TheVariants as workers
 
 -- ---- statuses (own)
 
--- of a run whose session ended so, with a desk that is stale then or not; where two hold, the first of 4, 3, 9, 2 and 6 (own)
-abbrev pub status_of : SessionEnd → Bool → ℕ
-status_of ends.WriteFault stale = 4
-status_of ends.ReadFault stale = 3
-status_of ends.Spent stale = 9
-status_of ends.NoMemory true = 2
-status_of ends.NoMemory false = 6
-status_of ends.Ended true = 2
-status_of ends.Ended false = 0
+-- of a run whose session ended so, with a desk that is stale then or not; where two hold, the first of 4, 3, 9, 2 and 6
+-- (own)
+abbrev pub session_exit : SessionEnd → Bool → ℕ
+session_exit ends.WriteFault stale = 4
+session_exit ends.ReadFault stale = 3
+session_exit ends.Spent stale = 9
+session_exit ends.NoMemory true = 2
+session_exit ends.NoMemory false = 6
+session_exit ends.Ended true = 2
+session_exit ends.Ended false = 0
 
 -- of a journal that was not opened, or not made
-abbrev pub fault_status : OpenFault → ℕ
-fault_status faults.StoreFault = 2
-fault_status faults.NotMade = 5
-fault_status faults.Foreign = 5
-fault_status (faults.Damaged at) = 5
-fault_status faults.NoMemory = 6
+abbrev pub fault_exit : OpenFault → ℕ
+fault_exit faults.StoreFault = 2
+fault_exit faults.NotMade = 5
+fault_exit faults.Foreign = 5
+fault_exit (faults.Damaged at) = 5
+fault_exit faults.NoMemory = 6
 
 -- of workers that ended so, with a desk that is stale then or not; where two hold, the first of 7, 2 and 6 (own)
-abbrev pub workers_status : WorkerEnd → Bool → ℕ
-workers_status workers.PortFault stale = 7
-workers_status workers.NoMemory true = 2
-workers_status workers.NoMemory false = 6
-workers_status workers.Done true = 2
-workers_status workers.Done false = 0
+abbrev pub workers_exit : WorkerEnd → Bool → ℕ
+workers_exit workers.PortFault stale = 7
+workers_exit workers.NoMemory true = 2
+workers_exit workers.NoMemory false = 6
+workers_exit workers.Done true = 2
+workers_exit workers.Done false = 0
 
 -- those of a session, and of a command that runs one; of workers, and of a command that has some
-abbrev pub IsSessionStatus : ℕ → Type 0
-IsSessionStatus status = (end : SessionEnd) × (stale : Bool) × (status ≡ status_of end stale)
+abbrev pub IsSessionExit : ℕ → Type 0
+IsSessionExit status = (end : SessionEnd) × (stale : Bool) × (status ≡ session_exit end stale)
 
-abbrev pub IsRunStatus : ℕ → Type 0
-IsRunStatus status = IsSessionStatus status ⊎ ((fault : OpenFault) × (status ≡ fault_status fault))
+abbrev pub IsRunExit : ℕ → Type 0
+IsRunExit status = IsSessionExit status ⊎ ((fault : OpenFault) × (status ≡ fault_exit fault))
 
-abbrev pub IsWorkersStatus : ℕ → Type 0
-IsWorkersStatus status = (end : WorkerEnd) × (stale : Bool) × (status ≡ workers_status end stale)
+abbrev pub IsWorkersExit : ℕ → Type 0
+IsWorkersExit status = (end : WorkerEnd) × (stale : Bool) × (status ≡ workers_exit end stale)
 
-abbrev pub IsServeStatus : ℕ → Type 0
-IsServeStatus status = IsWorkersStatus status ⊎ ((fault : OpenFault) × (status ≡ fault_status fault))
+abbrev pub IsServeExit : ℕ → Type 0
+IsServeExit status = IsWorkersExit status ⊎ ((fault : OpenFault) × (status ≡ fault_exit fault))
 
 -- of a report: one of those, or that there is no tariff
-abbrev pub IsReportStatus : ℕ → Type 0
-IsReportStatus status = (status ≡ 10) ⊎ IsRunStatus status
+abbrev pub IsReportExit : ℕ → Type 0
+IsReportExit status = (status ≡ 10) ⊎ IsRunExit status
 
 -- that of a command that was done, but for want of memory, an input that is too long, and a report without a tariff
-abbrev pub IsDone : ℕ → Type 0
-IsDone status = (status ≡ 0) ⊎ ((status ≡ 6) ⊎ ((status ≡ 9) ⊎ (status ≡ 10)))
+abbrev pub IsDoneExit : ℕ → Type 0
+IsDoneExit status = (status ≡ 0) ⊎ ((status ≡ 6) ⊎ ((status ≡ 9) ⊎ (status ≡ 10)))
 
 -- ---- lines
 
@@ -70,7 +71,8 @@ made_line mades.Before = line (codes "already made")
 
 -- what is noted of words that are no command line
 unfoldable pub usage_note : List ℕ
-usage_note = line (codes "usage: office init; run; serve --listen A [--workers N] [--connections K]; report MONTH [--text]; explain [--workers N]; gen NUMBER COUNT")
+usage_note = line (codes
+    "usage: office init; run; serve --listen A [--workers N] [--connections K]; report MONTH [--text]; explain [--workers N]; gen NUMBER COUNT")
 
 -- of a clock that is at its end
 unfoldable pub clock_note : List ℕ

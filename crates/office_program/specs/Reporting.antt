@@ -1,7 +1,7 @@
 -- What the report of a month prints (S3 User Guide, "Understanding your AWS billing and usage reports for Amazon S3").
 use Rattle.std.specs.Prelude.{◌≡◌, ◌⊎◌, ℕ, Bool, true, false, List, Some, Result, Ok, Err, IsTrue}
 use Rattle.disk_core.specs.declared.disk.Disk as disks
-use Rattle.disk_core.specs.Kept.{Narrower}
+use Rattle.disk_core.specs.Fronts.{Narrower}
 use Rattle.disk_core.specs.Moments.{KeepsTo}
 use Rattle.office_types.specs.declared.command.Entry.{Entry}
 use Rattle.office_types.specs.declared.command.Query.TheVariants as query
@@ -40,17 +40,20 @@ module _ {W : Type 0} (w : sinks.Ghosts W) where
   TellsReport as_text _ old new status = ⊥
 
 module _ {D C W : Type 0} (d : disks.Ghosts D) (k : clocks.Ghosts C) (w : sinks.Ghosts W) where
-  -- The journal was read: what is said is the report of the month by the office after its history, as of the later of the
-  -- clock's first number and the last moment; or memory ran out. Nothing is written, and the clock tells no further number.
-  pub record TellsMonth (month : ℕ) (as_text : Bool) (first : ℕ) (old new : Surroundings D C W) (status : ℕ) : Type 0 where
-    pub history : List Entry
-    pub read : IsTrue d.honest → HasAcceptedHistory history (d.state old.disk).journal.seen
-    pub any_moment : IsTrue d.honest → KeepsTo d.state d.moment d.had_since old.disk new.disk (Narrower (d.state old.disk))
-    pub clock : new.clock ≡ old.clock
-    pub plain : Office
-    pub is_run : run history ≡ Some plain
-    pub told : TellsReport w as_text (answer (moment_after first plain.last) (query.Report month) plain) old.out new.out status
-        ⊎ RunsOut w old.out new.out status
+  -- The journal was read: what is said is the report of the month by the office after its history, as of the later of
+  -- the clock's first number and the last moment; or memory ran out. Nothing is written, and the clock tells no
+  -- further number.
+  pub record TellsMonth (month : ℕ) (as_text : Bool) (first : ℕ) (old new : Surroundings D C W) (status : ℕ) : Type 0
+    where
+      pub history : List Entry
+      pub read : IsTrue d.honest → HasAcceptedHistory history (d.state old.disk).journal.seen
+      pub any_moment : IsTrue d.honest → KeepsTo d old.disk new.disk (Narrower (d.state old.disk))
+      pub clock : new.clock ≡ old.clock
+      pub plain : Office
+      pub is_run : run history ≡ Some plain
+      pub told : TellsReport w as_text (answer (moment_after first plain.last) (query.Report month) plain) old.out
+          new.out status
+          ⊎ RunsOut w old.out new.out status
 
   -- what `report` does; where the journal is not opened, and where the clock is at its end, nothing is said
   abbrev pub Reports : ℕ → Bool → Surroundings D C W → Surroundings D C W → ℕ → Type 0

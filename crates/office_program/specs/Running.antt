@@ -4,23 +4,24 @@ use Rattle.std.specs.Io.KnownBytes.{Appends}
 use Rattle.moments.specs.Time.{end_of_time}
 use Rattle.office_base.specs.Faults.{Rose}
 use Rattle.disk_core.specs.declared.disk.Disk as disks
-use Rattle.disk_core.specs.Kept.{Narrower}
+use Rattle.disk_core.specs.Fronts.{Narrower}
 use Rattle.disk_core.specs.Moments.{KeepsTo}
 use Rattle.meter_journal.specs.declared.fault.OpenFault.{OpenFault}
 use Rattle.desk_core.specs.declared.clock.Clock as clocks
-use Rattle.desk_core.specs.Breaking.{OpenFails}
+use Rattle.desk_core.specs.Damage.{OpenFails}
 use Rattle.desk_core.specs.Runs.{Outside, outside, AnswersCalls, stale_by}
+use Rattle.http_wire.specs.Held.{take_limit}
 use Rattle.http_front.specs.declared.replies.Replies as sinks
-use Rattle.http_front.specs.Counts.{Reading, IsHeldBack}
-use Rattle.http_front.specs.Exchanges.{Exchange, calls_of, moments_of, Hears}
-use Rattle.http_front.specs.Session.{IsWritten, LacksBy}
+use Rattle.http_front.specs.Counts.{GaveBytes, StreamEnds}
+use Rattle.http_front.specs.Exchanges.{calls_of, moments_of}
+use Rattle.http_front.specs.Session.{Transcript}
 use Rattle.http_front.specs.declared.answering.SessionEnd.{SessionEnd}
 use Rattle.http_front.specs.declared.answering.SessionEnd.TheVariants.{NoMemory, WriteFault}
 use Rattle.serving.specs.declared.port.Port as ports
 use Rattle.serving.specs.declared.worker.WorkerEnd.{WorkerEnd}
 use Rattle.serving.specs.Serving.{Log, log_calls, AreOfWorkers}
 use Rattle.serving.specs.Works.{Counts, RoseBy}
-use Rattle.office_program.specs.Lines.{status_of, fault_status, workers_status, clock_note, end_note, fault_note, workers_note}
+use Rattle.office_program.specs.Lines.{session_exit, fault_exit, workers_exit, clock_note, end_note, fault_note, workers_note}
 
 -- the journal of the program has at most 2^30 bytes
 abbrev pub journal_limit : ℕ
@@ -50,8 +51,8 @@ module _ {W : Type 0} (w : sinks.Ghosts W) where
   abbrev pub IsSilent : W → W → Type 0
   IsSilent old new = (w.said new ≡ w.said old) × (w.moments new ≡ w.moments old) × (w.texts new ≡ w.texts old)
 
-  -- The line comes behind all that was said: nothing was noted before it, and where a text was lost (status 4) the count
-  -- of faults rose before it, so that it tells of the line alone.
+  -- The line comes behind all that was said: nothing was noted before it, and where a text was lost (status 4) the
+  -- count of faults rose before it, so that it tells of the line alone.
   pub record EndsWithNote (old new : W) (status : ℕ) (text : List ℕ) : Type 0 where
     -- the sink in which all was said
     pub behind : W
@@ -85,48 +86,43 @@ module _ {D C W : Type 0} (w : sinks.Ghosts W) where
 module _ {D C W : Type 0} (d : disks.Ghosts D) (k : clocks.Ghosts C) (w : sinks.Ghosts W) where
   -- ---- run
 
-  -- The office was opened: the messages of the stream, in order, were asked or refused; the office answered the calls that asked
-  -- them, and what was said are their texts, with the disk's moments of the answers that were said whole.
-  pub record AnswersStream (read : Reading) (old new : Surroundings D C W) (status : ℕ) : Type 0 where
-    pub exchanges : List Exchange
-    pub answers : AnswersCalls d k journal_limit (under old) (under new) (calls_of exchanges)
-    pub rest : Option (List ℕ)
-    pub closed : Bool
-    pub heard : Hears read.stream exchanges rest closed
+  -- The office was opened: the messages of the stream, in order, were asked or refused; the office answered the calls
+  -- that asked them, and what was said are their texts, with the disk's moments of the answers that were said whole.
+  pub record AnswersStream (read : StreamEnds) (old new : Surroundings D C W) (status : ℕ) : Type 0 where
     pub end : SessionEnd
-    pub whole : List Exchange
-    pub written : List ℕ
-    pub said_all : Appends (w.said old.out) (w.said new.out) written
-    pub stamped : Appends (w.moments old.out) (w.moments new.out) (moments_of whole)
-    pub is_written : IsWritten (option_map length read.stream) end exchanges whole rest closed written
-    pub lacked : LacksBy end exchanges
-    pub behind : closed ≡ true → IsHeldBack rest read.left
+    pub talk : Transcript (option_map length read.stream) read end
+    pub answers : AnswersCalls d k journal_limit (under old) (under new) (calls_of talk.exchanges)
+    pub said_all : Appends (w.said old.out) (w.said new.out) talk.written
+    pub stamped : Appends (w.moments old.out) (w.moments new.out) (moments_of talk.whole)
+    -- at most 2^40 bytes of the input are taken
+    pub taken : (n : ℕ) × (n ≤ take_limit) × GaveBytes read.stream read.left n
     pub no_text : w.texts new.out ≡ w.texts old.out
-    pub status_is : status ≡ status_of end (stale_by false (calls_of exchanges))
-    pub note : EndsWithNote w old.out new.out status (end_note end (stale_by false (calls_of exchanges)))
+    pub status_is : status ≡ session_exit end (stale_by false (calls_of talk.exchanges))
+    pub note : EndsWithNote w old.out new.out status (end_note end (stale_by false (calls_of talk.exchanges)))
 
   -- ---- serve
 
   -- The office was opened, and workers served its port: the office answered one list of the calls of all of them.
-  pub record AnswersWorkers (connected : WorkerEnd → Log → Type 0) (old new : Surroundings D C W) (status : ℕ) : Type 0 where
+  pub record AnswersWorkers (connected : WorkerEnd → Log → Type 0) (old new : Surroundings D C W)
+      (status : ℕ) : Type 0 where
     pub log : Log
     pub answers : AnswersCalls d k journal_limit (under old) (under new) (log_calls log)
     pub end : WorkerEnd
     pub connections : connected end log
     pub silent : IsSilent w old.out new.out
-    pub status_is : status ≡ workers_status end (stale_by false (log_calls log))
+    pub status_is : status ≡ workers_exit end (stale_by false (log_calls log))
     pub note : IsNoted w old.out new.out (workers_note end (stale_by false (log_calls log)))
 
   -- ---- both
 
   -- The office was not opened: nothing was said or told, and each image is one that there was.
-  pub record Refuses (old new : Surroundings D C W) (status : ℕ) : Type 0 where
+  pub record FailsToOpen (old new : Surroundings D C W) (status : ℕ) : Type 0 where
     pub fault : OpenFault
     pub why : IsTrue d.honest → OpenFails fault (d.state old.disk).journal.seen
-    pub any_moment : IsTrue d.honest → KeepsTo d.state d.moment d.had_since old.disk new.disk (Narrower (d.state old.disk))
+    pub any_moment : IsTrue d.honest → KeepsTo d old.disk new.disk (Narrower (d.state old.disk))
     pub clock : new.clock ≡ old.clock
     pub silent : IsSilent w old.out new.out
-    pub status_is : status ≡ fault_status fault
+    pub status_is : status ≡ fault_exit fault
     pub note : IsNoted w old.out new.out (fault_note fault)
 
   -- The clock is at its end: nothing was said or told, and the disk was not touched.
@@ -137,8 +133,9 @@ module _ {D C W : Type 0} (d : disks.Ghosts D) (k : clocks.Ghosts C) (w : sinks.
     pub silent : IsSilent w old.out new.out
     pub note : IsNoted w old.out new.out clock_note
 
-  -- The clock tells a number before the disk is touched. Where that is below the end of time the office is opened and answers, or
-  -- it is not opened. Where it is not opened, and where the clock is at its end, what the asks come from is left alone.
+  -- The clock tells a number before the disk is touched. Where that is below the end of time the office is opened and
+  -- answers, or it is not opened. Where it is not opened, and where the clock is at its end, what the asks come from
+  -- is left alone.
   pub record Starts (left_alone : Type 0) (answers : ℕ → Surroundings D C W → Surroundings D C W → ℕ → Type 0)
       (old new : Surroundings D C W) (status : ℕ) : Type 0 where
     pub first : ℕ
@@ -147,24 +144,27 @@ module _ {D C W : Type 0} (d : disks.Ghosts D) (k : clocks.Ghosts C) (w : sinks.
     pub is_last : k.last clock ≡ first
     pub told_first : k.count clock < 2 ^ 64 - 1 → Appends (k.told old.clock) (k.told clock) (first ∷ [])
     pub does : ((first < end_of_time) × (answers first (around old.disk clock old.out) new status
-        ⊎ (Refuses (around old.disk clock old.out) new status × left_alone)))
+        ⊎ (FailsToOpen (around old.disk clock old.out) new status × left_alone)))
         ⊎ ((end_of_time ≤ first) × Ends (around old.disk clock old.out) new status × left_alone)
 
   -- what `run` does with the messages of a stream that it reads, or leaves alone
-  abbrev pub Runs : Type 0 → Reading → Surroundings D C W → Surroundings D C W → ℕ → Type 0
+  abbrev pub Runs : Type 0 → StreamEnds → Surroundings D C W → Surroundings D C W → ℕ → Type 0
   Runs left_alone read = Starts left_alone (λ first. AnswersStream read)
 
   -- what `serve` does with connections of a port, or leaves it alone
-  abbrev pub Serves : Type 0 → (WorkerEnd → Log → Type 0) → Surroundings D C W → Surroundings D C W → ℕ → Type 0
-  Serves left_alone connected = Starts left_alone (λ first. AnswersWorkers connected)
+  abbrev pub ServesPort : Type 0 → (WorkerEnd → Log → Type 0) → Surroundings D C W → Surroundings D C W → ℕ → Type 0
+  ServesPort left_alone connected = Starts left_alone (λ first. AnswersWorkers connected)
 
 module _ {P Source Replies : Type 0} (p : ports.Ghosts P Source Replies) where
-  -- The port gave and ended as many connections as the workers served, all where all was done; and where it tells them they are
-  -- those for which the calls of the list were made.
-  pub record Connects (workers connections : ℕ) (old new : P) (end : WorkerEnd) (log : Log) : Type 0 where
+  -- The port listens at the address, or gave no connection. It gave and ended as many as the workers served, all where
+  -- all was done; and where it tells them they are those for which the calls of the list were made.
+  pub record Connects (address : List ℕ) (workers connections : ℕ) (old new : P) (end : WorkerEnd) (log : Log)
+      : Type 0 where
+    pub listens : p.listens new address ⊎ (p.given new ≡ p.given old)
     pub counts : Counts (workers * connections) end (p.given old) (p.given new) (p.ended old) (p.ended new)
     pub divided : AreOfWorkers workers log (p.connections old) (p.connections new)
 
   -- it is as it was, or was given back as many connections, ended, as it gave
   abbrev pub IsBalanced : P → P → Type 0
-  IsBalanced old new = (new ≡ old) ⊎ ((n : ℕ) × RoseBy (p.given old) (p.given new) n × RoseBy (p.ended old) (p.ended new) n)
+  IsBalanced old new =
+      (new ≡ old) ⊎ ((n : ℕ) × RoseBy (p.given old) (p.given new) n × RoseBy (p.ended old) (p.ended new) n)

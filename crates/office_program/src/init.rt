@@ -2,10 +2,10 @@
 ghost use Rattle.std.specs.Prelude.{◌≡◌, ◌≤◌, IsTrue};
 ghost use Rattle.office_base.specs.Faults.{Rose};
 ghost use Rattle.meter_journal.specs.Reading.{IsForeign};
-ghost use Rattle.office_program.specs.Lines.{IsRunStatus};
+ghost use Rattle.office_program.specs.Lines.{IsRunExit};
 ghost use Rattle.office_program.specs.Making.{Inits};
 
-use crate::lines::{made_text, note_fault, open_status};
+use crate::lines::{made_text, note_fault, open_exit};
 use crate::saying::say;
 use disk_core::Disk;
 use http_front::Replies;
@@ -17,7 +17,7 @@ pub(crate) fn init<W: Replies, D: Disk>(out: &mut W, disk: &mut D) -> u8
     ensures unsaid { (W.said out.new ≡ W.said out.old) × (W.moments out.new ≡ W.moments out.old) }
     ensures foreign { IsTrue D.honest → result ≡ 5 → IsForeign (D.state disk.old).journal.seen }
     ensures later { (W.faults out.old ≤ W.faults out.new) × (D.fault_count disk.old ≤ D.fault_count disk.new) }
-    ensures statuses { IsRunStatus result }
+    ensures statuses { IsRunExit result }
     ensures not_read { result ≡ 3 → ⊥ }
     ensures not_spent { result ≡ 9 → ⊥ }
     ensures disk_fault { result ≡ 2 → Rose (D.fault_count disk.old) (D.fault_count disk.new) }
@@ -28,7 +28,7 @@ pub(crate) fn init<W: Replies, D: Disk>(out: &mut W, disk: &mut D) -> u8
         Ok(made) => say(out, made_text(made)),
         Err(fault) => {
             note_fault(out, fault);
-            open_status(fault)
+            open_exit(fault)
         }
     }
 }

@@ -2,7 +2,7 @@
 ghost use Rattle.std.specs.Prelude.{false, ◌≡◌, ◌+◌, ◌≤◌, ◌++◌, length, take};
 ghost use Rattle.http_front.specs.declared.answering.SessionEnd.TheVariants.{NoMemory};
 ghost use Rattle.meter_journal.specs.declared.fault.OpenFault.TheVariants.{Damaged};
-ghost use Rattle.office_program.specs.Lines.{status_of, fault_status, workers_status, made_line, usage_note};
+ghost use Rattle.office_program.specs.Lines.{session_exit, fault_exit, workers_exit, made_line, usage_note};
 ghost use Rattle.office_program.specs.Lines.{clock_note, tariff_note, end_note, fault_note, workers_note};
 ghost use Rattle.office_program.specs.Running.{IsNoted, IsSilent};
 
@@ -30,8 +30,8 @@ pub(crate) const CLOCK_END: u8 = 8;
 pub(crate) const STORE: u8 = 2;
 
 // The status of a run whose session ended so, with a desk that is stale then or not.
-pub(crate) fn end_status(end: SessionEnd, stale: bool) -> u8
-    ensures { result ≡ status_of end stale }
+pub(crate) fn run_exit(end: SessionEnd, stale: bool) -> u8
+    ensures { result ≡ session_exit end stale }
 {
     match end {
         SessionEnd::WriteFault => OUTPUT,
@@ -43,8 +43,8 @@ pub(crate) fn end_status(end: SessionEnd, stale: bool) -> u8
 }
 
 // The status of workers that ended so, with a desk that is stale then or not.
-pub(crate) fn served_status(end: WorkerEnd, stale: bool) -> u8
-    ensures { result ≡ workers_status end stale }
+pub(crate) fn serve_exit(end: WorkerEnd, stale: bool) -> u8
+    ensures { result ≡ workers_exit end stale }
 {
     match end {
         WorkerEnd::PortFault => 7,
@@ -53,8 +53,8 @@ pub(crate) fn served_status(end: WorkerEnd, stale: bool) -> u8
     }
 }
 
-pub(crate) fn open_status(fault: OpenFault) -> u8
-    ensures status { result ≡ fault_status fault }
+pub(crate) fn open_exit(fault: OpenFault) -> u8
+    ensures status { result ≡ fault_exit fault }
     ensures some { result ≡ 0 → ⊥ }
 {
     match fault {
@@ -79,7 +79,8 @@ pub(crate) fn made_text(made: Made) -> &'static [u8]
 pub(crate) fn usage() -> &'static [u8]
     ensures { result.now ≡ usage_note }
 {
-    b"usage: office init; run; serve --listen A [--workers N] [--connections K]; report MONTH [--text]; explain [--workers N]; gen NUMBER COUNT\n"
+    b"usage: office init; run; serve --listen A [--workers N] [--connections K]; report MONTH [--text]; explain \
+[--workers N]; gen NUMBER COUNT\n"
 }
 
 #[tactic(auto, unfolding(crate::specs::Lines::clock_note))]
@@ -195,7 +196,7 @@ pub(crate) fn note_fault<W: Replies>(out: &mut W, fault: OpenFault)
 /// Notes why there are no words, and answers the status: 6 where memory ran out (`kind` is `OutOfMemory`), and else
 /// 1, since one of them is not UTF-8.
 pub fn refuse_words<W: Replies>(out: &mut W, kind: ErrorKind) -> u8
-    ensures memory { kind ≡ ErrorKind.OutOfMemory → (result ≡ status_of NoMemory false)
+    ensures memory { kind ≡ ErrorKind.OutOfMemory → (result ≡ session_exit NoMemory false)
         × IsNoted W.Replies out.old out.new (end_note NoMemory false) }
     ensures usage { (kind ≡ ErrorKind.OutOfMemory → ⊥) → (result ≡ 1)
         × IsNoted W.Replies out.old out.new usage_note }
@@ -203,7 +204,7 @@ pub fn refuse_words<W: Replies>(out: &mut W, kind: ErrorKind) -> u8
 {
     if kind == ErrorKind::OutOfMemory {
         note_line(out, end_line(SessionEnd::NoMemory, false));
-        return end_status(SessionEnd::NoMemory, false);
+        return run_exit(SessionEnd::NoMemory, false);
     }
     note_line(out, usage());
     USAGE

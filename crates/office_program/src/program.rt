@@ -1,7 +1,7 @@
 // The program over any source, replies, disk, clock and port.
 ghost use Rattle.std.specs.Prelude.{◌≡◌, ◌≤◌, ◌⊎◌, ℕ, Bool, List, Some, None, false, IsSome, IsTrue};
 ghost use Rattle.http_wire.specs.Held.{take_limit};
-ghost use Rattle.http_front.specs.Counts.{Gave, reading};
+ghost use Rattle.http_front.specs.Counts.{GaveBytes, reading};
 ghost use Rattle.disk_core.specs.Moments.{KeepsTo};
 ghost use Rattle.office_types.specs.declared.command.Entry.{Entry};
 ghost use Rattle.desk_core.specs.Histories.{HasAcceptedHistory, IsSound};
@@ -10,12 +10,12 @@ ghost use Rattle.command_line.specs.Lines.{Line, init as init_line, run as run_l
 ghost use Rattle.command_line.specs.Lines.{report as report_line, explain as explain_line, gen as gen_line};
 ghost use Rattle.http_front.specs.declared.answering.SessionEnd.TheVariants.{NoMemory};
 ghost use Rattle.office_program.specs.Commands.{asks, faults, Obeys, RefusesWords, TouchesOwn, IsCaused, NoneFailed};
-ghost use Rattle.office_program.specs.Lines.{usage_note, end_note, IsDone};
+ghost use Rattle.office_program.specs.Lines.{usage_note, end_note, IsDoneExit};
 ghost use Rattle.office_program.specs.Making.{InitsAlone};
 ghost use Rattle.office_program.specs.Explaining.{Explains};
 ghost use Rattle.office_program.specs.Loading.{Loads};
 ghost use Rattle.office_program.specs.Reporting.{Reports};
-ghost use Rattle.office_program.specs.Running.{around, IsNoted, IsSilent, Connects, IsBalanced, Runs, Serves};
+ghost use Rattle.office_program.specs.Running.{around, IsNoted, IsSilent, Connects, IsBalanced, Runs, ServesPort};
 
 use crate::init::init;
 use crate::lines::{MEMORY, USAGE, end_line, note_line, usage};
@@ -53,7 +53,7 @@ fn sound_now<D: Disk>(disk: &D)
     ensures reads { IsTrue D.honest → IsSound (D.state disk.now) → (history : List Entry)
         × HasAcceptedHistory history (D.state disk.now).journal.seen }
     ensures still { IsTrue D.honest → IsSound (D.state disk.now)
-        → KeepsTo D.state D.moment D.had_since disk.now disk.now IsSound }
+        → KeepsTo D.Disk disk.now disk.now IsSound }
 {}
 
 // Notes that words are no command line, or that memory ran out before they were read, and answers the status.
@@ -123,8 +123,8 @@ where
         (around disk clock out.old) (around result.disk result.clock out.new) result.status }
     ensures serve { (listen : List ℕ) (workers connections : ℕ)
         → asks words.now ≡ Some (serve_line listen workers connections) → Obeys W.Replies (port.new ≡ port.old)
-        (Serves D.Disk C.Clock W.Replies (port.new ≡ port.old)
-        (Connects P.Port workers connections port.old port.new))
+        (ServesPort D.Disk C.Clock W.Replies (port.new ≡ port.old)
+        (Connects P.Port listen workers connections port.old port.new))
         (around disk clock out.old) (around result.disk result.clock out.new) result.status }
     ensures report { (month : ℕ) (as_text : Bool) → asks words.now ≡ Some (report_line month as_text)
         → Obeys W.Replies (Unit {0}) (Reports D.Disk C.Clock W.Replies month as_text)
@@ -151,12 +151,12 @@ where
         (faults (D.fault_count disk) (S.faults input.old) (W.faults out.old) (P.faults port.old))
         (faults (D.fault_count result.disk) (S.faults input.new) (W.faults out.new) (P.faults port.new))
         (IsTrue D.honest → IsForeign (D.state disk).journal.seen)
-        (Gave (S.left input.old) (S.left input.new) take_limit) result.status }
+        (GaveBytes (S.left input.old) (S.left input.new) take_limit) result.status }
 
     // A disk each of whose images has a history is opened, and has such images at every moment.
     ensures opened { IsTrue D.honest → IsSound (D.state disk) → result.status ≡ 5 → ⊥ }
     ensures sound { IsTrue D.honest → IsSound (D.state disk)
-        → KeepsTo D.state D.moment D.had_since disk result.disk IsSound }
+        → KeepsTo D.Disk disk result.disk IsSound }
 
     // A command line is done, on such a disk or for init on one that is not foreign, where nothing outside fails
     // and the clock is not at its end.
@@ -165,7 +165,7 @@ where
         ⊎ ((asks words.now ≡ Some init_line) × (IsForeign (D.state disk).journal.seen → ⊥))
         → NoneFailed (faults (D.fault_count disk) (S.faults input.old) (W.faults out.old) (P.faults port.old))
         (faults (D.fault_count result.disk) (S.faults input.new) (W.faults out.new) (P.faults port.new))
-        → (result.status ≡ 8 → ⊥) → IsDone result.status }
+        → (result.status ≡ 8 → ⊥) → IsDoneExit result.status }
 {
     sound_now(&disk);
     match read_line(alloc, words) {

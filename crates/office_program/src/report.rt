@@ -5,11 +5,11 @@ ghost use Rattle.office_base.specs.Faults.{Rose};
 ghost use Rattle.office_types.specs.Fits.{AnswerFits};
 ghost use Rattle.office_types.specs.declared.command.Entry.{Entry};
 ghost use Rattle.office_types.specs.declared.reply.Reply.TheVariants as report_of;
-ghost use Rattle.usage_report.specs.Lines.{charges};
+ghost use Rattle.office_types.specs.Reports.{charges};
 ghost use Rattle.desk_core.specs.Histories.{HasAcceptedHistory};
 ghost use Rattle.desk_core.specs.Opening.{Opens};
-ghost use Rattle.office_program.specs.Lines.{tariff_note, IsReportStatus};
-ghost use Rattle.office_program.specs.Running.{journal_limit, around, IsNoted, IsSilent, RunsOut, Refuses};
+ghost use Rattle.office_program.specs.Lines.{tariff_note, IsReportExit};
+ghost use Rattle.office_program.specs.Running.{journal_limit, around, IsNoted, IsSilent, RunsOut, FailsToOpen};
 ghost use Rattle.office_program.specs.Reporting.{report_bytes, IsReportReply, TellsReport, TellsMonth, Reports};
 
 use crate::lines::{NO_TARIFF, note_line, tariff_line};
@@ -142,13 +142,13 @@ fn work<W: Replies, D: Disk + Drop, C: Clock + Drop>(
 
     ensures works { TellsMonth D.Disk C.Clock W.Replies month as_text told (around disk clock out.old)
         (around result.disk result.clock out.new) result.status
-        ⊎ Refuses D.Disk C.Clock W.Replies (around disk clock out.old)
+        ⊎ FailsToOpen D.Disk C.Clock W.Replies (around disk clock out.old)
         (around result.disk result.clock out.new) result.status }
     ensures sound { IsTrue D.honest → (history : List Entry)
         → HasAcceptedHistory history (D.state disk).journal.seen → result.status ≡ 5 → ⊥ }
     ensures unsaid { (W.said out.new ≡ W.said out.old) × (W.moments out.new ≡ W.moments out.old) }
     ensures later { (W.faults out.old ≤ W.faults out.new) × (D.fault_count disk ≤ D.fault_count result.disk) }
-    ensures statuses { IsReportStatus result.status }
+    ensures statuses { IsReportExit result.status }
     ensures disk_fault { result.status ≡ 2 → Rose (D.fault_count disk) (D.fault_count result.disk) }
     ensures write_fault { result.status ≡ 4 → Rose (W.faults out.old) (W.faults out.new) }
     ensures only { (result.status ≡ 3 → ⊥) × ((result.status ≡ 7 → ⊥) × (result.status ≡ 9 → ⊥)) }
@@ -174,7 +174,7 @@ pub(crate) fn report<W: Replies, D: Disk + Drop, C: Clock + Drop>(
         → HasAcceptedHistory history (D.state disk).journal.seen → result.status ≡ 5 → ⊥ }
     ensures unsaid { (W.said out.new ≡ W.said out.old) × (W.moments out.new ≡ W.moments out.old) }
     ensures later { (W.faults out.old ≤ W.faults out.new) × (D.fault_count disk ≤ D.fault_count result.disk) }
-    ensures statuses { (result.status ≡ 8) ⊎ IsReportStatus result.status }
+    ensures statuses { (result.status ≡ 8) ⊎ IsReportExit result.status }
     ensures disk_fault { result.status ≡ 2 → Rose (D.fault_count disk) (D.fault_count result.disk) }
     ensures write_fault { result.status ≡ 4 → Rose (W.faults out.old) (W.faults out.new) }
     ensures only { (result.status ≡ 3 → ⊥) × ((result.status ≡ 7 → ⊥) × (result.status ≡ 9 → ⊥)) }

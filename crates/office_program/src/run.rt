@@ -8,14 +8,12 @@ ghost use Rattle.http_wire.specs.Held.{take_limit};
 ghost use Rattle.office_types.specs.declared.command.Entry.{Entry};
 ghost use Rattle.desk_core.specs.Histories.{HasAcceptedHistory};
 ghost use Rattle.desk_core.specs.Opening.{Opens};
-ghost use Rattle.http_front.specs.Counts.{Gave, reading};
-ghost use Rattle.office_program.specs.Lines.{fault_status, fault_note, IsSessionStatus, IsRunStatus};
+ghost use Rattle.http_front.specs.Counts.{GaveBytes, reading};
+ghost use Rattle.office_program.specs.Lines.{fault_exit, fault_note, IsSessionExit, IsRunExit};
 ghost use Rattle.office_program.specs.Running.{journal_limit, around, IsNoted, IsSilent};
-ghost use Rattle.office_program.specs.Running.{AnswersStream, Refuses, Ends, Runs};
+ghost use Rattle.office_program.specs.Running.{AnswersStream, FailsToOpen, Ends, Runs};
 
-use crate::lines::{
-    CLOCK_END, clock_line, end_line, end_status, note_fault, note_line, open_status,
-};
+use crate::lines::{CLOCK_END, clock_line, end_line, note_fault, note_line, open_exit, run_exit};
 use crate::program::{End, JOURNAL_LIMIT};
 use desk_core::{Clock, Desk, SaveFault};
 use disk_core::Disk;
@@ -48,10 +46,10 @@ fn answer<S: Source, W: Replies, D: Disk + Drop, C: Clock + Drop>(
         (around result.disk result.clock out.new) result.status }
     ensures later { (S.faults input.old ≤ S.faults input.new) × (W.faults out.old ≤ W.faults out.new)
         × (D.fault_count desk.disk ≤ D.fault_count result.disk) }
-    ensures statuses { IsSessionStatus result.status }
+    ensures statuses { IsSessionExit result.status }
     ensures disk_fault { result.status ≡ 2 → Rose (D.fault_count desk.disk) (D.fault_count result.disk) }
     ensures read_fault { result.status ≡ 3 → Rose (S.faults input.old) (S.faults input.new) }
-    ensures spent { result.status ≡ 9 → Gave (S.left input.old) (S.left input.new) take_limit }
+    ensures spent { result.status ≡ 9 → GaveBytes (S.left input.old) (S.left input.new) take_limit }
     ensures write_fault { result.status ≡ 4 → Rose (W.faults out.old) (W.faults out.new) }
     ensures unnoted { result.status ≡ 0 → W.noted out.new ≡ W.noted out.old }
 {
@@ -61,7 +59,7 @@ fn answer<S: Source, W: Replies, D: Disk + Drop, C: Clock + Drop>(
     let store = store_failed(stale, saved);
     note_line(out, end_line(end, store));
     End {
-        status: end_status(end, store),
+        status: run_exit(end, store),
         disk,
         clock,
     }
@@ -74,7 +72,7 @@ pub(crate) fn refuse<W: Replies, D: Disk + Drop, C: Clock + Drop>(
     disk: D,
     clock: C,
 ) -> End<D, C>
-    ensures status { result.status ≡ fault_status fault }
+    ensures status { result.status ≡ fault_exit fault }
     ensures some { result.status ≡ 0 → ⊥ }
     ensures disk { result.disk ≡ disk }
     ensures clock { result.clock ≡ clock }
@@ -84,7 +82,7 @@ pub(crate) fn refuse<W: Replies, D: Disk + Drop, C: Clock + Drop>(
 {
     note_fault(out, fault);
     End {
-        status: open_status(fault),
+        status: open_exit(fault),
         disk,
         clock,
     }
@@ -101,18 +99,18 @@ fn work<S: Source, W: Replies, D: Disk + Drop, C: Clock + Drop>(
     ensures works { AnswersStream D.Disk C.Clock W.Replies (reading (S.left input.old) (S.left input.new))
         (around disk clock out.old)
         (around result.disk result.clock out.new) result.status
-        ⊎ (Refuses D.Disk C.Clock W.Replies (around disk clock out.old) (around result.disk result.clock out.new)
+        ⊎ (FailsToOpen D.Disk C.Clock W.Replies (around disk clock out.old) (around result.disk result.clock out.new)
         result.status × (input.new ≡ input.old)) }
     ensures sound { IsTrue D.honest → (history : List Entry)
         → HasAcceptedHistory history (D.state disk).journal.seen → result.status ≡ 5 → ⊥ }
     ensures no_text { W.texts out.new ≡ W.texts out.old }
     ensures later { (S.faults input.old ≤ S.faults input.new) × (W.faults out.old ≤ W.faults out.new)
         × (D.fault_count disk ≤ D.fault_count result.disk) }
-    ensures statuses { IsRunStatus result.status }
+    ensures statuses { IsRunExit result.status }
     ensures unopened { result.status ≡ 5 → input.new ≡ input.old }
     ensures disk_fault { result.status ≡ 2 → Rose (D.fault_count disk) (D.fault_count result.disk) }
     ensures read_fault { result.status ≡ 3 → Rose (S.faults input.old) (S.faults input.new) }
-    ensures spent { result.status ≡ 9 → Gave (S.left input.old) (S.left input.new) take_limit }
+    ensures spent { result.status ≡ 9 → GaveBytes (S.left input.old) (S.left input.new) take_limit }
     ensures write_fault { result.status ≡ 4 → Rose (W.faults out.old) (W.faults out.new) }
     ensures unnoted { result.status ≡ 0 → W.noted out.new ≡ W.noted out.old }
 {
@@ -178,11 +176,11 @@ pub(crate) fn run<S: Source, W: Replies, D: Disk + Drop, C: Clock + Drop>(
     ensures no_text { W.texts out.new ≡ W.texts out.old }
     ensures later { (S.faults input.old ≤ S.faults input.new) × (W.faults out.old ≤ W.faults out.new)
         × (D.fault_count disk ≤ D.fault_count result.disk) }
-    ensures statuses { (result.status ≡ 8) ⊎ IsRunStatus result.status }
+    ensures statuses { (result.status ≡ 8) ⊎ IsRunExit result.status }
     ensures unopened { (result.status ≡ 5) ⊎ (result.status ≡ 8) → input.new ≡ input.old }
     ensures disk_fault { result.status ≡ 2 → Rose (D.fault_count disk) (D.fault_count result.disk) }
     ensures read_fault { result.status ≡ 3 → Rose (S.faults input.old) (S.faults input.new) }
-    ensures spent { result.status ≡ 9 → Gave (S.left input.old) (S.left input.new) take_limit }
+    ensures spent { result.status ≡ 9 → GaveBytes (S.left input.old) (S.left input.new) take_limit }
     ensures write_fault { result.status ≡ 4 → Rose (W.faults out.old) (W.faults out.new) }
     ensures unnoted { result.status ≡ 0 → W.noted out.new ≡ W.noted out.old }
 {

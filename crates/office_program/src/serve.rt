@@ -4,11 +4,11 @@ ghost use Rattle.office_base.specs.Faults.{Rose};
 ghost use Rattle.office_types.specs.declared.command.Entry.{Entry};
 ghost use Rattle.desk_core.specs.Histories.{HasAcceptedHistory};
 ghost use Rattle.desk_core.specs.Opening.{Opens};
-ghost use Rattle.office_program.specs.Lines.{workers_status, workers_note, IsWorkersStatus, IsServeStatus};
+ghost use Rattle.office_program.specs.Lines.{workers_exit, workers_note, IsWorkersExit, IsServeExit};
 ghost use Rattle.office_program.specs.Running.{journal_limit, around, IsNoted, IsSilent};
-ghost use Rattle.office_program.specs.Running.{AnswersWorkers, Connects, IsBalanced, Refuses, Serves};
+ghost use Rattle.office_program.specs.Running.{AnswersWorkers, Connects, IsBalanced, FailsToOpen, ServesPort};
 
-use crate::lines::{note_line, served_line, served_status};
+use crate::lines::{note_line, serve_exit, served_line};
 use crate::program::{End, JOURNAL_LIMIT};
 use crate::run::{end_at_clock, has_begun, refuse};
 use desk_core::{Clock, Desk};
@@ -24,7 +24,7 @@ fn close<W: Replies, D: Disk + Drop, C: Clock + Drop>(
     out: &mut W,
     closed: Closed<D, C>,
 ) -> End<D, C>
-    ensures status { result.status ≡ workers_status closed.end closed.stale }
+    ensures status { result.status ≡ workers_exit closed.end closed.stale }
     ensures disk { result.disk ≡ closed.disk }
     ensures clock { result.clock ≡ closed.clock }
     ensures silent { IsSilent W.Replies out.old out.new }
@@ -34,7 +34,7 @@ fn close<W: Replies, D: Disk + Drop, C: Clock + Drop>(
 {
     note_line(out, served_line(closed.end, closed.stale));
     End {
-        status: served_status(closed.end, closed.stale),
+        status: serve_exit(closed.end, closed.stale),
         disk: closed.disk,
         clock: closed.clock,
     }
@@ -66,10 +66,10 @@ where
 
     ensures answers { (disk : D) (clock : C)
         → Opens D.Disk disk clock journal_limit desk
-        → AnswersWorkers D.Disk C.Clock W.Replies (Connects P.Port workers connections port.old port.new)
+        → AnswersWorkers D.Disk C.Clock W.Replies (Connects P.Port address.now workers connections port.old port.new)
         (around disk clock out.old) (around result.disk result.clock out.new) result.status }
     ensures later { (W.faults out.old ≤ W.faults out.new) × (D.fault_count desk.disk ≤ D.fault_count result.disk) }
-    ensures statuses { IsWorkersStatus result.status }
+    ensures statuses { IsWorkersExit result.status }
     ensures disk_fault { result.status ≡ 2 → Rose (D.fault_count desk.disk) (D.fault_count result.disk) }
     ensures port_fault { result.status ≡ 7 → Rose (P.faults port.old) (P.faults port.new) }
     ensures port_done { result.status ≡ 0 → P.faults port.new ≤ P.faults port.old }
@@ -104,15 +104,16 @@ where
     P::Replies: Send,
     requires few { (0 < workers) × (workers ≤ 64) }
 
-    ensures works { AnswersWorkers D.Disk C.Clock W.Replies (Connects P.Port workers connections port.old port.new)
+    ensures works { AnswersWorkers D.Disk C.Clock W.Replies
+        (Connects P.Port address.now workers connections port.old port.new)
         (around disk clock out.old) (around result.disk result.clock out.new) result.status
-        ⊎ (Refuses D.Disk C.Clock W.Replies (around disk clock out.old) (around result.disk result.clock out.new)
+        ⊎ (FailsToOpen D.Disk C.Clock W.Replies (around disk clock out.old) (around result.disk result.clock out.new)
         result.status × (port.new ≡ port.old)) }
     ensures sound { IsTrue D.honest → (history : List Entry)
         → HasAcceptedHistory history (D.state disk).journal.seen → result.status ≡ 5 → ⊥ }
     ensures unopened { result.status ≡ 5 → port.new ≡ port.old }
     ensures later { (W.faults out.old ≤ W.faults out.new) × (D.fault_count disk ≤ D.fault_count result.disk) }
-    ensures statuses { IsServeStatus result.status }
+    ensures statuses { IsServeExit result.status }
     ensures disk_fault { result.status ≡ 2 → Rose (D.fault_count disk) (D.fault_count result.disk) }
     ensures port_fault { result.status ≡ 7 → Rose (P.faults port.old) (P.faults port.new) }
     ensures port_done { result.status ≡ 0 → P.faults port.new ≤ P.faults port.old }
@@ -159,14 +160,14 @@ where
     P::Replies: Send,
     requires few { (0 < workers) × (workers ≤ 64) }
 
-    ensures serves { Serves D.Disk C.Clock W.Replies (port.new ≡ port.old)
-        (Connects P.Port workers connections port.old port.new)
+    ensures serves { ServesPort D.Disk C.Clock W.Replies (port.new ≡ port.old)
+        (Connects P.Port address.now workers connections port.old port.new)
         (around disk clock out.old) (around result.disk result.clock out.new) result.status }
     ensures sound { IsTrue D.honest → (history : List Entry)
         → HasAcceptedHistory history (D.state disk).journal.seen → result.status ≡ 5 → ⊥ }
     ensures unopened { (result.status ≡ 5) ⊎ (result.status ≡ 8) → port.new ≡ port.old }
     ensures later { (W.faults out.old ≤ W.faults out.new) × (D.fault_count disk ≤ D.fault_count result.disk) }
-    ensures statuses { (result.status ≡ 8) ⊎ IsServeStatus result.status }
+    ensures statuses { (result.status ≡ 8) ⊎ IsServeExit result.status }
     ensures disk_fault { result.status ≡ 2 → Rose (D.fault_count disk) (D.fault_count result.disk) }
     ensures port_fault { result.status ≡ 7 → Rose (P.faults port.old) (P.faults port.new) }
     ensures port_done { result.status ≡ 0 → P.faults port.new ≤ P.faults port.old }

@@ -1,5 +1,5 @@
 // The program with workers side by side, over a port and a gate of the tests' own.
-ghost use Rattle.std.specs.Prelude.{Some};
+ghost use Rattle.std.specs.Prelude.{Some, ⊤};
 
 use crate::program::{End, office};
 use desk_core::{Acked, ListClock};
@@ -42,7 +42,8 @@ fn port_of(alloc: Global, lines: &[&[u8]]) -> Result<MemoryPort, Fail> {
     MemoryPort::new(alloc, list, Vec::new(alloc)).map_err(|_| Fail::from("no memory"))
 }
 
-/// What the command is given, but for the port and the gate: no input, at 2024-01-01 00:00 UTC, over a journal without entries.
+/// What the command is given, but for the port and the gate: no input, at 2024-01-01 00:00 UTC, over a journal without
+/// entries.
 #[derive(Drop)]
 struct Given {
     words: Vec<String>,
@@ -148,6 +149,8 @@ impl<'a> Port for FlagPort<'a> {
     ghost ended = { λ p. p.inner.ended };
 
     ghost connections = { λ p. Some p.inner.connections };
+
+    ghost listens = { λ p at. ⊤ };
 
     fn listen<R: Wait>(&mut self, rt: &R, alloc: Global, address: &str) -> Result<(), PortFault> {
         self.inner.listen(rt, alloc, address)

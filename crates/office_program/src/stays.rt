@@ -4,10 +4,10 @@ ghost use Rattle.office_base.specs.Faults.{Rose};
 ghost use Rattle.meter_journal.specs.Reading.{HasStoreCause};
 ghost use Rattle.disk_core.specs.Moments.{Untouched};
 ghost use Rattle.office_types.specs.declared.command.Entry.{Entry};
-ghost use Rattle.stay_explain.specs.Explaining.{Fails};
-ghost use Rattle.desk_core.specs.Breaking.{OpenFails};
+ghost use Rattle.stay_explain.specs.Explaining.{ExplainFails};
+ghost use Rattle.desk_core.specs.Damage.{OpenFails};
 ghost use Rattle.desk_core.specs.Histories.{HasAcceptedHistory};
-ghost use Rattle.office_program.specs.Lines.{IsRunStatus};
+ghost use Rattle.office_program.specs.Lines.{IsRunExit};
 ghost use Rattle.office_program.specs.Running.{around};
 ghost use Rattle.office_program.specs.Explaining.{Explains, ReadsTable};
 
@@ -24,7 +24,7 @@ use std::thread::Threads;
 
 // Why a journal is not explained, in the words of an opening.
 fn open_fault(fault: ExplainFault) -> OpenFault
-    ensures fails { (file : List ℕ) → Fails fault file → OpenFails result file }
+    ensures fails { (file : List ℕ) → ExplainFails fault file → OpenFails result file }
     ensures bytes { result ≡ OpenFault.StoreFault → ⊥ }
 {
     match fault {
@@ -45,7 +45,7 @@ fn table<D: Disk, R: Threads + Sync>(
     requires few { (1 ≤ workers) × (workers ≤ 64) }
     ensures table { IfOk result (λ text. ReadsTable D.Disk disk.old text.items) }
     ensures fails { IsTrue D.honest → IfErr result (λ fault. OpenFails fault (D.state disk.old).journal.seen) }
-    ensures untouched { IsTrue D.honest → Untouched D.state D.moment D.had_since disk.old disk.new }
+    ensures untouched { IsTrue D.honest → Untouched D.Disk disk.old disk.new }
     ensures cause { HasStoreCause (D.fault_count disk.old) (D.fault_count disk.new) result }
 {
     match read_all(alloc, disk) {
@@ -73,7 +73,7 @@ pub(crate) fn stays<W: Replies, D: Disk + Drop, C: Clock + Drop, R: Threads + Sy
         → HasAcceptedHistory history (D.state disk).journal.seen → result.status ≡ 5 → ⊥ }
     ensures unsaid { (W.said out.new ≡ W.said out.old) × (W.moments out.new ≡ W.moments out.old) }
     ensures later { (W.faults out.old ≤ W.faults out.new) × (D.fault_count disk ≤ D.fault_count result.disk) }
-    ensures statuses { IsRunStatus result.status }
+    ensures statuses { IsRunExit result.status }
     ensures disk_fault { result.status ≡ 2 → Rose (D.fault_count disk) (D.fault_count result.disk) }
     ensures write_fault { result.status ≡ 4 → Rose (W.faults out.old) (W.faults out.new) }
     ensures only { (result.status ≡ 3 → ⊥) × ((result.status ≡ 7 → ⊥) × (result.status ≡ 9 → ⊥)) }

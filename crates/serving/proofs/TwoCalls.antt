@@ -5,8 +5,8 @@ use Rattle.std.proofs.lemmas.List.Elements.{All-head, All-tail, All-weaker}
 use Rattle.turn_core.specs.declared.view.Call.{Call}
 use Rattle.turn_core.specs.declared.view.Met.{Met}
 use Rattle.turn_core.specs.declared.view.View.{View}
-use Rattle.turn_core.specs.Calls.{calls_of, plain}
-use Rattle.turn_core.specs.Views.{HasMade, Counted, IsWhole, Called, Joined, StandsFor, numbers, newcomer, left, right, next_call}
+use Rattle.turn_core.specs.Calls.{calls_under, plain}
+use Rattle.turn_core.specs.Views.{HasMade, Counted, IsWhole, Called, Joined, StandsSince, numbers, newcomer, left, right, next_call}
 use Rattle.turn_core.proofs.Parts.{some_same}
 use Rattle.serving.proofs.Gathered.{slice_back}
 
@@ -33,44 +33,44 @@ module _ {A S : Type 0} where
   not_empty : (x : Call A S) (xs : List (Call A S)) → x ∷ xs ≡ [] → ⊥
   not_empty x xs e = absurd (cc)
 
-  taken : (n : ℕ) (x : Call A S) (xs : List (Call A S)) → x.by ≡ n → calls_of n (x ∷ xs) ≡ x ∷ calls_of n xs
-  taken n x xs is = ap (λ (b : Bool). cond b (x ∷ calls_of n xs) (calls_of n xs)) (eq-eqb x.by n is)
+  taken : (n : ℕ) (x : Call A S) (xs : List (Call A S)) → x.by ≡ n → calls_under n (x ∷ xs) ≡ x ∷ calls_under n xs
+  taken n x xs is = ap (λ (b : Bool). cond b (x ∷ calls_under n xs) (calls_under n xs)) (eq-eqb x.by n is)
 
-  passed : (n : ℕ) (x : Call A S) (xs : List (Call A S)) → x.by ≢ n → calls_of n (x ∷ xs) ≡ calls_of n xs
-  passed n x xs not = ap (λ (b : Bool). cond b (x ∷ calls_of n xs) (calls_of n xs)) (ne_eqb x.by n not)
+  passed : (n : ℕ) (x : Call A S) (xs : List (Call A S)) → x.by ≢ n → calls_under n (x ∷ xs) ≡ calls_under n xs
+  passed n x xs not = ap (λ (b : Bool). cond b (x ∷ calls_under n xs) (calls_under n xs)) (ne_eqb x.by n not)
 
-  none : (one other : ℕ) (xs : List (Call A S)) → All (IsBy one other) xs → calls_of one xs ≡ [] → calls_of other xs ≡ [] → xs ≡ []
+  none : (one other : ℕ) (xs : List (Call A S)) → All (IsBy one other) xs → calls_under one xs ≡ [] → calls_under other xs ≡ [] → xs ≡ []
   none one other [] by p q = refl
   none one other (x ∷ xs) by p q = ⊎_elim
-      (λ (e : x.by ≡ one). absurd (not_empty x (calls_of one xs) (sym (taken one x xs e) ∙ p)))
-      (λ (e : x.by ≡ other). absurd (not_empty x (calls_of other xs) (sym (taken other x xs e) ∙ q)))
+      (λ (e : x.by ≡ one). absurd (not_empty x (calls_under one xs) (sym (taken one x xs e) ∙ p)))
+      (λ (e : x.by ≡ other). absurd (not_empty x (calls_under other xs) (sym (taken other x xs e) ∙ q)))
       (All-head (IsBy one other) x xs by)
 
-  only : (one other : ℕ) (y : Call A S) (xs : List (Call A S)) → one ≢ other → All (IsBy one other) xs → calls_of one xs ≡ y ∷ [] → calls_of other xs ≡ [] → xs ≡ y ∷ []
+  only : (one other : ℕ) (y : Call A S) (xs : List (Call A S)) → one ≢ other → All (IsBy one other) xs → calls_under one xs ≡ y ∷ [] → calls_under other xs ≡ [] → xs ≡ y ∷ []
   only one other y [] apart by p q = p
   only one other y (x ∷ xs) apart by p q = ⊎_elim
       (λ (e : x.by ≡ one).
-      let mine : x ∷ calls_of one xs ≡ y ∷ [] = sym (taken one x xs e) ∙ p in
-      let theirs : calls_of other xs ≡ [] = sym (passed other x xs (λ (f : x.by ≡ other). apart (sym e ∙ f))) ∙ q in
+      let mine : x ∷ calls_under one xs ≡ y ∷ [] = sym (taken one x xs e) ∙ p in
+      let theirs : calls_under other xs ≡ [] = sym (passed other x xs (λ (f : x.by ≡ other). apart (sym e ∙ f))) ∙ q in
       let rest : xs ≡ [] = none one other xs (All-tail (IsBy one other) x xs by) (ap tail_of mine) theirs in
       let same : x ≡ y = ap (head_of x) mine in
       (λ i. same i ∷ rest i))
-      (λ (e : x.by ≡ other). absurd (not_empty x (calls_of other xs) (sym (taken other x xs e) ∙ q)))
+      (λ (e : x.by ≡ other). absurd (not_empty x (calls_under other xs) (sym (taken other x xs e) ∙ q)))
       (All-head (IsBy one other) x xs by)
 
   -- begun by the first
   begun : (one other : ℕ) (x y z : Call A S) (xs : List (Call A S)) → one ≢ other → All (IsBy one other) (x ∷ xs) → x.by ≡ one
-      → calls_of one (x ∷ xs) ≡ y ∷ [] → calls_of other (x ∷ xs) ≡ z ∷ [] → x ∷ xs ≡ y ∷ z ∷ []
+      → calls_under one (x ∷ xs) ≡ y ∷ [] → calls_under other (x ∷ xs) ≡ z ∷ [] → x ∷ xs ≡ y ∷ z ∷ []
   begun one other x y z xs apart by e p q =
-      let mine : x ∷ calls_of one xs ≡ y ∷ [] = sym (taken one x xs e) ∙ p in
-      let theirs : calls_of other xs ≡ z ∷ [] = sym (passed other x xs (λ (f : x.by ≡ other). apart (sym e ∙ f))) ∙ q in
+      let mine : x ∷ calls_under one xs ≡ y ∷ [] = sym (taken one x xs e) ∙ p in
+      let theirs : calls_under other xs ≡ z ∷ [] = sym (passed other x xs (λ (f : x.by ≡ other). apart (sym e ∙ f))) ∙ q in
       let by_either = All-weaker (IsBy one other) (IsBy other one) (turned one other) xs (All-tail (IsBy one other) x xs by) in
       let rest : xs ≡ z ∷ [] = only other one z xs (λ (f : other ≡ one). apart (sym f)) by_either theirs (ap tail_of mine) in
       let same : x ≡ y = ap (head_of x) mine in
       (λ i. same i ∷ rest i)
 
   either_first : (one other : ℕ) (y z : Call A S) (xs : List (Call A S)) → one ≢ other → All (IsBy one other) xs
-      → calls_of one xs ≡ y ∷ [] → calls_of other xs ≡ z ∷ [] → (xs ≡ y ∷ z ∷ []) ⊎ (xs ≡ z ∷ y ∷ [])
+      → calls_under one xs ≡ y ∷ [] → calls_under other xs ≡ z ∷ [] → (xs ≡ y ∷ z ∷ []) ⊎ (xs ≡ z ∷ y ∷ [])
   either_first one other y z [] apart by p q = absurd (not_empty y [] (sym p))
   either_first one other y z (x ∷ xs) apart by p q = ⊎_elim
       (λ (e : x.by ≡ one). inl (begun one other x y z xs apart by e p q))
@@ -84,8 +84,9 @@ module _ {T A S : Type 0} where
   in_some_order v m mine theirs counted whole made met its =
       let both : numbers v ≡ v.number ∷ m.number ∷ [] = ap (λ (l : List (Met A S)). v.number ∷ map (λ (x : Met A S). x.number) l) met in
       let apart : v.number ≢ m.number = (subst (λ (l : List ℕ). AllPairs (λ x y. x ≢ y) l) both counted.distinct) 0 1 0 (omega arith) (omega arith) in
-      let by = All-weaker (λ (c : Call A S). Contains (numbers v) c.by) (IsBy v.number m.number) (λ c h. either_of v.number m.number c.by (subst (λ (l : List ℕ). Contains l c.by) both h)) v.seen whole in
-      let theirs_made : calls_of m.number v.seen ≡ m.made = All-head (HasMade v.seen) m [] (subst (All (HasMade v.seen)) met counted.met) in
+      let by = All-weaker (λ (c : Call A S). Contains (numbers v) c.by) (IsBy v.number m.number)
+      (λ c h. either_of v.number m.number c.by (subst (λ (l : List ℕ). Contains l c.by) both h)) v.seen whole in
+      let theirs_made : calls_under m.number v.seen ≡ m.made = All-head (HasMade v.seen) m [] (subst (All (HasMade v.seen)) met counted.met) in
       either_first v.number m.number mine theirs v.seen apart by (counted.own ∙ made) (theirs_made ∙ its)
 
 -- two passes made a call each and met: the value then stands for both calls, in one order or the other
@@ -99,12 +100,12 @@ module _ {T A S : Type 0} (stands : T → T → List (A × S) → Type 0) (first
   abbrev ToldOf : View T A S → Met A S
   ToldOf x = record { number = x.number; made = x.made }
 
-  begins_with : (list : List (Call A S)) → u.opening ≡ Some first → u.seen ≡ list → StandsFor stands u.opening now u.seen → stands first now (plain list)
+  begins_with : (list : List (Call A S)) → u.opening ≡ Some first → u.seen ≡ list → StandsSince stands u.opening now u.seen → stands first now (plain list)
   begins_with list opened is (opening, e, h) =
       let same : opening ≡ first = some_same opening first (sym e ∙ opened) in
       subst (λ (x : T). stands x now (plain list)) same (subst (λ (l : List (Call A S)). stands opening now (plain l)) is h)
 
-  pub either_way : Called (left (newcomer first)) make made v → Called (right (newcomer first)) show shown w → Joined v w u → Counted u → IsWhole u → StandsFor stands u.opening now u.seen
+  pub either_way : Called (left (newcomer first)) make made v → Called (right (newcomer first)) show shown w → Joined v w u → Counted u → IsWhole u → StandsSince stands u.opening now u.seen
       → stands first now ((make, made) ∷ (show, shown) ∷ []) ⊎ stands first now ((show, shown) ∷ (make, made) ∷ [])
   either_way one other joined counted whole value =
       let opened : u.opening ≡ Some first = ap (λ (x : View T A S). x.opening) joined.both ∙ ap (λ (x : View T A S). x.opening) one.others in
@@ -130,5 +131,7 @@ module _ {W : Type 0} (Took : W → W → Type 0) where
       let same : length new ≡ length ws = kept ∙ ap length is in
       let now : new ≡ x ∷ y ∷ [] = sym (slice_back n ws new all same) ∙ after in
       let old : lent ≡ a ∷ b ∷ [] = is ∙ both in
-      let each : (i : ℕ) (d : W) → i < 2 → Took (get_or (a ∷ b ∷ []) i d) (get_or (x ∷ y ∷ []) i d) = subst (λ (q : List W × List W). (i : ℕ) (d : W) → i < length q.0 → Took (get_or q.0 i d) (get_or q.1 i d)) (λ i. (old i, now i)) took in
+      let each : (i : ℕ) (d : W) → i < 2 → Took (get_or (a ∷ b ∷ []) i d) (get_or (x ∷ y ∷ []) i d) =
+      subst (λ (q : List W × List W). (i : ℕ) (d : W) → i < length q.0 → Took (get_or q.0 i d) (get_or q.1 i d))
+      (λ i. (old i, now i)) took in
       (each 0 a (omega arith), each 1 a (omega arith))

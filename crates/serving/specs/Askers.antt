@@ -8,7 +8,8 @@ use Rattle.serving.specs.Seats.{Seat, TakesTurn}
 
 module _ {D C : Type 0} where
   -- the ask was one turn at this seat, and what was said is kept
-  pub record AsksOnce (lawful : DeskView D C → List (Ask × Result Answer DeskFault) → Type 0) (old : Seat D C) (ask : Ask) (said : Option (Result Answer DeskFault)) (new : Seat D C) : Type 0 where
+  pub record AsksOnce (lawful : DeskView D C → List (Ask × Result Answer DeskFault) → Type 0) (old : Seat D C)
+      (ask : Ask) (said : Option (Result Answer DeskFault)) (new : Seat D C) : Type 0 where
     pub what : Result Answer DeskFault
     pub kept : said ≡ Some what
     pub turn : TakesTurn lawful old ask what new

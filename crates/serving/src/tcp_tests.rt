@@ -11,7 +11,8 @@ const MADE: &[u8] =
     b"HTTP/1.1 201 Created\r\ncontent-type: application/json\r\ncontent-length: 17\r\n\r\n{\"bucket\":\"logs\"}";
 
 const BUCKET: &[u8] =
-    b"HTTP/1.1 200 OK\r\ncontent-type: application/json\r\ncontent-length: 79\r\n\r\n{\"bucket\":\"logs\",\"rules\":0,\"uploads\":0,\"versioning\":\"Unversioned\",\"versions\":0}";
+    b"HTTP/1.1 200 OK\r\ncontent-type: application/json\r\ncontent-length: 79\r\n\r\n{\"bucket\":\"logs\",\"rules\":0,\
+\"uploads\":0,\"versioning\":\"Unversioned\",\"versions\":0}";
 
 const PUT: &[u8] = b"PUT /buckets/logs HTTP/1.1\r\nHost: x\r\n\r\n";
 

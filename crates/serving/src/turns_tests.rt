@@ -96,7 +96,8 @@ impl<'a, D: Disk + Drop, C: Clock + Drop, R: Wait> Asker<'a, D, C, R> {
     }
 
     fn ask_once(&mut self)
-        ensures { AsksOnce ⟦<Desk<D, C> as Turned>⟧.lawful self.old.seated self.old.ask.now self.new.said self.new.seated }
+        ensures { AsksOnce ⟦<Desk<D, C> as Turned>⟧.lawful self.old.seated self.old.ask.now self.new.said
+            self.new.seated }
     {
         self.said = Some(self.seated.ask(self.ask));
         self.gate.answered.store(1, Ordering::SeqCst);
@@ -181,8 +182,8 @@ fn part<'a, D: Disk + Drop, C: Clock + Drop, R: Wait>(
     (one, two)
 }
 
-// What two asks were told, each by one turn in a thread of its own, and the desk after them: where both calls lead it, one after
-// the other. None only for want of memory.
+// What two asks were told, each by one turn in a thread of its own, and the desk after them: where both calls lead it,
+// one after the other. None only for want of memory.
 fn both_asked<D, C, R>(
     rt: &R,
     alloc: Global,

@@ -11,4 +11,4 @@ returns-clause-reads g c tells sound =
 pub returns-clause-still : goal.returns-clause-still
 returns-clause-still g c tells sound =
     let d = g.D.Disk in
-    started d.state d.moment d.had_since c.args.disk.now IsSound (g.met.D.Disk.only_now c.args.disk.now) sound
+    started d c.args.disk.now IsSound (g.met.D.Disk.only_now c.args.disk.now) sound

@@ -1,5 +1,5 @@
 use Rattle.std.proofs.Common.{◌∙◌, [], sym, subst, List}
-use Rattle.disk_core.specs.Kept.{Narrower}
+use Rattle.disk_core.specs.Fronts.{Narrower}
 use Rattle.disk_core.specs.Moments.{KeepsTo}
 use Rattle.office_types.specs.declared.command.Entry.{Entry}
 use Rattle.desk_core.specs.Histories.{HasAcceptedHistory}
@@ -21,7 +21,7 @@ returns-clause-tells g c disk clock opens =
     record {
       history = read.0;
       read = λ tells. subst (λ (h : List Entry). HasAcceptedHistory h (d.state disk).journal.seen) (sym read.1) (opens.read tells);
-      any_moment = λ tells. subst (λ (x : g.row.D.Denot). KeepsTo d.state d.moment d.had_since disk x (Narrower (d.state disk))) (sym c.finish-disk.ensures.disk) (opens.any_moment tells);
+      any_moment = λ tells. subst (λ (x : g.row.D.Denot). KeepsTo d disk x (Narrower (d.state disk))) (sym c.finish-disk.ensures.disk) (opens.any_moment tells);
       clock = c.finish-disk.ensures.clock ∙ opens.clock_is;
       plain = read.2.plain;
       is_run = read.2.is_run;

@@ -1,7 +1,7 @@
 use Rattle.std.proofs.Common.{◌≡◌, Bool, inr, sym, subst}
 use Rattle.desk_core.specs.Runs.{AnswersCalls, outside}
 use Rattle.serving.specs.Serving.{log_calls}
-use Rattle.office_program.specs.Lines.{workers_status, workers_note}
+use Rattle.office_program.specs.Lines.{workers_exit, workers_note}
 use Rattle.office_program.specs.Running.{journal_limit, IsNoted}
 use Rattle.office_program.proofs.Answering.{zero_done}
 use Rattle.office_program.proofs.serve.answer.Goals as goal
@@ -20,9 +20,9 @@ returns-clause-answers g c disk clock opens =
       answers = subst (λ (x : g.row.D.Denot). AnswersCalls d k journal_limit (outside disk clock) (outside x c.close.result.clock) calls) (sym ended.disk)
           (subst (λ (x : g.row.C.Denot). AnswersCalls d k journal_limit (outside disk clock) (outside closed.disk x) calls) (sym ended.clock) served.1);
       end = closed.end;
-      connections = record { counts = c.serve_office-closed.ensures.counts; divided = served.2 };
+      connections = record { listens = c.serve_office-closed.ensures.listens; counts = c.serve_office-closed.ensures.counts; divided = served.2 };
       silent = ended.silent;
-      status_is = subst (λ (b : Bool). c.close.result.status ≡ workers_status closed.end b) served.3 ended.status;
+      status_is = subst (λ (b : Bool). c.close.result.status ≡ workers_exit closed.end b) served.3 ended.status;
       note = subst (λ (b : Bool). IsNoted w c.args.out.now c.close.new.out (workers_note closed.end b)) served.3 ended.noted;
     }
 

@@ -1,4 +1,4 @@
-use Rattle.desk_core.proofs.Breaking.{opens}
+use Rattle.desk_core.proofs.Damage.{opens}
 use Rattle.office_program.proofs.Done.{not_five}
 use Rattle.office_program.proofs.stays.stays.Goals as goal
 

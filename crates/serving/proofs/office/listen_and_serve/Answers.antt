@@ -1,5 +1,5 @@
-use Rattle.std.proofs.Common.{inl, refl, sym, subst, arith, List, Option}
-use Rattle.desk_core.specs.Asking.{Submits}
+use Rattle.std.proofs.Common.{inl, inr, refl, sym, subst, arith, List, Option}
+use Rattle.desk_core.specs.Submitting.{Submits}
 use Rattle.serving.specs.Connections.{Connection}
 use Rattle.serving.specs.Serving.{Serves}
 use Rattle.serving.proofs.Divided.{none_serve}
@@ -12,6 +12,12 @@ returns-in-Err-clause-serves g c =
     let told = g.P.Port.connections c.args.port.now in
     subst (λ (after : Option (List Connection)). Serves (Submits d k) c.args.workers c.args.desk c.args.desk told after) (sym c.listen.ensures.connections)
     (none_serve (Submits d k) c.args.workers c.args.desk c.args.desk told refl)
+
+pub returns-in-Ok-clause-listens : goal.returns-in-Ok-clause-listens
+returns-in-Ok-clause-listens g c = inl (c.serve.ensures.listens c.args.address.now c.in-Ok.ensures.listens)
+
+pub returns-in-Err-clause-listens : goal.returns-in-Err-clause-listens
+returns-in-Err-clause-listens g c = inr c.listen.ensures.given
 
 pub returns-in-Err-clause-counts : goal.returns-in-Err-clause-counts
 returns-in-Err-clause-counts g c = record {

@@ -43,8 +43,17 @@ said_send = result.the_send _ _ acked_send fault.the_send
 
 module _ (a : NamedLft) (D C R : RattleType) (d : Disk.Ghosts D.Denot) (k : Clock.Ghosts C.Denot) (send_disk : IsSend D) (send_clock : IsSend C) (sync_runtime : IsSync R) where
   asker_send : IsSend (Asker.the_row a D C R d k)
-  asker_send = declared_send (Asker.the_type a D C R d k)
-      (as_row_send (row_field (Seated.the_row a D C Gate.the_row R d k)) (seated_send a D C Gate.the_row R d k send_disk send_clock gate_sync sync_runtime), (as_row_send (row_field (ShrRef a.mir a.lft Gate.the_row)) (shr_send _ _ Gate.the_row gate_sync), (as_row_send (row_field (ShrRef a.mir a.lft Ask.the_row)) (shr_send _ _ Ask.the_row ask_sync), (option.the_send _ said_send, tt))))
+  asker_send = declared_send (Asker.the_type a D C R d k) (
+    as_row_send (row_field (Seated.the_row a D C Gate.the_row R d k))
+        (seated_send a D C Gate.the_row R d k send_disk send_clock gate_sync sync_runtime),
+    (
+      as_row_send (row_field (ShrRef a.mir a.lft Gate.the_row)) (shr_send _ _ Gate.the_row gate_sync),
+      (
+        as_row_send (row_field (ShrRef a.mir a.lft Ask.the_row)) (shr_send _ _ Ask.the_row ask_sync),
+        (option.the_send _ said_send, tt),
+      ),
+    ),
+  )
 
 pub for_each_mut-requires-send-T : goal.for_each_mut-requires-send-T
 for_each_mut-requires-send-T g c κs within =

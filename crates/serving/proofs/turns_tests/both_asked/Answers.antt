@@ -79,12 +79,17 @@ returns g c =
     c.seat-askers.result.0.ok.0 c.ask_all.auto.askers c.as_mut_slice.ensures.value s.2 c.part-one.ensures c.ask_all.ensures in
     let made = c.in-Ok.ensures.made.1 in
     let one = called_so _ (left (newcomer c.args.desk)) _ (view c.leave-pass.result.0) _ c.args.make.now _ c.leave-pass.result.1
-    (ap (λ (p : Place g). p.pass) s.3 ∙ ap (λ (v : Known g). left v) made) s.4 (some_same t.0.what c.leave-pass.result.1 (sym t.0.kept ∙ c.leave-pass.ensures.said)) (sym c.leave-pass.ensures.pass) t.0.turn.called in
+    (ap (λ (p : Place g). p.pass) s.3 ∙ ap (λ (v : Known g). left v) made) s.4
+    (some_same t.0.what c.leave-pass.result.1 (sym t.0.kept ∙ c.leave-pass.ensures.said))
+    (sym c.leave-pass.ensures.pass) t.0.turn.called in
     let other = called_so _ (right (newcomer c.args.desk)) _ (view c.leave-other.result.0) _ c.args.show.now _ c.leave-other.result.1
-    (ap (λ (p : Place g). p.pass) s.5 ∙ ap (λ (v : Known g). right v) made) s.6 (some_same t.1.what c.leave-other.result.1 (sym t.1.kept ∙ c.leave-other.ensures.said)) (sym c.leave-other.ensures.pass) t.1.turn.called in
+    (ap (λ (p : Place g). p.pass) s.5 ∙ ap (λ (v : Known g). right v) made) s.6
+    (some_same t.1.what c.leave-other.result.1 (sym t.1.kept ∙ c.leave-other.ensures.said))
+    (sym c.leave-other.ensures.pass) t.1.turn.called in
     let first : (view c.in-Ok.pass).share ≡ 4_294_967_295 = ap (λ (v : Known g). v.share) made in
     let mine : (view c.leave-pass.result.0).share ≡ 4_294_967_294 = ap (λ (v : Known g). v.share) one.others in
     let theirs : (view c.leave-other.result.0).share ≡ 1 = ap (λ (v : Known g). v.share) other.others in
     let both : (view c.meet.new.pass).share ≡ (view c.leave-pass.result.0).share + (view c.leave-other.result.0).share = ap (λ (v : Known g). v.share) c.meet.ensures.met.both in
     either_way (Reaches d k) c.args.desk c.close-2.result c.args.make.now c.args.show.now c.leave-pass.result.1 c.leave-other.result.1
-    (view c.leave-pass.result.0) (view c.leave-other.result.0) (view c.meet.new.pass) one other c.meet.ensures.met c.meet.ensures.counted (c.meet.ensures.whole (omega (arith, mine, theirs, both))) c.close-2.ensures.value
+    (view c.leave-pass.result.0) (view c.leave-other.result.0) (view c.meet.new.pass) one other c.meet.ensures.met
+    c.meet.ensures.counted (c.meet.ensures.whole (omega (arith, mine, theirs, both))) c.close-2.ensures.value
