@@ -113,6 +113,14 @@ pub trait Disk {
     fn faults(&self) -> u64
         ensures { result ≡ fault_count self.now };
 
+    /// Tells in how many bytes at a time a file is best made longer, or 0 where it makes no difference.
+    ///
+    /// A sync of a file that became longer also writes its new length, and one of a file that did not writes its
+    /// bytes alone. So where many short writes are synced one by one, zeros are written in advance up to a multiple
+    /// of this. Own rule. It is no call of the disk: it changes nothing and takes no memory.
+    fn block(&self) -> u64
+        ensures { result ≤ 4096 };
+
     /// Takes down the moment, for contracts alone: it is no call of the disk, and costs nothing when it runs.
     fn stamp(&self) -> Snapshot<u64>
         ensures { result.value ≡ moment self.now };

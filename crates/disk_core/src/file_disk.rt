@@ -11,6 +11,9 @@ use std::io;
 use std::os::unix::fs::FileExt;
 use std::snapshot::Snapshot;
 
+// What most file systems give a file at a time, in bytes.
+const BLOCK: u64 = 4_096;
+
 /// Three files of the operating system. Of what they hold nothing is promised.
 ///
 /// A sync makes a file's bytes and its length durable, and no other attribute of it. A file that could not be
@@ -129,6 +132,10 @@ impl Disk for FileDisk {
 
     fn faults(&self) -> u64 {
         self.faults
+    }
+
+    fn block(&self) -> u64 {
+        BLOCK
     }
 
     fn stamp(&self) -> Snapshot<u64> {

@@ -41,6 +41,8 @@ pub struct MemoryDisk {
     calls: Vec<Call>,
     failing: Vec<u64>,
     faults: u64,
+    block: u64,
+    ghost within: { block ≤ 4096 },
     ghost same: { bytes_of contents ≡ seens (after calls.items) },
     ghost small: { AreBytes (bytes_of contents) },
 }
@@ -62,8 +64,17 @@ impl MemoryDisk {
     /// Calls are counted from 1, `length`, `read_at`, `write_at`, `cut` and `sync` alike. A write or a cut that
     /// fails so has happened as a whole; a sync that fails so has not happened. A call that finds no memory fails
     /// too, and is not counted as a call.
-    #[tactic(auto, unfolding(crate::specs::Replay::after, crate::specs::Replay::replay))]
     pub fn new(alloc: Global, failing: Vec<u64>) -> Self
+        ensures empty { memory_state result ≡ empty_disk }
+        ensures faults { memory_faults result ≡ 0 }
+    {
+        MemoryDisk::with_block(alloc, failing, 0)
+    }
+
+    /// Makes the same disk, but one with this block, in bytes.
+    #[tactic(auto, unfolding(crate::specs::Replay::after, crate::specs::Replay::replay))]
+    pub fn with_block(alloc: Global, failing: Vec<u64>, block: u64) -> Self
+        requires { block ≤ 4096 }
         ensures empty { memory_state result ≡ empty_disk }
         ensures faults { memory_faults result ≡ 0 }
     {
@@ -75,6 +86,7 @@ impl MemoryDisk {
             calls: Vec::new(alloc),
             failing,
             faults: 0,
+            block,
         }
     }
 
@@ -254,6 +266,10 @@ impl Disk for MemoryDisk {
 
     fn faults(&self) -> u64 {
         self.faults
+    }
+
+    fn block(&self) -> u64 {
+        self.block
     }
 
     fn stamp(&self) -> Snapshot<u64> {

@@ -49,6 +49,18 @@ fn files_hold_what_was_written(rt: HostRuntime) -> Result<(), Fail> {
 }
 
 #[test]
+fn a_disk_tells_its_block(rt: HostRuntime) -> Result<(), Fail> {
+    let alloc = rt.alloc();
+    assert_eq!(rt; FileDisk::new(None, None, None).block(), 4_096);
+    assert_eq!(rt; MemoryDisk::new(alloc, Vec::new(alloc)).block(), 0);
+    assert_eq!(rt;
+        MemoryDisk::with_block(alloc, Vec::new(alloc), 16).block(),
+        16
+    );
+    Ok(())
+}
+
+#[test]
 fn each_choice_gives_an_image(rt: HostRuntime) -> Result<(), Fail> {
     let mut disk = MemoryDisk::new(rt.alloc(), Vec::new(rt.alloc()));
     assert!(rt; disk.write_at(FileNo::Journal, 0, &[1, 2, 3]).is_ok());
