@@ -1,9 +1,9 @@
 -- What stands in a journal file while an entry is added.
-use Rattle.std.proofs.Common.{◌≡◌, ◌⊎◌, inl, inr, ℕ, ◌+◌, ◌*◌, ◌^◌, ◌<◌, ◌≤◌, List, [], ◌∷◌, ◌++◌, length, get_or, take, drop, refl, sym, ◌∙◌, ap, subst, arith, append-nil, append_assoc, length-append, take-append-drop, Result, Ok, Err}
+use Rattle.std.proofs.Common.{◌≡◌, ◌⊎◌, inl, inr, ℕ, zero, suc, replicate, ◌+◌, ◌*◌, ◌^◌, ◌<◌, ◌≤◌, List, [], ◌∷◌, ◌++◌, length, get_or, take, drop, refl, sym, ◌∙◌, ap, subst, arith, append-nil, append_assoc, length-append, take-append-drop, Result, Ok, Err}
 use Rattle.std.specs.Prelude.{OnOk}
 use Rattle.std.specs.List.{flat_map, AllByRecursion}
 use Rattle.std.proofs.lemmas.Bool.{cases_eq}
-use Rattle.std.proofs.lemmas.List.{take_at, drop_at, drop-drop}
+use Rattle.std.proofs.lemmas.List.{take_at, drop_at, drop-drop, take-replicate}
 use Rattle.std.proofs.lemmas.List.{flat_map_more}
 use Rattle.office_types.specs.declared.command.Entry.{Entry}
 use Rattle.entry_codec.specs.Spelling.{EntryFits, spelling}
@@ -117,6 +117,19 @@ module _ (head : List ℕ) (entries : List Entry) (p : ℕ) (size : p ≡ length
         | inr shut ↦ inl (record { gate = g; rest = framed bytes ++ 0 ∷ rest; parts = parts; closed = shut; each = each; small = inr (omega (arith, room, size)) })
       ]
 
+abbrev zeros : ℕ → List ℕ
+zeros n = replicate n 0
+
+zeros_begin : (n : ℕ) → 1 ≤ n → (k : ℕ) × (zeros n ≡ 0 ∷ zeros k)
+zeros_begin zero le = absurd (omega (arith, le))
+zeros_begin (suc k) le = (k, refl)
+
+-- the first of some zeros
+pub first_zeros : (xs : List ℕ) (m n : ℕ) → xs ≡ zeros m → 1 ≤ n → n ≤ m → (k : ℕ) × (take n xs ≡ 0 ∷ zeros k)
+first_zeros xs m n is some le =
+    let begin = zeros_begin n some in
+    (begin.0, ap (λ (l : List ℕ). take n l) is ∙ take-replicate n m 0 le ∙ begin.1)
+
 -- each image of a file at rest has its entries
 pub each_image : (head : List ℕ) (s : State) (gate : ℕ) (entries : List Entry) → IsAtRest head s gate entries → (image : List ℕ) → IsImage s.journal image → HasEntries head entries image
 each_image head s gate entries rest image is =
@@ -155,20 +168,23 @@ module _ {head : List ℕ} {entries : List Entry} {p : ℕ} {first : State} (at_
     slot1 = keeps.slot1;
   }
 
-  -- text are the bytes of the entry
-  module _ (text : List ℕ) where
+  -- text are the bytes of the entry, and fill is what was written behind the closed gate
+  module _ (text fill : List ℕ) where
+    abbrev behind_fill : List ℕ
+    behind_fill = drop (length (framed text ++ 0 ∷ fill)) at_rest.history.rest
+
     abbrev tail : List ℕ
-    tail = drop (length (framed text ++ 0 ∷ [])) at_rest.history.rest
+    tail = fill ++ behind_fill
 
     -- the file with the frame behind the closed gate
     abbrev pub with_frame : List ℕ
-    with_frame = put (p + 1) (framed text ++ 0 ∷ []) bytes
+    with_frame = put (p + 1) (framed text ++ 0 ∷ fill) bytes
 
     with_frame_is : with_frame ≡ journal_bytes head entries ++ at_rest.history.gate ∷ (framed text ++ 0 ∷ tail)
     with_frame_is =
-        ap (λ (l : List ℕ). put (p + 1) (framed text ++ 0 ∷ []) l) at_rest.history.parts
-        ∙ staged (journal_bytes head entries) p at_rest.end at_rest.history.gate at_rest.history.rest (framed text ++ 0 ∷ [])
-        ∙ ap (λ (l : List ℕ). journal_bytes head entries ++ at_rest.history.gate ∷ l) (append_assoc (framed text) (0 ∷ []) tail)
+        ap (λ (l : List ℕ). put (p + 1) (framed text ++ 0 ∷ fill) l) at_rest.history.parts
+        ∙ staged (journal_bytes head entries) p at_rest.end at_rest.history.gate at_rest.history.rest (framed text ++ 0 ∷ fill)
+        ∙ ap (λ (l : List ℕ). journal_bytes head entries ++ at_rest.history.gate ∷ l) (append_assoc (framed text) (0 ∷ fill) behind_fill)
 
     with_gate : (g : ℕ) → take p with_frame ++ g ∷ drop (p + 1) with_frame ≡ journal_bytes head entries ++ g ∷ (framed text ++ 0 ∷ tail)
     with_gate g =

@@ -1,5 +1,5 @@
 // The frame of an entry, behind a gate that is not open.
-ghost use Rattle.std.specs.Prelude.{◌≡◌, ◌+◌, ◌<◌, ◌≤◌, ◌^◌, ◌++◌, [], ◌∷◌, ℕ, List, IsTrue, length, OnOk};
+ghost use Rattle.std.specs.Prelude.{◌≡◌, ◌⊎◌, ◌+◌, ◌<◌, ◌≤◌, ◌^◌, ◌++◌, [], ◌∷◌, ℕ, List, IsTrue, length, replicate, OnOk};
 ghost use Rattle.std.specs.Int.{w32, to_be_bytes};
 ghost use Rattle.office_base.specs.Faults.{HasCause};
 ghost use Rattle.disk_core.specs.Files.{put, synced_file};
@@ -8,8 +8,42 @@ ghost use Rattle.disk_core.specs.Fronts.{KeepsJournal};
 
 use disk_core::{Disk, Failed, FileNo};
 
-// Writes the length, the entry and a closed gate behind the gate at this place, and syncs them.
-pub(crate) fn write_frame<D: Disk>(disk: &mut D, gate: u64, entry: &[u8]) -> Result<(), Failed>
+// As many as a block of a disk has at most.
+const ZEROS: [u8; 4_096] = [0; 4_096];
+
+fn zeros() -> &'static [u8]
+    ensures { result.now ≡ replicate 4096 0 }
+{
+    &ZEROS
+}
+
+// What ends the frame behind this gate, from the place of its end gate on: a closed gate, and zeros up to the end of the
+// block there where that is another one than that of the gate, but not past the limit.
+fn ending(block: u64, gate: u64, end: u64, limit: u64) -> &'static [u8]
+    requires block { block ≤ 4096 }
+    requires end { end < 2 ^ 47 }
+    ensures zeros { (n : ℕ) × (result.now ≡ 0 ∷ replicate n 0) }
+    ensures limit { (length result.now ≡ 1) ⊎ (end + length result.now ≤ limit) }
+{
+    let zeros = zeros();
+    if block == 0 || end / block == gate / block {
+        return &zeros[..1];
+    }
+    let rest = block - end % block;
+    if limit < end + rest {
+        return &zeros[..1];
+    }
+    &zeros[..rest as usize]
+}
+
+// Writes the length, the entry and a closed gate behind the gate at this place, and syncs them. Where the frame goes on
+// into a new block of the disk, zeros are written up to its end, so that the next syncs need not write a new length.
+pub(crate) fn write_frame<D: Disk>(
+    disk: &mut D,
+    gate: u64,
+    entry: &[u8],
+    limit: u64,
+) -> Result<(), Failed>
     requires size { length entry.now < 2 ^ 32 }
     requires place { gate < 2 ^ 46 }
     requires inside { IsTrue D.honest → gate + 1 ≤ length (D.state disk.old).journal.seen }
@@ -18,19 +52,20 @@ pub(crate) fn write_frame<D: Disk>(disk: &mut D, gate: u64, entry: &[u8]) -> Res
         → KeepsJournal (gate + 1) front (D.state disk.old) (D.state disk.old)
         → KeepsTo D.Disk disk.old disk.new (KeepsJournal (gate + 1) front (D.state disk.old)) }
 
-    ensures done { IsTrue D.honest → OnOk result ((D.state disk.new).journal
-        ≡ synced_file (put (gate + 1) (to_be_bytes w32 (length entry.now) ++ entry.now ++ 0 ∷ [])
-        (D.state disk.old).journal.seen)) }
+    ensures done { IsTrue D.honest → OnOk result ((n : ℕ) × ((D.state disk.new).journal
+        ≡ synced_file (put (gate + 1) (to_be_bytes w32 (length entry.now) ++ entry.now ++ 0 ∷ replicate n 0)
+        (D.state disk.old).journal.seen))) }
 
     ensures cause { HasCause (D.fault_count disk.old) (D.fault_count disk.new) result }
 {
-    let count = entry.len() as u64;
+    let end = gate + 5 + entry.len() as u64;
+    let closing = ending(disk.block(), gate, end, limit);
     disk.write_at(
         FileNo::Journal,
         gate + 1,
         &(entry.len() as u32).to_be_bytes(),
     )?;
     disk.write_at(FileNo::Journal, gate + 5, entry)?;
-    disk.write_at(FileNo::Journal, gate + 5 + count, &[0])?;
+    disk.write_at(FileNo::Journal, end, closing)?;
     disk.sync(FileNo::Journal)
 }

@@ -48,7 +48,7 @@ impl<D: Disk> Model for Journal<D> {
     ghost invariant = { λ j. j.limit ≤ 2 ^ 45 };
 }
 
-fn commit<D: Disk>(disk: &mut D, gate: u64, entry: &[u8]) -> Result<(), Failed>
+fn commit<D: Disk>(disk: &mut D, gate: u64, entry: &[u8], limit: u64) -> Result<(), Failed>
     requires size { length entry.now < 2 ^ 32 }
     requires fits { gate + 6 + length entry.now ≤ 2 ^ 45 }
     requires at_rest { IsTrue D.honest → (head : List ℕ) × (entries : List Entry)
@@ -66,7 +66,7 @@ fn commit<D: Disk>(disk: &mut D, gate: u64, entry: &[u8]) -> Result<(), Failed>
 
     ensures cause { HasCause (D.fault_count disk.old) (D.fault_count disk.new) result }
 {
-    write_frame(disk, gate, entry)?;
+    write_frame(disk, gate, entry, limit)?;
     open_gate(disk, gate)
 }
 
@@ -213,7 +213,7 @@ impl<D: Disk> Journal<D> {
         if self.gate.saturating_add(size).saturating_add(6) > self.limit {
             return Err(AppendFault::JournalFull);
         }
-        match commit(&mut self.disk, self.gate, entry) {
+        match commit(&mut self.disk, self.gate, entry, self.limit) {
             Err(_) => Err(AppendFault::StoreFault),
             Ok(()) => {
                 self.gate += 5 + size;

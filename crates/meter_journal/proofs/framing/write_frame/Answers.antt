@@ -1,4 +1,5 @@
-use Rattle.std.proofs.Common.{◌≡◌, ◌+◌, ◌++◌, ◌∷◌, [], List, ℕ, length, arith, rules, length-append, ◌∙◌, ap}
+use Rattle.std.proofs.Common.{◌≡◌, ◌+◌, ◌++◌, ◌∷◌, [], List, ℕ, length, replicate, arith, rules, length-append, ◌∙◌, ap}
+use Rattle.std.proofs.lemmas.Result.{on_ok_weaker}
 use Rattle.std.specs.Int.{w32, to_be_bytes}
 use Rattle.disk_core.specs.Files.{put}
 use Rattle.disk_core.specs.Fronts.{KeepsJournal}
@@ -28,7 +29,7 @@ returns-in_err-write_at-3-clause-any_moment g c told front keeps =
     let start = started d old (KeepsJournal (c.args.gate + 1) front (d.state old)) (g.met.D.Disk.only_now old) keeps in
     let one = wrote_on start c.write_at.ensures.time (c.args.gate + 1) (length c.to_be_bytes.result) (omega arith) (c.write_at.ensures.state told) in
     let two = wrote_on one c.write_at-2.ensures.time (c.args.gate + 5) (length c.args.entry.now) (omega arith) (c.write_at-2.ensures.state told) in
-    wrote_on two c.write_at-3.ensures.time (c.args.gate + 5 + length c.args.entry.now) 1 (omega arith) (c.write_at-3.ensures.state told)
+    wrote_on two c.write_at-3.ensures.time (c.args.gate + 5 + length c.args.entry.now) (length c.ending-closing.result.now) (omega arith) (c.write_at-3.ensures.state told)
 
 pub returns-clause-any_moment : goal.returns-clause-any_moment
 returns-clause-any_moment g c told front keeps =
@@ -37,7 +38,7 @@ returns-clause-any_moment g c told front keeps =
     let start = started d old (KeepsJournal (c.args.gate + 1) front (d.state old)) (g.met.D.Disk.only_now old) keeps in
     let one = wrote_on start c.write_at.ensures.time (c.args.gate + 1) (length c.to_be_bytes.result) (omega arith) (c.write_at.ensures.state told) in
     let two = wrote_on one c.write_at-2.ensures.time (c.args.gate + 5) (length c.args.entry.now) (omega arith) (c.write_at-2.ensures.state told) in
-    let three = wrote_on two c.write_at-3.ensures.time (c.args.gate + 5 + length c.args.entry.now) 1 (omega arith) (c.write_at-3.ensures.state told) in
+    let three = wrote_on two c.write_at-3.ensures.time (c.args.gate + 5 + length c.args.entry.now) (length c.ending-closing.result.now) (omega arith) (c.write_at-3.ensures.state told) in
     synced_on three c.sync.ensures.time c.sync.result (c.sync.ensures.done told) (c.sync.ensures.state told)
 
 pub returns-clause-done : goal.returns-clause-done
@@ -54,11 +55,15 @@ returns-clause-done g c told =
     c.in_ok-write_at-2.ensures.done told
     ∙ ap (λ (l : List ℕ). put (c.args.gate + 5) entry l) (c.in_ok-write_at.ensures.done told)
     ∙ put-put at (c.args.gate + 5) size entry seen inside (omega (arith, is_four)) in
+    let closing = c.ending-closing.result.now in
     let three =
     c.in_ok-write_at-3.ensures.done told
-    ∙ ap (λ (l : List ℕ). put (c.args.gate + 5 + length entry) (0 ∷ []) l) two
-    ∙ put-put at (c.args.gate + 5 + length entry) (size ++ entry) (0 ∷ []) seen inside
+    ∙ ap (λ (l : List ℕ). put (c.args.gate + 5 + length entry) closing l) two
+    ∙ put-put at (c.args.gate + 5 + length entry) (size ++ entry) closing seen inside
     (omega (arith, is_four, length-append size entry))
-    ∙ ap (λ (l : List ℕ). put at ((l ++ entry) ++ 0 ∷ []) seen) is_size in
-    synced_bytes c.sync.result (state c.write_at-3.new.self) (state c.sync.new.self)
-    (put at ((to_be_bytes w32 (length entry) ++ entry) ++ 0 ∷ []) seen) (c.sync.ensures.done told) three
+    ∙ ap (λ (l : List ℕ). put at ((l ++ entry) ++ closing) seen) is_size
+    ∙ ap (λ (l : List ℕ). put at ((to_be_bytes w32 (length entry) ++ entry) ++ l) seen) c.ending-closing.ensures.zeros.1 in
+    let n = c.ending-closing.ensures.zeros.0 in
+    on_ok_weaker c.sync.result (λ is. (n, is))
+    (synced_bytes c.sync.result (state c.write_at-3.new.self) (state c.sync.new.self)
+    (put at ((to_be_bytes w32 (length entry) ++ entry) ++ 0 ∷ replicate n 0) seen) (c.sync.ensures.done told) three)

@@ -1,4 +1,4 @@
-use Rattle.std.proofs.Common.{◌≡◌, ◌+◌, ◌∷◌, [], ◌∙◌, ap, subst, List, ℕ}
+use Rattle.std.proofs.Common.{◌≡◌, ◌+◌, ◌∷◌, [], ◌∙◌, ap, subst, replicate, List, ℕ}
 use Rattle.std.specs.Prelude.{OnOk}
 use Rattle.disk_core.specs.Files.{File, put, synced_file}
 use Rattle.disk_core.proofs.Time.{joined, weakened}
@@ -17,16 +17,18 @@ returns-clause-any_moment g c told head entries e fits is rest =
     let text = c.args.entry.now in
     let mid = d.state c.write_frame.new.disk in
     let one = c.write_frame.ensures.any_moment told _ (keeps_start rest) in
-    let on_disk = c.in_ok-write_frame.ensures.done told ∙ ap (λ (l : List ℕ). synced_file (put (c.args.gate + 1) _ l)) (seen_is rest) in
-    let two = c.open_gate.ensures.any_moment told (with_frame rest text) (longer rest text) on_disk in
+    let fill = replicate (c.in_ok-write_frame.ensures.done told).0 0 in
+    let on_disk = (c.in_ok-write_frame.ensures.done told).1 ∙ ap (λ (l : List ℕ). synced_file (put (c.args.gate + 1) _ l)) (seen_is rest) in
+    let two = c.open_gate.ensures.any_moment told (with_frame rest text fill) (longer rest text fill) on_disk in
     joined (BeforeOrAfter head entries e (d.state c.args.disk.now)) one two
     (before rest e)
-    (λ s but. after rest text e fits is c.requires.fits mid s one.now.slot0 one.now.slot1 but)
+    (λ s but. after rest text fill e fits is c.requires.fits mid s one.now.slot0 one.now.slot1 but)
 
 pub returns-clause-acknowledged : goal.returns-clause-acknowledged
 returns-clause-acknowledged g c told head entries e fits is rest =
     let new = g.D.Disk.state c.open_gate.new.disk in
-    let on_disk = c.in_ok-write_frame.ensures.done told ∙ ap (λ (l : List ℕ). synced_file (put (c.args.gate + 1) _ l)) (seen_is rest) in
-    done rest c.args.entry.now e fits is c.requires.fits c.open_gate.result new
+    let fill = replicate (c.in_ok-write_frame.ensures.done told).0 0 in
+    let on_disk = (c.in_ok-write_frame.ensures.done told).1 ∙ ap (λ (l : List ℕ). synced_file (put (c.args.gate + 1) _ l)) (seen_is rest) in
+    done rest c.args.entry.now fill e fits is c.requires.fits c.open_gate.result new
     (subst (λ (l : List ℕ). OnOk c.open_gate.result (new.journal ≡ synced_file (put c.args.gate (0xA5 ∷ []) l)))
     (ap (λ (f : File). f.seen) on_disk) (c.open_gate.ensures.done told))
