@@ -8,8 +8,9 @@
 //! office answers them with: `PUT /buckets/NAME` makes a bucket, `GET /buckets/NAME` tells it, and with a JOURNAL
 //! `PUT /buckets/NAME/objects/KEY` counts an object; everything else gets 501. The buckets lie in a map under a lock.
 //! Under that lock an object's entry of ENTRY_BYTES is written to the new file JOURNAL as the office writes one: its
-//! length, the entry and a closed gate, a data sync, the gate, a data sync. What the entry says is not written. It
-//! serves until it is stopped.
+//! length, the entry and a closed gate, a data sync, the gate, a data sync; with the closed gate of a frame that goes on
+//! into a new block also zeros up to the end of that block. What the entry says is not written. It serves until it is
+//! stopped.
 
 use std::collections::HashMap;
 use std::fs::File;
@@ -17,6 +18,9 @@ use std::io::{Read, Write};
 use std::net::{TcpListener, TcpStream};
 use std::os::unix::fs::FileExt;
 use std::sync::Mutex;
+
+/// In how many bytes at a time the journal becomes longer.
+const BLOCK: u64 = 4_096;
 
 /// A file of entries, each behind a gate of one byte that is opened once the entry is synced.
 struct Journal {
@@ -30,11 +34,13 @@ impl Journal {
         let (gate, size) = (self.end_gate, self.entry.len() as u64);
         self.file.write_all_at(&(size as u32).to_be_bytes(), gate + 1)?;
         self.file.write_all_at(&self.entry, gate + 5)?;
-        self.file.write_all_at(&[0], gate + 5 + size)?;
+        let end = gate + 5 + size;
+        let zeros = if end / BLOCK == gate / BLOCK { 1 } else { BLOCK - end % BLOCK };
+        self.file.write_all_at(&[0; BLOCK as usize][..zeros as usize], end)?;
         self.file.sync_data()?;
         self.file.write_all_at(&[0xA5], gate)?;
         self.file.sync_data()?;
-        self.end_gate = gate + 5 + size;
+        self.end_gate = end;
         Ok(())
     }
 }

@@ -119,6 +119,13 @@ def main():
     check("--check of the whole journal", (0, f"whole: entries {len(lines)}; last moment {lines[-1]['moment']}; end gate at "
           f"{end}; bytes without meaning behind it: 0\n", ""), run_tool("--check", JOURNAL))
 
+    # The program makes the file longer by blocks of 4,096 bytes: zeros lie behind the end gate.
+    zeros = -len(whole) % 4096
+    JOURNAL.write_bytes(whole + bytes(zeros))
+    check("zeros behind the end gate: both read to it", ((0, ""), (0, "")), (by_program(), by_tool()))
+    check("zeros behind the end gate: --check", f"bytes without meaning behind it: {zeros}\n", run_tool("--check", JOURNAL)[1].rpartition("; ")[2])
+    compare("an open gate behind the end gate", [whole + bytes(20) + b"\xa5" + bytes(60), whole + b"\xa5" * 80, whole[:end] + b"\xa5" + bytes(zeros)])
+
     # Places where the offset of the damage and the entries before it follow from docs/FORMATS.md.
     second, last = gates[1], gates[-1]
     cases = [("the kind of the first entry", 10 + 5 + 8, 0x02, 10, 0), ("a moment past 2100", 10 + 5 + 2, 0xFF, 10, 0),

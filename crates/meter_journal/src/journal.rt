@@ -174,7 +174,8 @@ impl<D: Disk> Journal<D> {
     ///
     /// The length, the entry and a closed gate are written behind the end gate and synced; then the end gate is
     /// opened and synced. So after a crash at any moment the entry is there as a whole or not at all, and after
-    /// `Ok` it is there.
+    /// `Ok` it is there. Where the entry goes on into a new block of the disk, zeros are written behind the closed
+    /// gate up to the end of that block, but not past the limit; so most calls leave the length of the file.
     /// Cost: four writes and two syncs; no memory.
     ///
     /// # Errors

@@ -128,12 +128,17 @@ fn file_of(alloc: Global, bytes: &[u8]) -> Result<MemoryDisk, Fail> {
     Ok(disk)
 }
 
-// Adds the entry to an empty journal with a limit, and tells the answer and the file.
-fn added(alloc: Global, limit: u64) -> Result<(Result<u64, AppendFault>, Vec<u8>), Fail>
-    requires { limit ≤ 2 ^ 45 }
+// Adds the entry to an empty journal with a limit, on a disk with a block, and tells the answer and the file.
+fn added(
+    alloc: Global,
+    block: u64,
+    limit: u64,
+) -> Result<(Result<u64, AppendFault>, Vec<u8>), Fail>
+    requires block { block ≤ 4096 }
+    requires limit { limit ≤ 2 ^ 45 }
 {
     let bytes = entry_bytes(alloc)?;
-    let mut disk = MemoryDisk::new(alloc, Vec::new(alloc));
+    let mut disk = MemoryDisk::with_block(alloc, Vec::new(alloc), block);
     create(&mut disk)?;
     let mut journal = empty_journal(alloc, disk, limit)?;
     let answer = journal.append(&bytes);
@@ -145,11 +150,29 @@ fn added(alloc: Global, limit: u64) -> Result<(Result<u64, AppendFault>, Vec<u8>
 #[test]
 fn an_entry_is_added_within_the_limit(rt: HostRuntime) -> Result<(), Fail> {
     let alloc = rt.alloc();
-    let (answer, file) = added(alloc, 30)?;
+    let (answer, file) = added(alloc, 0, 30)?;
     assert_eq!(rt; answer, Err(AppendFault::JournalFull));
     assert!(rt; file.as_slice() == &EMPTY[..]);
-    let (answer, file) = added(alloc, 31)?;
+    let (answer, file) = added(alloc, 0, 31)?;
     assert_eq!(rt; answer, Ok(30));
+    assert!(rt; file.as_slice() == &ONE[..]);
+    Ok(())
+}
+
+#[test]
+fn a_file_grows_by_blocks(rt: HostRuntime) -> Result<(), Fail> {
+    let alloc = rt.alloc();
+    let (answer, file) = added(alloc, 20, 40)?;
+    assert_eq!(rt; answer, Ok(30));
+    assert!(rt; file.starts_with(&ONE));
+    assert!(rt; file[ONE.len()..] == [0; 9]);
+    let mut journal = Journal::over(file_of(alloc, &file)?, 40);
+    assert_eq!(rt; has_entry(alloc, &mut journal), Ok(true));
+    assert_eq!(rt; journal.end(), 30);
+    // The first gate and the next one stand in one block; the file would be longer than the limit.
+    let (_, file) = added(alloc, 31, 40)?;
+    assert!(rt; file.as_slice() == &ONE[..]);
+    let (_, file) = added(alloc, 20, 39)?;
     assert!(rt; file.as_slice() == &ONE[..]);
     Ok(())
 }
