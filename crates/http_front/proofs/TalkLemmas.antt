@@ -10,6 +10,8 @@ use Rattle.office_types.specs.declared.command.Ask.{Ask}
 use Rattle.desk_core.specs.Answers.{Answer, Call}
 use Rattle.desk_core.specs.declared.fault.DeskFault.{DeskFault}
 use Rattle.desk_core.specs.declared.fault.DeskFault.TheVariants as faults
+use Rattle.desk_core.proofs.Following.{rose_later}
+use Rattle.http_wire.specs.declared.source.Source as sources
 use Rattle.http_wire.specs.Answers.{Gave as GaveTo}
 use Rattle.http_wire.specs.Held.{Held, head_room, take_limit}
 use Rattle.http_wire.specs.Messages.{IsUnsettled}
@@ -30,7 +32,8 @@ use Rattle.http_front.specs.Exchanges.{Exchange, answered, refused, exchange_mea
 use Rattle.desk_core.specs.Turns.{Moves}
 use Rattle.http_front.specs.Session.{IsCut, IsLong, IsUnsaid, IsWritten, NoneLacks, LastLacks, LacksBy, Session}
 use Rattle.http_front.specs.declared.replies.Replies as sinks
-use Rattle.http_front.specs.Talk.{SaysFront, IsRefusedBy, AnswersOne, Talked, Closed, Went}
+use Rattle.http_front.specs.Saying.{OnlyReads, OnlySays, Says, SaysFront}
+use Rattle.http_front.specs.Talk.{SaysNoMemory, IsRefusedBy, Sides, sides, AnswersOne, Talked, Closed, Went}
 use Rattle.http_front.specs.Texts.{exchange_text, text_of, bad_text, texts, not_built_text, no_memory_text}
 
 -- ---- what was heard
@@ -101,6 +104,9 @@ unsaid_then first second whole w instead x = record {
 
 moments-append : (first second : List Exchange) → moments_of (first ++ second) ≡ moments_of first ++ moments_of second
 moments-append first second = flat_map-append exchange_moment first second
+
+said_then : (sa sb sc : Option (List ℕ)) (first second : List Exchange) → Appends sa sb (texts first) → Appends sb sc (texts second) → Appends sa sc (texts (first ++ second))
+said_then sa sb sc first second x y = subst (Appends sa sc) (sym (texts-append first second)) (Appends-trans sa sb sc (texts first) (texts second) x y)
 
 stamped_then : (ma mb mc : Option (List ℕ)) (first second : List Exchange) → Appends ma mb (moments_of first) → Appends mb mc (moments_of second) → Appends ma mc (moments_of (first ++ second))
 stamped_then ma mb mc first second x y =
@@ -264,6 +270,32 @@ under_limit a b None lb given few end = tt
 under_limit a b (Some xs) None given few end = absurd given.left
 under_limit a b (Some xs) (Some ys) given few end = omega (arith, few, given.counted, ap length given.left, length-append given.given ys, ap length end)
 
+-- ---- what stays
+
+module _ {W : Type 0} (w : sinks.Ghosts W) where
+  pub says_nothing : (at : W) → OnlySays w at at ⊥
+  says_nothing at = record { texts = refl; noted = refl; later = omega arith; fault = λ no. absurd no }
+
+  -- behind calls of which none failed
+  pub says_on : {Failed_so Fails : Type 0} (a b c : W) → OnlySays w a b ⊥ → OnlySays w b c Failed_so → (Fails → Failed_so) → OnlySays w a c Fails
+  says_on a b c x y why = record {
+    texts = y.texts ∙ x.texts;
+    noted = y.noted ∙ x.noted;
+    later = omega (arith, x.later, y.later);
+    fault = λ is. rose_later (w.faults a) (w.faults b) (w.faults c) x.later (y.fault (why is));
+  }
+
+module _ {R : Type 0} (r : sources.Ghosts R) where
+  pub reads_nothing : (at : R) → OnlyReads r at at ⊥
+  reads_nothing at = record { stream = refl; later = omega arith; fault = λ no. absurd no }
+
+  pub reads_on : {Failed_so Fails : Type 0} (a b c : R) → OnlyReads r a b ⊥ → OnlyReads r b c Failed_so → (Fails → Failed_so) → OnlyReads r a c Fails
+  reads_on a b c x y why = record {
+    stream = y.stream ∙ x.stream;
+    later = omega (arith, x.later, y.later);
+    fault = λ is. rose_later (r.faults a) (r.faults b) (r.faults c) x.later (y.fault (why is));
+  }
+
 -- ---- tellers
 
 module _ {T : Type 0} (moves : T → Ask → Result Answer DeskFault → T → Type 0) where
@@ -274,30 +306,38 @@ module _ {T : Type 0} (moves : T → Ask → Result Answer DeskFault → T → T
   moved_then : (first second : List Exchange) (a b c : T) → Moves moves a (calls_of first) b → Moves moves b (calls_of second) c → Moves moves a (calls_of (first ++ second)) c
   moved_then first second a b c x y = calls_all first second (λ (calls : List Call). Moves moves a calls c) (moves_then (calls_of first) (calls_of second) a b c x y)
 
-  pub talked_none : (old : T) (said moments stream : Option (List ℕ)) → Talked moves old old said said moments moments stream stream
-  talked_none old said moments stream = record {
+module _ {T W : Type 0} (moves : T → Ask → Result Answer DeskFault → T → Type 0) (w : sinks.Ghosts W) where
+  pub talked_none : (at : Sides T W) (stream : Option (List ℕ)) → Talked moves w at at stream stream
+  talked_none at stream = record {
     exchanges = [];
     moved = refl;
     heard = hears_none stream;
-    said = Appends-nil said;
-    stamped = Appends-nil moments;
+    said = Appends-nil (w.said at.out);
+    stamped = Appends-nil (w.moments at.out);
     enough = All-nil IsNoLack;
   }
 
-  pub talked_then : (old mid new : T) (sa sb sc ma mb mc a b c : Option (List ℕ)) → Talked moves old mid sa sb ma mb a b → Talked moves mid new sb sc mb mc b c → Talked moves old new sa sc ma mc a c
-  talked_then old mid new sa sb sc ma mb mc a b c first second = record {
-    exchanges = first.exchanges ++ second.exchanges;
-    moved = moved_then first.exchanges second.exchanges old mid new first.moved second.moved;
-    heard = hears_then first.exchanges second.exchanges a b c false first.heard second.heard;
-    said = subst (Appends sa sc) (sym (texts-append first.exchanges second.exchanges)) (Appends-trans sa sb sc (texts first.exchanges) (texts second.exchanges) first.said second.said);
-    stamped = stamped_then ma mb mc first.exchanges second.exchanges first.stamped second.stamped;
-    enough = enough_then first.exchanges second.exchanges first.enough second.enough;
-  }
+  pub talked_then : (old mid new : Sides T W) (a b c : Option (List ℕ)) → Talked moves w old mid a b → Talked moves w mid new b c → Talked moves w old new a c
+  talked_then old mid new a b c first second =
+      let x = first.exchanges in
+      let y = second.exchanges in
+      record {
+        exchanges = x ++ y;
+        moved = moved_then moves x y old.teller mid.teller new.teller first.moved second.moved;
+        heard = hears_then x y a b c false first.heard second.heard;
+        said = said_then (w.said old.out) (w.said mid.out) (w.said new.out) x y first.said second.said;
+        stamped = stamped_then (w.moments old.out) (w.moments mid.out) (w.moments new.out) x y first.stamped second.stamped;
+        enough = enough_then x y first.enough second.enough;
+      }
+
+  -- nothing was said
+  pub says_none : (at : W) → Says w at at []
+  says_none at = record { said = Appends-nil (w.said at); moments = refl }
 
   module _ (remains : Option (List ℕ)) where
-    closed_on : (total later : Option ℕ) → Totals total later → (old mid new : T) (sa sb sc ma mb mc a b : Option (List ℕ)) (end : SessionEnd)
-        → Talked moves old mid sa sb ma mb a b → Closed moves mid new sb sc mb mc (reading b remains) later end → Closed moves old new sa sc ma mc (reading a remains) total end
-    closed_on total later totals old mid new sa sb sc ma mb mc a b end first second =
+    closed_on : (total later : Option ℕ) → Totals total later → (old mid new : Sides T W) (a b : Option (List ℕ)) (end : SessionEnd)
+        → Talked moves w old mid a b → Closed moves w mid new (reading b remains) later end → Closed moves w old new (reading a remains) total end
+    closed_on total later totals old mid new a b end first second =
         let x = first.exchanges in
         let y = second.talk in
         record {
@@ -313,34 +353,32 @@ module _ {T : Type 0} (moves : T → Ask → Result Answer DeskFault → T → T
             behind = y.behind;
             begun = y.begun;
           };
-          moved = moved_then x y.exchanges old mid new first.moved second.moved;
-          said = Appends-trans sa sb sc (texts x) y.written first.said second.said;
-          stamped = stamped_then ma mb mc x y.whole first.stamped second.stamped;
+          moved = moved_then moves x y.exchanges old.teller mid.teller new.teller first.moved second.moved;
+          said = Appends-trans (w.said old.out) (w.said mid.out) (w.said new.out) (texts x) y.written first.said second.said;
+          stamped = stamped_then (w.moments old.out) (w.moments mid.out) (w.moments new.out) x y.whole first.stamped second.stamped;
         }
 
-    pub closed_then : (ta tb : ℕ) (la lb : Option (List ℕ)) → Given ta tb la lb → (old mid new : T) (sa sb sc ma mb mc a b : Option (List ℕ)) (end : SessionEnd)
-        → Talked moves old mid sa sb ma mb a b → Closed moves mid new sb sc mb mc (reading b remains) (total_of tb lb) end → Closed moves old new sa sc ma mc (reading a remains) (total_of ta la) end
-    closed_then ta tb la lb given old mid new sa sb sc ma mb mc a b end first second =
-        closed_on (total_of ta la) (total_of tb lb) (totals ta tb la lb given) old mid new sa sb sc ma mb mc a b end first second
+    pub closed_then : (ta tb : ℕ) (la lb : Option (List ℕ)) → Given ta tb la lb → (old mid new : Sides T W) (a b : Option (List ℕ)) (end : SessionEnd)
+        → Talked moves w old mid a b → Closed moves w mid new (reading b remains) (total_of tb lb) end → Closed moves w old new (reading a remains) (total_of ta la) end
+    closed_then ta tb la lb given old mid new a b end first second =
+        closed_on (total_of ta la) (total_of tb lb) (totals ta tb la lb given) old mid new a b end first second
 
     -- the end of a session from its beginning
-    whole_session : {W : Type 0} (w : sinks.Ghosts W) (old new : T) (out_old out_new : W) (left : Option (List ℕ)) (end : SessionEnd)
-        → Closed moves old new (w.said out_old) (w.said out_new) (w.moments out_old) (w.moments out_new) (reading left remains) (option_map length left) end
+    whole_session : (old new : T) (out_old out_new : W) (left : Option (List ℕ)) (end : SessionEnd)
+        → Closed moves w (sides old out_old) (sides new out_new) (reading left remains) (option_map length left) end
         → Session moves w old new out_old out_new (reading left remains) end
-    whole_session w old new out_old out_new left end all = record { talk = all.talk; moved = all.moved; said = all.said; stamped = all.stamped }
+    whole_session old new out_old out_new left end all = record { talk = all.talk; moved = all.moved; said = all.said; stamped = all.stamped }
 
     -- a session that began with nothing taken
-    pub session_of : {W : Type 0} (w : sinks.Ghosts W) (taken : ℕ) (held : List ℕ) (old new : T) (out_old out_new : W) (left : Option (List ℕ)) (end : SessionEnd) → taken ≡ 0 → held ≡ []
-        → Closed moves old new (w.said out_old) (w.said out_new) (w.moments out_old) (w.moments out_new) (reading (prepend_known held left) remains) (total_of taken left) end
+    pub session_of : (taken : ℕ) (held : List ℕ) (old new : T) (out_old out_new : W) (left : Option (List ℕ)) (end : SessionEnd) → taken ≡ 0 → held ≡ []
+        → Closed moves w (sides old out_old) (sides new out_new) (reading (prepend_known held left) remains) (total_of taken left) end
         → Session moves w old new out_old out_new (reading left remains) end
-    session_of w taken held old new out_old out_new left end none empty closed =
-        let sa = w.said out_old in
-        let sb = w.said out_new in
-        let ma = w.moments out_old in
-        let mb = w.moments out_new in
-        whole_session w old new out_old out_new left end (
-        closed_on (option_map length left) (total_of taken left) (total_from taken left none) old old new sa sa sb ma ma mb left left end (talked_none old sa ma left)
-        (subst (λ (s : Option (List ℕ)). Closed moves old new sa sb ma mb (reading s remains) (total_of taken left) end) (from_start held left empty) closed)
+    session_of taken held old new out_old out_new left end none empty closed =
+        let before = sides old out_old in
+        let after = sides new out_new in
+        whole_session old new out_old out_new left end (
+        closed_on (option_map length left) (total_of taken left) (total_from taken left none) before before after left left end (talked_none before left)
+        (subst (λ (s : Option (List ℕ)). Closed moves w before after (reading s remains) (total_of taken left) end) (from_start held left empty) closed)
         )
 
     -- ---- one message that was asked
@@ -361,23 +399,28 @@ module _ {T : Type 0} (moves : T → Ask → Result Answer DeskFault → T → T
     one_either ask (Err (faults.Broken fault)) = inl (one_enough ask (Err (faults.Broken fault)) (λ is. absurd cc))
     one_either ask (Err faults.NoMemory) = inr (one_lacks ask (Err faults.NoMemory) refl)
 
-    one_text : (sa sb : Option (List ℕ)) (exchange : Exchange) → Appends sa sb (exchange_text exchange) → Appends sa sb (texts (exchange ∷ []))
-    one_text sa sb exchange wrote = subst (Appends sa sb) (sym (append-nil (exchange_text exchange))) wrote
+    one_text : (a b : W) (exchange : Exchange) → Appends (w.said a) (w.said b) (exchange_text exchange) → Appends (w.said a) (w.said b) (texts (exchange ∷ []))
+    one_text a b exchange wrote = subst (Appends (w.said a) (w.said b)) (sym (append-nil (exchange_text exchange))) wrote
 
-    one_moment : (ma mb : Option (List ℕ)) (exchange : Exchange) → Appends ma mb (exchange_moment exchange) → Appends ma mb (moments_of (exchange ∷ []))
-    one_moment ma mb exchange wrote = subst (Appends ma mb) (sym (append-nil (exchange_moment exchange))) wrote
+    one_moment : (a b : W) (exchange : Exchange) → Appends (w.moments a) (w.moments b) (exchange_moment exchange) → Appends (w.moments a) (w.moments b) (moments_of (exchange ∷ []))
+    one_moment a b exchange wrote = subst (Appends (w.moments a) (w.moments b)) (sym (append-nil (exchange_moment exchange))) wrote
+
+    -- where no answer is said there is no moment
+    no_moment : (a b : W) → w.moments b ≡ w.moments a → Appends (w.moments a) (w.moments b) []
+    no_moment a b same = subst (λ (m : Option (List ℕ)). Appends (w.moments a) m []) (sym same) (Appends-nil (w.moments a))
 
     -- want of memory has no moment
-    lack_moment : (ma mb : Option (List ℕ)) (ask : Ask) (told : Result Answer DeskFault) → mb ≡ ma → told ≡ Err faults.NoMemory → Appends ma mb (moments_of (one_call ask told))
-    lack_moment ma mb ask told same is =
-        subst (λ (t : Result Answer DeskFault). Appends ma mb (moments_of (one_call ask t))) (sym is) (subst (λ (m : Option (List ℕ)). Appends ma m []) (sym same) (Appends-nil ma))
+    lack_moment : (a b : W) (ask : Ask) (told : Result Answer DeskFault) → w.moments b ≡ w.moments a → told ≡ Err faults.NoMemory
+        → Appends (w.moments a) (w.moments b) (moments_of (one_call ask told))
+    lack_moment a b ask told same is =
+        subst (λ (t : Result Answer DeskFault). Appends (w.moments a) (w.moments b) (moments_of (one_call ask t))) (sym is) (no_moment a b same)
 
-    closed_one : (old new : T) (sa sb ma mb a b : Option (List ℕ)) (total : Option ℕ) (ask : Ask) (last : Bool)
-        (said : Result Answer DeskFault) (end : SessionEnd) (whole : List Exchange) (written : List ℕ)
-        → moves old ask said new → StandsItem a (asks ask) last b → IsHeldBack b remains → Appends sa sb written
-        → Appends ma mb (moments_of whole) → IsWritten total end (one_call ask said) whole b last written
-        → LacksBy end (one_call ask said) → (end ≡ ends.ReadFault → ⊥) → Closed moves old new sa sb ma mb (reading a remains) total end
-    closed_one old new sa sb ma mb a b total ask last said end whole written moved heard held wrote stamped is lacked other = record {
+    closed_one : (old new : Sides T W) (a b : Option (List ℕ)) (total : Option ℕ) (ask : Ask) (last : Bool) (said : Result Answer DeskFault) (end : SessionEnd)
+        (whole : List Exchange) (written : List ℕ)
+        → moves old.teller ask said new.teller → StandsItem a (asks ask) last b → IsHeldBack b remains → Appends (w.said old.out) (w.said new.out) written
+        → Appends (w.moments old.out) (w.moments new.out) (moments_of whole) → IsWritten total end (one_call ask said) whole b last written
+        → LacksBy end (one_call ask said) → (end ≡ ends.ReadFault → ⊥) → Closed moves w old new (reading a remains) total end
+    closed_one old new a b total ask last said end whole written moved heard held wrote stamped is lacked other = record {
       talk = record {
         exchanges = one_call ask said;
         rest = b;
@@ -390,79 +433,77 @@ module _ {T : Type 0} (moves : T → Ask → Result Answer DeskFault → T → T
         behind = λ is. held;
         begun = λ is. absurd (other is);
       };
-      moved = (new, moved, refl);
+      moved = (new.teller, moved, refl);
       said = wrote;
       stamped = stamped;
     }
 
     -- it was answered, and the session goes on unless it was the last
-    pub asked_on : (old new : T) (sa sb ma mb a b : Option (List ℕ)) (total : Option ℕ) (ask : Ask) (last : Bool) (done result : Result Unit SessionEnd) → IsOk done
-        → AnswersOne moves old new sa sb ma mb ask done → StandsItem a (asks ask) last b → IsHeldBack b remains → (last ≡ false → IsOk result) → (last ≡ true → result ≡ Err ends.Ended)
-        → Went moves old new sa sb ma mb (reading a remains) b total result
-    asked_on old new sa sb ma mb a b total ask last (Err e) result ok told heard held goes stops = absurd cc
-    asked_on old new sa sb ma mb a b total ask true (Ok x) result ok told heard held goes stops =
+    pub asked_on : (old new : Sides T W) (a b : Option (List ℕ)) (total : Option ℕ) (ask : Ask) (last : Bool) (done result : Result Unit SessionEnd) → IsOk done
+        → AnswersOne moves w old new ask done → StandsItem a (asks ask) last b → IsHeldBack b remains → (last ≡ false → IsOk result) → (last ≡ true → result ≡ Err ends.Ended)
+        → Went moves w old new (reading a remains) b total result
+    asked_on old new a b total ask last (Err e) result ok told heard held goes stops = absurd cc
+    asked_on old new a b total ask true (Ok x) result ok told heard held goes stops =
         let exchange = answered (record { ask = ask; said = told.told }) in
-        subst (Went moves old new sa sb ma mb (reading a remains) b total) (sym (stops refl))
-        (closed_one old new sa sb ma mb a b total ask true told.told ends.Ended (one_call ask told.told) (texts (one_call ask told.told)) told.moved heard held (one_text sa sb exchange told.said.0)
-        (one_moment ma mb exchange told.said.1) (refl, inl (refl, refl)) (one_enough ask told.told told.said.2) (λ is. absurd cc))
-    asked_on old new sa sb ma mb a b total ask false (Ok x) (Err e) ok told heard held goes stops = absurd (let e = goes refl in cc)
-    asked_on old new sa sb ma mb a b total ask false (Ok x) (Ok y) ok told heard held goes stops = record {
-      exchanges = one_call ask told.told;
-      moved = (new, told.moved, refl);
-      heard = hears_one a b (answered (record { ask = ask; said = told.told })) false heard;
-      said = one_text sa sb (answered (record { ask = ask; said = told.told })) told.said.0;
-      stamped = one_moment ma mb (answered (record { ask = ask; said = told.told })) told.said.1;
-      enough = one_enough ask told.told told.said.2;
-    }
+        subst (Went moves w old new (reading a remains) b total) (sym (stops refl))
+        (closed_one old new a b total ask true told.told ends.Ended (one_call ask told.told) (texts (one_call ask told.told)) told.moved heard held
+        (one_text old.out new.out exchange told.said.0)
+        (one_moment old.out new.out exchange told.said.1) (refl, inl (refl, refl)) (one_enough ask told.told told.said.2) (λ is. absurd cc))
+    asked_on old new a b total ask false (Ok x) (Err e) ok told heard held goes stops = absurd (let e = goes refl in cc)
+    asked_on old new a b total ask false (Ok x) (Ok y) ok told heard held goes stops =
+        let exchange = answered (record { ask = ask; said = told.told }) in
+        record {
+          exchanges = one_call ask told.told;
+          moved = (new.teller, told.moved, refl);
+          heard = hears_one a b exchange false heard;
+          said = one_text old.out new.out exchange told.said.0;
+          stamped = one_moment old.out new.out exchange told.said.1;
+          enough = one_enough ask told.told told.said.2;
+        }
 
     -- its text was cut, or that of want of memory in its place
-    asked_cut : (old new : T) (sa sb ma mb a b : Option (List ℕ)) (total : Option ℕ) (ask : Ask) (last : Bool) (told : Result Answer DeskFault) → moves old ask told new
-        → StandsItem a (asks ask) last b → IsHeldBack b remains → mb ≡ ma → SaysFront sa sb (text_of told) ⊎ (IsLong told × SaysFront sa sb no_memory_text)
-        → Closed moves old new sa sb ma mb (reading a remains) total ends.WriteFault
-    asked_cut old new sa sb ma mb a b total ask last told moved heard held same (inl x) =
-        closed_one old new sa sb ma mb a b total ask last told ends.WriteFault [] (take x.0 (text_of told)) moved heard held x.1
-        (subst (λ (m : Option (List ℕ)). Appends ma m []) (sym same) (Appends-nil ma))
+    asked_cut : (old new : Sides T W) (a b : Option (List ℕ)) (total : Option ℕ) (ask : Ask) (last : Bool) (told : Result Answer DeskFault) → moves old.teller ask told new.teller
+        → StandsItem a (asks ask) last b → IsHeldBack b remains → SaysFront w old.out new.out (text_of told) ⊎ (IsLong told × SaysFront w old.out new.out no_memory_text)
+        → Closed moves w old new (reading a remains) total ends.WriteFault
+    asked_cut old new a b total ask last told moved heard held (inl x) =
+        closed_one old new a b total ask last told ends.WriteFault [] (take x.0 (text_of told)) moved heard held x.1.said (no_moment old.out new.out x.1.moments)
         (inl (record { last = answered (record { ask = ask; said = told }); n = x.0; are = refl; is = refl })) (one_either ask told) (λ is. absurd cc)
-    asked_cut old new sa sb ma mb a b total ask last told moved heard held same (inr (long, x)) =
-        closed_one old new sa sb ma mb a b total ask last told ends.WriteFault [] (take x.0 no_memory_text) moved heard held x.1
-        (subst (λ (m : Option (List ℕ)). Appends ma m []) (sym same) (Appends-nil ma))
+    asked_cut old new a b total ask last told moved heard held (inr (long, x)) =
+        closed_one old new a b total ask last told ends.WriteFault [] (take x.0 no_memory_text) moved heard held x.1.said (no_moment old.out new.out x.1.moments)
         (inr (inl (x.0, record { last = record { ask = ask; said = told }; are = refl; long = long; is = refl }))) (one_either ask told) (λ is. absurd cc)
 
     -- memory ran out, in the call or for its text
-    asked_lack : (old new : T) (sa sb ma mb a b : Option (List ℕ)) (total : Option ℕ) (ask : Ask) (last : Bool) (told : Result Answer DeskFault) → moves old ask told new
-        → StandsItem a (asks ask) last b → IsHeldBack b remains → mb ≡ ma → ((told ≡ Err faults.NoMemory) × Appends sa sb (text_of told)) ⊎ (IsLong told × Appends sa sb no_memory_text)
-        → Closed moves old new sa sb ma mb (reading a remains) total ends.NoMemory
-    asked_lack old new sa sb ma mb a b total ask last told moved heard held same (inl (is, x)) =
-        closed_one old new sa sb ma mb a b total ask last told ends.NoMemory (one_call ask told) (texts (one_call ask told)) moved heard held
-        (one_text sa sb (answered (record { ask = ask; said = told })) x) (lack_moment ma mb ask told same is)
+    asked_lack : (old new : Sides T W) (a b : Option (List ℕ)) (total : Option ℕ) (ask : Ask) (last : Bool) (told : Result Answer DeskFault) → moves old.teller ask told new.teller
+        → StandsItem a (asks ask) last b → IsHeldBack b remains
+        → ((told ≡ Err faults.NoMemory) × Says w old.out new.out (text_of told)) ⊎ (IsLong told × Says w old.out new.out no_memory_text)
+        → Closed moves w old new (reading a remains) total ends.NoMemory
+    asked_lack old new a b total ask last told moved heard held (inl (is, x)) =
+        closed_one old new a b total ask last told ends.NoMemory (one_call ask told) (texts (one_call ask told)) moved heard held
+        (one_text old.out new.out (answered (record { ask = ask; said = told })) x.said) (lack_moment old.out new.out ask told x.moments is)
         (inr (refl, inl (one_lacks ask told is, refl))) (inr (one_lacks ask told is)) (λ is. absurd cc)
-    asked_lack old new sa sb ma mb a b total ask last told moved heard held same (inr (long, x)) =
-        closed_one old new sa sb ma mb a b total ask last told ends.NoMemory [] no_memory_text moved heard held x
-        (subst (λ (m : Option (List ℕ)). Appends ma m []) (sym same) (Appends-nil ma))
+    asked_lack old new a b total ask last told moved heard held (inr (long, x)) =
+        closed_one old new a b total ask last told ends.NoMemory [] no_memory_text moved heard held x.said (no_moment old.out new.out x.moments)
         (inl (record { last = record { ask = ask; said = told }; are = refl; long = long; is = refl })) (one_either ask told) (λ is. absurd cc)
 
     -- it was answered, or not in full, and this ended the session
-    pub asked_end : (old new : T) (sa sb ma mb a b : Option (List ℕ)) (total : Option ℕ) (ask : Ask) (last : Bool) (end : SessionEnd) → AnswersOne moves old new sa sb ma mb ask (Err end)
-        → StandsItem a (asks ask) last b → IsHeldBack b remains → Closed moves old new sa sb ma mb (reading a remains) total end
-    asked_end old new sa sb ma mb a b total ask last ends.WriteFault done heard held =
-        asked_cut old new sa sb ma mb a b total ask last done.told done.moved heard held done.said.0 done.said.1
-    asked_end old new sa sb ma mb a b total ask last ends.NoMemory done heard held =
-        asked_lack old new sa sb ma mb a b total ask last done.told done.moved heard held done.said.0 done.said.1
-    asked_end old new sa sb ma mb a b total ask last ends.Ended done heard held = absurd done.said
-    asked_end old new sa sb ma mb a b total ask last ends.ReadFault done heard held = absurd done.said
-    asked_end old new sa sb ma mb a b total ask last ends.Spent done heard held = absurd done.said
+    pub asked_end : (old new : Sides T W) (a b : Option (List ℕ)) (total : Option ℕ) (ask : Ask) (last : Bool) (end : SessionEnd) → AnswersOne moves w old new ask (Err end)
+        → StandsItem a (asks ask) last b → IsHeldBack b remains → Closed moves w old new (reading a remains) total end
+    asked_end old new a b total ask last ends.WriteFault done heard held = asked_cut old new a b total ask last done.told done.moved heard held done.said
+    asked_end old new a b total ask last ends.NoMemory done heard held = asked_lack old new a b total ask last done.told done.moved heard held done.said
+    asked_end old new a b total ask last ends.Ended done heard held = absurd done.said
+    asked_end old new a b total ask last ends.ReadFault done heard held = absurd done.said
+    asked_end old new a b total ask last ends.Spent done heard held = absurd done.said
 
     -- ---- one message that was refused
 
     abbrev one_refusal : Refused → List Exchange
     one_refusal broken = refused broken ∷ []
 
-    closed_refusal : (old : T) (sa sb m a b : Option (List ℕ)) (total : Option ℕ) (broken : Refused) (last : Bool) (end : SessionEnd) (whole : List Exchange) (written : List ℕ)
-        → StandsItem a (refuses broken) last b → IsHeldBack b remains → Appends sa sb written
-        → Appends m m (moments_of whole) → IsWritten total end (one_refusal broken) whole b last written
-        → LacksBy end (one_refusal broken)
-        → (end ≡ ends.ReadFault → ⊥) → Closed moves old old sa sb m m (reading a remains) total end
-    closed_refusal old sa sb m a b total broken last end whole written heard held wrote stamped is lacked other = record {
+    closed_refusal : (at : T) (oa ob : W) (a b : Option (List ℕ)) (total : Option ℕ) (broken : Refused) (last : Bool) (end : SessionEnd) (whole : List Exchange) (written : List ℕ)
+        → StandsItem a (refuses broken) last b → IsHeldBack b remains → Says w oa ob written → moments_of whole ≡ []
+        → IsWritten total end (one_refusal broken) whole b last written → LacksBy end (one_refusal broken)
+        → (end ≡ ends.ReadFault → ⊥) → Closed moves w (sides at oa) (sides at ob) (reading a remains) total end
+    closed_refusal at oa ob a b total broken last end whole written heard held says none is lacked other = record {
       talk = record {
         exchanges = one_refusal broken;
         rest = b;
@@ -476,33 +517,37 @@ module _ {T : Type 0} (moves : T → Ask → Result Answer DeskFault → T → T
         begun = λ is. absurd (other is);
       };
       moved = refl;
-      said = wrote;
-      stamped = stamped;
+      said = says.said;
+      stamped = subst (Appends (w.moments oa) (w.moments ob)) (sym none) (no_moment oa ob says.moments);
     }
 
+    -- the text of a refusal is that of its exchange
+    refusal_says : (oa ob : W) (broken : Refused) → Says w oa ob (bad_text broken) → Says w oa ob (texts (one_refusal broken))
+    refusal_says oa ob broken says = record { said = one_text oa ob (refused broken) says.said; moments = says.moments }
+
     -- it was answered, and the session goes on unless it was the last
-    refused_on : (old : T) (sa sb m a b : Option (List ℕ)) (total : Option ℕ) (broken : Refused) (last : Bool) (done result : Result Unit SessionEnd) → IsOk done → IsRefusedBy sa sb broken done
+    refused_on : (at : T) (oa ob : W) (a b : Option (List ℕ)) (total : Option ℕ) (broken : Refused) (last : Bool) (done result : Result Unit SessionEnd) → IsOk done → IsRefusedBy w oa ob broken done
         → StandsItem a (refuses broken) last b → IsHeldBack b remains → (last ≡ false → IsOk result)
-        → (last ≡ true → result ≡ Err ends.Ended) → Went moves old old sa sb m m (reading a remains) b total result
-    refused_on old sa sb m a b total broken last (Err e) result ok told heard held goes stops = absurd cc
-    refused_on old sa sb m a b total broken true (Ok x) result ok told heard held goes stops =
-        subst (Went moves old old sa sb m m (reading a remains) b total) (sym (stops refl))
-        (closed_refusal old sa sb m a b total broken true ends.Ended (one_refusal broken) (texts (one_refusal broken)) heard held (one_text sa sb (refused broken) told) (Appends-nil m)
+        → (last ≡ true → result ≡ Err ends.Ended) → Went moves w (sides at oa) (sides at ob) (reading a remains) b total result
+    refused_on at oa ob a b total broken last (Err e) result ok told heard held goes stops = absurd cc
+    refused_on at oa ob a b total broken true (Ok x) result ok told heard held goes stops =
+        subst (Went moves w (sides at oa) (sides at ob) (reading a remains) b total) (sym (stops refl))
+        (closed_refusal at oa ob a b total broken true ends.Ended (one_refusal broken) (texts (one_refusal broken)) heard held (refusal_says oa ob broken told) refl
         (refl, inl (refl, refl)) (All-nil IsNoLack) (λ is. absurd cc))
-    refused_on old sa sb m a b total broken false (Ok x) (Err e) ok told heard held goes stops = absurd (let e = goes refl in cc)
-    refused_on old sa sb m a b total broken false (Ok x) (Ok y) ok told heard held goes stops = record {
+    refused_on at oa ob a b total broken false (Ok x) (Err e) ok told heard held goes stops = absurd (let e = goes refl in cc)
+    refused_on at oa ob a b total broken false (Ok x) (Ok y) ok told heard held goes stops = record {
       exchanges = one_refusal broken;
       moved = refl;
       heard = hears_one a b (refused broken) false heard;
-      said = one_text sa sb (refused broken) told;
-      stamped = Appends-nil m;
+      said = one_text oa ob (refused broken) told.said;
+      stamped = no_moment oa ob told.moments;
       enough = All-nil IsNoLack;
     }
 
     -- nothing was answered
-    pub closed_here : (old : T) (sa sb m a : Option (List ℕ)) (total : Option ℕ) (end : SessionEnd) (written : List ℕ) → Appends sa sb written → IsWritten total end [] [] a false written
-        → LacksBy end [] → (end ≡ ends.ReadFault → IsBegun a remains) → Closed moves old old sa sb m m (reading a remains) total end
-    closed_here old sa sb m a total end written wrote is lacked begun = record {
+    pub closed_here : (at : T) (oa ob : W) (a : Option (List ℕ)) (total : Option ℕ) (end : SessionEnd) (written : List ℕ) → Says w oa ob written → IsWritten total end [] [] a false written
+        → LacksBy end [] → (end ≡ ends.ReadFault → IsBegun a remains) → Closed moves w (sides at oa) (sides at ob) (reading a remains) total end
+    closed_here at oa ob a total end written says is lacked begun = record {
       talk = record {
         exchanges = [];
         rest = a;
@@ -516,133 +561,99 @@ module _ {T : Type 0} (moves : T → Ask → Result Answer DeskFault → T → T
         begun = begun;
       };
       moved = refl;
-      said = wrote;
-      stamped = Appends-nil m;
+      said = says.said;
+      stamped = no_moment oa ob says.moments;
     }
 
+    -- it was said that memory ran out, and no message was answered
+    last_words : (at : T) (oa ob : W) (a : Option (List ℕ)) (total : Option ℕ) (end : SessionEnd) → SaysNoMemory w oa ob end
+        → Closed moves w (sides at oa) (sides at ob) (reading a remains) total end
+    last_words at oa ob a total ends.NoMemory says =
+        closed_here at oa ob a total ends.NoMemory no_memory_text says (inr (refl, inr (refl, All-nil IsNoLack, refl))) (inl (All-nil IsNoLack)) (λ is. absurd cc)
+    last_words at oa ob a total ends.WriteFault (n, says) =
+        closed_here at oa ob a total ends.WriteFault (take n no_memory_text) says (inr (inr (refl, refl, inr (n, refl)))) (inl (All-nil IsNoLack)) (λ is. absurd cc)
+    last_words at oa ob a total ends.Ended says = absurd says
+    last_words at oa ob a total ends.ReadFault says = absurd says
+    last_words at oa ob a total ends.Spent says = absurd says
+
     -- its text was cut, or there was no memory for it
-    refused_end : (old : T) (sa sb m a b : Option (List ℕ)) (total : Option ℕ) (broken : Refused) (last : Bool) (end : SessionEnd) → IsRefusedBy sa sb broken (Err end)
-        → StandsItem a (refuses broken) last b → IsHeldBack b remains → Closed moves old old sa sb m m (reading a remains) total end
-    refused_end old sa sb m a b total broken last ends.WriteFault (inl x) heard held =
-        closed_refusal old sa sb m a b total broken last ends.WriteFault [] (take x.0 (bad_text broken)) heard held x.1 (Appends-nil m)
+    refused_end : (at : T) (oa ob : W) (a b : Option (List ℕ)) (total : Option ℕ) (broken : Refused) (last : Bool) (end : SessionEnd) → IsRefusedBy w oa ob broken (Err end)
+        → StandsItem a (refuses broken) last b → IsHeldBack b remains → Closed moves w (sides at oa) (sides at ob) (reading a remains) total end
+    refused_end at oa ob a b total broken last ends.WriteFault (inl x) heard held =
+        closed_refusal at oa ob a b total broken last ends.WriteFault [] (take x.0 (bad_text broken)) heard held x.1 refl
         (inl (record { last = refused broken; n = x.0; are = refl; is = refl })) (inl (All-nil IsNoLack)) (λ is. absurd cc)
-    refused_end old sa sb m a b total broken last ends.WriteFault (inr x) heard held =
-        closed_here old sa sb m a total ends.WriteFault (take x.0 no_memory_text) x.1 (inr (inr (refl, refl, inr (x.0, refl)))) (inl (All-nil IsNoLack)) (λ is. absurd cc)
-    refused_end old sa sb m a b total broken last ends.NoMemory said heard held =
-        closed_here old sa sb m a total ends.NoMemory no_memory_text said (inr (refl, inr (refl, All-nil IsNoLack, refl))) (inl (All-nil IsNoLack)) (λ is. absurd cc)
-    refused_end old sa sb m a b total broken last ends.Ended said heard held = absurd said
-    refused_end old sa sb m a b total broken last ends.ReadFault said heard held = absurd said
-    refused_end old sa sb m a b total broken last ends.Spent said heard held = absurd said
+    refused_end at oa ob a b total broken last ends.WriteFault (inr x) heard held = last_words at oa ob a total ends.WriteFault x
+    refused_end at oa ob a b total broken last ends.NoMemory says heard held = last_words at oa ob a total ends.NoMemory says
+    refused_end at oa ob a b total broken last ends.Ended says heard held = absurd says
+    refused_end at oa ob a b total broken last ends.ReadFault says heard held = absurd says
+    refused_end at oa ob a b total broken last ends.Spent says heard held = absurd says
 
     -- ---- the end of a session
 
     -- what stands there is not served, and it was answered
-    unbuilt_on : (old : T) (sa sb m a b : Option (List ℕ)) (total : Option ℕ) (last : Bool) (done result : Result Unit SessionEnd) → IsOk done → IsRefusedBy sa sb not_built done
-        → StandsUnbuilt a × (last ≡ true) → IsUnspent total a → (last ≡ true → result ≡ Err ends.Ended) → Went moves old old sa sb m m (reading a remains) b total result
-    unbuilt_on old sa sb m a b total last (Err e) result ok said stands within stops = absurd cc
-    unbuilt_on old sa sb m a b total last (Ok x) result ok said stands within stops =
-        subst (Went moves old old sa sb m m (reading a remains) b total) (sym (stops stands.1))
-        (closed_here old sa sb m a total ends.Ended not_built_text said (refl, inr (refl, inr (stands.0, within, refl))) (All-nil IsNoLack) (λ is. absurd cc))
+    unbuilt_on : (at : T) (oa ob : W) (a b : Option (List ℕ)) (total : Option ℕ) (last : Bool) (done result : Result Unit SessionEnd) → IsOk done → IsRefusedBy w oa ob not_built done
+        → StandsUnbuilt a × (last ≡ true) → IsUnspent total a → (last ≡ true → result ≡ Err ends.Ended) → Went moves w (sides at oa) (sides at ob) (reading a remains) b total result
+    unbuilt_on at oa ob a b total last (Err e) result ok says stands within stops = absurd cc
+    unbuilt_on at oa ob a b total last (Ok x) result ok says stands within stops =
+        subst (Went moves w (sides at oa) (sides at ob) (reading a remains) b total) (sym (stops stands.1))
+        (closed_here at oa ob a total ends.Ended not_built_text says (refl, inr (refl, inr (stands.0, within, refl))) (All-nil IsNoLack) (λ is. absurd cc))
 
-    unbuilt_end : (old : T) (sa sb m a : Option (List ℕ)) (total : Option ℕ) (end : SessionEnd)
-        → IsRefusedBy sa sb not_built (Err end) → StandsUnbuilt a → IsUnspent total a
-        → Closed moves old old sa sb m m (reading a remains) total end
-    unbuilt_end old sa sb m a total ends.WriteFault (inl x) stands within =
-        closed_here old sa sb m a total ends.WriteFault (take x.0 not_built_text) x.1 (inr (inr (refl, refl, inl (x.0, stands, within, refl)))) (inl (All-nil IsNoLack)) (λ is. absurd cc)
-    unbuilt_end old sa sb m a total ends.WriteFault (inr x) stands within =
-        closed_here old sa sb m a total ends.WriteFault (take x.0 no_memory_text) x.1 (inr (inr (refl, refl, inr (x.0, refl)))) (inl (All-nil IsNoLack)) (λ is. absurd cc)
-    unbuilt_end old sa sb m a total ends.NoMemory said stands within =
-        closed_here old sa sb m a total ends.NoMemory no_memory_text said (inr (refl, inr (refl, All-nil IsNoLack, refl))) (inl (All-nil IsNoLack)) (λ is. absurd cc)
-    unbuilt_end old sa sb m a total ends.Ended said stands within = absurd said
-    unbuilt_end old sa sb m a total ends.ReadFault said stands within = absurd said
-    unbuilt_end old sa sb m a total ends.Spent said stands within = absurd said
+    unbuilt_end : (at : T) (oa ob : W) (a : Option (List ℕ)) (total : Option ℕ) (end : SessionEnd)
+        → IsRefusedBy w oa ob not_built (Err end) → StandsUnbuilt a → IsUnspent total a
+        → Closed moves w (sides at oa) (sides at ob) (reading a remains) total end
+    unbuilt_end at oa ob a total ends.WriteFault (inl x) stands within =
+        closed_here at oa ob a total ends.WriteFault (take x.0 not_built_text) x.1 (inr (inr (refl, refl, inl (x.0, stands, within, refl)))) (inl (All-nil IsNoLack)) (λ is. absurd cc)
+    unbuilt_end at oa ob a total ends.WriteFault (inr x) stands within = last_words at oa ob a total ends.WriteFault x
+    unbuilt_end at oa ob a total ends.NoMemory says stands within = last_words at oa ob a total ends.NoMemory says
+    unbuilt_end at oa ob a total ends.Ended says stands within = absurd says
+    unbuilt_end at oa ob a total ends.ReadFault says stands within = absurd says
+    unbuilt_end at oa ob a total ends.Spent says stands within = absurd says
 
     -- a message that asks nothing was answered
-    some_bad_on : (old : T) (sa sb m a b : Option (List ℕ)) (total : Option ℕ) (broken : Refused) (last : Bool) (done result : Result Unit SessionEnd) → IsOk done → IsRefusedBy sa sb broken done
+    pub bad_on : (at : T) (oa ob : W) (a b : Option (List ℕ)) (total : Option ℕ) (broken : Refused) (last : Bool) (done result : Result Unit SessionEnd) → IsOk done → IsRefusedBy w oa ob broken done
         → TellsRefused a broken last b → IsUnspent total a → IfServed broken (IsHeldBack b remains)
         → (last ≡ false → IsOk result) → (last ≡ true → result ≡ Err ends.Ended)
-        → Went moves old old sa sb m m (reading a remains) b total result
-    some_bad_on old sa sb m a b total not_built last done result ok said tells within held goes stops = unbuilt_on old sa sb m a b total last done result ok said tells within stops
-    some_bad_on old sa sb m a b total broken last done result ok said tells within held goes stops = refused_on old sa sb m a b total broken last done result ok said tells held goes stops
+        → Went moves w (sides at oa) (sides at ob) (reading a remains) b total result
+    bad_on at oa ob a b total not_built last done result ok says tells within held goes stops = unbuilt_on at oa ob a b total last done result ok says tells within stops
+    bad_on at oa ob a b total broken last done result ok says tells within held goes stops = refused_on at oa ob a b total broken last done result ok says tells held goes stops
 
-    some_bad_end : (old : T) (sa sb m a b : Option (List ℕ)) (total : Option ℕ) (broken : Refused) (last : Bool) (end : SessionEnd) → IsRefusedBy sa sb broken (Err end)
-        → TellsRefused a broken last b → IsUnspent total a → IfServed broken (IsHeldBack b remains) → Closed moves old old sa sb m m (reading a remains) total end
-    some_bad_end old sa sb m a b total not_built last end said tells within held = unbuilt_end old sa sb m a total end said tells.0 within
-    some_bad_end old sa sb m a b total broken last end said tells within held = refused_end old sa sb m a b total broken last end said tells held
+    pub bad_end : (at : T) (oa ob : W) (a b : Option (List ℕ)) (total : Option ℕ) (broken : Refused) (last : Bool) (end : SessionEnd) → IsRefusedBy w oa ob broken (Err end)
+        → TellsRefused a broken last b → IsUnspent total a → IfServed broken (IsHeldBack b remains) → Closed moves w (sides at oa) (sides at ob) (reading a remains) total end
+    bad_end at oa ob a b total not_built last end says tells within held = unbuilt_end at oa ob a total end says tells.0 within
+    bad_end at oa ob a b total broken last end says tells within held = refused_end at oa ob a b total broken last end says tells held
 
-    pub bad_on : (old : T) (sa sb ma mb a b : Option (List ℕ)) (total : Option ℕ) (broken : Refused) (last : Bool)
-        (done result : Result Unit SessionEnd)
-        → mb ≡ ma → IsOk done → IsRefusedBy sa sb broken done
-        → TellsRefused a broken last b → IsUnspent total a → IfServed broken (IsHeldBack b remains)
-        → (last ≡ false → IsOk result) → (last ≡ true → result ≡ Err ends.Ended)
-        → Went moves old old sa sb ma mb (reading a remains) b total result
-    bad_on old sa sb ma mb a b total broken last done result same ok said tells within held goes stops =
-        subst (λ (m : Option (List ℕ)). Went moves old old sa sb ma m (reading a remains) b total result) (sym same)
-        (some_bad_on old sa sb ma a b total broken last done result ok said tells within held goes stops)
+    -- nothing was said
+    silent : (at : T) (oa ob : W) (a : Option (List ℕ)) (total : Option ℕ) (end kind : SessionEnd) → (end ≡ kind) × (ob ≡ oa) → IsWritten total kind [] [] a false [] → LacksBy kind []
+        → (kind ≡ ends.ReadFault → IsBegun a remains) → Closed moves w (sides at oa) (sides at ob) (reading a remains) total end
+    silent at oa ob a total end kind x is lacked begun =
+        subst (λ (e : SessionEnd). Closed moves w (sides at oa) (sides at ob) (reading a remains) total e) (sym x.0)
+        (subst (λ (o : W). Closed moves w (sides at oa) (sides at o) (reading a remains) total kind) (sym x.1)
+        (closed_here at oa oa a total kind [] (says_none oa) is lacked begun))
 
-    pub bad_end : (old : T) (sa sb ma mb a b : Option (List ℕ)) (total : Option ℕ) (broken : Refused) (last : Bool) (end : SessionEnd) → mb ≡ ma → IsRefusedBy sa sb broken (Err end)
-        → TellsRefused a broken last b → IsUnspent total a → IfServed broken (IsHeldBack b remains) → Closed moves old old sa sb ma mb (reading a remains) total end
-    bad_end old sa sb ma mb a b total broken last end same said tells within held =
-        subst (λ (m : Option (List ℕ)). Closed moves old old sa sb ma m (reading a remains) total end) (sym same) (some_bad_end old sa sb ma a b total broken last end said tells within held)
-
-    last_words : (old : T) (sa sb m a : Option (List ℕ)) (total : Option ℕ) (end : SessionEnd)
-        → ((end ≡ ends.NoMemory) × Appends sa sb no_memory_text)
-        ⊎ ((end ≡ ends.WriteFault) × ((n : ℕ) × Appends sa sb (take n no_memory_text)))
-        → Closed moves old old sa sb m m (reading a remains) total end
-    last_words old sa sb m a total end (inl x) =
-        subst (λ (e : SessionEnd). Closed moves old old sa sb m m (reading a remains) total e) (sym x.0)
-        (closed_here old sa sb m a total ends.NoMemory no_memory_text x.1 (inr (refl, inr (refl, All-nil IsNoLack, refl))) (inl (All-nil IsNoLack)) (λ is. absurd cc))
-    last_words old sa sb m a total end (inr x) =
-        subst (λ (e : SessionEnd). Closed moves old old sa sb m m (reading a remains) total e) (sym x.0)
-        (closed_here old sa sb m a total ends.WriteFault (take x.1.0 no_memory_text) x.1.1 (inr (inr (refl, refl, inr (x.1.0, refl)))) (inl (All-nil IsNoLack)) (λ is. absurd cc))
-
-    silent : (old : T) (sa sb m a : Option (List ℕ)) (total : Option ℕ) (end kind : SessionEnd) → (end ≡ kind) × (sb ≡ sa) → IsWritten total kind [] [] a false [] → LacksBy kind []
-        → (kind ≡ ends.ReadFault → IsBegun a remains) → Closed moves old old sa sb m m (reading a remains) total end
-    silent old sa sb m a total end kind x is lacked begun =
-        subst (λ (e : SessionEnd). Closed moves old old sa sb m m (reading a remains) total e) (sym x.0)
-        (closed_here old sa sb m a total kind [] (subst (λ (s : Option (List ℕ)). Appends sa s []) (sym x.1) (Appends-nil sa)) is lacked begun)
-
-    some_stop : (old : T) (sa sb m a : Option (List ℕ)) (total : Option ℕ) (stop : MessageStop) (end : SessionEnd)
-        → (stop ≡ stops.NoMemory → ((end ≡ ends.NoMemory) × Appends sa sb no_memory_text) ⊎ ((end ≡ ends.WriteFault) × ((n : ℕ) × Appends sa sb (take n no_memory_text))))
-        → (stop ≡ stops.ReadFault → (end ≡ ends.ReadFault) × (sb ≡ sa)) → (stop ≡ stops.Spent → (end ≡ ends.Spent) × (sb ≡ sa)) → (stop ≡ stops.Spent → IsSpent total a)
-        → (stop ≡ stops.ReadFault → IsBegun a remains) → Closed moves old old sa sb m m (reading a remains) total end
-    some_stop old sa sb m a total stops.NoMemory end said read spent unsettled begun = last_words old sa sb m a total end (said refl)
-    some_stop old sa sb m a total stops.ReadFault end said read spent unsettled begun =
-        silent old sa sb m a total end ends.ReadFault (read refl) (refl, refl, refl) (All-nil IsNoLack) (λ is. begun refl)
-    some_stop old sa sb m a total stops.Spent end said read spent unsettled begun =
-        silent old sa sb m a total end ends.Spent (spent refl) (refl, refl, unsettled refl, refl) (All-nil IsNoLack) (λ is. absurd cc)
-
-    pub last_stop : (old : T) (sa sb ma mb a : Option (List ℕ)) (total : Option ℕ) (stop : MessageStop) (end : SessionEnd) → mb ≡ ma
-        → (stop ≡ stops.NoMemory → ((end ≡ ends.NoMemory) × Appends sa sb no_memory_text) ⊎ ((end ≡ ends.WriteFault) × ((n : ℕ) × Appends sa sb (take n no_memory_text))))
-        → (stop ≡ stops.ReadFault → (end ≡ ends.ReadFault) × (sb ≡ sa)) → (stop ≡ stops.Spent → (end ≡ ends.Spent) × (sb ≡ sa)) → (stop ≡ stops.Spent → IsSpent total a)
-        → (stop ≡ stops.ReadFault → IsBegun a remains) → Closed moves old old sa sb ma mb (reading a remains) total end
-    last_stop old sa sb ma mb a total stop end same said read spent unsettled begun =
-        subst (λ (m : Option (List ℕ)). Closed moves old old sa sb ma m (reading a remains) total end) (sym same) (some_stop old sa sb ma a total stop end said read spent unsettled begun)
+    pub last_stop : (at : T) (oa ob : W) (a : Option (List ℕ)) (total : Option ℕ) (stop : MessageStop) (end : SessionEnd) → (stop ≡ stops.NoMemory → SaysNoMemory w oa ob end)
+        → (stop ≡ stops.ReadFault → (end ≡ ends.ReadFault) × (ob ≡ oa)) → (stop ≡ stops.Spent → (end ≡ ends.Spent) × (ob ≡ oa)) → (stop ≡ stops.Spent → IsSpent total a)
+        → (stop ≡ stops.ReadFault → IsBegun a remains) → Closed moves w (sides at oa) (sides at ob) (reading a remains) total end
+    last_stop at oa ob a total stops.NoMemory end says read spent unsettled begun = last_words at oa ob a total end (says refl)
+    last_stop at oa ob a total stops.ReadFault end says read spent unsettled begun =
+        silent at oa ob a total end ends.ReadFault (read refl) (refl, refl, refl) (All-nil IsNoLack) (λ is. begun refl)
+    last_stop at oa ob a total stops.Spent end says read spent unsettled begun =
+        silent at oa ob a total end ends.Spent (spent refl) (refl, refl, unsettled refl, refl) (All-nil IsNoLack) (λ is. absurd cc)
 
     -- a session that had no memory to begin with
-    pub session_lacks : {W : Type 0} (w : sinks.Ghosts W) (old : T) (out_old out_new : W) (left : Option (List ℕ)) (end : SessionEnd) → w.moments out_new ≡ w.moments out_old
-        → ((end ≡ ends.NoMemory) × Appends (w.said out_old) (w.said out_new) no_memory_text)
-        ⊎ ((end ≡ ends.WriteFault) × ((n : ℕ) × Appends (w.said out_old) (w.said out_new) (take n no_memory_text)))
-        → Session moves w old old out_old out_new (reading left remains) end
-    session_lacks w old out_old out_new left end same said =
-        let sa = w.said out_old in
-        let sb = w.said out_new in
-        let ma = w.moments out_old in
-        whole_session w old old out_old out_new left end
-        (subst (λ (m : Option (List ℕ)). Closed moves old old sa sb ma m (reading left remains) (option_map length left) end) (sym same)
-        (last_words old sa sb ma left (option_map length left) end said))
+    pub session_lacks : (at : T) (oa ob : W) (left : Option (List ℕ)) (end : SessionEnd) → SaysNoMemory w oa ob end → Session moves w at at oa ob (reading left remains) end
+    session_lacks at oa ob left end says = whole_session at at oa ob left end (last_words at oa ob left (option_map length left) end says)
 
     -- ---- how a message went
 
-    pub went_on : (old new : T) (sa sb ma mb a b : Option (List ℕ)) (total : Option ℕ) (result : Result Unit SessionEnd) → Went moves old new sa sb ma mb (reading a remains) b total result
-        → OnOk result (Talked moves old new sa sb ma mb a b)
-    went_on old new sa sb ma mb a b total (Ok x) went = went
-    went_on old new sa sb ma mb a b total (Err end) went = tt
+    pub went_on : (old new : Sides T W) (a b : Option (List ℕ)) (total : Option ℕ) (result : Result Unit SessionEnd) → Went moves w old new (reading a remains) b total result
+        → OnOk result (Talked moves w old new a b)
+    went_on old new a b total (Ok x) went = went
+    went_on old new a b total (Err end) went = tt
 
-    pub went_end : (old new : T) (sa sb ma mb a b : Option (List ℕ)) (total : Option ℕ) (result : Result Unit SessionEnd) → Went moves old new sa sb ma mb (reading a remains) b total result
-        → IfErr result (λ end. Closed moves old new sa sb ma mb (reading a remains) total end)
-    went_end old new sa sb ma mb a b total (Ok x) went = tt
-    went_end old new sa sb ma mb a b total (Err end) went = went
+    pub went_end : (old new : Sides T W) (a b : Option (List ℕ)) (total : Option ℕ) (result : Result Unit SessionEnd) → Went moves w old new (reading a remains) b total result
+        → IfErr result (λ end. Closed moves w old new (reading a remains) total end)
+    went_end old new a b total (Ok x) went = tt
+    went_end old new a b total (Err end) went = went
 
 held_if : (broken : Refused) (P Q : Type 0) → (P → Q) → IfServed broken P → IfServed broken Q
 held_if not_built P Q f p = tt

@@ -1,5 +1,5 @@
 -- What contracts see of two writers that take replies and notes.
-use Rattle.http_front.specs.declared.replies.WriterReplies.{WriterReplies}
+use Rattle.http_front.specs.declared.writer_replies.WriterReplies.{WriterReplies}
 
 -- the writer that takes replies and other texts
 abbrev pub out_of : {W N : Type 0} → WriterReplies W N → W

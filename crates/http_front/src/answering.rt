@@ -1,8 +1,8 @@
 // One message of a session and its answer.
-ghost use Rattle.std.specs.Prelude.{◌≡◌, ◌≤◌, ◌<◌, ◌+◌, ◌⊎◌, ℕ, List, Option, take, length};
-ghost use Rattle.std.specs.Prelude.{true, false, OnOk, IfOk, IfErr, IsErrOf, IsOk, Ok, Err, Some};
-ghost use Rattle.std.specs.Io.KnownBytes.{Appends, prepend_known};
-ghost use Rattle.office_base.specs.Faults.{Rose, HasCause};
+ghost use Rattle.std.specs.Prelude.{◌≡◌, ◌≤◌, ◌<◌, ◌+◌, ℕ, List, Option, length};
+ghost use Rattle.std.specs.Prelude.{true, false, OnOk, IfErr, IsErrOf, IsOk, Ok, Err};
+ghost use Rattle.std.specs.Io.KnownBytes.{prepend_known};
+ghost use Rattle.std.specs.Result.{IsErr};
 ghost use Rattle.desk_core.specs.declared.fault.DeskFault.{DeskFault};
 ghost use Rattle.http_wire.specs.Held.{take_limit};
 ghost use Rattle.http_text.specs.Shorts.{IsShort};
@@ -10,8 +10,9 @@ ghost use Rattle.http_asks.specs.Counts.{Given};
 ghost use Rattle.http_asks.specs.Faults.{refused_of};
 ghost use Rattle.http_asks.specs.Tells.{TellsHeard, OnItem};
 ghost use Rattle.http_front.specs.Counts.{IsUnder, IsUnspent, IsHeldBack, reading, total_of};
-ghost use Rattle.http_front.specs.Talk.{IsSaid, IsRefusedBy, AnswersOne, Talked, Closed, Went};
-ghost use Rattle.http_front.specs.Texts.{bad_text_of, no_memory_text};
+ghost use Rattle.http_front.specs.Saying.{OnlyReads, OnlySays, Says, SaysFront};
+ghost use Rattle.http_front.specs.Talk.{SaysNoMemory, IsSaid, IsRefusedBy, sides, AnswersOne, Talked, Closed, Went};
+ghost use Rattle.http_front.specs.Texts.{bad_text_of};
 
 use crate::bad::Bad;
 use crate::printing::{print_fault, print_query, print_reply};
@@ -44,13 +45,9 @@ pub enum SessionEnd {
 // Says the reply to a message that has no answer of the office.
 fn say<W: Replies>(out: &mut W, bad: &Bad, bytes: &[u8]) -> Result<(), SessionEnd>
     requires { bytes.now ≡ bad_text_of bad.now }
-    ensures ok { OnOk result (Appends (W.said out.old) (W.said out.new) bytes.now) }
-    ensures err { IfErr result (λ e. (e ≡ SessionEnd.WriteFault) × ((n : ℕ)
-        × Appends (W.said out.old) (W.said out.new) (take n bytes.now))) }
-    ensures moments { W.moments out.new ≡ W.moments out.old }
-    ensures texts { W.texts out.new ≡ W.texts out.old }
-    ensures noted { W.noted out.new ≡ W.noted out.old }
-    ensures cause { HasCause (W.faults out.old) (W.faults out.new) result }
+    ensures ok { OnOk result (Says W.Replies out.old out.new bytes.now) }
+    ensures err { IfErr result (λ e. (e ≡ SessionEnd.WriteFault) × SaysFront W.Replies out.old out.new bytes.now) }
+    ensures only_says { OnlySays W.Replies out.old out.new (IsErr result) }
 {
     match out.say_bad(bad, bytes) {
         Ok(()) => Ok(()),
@@ -60,14 +57,8 @@ fn say<W: Replies>(out: &mut W, bad: &Bad, bytes: &[u8]) -> Result<(), SessionEn
 
 // Says that memory ran out, as the last text of a session.
 pub(crate) fn say_no_memory<W: Replies>(out: &mut W) -> SessionEnd
-    ensures said { ((result ≡ SessionEnd.NoMemory) × Appends (W.said out.old) (W.said out.new) no_memory_text)
-        ⊎ ((result ≡ SessionEnd.WriteFault) × ((n : ℕ)
-        × Appends (W.said out.old) (W.said out.new) (take n no_memory_text))) }
-    ensures moments { W.moments out.new ≡ W.moments out.old }
-    ensures texts { W.texts out.new ≡ W.texts out.old }
-    ensures noted { W.noted out.new ≡ W.noted out.old }
-    ensures later { W.faults out.old ≤ W.faults out.new }
-    ensures fault { result ≡ SessionEnd.WriteFault → Rose (W.faults out.old) (W.faults out.new) }
+    ensures said { SaysNoMemory W.Replies out.old out.new result }
+    ensures only_says { OnlySays W.Replies out.old out.new (result ≡ SessionEnd.WriteFault) }
 {
     match out.say_bad(&Bad::Desk(DeskFault::NoMemory), no_memory()) {
         Ok(()) => SessionEnd::NoMemory,
@@ -79,12 +70,9 @@ pub(crate) fn say_no_memory<W: Replies>(out: &mut W) -> SessionEnd
 fn say_short<W: Replies>(out: &mut W, room: &mut [u8], acked: &Acked) -> Result<(), SessionEnd>
     requires room { 16384 ≤ length room.old }
     requires short { IsShort acked.now.reply }
-    ensures said { IsSaid (W.said out.old) (W.said out.new) (W.moments out.old) (W.moments out.new)
-        (Ok acked.now) result }
+    ensures said { IsSaid W.Replies out.old out.new (Ok acked.now) result }
     ensures room { 16384 ≤ length room.new }
-    ensures texts { W.texts out.new ≡ W.texts out.old }
-    ensures noted { W.noted out.new ≡ W.noted out.old }
-    ensures cause { HasCause (W.faults out.old) (W.faults out.new) result }
+    ensures only_says { OnlySays W.Replies out.old out.new (IsErr result) }
 {
     match print_reply(room, acked) {
         Ok(size) => match out.say(acked, &room[..size]) {
@@ -99,12 +87,8 @@ fn say_short<W: Replies>(out: &mut W, room: &mut [u8], acked: &Acked) -> Result<
 #[tactic(auto, using(crate::proofs::SaidLemmas::said_instead))]
 fn say_long<W: Replies>(alloc: Global, out: &mut W, acked: &Acked) -> Result<(), SessionEnd>
     requires long { ¬ (IsShort acked.now.reply) }
-    ensures said { IsSaid (W.said out.old) (W.said out.new) (W.moments out.old) (W.moments out.new)
-        (Ok acked.now) result }
-    ensures texts { W.texts out.new ≡ W.texts out.old }
-    ensures noted { W.noted out.new ≡ W.noted out.old }
-    ensures later { W.faults out.old ≤ W.faults out.new }
-    ensures fault { IsErrOf result SessionEnd.WriteFault → Rose (W.faults out.old) (W.faults out.new) }
+    ensures said { IsSaid W.Replies out.old out.new (Ok acked.now) result }
+    ensures only_says { OnlySays W.Replies out.old out.new (IsErrOf result SessionEnd.WriteFault) }
 {
     match print_query(alloc, acked) {
         Ok(text) => match out.say(acked, &text) {
@@ -122,13 +106,9 @@ fn say_reply<W: Replies>(
     acked: &Acked,
 ) -> Result<(), SessionEnd>
     requires room { 16384 ≤ length room.old }
-    ensures said { IsSaid (W.said out.old) (W.said out.new) (W.moments out.old) (W.moments out.new)
-        (Ok acked.now) result }
+    ensures said { IsSaid W.Replies out.old out.new (Ok acked.now) result }
     ensures room { 16384 ≤ length room.new }
-    ensures texts { W.texts out.new ≡ W.texts out.old }
-    ensures noted { W.noted out.new ≡ W.noted out.old }
-    ensures later { W.faults out.old ≤ W.faults out.new }
-    ensures fault { IsErrOf result SessionEnd.WriteFault → Rose (W.faults out.old) (W.faults out.new) }
+    ensures only_says { OnlySays W.Replies out.old out.new (IsErrOf result SessionEnd.WriteFault) }
 {
     if is_short(acked.reply()) {
         say_short(out, room, acked)
@@ -139,12 +119,9 @@ fn say_reply<W: Replies>(
 
 fn say_fault<W: Replies>(out: &mut W, room: &mut [u8], fault: DeskFault) -> Result<(), SessionEnd>
     requires room { 16384 ≤ length room.old }
-    ensures said { IsSaid (W.said out.old) (W.said out.new) (W.moments out.old) (W.moments out.new) (Err fault) result }
+    ensures said { IsSaid W.Replies out.old out.new (Err fault) result }
     ensures room { 16384 ≤ length room.new }
-    ensures texts { W.texts out.new ≡ W.texts out.old }
-    ensures noted { W.noted out.new ≡ W.noted out.old }
-    ensures later { W.faults out.old ≤ W.faults out.new }
-    ensures fault { IsErrOf result SessionEnd.WriteFault → Rose (W.faults out.old) (W.faults out.new) }
+    ensures only_says { OnlySays W.Replies out.old out.new (IsErrOf result SessionEnd.WriteFault) }
 {
     match print_fault(room, &fault) {
         Ok(size) => match say(out, &Bad::Desk(fault), &room[..size]) {
@@ -174,13 +151,9 @@ fn answer<W: Replies, T: Teller>(
     teller: &mut T,
 ) -> Result<(), SessionEnd>
     requires room { 16384 ≤ length room.old }
-    ensures answers { AnswersOne T.moves teller.old teller.new (W.said out.old) (W.said out.new) (W.moments out.old)
-        (W.moments out.new) ask.now result }
+    ensures answers { AnswersOne T.moves W.Replies (sides teller.old out.old) (sides teller.new out.new) ask.now result }
     ensures room { 16384 ≤ length room.new }
-    ensures texts { W.texts out.new ≡ W.texts out.old }
-    ensures noted { W.noted out.new ≡ W.noted out.old }
-    ensures later { W.faults out.old ≤ W.faults out.new }
-    ensures fault { IsErrOf result SessionEnd.WriteFault → Rose (W.faults out.old) (W.faults out.new) }
+    ensures only_says { OnlySays W.Replies out.old out.new (IsErrOf result SessionEnd.WriteFault) }
 {
     match teller.ask(ask) {
         Ok(acked) => say_reply(alloc, out, room, &acked),
@@ -190,12 +163,8 @@ fn answer<W: Replies, T: Teller>(
 
 // Says the text of a refusal.
 fn say_bad<W: Replies>(alloc: Global, out: &mut W, bad: http_asks::Bad) -> Result<(), SessionEnd>
-    ensures said { IsRefusedBy (W.said out.old) (W.said out.new) (refused_of bad) result }
-    ensures moments { W.moments out.new ≡ W.moments out.old }
-    ensures texts { W.texts out.new ≡ W.texts out.old }
-    ensures noted { W.noted out.new ≡ W.noted out.old }
-    ensures later { W.faults out.old ≤ W.faults out.new }
-    ensures fault { IsErrOf result SessionEnd.WriteFault → Rose (W.faults out.old) (W.faults out.new) }
+    ensures said { IsRefusedBy W.Replies out.old out.new (refused_of bad) result }
+    ensures only_says { OnlySays W.Replies out.old out.new (IsErrOf result SessionEnd.WriteFault) }
 {
     let bad = Bad::Message(bad);
     match print_bad(alloc, &bad) {
@@ -205,17 +174,10 @@ fn say_bad<W: Replies>(alloc: Global, out: &mut W, bad: http_asks::Bad) -> Resul
 }
 
 fn say_stop<W: Replies>(out: &mut W, stop: MessageStop) -> SessionEnd
-    ensures said { (stop ≡ MessageStop.NoMemory) → ((result ≡ SessionEnd.NoMemory)
-        × Appends (W.said out.old) (W.said out.new) no_memory_text)
-        ⊎ ((result ≡ SessionEnd.WriteFault) × ((n : ℕ)
-        × Appends (W.said out.old) (W.said out.new) (take n no_memory_text))) }
-    ensures read_fault { (stop ≡ MessageStop.ReadFault) → (result ≡ SessionEnd.ReadFault) × (W.said out.new ≡ W.said out.old) }
-    ensures spent { (stop ≡ MessageStop.Spent) → (result ≡ SessionEnd.Spent) × (W.said out.new ≡ W.said out.old) }
-    ensures moments { W.moments out.new ≡ W.moments out.old }
-    ensures texts { W.texts out.new ≡ W.texts out.old }
-    ensures noted { W.noted out.new ≡ W.noted out.old }
-    ensures later { W.faults out.old ≤ W.faults out.new }
-    ensures fault { result ≡ SessionEnd.WriteFault → Rose (W.faults out.old) (W.faults out.new) }
+    ensures said { (stop ≡ MessageStop.NoMemory) → SaysNoMemory W.Replies out.old out.new result }
+    ensures read_fault { (stop ≡ MessageStop.ReadFault) → (result ≡ SessionEnd.ReadFault) × (out.new ≡ out.old) }
+    ensures spent { (stop ≡ MessageStop.Spent) → (result ≡ SessionEnd.Spent) × (out.new ≡ out.old) }
+    ensures only_says { OnlySays W.Replies out.old out.new (result ≡ SessionEnd.WriteFault) }
     ensures read_only { result ≡ SessionEnd.ReadFault → stop ≡ MessageStop.ReadFault }
     ensures spent_only { result ≡ SessionEnd.Spent → stop ≡ MessageStop.Spent }
 {
@@ -245,15 +207,12 @@ fn answer_heard<W: Replies, T: Teller>(
     ensures went { (stream rest left : Option (List ℕ)) (total : Option ℕ) → TellsHeard stream heard rest
         → (heard ≡ Heard.End → IsUnder total) → IsUnspent total stream
         → OnItem {E = MessageStop} (Ok heard) (IsHeldBack rest left)
-        → Went T.moves teller.old teller.new (W.said out.old) (W.said out.new) (W.moments out.old) (W.moments out.new)
-        (reading stream left) rest total result }
+        → Went T.moves W.Replies (sides teller.old out.old) (sides teller.new out.new) (reading stream left) rest total
+        result }
     ensures item { (stream rest : Option (List ℕ)) (few many : ℕ) → TellsHeard stream heard rest
         → OnItem {E = MessageStop} (Ok heard) (few < many) → OnOk result (few < many) }
     ensures room { 16384 ≤ length room.new }
-    ensures texts { W.texts out.new ≡ W.texts out.old }
-    ensures noted { W.noted out.new ≡ W.noted out.old }
-    ensures later { W.faults out.old ≤ W.faults out.new }
-    ensures fault { IsErrOf result SessionEnd.WriteFault → Rose (W.faults out.old) (W.faults out.new) }
+    ensures only_says { OnlySays W.Replies out.old out.new (IsErrOf result SessionEnd.WriteFault) }
     ensures not_read { IsErrOf result SessionEnd.ReadFault → ⊥ }
     ensures not_spent { IsErrOf result SessionEnd.Spent → ⊥ }
 {
@@ -280,25 +239,18 @@ pub(crate) fn answer_one<R: Source, W: Replies, T: Teller>(
     teller: &mut T,
 ) -> Result<(), SessionEnd>
     requires room { 16384 ≤ length room.old }
-    ensures goes_on { OnOk result (Talked T.moves teller.old teller.new (W.said out.old) (W.said out.new)
-        (W.moments out.old) (W.moments out.new)
+    ensures goes_on { OnOk result (Talked T.moves W.Replies (sides teller.old out.old) (sides teller.new out.new)
         (prepend_known reader.old.bytes (R.left source.old)) (prepend_known reader.new.bytes (R.left source.new))) }
-    ensures closed { IfErr result (λ end. Closed T.moves teller.old teller.new (W.said out.old) (W.said out.new)
-        (W.moments out.old) (W.moments out.new)
+    ensures closed { IfErr result (Closed T.moves W.Replies (sides teller.old out.old) (sides teller.new out.new)
         (reading (prepend_known reader.old.bytes (R.left source.old)) (R.left source.new))
-        (total_of reader.old.taken (R.left source.old)) end) }
+        (total_of reader.old.taken (R.left source.old))) }
     ensures room { 16384 ≤ length room.new }
     ensures given { Given reader.old.taken reader.new.taken (R.left source.old) (R.left source.new) }
     ensures limit { reader.new.taken ≤ take_limit }
     ensures uses { OnOk result
         (reader.old.taken + length reader.new.bytes < reader.new.taken + length reader.old.bytes) }
-    ensures texts { W.texts out.new ≡ W.texts out.old }
-    ensures noted { W.noted out.new ≡ W.noted out.old }
-    ensures stream { R.stream source.new ≡ R.stream source.old }
-    ensures read_later { R.faults source.old ≤ R.faults source.new }
-    ensures write_later { W.faults out.old ≤ W.faults out.new }
-    ensures read_fault { IsErrOf result SessionEnd.ReadFault → Rose (R.faults source.old) (R.faults source.new) }
-    ensures write_fault { IsErrOf result SessionEnd.WriteFault → Rose (W.faults out.old) (W.faults out.new) }
+    ensures only_says { OnlySays W.Replies out.old out.new (IsErrOf result SessionEnd.WriteFault) }
+    ensures only_reads { OnlyReads R.Source source.old source.new (IsErrOf result SessionEnd.ReadFault) }
     ensures spent { IsErrOf result SessionEnd.Spent → reader.new.taken ≡ take_limit }
 {
     match reader.next(alloc, source) {

@@ -13,6 +13,7 @@ mod teller;
 #[cfg(test)]
 mod tests;
 mod texts;
+mod writer_replies;
 
 pub use answering::SessionEnd;
 pub use bad::Bad;
@@ -21,6 +22,7 @@ pub use http_wire::{MemorySource, ReaderSource, Source};
 pub use memory_replies::MemoryReplies;
 pub use printing::{NoRoom, print_fault, print_query, print_reply};
 pub use refusing::print_bad;
-pub use replies::{Replies, WriterReplies};
+pub use replies::Replies;
 pub use talking::session;
 pub use teller::Teller;
+pub use writer_replies::WriterReplies;

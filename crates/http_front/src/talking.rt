@@ -1,12 +1,12 @@
 // A session: each message in order has its answer.
 ghost use Rattle.std.specs.Prelude.{◌≡◌, ◌≤◌, ℕ, List, Option, length};
 ghost use Rattle.std.specs.Io.KnownBytes.{prepend_known};
-ghost use Rattle.office_base.specs.Faults.{Rose};
 ghost use Rattle.http_wire.specs.Held.{take_limit};
 ghost use Rattle.http_asks.specs.Counts.{Given};
 ghost use Rattle.http_front.specs.Counts.{GaveBytes, reading, total_of};
+ghost use Rattle.http_front.specs.Saying.{OnlyReads, OnlySays};
 ghost use Rattle.http_front.specs.Session.{Session};
-ghost use Rattle.http_front.specs.Talk.{Closed};
+ghost use Rattle.http_front.specs.Talk.{sides, Closed};
 
 use crate::answering::{SessionEnd, answer_one, say_no_memory};
 use crate::replies::Replies;
@@ -28,19 +28,13 @@ fn go_on<R: Source, W: Replies, T: Teller>(
 ) -> SessionEnd
     requires room { 16384 ≤ length room.old }
     requires limit { reader.old.taken ≤ take_limit }
-    ensures closed { Closed T.moves teller.old teller.new (W.said out.old) (W.said out.new) (W.moments out.old)
-        (W.moments out.new)
+    ensures closed { Closed T.moves W.Replies (sides teller.old out.old) (sides teller.new out.new)
         (reading (prepend_known reader.old.bytes (R.left source.old)) (R.left source.new))
         (total_of reader.old.taken (R.left source.old)) result }
     ensures given { Given reader.old.taken reader.new.taken (R.left source.old) (R.left source.new) }
     ensures limit { reader.new.taken ≤ take_limit }
-    ensures texts { W.texts out.new ≡ W.texts out.old }
-    ensures noted { W.noted out.new ≡ W.noted out.old }
-    ensures stream { R.stream source.new ≡ R.stream source.old }
-    ensures read_later { R.faults source.old ≤ R.faults source.new }
-    ensures write_later { W.faults out.old ≤ W.faults out.new }
-    ensures read_fault { result ≡ SessionEnd.ReadFault → Rose (R.faults source.old) (R.faults source.new) }
-    ensures write_fault { result ≡ SessionEnd.WriteFault → Rose (W.faults out.old) (W.faults out.new) }
+    ensures only_says { OnlySays W.Replies out.old out.new (result ≡ SessionEnd.WriteFault) }
+    ensures only_reads { OnlyReads R.Source source.old source.new (result ≡ SessionEnd.ReadFault) }
     ensures spent { result ≡ SessionEnd.Spent → reader.new.taken ≡ take_limit }
 {
     'talking: loop {
@@ -66,13 +60,8 @@ pub fn session<R: Source, W: Replies, T: Teller>(
     ensures session { Session T.moves W.Replies teller.old teller.new out.old out.new
         (reading (R.left source.old) (R.left source.new)) result }
     ensures taken { (n : ℕ) × (n ≤ take_limit) × GaveBytes (R.left source.old) (R.left source.new) n }
-    ensures texts { W.texts out.new ≡ W.texts out.old }
-    ensures noted { W.noted out.new ≡ W.noted out.old }
-    ensures stream { R.stream source.new ≡ R.stream source.old }
-    ensures read_later { R.faults source.old ≤ R.faults source.new }
-    ensures write_later { W.faults out.old ≤ W.faults out.new }
-    ensures read_fault { result ≡ SessionEnd.ReadFault → Rose (R.faults source.old) (R.faults source.new) }
-    ensures write_fault { result ≡ SessionEnd.WriteFault → Rose (W.faults out.old) (W.faults out.new) }
+    ensures only_says { OnlySays W.Replies out.old out.new (result ≡ SessionEnd.WriteFault) }
+    ensures only_reads { OnlyReads R.Source source.old source.new (result ≡ SessionEnd.ReadFault) }
     ensures spent { result ≡ SessionEnd.Spent → GaveBytes (R.left source.old) (R.left source.new) take_limit }
 {
     let Ok(mut reader) = Reader::new(alloc) else {

@@ -1,16 +1,15 @@
 use Rattle.std.proofs.Common.{[], ◌<◌, ◌≡◌, inl, inr, refl, sym, ap, subst, Result, Ok, Err}
 use Rattle.std.specs.Result.{IsErrAnd}
 use Rattle.std.proofs.lemmas.List.Elements.{All-nil}
-use Rattle.std.proofs.KnownBytes.{Appends-nil}
 use Rattle.http_asks.specs.Faults.{refused_of}
 use Rattle.http_asks.specs.Tells.{TellsHeard, OnItem}
 use Rattle.http_asks.specs.declared.reader.Heard.{Heard}
 use Rattle.http_wire.specs.declared.message.MessageStop.{MessageStop}
 use Rattle.http_front.specs.Counts.{reading, IsHeldBack}
-use Rattle.http_front.specs.Talk.{Went}
+use Rattle.http_front.specs.Talk.{sides, Went}
 use Rattle.http_front.specs.declared.answering.SessionEnd.{SessionEnd}
 use Rattle.http_front.specs.declared.answering.SessionEnd.TheVariants.{Ended}
-use Rattle.http_front.proofs.TalkLemmas.{asked_on, asked_end, bad_on, bad_end, closed_here, item_refused, IsNoLack}
+use Rattle.http_front.proofs.TalkLemmas.{asked_on, asked_end, bad_on, bad_end, closed_here, item_refused, says_none, IsNoLack}
 use Rattle.http_front.proofs.answering.answer_heard.Goals as goal
 
 err_of : (result : Result Unit SessionEnd) (end : SessionEnd) → IsErrAnd result (λ (other : SessionEnd). other ≡ end) → Err end ≡ result
@@ -19,8 +18,7 @@ err_of (Err other) end same = ap (λ (e : SessionEnd). Err e) (sym same)
 
 pub returns-in_ok-answer-in-Asked-clause-went : goal.returns-in_ok-answer-in-Asked-clause-went
 returns-in_ok-answer-in-Asked-clause-went g c stream rest left total tells under within held =
-    asked_on g.T.Teller.moves left c.args.teller.now c.answer.new.teller (g.W.Replies.said c.args.out.now)
-    (g.W.Replies.said c.answer.new.out) (g.W.Replies.moments c.args.out.now) (g.W.Replies.moments c.answer.new.out)
+    asked_on g.T.Teller.moves g.W.Replies left (sides c.args.teller.now c.args.out.now) (sides c.answer.new.teller c.answer.new.out)
     stream rest total c.in-Asked.ask c.in-Asked.last
     (Ok c.in_ok-answer-in-Asked.field-0) c.go_on_unless.result refl c.in_ok-answer-in-Asked.ensures.answers
     (subst (λ (h : Heard). TellsHeard stream h rest) c.in-Asked.is tells)
@@ -29,13 +27,11 @@ returns-in_ok-answer-in-Asked-clause-went g c stream rest left total tells under
 
 pub returns-in_err-answer-in-Asked-clause-went : goal.returns-in_err-answer-in-Asked-clause-went
 returns-in_err-answer-in-Asked-clause-went g c stream rest left total tells under within held =
-    subst (Went g.T.Teller.moves c.args.teller.now c.answer.new.teller (g.W.Replies.said c.args.out.now)
-    (g.W.Replies.said c.answer.new.out) (g.W.Replies.moments c.args.out.now)
-    (g.W.Replies.moments c.answer.new.out) (reading stream left) rest total)
+    let before = sides c.args.teller.now c.args.out.now in
+    let after = sides c.answer.new.teller c.answer.new.out in
+    subst (Went g.T.Teller.moves g.W.Replies before after (reading stream left) rest total)
     (err_of c.from_residual.result c.in_err-answer-in-Asked.field-0.0 c.from_residual.ensures.1) (
-    asked_end g.T.Teller.moves left c.args.teller.now c.answer.new.teller (g.W.Replies.said c.args.out.now)
-    (g.W.Replies.said c.answer.new.out) (g.W.Replies.moments c.args.out.now) (g.W.Replies.moments c.answer.new.out)
-    stream rest total c.in-Asked.ask c.in-Asked.last
+    asked_end g.T.Teller.moves g.W.Replies left before after stream rest total c.in-Asked.ask c.in-Asked.last
     c.in_err-answer-in-Asked.field-0.0 c.in_err-answer-in-Asked.ensures.answers
     (subst (λ (h : Heard). TellsHeard stream h rest) c.in-Asked.is tells)
     (subst (λ (h : Heard). OnItem {E = MessageStop} (Ok h) (IsHeldBack rest left)) c.in-Asked.is held)
@@ -43,10 +39,9 @@ returns-in_err-answer-in-Asked-clause-went g c stream rest left total tells unde
 
 pub returns-in_ok-say_bad-in-Bad-clause-went : goal.returns-in_ok-say_bad-in-Bad-clause-went
 returns-in_ok-say_bad-in-Bad-clause-went g c stream rest left total tells under within held =
-    bad_on g.T.Teller.moves left c.args.teller.now (g.W.Replies.said c.args.out.now)
-    (g.W.Replies.said c.say_bad.new.out) (g.W.Replies.moments c.args.out.now)
-    (g.W.Replies.moments c.say_bad.new.out) stream rest total (refused_of c.in-Bad.bad) c.in-Bad.last
-    (Ok c.in_ok-say_bad-in-Bad.field-0) c.go_on_unless-in-Bad.result c.say_bad.ensures.moments refl
+    bad_on g.T.Teller.moves g.W.Replies left c.args.teller.now c.args.out.now c.say_bad.new.out stream rest total
+    (refused_of c.in-Bad.bad) c.in-Bad.last
+    (Ok c.in_ok-say_bad-in-Bad.field-0) c.go_on_unless-in-Bad.result refl
     c.in_ok-say_bad-in-Bad.ensures.said (subst (λ (h : Heard). TellsHeard stream h rest) c.in-Bad.is tells) within
     (subst (λ (h : Heard). OnItem {E = MessageStop} (Ok h) (IsHeldBack rest left)) c.in-Bad.is held)
     c.go_on_unless-in-Bad.ensures.goes_on c.go_on_unless-in-Bad.ensures.ends
@@ -58,21 +53,19 @@ returns-in_ok-say_bad-in-Bad-clause-item g c stream rest few many tells item =
 
 pub returns-in_err-say_bad-in-Bad-clause-went : goal.returns-in_err-say_bad-in-Bad-clause-went
 returns-in_err-say_bad-in-Bad-clause-went g c stream rest left total tells under within held =
-    subst (Went g.T.Teller.moves c.args.teller.now c.args.teller.now (g.W.Replies.said c.args.out.now)
-    (g.W.Replies.said c.say_bad.new.out) (g.W.Replies.moments c.args.out.now)
-    (g.W.Replies.moments c.say_bad.new.out) (reading stream left) rest total) (err_of
+    subst (Went g.T.Teller.moves g.W.Replies (sides c.args.teller.now c.args.out.now) (sides c.args.teller.now c.say_bad.new.out)
+    (reading stream left) rest total) (err_of
     c.from_residual-in_err-say_bad-in-Bad.result c.in_err-say_bad-in-Bad.field-0.0
     c.from_residual-in_err-say_bad-in-Bad.ensures.1) (
-    bad_end g.T.Teller.moves left c.args.teller.now (g.W.Replies.said c.args.out.now)
-    (g.W.Replies.said c.say_bad.new.out) (g.W.Replies.moments c.args.out.now)
-    (g.W.Replies.moments c.say_bad.new.out) stream rest total (refused_of c.in-Bad.bad) c.in-Bad.last
-    c.in_err-say_bad-in-Bad.field-0.0 c.say_bad.ensures.moments c.in_err-say_bad-in-Bad.ensures.said
+    bad_end g.T.Teller.moves g.W.Replies left c.args.teller.now c.args.out.now c.say_bad.new.out stream rest total
+    (refused_of c.in-Bad.bad) c.in-Bad.last c.in_err-say_bad-in-Bad.field-0.0 c.in_err-say_bad-in-Bad.ensures.said
     (subst (λ (h : Heard). TellsHeard stream h rest) c.in-Bad.is tells) within
     (subst (λ (h : Heard). OnItem {E = MessageStop} (Ok h) (IsHeldBack rest left)) c.in-Bad.is held)
     )
 
 pub returns-in-End-clause-went : goal.returns-in-End-clause-went
 returns-in-End-clause-went g c stream rest left total tells under within held =
-    closed_here g.T.Teller.moves left c.args.teller.now (g.W.Replies.said c.args.out.now) (g.W.Replies.said c.args.out.now) (g.W.Replies.moments c.args.out.now) stream total
-    Ended [] (Appends-nil (g.W.Replies.said c.args.out.now)) (refl, inr (refl, inl ((subst (λ (h : Heard). TellsHeard stream h rest) c.in-End.is tells), under c.in-End.is, refl))) (All-nil IsNoLack)
+    closed_here g.T.Teller.moves g.W.Replies left c.args.teller.now c.args.out.now c.args.out.now stream total
+    Ended [] (says_none g.T.Teller.moves g.W.Replies c.args.out.now)
+    (refl, inr (refl, inl ((subst (λ (h : Heard). TellsHeard stream h rest) c.in-End.is tells), under c.in-End.is, refl))) (All-nil IsNoLack)
     (λ is. absurd cc)

@@ -1,19 +1,17 @@
 use Rattle.std.proofs.Common.{◌+◌, length, ap, Ok, Err}
 use Rattle.std.specs.Io.KnownBytes.{prepend_known}
 use Rattle.http_front.specs.Counts.{total_of}
+use Rattle.http_front.specs.Talk.{sides}
 use Rattle.http_front.proofs.TalkLemmas.{last_stop, under_limit, unspent_here, held_back, spent_here, begun_here, went_on, went_end}
 use Rattle.http_front.proofs.answering.answer_one.Goals as goal
 
 pub returns-in-Ok-clause-goes_on : goal.returns-in-Ok-clause-goes_on
 returns-in-Ok-clause-goes_on g c =
     let left = g.R.Source.left in
-    let said = g.W.Replies.said in
-    let moments = g.W.Replies.moments in
     let before = prepend_known c.args.reader.now.bytes (left c.args.source.now) in
     let after = prepend_known c.next.new.self.bytes (left c.next.new.source) in
     let total = total_of c.args.reader.now.taken (left c.args.source.now) in
-    went_on g.T.Teller.moves (left c.next.new.source) c.args.teller.now c.answer_heard.new.teller (said c.args.out.now)
-    (said c.answer_heard.new.out) (moments c.args.out.now) (moments c.answer_heard.new.out) before after total
+    went_on g.T.Teller.moves g.W.Replies (left c.next.new.source) (sides c.args.teller.now c.args.out.now) (sides c.answer_heard.new.teller c.answer_heard.new.out) before after total
     c.answer_heard.result
     (c.answer_heard.ensures.went before after (left c.next.new.source) total c.in-Ok.ensures.tells (λ is.
     let end = c.in-Ok.ensures.at_end (ap Ok is) in
@@ -24,13 +22,10 @@ returns-in-Ok-clause-goes_on g c =
 pub returns-in-Ok-clause-closed : goal.returns-in-Ok-clause-closed
 returns-in-Ok-clause-closed g c =
     let left = g.R.Source.left in
-    let said = g.W.Replies.said in
-    let moments = g.W.Replies.moments in
     let before = prepend_known c.args.reader.now.bytes (left c.args.source.now) in
     let after = prepend_known c.next.new.self.bytes (left c.next.new.source) in
     let total = total_of c.args.reader.now.taken (left c.args.source.now) in
-    went_end g.T.Teller.moves (left c.next.new.source) c.args.teller.now c.answer_heard.new.teller (said c.args.out.now)
-    (said c.answer_heard.new.out) (moments c.args.out.now) (moments c.answer_heard.new.out) before after total
+    went_end g.T.Teller.moves g.W.Replies (left c.next.new.source) (sides c.args.teller.now c.args.out.now) (sides c.answer_heard.new.teller c.answer_heard.new.out) before after total
     c.answer_heard.result
     (c.answer_heard.ensures.went before after (left c.next.new.source) total c.in-Ok.ensures.tells (λ is.
     let end = c.in-Ok.ensures.at_end (ap Ok is) in
@@ -41,11 +36,9 @@ returns-in-Ok-clause-closed g c =
 pub returns-in-Err-clause-closed : goal.returns-in-Err-clause-closed
 returns-in-Err-clause-closed g c =
     let left = g.R.Source.left in
-    last_stop g.T.Teller.moves (left c.next.new.source) c.args.teller.now (g.W.Replies.said c.args.out.now)
-    (g.W.Replies.said c.say_stop.new.out) (g.W.Replies.moments c.args.out.now)
-    (g.W.Replies.moments c.say_stop.new.out)
+    last_stop g.T.Teller.moves g.W.Replies (left c.next.new.source) c.args.teller.now c.args.out.now c.say_stop.new.out
     (prepend_known c.args.reader.now.bytes (left c.args.source.now)) (total_of c.args.reader.now.taken (left c.args.source.now)) c.in-Err.stop c.say_stop.result
-    c.say_stop.ensures.moments c.say_stop.ensures.said c.say_stop.ensures.read_fault c.say_stop.ensures.spent
+    c.say_stop.ensures.said c.say_stop.ensures.read_fault c.say_stop.ensures.spent
     (λ is.
     let spent = c.in-Err.ensures.spent (ap Err is) in
     spent_here c.args.reader.now c.next.new.self (left c.args.source.now) (left c.next.new.source) spent.1 spent.0)

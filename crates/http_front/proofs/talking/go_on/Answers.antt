@@ -1,31 +1,24 @@
-use Rattle.std.proofs.Common.{◌∙◌, refl, arith}
+use Rattle.std.proofs.Common.{◌∙◌, ap, Err}
 use Rattle.std.specs.Io.KnownBytes.{prepend_known}
-use Rattle.http_front.proofs.TalkLemmas.{talked_none, talked_then, closed_then, given_none, given_then}
+use Rattle.http_front.specs.Talk.{sides}
+use Rattle.http_front.proofs.TalkLemmas.{talked_none, talked_then, closed_then, given_none, given_then, says_nothing, says_on, reads_nothing, reads_on}
 use Rattle.http_front.proofs.talking.go_on.Goals as goal
 
 pub talking-init : goal.talking-init
 talking-init g c = record {
-  talked = talked_none g.T.Teller.moves c.args.teller.now (g.W.Replies.said c.args.out.now)
-      (g.W.Replies.moments c.args.out.now) (prepend_known c.args.reader.now.bytes (g.R.Source.left c.args.source.now));
+  talked = talked_none g.T.Teller.moves g.W.Replies (sides c.args.teller.now c.args.out.now) (prepend_known c.args.reader.now.bytes (g.R.Source.left c.args.source.now));
   room = c.requires.room;
   given = given_none c.args.reader.now.taken (g.R.Source.left c.args.source.now);
   limit = c.requires.limit;
-  texts = refl;
-  noted = refl;
-  stream = refl;
-  read_later = omega arith;
-  write_later = omega arith;
+  only_says = says_nothing g.W.Replies c.args.out.now;
+  only_reads = reads_nothing g.R.Source c.args.source.now;
 }
 
 pub talking-preserved : goal.talking-preserved
 talking-preserved g c =
-    let said = g.W.Replies.said in
-    let moments = g.W.Replies.moments in
     let left = g.R.Source.left in
     record {
-      talked = talked_then g.T.Teller.moves c.args.teller.now c.talking.teller c.answer_one.new.teller
-          (said c.args.out.now) (said c.talking.out) (said c.answer_one.new.out) (moments c.args.out.now)
-          (moments c.talking.out) (moments c.answer_one.new.out)
+      talked = talked_then g.T.Teller.moves g.W.Replies (sides c.args.teller.now c.args.out.now) (sides c.talking.teller c.talking.out) (sides c.answer_one.new.teller c.answer_one.new.out)
           (prepend_known c.args.reader.now.bytes (left c.args.source.now))
           (prepend_known c.talking.reader.bytes (left c.talking.source))
           (prepend_known c.answer_one.new.reader.bytes (left c.answer_one.new.source))
@@ -34,21 +27,15 @@ talking-preserved g c =
       given = given_then c.args.reader.now.taken c.talking.reader.taken c.answer_one.new.reader.taken (left c.args.source.now) (left c.talking.source) (left c.answer_one.new.source)
           c.talking.invariant.given c.answer_one.ensures.given;
       limit = c.answer_one.ensures.limit;
-      texts = c.answer_one.ensures.texts ∙ c.talking.invariant.texts;
-      noted = c.answer_one.ensures.noted ∙ c.talking.invariant.noted;
-      stream = c.answer_one.ensures.stream ∙ c.talking.invariant.stream;
-      read_later = omega (arith, c.talking.invariant.read_later, c.answer_one.ensures.read_later);
-      write_later = omega (arith, c.talking.invariant.write_later, c.answer_one.ensures.write_later);
+      only_says = says_on g.W.Replies c.args.out.now c.talking.out c.answer_one.new.out c.talking.invariant.only_says c.answer_one.ensures.only_says (λ no. absurd no);
+      only_reads = reads_on g.R.Source c.args.source.now c.talking.source c.answer_one.new.source c.talking.invariant.only_reads c.answer_one.ensures.only_reads (λ no. absurd no);
     }
 
 pub returns-in-Err-clause-closed : goal.returns-in-Err-clause-closed
 returns-in-Err-clause-closed g c =
-    let said = g.W.Replies.said in
-    let moments = g.W.Replies.moments in
     let left = g.R.Source.left in
-    closed_then g.T.Teller.moves (left c.answer_one.new.source) c.args.reader.now.taken c.talking.reader.taken (left c.args.source.now) (left c.talking.source) c.talking.invariant.given
-    c.args.teller.now c.talking.teller c.answer_one.new.teller (said c.args.out.now) (said c.talking.out)
-    (said c.answer_one.new.out) (moments c.args.out.now) (moments c.talking.out) (moments c.answer_one.new.out)
+    closed_then g.T.Teller.moves g.W.Replies (left c.answer_one.new.source) c.args.reader.now.taken c.talking.reader.taken (left c.args.source.now) (left c.talking.source) c.talking.invariant.given
+    (sides c.args.teller.now c.args.out.now) (sides c.talking.teller c.talking.out) (sides c.answer_one.new.teller c.answer_one.new.out)
     (prepend_known c.args.reader.now.bytes (left c.args.source.now)) (prepend_known c.talking.reader.bytes (left c.talking.source)) c.in-Err.end
     c.talking.invariant.talked c.in-Err.ensures.closed
 
@@ -57,3 +44,11 @@ returns-in-Err-clause-given g c =
     given_then c.args.reader.now.taken c.talking.reader.taken c.answer_one.new.reader.taken
     (g.R.Source.left c.args.source.now) (g.R.Source.left c.talking.source) (g.R.Source.left c.answer_one.new.source)
     c.talking.invariant.given c.answer_one.ensures.given
+
+pub returns-in-Err-clause-only_says : goal.returns-in-Err-clause-only_says
+returns-in-Err-clause-only_says g c =
+    says_on g.W.Replies c.args.out.now c.talking.out c.answer_one.new.out c.talking.invariant.only_says c.answer_one.ensures.only_says (λ is. c.in-Err.is ∙ ap Err is)
+
+pub returns-in-Err-clause-only_reads : goal.returns-in-Err-clause-only_reads
+returns-in-Err-clause-only_reads g c =
+    reads_on g.R.Source c.args.source.now c.talking.source c.answer_one.new.source c.talking.invariant.only_reads c.answer_one.ensures.only_reads (λ is. c.in-Err.is ∙ ap Err is)

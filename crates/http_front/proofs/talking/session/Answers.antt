@@ -3,7 +3,7 @@ use Rattle.http_front.proofs.talking.session.Goals as goal
 
 pub returns-clause-session : goal.returns-clause-session
 returns-clause-session g c =
-    session_of g.T.Teller.moves (g.R.Source.left c.go_on.new.source) g.W.Replies c.in-Ok.reader.taken c.in-Ok.reader.bytes c.args.teller.now c.go_on.new.teller c.args.out.now c.go_on.new.out
+    session_of g.T.Teller.moves g.W.Replies (g.R.Source.left c.go_on.new.source) c.in-Ok.reader.taken c.in-Ok.reader.bytes c.args.teller.now c.go_on.new.teller c.args.out.now c.go_on.new.out
     (g.R.Source.left c.args.source.now) c.go_on.result c.in-Ok.ensures.taken c.in-Ok.ensures.bytes c.go_on.ensures.closed
 
 pub returns-clause-taken : goal.returns-clause-taken
@@ -17,16 +17,16 @@ returns-clause-spent g c spent =
 
 pub returns-in_default-clause-session : goal.returns-in_default-clause-session
 returns-in_default-clause-session g c =
-    session_lacks g.T.Teller.moves (g.R.Source.left c.args.source.now) g.W.Replies c.args.teller.now c.args.out.now c.say_no_memory.new.out (g.R.Source.left c.args.source.now)
-    c.say_no_memory.result c.say_no_memory.ensures.moments c.say_no_memory.ensures.said
+    session_lacks g.T.Teller.moves g.W.Replies (g.R.Source.left c.args.source.now) c.args.teller.now c.args.out.now c.say_no_memory.new.out (g.R.Source.left c.args.source.now)
+    c.say_no_memory.result c.say_no_memory.ensures.said
 
 pub returns-in_default-clause-taken : goal.returns-in_default-clause-taken
 returns-in_default-clause-taken g c = gave_none (g.R.Source.left c.args.source.now)
 
 pub returns-in_default-vec-clause-session : goal.returns-in_default-vec-clause-session
 returns-in_default-vec-clause-session g c =
-    session_lacks g.T.Teller.moves (g.R.Source.left c.args.source.now) g.W.Replies c.args.teller.now c.args.out.now c.say_no_memory-in_default-vec.new.out (g.R.Source.left c.args.source.now)
-    c.say_no_memory-in_default-vec.result c.say_no_memory-in_default-vec.ensures.moments c.say_no_memory-in_default-vec.ensures.said
+    session_lacks g.T.Teller.moves g.W.Replies (g.R.Source.left c.args.source.now) c.args.teller.now c.args.out.now c.say_no_memory-in_default-vec.new.out (g.R.Source.left c.args.source.now)
+    c.say_no_memory-in_default-vec.result c.say_no_memory-in_default-vec.ensures.said
 
 pub returns-in_default-vec-clause-taken : goal.returns-in_default-vec-clause-taken
 returns-in_default-vec-clause-taken g c = gave_none (g.R.Source.left c.args.source.now)

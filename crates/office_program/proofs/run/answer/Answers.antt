@@ -24,8 +24,8 @@ returns-clause-answers g c disk clock opens =
     let read = reading (g.S.Source.left c.args.input.now) (g.S.Source.left c.session-end.new.source) in
     let note = subst (λ (t : List ℕ). IsNoted w mid new t) c.end_line.ensures c.note_line.ensures.noted in
     let answers = stream_answered d k w m.counts_now m.only_now own disk clock c.args.desk desk c.args.out.now mid new read end c.store_failed-store.result c.run_exit.result
-    opens c.session-end.ensures.session c.session-end.ensures.taken c.note_line.ensures.silent c.session-end.ensures.texts c.session-end.ensures.noted
-    c.session-end.ensures.write_fault note (c.store_failed-store.ensures c.finish-disk.ensures.saved ∙ c.stale-stale.ensures) c.run_exit.ensures in
+    opens c.session-end.ensures.session c.session-end.ensures.taken c.note_line.ensures.silent c.session-end.ensures.only_says.texts c.session-end.ensures.only_says.noted
+    c.session-end.ensures.only_says.fault note (c.store_failed-store.ensures c.finish-disk.ensures.saved ∙ c.stale-stale.ensures) c.run_exit.ensures in
     subst (λ (x : g.row.D.Denot). AnswersStream d k w read (around disk clock c.args.out.now) (around x c.finish-disk.result.1 new) c.run_exit.result) (sym c.finish-disk.ensures.disk)
     (subst (λ (x : g.row.C.Denot). AnswersStream d k w read (around disk clock c.args.out.now) (around desk.disk x new) c.run_exit.result) (sym c.finish-disk.ensures.clock) answers)
 
@@ -33,8 +33,8 @@ pub returns-clause-later : goal.returns-clause-later
 returns-clause-later g c =
     let d = g.D.Disk in
     let s = c.session-end.ensures.session in (
-      c.session-end.ensures.read_later,
-      omega (arith, c.session-end.ensures.write_later, c.note_line.ensures.later),
+      c.session-end.ensures.only_reads.later,
+      omega (arith, c.session-end.ensures.only_says.later, c.note_line.ensures.later),
       subst (λ (x : g.row.D.Denot). d.fault_count c.args.desk.disk ≤ d.fault_count x) (sym c.finish-disk.ensures.disk)
           (disk_later d g.C.Clock c.args.desk c.session-end.new.teller (calls_of s.talk.exchanges) s.moved),
     )
@@ -50,4 +50,4 @@ returns-clause-disk_fault g c two =
 pub returns-clause-unnoted : goal.returns-clause-unnoted
 returns-clause-unnoted g c zero =
     ap g.W.Replies.noted (c.note_line.ensures.noted.0 (c.end_line.ensures ∙ zero_unnoted c.session-end.result c.store_failed-store.result c.run_exit.result c.run_exit.ensures zero))
-    ∙ c.session-end.ensures.noted
+    ∙ c.session-end.ensures.only_says.noted

@@ -6,7 +6,7 @@ use Rattle.office_program.proofs.saying.say.Goals as goal
 pub returns-in-Err-clause-told : goal.returns-in-Err-clause-told
 returns-in-Err-clause-told g c =
     let w = g.W.Replies in
-    let part = c.in-Err.ensures.part in
+    let part = c.in-Err.ensures.texts in
     let old = w.texts c.args.out.now in
     inr (
       refl,

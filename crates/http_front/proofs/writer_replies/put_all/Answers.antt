@@ -3,7 +3,7 @@ use Rattle.std.proofs.lemmas.List.{length-take-le, take_all}
 use Rattle.std.proofs.Math.Seq.{take-append-add}
 use Rattle.std.proofs.KnownBytes.{Appends-trans}
 use Rattle.std.specs.Io.KnownBytes.{Appends}
-use Rattle.http_front.proofs.replies.put_all.Goals as goal
+use Rattle.http_front.proofs.writer_replies.put_all.Goals as goal
 
 take_parts : (d n : ℕ) (xs : List ℕ) → d ≤ length xs → take (d + n) xs ≡ take d xs ++ take n (drop d xs)
 take_parts d n xs le =

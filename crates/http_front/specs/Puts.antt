@@ -1,0 +1,8 @@
+-- What a call puts out.
+use Rattle.std.specs.Prelude.{ℕ, List, Option, Result, Ok, Err, take}
+use Rattle.std.specs.Io.KnownBytes.{Appends}
+
+-- these bytes were put out, or a front of them where the call failed
+abbrev pub PutsOut : {E : Type 0} → Option (List ℕ) → Option (List ℕ) → List ℕ → Result Unit E → Type 0
+PutsOut old new bytes (Ok x) = Appends old new bytes
+PutsOut old new bytes (Err e) = (n : ℕ) × Appends old new (take n bytes)
