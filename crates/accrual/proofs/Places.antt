@@ -23,6 +23,9 @@ pub kept_row : (rows : Rows) (month rank : ℕ) → HasRowIn rows month → kept
 unfolding kept_in
 kept_row rows month rank has = grind (arith, nat_tests)
 
+-- what is kept, wherever the month lies
+pub ruleset kept_anywhere = (kept_before, kept_behind, kept_row)
+
 -- the same rows everywhere keep the same
 pub kept_same : (old new : Rows) (month rank : ℕ) → new.first ≡ old.first → length new.rows.items ≡ length old.rows.items
     → (HasRowIn old month → get_or (get_or new.rows.items (month - new.first) []) rank nothing ≡ get_or (get_or old.rows.items (month - old.first) []) rank nothing)

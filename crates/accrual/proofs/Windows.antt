@@ -2,9 +2,8 @@
 use Rattle.std.proofs.Common.{◌≡◌, ◌≢◌, ◌≤◌, ◌<◌, ◌+◌, ◌-◌, ◌==◌, ℕ, zero, suc, Bool, true, false, refl, arith}
 use Rattle.std.specs.Prelude.{◌^◌, nat_le, if◌then◌else◌}
 use Rattle.std.proofs.lemmas.Bool.Decides.{nat_tests}
-use Rattle.moments.specs.Time.{end_of_time}
 use Rattle.moments.specs.Months.{months, month_start, month_end, months_over, month_at, IsInMonth}
-use Rattle.moments.proofs.Calendar.{month_has_days, first_day_order, month_small}
+use Rattle.moments.proofs.Calendar.{month_has_days, first_day_order}
 use Rattle.accrual.specs.Meters.{is_in_month}
 use Rattle.accrual.specs.Totals.{ms_within}
 use Rattle.accrual.proofs.Cases.{by_less}

@@ -1,5 +1,6 @@
 -- The kept numbers by month and class.
-use Rattle.std.specs.Prelude.{◌≡◌, ◌≢◌, ◌⊎◌, ℕ, zero, suc, ◌+◌, ◌-◌, ◌*◌, ◌^◌, ◌<◌, ◌≤◌, ◌&&◌, ◌==◌, List, [], length, get_or, nat_le, if◌then◌else◌}
+use Rattle.std.specs.Prelude.{◌≡◌, ◌≢◌, ◌⊎◌, ℕ, zero, suc, ◌+◌, ◌-◌, ◌*◌, ◌^◌, ◌<◌, ◌≤◌, ◌&&◌, ◌==◌, List, [], length, get_or, nat_le}
+use Rattle.std.specs.Prelude.{if◌then◌else◌}
 use Rattle.class_rules.specs.Classes.{rank_of}
 use Rattle.class_rules.specs.Lines.{lines_of}
 use Rattle.class_rules.specs.declared.class.Class.{Class}

@@ -1,5 +1,6 @@
 -- Running totals by month and class in place of a book, and when they stand for one.
-use Rattle.std.specs.Prelude.{◌≡◌, ℕ, ◌+◌, ◌-◌, ◌*◌, ◌^◌, ◌≤◌, min, max, Bool, true, false, ◌&&◌, List, ◌∷◌, ◌++◌, Option, Some, None, sum_by, nat_lt, if◌then◌else◌}
+use Rattle.std.specs.Prelude.{◌≡◌, ℕ, ◌+◌, ◌-◌, ◌*◌, ◌^◌, ◌≤◌, min, max, Bool, true, false, ◌&&◌, List, ◌∷◌, ◌++◌, Option, Some, None}
+use Rattle.std.specs.Prelude.{sum_by, nat_lt, if◌then◌else◌}
 use Rattle.office_base.specs.Sizes.{largest_size}
 use Rattle.moments.specs.Months.{month_start, month_end}
 use Rattle.class_rules.specs.Classes.{rank_of, least_stay}

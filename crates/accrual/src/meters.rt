@@ -9,7 +9,6 @@ ghost use Rattle.accrual.specs.Meters.{meter, early_quantity, move_count};
 ghost use Rattle.accrual.specs.Sums.{AreSumsOf, HasAllEnded, HaveRisingMonths, IsSmallMonth, is_nothing};
 ghost use Rattle.accrual.specs.Totals.{HasRow, AreTotalsOf, HasOpenStay, IsBilled, most_bookings, with_early_of};
 
-use crate::calendar::number_of;
 use crate::monthly::MonthSums;
 use crate::rows::{Kept, NOTHING, Rows};
 use class_rules::{Class, Lines, least_duration};
@@ -107,7 +106,7 @@ impl Meters {
         ensures stands { (book : Book) → AreTotalsOf self.old book → AreTotalsOf self.new book }
         ensures booked { self.new.booked ≡ self.old.booked }
     {
-        match self.rows.reserve(number_of(from), number_of(to)) {
+        match self.rows.reserve(from.number(), to.number()) {
             Ok(()) => Ok(()),
             Err(_) => Err(NoMemory),
         }
@@ -125,7 +124,7 @@ impl Meters {
     {
         let month = month_of(from);
         let (start, _) = month_window(month);
-        self.rows.begin(lines, number_of(month), from.ms() - start);
+        self.rows.begin(lines, month.number(), from.ms() - start);
         self.booked += 1;
     }
 
@@ -143,7 +142,7 @@ impl Meters {
     {
         let month = month_of(from);
         let (start, _) = month_window(month);
-        self.rows.finish(lines, number_of(month), from.ms() - start);
+        self.rows.finish(lines, month.number(), from.ms() - start);
         self.rows.settle(lines, from, at);
     }
 
@@ -168,7 +167,7 @@ impl Meters {
             early: owed,
             ..NOTHING
         };
-        self.rows.add(number_of(month_of(at)), class, more);
+        self.rows.add(month_of(at).number(), class, more);
         self.booked += 1;
     }
 
@@ -185,7 +184,7 @@ impl Meters {
             moves: 1,
             ..NOTHING
         };
-        self.rows.add(number_of(month_of(at)), to, more);
+        self.rows.add(month_of(at).number(), to, more);
         self.booked += 1;
     }
 
@@ -198,8 +197,8 @@ impl Meters {
     {
         let (start, end) = month_window(month);
         let ms = t.ms().min(end).saturating_sub(start);
-        let kept = self.rows.kept(number_of(month), class);
-        let bytes = self.rows.running_before(number_of(month), class) + kept.running;
+        let kept = self.rows.kept(month.number(), class);
+        let bytes = self.rows.running_before(month.number(), class) + kept.running;
         kept.ended + (bytes * ms as u128).saturating_sub(kept.since)
     }
 
@@ -208,7 +207,7 @@ impl Meters {
         ensures exact { (book : Book) → AreTotalsOf self.now book → result ≡ early_quantity month class book }
         ensures small { result < 2 ^ 121 }
     {
-        self.rows.kept(number_of(month), class).early
+        self.rows.kept(month.number(), class).early
     }
 
     /// Reads how many lifecycle transitions to the class the month had. Takes no memory.
@@ -216,6 +215,6 @@ impl Meters {
         ensures exact { (book : Book) → AreTotalsOf self.now book → result ≡ move_count month class book }
         ensures small { result < 2 ^ 63 }
     {
-        self.rows.kept(number_of(month), class).moves
+        self.rows.kept(month.number(), class).moves
     }
 }

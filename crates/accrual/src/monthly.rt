@@ -5,9 +5,9 @@ ghost use Rattle.moments.specs.Months.{months};
 ghost use Rattle.class_rules.specs.Classes.{rank_of};
 ghost use Rattle.class_rules.specs.declared.class.Class.{Class};
 ghost use Rattle.accrual.specs.Rows.{nothing, kept_in, HasRowIn};
-ghost use Rattle.accrual.specs.Sums.{AreSumsIn, IsMonthOf, HasNoSum, HaveRisingMonths, IsSmallMonth, IsSmall, is_nothing, is_zero, summed_numbers};
+ghost use Rattle.accrual.specs.Sums.{AreSumsIn, IsMonthOf, HasNoSum, HaveRisingMonths, IsSmallMonth, IsSmall};
+ghost use Rattle.accrual.specs.Sums.{is_nothing, is_zero, summed_numbers};
 
-use crate::calendar::{month_numbered, number_of};
 use crate::rows::{Kept, NOTHING, Rows};
 use moments::Month;
 use std::alloc::{AllocError, Global};
@@ -60,7 +60,7 @@ impl Rows {
         ensures none { IfNone result ((class : Class) → HasNoSum (kept_in self.now month (rank_of class))) }
     {
         let sums = sums_of(
-            month_numbered(month)?,
+            Month::numbered(month),
             &self.rows[(month - self.first) as usize],
         );
         if sums.is_nothing() {
@@ -80,7 +80,7 @@ impl Rows {
     {
         let mut rows = Rows::new(alloc);
         for month in sums {
-            let number = number_of(month.month);
+            let number = month.month.number();
             rows.reserve(number, number)?;
             rows.put_row(number, row_of(month));
         }

@@ -1,14 +1,14 @@
 // The kept numbers, a row for each month.
 ghost use Rattle.std.specs.Prelude.{OnOk, OnErr, ◌^◌, ◌≡◌, ◌≢◌, ◌⊎◌, ◌<◌, ◌≤◌, ◌+◌, ◌-◌, ℕ, length, slice_set};
 ghost use Rattle.class_rules.specs.Classes.{rank_of};
-ghost use Rattle.accrual.specs.Rows.{kept_in, HasRowIn, IsPut, IsRowPut, IsAdded, HasRoom, IsWithin, IsModest, IsBegun, HasBegun, IsSettled, IsEnded, running_to, begun_numbers, ended_numbers};
+ghost use Rattle.accrual.specs.Rows.{kept_in, HasRowIn, IsPut, IsRowPut, IsAdded, HasRoom, IsWithin, IsModest, IsBegun};
+ghost use Rattle.accrual.specs.Rows.{HasBegun, IsSettled, IsEnded, running_to, begun_numbers, ended_numbers};
 ghost use Rattle.class_rules.specs.declared.class.Class.{Class};
 ghost use Rattle.moments.specs.Months.{months, month_at, month_start, month_end};
 ghost use Rattle.accrual.specs.Totals.{IsBilled, ms_within};
 
-use crate::calendar::{number_of, window};
 use class_rules::{Class, Lines, rank};
-use moments::{Moment, month_of};
+use moments::{Moment, Month, month_of, month_window};
 use std::alloc::{AllocError, Global};
 
 /// What is kept of a class in a month.
@@ -55,7 +55,7 @@ impl Rows {
     }
 
     // Reads what is kept; nothing where there is no row.
-    #[tactic(auto, using(crate::proofs::Places::kept_before, crate::proofs::Places::kept_behind, crate::proofs::Places::kept_row))]
+    #[tactic(auto, using(crate::proofs::Places::kept_anywhere))]
     pub(crate) fn kept(&self, month: u64, class: Class) -> Kept
         ensures { result ≡ kept_in self.now month (rank_of class) }
     {
@@ -156,10 +156,10 @@ impl Rows {
         requires billed { IsBilled lines.now }
         ensures { IsEnded self.old self.new lines.now (λ m. ms_within (month_start m) (month_end m) from at) }
     {
-        let first = number_of(month_of(from));
-        let last = number_of(month_of(at));
+        let first = month_of(from).number();
+        let last = month_of(at).number();
         for month in first..last + 1 {
-            let (start, end) = window(month);
+            let (start, end) = month_window(Month::numbered(month));
             let ms = at.ms().min(end).saturating_sub(from.ms().max(start));
             self.settle_month(lines, month, ms);
         }

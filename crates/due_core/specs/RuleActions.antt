@@ -1,6 +1,7 @@
 -- What one rule asks of one version or upload: kinds of action, each with the moment at which it is due. Each line of
 -- the table of lifecycle actions is one definition.
-use Rattle.std.specs.Prelude.{ℕ, ◌+◌, ◌-◌, Bool, ◌&&◌, List, [], ◌∷◌, ◌++◌, map, filter, flat_map, length, nat_le, ◌==◌, Option, unwrap_or, option_map, option_to_list, if◌then◌else◌}
+use Rattle.std.specs.Prelude.{ℕ, ◌+◌, ◌-◌, Bool, ◌&&◌, List, [], ◌∷◌, ◌++◌, map, filter, flat_map, length, nat_le, ◌==◌, Option, unwrap_or}
+use Rattle.std.specs.Prelude.{option_map, option_to_list, if◌then◌else◌}
 use Rattle.moments.specs.Time.{due, next_midnight}
 use Rattle.class_rules.specs.Classes.{may_move}
 use Rattle.class_rules.specs.declared.class.Class.{Class}

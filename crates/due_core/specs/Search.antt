@@ -11,7 +11,8 @@ use Rattle.uploads.specs.Uploads.{UploadRecord}
 use Rattle.due_core.specs.Buckets.{BucketRecord}
 use Rattle.due_core.specs.Candidates.{timely}
 use Rattle.due_core.specs.Choice.{comes_before}
-use Rattle.due_core.specs.RuleActions.{DueAction, Placed, placed_from, object_actions, noncurrent_removals, noncurrent_transitions, version_actions, matches_version, upload_actions}
+use Rattle.due_core.specs.RuleActions.{DueAction, Placed, placed_from, object_actions, noncurrent_removals, noncurrent_transitions}
+use Rattle.due_core.specs.RuleActions.{version_actions, matches_version, upload_actions}
 use Rattle.due_core.specs.declared.action.Target.{Target}
 use Rattle.due_core.specs.declared.action.Target.TheVariants as target
 use Rattle.due_core.specs.declared.action.Candidate.{Candidate}

@@ -1,7 +1,9 @@
 // What one rule asks of one version or upload.
 ghost use Rattle.std.specs.Prelude.{◌≡◌, ◌∷◌, ◌-◌, ◌==◌, [], map, IfOk, if◌then◌else◌};
 ghost use Rattle.moments.specs.Time.{due, next_midnight};
-ghost use Rattle.due_core.specs.RuleActions.{expirations, expiring, expiration_actions, transition_actions, noncurrent_removals, noncurrent_transitions, lone_marker_actions, keeps_newer, admits_move, due_when, version_actions, upload_actions};
+ghost use Rattle.due_core.specs.RuleActions.{expirations, expiring, expiration_actions, transition_actions};
+ghost use Rattle.due_core.specs.RuleActions.{noncurrent_removals, noncurrent_transitions, lone_marker_actions};
+ghost use Rattle.due_core.specs.RuleActions.{keeps_newer, admits_move, due_when, version_actions, upload_actions};
 ghost use Rattle.due_core.specs.Search.{with_each_due, asked_of_object};
 
 use crate::found::Found;

@@ -4,7 +4,8 @@ ghost use Rattle.std.specs.List.{enumerate_from};
 ghost use Rattle.due_core.specs.Candidates.{eligible, candidates};
 ghost use Rattle.due_core.specs.Choice.{choice, IsQueue};
 ghost use Rattle.due_core.specs.RuleActions.{matches_version, placed_from};
-ghost use Rattle.due_core.specs.Search.{with_each, setting_of, asked_of_version, asked_of_upload, version_candidates, key_candidates, number_candidates};
+ghost use Rattle.due_core.specs.Search.{with_each, setting_of, asked_of_version, asked_of_upload, version_candidates};
+ghost use Rattle.due_core.specs.Search.{key_candidates, number_candidates};
 
 use crate::asked::{Aim, Placed, Setting};
 use crate::kept::{Kept, queue};

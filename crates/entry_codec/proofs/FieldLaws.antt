@@ -13,7 +13,8 @@ use Rattle.class_rules.specs.declared.class.Class.{Class}
 use Rattle.class_rules.specs.declared.class.Class.TheVariants.{Standard, StandardIa, OnezoneIa, GlacierIr, Glacier, DeepArchive}
 use Rattle.office_base.specs.declared.version_id.VersionId.{VersionId}
 use Rattle.office_base.specs.declared.version_id.VersionId.TheVariants as version
-use Rattle.entry_codec.specs.Fields.{ranks, statuses, ids, utf8_text, tag_format, are_kept, is_configuration, if_printed, rules_texts, Field, Name, Key, Size, Rank, Tags, Rules, Status, Id, Number4, Number8, Price, Year, Month, format, moment_format}
+use Rattle.entry_codec.specs.Fields.{ranks, statuses, ids, utf8_text, tag_format, are_kept, is_configuration, if_printed, rules_texts, Field, Name, Key, Size, Rank, Tags, Rules, Status, Id, Number4}
+use Rattle.entry_codec.specs.Fields.{Number8, Price, Year, Month, format, moment_format}
 use Rattle.entry_codec.specs.declared.kinds.Kind.{Kind}
 use Rattle.entry_codec.specs.Kinds.{all_kinds, kinds, kind_format, kind_number}
 use Rattle.entry_codec.specs.declared.kinds.Kind.TheVariants as kind

@@ -1,11 +1,13 @@
 -- What is read is spelled so, and what is spelled so is read.
-use Rattle.std.proofs.Common.{◌≡◌, ℕ, ◌^◌, ◌<◌, ◌≤◌, Bool, true, false, cond, eqb, List, [], ◌∷◌, ◌++◌, length, Option, Some, None, Result, Ok, Err, refl, sym, ap, ap₂, subst, ◌∙◌, arith, append_assoc}
+use Rattle.std.proofs.Common.{◌≡◌, ℕ, ◌^◌, ◌<◌, ◌≤◌, Bool, true, false, cond, eqb, List, [], ◌∷◌, ◌++◌, length, Option, Some, None, Result, Ok, Err, refl, sym, ap, ap₂, subst, ◌∙◌, arith}
+use Rattle.std.proofs.Common.{append_assoc}
 use Rattle.std.specs.Prelude.{IfOk, ok_or}
 use Rattle.std.proofs.lemmas.Bool.{eqb-true, ltb-true, lt-ltb, and_parts, and_from}
 use Rattle.std.proofs.lemmas.Bool.Decides.{nat_tests}
 use Rattle.std.proofs.lemmas.List.{append-nil, nil_from_length}
 use Rattle.moments.specs.Time.{end_of_time}
 use Rattle.moments.specs.Months.{year_of, month_of_year, month_number}
+use Rattle.office_base.specs.Results.{◌>>=◌}
 use Rattle.office_types.specs.declared.command.Command.{Command}
 use Rattle.office_types.specs.declared.command.Command.TheVariants as command
 use Rattle.office_types.specs.declared.command.Entry.{Entry}
@@ -17,7 +19,7 @@ use Rattle.entry_codec.specs.declared.kinds.Kind.{Kind}
 use Rattle.entry_codec.specs.Kinds.{CommandParts, Values, kind_format, fields_of, parts_of, command_of}
 use Rattle.entry_codec.specs.declared.kinds.Kind.TheVariants as kind
 use Rattle.entry_codec.specs.Spelling.{written_values, are_values, command_spelling, CommandFits, EntryFits, spelling}
-use Rattle.entry_codec.specs.Reading.{◌>>=◌, EntryGives, place, value_at, values_at, kind_at, command_at, entry_of}
+use Rattle.entry_codec.specs.Reading.{EntryGives, place, value_at, values_at, kind_at, command_at, entry_of}
 use Rattle.entry_codec.proofs.Bytes.{IsBytes}
 use Rattle.entry_codec.proofs.FormatLaws.{IsBytes-rest, IsFormat}
 use Rattle.entry_codec.proofs.FieldLaws.{format-IsFormat, moment-IsFormat, kind-IsFormat}

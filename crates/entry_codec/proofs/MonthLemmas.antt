@@ -9,3 +9,6 @@ month_back year month has = grind (arith, nat_tests)
 
 pub month_has : (year month : ℕ) → has_month year 1 ≡ true → nat_le 1 month && nat_le month 12 ≡ has_month year month
 month_has year month has = grind (arith, nat_tests)
+
+-- the months of a year
+pub ruleset months_of_year = (month_back, month_has)

@@ -4,6 +4,7 @@ use Rattle.std.specs.Prelude.{slice_set}
 use Rattle.std.specs.List.{list_all, flat_map}
 use Rattle.std.proofs.lemmas.Bool.{lt-ltb, leb-true, and_parts, and_from}
 use Rattle.std.proofs.lemmas.List.{append-nil, take_more_set, length-set, take_all}
+use Rattle.office_base.specs.Results.{◌>>=◌}
 use Rattle.tariff.specs.Prices.{Prices, is_price}
 use Rattle.office_types.specs.declared.command.Command.{Command}
 use Rattle.office_types.specs.declared.command.Command.TheVariants as command
@@ -13,7 +14,7 @@ use Rattle.entry_codec.specs.declared.kinds.Kind.TheVariants as kind
 use Rattle.entry_codec.specs.Fields.{Field, Price, format}
 use Rattle.entry_codec.specs.Kinds.{Values, kind_format, fields_of, command_of}
 use Rattle.entry_codec.specs.Spelling.{written_values, are_values, command_spelling, CommandFits}
-use Rattle.entry_codec.specs.Reading.{◌>>=◌, IsFaultOf, value_at, values_at, items_at, kind_at}
+use Rattle.entry_codec.specs.Reading.{IsFaultOf, value_at, values_at, items_at, kind_at}
 use Rattle.entry_codec.proofs.Laws.{fits_of}
 
 -- ---- lists of so many prices

@@ -30,6 +30,12 @@ not_printed t rules = by_text t rules false
 pub not_read : (t : List ℕ) (fault : RulesFault) → rules_of t ≡ Err fault → rules_texts.value t ≡ None
 not_read t fault read = ap (λ (r : Result Configuration RulesFault). option_and_then (if_printed t) (result_ok r)) read
 
+-- which configuration a text is
+pub ruleset which_rules = (is_printed, not_printed, not_read)
+
 pub rules_has : (rules : Configuration) → IsConfiguration rules → (format Rules).has rules ≡ true
 unfolding format
 rules_has rules is = and_from _ _ (lt-ltb (length (printed rules)) (256 ^ 4) (omega (arith, printed_small rules is))) (configuration_is rules is)
+
+-- a configuration has room
+pub ruleset rules_fit = (printed_small, rules_has)

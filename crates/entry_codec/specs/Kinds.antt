@@ -6,7 +6,8 @@ use Rattle.moments.specs.Months.{year_of, month_of_year, month_number}
 use Rattle.office_types.specs.declared.command.Command.{Command}
 use Rattle.office_types.specs.declared.command.Command.TheVariants as command
 use Rattle.entry_codec.specs.declared.kinds.Kind.{Kind}
-use Rattle.entry_codec.specs.declared.kinds.Kind.TheVariants.{CreateBucket, SetVersioning, SetRules, DropRules, Put, Delete, DeleteVersion, SetTags, StartUpload, PutPart, Complete, Abort, Act, SetTariff, Close}
+use Rattle.entry_codec.specs.declared.kinds.Kind.TheVariants.{CreateBucket, SetVersioning, SetRules, DropRules, Put, Delete, DeleteVersion}
+use Rattle.entry_codec.specs.declared.kinds.Kind.TheVariants.{SetTags, StartUpload, PutPart, Complete, Abort, Act, SetTariff, Close}
 use Rattle.entry_codec.specs.Formats.{Format, number, Code, coded}
 use Rattle.entry_codec.specs.Fields.{Field, Name, Key, Size, Rank, Tags, Rules, Status, Id, Number4, Number8, Price, Year, Month, ValueOf}
 

@@ -1,7 +1,9 @@
 -- Reading bytes from left to right, by the fields of the kind. A fault is the place at which the first field begins
 -- that breaks the format, in bytes from the first byte of the entry; bytes behind the last field break it where they
 -- begin (own).
-use Rattle.std.specs.Prelude.{◌≡◌, ℕ, zero, suc, ◌-◌, List, [], ◌∷◌, length, Option, option_map, Result, Ok, Err, ok_or, ◌==◌, if◌then◌else◌}
+use Rattle.std.specs.Prelude.{◌≡◌, ℕ, zero, suc, ◌-◌, List, [], ◌∷◌, length, Option, option_map, Result, Ok, Err, ok_or, ◌==◌}
+use Rattle.std.specs.Prelude.{if◌then◌else◌}
+use Rattle.office_base.specs.Results.{◌>>=◌}
 use Rattle.office_types.specs.declared.command.Command.{Command}
 use Rattle.office_types.specs.declared.command.Entry.{Entry}
 use Rattle.entry_codec.specs.declared.fault.EntryFault.{EntryFault}
@@ -10,12 +12,6 @@ use Rattle.entry_codec.specs.Formats.{Format}
 use Rattle.entry_codec.specs.Fields.{Field, format, moment_format}
 use Rattle.entry_codec.specs.declared.kinds.Kind.{Kind}
 use Rattle.entry_codec.specs.Kinds.{kind_format, fields_of, Values, command_of}
-
--- one field after another, up to the first fault
-infixl 10 ◌>>=◌
-abbrev pub ◌>>=◌ : {A B : Type 0} → Result A ℕ → (A → Result B ℕ) → Result B ℕ
-(Ok x) >>= f = f x
-(Err at) >>= f = Err at
 
 -- the fault that a function answers is that of reading; with memory wanting, nothing is said
 abbrev pub IsFaultOf : {Y : Type 0} → EntryFault → Result Y ℕ → Type 0

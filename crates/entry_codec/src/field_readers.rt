@@ -1,15 +1,16 @@
 // Reading fields. A reader takes the value of its field from the front of the bytes that are left of an entry of
 // `total` bytes, and gives what is left then.
-ghost use Rattle.std.specs.Prelude.{◌≡◌, Some};
+ghost use Rattle.std.specs.Prelude.{◌≡◌, Some, None, if◌then◌else◌};
+ghost use Rattle.office_base.specs.Names.{is_bucket_name};
 ghost use Rattle.entry_codec.specs.declared.fault.EntryFault.TheVariants.{BadEntry};
 ghost use Rattle.entry_codec.specs.Fields as field;
 ghost use Rattle.entry_codec.specs.Fields.{ranks, statuses, ids, format};
-ghost use Rattle.entry_codec.specs.Reading.{EntryGives, place, value_at};
+ghost use Rattle.entry_codec.specs.Reading.{EntryGives, Finds, place, value_at};
 
 use crate::fault::EntryFault;
 use crate::fields::{counted_in, tags_in, u8_in, u32_in, u64_in};
 use class_rules::Class;
-use office_base::{BucketName, Key, NameRefusal, Nth, Size, Tags, VersionId};
+use office_base::{BucketName, Key, NameRefusal, NoMemory, Nth, Size, Tags, VersionId};
 use std::alloc::Global;
 
 // The fault of the field with which the bytes begin that are left of an entry of `total` bytes.
@@ -21,7 +22,22 @@ pub(crate) fn fault_at(total: usize, bytes: &[u8]) -> EntryFault
     }
 }
 
-#[tactic(auto, using(office_base::proofs::Utf8::name_is_text), unfolding(crate::specs::Reading::value_at, crate::specs::Fields::format))]
+// The name that the bytes are; None where they are no name.
+#[tactic(auto, using(office_base::proofs::Utf8::name_is_text))]
+fn name_in(alloc: Global, bytes: &[u8]) -> Result<Option<BucketName>, NoMemory>
+    ensures { Finds (λ name. name) result (if is_bucket_name bytes.now then Some bytes.now else None) }
+{
+    let Ok(text) = str::from_utf8(bytes) else {
+        return Ok(None);
+    };
+    match BucketName::read(alloc, text) {
+        Ok(name) => Ok(Some(name)),
+        Err(NameRefusal::NoMemory) => Err(NoMemory),
+        Err(_) => Ok(None),
+    }
+}
+
+#[tactic(auto, unfolding(crate::specs::Reading::value_at, crate::specs::Fields::format))]
 pub(crate) fn name_of(
     alloc: Global,
     total: usize,
@@ -32,13 +48,10 @@ pub(crate) fn name_of(
     let Some((name, rest)) = counted_in(bytes) else {
         return Err(fault_at(total, bytes));
     };
-    let Ok(text) = str::from_utf8(name) else {
-        return Err(fault_at(total, bytes));
-    };
-    match BucketName::read(alloc, text) {
-        Ok(name) => Ok((name, rest)),
-        Err(NameRefusal::NoMemory) => Err(EntryFault::NoMemory),
-        Err(_) => Err(fault_at(total, bytes)),
+    match name_in(alloc, name) {
+        Ok(Some(name)) => Ok((name, rest)),
+        Ok(None) => Err(fault_at(total, bytes)),
+        Err(_) => Err(EntryFault::NoMemory),
     }
 }
 

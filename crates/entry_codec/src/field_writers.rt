@@ -26,7 +26,7 @@ pub(crate) fn put_long_text(out: &mut Vec<u8>, bytes: &[u8]) -> Result<(), Alloc
     out.extend_from_slice(bytes)
 }
 
-#[tactic(auto, using(crate::proofs::Sizes::tag_parts_small), unfolding(crate::specs::Fields::tag_format, crate::specs::Fields::utf8_text))]
+#[tactic(auto, unfolding(crate::specs::Fields::tag_format, crate::specs::Fields::utf8_text))]
 fn put_tag(out: &mut Vec<u8>, pair: &(String, String)) -> Result<(), AllocError>
     requires { IsTrue (is_tag (tag_of pair.now)) }
     ensures { OnOk result (out.new.items ≡ out.old.items ++ tag_format.written (tag_of pair.now)) }

@@ -83,7 +83,7 @@ pub(crate) fn long_counted_in(bytes: &[u8]) -> Option<(&[u8], &[u8])>
 }
 
 // A length in two bytes, and so many bytes in UTF-8.
-#[tactic(auto, using(office_base::proofs::Utf8::utf8_is, office_base::proofs::Utf8::utf8_is_not), unfolding(crate::specs::Fields::utf8_text))]
+#[tactic(auto, using(office_base::proofs::Utf8::utf8_tests), unfolding(crate::specs::Fields::utf8_text))]
 fn text_in(bytes: &[u8]) -> Option<(&str, &[u8])>
     ensures { option_map (λ x. (x.0.now, x.1.now)) result ≡ utf8_text.front bytes.now }
 {

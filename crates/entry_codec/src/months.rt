@@ -1,5 +1,6 @@
 // Months, each as its year and its month of the year.
-ghost use Rattle.std.specs.Prelude.{◌≡◌, ◌++◌, true, IfOk, OnOk};
+ghost use Rattle.std.specs.Prelude.{◌≡◌, ◌++◌, true, ◌&&◌, nat_le, if◌then◌else◌};
+ghost use Rattle.std.specs.Prelude.{Some, None, option_map, IfSome, IfOk, OnOk};
 ghost use Rattle.moments.specs.Months.{has_month, month_number, year_of, month_of_year};
 ghost use Rattle.entry_codec.specs.Fields as field;
 ghost use Rattle.entry_codec.specs.Fields.{format};
@@ -26,8 +27,19 @@ pub(crate) fn read_year(total: usize, bytes: &[u8]) -> Result<(u16, &[u8]), Entr
     Ok((year, rest))
 }
 
+// The month of this year with a number from 1; None where the year has no such month.
+#[tactic(auto, using(crate::proofs::MonthLemmas::months_of_year))]
+fn month_in(year: u16, number: u8) -> Option<Month>
+    requires { has_month year 1 ≡ true }
+    ensures found { option_map month_of_year result
+        ≡ (if nat_le 1 number && nat_le number 12 then Some number else None) }
+    ensures whole { IfSome result (λ month. month ≡ month_number year (month_of_year month)) }
+{
+    Month::of(year, number)
+}
+
 // The month of this year that stands at the front.
-#[tactic(auto, using(crate::proofs::MonthLemmas::month_back, crate::proofs::MonthLemmas::month_has), unfolding(crate::specs::Reading::value_at, crate::specs::Fields::format))]
+#[tactic(auto, unfolding(crate::specs::Reading::value_at, crate::specs::Fields::format))]
 pub(crate) fn read_month(
     total: usize,
     year: u16,
@@ -41,7 +53,7 @@ pub(crate) fn read_month(
     let Some((number, rest)) = u8_in(bytes) else {
         return Err(fault_at(total, bytes));
     };
-    match Month::of(year, number) {
+    match month_in(year, number) {
         Some(month) => Ok((month, rest)),
         None => Err(fault_at(total, bytes)),
     }

@@ -1,6 +1,7 @@
 // Reading an entry.
-ghost use Rattle.std.specs.Prelude.{◌≡◌, ◌<◌, ◌++◌, ℕ, true, List, slice_index, IfOk, Ok};
+ghost use Rattle.std.specs.Prelude.{◌≡◌, ◌<◌, ◌++◌, ℕ, true, List, slice_index, option_map, IfOk, Ok};
 ghost use Rattle.office_types.specs.declared.command.Entry.{Entry};
+ghost use Rattle.entry_codec.specs.Fields.{moment_format};
 ghost use Rattle.entry_codec.specs.Kinds.{Values, kind_format, fields_of, parts_of, command_of};
 ghost use Rattle.entry_codec.specs.Spelling.{EntryFits, written_values, are_values, spelling};
 ghost use Rattle.entry_codec.specs.Reading.{EntryGives, value_at, values_at, command_at, entry_of};
@@ -40,15 +41,24 @@ fn command_in(alloc: Global, total: usize, bytes: &[u8]) -> Result<Command, Entr
     Ok(command)
 }
 
-#[tactic(auto, unfolding(crate::specs::Reading::entry_of, crate::specs::Reading::value_at, crate::specs::Fields::moment_format))]
+// The moment at which an entry begins.
+#[tactic(auto, unfolding(crate::specs::Fields::moment_format))]
+fn moment_in(bytes: &[u8]) -> Option<(Moment, &[u8])>
+    ensures { option_map (λ x. (x.0, x.1.now)) result ≡ moment_format.front bytes.now }
+{
+    let (ms, rest) = u64_in(bytes)?;
+    match Moment::of(ms) {
+        Ok(moment) => Some((moment, rest)),
+        Err(_) => None,
+    }
+}
+
+#[tactic(auto, unfolding(crate::specs::Reading::entry_of, crate::specs::Reading::value_at))]
 fn whole_entry(alloc: Global, bytes: &[u8]) -> Result<Entry, EntryFault>
     ensures { EntryGives (λ e. e) result (entry_of bytes.now) }
 {
     let total = bytes.len();
-    let Some((ms, rest)) = u64_in(bytes) else {
-        return Err(fault_at(total, bytes));
-    };
-    let Ok(moment) = Moment::of(ms) else {
+    let Some((moment, rest)) = moment_in(bytes) else {
         return Err(fault_at(total, bytes));
     };
     let command = command_in(alloc, total, rest)?;

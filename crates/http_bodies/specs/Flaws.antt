@@ -1,6 +1,7 @@
 -- What is wrong with a body.
 use Rattle.std.specs.Prelude.{◌≡◌, ℕ, List, [], Option, Some, None, Result, Ok, Err, IfSome, ok_or, string_bytes}
 use Rattle.serde_json.specs.Data.{Data}
+use Rattle.office_base.specs.Results.{◌>>=◌}
 use Rattle.http_bodies.specs.Bodies.{body_object, first_unknown}
 use Rattle.http_bodies.specs.declared.fault.BodyFault.{BodyFault}
 use Rattle.http_bodies.specs.declared.fault.BodyFault.TheVariants.{BadBody, BadSize, UnsupportedClass}
@@ -12,12 +13,6 @@ pub data BodyFlaw : Type 0 where
   bad_size : BodyFlaw
   unsupported_class : List ℕ → BodyFlaw
   bad_tags : BodyFlaw
-
--- one rule after another, up to the first that is broken
-infixl 10 ◌>>=◌
-abbrev pub ◌>>=◌ : {A B : Type 0} → Result A BodyFlaw → (A → Result B BodyFlaw) → Result B BodyFlaw
-(Ok x) >>= f = f x
-(Err flaw) >>= f = Err flaw
 
 -- the flaw that a fault tells of; none where memory ran out
 abbrev pub body_flaw_of : BodyFault → Option BodyFlaw

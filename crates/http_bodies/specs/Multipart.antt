@@ -1,10 +1,11 @@
 -- What the bodies of a multipart upload say (S3 User Guide, "Uploading and copying objects using multipart upload").
 use Rattle.std.specs.Prelude.{ℕ, List, [], ◌∷◌, Option, Result, Ok, ok_or, codes}
 use Rattle.serde_json.specs.Find.{as_str}
+use Rattle.office_base.specs.Results.{◌>>=◌}
 use Rattle.office_base.specs.Tags.{Tag}
 use Rattle.http_bodies.specs.declared.multipart.UploadBody.{UploadBody}
 use Rattle.http_bodies.specs.Bodies.{whole_number, text_pairs, held, if_held}
-use Rattle.http_bodies.specs.Flaws.{BodyFlaw, bad_body, body_with, ◌>>=◌}
+use Rattle.http_bodies.specs.Flaws.{BodyFlaw, bad_body, body_with}
 use Rattle.http_bodies.specs.Ranges.{class_in_range, tags_in_range}
 
 -- the name of a class and pairs of texts, where they are there, that are in range

@@ -4,9 +4,10 @@ use Rattle.std.specs.Prelude.{Option, Some, None, option_and_then, Result, ok_or
 use Rattle.std.specs.Str.{bytes_eq}
 use Rattle.serde_json.specs.Data.{Data}
 use Rattle.serde_json.specs.Find.{as_str}
+use Rattle.office_base.specs.Results.{◌>>=◌}
 use Rattle.office_base.specs.Tags.{Tag}
 use Rattle.http_bodies.specs.Bodies.{text_pairs, held}
-use Rattle.http_bodies.specs.Flaws.{BodyFlaw, bad_body, body_with, ◌>>=◌}
+use Rattle.http_bodies.specs.Flaws.{BodyFlaw, bad_body, body_with}
 use Rattle.http_bodies.specs.Ranges.{tags_in_range}
 
 -- whether versioning is enabled, by the word for it (S3 User Guide, "Enabling versioning on buckets")

@@ -4,21 +4,18 @@ use Rattle.std.specs.Prelude.{nat_le, unsigned_abs, int_div}
 use Rattle.std.proofs.lemmas.Bool.Decides.{nat_tests}
 use Rattle.std.proofs.lemmas.Int.{ints, by_lt_z}
 use Rattle.jiff_core.specs.Calendar.{day_count, days_from_civil, days_in_year, days_in_month as jiff_days_in_month, days_of_months as jiff_days_of_months, IsCivilDate}
-use Rattle.jiff_core.proofs.CalendarLemmas.{day_count-epoch, days_from_civil-day_count, day_count-lt_year, day_count-next_month, day_count-next_year, day_count-last_of_year, day_count-day, days_in_month_bounds as jiff_month_bounds, day_count-day_of_year}
+use Rattle.jiff_core.proofs.CalendarLemmas.{day_count-epoch, days_from_civil-day_count, day_count-lt_year, day_count-next_month, day_count-next_year, day_count-last_of_year, day_count-day}
+use Rattle.jiff_core.proofs.CalendarLemmas.{days_in_month_bounds as jiff_month_bounds, day_count-day_of_year}
 use Rattle.jiff_core.proofs.DateLemmas.{civil}
 use Rattle.jiff_core.proofs.SignedLemmas.{signed_arith}
 use Rattle.jiff.specs.Words.{epoch_day}
 use Rattle.jiff.specs.Types.{Date}
 use Rattle.moments.specs.Time.{day, end_of_time}
 use Rattle.moments.specs.Months.{months, first_day, year_of, month_of_year, month_number, days_in_month, days_of_months, days_before_year, month_start, month_end, IsInMonth, months_over, IsDayOf}
-use Rattle.moments.specs.JiffCalendar.{IsFirstOfMonth, IsAsLong}
+use Rattle.moments.specs.JiffCalendar.{IsFirstOfMonth}
 
 pub days_in_month_bounds : (y m : ℕ) → (days_in_month y m ≤ 31) × (28 ≤ days_in_month y m)
 days_in_month_bounds y m = jiff_month_bounds (pos y) m
-
--- a month has the days that jiff gives it
-pub as_long : (k : ℕ) → IsAsLong k
-as_long k = refl
 
 same_days : (y n : ℕ) → jiff_days_of_months (pos y) n ≡ days_of_months y n
 unfolding days_of_months jiff_days_of_months
@@ -163,6 +160,9 @@ month_at_is m k is le =
 pub first_day_begin : first_day 0 ≡ 0
 unfolding first_day days_of_months
 first_day_begin = refl
+
+-- the months from the first to the last
+pub ruleset calendar = (first_of_month, first_day_end, first_day_begin)
 
 -- a date has a month and a day that are small
 pub day_small : (d : Date) → d.day ≤ 31

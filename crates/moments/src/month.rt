@@ -2,7 +2,8 @@
 ghost use Rattle.std.specs.Prelude.{◌≡◌, ◌+◌, ◌*◌, ◌/◌, ◌<◌, ◌≤◌, ◌≤ℤ◌, ℕ, pos, IfSome, IfNone, true, false};
 ghost use Rattle.jiff.specs.Words.{epoch_day};
 ghost use Rattle.moments.specs.Time.{day, end_of_time};
-ghost use Rattle.moments.specs.Months.{months, year_of, month_of_year, month_number, has_month, first_day, month_start, month_end, month_at, IsInMonth, IsDayOf, has_day, midnight_in};
+ghost use Rattle.moments.specs.Months.{months, year_of, month_of_year, month_number, has_month, first_day, month_start};
+ghost use Rattle.moments.specs.Months.{month_end, month_at, IsInMonth, IsDayOf, has_day, midnight_in};
 ghost use Rattle.moments.specs.JiffCalendar.{IsFirstOfMonth, IsAsLong};
 
 use crate::Moment;
@@ -60,6 +61,24 @@ impl Month {
         ensures { result ≡ month_of_year self }
     {
         (self.number % 12) as u8 + 1
+    }
+
+    /// Gives the number of the month, from 0 for January 1970. Takes no memory.
+    pub fn number(self) -> u64
+        ensures number { result ≡ self }
+        ensures among { result < months }
+    {
+        self.number as u64
+    }
+
+    /// Gives the month with a number, from 0 for January 1970. Takes no memory.
+    pub fn numbered(number: u64) -> Month
+        requires among { number < months }
+        ensures { result ≡ number }
+    {
+        Month {
+            number: number as u16,
+        }
     }
 
     // The midnight at which a day of the month begins; None where the month has no such day.
@@ -153,7 +172,7 @@ pub fn month_of(m: Moment) -> Month
 
 /// States what the months are: each begins on the day that is its year's and month's first in jiff's calendar, and has
 /// as many days; and together, each ending where the next one begins, they hold all moments.
-#[tactic(auto, using(crate::proofs::Calendar::first_of_month, crate::proofs::Calendar::first_day_end, crate::proofs::Calendar::first_day_begin))]
+#[tactic(auto, using(crate::proofs::Calendar::calendar))]
 pub fn calendar_months()
     ensures first { (k : ℕ) → IsFirstOfMonth k }
     ensures long { (k : ℕ) → IsAsLong k }

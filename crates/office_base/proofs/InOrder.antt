@@ -1,5 +1,6 @@
 -- Tags in the order of their keys.
-use Rattle.std.proofs.Common.{◌≡◌, ◌∙◌, sym, suc, ◌+◌, ◌-◌, ◌≤◌, Bool, true, false, not, ◌&&◌, ◌||◌, List, [], ◌∷◌, ◌++◌, length, insert, take, drop, refl, ap, arith, String, string_bytes, slice_index_or}
+use Rattle.std.proofs.Common.{◌≡◌, ◌∙◌, sym, suc, ◌+◌, ◌-◌, ◌≤◌, Bool, true, false, not, ◌&&◌, ◌||◌, List, [], ◌∷◌, ◌++◌, length, insert, take, drop, refl, ap, arith, String, string_bytes}
+use Rattle.std.proofs.Common.{slice_index_or}
 use Rattle.std.specs.Prelude.{if◌then◌else◌, nat_le, IsPermutation}
 use Rattle.std.proofs.lemmas.Bool.Decides.{nat_tests}
 use Rattle.std.proofs.lemmas.List.Sorted.{IsPermutation-refl, IsPermutation-sym, IsPermutation-cons, IsPermutation-trans, IsPermutation-middle}
@@ -241,6 +242,9 @@ kept_in_order [] rise = refl
 kept_in_order (tag ∷ tags) rise =
     let parts = and_parts (list_all (is_tag_before tag) tags) (keys_rise tags) rise in
     ap (with_tag tag) (kept_in_order tags parts.1) ∙ in_front tag tags parts.0
+
+-- what the order of tags is
+pub ruleset order_of_tags = (permuted_by_key, rise_by_key, kept_in_order)
 
 -- copies of pairs are the same tags
 pub copied : (R : String Global × String Global → String Global × String Global → Type 0) (xs ys : List (String Global × String Global))

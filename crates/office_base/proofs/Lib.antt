@@ -1,4 +1,5 @@
 pub mod Sizes
 pub mod InOrder
+pub mod Results
 pub mod Utf8
 pub mod Versions

@@ -29,3 +29,6 @@ utf8_is bytes is = is_utf8-from_IsUtf8 bytes is
 
 pub utf8_is_not : (bytes : List ℕ) → ¬ (IsUtf8 bytes) → is_utf8 bytes ≡ false
 utf8_is_not bytes not = false_from_ne_true (is_utf8 bytes) (λ is. not (IsUtf8-from_is_utf8 bytes is))
+
+-- both ways
+pub ruleset utf8_tests = (utf8_is, utf8_is_not)

@@ -2,6 +2,7 @@ pub mod Faults
 pub mod Keys
 pub mod Maps
 pub mod Names
+pub mod Results
 pub mod Sizes
 pub mod Tags
 pub mod Texts

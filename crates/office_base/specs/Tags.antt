@@ -1,6 +1,7 @@
 -- The tags of an object (S3 User Guide, "Categorizing your objects using tags"). A tag is a key and a value, texts as
 -- lists of bytes.
-use Rattle.std.specs.Prelude.{ℕ, Bool, true, not, ◌&&◌, nat_le, ◌≤◌, List, [], ◌∷◌, length, map, String, string_bytes, chars, if◌then◌else◌, IsTrue}
+use Rattle.std.specs.Prelude.{ℕ, Bool, true, not, ◌&&◌, nat_le, ◌≤◌, List, [], ◌∷◌, length, map, String, string_bytes, chars, if◌then◌else◌}
+use Rattle.std.specs.Prelude.{IsTrue}
 use Rattle.std.specs.declared.alloc.Global.{Global}
 use Rattle.std.specs.List.{list_all, list_any}
 use Rattle.std.specs.Str.{is_utf8, bytes_eq}

@@ -30,7 +30,7 @@ impl Model for Key {
     ghost invariant = { λ k. IsKey k.bytes.items };
 }
 
-#[tactic(auto, using(crate::proofs::Utf8::utf8_is, crate::proofs::Utf8::utf8_is_not))]
+#[tactic(auto, using(crate::proofs::Utf8::utf8_tests))]
 fn is_text(bytes: &[u8]) -> bool
     ensures { result ≡ is_utf8 bytes.now }
 {

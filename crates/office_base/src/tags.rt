@@ -1,8 +1,10 @@
 // The tags of an object.
-ghost use Rattle.std.specs.Prelude.{◌≡◌, ◌≤◌, ◌==◌, ◌↔◌, ◌⊎◌, true, false, length, IfOk, OnOk, IfErr, IsErrOf, List, IsPermutation, nat_le, string_bytes};
+ghost use Rattle.std.specs.Prelude.{◌≡◌, ◌≤◌, ◌==◌, ◌↔◌, ◌⊎◌, true, false, length, IfOk, OnOk, IfErr, IsErrOf, List};
+ghost use Rattle.std.specs.Prelude.{IsPermutation, nat_le, string_bytes};
 ghost use Rattle.std.specs.List.{list_all, list_any, prefix_len};
 ghost use Rattle.std.specs.Str.{is_utf8, bytes_eq};
-ghost use Rattle.office_base.specs.Tags.{Tag, keys_rise, char_count, is_tag, has_key, keys_differ, are_tags, is_tag_before, with_tag, by_key, AreTags, tag_of, tags_of};
+ghost use Rattle.office_base.specs.Tags.{Tag, keys_rise, char_count, is_tag, has_key, keys_differ, are_tags};
+ghost use Rattle.office_base.specs.Tags.{is_tag_before, with_tag, by_key, AreTags, tag_of, tags_of};
 
 use crate::NameRefusal;
 use std::alloc::{AllocError, Global};
@@ -241,7 +243,7 @@ impl TagList {
 
 /// States what the order of tags is: the same tags, with keys that rise where they differ; and tags whose keys rise
 /// stay as they stand.
-#[tactic(auto, using(crate::proofs::InOrder::permuted_by_key, crate::proofs::InOrder::rise_by_key, crate::proofs::InOrder::kept_in_order))]
+#[tactic(auto, using(crate::proofs::InOrder::order_of_tags))]
 pub fn tag_order()
     ensures same { (tags : List Tag) → IsPermutation tags (by_key tags) }
     ensures rises { (tags : List Tag) → keys_differ tags ≡ true → keys_rise (by_key tags) ≡ true }

@@ -10,7 +10,8 @@ use Rattle.rules_core.specs.declared.rule.Filter.{Filter}
 use Rattle.rules_core.specs.declared.rule.When.TheVariants.{Days, Date}
 use Rattle.rules_core.specs.declared.rule.SizeMode.TheVariants.{All128K, Varies}
 use Rattle.rules_core.specs.declared.rule.Transition.{Transition}
-use Rattle.rules_core.specs.declared.flaw.RuleFlaw.TheVariants.{TooManyRules, LongId, DoubleId, NoAction, BadFilter, BadSizeRange, BadDays, BadNewer, EarlyInfrequent, ExpiresTooSoon, MixedDates, BadOrder, MarkerRule, AbortFilter, BadExpiration}
+use Rattle.rules_core.specs.declared.flaw.RuleFlaw.TheVariants.{TooManyRules, LongId, DoubleId, NoAction, BadFilter, BadSizeRange, BadDays, BadNewer, EarlyInfrequent, ExpiresTooSoon, MixedDates}
+use Rattle.rules_core.specs.declared.flaw.RuleFlaw.TheVariants.{BadOrder, MarkerRule, AbortFilter, BadExpiration}
 use Rattle.rules_core.specs.Matching.{matches_object, matches_marker, matches_upload, size_admits}
 use Rattle.rules_core.specs.Conditions.{breaks, flaw_of, first_flaw}
 use Rattle.rules_core.specs.Configurations.{with_id, checked}

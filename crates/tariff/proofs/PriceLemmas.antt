@@ -1,30 +1,18 @@
 -- The prices of a table, class by class.
-use Rattle.std.proofs.Common.{◌≡◌, ◌∙◌, sym, ap, refl, ℕ, pos, negsuc, ◌+◌, ◌<◌, Bool, true, false, cond, List, [], ◌∷◌, ◌++◌, length, get_or, drop, Option, Some, None, IfSome, Result, Ok, Err, ok_or, arith, append_assoc, append-nil}
+use Rattle.std.proofs.Common.{◌≡◌, ◌∙◌, ap, refl, ℕ, pos, negsuc, ◌+◌, ◌<◌, Bool, true, false, cond, List, [], ◌∷◌, ◌++◌, length, get_or, drop}
+use Rattle.std.proofs.Common.{Option, Some, None, Result, Ok, Err, ok_or, arith, append-nil}
 use Rattle.std.proofs.lemmas.List.{drop_more, drop_all}
 use Rattle.std.specs.List.{list_all}
 use Rattle.toml.specs.Data.{Data, string, integer, float, boolean, datetime, array, table, Members, get_member}
 use Rattle.class_rules.specs.Classes.{class_name}
 use Rattle.class_rules.specs.declared.class.Class.{Class}
+use Rattle.office_base.specs.Results.{◌>>=◌}
+use Rattle.office_base.proofs.Results.{joined, joined-push, told_on}
 use Rattle.tariff.specs.declared.fault.TariffTable.{TariffTable}
 use Rattle.tariff.specs.declared.fault.TariffFault.{TariffFault}
-use Rattle.tariff.specs.Faults.{TariffFlaw, bad_price, tariff_flaw_of, TariffGives, ◌>>=◌}
+use Rattle.tariff.specs.Faults.{TariffFlaw, bad_price, tariff_flaw_of, TariffGives}
 use Rattle.tariff.specs.Prices.{is_price}
 use Rattle.tariff.specs.Reading.{price_of, price_at, price_in, prices_in}
-
--- what was found, and what is found later
-pub joined : List ℕ → Result (List ℕ) TariffFlaw → Result (List ℕ) TariffFlaw
-joined xs (Ok ys) = Ok (xs ++ ys)
-joined xs (Err flaw) = Err flaw
-
-pub joined-nil : (r : Result (List ℕ) TariffFlaw) → joined [] r ≡ r
-unfolding joined
-joined-nil (Ok ys) = refl
-joined-nil (Err flaw) = refl
-
-joined-push : (xs : List ℕ) (x : ℕ) (r : Result (List ℕ) TariffFlaw) → joined xs (r >>= λ ys. Ok (x ∷ ys)) ≡ joined (xs ++ x ∷ []) r
-unfolding joined
-joined-push xs x (Ok ys) = ap Ok (sym (append_assoc xs (x ∷ []) ys))
-joined-push xs x (Err flaw) = refl
 
 prices_from : (t : TariffTable) (ms : Members) (classes : List Class) (i : ℕ) (d : Class) → i < length classes
     → prices_in t ms (drop i classes) ≡ (price_in t ms (get_or classes i d) >>= λ price. prices_in t ms (drop (i + 1) classes) >>= λ prices. Ok (price ∷ prices))
@@ -43,11 +31,6 @@ pub prices_refused : (t : TariffTable) (ms : Members) (classes : List Class) (i 
 unfolding joined
 prices_refused t ms classes i d xs flaw inside refused =
     ap (joined xs) (prices_from t ms classes i d inside ∙ ap (λ r. r >>= λ price. prices_in t ms (drop (i + 1) classes) >>= λ prices. Ok (price ∷ prices)) refused)
-
-told_on : {Y Y' : Type 0} (told : Option TariffFlaw) (part : Result Y TariffFlaw) (whole : Result Y' TariffFlaw)
-    → ((flaw : TariffFlaw) → part ≡ Err flaw → whole ≡ Err flaw) → IfSome told (λ flaw. part ≡ Err flaw) → IfSome told (λ flaw. whole ≡ Err flaw)
-told_on None part whole pass is = tt
-told_on (Some flaw) part whole pass is = pass flaw is
 
 -- a fault is passed on
 pub passed_on : {X Y X' Y' : Type 0} (see : X → Y) (see' : X' → Y') (fault : TariffFault) (part : Result Y TariffFlaw) (whole : Result Y' TariffFlaw)

@@ -12,12 +12,6 @@ pub data TariffFlaw : Type 0 where
   bad_price : TariffTable → Class → TariffFlaw
   unknown_field : List ℕ → TariffFlaw
 
--- one rule after another, up to the first that is broken
-infixl 10 ◌>>=◌
-abbrev pub ◌>>=◌ : {A B : Type 0} → Result A TariffFlaw → (A → Result B TariffFlaw) → Result B TariffFlaw
-(Ok x) >>= f = f x
-(Err flaw) >>= f = Err flaw
-
 -- the flaw that a fault tells of; none where memory ran out
 abbrev pub tariff_flaw_of : TariffFault → Option TariffFlaw
 tariff_flaw_of NotToml = Some not_toml

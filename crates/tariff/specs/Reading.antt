@@ -2,6 +2,7 @@
 use Rattle.std.specs.Prelude.{ℕ, pos, Bool, ◌&&◌, List, [], ◌∷◌, map, drop, codes, if◌then◌else◌}
 use Rattle.std.specs.Prelude.{Option, Some, None, option_and_then, is_some, unwrap_or, Result, Ok, Err, ok_or}
 use Rattle.std.specs.Str.{is_utf8}
+use Rattle.office_base.specs.Results.{◌>>=◌}
 use Rattle.office_base.specs.Texts.{is_among}
 use Rattle.toml.specs.Data.{Data, integer, Members, no_members, member, get_member, as_table}
 use Rattle.toml.specs.Parse.{parse_document}
@@ -9,7 +10,7 @@ use Rattle.class_rules.specs.Classes.{all_classes, class_name}
 use Rattle.class_rules.specs.declared.class.Class.{Class}
 use Rattle.tariff.specs.declared.fault.TariffTable.{TariffTable}
 use Rattle.tariff.specs.declared.fault.TariffTable.TheVariants.{Storage, Transition}
-use Rattle.tariff.specs.Faults.{TariffFlaw, not_toml, missing_class, bad_price, unknown_field, ◌>>=◌}
+use Rattle.tariff.specs.Faults.{TariffFlaw, not_toml, missing_class, bad_price, unknown_field}
 use Rattle.tariff.specs.Prices.{Prices, is_price}
 
 -- the document that a text in UTF-8 is; a table has its names in the order of their bytes. A text that nests more than

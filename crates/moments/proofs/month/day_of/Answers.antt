@@ -5,7 +5,6 @@ use Rattle.jiff.specs.Words.{epoch_day}
 use Rattle.jiff.specs.Types.{Date}
 use Rattle.jiff_core.proofs.SignedLemmas.{signed_arith, signed_casts}
 use Rattle.moments.specs.Time.{day, end_of_time}
-use Rattle.moments.specs.Months.{IsDayOf}
 use Rattle.moments.proofs.Calendar.{date_is, year_between, days_of_ms, day_small}
 use Rattle.moments.proofs.month.day_of.Goals as goal
 

@@ -1,7 +1,5 @@
-use Rattle.std.proofs.Common.{◌≡◌, ◌∙◌, pos, ap, arith}
+use Rattle.std.proofs.Common.{◌∙◌, pos, ap, arith}
 use Rattle.std.proofs.lemmas.Int.{ints}
-use Rattle.jiff.specs.Words.{epoch_day}
-use Rattle.moments.specs.Months.{first_day}
 use Rattle.moments.proofs.Calendar.{first_is, first_day_begin}
 use Rattle.moments.proofs.month.epoch.Goals as goal
 

@@ -2,7 +2,8 @@ use Rattle.std.proofs.Common.{◌≡◌, ◌∙◌, sym, ap, rules, arith, lengt
 use Rattle.std.proofs.lemmas.List.{length-set, take_more_set, take_all}
 use Rattle.toml.specs.View.{table_view}
 use Rattle.tariff.specs.Reading.{classes_of, prices_in}
-use Rattle.tariff.proofs.PriceLemmas.{joined, joined-nil, passed_on, prices_on, prices_refused, prices_read}
+use Rattle.office_base.proofs.Results.{joined, joined-nil}
+use Rattle.tariff.proofs.PriceLemmas.{passed_on, prices_on, prices_refused, prices_read}
 use Rattle.tariff.proofs.read.read_prices.Goals as goal
 
 pub loop-place-init : goal.loop-place-init

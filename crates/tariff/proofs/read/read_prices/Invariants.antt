@@ -1,7 +1,7 @@
 use Rattle.std.proofs.Common.{◌≡◌, length, drop, take}
 use Rattle.toml.specs.View.{members_view}
 use Rattle.tariff.specs.Reading.{prices_in, classes_of}
-use Rattle.tariff.proofs.PriceLemmas.{joined}
+use Rattle.office_base.proofs.Results.{joined}
 use Rattle.tariff.proofs.read.read_prices.Given as goal
 
 -- a place for each class; the prices that were read, and those that are left

@@ -9,35 +9,35 @@ use Rattle.accrual.proofs.Bookings.{stands_opened}
 use Rattle.accrual.proofs.meters.Meters.open.Goals as goal
 
 pub begin-requires-clause-modest : goal.begin-requires-clause-modest
-begin-requires-clause-modest c class = bounded_modest c.self.inside.rows c.self.inside.booked c.number_of.result class c.self.invariant
+begin-requires-clause-modest c class = bounded_modest c.self.inside.rows c.self.inside.booked c.number.result class c.self.invariant
 
 short_ms : (start end from ms : ℕ) → end ≤ start + 2_678_400_000 → from < end → ms ≡ from - start → ms < 2 ^ 32
 short_ms start end from ms short within is = omega (arith, short, within, is)
 
 pub begin-requires-clause-short : goal.begin-requires-clause-short
 begin-requires-clause-short c =
-    let same : c.ms.result - c.month_window-start.result.0 ≡ c.args.from - month_start c.number_of.result = cc in
-    short_ms (month_start c.number_of.result) (month_end c.number_of.result) c.args.from _
-    (month_short c.number_of.result)
-    (subst (λ k. IsInMonth k c.args.from) (sym c.number_of.ensures.number) c.month_of-month.ensures.within).not_over
+    let same : c.ms.result - c.month_window-start.result.0 ≡ c.args.from - month_start c.number.result = cc in
+    short_ms (month_start c.number.result) (month_end c.number.result) c.args.from _
+    (month_short c.number.result)
+    (subst (λ k. IsInMonth k c.args.from) (sym c.number.ensures.number) c.month_of-month.ensures.within).not_over
     same
 
 pub invariant_of-self : goal.invariant_of-self
 invariant_of-self c =
-    let same : c.ms.result - c.month_window-start.result.0 ≡ c.args.from - month_start c.number_of.result = cc in
-    let short = short_ms (month_start c.number_of.result) (month_end c.number_of.result) c.args.from _
-    (month_short c.number_of.result)
-    (subst (λ k. IsInMonth k c.args.from) (sym c.number_of.ensures.number) c.month_of-month.ensures.within).not_over
+    let same : c.ms.result - c.month_window-start.result.0 ≡ c.args.from - month_start c.number.result = cc in
+    let short = short_ms (month_start c.number.result) (month_end c.number.result) c.args.from _
+    (month_short c.number.result)
+    (subst (λ k. IsInMonth k c.args.from) (sym c.number.ensures.number) c.month_of-month.ensures.within).not_over
     same in
     let b = ap (λ (t : Totals). t.booked) c.self.view_is in let few : c.self.inside.booked < most_bookings = omega (arith, b, c.requires.few) in
-    bounded_begun c.self.inside.rows c.begin.new.self c.self.inside.booked c.args.lines.now c.number_of.result
+    bounded_begun c.self.inside.rows c.begin.new.self c.self.inside.booked c.args.lines.now c.number.result
     (c.ms.result - c.month_window-start.result.0) c.self.invariant few c.requires.billed short c.begin.ensures
 
 pub returns-clause-stands : goal.returns-clause-stands
 returns-clause-stands c book stands =
-    let same : c.ms.result - c.month_window-start.result.0 ≡ c.args.from - month_start c.number_of.result = cc in
+    let same : c.ms.result - c.month_window-start.result.0 ≡ c.args.from - month_start c.number.result = cc in
     stands_opened (record { rows = c.self.inside.rows; booked = c.self.inside.booked })
-    (record { rows = c.begin.new.self; booked = c.self.inside.booked + 1 }) book c.args.lines.now c.number_of.result
+    (record { rows = c.begin.new.self; booked = c.self.inside.booked + 1 }) book c.args.lines.now c.number.result
     c.args.from
-    (subst (λ k. IsInMonth k c.args.from) (sym c.number_of.ensures.number) c.month_of-month.ensures.within)
-    (subst (λ n. IsBegun c.self.inside.rows c.begin.new.self c.args.lines.now c.number_of.result n) same c.begin.ensures) (subst (λ (t : Totals). AreTotalsOf t book) (sym c.self.view_is) stands)
+    (subst (λ k. IsInMonth k c.args.from) (sym c.number.ensures.number) c.month_of-month.ensures.within)
+    (subst (λ n. IsBegun c.self.inside.rows c.begin.new.self c.args.lines.now c.number.result n) same c.begin.ensures) (subst (λ (t : Totals). AreTotalsOf t book) (sym c.self.view_is) stands)

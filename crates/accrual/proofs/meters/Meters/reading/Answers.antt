@@ -23,9 +23,9 @@ pub overflow_add-bytes : goal.overflow_add-bytes
 overflow_add-bytes c =
     let earlier : c.running_before.result ≡ running_to c.self.inside.rows (rank_of c.args.class) c.args.month =
     c.running_before.ensures
-    ∙ ap (λ n. running_to c.self.inside.rows (rank_of c.args.class) n) c.number_of-2.ensures.number in
+    ∙ ap (λ n. running_to c.self.inside.rows (rank_of c.args.class) n) c.number-2.ensures.number in
     let here : c.kept-kept.result ≡ kept_in c.self.inside.rows c.args.month (rank_of c.args.class) = c.kept-kept.ensures
-    ∙ ap (λ n. kept_in c.self.inside.rows n (rank_of c.args.class)) c.number_of.ensures.number in
+    ∙ ap (λ n. kept_in c.self.inside.rows n (rank_of c.args.class)) c.number.ensures.number in
     let all : c.kept-kept.result.ended + (c.running_before.result + c.kept-kept.result.running) * 2 ^ 32 < 2 ^ 121 =
     used_by _ _ _ _ here earlier (all_used c.self.inside.rows c.self.inside.booked c.args.month c.args.class c.self.invariant) in
     omega (arith, all)
@@ -34,9 +34,9 @@ pub overflow_mul-bytes : goal.overflow_mul-bytes
 overflow_mul-bytes c =
     let earlier : c.running_before.result ≡ running_to c.self.inside.rows (rank_of c.args.class) c.args.month =
     c.running_before.ensures
-    ∙ ap (λ n. running_to c.self.inside.rows (rank_of c.args.class) n) c.number_of-2.ensures.number in
+    ∙ ap (λ n. running_to c.self.inside.rows (rank_of c.args.class) n) c.number-2.ensures.number in
     let here : c.kept-kept.result ≡ kept_in c.self.inside.rows c.args.month (rank_of c.args.class) = c.kept-kept.ensures
-    ∙ ap (λ n. kept_in c.self.inside.rows n (rank_of c.args.class)) c.number_of.ensures.number in
+    ∙ ap (λ n. kept_in c.self.inside.rows n (rank_of c.args.class)) c.number.ensures.number in
     let all : c.kept-kept.result.ended + (c.running_before.result + c.kept-kept.result.running) * 2 ^ 32 < 2 ^ 121 =
     used_by _ _ _ _ here earlier (all_used c.self.inside.rows c.self.inside.booked c.args.month c.args.class c.self.invariant) in
     let ms : c.saturating_sub-ms.result ≡ min c.args.t (month_end c.args.month) - month_start c.args.month = cc in
@@ -49,9 +49,9 @@ pub overflow_add-result : goal.overflow_add-result
 overflow_add-result c =
     let earlier : c.running_before.result ≡ running_to c.self.inside.rows (rank_of c.args.class) c.args.month =
     c.running_before.ensures
-    ∙ ap (λ n. running_to c.self.inside.rows (rank_of c.args.class) n) c.number_of-2.ensures.number in
+    ∙ ap (λ n. running_to c.self.inside.rows (rank_of c.args.class) n) c.number-2.ensures.number in
     let here : c.kept-kept.result ≡ kept_in c.self.inside.rows c.args.month (rank_of c.args.class) = c.kept-kept.ensures
-    ∙ ap (λ n. kept_in c.self.inside.rows n (rank_of c.args.class)) c.number_of.ensures.number in
+    ∙ ap (λ n. kept_in c.self.inside.rows n (rank_of c.args.class)) c.number.ensures.number in
     let all : c.kept-kept.result.ended + (c.running_before.result + c.kept-kept.result.running) * 2 ^ 32 < 2 ^ 121 =
     used_by _ _ _ _ here earlier (all_used c.self.inside.rows c.self.inside.booked c.args.month c.args.class c.self.invariant) in
     let ms : c.saturating_sub-ms.result ≡ min c.args.t (month_end c.args.month) - month_start c.args.month = cc in
@@ -68,9 +68,9 @@ pub returns-clause-exact : goal.returns-clause-exact
 returns-clause-exact c book stands by =
     let earlier : c.running_before.result ≡ running_to c.self.inside.rows (rank_of c.args.class) c.args.month =
     c.running_before.ensures
-    ∙ ap (λ n. running_to c.self.inside.rows (rank_of c.args.class) n) c.number_of-2.ensures.number in
+    ∙ ap (λ n. running_to c.self.inside.rows (rank_of c.args.class) n) c.number-2.ensures.number in
     let here : c.kept-kept.result ≡ kept_in c.self.inside.rows c.args.month (rank_of c.args.class) = c.kept-kept.ensures
-    ∙ ap (λ n. kept_in c.self.inside.rows n (rank_of c.args.class)) c.number_of.ensures.number in
+    ∙ ap (λ n. kept_in c.self.inside.rows n (rank_of c.args.class)) c.number.ensures.number in
     let ms : c.saturating_sub-ms.result ≡ min c.args.t (month_end c.args.month) - month_start c.args.month = cc in
     by_kept _ _ _ _ _ _ _ here earlier ms c.saturating_sub.ensures
     ∙ sym (meter_is (record { rows = c.self.inside.rows; booked = c.self.inside.booked }) book c.args.month c.args.class
@@ -80,9 +80,9 @@ pub returns-clause-small : goal.returns-clause-small
 returns-clause-small c =
     let earlier : c.running_before.result ≡ running_to c.self.inside.rows (rank_of c.args.class) c.args.month =
     c.running_before.ensures
-    ∙ ap (λ n. running_to c.self.inside.rows (rank_of c.args.class) n) c.number_of-2.ensures.number in
+    ∙ ap (λ n. running_to c.self.inside.rows (rank_of c.args.class) n) c.number-2.ensures.number in
     let here : c.kept-kept.result ≡ kept_in c.self.inside.rows c.args.month (rank_of c.args.class) = c.kept-kept.ensures
-    ∙ ap (λ n. kept_in c.self.inside.rows n (rank_of c.args.class)) c.number_of.ensures.number in
+    ∙ ap (λ n. kept_in c.self.inside.rows n (rank_of c.args.class)) c.number.ensures.number in
     let all : c.kept-kept.result.ended + (c.running_before.result + c.kept-kept.result.running) * 2 ^ 32 < 2 ^ 121 =
     used_by _ _ _ _ here earlier (all_used c.self.inside.rows c.self.inside.booked c.args.month c.args.class c.self.invariant) in
     let ms : c.saturating_sub-ms.result ≡ min c.args.t (month_end c.args.month) - month_start c.args.month = cc in

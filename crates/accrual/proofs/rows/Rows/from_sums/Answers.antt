@@ -13,14 +13,14 @@ loop-month-init c = record {
 }
 
 pub put_row-requires : goal.put_row-requires
-put_row-requires c = c.in_ok-reserve.ensures.rows c.number_of-number.result (omega arith) (omega arith)
+put_row-requires c = c.in_ok-reserve.ensures.rows c.number-number.result (omega arith) (omega arith)
 
 pub loop-month-preserved : goal.loop-month-preserved
 loop-month-preserved c =
     let s = c.month-item.result in
     let small : IsSmallMonth s = subst IsSmallMonth (sym c.month-item.is) (All-get_or IsSmallMonth c.args.sums.now c.loop-month.month-index s c.loop-month-test.true c.requires.small) in
-    let taken = taken_up c.loop-month.rows c.reserve.new.self c.put_row.new.self c.number_of-number.result s
-    c.row_of.result c.number_of-number.ensures.number c.reserve.ensures.same c.put_row.ensures c.row_of.ensures in
+    let taken = taken_up c.loop-month.rows c.reserve.new.self c.put_row.new.self c.number-number.result s
+    c.row_of.result c.number-number.ensures.number c.reserve.ensures.same c.put_row.ensures c.row_of.ensures in
     record {
       run = omega (arith, c.put_row.ensures.first, c.put_row.ensures.as_many, c.reserve.ensures.run);
       small = small_more c.loop-month.rows c.put_row.new.self s small taken c.loop-month.invariant.small;

@@ -1,0 +1,8 @@
+-- One step after another, where each may fail.
+use Rattle.std.specs.Prelude.{Result, Ok, Err}
+
+-- the second step from what the first gave, up to the first error
+infixl 10 ◌>>=◌
+abbrev pub ◌>>=◌ : {A B E : Type 0} → Result A E → (A → Result B E) → Result B E
+(Ok x) >>= f = f x
+(Err e) >>= f = Err e
