@@ -249,17 +249,18 @@ apart_lacks a la r size last f long = gave_none a la AwaitsLongBody (record {
 
 -- a gap is a stop, or cuts the message short at the end
 pub gap_told : (gap : Gap) (result : Result Next MessageStop) (a b : Held) (la lb : Option (List ℕ)) → (gap ≡ gaps.Ended → result ≡ Ok (next.Refused CutShort))
-    → (gap ≡ gaps.Spent → result ≡ Err Spent) → (gap ≡ gaps.ReadFault → result ≡ Err ReadFault) → (gap ≡ gaps.Ended → IsAtEnd lb × (b.taken < take_limit))
-    → (gap ≡ gaps.Spent → b.taken ≡ take_limit) → Gave a b la lb IsCutShort → Gave a b la lb (Tells b lb result)
-gap_told gaps.Ended result a b la lb ended spent failed end limit gave =
+    → ((stop : MessageStop) → gap ≡ gaps.Stopped stop → result ≡ Err stop) → (gap ≡ gaps.Ended → IsAtEnd lb × (b.taken < take_limit))
+    → (gap ≡ gaps.Stopped Spent → b.taken ≡ take_limit) → (gap ≡ gaps.Stopped NoMemory → ⊥) → Gave a b la lb IsCutShort → Gave a b la lb (Tells b lb result)
+gap_told gaps.Ended result a b la lb ended stopped end limit enough gave =
     subst (λ (x : Result Next MessageStop). Gave a b la lb (Tells b lb x)) (sym (ended refl))
     (weaker a b la lb IsCutShort (Tells b lb (Ok (next.Refused CutShort))) (λ bytes cut. ((cut, (end refl).0), λ _. (end refl).1)) gave)
-gap_told gaps.Spent result a b la lb ended spent failed end limit gave =
-    subst (λ (x : Result Next MessageStop). Gave a b la lb (Tells b lb x)) (sym (spent refl))
+gap_told (gaps.Stopped Spent) result a b la lb ended stopped end limit enough gave =
+    subst (λ (x : Result Next MessageStop). Gave a b la lb (Tells b lb x)) (sym (stopped Spent refl))
     (weaker a b la lb IsCutShort (Tells b lb (Err Spent)) (λ bytes cut. (cut.unsettled, limit refl)) gave)
-gap_told gaps.ReadFault result a b la lb ended spent failed end limit gave =
-    subst (λ (x : Result Next MessageStop). Gave a b la lb (Tells b lb x)) (sym (failed refl))
+gap_told (gaps.Stopped ReadFault) result a b la lb ended stopped end limit enough gave =
+    subst (λ (x : Result Next MessageStop). Gave a b la lb (Tells b lb x)) (sym (stopped ReadFault refl))
     (weaker a b la lb IsCutShort (Tells b lb (Err ReadFault)) (λ bytes cut. cut.unsettled) gave)
+gap_told (gaps.Stopped NoMemory) result a b la lb ended stopped end limit enough gave = absurd (enough refl)
 
 -- the head is refused for its fields
 pub refused_told : (a : Held) (la : Option (List ℕ)) (r : RequestSpans) (h : RequestHead) (bad : FramingRefusal) → IsRequestAt a.bytes a.spans r h → r.len ≤ head_room → Frames h (Err bad)

@@ -5,16 +5,15 @@ ghost use Rattle.office_base.specs.Faults.{Rose};
 ghost use Rattle.http_wire.specs.Held.{Took, TookPast, take_limit};
 
 use crate::buffer::Buffer;
+use crate::message::MessageStop;
 use crate::source::Source;
 
 /// Why a body was not read whole.
 pub(crate) enum Gap {
     /// The source ends before.
     Ended,
-    /// The source failed.
-    ReadFault,
-    /// 2^40 bytes were taken.
-    Spent,
+    /// The source gave no more. Memory is not wanted here.
+    Stopped(MessageStop),
 }
 
 /// Takes bytes until the buffer holds so many.
@@ -31,20 +30,22 @@ pub(crate) fn fill_to<R: Source>(
     ensures ok { OnOk result (count ≤ length buffer.new.bytes) }
     ensures err { OnErr result (length buffer.new.bytes < count) }
     ensures end { IsErrOf result Gap.Ended → IsAtEnd (R.left source.new) × (buffer.new.taken < take_limit) }
-    ensures spent { IsErrOf result Gap.Spent → buffer.new.taken ≡ take_limit }
+    ensures spent { IsErrOf result (Gap.Stopped MessageStop.Spent) → buffer.new.taken ≡ take_limit }
+    ensures enough { IsErrOf result (Gap.Stopped MessageStop.NoMemory) → ⊥ }
     ensures settled { count ≤ length buffer.old.bytes → source.new ≡ source.old }
     ensures stream { R.stream source.new ≡ R.stream source.old }
     ensures later { R.faults source.old ≤ R.faults source.new }
-    ensures fault { IsErrOf result Gap.ReadFault → Rose (R.faults source.old) (R.faults source.new) }
+    ensures fault { IsErrOf result (Gap.Stopped MessageStop.ReadFault)
+        → Rose (R.faults source.old) (R.faults source.new) }
 {
     'filling: while buffer.held().len() < count {
         if buffer.is_spent() {
-            return Err(Gap::Spent);
+            return Err(Gap::Stopped(MessageStop::Spent));
         }
         match buffer.fill(source) {
             Ok(0) => return Err(Gap::Ended),
             Ok(_) => {}
-            Err(_) => return Err(Gap::ReadFault),
+            Err(_) => return Err(Gap::Stopped(MessageStop::ReadFault)),
         }
     }
     Ok(())
@@ -63,20 +64,22 @@ fn fill_rest<R: Source>(
         OnOk result (body.new ≡ take from body.old ++ given) × OnErr result (from + length given < length body.old)) }
     ensures limit { buffer.new.taken ≤ take_limit }
     ensures end { IsErrOf result Gap.Ended → IsAtEnd (R.left source.new) × (buffer.new.taken < take_limit) }
-    ensures spent { IsErrOf result Gap.Spent → buffer.new.taken ≡ take_limit }
+    ensures spent { IsErrOf result (Gap.Stopped MessageStop.Spent) → buffer.new.taken ≡ take_limit }
+    ensures enough { IsErrOf result (Gap.Stopped MessageStop.NoMemory) → ⊥ }
     ensures stream { R.stream source.new ≡ R.stream source.old }
     ensures later { R.faults source.old ≤ R.faults source.new }
-    ensures fault { IsErrOf result Gap.ReadFault → Rose (R.faults source.old) (R.faults source.new) }
+    ensures fault { IsErrOf result (Gap.Stopped MessageStop.ReadFault)
+        → Rose (R.faults source.old) (R.faults source.new) }
 {
     let mut at = from;
     'filling: while at < body.len() {
         if buffer.is_spent() {
-            return Err(Gap::Spent);
+            return Err(Gap::Stopped(MessageStop::Spent));
         }
         match buffer.fill_past(source, body, at) {
             Ok(0) => return Err(Gap::Ended),
             Ok(count) => at += count,
-            Err(_) => return Err(Gap::ReadFault),
+            Err(_) => return Err(Gap::Stopped(MessageStop::ReadFault)),
         }
     }
     Ok(())
@@ -97,10 +100,12 @@ pub(crate) fn fill_body<R: Source>(
         × OnErr result (length buffer.old.bytes + length given < start + length body.old)) }
     ensures limit { buffer.new.taken ≤ take_limit }
     ensures end { IsErrOf result Gap.Ended → IsAtEnd (R.left source.new) × (buffer.new.taken < take_limit) }
-    ensures spent { IsErrOf result Gap.Spent → buffer.new.taken ≡ take_limit }
+    ensures spent { IsErrOf result (Gap.Stopped MessageStop.Spent) → buffer.new.taken ≡ take_limit }
+    ensures enough { IsErrOf result (Gap.Stopped MessageStop.NoMemory) → ⊥ }
     ensures stream { R.stream source.new ≡ R.stream source.old }
     ensures later { R.faults source.old ≤ R.faults source.new }
-    ensures fault { IsErrOf result Gap.ReadFault → Rose (R.faults source.old) (R.faults source.new) }
+    ensures fault { IsErrOf result (Gap.Stopped MessageStop.ReadFault)
+        → Rose (R.faults source.old) (R.faults source.new) }
 {
     let held = buffer.held();
     let front = held.len() - start;

@@ -14,7 +14,7 @@ use crate::body::{Gap, fill_body, fill_to};
 use crate::buffer::{Buffer, ROOM};
 use crate::fields::{body_size, is_closing};
 use crate::framing::FramingRefusal;
-use crate::reading::{Heading, Stop, read_head};
+use crate::reading::{Heading, read_head};
 use crate::source::Source;
 use httparse::spans::RequestSpans;
 use std::alloc::Global;
@@ -101,28 +101,15 @@ pub enum MessageStop {
     NoMemory,
 }
 
-fn stop_of(stop: Stop) -> MessageStop
-    ensures fault { result ≡ MessageStop.ReadFault → stop ≡ Stop.ReadFault }
-    ensures spent { result ≡ MessageStop.Spent → stop ≡ Stop.Spent }
-    ensures enough { result ≡ MessageStop.NoMemory → ⊥ }
-{
-    match stop {
-        Stop::ReadFault => MessageStop::ReadFault,
-        Stop::Spent => MessageStop::Spent,
-    }
-}
-
 /// What stands where a body is not whole.
 fn short_of(gap: Gap) -> Result<Next, MessageStop>
     ensures ended { gap ≡ Gap.Ended → result ≡ Ok (Next.Refused FramingRefusal.CutShort) }
-    ensures spent { gap ≡ Gap.Spent → result ≡ Err MessageStop.Spent }
-    ensures failed { gap ≡ Gap.ReadFault → result ≡ Err MessageStop.ReadFault }
-    ensures fault { IsErrOf result MessageStop.ReadFault → gap ≡ Gap.ReadFault }
+    ensures stopped { (stop : MessageStop) → gap ≡ Gap.Stopped stop → result ≡ Err stop }
+    ensures fault { IsErrOf result MessageStop.ReadFault → gap ≡ Gap.Stopped MessageStop.ReadFault }
 {
     match gap {
         Gap::Ended => Ok(Next::Refused(FramingRefusal::CutShort)),
-        Gap::ReadFault => Err(MessageStop::ReadFault),
-        Gap::Spent => Err(MessageStop::Spent),
+        Gap::Stopped(stop) => Err(stop),
     }
 }
 
@@ -287,8 +274,6 @@ pub fn read_message<R: Source>(
     ensures later { R.faults source.old ≤ R.faults source.new }
     ensures fault { IsErrOf result MessageStop.ReadFault → Rose (R.faults source.old) (R.faults source.new) }
 {
-    match read_head(source, buffer) {
-        Ok(heading) => next_of(alloc, source, buffer, heading),
-        Err(stop) => Err(stop_of(stop)),
-    }
+    let heading = read_head(source, buffer)?;
+    next_of(alloc, source, buffer, heading)
 }

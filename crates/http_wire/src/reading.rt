@@ -9,6 +9,7 @@ ghost use Rattle.http_wire.specs.Held.{Took, head_room, take_limit};
 
 use crate::buffer::{Buffer, ROOM};
 use crate::head::Front;
+use crate::message::MessageStop;
 use crate::source::Source;
 use httparse::spans::RequestSpans;
 
@@ -27,22 +28,16 @@ pub(crate) enum Heading {
     End,
 }
 
-/// Why nothing was found at the front of a stream.
-#[derive(Clone, Copy, Debug, PartialEq, Eq)]
-pub(crate) enum Stop {
-    /// The source failed.
-    ReadFault,
-    /// 2^40 bytes were taken, and a further read is needed.
-    Spent,
-}
-
 /// Reads until a head stands at the front of what the buffer holds, or until none can.
 ///
 /// # Errors
 ///
 /// `Spent`: 2^40 = 1,099,511,627,776 bytes were taken and a further read is needed, also where it would find the end.
 /// `ReadFault`: the source failed. The bytes taken before are held.
-pub(crate) fn read_head<R: Source>(source: &mut R, buffer: &mut Buffer) -> Result<Heading, Stop>
+pub(crate) fn read_head<R: Source>(
+    source: &mut R,
+    buffer: &mut Buffer,
+) -> Result<Heading, MessageStop>
     ensures took { Took buffer.old buffer.new (R.left source.old) (R.left source.new) }
     ensures limit { buffer.new.taken ≤ take_limit }
     ensures whole { OnHead result (IsRequestOf buffer.new.bytes buffer.new.spans) }
@@ -55,15 +50,16 @@ pub(crate) fn read_head<R: Source>(source: &mut R, buffer: &mut Buffer) -> Resul
     ensures end { result ≡ Ok Heading.End → (buffer.new.bytes ≡ []) × IsAtEnd (R.left source.new) }
     // The end is found by a read, so fewer bytes than the limit were taken.
     ensures at_end { (result ≡ Ok Heading.CutShort) ⊎ (result ≡ Ok Heading.End) → buffer.new.taken < take_limit }
-    ensures spent { IsErrOf result Stop.Spent
+    ensures spent { IsErrOf result MessageStop.Spent
         → (buffer.new.taken ≡ take_limit) × IsOpen buffer.new.bytes × (length buffer.new.bytes < head_room) }
-    ensures failed { IsErrOf result Stop.ReadFault → IsOpen buffer.new.bytes × (length buffer.new.bytes < head_room) }
+    ensures failed { IsErrOf result MessageStop.ReadFault → IsOpen buffer.new.bytes × (length buffer.new.bytes < head_room) }
+    ensures enough { IsErrOf result MessageStop.NoMemory → ⊥ }
     // The source is read only where the bytes that are held settle nothing.
     ensures settled { (IsOpen buffer.old.bytes → ⊥) → source.new ≡ source.old }
     ensures full { head_room ≤ length buffer.old.bytes → source.new ≡ source.old }
     ensures stream { R.stream source.new ≡ R.stream source.old }
     ensures later { R.faults source.old ≤ R.faults source.new }
-    ensures fault { IsErrOf result Stop.ReadFault → Rose (R.faults source.old) (R.faults source.new) }
+    ensures fault { IsErrOf result MessageStop.ReadFault → Rose (R.faults source.old) (R.faults source.new) }
 {
     'reading: loop {
         match buffer.look() {
@@ -75,12 +71,12 @@ pub(crate) fn read_head<R: Source>(source: &mut R, buffer: &mut Buffer) -> Resul
             return Ok(Heading::TooLarge);
         }
         if buffer.is_spent() {
-            return Err(Stop::Spent);
+            return Err(MessageStop::Spent);
         }
         match buffer.fill(source) {
             Ok(0) => return Ok(ending(buffer)),
             Ok(_) => {}
-            Err(_) => return Err(Stop::ReadFault),
+            Err(_) => return Err(MessageStop::ReadFault),
         }
     }
 }

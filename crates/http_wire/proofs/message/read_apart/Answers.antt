@@ -31,7 +31,7 @@ returns-in-Err-clause-tells g c =
     let left = g.R.Source.left in
     let a = c.args.buffer.now in
     gap_told c.in-Err.gap c.short_of.result a c.fill_body.new.buffer (left c.args.source.now) (left c.fill_body.new.source)
-    c.short_of.ensures.ended c.short_of.ensures.spent c.short_of.ensures.failed (λ is. c.in-Err.ensures.end (ap Err is)) (λ is. c.in-Err.ensures.spent (ap Err is))
+    c.short_of.ensures.ended c.short_of.ensures.stopped (λ is. c.in-Err.ensures.end (ap Err is)) (λ is. c.in-Err.ensures.spent (ap Err is)) (λ is. c.in-Err.ensures.enough (ap Err is))
     (apart_short a c.fill_body.new.buffer (left c.args.source.now) (left c.fill_body.new.source) c.args.head c.args.size c.args.last
     (length c.deref_mut.result.now) c.requires.frame c.in-Err.ensures.took (search rules))
 

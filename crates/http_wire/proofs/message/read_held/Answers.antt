@@ -16,7 +16,7 @@ pub returns-in-Err-clause-tells : goal.returns-in-Err-clause-tells
 returns-in-Err-clause-tells g c =
     let left = g.R.Source.left in
     gap_told c.in-Err.gap c.short_of.result c.args.buffer.now c.fill_to.new.buffer (left c.args.source.now) (left c.fill_to.new.source)
-    c.short_of.ensures.ended c.short_of.ensures.spent c.short_of.ensures.failed (λ is. c.in-Err.ensures.end (ap Err is)) (λ is. c.in-Err.ensures.spent (ap Err is))
+    c.short_of.ensures.ended c.short_of.ensures.stopped (λ is. c.in-Err.ensures.end (ap Err is)) (λ is. c.in-Err.ensures.spent (ap Err is)) (λ is. c.in-Err.ensures.enough (ap Err is))
     (held_short c.args.buffer.now c.fill_to.new.buffer (left c.args.source.now) (left c.fill_to.new.source) c.args.head c.args.size c.args.last c.requires.frame
     c.in-Err.ensures.took c.in-Err.ensures.spans c.in-Err.ensures.err)
 
