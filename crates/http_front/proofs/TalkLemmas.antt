@@ -14,7 +14,7 @@ use Rattle.desk_core.proofs.Following.{rose_later}
 use Rattle.http_wire.specs.declared.source.Source as sources
 use Rattle.http_wire.specs.Answers.{Gave as GaveTo, TakesFew}
 use Rattle.http_wire.specs.Held.{Held, head_room, take_limit}
-use Rattle.http_wire.specs.Messages.{IsUnsettled, body_room}
+use Rattle.http_wire.specs.Messages.{IsUnsettled}
 use Rattle.http_wire.proofs.MessageLemmas.{unsettled_front}
 use Rattle.http_asks.specs.Counts.{Given, AreEnough}
 use Rattle.http_asks.specs.Meaning.{Refused, not_built, asks, refuses}
@@ -27,7 +27,7 @@ use Rattle.http_wire.specs.declared.message.MessageStop.{MessageStop}
 use Rattle.http_wire.specs.declared.message.MessageStop.TheVariants as stops
 use Rattle.http_front.specs.declared.answering.SessionEnd.{SessionEnd}
 use Rattle.http_front.specs.declared.answering.SessionEnd.TheVariants as ends
-use Rattle.http_front.specs.Counts.{GaveBytes, total_of, IsUnder, IsSpent, IsUnspent, Spends, reading, IsHeldBack, IsTakenAhead, IsBegun}
+use Rattle.http_front.specs.Counts.{GaveBytes, total_of, IsUnder, IsSpent, IsUnspent, reading, IsHeldBack, IsTakenAhead, IsBegun}
 use Rattle.http_front.specs.Exchanges.{Exchange, answered, refused, exchange_meant, calls_of, exchange_moment, moments_of, Goes, Hears}
 use Rattle.desk_core.specs.Turns.{Moves}
 use Rattle.http_front.specs.Session.{IsCut, IsLong, IsUnsaid, IsWritten, NoneLacks, LastLacks, LacksBy, Session}
