@@ -3,7 +3,7 @@ ghost use Rattle.std.specs.Prelude.{◌≡◌, ◌≤◌, ◌<◌, ◌+◌, leng
 ghost use Rattle.std.specs.Io.KnownBytes.{IsAtEnd, prepend_known};
 ghost use Rattle.office_base.specs.Faults.{Rose};
 ghost use Rattle.httparse.specs.Spans.{IsRequestWithin, span_bytes};
-ghost use Rattle.http_wire.specs.Answers.{Gave};
+ghost use Rattle.http_wire.specs.Answers.{Gave, TakesFew};
 ghost use Rattle.http_wire.specs.Held.{head_room, take_limit};
 ghost use Rattle.http_wire.specs.Messages.{IsUnsettled};
 ghost use Rattle.http_asks.specs.Counts.{Given, AreEnough};
@@ -125,6 +125,8 @@ impl Reader {
             (prepend_known self.new.bytes (R.left source.new))) }
         ensures given { Given self.old.taken self.new.taken (R.left source.old) (R.left source.new) }
         ensures limit { self.new.taken ≤ take_limit }
+        // Whatever is answered, a head and a body at most were held and taken.
+        ensures ahead { TakesFew self.old self.new }
         // An item has at least one byte.
         ensures uses { OnItem result (self.old.taken + length self.new.bytes < self.new.taken + length self.old.bytes) }
         // At most so many bytes are held behind it.

@@ -12,7 +12,7 @@ use Rattle.desk_core.specs.declared.fault.DeskFault.{DeskFault}
 use Rattle.desk_core.specs.declared.fault.DeskFault.TheVariants as faults
 use Rattle.desk_core.proofs.Following.{rose_later}
 use Rattle.http_wire.specs.declared.source.Source as sources
-use Rattle.http_wire.specs.Answers.{Gave as GaveTo}
+use Rattle.http_wire.specs.Answers.{Gave as GaveTo, TakesFew}
 use Rattle.http_wire.specs.Held.{Held, head_room, take_limit}
 use Rattle.http_wire.specs.Messages.{IsUnsettled}
 use Rattle.http_wire.proofs.MessageLemmas.{unsettled_front}
@@ -27,7 +27,7 @@ use Rattle.http_wire.specs.declared.message.MessageStop.{MessageStop}
 use Rattle.http_wire.specs.declared.message.MessageStop.TheVariants as stops
 use Rattle.http_front.specs.declared.answering.SessionEnd.{SessionEnd}
 use Rattle.http_front.specs.declared.answering.SessionEnd.TheVariants as ends
-use Rattle.http_front.specs.Counts.{GaveBytes, total_of, IsUnder, IsSpent, IsUnspent, Spends, reading, IsHeldBack, IsBegun}
+use Rattle.http_front.specs.Counts.{GaveBytes, total_of, IsUnder, IsSpent, IsUnspent, reading, IsHeldBack, IsTakenAhead, IsBegun}
 use Rattle.http_front.specs.Exchanges.{Exchange, answered, refused, exchange_meant, calls_of, exchange_moment, moments_of, Goes, Hears}
 use Rattle.desk_core.specs.Turns.{Moves}
 use Rattle.http_front.specs.Session.{IsCut, IsLong, IsUnsaid, IsWritten, NoneLacks, LastLacks, LacksBy, Session}
@@ -243,6 +243,26 @@ begun_here old new (Some xs) None gave = absurd gave.left
 begun_here old new (Some xs) (Some ys) gave =
     (old.bytes ++ gave.given, gave.so, ap (λ (t : List ℕ). old.bytes ++ t) gave.left ∙ sym (append_assoc old.bytes gave.given ys))
 
+-- what is held and what was taken for a message
+pub ahead_here : (old new : Held) (la lb : Option (List ℕ)) → Given old.taken new.taken la lb → TakesFew old new → IsTakenAhead (prepend_known old.bytes la) lb
+ahead_here old new None lb given few = tt
+ahead_here old new (Some xs) None given few = absurd given.left
+ahead_here old new (Some xs) (Some ys) given few = (
+  old.bytes ++ given.given,
+  omega (arith, few, given.counted, length-append old.bytes given.given),
+  ap (λ (t : List ℕ). old.bytes ++ t) given.left ∙ sym (append_assoc old.bytes given.given ys),
+)
+
+-- what is held is no more
+held_ahead : (rest left : Option (List ℕ)) → IsHeldBack rest left → IsTakenAhead rest left
+held_ahead None left held = tt
+held_ahead (Some rest) None held = absurd (let e = held.2 in cc)
+held_ahead (Some rest) (Some left) held = (held.0, omega (arith, held.1), let e = held.2 in cc)
+
+pub ahead_none : (left : Option (List ℕ)) → IsTakenAhead left left
+ahead_none None = tt
+ahead_none (Some xs) = ([], omega arith, refl)
+
 -- the first of two equal texts of two parts goes on where its first part is the longer one
 longer : (a b c d : List ℕ) → a ++ b ≡ c ++ d → length d ≤ length b → (n : ℕ) × (c ≡ a ++ take n b)
 longer a b c d same le =
@@ -350,6 +370,7 @@ module _ {T W : Type 0} (moves : T → Ask → Result Answer DeskFault → T →
             written = texts x ++ y.written;
             is_written = written_then total later totals end x y.exchanges y.whole y.rest y.closed y.written first.enough y.is_written;
             lacked = lacked_then end x y.exchanges first.enough y.lacked;
+            ahead = y.ahead;
             behind = y.behind;
             begun = y.begun;
           };
@@ -430,6 +451,7 @@ module _ {T W : Type 0} (moves : T → Ask → Result Answer DeskFault → T →
         written = written;
         is_written = is;
         lacked = lacked;
+        ahead = held_ahead b remains held;
         behind = λ is. held;
         begun = λ is. absurd (other is);
       };
@@ -513,6 +535,7 @@ module _ {T W : Type 0} (moves : T → Ask → Result Answer DeskFault → T →
         written = written;
         is_written = is;
         lacked = lacked;
+        ahead = held_ahead b remains held;
         behind = λ is. held;
         begun = λ is. absurd (other is);
       };
@@ -546,8 +569,8 @@ module _ {T W : Type 0} (moves : T → Ask → Result Answer DeskFault → T →
 
     -- nothing was answered
     pub closed_here : (at : T) (oa ob : W) (a : Option (List ℕ)) (total : Option ℕ) (end : SessionEnd) (written : List ℕ) → Says w oa ob written → IsWritten total end [] [] a false written
-        → LacksBy end [] → (end ≡ ends.ReadFault → IsBegun a remains) → Closed moves w (sides at oa) (sides at ob) (reading a remains) total end
-    closed_here at oa ob a total end written says is lacked begun = record {
+        → LacksBy end [] → IsTakenAhead a remains → (end ≡ ends.ReadFault → IsBegun a remains) → Closed moves w (sides at oa) (sides at ob) (reading a remains) total end
+    closed_here at oa ob a total end written says is lacked ahead begun = record {
       talk = record {
         exchanges = [];
         rest = a;
@@ -557,6 +580,7 @@ module _ {T W : Type 0} (moves : T → Ask → Result Answer DeskFault → T →
         written = written;
         is_written = is;
         lacked = lacked;
+        ahead = ahead;
         behind = λ is. absurd (let e : false ≡ true = is in cc);
         begun = begun;
       };
@@ -566,82 +590,83 @@ module _ {T W : Type 0} (moves : T → Ask → Result Answer DeskFault → T →
     }
 
     -- it was said that memory ran out, and no message was answered
-    last_words : (at : T) (oa ob : W) (a : Option (List ℕ)) (total : Option ℕ) (end : SessionEnd) → SaysNoMemory w oa ob end
+    last_words : (at : T) (oa ob : W) (a : Option (List ℕ)) (total : Option ℕ) (end : SessionEnd) → SaysNoMemory w oa ob end → IsTakenAhead a remains
         → Closed moves w (sides at oa) (sides at ob) (reading a remains) total end
-    last_words at oa ob a total ends.NoMemory says =
-        closed_here at oa ob a total ends.NoMemory no_memory_text says (inr (refl, inr (refl, All-nil IsNoLack, refl))) (inl (All-nil IsNoLack)) (λ is. absurd cc)
-    last_words at oa ob a total ends.WriteFault (n, says) =
-        closed_here at oa ob a total ends.WriteFault (take n no_memory_text) says (inr (inr (refl, refl, inr (n, refl)))) (inl (All-nil IsNoLack)) (λ is. absurd cc)
-    last_words at oa ob a total ends.Ended says = absurd says
-    last_words at oa ob a total ends.ReadFault says = absurd says
-    last_words at oa ob a total ends.Spent says = absurd says
+    last_words at oa ob a total ends.NoMemory says ahead =
+        closed_here at oa ob a total ends.NoMemory no_memory_text says (inr (refl, inr (refl, All-nil IsNoLack, refl))) (inl (All-nil IsNoLack)) ahead (λ is. absurd cc)
+    last_words at oa ob a total ends.WriteFault (n, says) ahead =
+        closed_here at oa ob a total ends.WriteFault (take n no_memory_text) says (inr (inr (refl, refl, inr (n, refl)))) (inl (All-nil IsNoLack)) ahead (λ is. absurd cc)
+    last_words at oa ob a total ends.Ended says ahead = absurd says
+    last_words at oa ob a total ends.ReadFault says ahead = absurd says
+    last_words at oa ob a total ends.Spent says ahead = absurd says
 
     -- its text was cut, or there was no memory for it
     refused_end : (at : T) (oa ob : W) (a b : Option (List ℕ)) (total : Option ℕ) (broken : Refused) (last : Bool) (end : SessionEnd) → IsRefusedBy w oa ob broken (Err end)
-        → StandsItem a (refuses broken) last b → IsHeldBack b remains → Closed moves w (sides at oa) (sides at ob) (reading a remains) total end
-    refused_end at oa ob a b total broken last ends.WriteFault (inl x) heard held =
+        → StandsItem a (refuses broken) last b → IsTakenAhead a remains → IsHeldBack b remains → Closed moves w (sides at oa) (sides at ob) (reading a remains) total end
+    refused_end at oa ob a b total broken last ends.WriteFault (inl x) heard ahead held =
         closed_refusal at oa ob a b total broken last ends.WriteFault [] (take x.0 (bad_text broken)) heard held x.1 refl
         (inl (record { last = refused broken; n = x.0; are = refl; is = refl })) (inl (All-nil IsNoLack)) (λ is. absurd cc)
-    refused_end at oa ob a b total broken last ends.WriteFault (inr x) heard held = last_words at oa ob a total ends.WriteFault x
-    refused_end at oa ob a b total broken last ends.NoMemory says heard held = last_words at oa ob a total ends.NoMemory says
-    refused_end at oa ob a b total broken last ends.Ended says heard held = absurd says
-    refused_end at oa ob a b total broken last ends.ReadFault says heard held = absurd says
-    refused_end at oa ob a b total broken last ends.Spent says heard held = absurd says
+    refused_end at oa ob a b total broken last ends.WriteFault (inr x) heard ahead held = last_words at oa ob a total ends.WriteFault x ahead
+    refused_end at oa ob a b total broken last ends.NoMemory says heard ahead held = last_words at oa ob a total ends.NoMemory says ahead
+    refused_end at oa ob a b total broken last ends.Ended says heard ahead held = absurd says
+    refused_end at oa ob a b total broken last ends.ReadFault says heard ahead held = absurd says
+    refused_end at oa ob a b total broken last ends.Spent says heard ahead held = absurd says
 
     -- ---- the end of a session
 
     -- what stands there is not served, and it was answered
     unbuilt_on : (at : T) (oa ob : W) (a b : Option (List ℕ)) (total : Option ℕ) (last : Bool) (done result : Result Unit SessionEnd) → IsOk done → IsRefusedBy w oa ob not_built done
-        → StandsUnbuilt a × (last ≡ true) → IsUnspent total a → (last ≡ true → result ≡ Err ends.Ended) → Went moves w (sides at oa) (sides at ob) (reading a remains) b total result
-    unbuilt_on at oa ob a b total last (Err e) result ok says stands within stops = absurd cc
-    unbuilt_on at oa ob a b total last (Ok x) result ok says stands within stops =
+        → StandsUnbuilt a × (last ≡ true) → IsUnspent total a → IsTakenAhead a remains → (last ≡ true → result ≡ Err ends.Ended) → Went moves w (sides at oa) (sides at ob) (reading a remains) b total result
+    unbuilt_on at oa ob a b total last (Err e) result ok says stands within ahead stops = absurd cc
+    unbuilt_on at oa ob a b total last (Ok x) result ok says stands within ahead stops =
         subst (Went moves w (sides at oa) (sides at ob) (reading a remains) b total) (sym (stops stands.1))
-        (closed_here at oa ob a total ends.Ended not_built_text says (refl, inr (refl, inr (stands.0, within, refl))) (All-nil IsNoLack) (λ is. absurd cc))
+        (closed_here at oa ob a total ends.Ended not_built_text says (refl, inr (refl, inr (stands.0, within, refl))) (All-nil IsNoLack) ahead (λ is. absurd cc))
 
     unbuilt_end : (at : T) (oa ob : W) (a : Option (List ℕ)) (total : Option ℕ) (end : SessionEnd)
-        → IsRefusedBy w oa ob not_built (Err end) → StandsUnbuilt a → IsUnspent total a
+        → IsRefusedBy w oa ob not_built (Err end) → StandsUnbuilt a → IsUnspent total a → IsTakenAhead a remains
         → Closed moves w (sides at oa) (sides at ob) (reading a remains) total end
-    unbuilt_end at oa ob a total ends.WriteFault (inl x) stands within =
-        closed_here at oa ob a total ends.WriteFault (take x.0 not_built_text) x.1 (inr (inr (refl, refl, inl (x.0, stands, within, refl)))) (inl (All-nil IsNoLack)) (λ is. absurd cc)
-    unbuilt_end at oa ob a total ends.WriteFault (inr x) stands within = last_words at oa ob a total ends.WriteFault x
-    unbuilt_end at oa ob a total ends.NoMemory says stands within = last_words at oa ob a total ends.NoMemory says
-    unbuilt_end at oa ob a total ends.Ended says stands within = absurd says
-    unbuilt_end at oa ob a total ends.ReadFault says stands within = absurd says
-    unbuilt_end at oa ob a total ends.Spent says stands within = absurd says
+    unbuilt_end at oa ob a total ends.WriteFault (inl x) stands within ahead =
+        closed_here at oa ob a total ends.WriteFault (take x.0 not_built_text) x.1 (inr (inr (refl, refl, inl (x.0, stands, within, refl)))) (inl (All-nil IsNoLack)) ahead (λ is. absurd cc)
+    unbuilt_end at oa ob a total ends.WriteFault (inr x) stands within ahead = last_words at oa ob a total ends.WriteFault x ahead
+    unbuilt_end at oa ob a total ends.NoMemory says stands within ahead = last_words at oa ob a total ends.NoMemory says ahead
+    unbuilt_end at oa ob a total ends.Ended says stands within ahead = absurd says
+    unbuilt_end at oa ob a total ends.ReadFault says stands within ahead = absurd says
+    unbuilt_end at oa ob a total ends.Spent says stands within ahead = absurd says
 
     -- a message that asks nothing was answered
     pub bad_on : (at : T) (oa ob : W) (a b : Option (List ℕ)) (total : Option ℕ) (broken : Refused) (last : Bool) (done result : Result Unit SessionEnd) → IsOk done → IsRefusedBy w oa ob broken done
-        → TellsRefused a broken last b → IsUnspent total a → IfServed broken (IsHeldBack b remains)
+        → TellsRefused a broken last b → IsUnspent total a → IsTakenAhead a remains → IfServed broken (IsHeldBack b remains)
         → (last ≡ false → IsOk result) → (last ≡ true → result ≡ Err ends.Ended)
         → Went moves w (sides at oa) (sides at ob) (reading a remains) b total result
-    bad_on at oa ob a b total not_built last done result ok says tells within held goes stops = unbuilt_on at oa ob a b total last done result ok says tells within stops
-    bad_on at oa ob a b total broken last done result ok says tells within held goes stops = refused_on at oa ob a b total broken last done result ok says tells held goes stops
+    bad_on at oa ob a b total not_built last done result ok says tells within ahead held goes stops = unbuilt_on at oa ob a b total last done result ok says tells within ahead stops
+    bad_on at oa ob a b total broken last done result ok says tells within ahead held goes stops = refused_on at oa ob a b total broken last done result ok says tells held goes stops
 
     pub bad_end : (at : T) (oa ob : W) (a b : Option (List ℕ)) (total : Option ℕ) (broken : Refused) (last : Bool) (end : SessionEnd) → IsRefusedBy w oa ob broken (Err end)
-        → TellsRefused a broken last b → IsUnspent total a → IfServed broken (IsHeldBack b remains) → Closed moves w (sides at oa) (sides at ob) (reading a remains) total end
-    bad_end at oa ob a b total not_built last end says tells within held = unbuilt_end at oa ob a total end says tells.0 within
-    bad_end at oa ob a b total broken last end says tells within held = refused_end at oa ob a b total broken last end says tells held
+        → TellsRefused a broken last b → IsUnspent total a → IsTakenAhead a remains → IfServed broken (IsHeldBack b remains) → Closed moves w (sides at oa) (sides at ob) (reading a remains) total end
+    bad_end at oa ob a b total not_built last end says tells within ahead held = unbuilt_end at oa ob a total end says tells.0 within ahead
+    bad_end at oa ob a b total broken last end says tells within ahead held = refused_end at oa ob a b total broken last end says tells ahead held
 
     -- nothing was said
     silent : (at : T) (oa ob : W) (a : Option (List ℕ)) (total : Option ℕ) (end kind : SessionEnd) → (end ≡ kind) × (ob ≡ oa) → IsWritten total kind [] [] a false [] → LacksBy kind []
-        → (kind ≡ ends.ReadFault → IsBegun a remains) → Closed moves w (sides at oa) (sides at ob) (reading a remains) total end
-    silent at oa ob a total end kind x is lacked begun =
+        → IsTakenAhead a remains → (kind ≡ ends.ReadFault → IsBegun a remains) → Closed moves w (sides at oa) (sides at ob) (reading a remains) total end
+    silent at oa ob a total end kind x is lacked ahead begun =
         subst (λ (e : SessionEnd). Closed moves w (sides at oa) (sides at ob) (reading a remains) total e) (sym x.0)
         (subst (λ (o : W). Closed moves w (sides at oa) (sides at o) (reading a remains) total kind) (sym x.1)
-        (closed_here at oa oa a total kind [] (says_none oa) is lacked begun))
+        (closed_here at oa oa a total kind [] (says_none oa) is lacked ahead begun))
 
-    pub last_stop : (at : T) (oa ob : W) (a : Option (List ℕ)) (total : Option ℕ) (stop : MessageStop) (end : SessionEnd) → (stop ≡ stops.NoMemory → SaysNoMemory w oa ob end)
+    pub last_stop : (at : T) (oa ob : W) (a : Option (List ℕ)) (total : Option ℕ) (stop : MessageStop) (end : SessionEnd) → IsTakenAhead a remains
+        → (stop ≡ stops.NoMemory → SaysNoMemory w oa ob end)
         → (stop ≡ stops.ReadFault → (end ≡ ends.ReadFault) × (ob ≡ oa)) → (stop ≡ stops.Spent → (end ≡ ends.Spent) × (ob ≡ oa)) → (stop ≡ stops.Spent → IsSpent total a)
         → (stop ≡ stops.ReadFault → IsBegun a remains) → Closed moves w (sides at oa) (sides at ob) (reading a remains) total end
-    last_stop at oa ob a total stops.NoMemory end says read spent unsettled begun = last_words at oa ob a total end (says refl)
-    last_stop at oa ob a total stops.ReadFault end says read spent unsettled begun =
-        silent at oa ob a total end ends.ReadFault (read refl) (refl, refl, refl) (All-nil IsNoLack) (λ is. begun refl)
-    last_stop at oa ob a total stops.Spent end says read spent unsettled begun =
-        silent at oa ob a total end ends.Spent (spent refl) (refl, refl, unsettled refl, refl) (All-nil IsNoLack) (λ is. absurd cc)
+    last_stop at oa ob a total stops.NoMemory end ahead says read spent unsettled begun = last_words at oa ob a total end (says refl) ahead
+    last_stop at oa ob a total stops.ReadFault end ahead says read spent unsettled begun =
+        silent at oa ob a total end ends.ReadFault (read refl) (refl, refl, refl) (All-nil IsNoLack) ahead (λ is. begun refl)
+    last_stop at oa ob a total stops.Spent end ahead says read spent unsettled begun =
+        silent at oa ob a total end ends.Spent (spent refl) (refl, refl, unsettled refl, refl) (All-nil IsNoLack) ahead (λ is. absurd cc)
 
     -- a session that had no memory to begin with
-    pub session_lacks : (at : T) (oa ob : W) (left : Option (List ℕ)) (end : SessionEnd) → SaysNoMemory w oa ob end → Session moves w at at oa ob (reading left remains) end
-    session_lacks at oa ob left end says = whole_session at at oa ob left end (last_words at oa ob left (option_map length left) end says)
+    pub session_lacks : (at : T) (oa ob : W) (left : Option (List ℕ)) (end : SessionEnd) → SaysNoMemory w oa ob end → IsTakenAhead left remains → Session moves w at at oa ob (reading left remains) end
+    session_lacks at oa ob left end says ahead = whole_session at at oa ob left end (last_words at oa ob left (option_map length left) end says ahead)
 
     -- ---- how a message went
 

@@ -2,7 +2,7 @@
 use Rattle.std.specs.Prelude.{◌≡◌, ℕ, ◌+◌, ◌<◌, ◌≤◌, List, ◌++◌, length, Option, Some, None, option_map, ⊤}
 use Rattle.std.specs.Io.KnownBytes.{Consumes, prepend_known}
 use Rattle.http_wire.specs.Held.{head_room, take_limit}
-use Rattle.http_wire.specs.Messages.{IsUnsettled}
+use Rattle.http_wire.specs.Messages.{IsUnsettled, body_room}
 
 -- the source gave so many bytes
 abbrev pub GaveBytes : Option (List ℕ) → Option (List ℕ) → ℕ → Type 0
@@ -51,6 +51,13 @@ reading stream left = record { stream = stream; left = left }
 -- of this rest of a stream no more than a head's room was taken
 abbrev pub IsHeldBack : Option (List ℕ) → Option (List ℕ) → Type 0
 IsHeldBack rest left = (held : List ℕ) × (length held ≤ head_room) × (rest ≡ prepend_known held left)
+
+-- of this rest of a stream no more was taken than a head and a body have room for
+abbrev pub IsTakenAhead : Option (List ℕ) → Option (List ℕ) → Type 0
+IsTakenAhead None left = ⊤
+IsTakenAhead (Some rest) None = ⊥
+IsTakenAhead (Some rest) (Some left) =
+    (front : List ℕ) × (length front ≤ head_room + body_room) × (rest ≡ front ++ left)
 
 -- what was taken of this rest of a stream settles nothing: no whole message is among it
 abbrev pub IsBegun : Option (List ℕ) → Option (List ℕ) → Type 0

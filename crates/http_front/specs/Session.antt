@@ -12,7 +12,7 @@ use Rattle.http_asks.specs.Streams.{StandsUnbuilt}
 use Rattle.http_front.specs.declared.answering.SessionEnd.{SessionEnd}
 use Rattle.http_front.specs.declared.answering.SessionEnd.TheVariants as ends
 use Rattle.http_front.specs.declared.replies.Replies as sinks
-use Rattle.http_front.specs.Counts.{IsUnder, IsSpent, IsUnspent, StreamEnds, IsHeldBack, IsBegun}
+use Rattle.http_front.specs.Counts.{IsUnder, IsSpent, IsUnspent, StreamEnds, IsHeldBack, IsTakenAhead, IsBegun}
 use Rattle.http_front.specs.Exchanges.{Exchange, answered, calls_of, moments_of, Hears}
 use Rattle.http_front.specs.Texts.{exchange_text, texts, not_built_text, no_memory_text}
 
@@ -102,6 +102,8 @@ pub record Transcript (total : Option ℕ) (read : StreamEnds) (end : SessionEnd
   pub written : List ℕ
   pub is_written : IsWritten total end exchanges whole rest closed written
   pub lacked : LacksBy end exchanges
+  -- behind the last exchange at most one message is read, with what is held behind it
+  pub ahead : IsTakenAhead rest read.left
   -- behind a message that closes it nothing is read but what was held with it
   pub behind : closed ≡ true → IsHeldBack rest read.left
   -- where the source failed, each message that had come whole is an exchange

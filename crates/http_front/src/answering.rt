@@ -9,7 +9,7 @@ ghost use Rattle.http_text.specs.Shorts.{IsShort};
 ghost use Rattle.http_asks.specs.Counts.{Given};
 ghost use Rattle.http_asks.specs.Faults.{refused_of};
 ghost use Rattle.http_asks.specs.Tells.{TellsHeard, OnItem};
-ghost use Rattle.http_front.specs.Counts.{IsUnder, IsUnspent, IsHeldBack, reading, total_of};
+ghost use Rattle.http_front.specs.Counts.{IsUnder, IsUnspent, IsHeldBack, IsTakenAhead, reading, total_of};
 ghost use Rattle.http_front.specs.Saying.{OnlyReads, OnlySays, Says, SaysFront};
 ghost use Rattle.http_front.specs.Talk.{SaysNoMemory, IsSaid, IsRefusedBy, sides, AnswersOne, Talked, Closed, Went};
 ghost use Rattle.http_front.specs.Texts.{bad_text_of};
@@ -206,7 +206,7 @@ fn answer_heard<W: Replies, T: Teller>(
     requires room { 16384 ≤ length room.old }
     ensures went { (stream rest left : Option (List ℕ)) (total : Option ℕ) → TellsHeard stream heard rest
         → (heard ≡ Heard.End → IsUnder total) → IsUnspent total stream
-        → OnItem {E = MessageStop} (Ok heard) (IsHeldBack rest left)
+        → IsTakenAhead stream left → OnItem {E = MessageStop} (Ok heard) (IsHeldBack rest left)
         → Went T.moves W.Replies (sides teller.old out.old) (sides teller.new out.new) (reading stream left) rest total
         result }
     ensures item { (stream rest : Option (List ℕ)) (few many : ℕ) → TellsHeard stream heard rest

@@ -74,4 +74,3 @@ pub trait Replies {
         ensures noted { Appends (noted self.old) (noted self.new) bytes.now ⊎ Rose (faults self.old) (faults self.new) }
         ensures later { faults self.old ≤ faults self.new };
 }
-

@@ -20,6 +20,10 @@ pub record Gave (old new : Held) (left_old left_new : Option (List ℕ)) (P : Li
   pub left : Consumes left_old left_new given
   pub so : P (old.bytes ++ given)
 
+-- the bytes that were held and those that were taken since are no more than a head and a body have room for
+abbrev pub TakesFew : Held → Held → Type 0
+TakesFew old new = length old.bytes + new.taken ≤ old.taken + (head_room + body_room)
+
 -- A request stands at the front of the bytes, and the buffer's behind it follow. The message has its parts.
 pub record HasRequest (bytes : List ℕ) (held : Held) (m : MessageParts) : Type 0 where
   pub found : Request

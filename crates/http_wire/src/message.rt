@@ -8,7 +8,7 @@ ghost use Rattle.http_wire.specs.Headings.{HasHeading};
 ghost use Rattle.http_wire.specs.Held.{take_limit};
 ghost use Rattle.http_wire.specs.Messages.{IsUnsettled};
 ghost use Rattle.http_wire.specs.Parts.{body_of};
-ghost use Rattle.http_wire.specs.Answers.{Gave, HasRequest, Refuses, AwaitsLongBody, OnRequest, OnRefused, Tells};
+ghost use Rattle.http_wire.specs.Answers.{Gave, HasRequest, Refuses, AwaitsLongBody, OnRequest, OnRefused, Tells, TakesFew};
 
 use crate::body::{Gap, fill_body, fill_to};
 use crate::buffer::{Buffer, ROOM};
@@ -125,6 +125,7 @@ fn read_held<R: Source>(
     requires room { head.len + size ≤ 8192 }
     ensures tells { Gave buffer.old buffer.new (R.left source.old) (R.left source.new)
         (Tells buffer.new (R.left source.new) result) }
+    ensures ahead { TakesFew buffer.old buffer.new }
     ensures limit { buffer.new.taken ≤ take_limit }
     ensures settled { (IsUnsettled buffer.old.bytes → ⊥) → source.new ≡ source.old }
     ensures stream { R.stream source.new ≡ R.stream source.old }
@@ -156,6 +157,7 @@ fn read_apart<R: Source>(
     requires long { 8192 < head.len + size }
     ensures tells { Gave buffer.old buffer.new (R.left source.old) (R.left source.new)
         (Tells buffer.new (R.left source.new) result) }
+    ensures ahead { TakesFew buffer.old buffer.new }
     ensures limit { buffer.new.taken ≤ take_limit }
     ensures settled { (IsUnsettled buffer.old.bytes → ⊥) → source.new ≡ source.old }
     ensures stream { R.stream source.new ≡ R.stream source.old }
@@ -188,6 +190,7 @@ fn read_body<R: Source>(
     requires within { IsRequestWithin buffer.old.bytes buffer.old.spans head }
     ensures tells { Gave buffer.old buffer.new (R.left source.old) (R.left source.new)
         (Tells buffer.new (R.left source.new) result) }
+    ensures ahead { TakesFew buffer.old buffer.new }
     ensures limit { buffer.new.taken ≤ take_limit }
     ensures settled { (IsUnsettled buffer.old.bytes → ⊥) → source.new ≡ source.old }
     ensures stream { R.stream source.new ≡ R.stream source.old }
@@ -217,6 +220,7 @@ fn next_of<R: Source>(
     requires limit { buffer.old.taken ≤ take_limit }
     ensures tells { Gave buffer.old buffer.new (R.left source.old) (R.left source.new)
         (Tells buffer.new (R.left source.new) result) }
+    ensures ahead { TakesFew buffer.old buffer.new }
     ensures limit { buffer.new.taken ≤ take_limit }
     ensures settled { (IsUnsettled buffer.old.bytes → ⊥) → source.new ≡ source.old }
     ensures stream { R.stream source.new ≡ R.stream source.old }
@@ -263,6 +267,8 @@ pub fn read_message<R: Source>(
     ensures no_memory { IsErrOf result MessageStop.NoMemory
         → Gave buffer.old buffer.new (R.left source.old) (R.left source.new) AwaitsLongBody }
     ensures given { Gave buffer.old buffer.new (R.left source.old) (R.left source.new) (λ bytes. ⊤) }
+    // Whatever is answered, a head and a body at most were held and taken.
+    ensures ahead { TakesFew buffer.old buffer.new }
     ensures limit { buffer.new.taken ≤ take_limit }
     ensures fits { OnRequest result (λ m. m.used ≤ length buffer.new.bytes) }
     // A message has at least one byte.

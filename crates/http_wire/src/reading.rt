@@ -40,6 +40,7 @@ pub(crate) fn read_head<R: Source>(
 ) -> Result<Heading, MessageStop>
     ensures took { Took buffer.old buffer.new (R.left source.old) (R.left source.new) }
     ensures limit { buffer.new.taken ≤ take_limit }
+    ensures short { length buffer.new.bytes ≤ head_room }
     ensures whole { OnHead result (IsRequestOf buffer.new.bytes buffer.new.spans) }
     ensures within { OnHead result (IsRequestWithin buffer.new.bytes buffer.new.spans) }
     ensures hopeless { result ≡ Ok Heading.Hopeless

@@ -17,7 +17,7 @@ err_of (Ok x) end same = absurd same
 err_of (Err other) end same = ap (λ (e : SessionEnd). Err e) (sym same)
 
 pub returns-in_ok-answer-in-Asked-clause-went : goal.returns-in_ok-answer-in-Asked-clause-went
-returns-in_ok-answer-in-Asked-clause-went g c stream rest left total tells under within held =
+returns-in_ok-answer-in-Asked-clause-went g c stream rest left total tells under within ahead held =
     asked_on g.T.Teller.moves g.W.Replies left (sides c.args.teller.now c.args.out.now) (sides c.answer.new.teller c.answer.new.out)
     stream rest total c.in-Asked.ask c.in-Asked.last
     (Ok c.in_ok-answer-in-Asked.field-0) c.go_on_unless.result refl c.in_ok-answer-in-Asked.ensures.answers
@@ -26,7 +26,7 @@ returns-in_ok-answer-in-Asked-clause-went g c stream rest left total tells under
     c.go_on_unless.ensures.goes_on c.go_on_unless.ensures.ends
 
 pub returns-in_err-answer-in-Asked-clause-went : goal.returns-in_err-answer-in-Asked-clause-went
-returns-in_err-answer-in-Asked-clause-went g c stream rest left total tells under within held =
+returns-in_err-answer-in-Asked-clause-went g c stream rest left total tells under within ahead held =
     let before = sides c.args.teller.now c.args.out.now in
     let after = sides c.answer.new.teller c.answer.new.out in
     subst (Went g.T.Teller.moves g.W.Replies before after (reading stream left) rest total)
@@ -38,11 +38,11 @@ returns-in_err-answer-in-Asked-clause-went g c stream rest left total tells unde
     )
 
 pub returns-in_ok-say_bad-in-Bad-clause-went : goal.returns-in_ok-say_bad-in-Bad-clause-went
-returns-in_ok-say_bad-in-Bad-clause-went g c stream rest left total tells under within held =
+returns-in_ok-say_bad-in-Bad-clause-went g c stream rest left total tells under within ahead held =
     bad_on g.T.Teller.moves g.W.Replies left c.args.teller.now c.args.out.now c.say_bad.new.out stream rest total
     (refused_of c.in-Bad.bad) c.in-Bad.last
     (Ok c.in_ok-say_bad-in-Bad.field-0) c.go_on_unless-in-Bad.result refl
-    c.in_ok-say_bad-in-Bad.ensures.said (subst (λ (h : Heard). TellsHeard stream h rest) c.in-Bad.is tells) within
+    c.in_ok-say_bad-in-Bad.ensures.said (subst (λ (h : Heard). TellsHeard stream h rest) c.in-Bad.is tells) within ahead
     (subst (λ (h : Heard). OnItem {E = MessageStop} (Ok h) (IsHeldBack rest left)) c.in-Bad.is held)
     c.go_on_unless-in-Bad.ensures.goes_on c.go_on_unless-in-Bad.ensures.ends
 
@@ -52,20 +52,20 @@ returns-in_ok-say_bad-in-Bad-clause-item g c stream rest few many tells item =
     (subst (λ (h : Heard). OnItem {E = MessageStop} (Ok h) (few < many)) c.in-Bad.is item) c.go_on_unless-in-Bad.ensures.ends
 
 pub returns-in_err-say_bad-in-Bad-clause-went : goal.returns-in_err-say_bad-in-Bad-clause-went
-returns-in_err-say_bad-in-Bad-clause-went g c stream rest left total tells under within held =
+returns-in_err-say_bad-in-Bad-clause-went g c stream rest left total tells under within ahead held =
     subst (Went g.T.Teller.moves g.W.Replies (sides c.args.teller.now c.args.out.now) (sides c.args.teller.now c.say_bad.new.out)
     (reading stream left) rest total) (err_of
     c.from_residual-in_err-say_bad-in-Bad.result c.in_err-say_bad-in-Bad.field-0.0
     c.from_residual-in_err-say_bad-in-Bad.ensures.1) (
     bad_end g.T.Teller.moves g.W.Replies left c.args.teller.now c.args.out.now c.say_bad.new.out stream rest total
     (refused_of c.in-Bad.bad) c.in-Bad.last c.in_err-say_bad-in-Bad.field-0.0 c.in_err-say_bad-in-Bad.ensures.said
-    (subst (λ (h : Heard). TellsHeard stream h rest) c.in-Bad.is tells) within
+    (subst (λ (h : Heard). TellsHeard stream h rest) c.in-Bad.is tells) within ahead
     (subst (λ (h : Heard). OnItem {E = MessageStop} (Ok h) (IsHeldBack rest left)) c.in-Bad.is held)
     )
 
 pub returns-in-End-clause-went : goal.returns-in-End-clause-went
-returns-in-End-clause-went g c stream rest left total tells under within held =
+returns-in-End-clause-went g c stream rest left total tells under within ahead held =
     closed_here g.T.Teller.moves g.W.Replies left c.args.teller.now c.args.out.now c.args.out.now stream total
     Ended [] (says_none g.T.Teller.moves g.W.Replies c.args.out.now)
-    (refl, inr (refl, inl ((subst (λ (h : Heard). TellsHeard stream h rest) c.in-End.is tells), under c.in-End.is, refl))) (All-nil IsNoLack)
+    (refl, inr (refl, inl ((subst (λ (h : Heard). TellsHeard stream h rest) c.in-End.is tells), under c.in-End.is, refl))) (All-nil IsNoLack) ahead
     (λ is. absurd cc)

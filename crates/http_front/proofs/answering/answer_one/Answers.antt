@@ -2,7 +2,7 @@ use Rattle.std.proofs.Common.{◌+◌, length, ap, Ok, Err}
 use Rattle.std.specs.Io.KnownBytes.{prepend_known}
 use Rattle.http_front.specs.Counts.{total_of}
 use Rattle.http_front.specs.Talk.{sides}
-use Rattle.http_front.proofs.TalkLemmas.{last_stop, under_limit, unspent_here, held_back, spent_here, begun_here, went_on, went_end}
+use Rattle.http_front.proofs.TalkLemmas.{ahead_here, last_stop, under_limit, unspent_here, held_back, spent_here, begun_here, went_on, went_end}
 use Rattle.http_front.proofs.answering.answer_one.Goals as goal
 
 pub returns-in-Ok-clause-goes_on : goal.returns-in-Ok-clause-goes_on
@@ -17,6 +17,7 @@ returns-in-Ok-clause-goes_on g c =
     let end = c.in-Ok.ensures.at_end (ap Ok is) in
     under_limit c.args.reader.now.taken c.next.new.self.taken (left c.args.source.now) (left c.next.new.source) c.in-Ok.ensures.given end.0 end.1)
     (unspent_here c.args.reader.now c.next.new.self (left c.args.source.now) (left c.next.new.source) c.in-Ok.ensures.enough c.next.ensures.limit)
+    (ahead_here c.args.reader.now c.next.new.self (left c.args.source.now) (left c.next.new.source) c.in-Ok.ensures.given c.next.ensures.ahead)
     (held_back c.in-Ok.heard c.next.new.self (left c.next.new.source) c.in-Ok.ensures.short))
 
 pub returns-in-Ok-clause-closed : goal.returns-in-Ok-clause-closed
@@ -31,6 +32,7 @@ returns-in-Ok-clause-closed g c =
     let end = c.in-Ok.ensures.at_end (ap Ok is) in
     under_limit c.args.reader.now.taken c.next.new.self.taken (left c.args.source.now) (left c.next.new.source) c.in-Ok.ensures.given end.0 end.1)
     (unspent_here c.args.reader.now c.next.new.self (left c.args.source.now) (left c.next.new.source) c.in-Ok.ensures.enough c.next.ensures.limit)
+    (ahead_here c.args.reader.now c.next.new.self (left c.args.source.now) (left c.next.new.source) c.in-Ok.ensures.given c.next.ensures.ahead)
     (held_back c.in-Ok.heard c.next.new.self (left c.next.new.source) c.in-Ok.ensures.short))
 
 pub returns-in-Err-clause-closed : goal.returns-in-Err-clause-closed
@@ -38,6 +40,7 @@ returns-in-Err-clause-closed g c =
     let left = g.R.Source.left in
     last_stop g.T.Teller.moves g.W.Replies (left c.next.new.source) c.args.teller.now c.args.out.now c.say_stop.new.out
     (prepend_known c.args.reader.now.bytes (left c.args.source.now)) (total_of c.args.reader.now.taken (left c.args.source.now)) c.in-Err.stop c.say_stop.result
+    (ahead_here c.args.reader.now c.next.new.self (left c.args.source.now) (left c.next.new.source) c.in-Err.ensures.given c.next.ensures.ahead)
     c.say_stop.ensures.said c.say_stop.ensures.read_fault c.say_stop.ensures.spent
     (λ is.
     let spent = c.in-Err.ensures.spent (ap Err is) in

@@ -1,4 +1,4 @@
-use Rattle.http_front.proofs.TalkLemmas.{session_of, session_lacks, gave_all, gave_some, gave_none}
+use Rattle.http_front.proofs.TalkLemmas.{ahead_none, session_of, session_lacks, gave_all, gave_some, gave_none}
 use Rattle.http_front.proofs.talking.session.Goals as goal
 
 pub returns-clause-session : goal.returns-clause-session
@@ -18,7 +18,7 @@ returns-clause-spent g c spent =
 pub returns-in_default-clause-session : goal.returns-in_default-clause-session
 returns-in_default-clause-session g c =
     session_lacks g.T.Teller.moves g.W.Replies (g.R.Source.left c.args.source.now) c.args.teller.now c.args.out.now c.say_no_memory.new.out (g.R.Source.left c.args.source.now)
-    c.say_no_memory.result c.say_no_memory.ensures.said
+    c.say_no_memory.result c.say_no_memory.ensures.said (ahead_none (g.R.Source.left c.args.source.now))
 
 pub returns-in_default-clause-taken : goal.returns-in_default-clause-taken
 returns-in_default-clause-taken g c = gave_none (g.R.Source.left c.args.source.now)
@@ -26,7 +26,7 @@ returns-in_default-clause-taken g c = gave_none (g.R.Source.left c.args.source.n
 pub returns-in_default-vec-clause-session : goal.returns-in_default-vec-clause-session
 returns-in_default-vec-clause-session g c =
     session_lacks g.T.Teller.moves g.W.Replies (g.R.Source.left c.args.source.now) c.args.teller.now c.args.out.now c.say_no_memory-in_default-vec.new.out (g.R.Source.left c.args.source.now)
-    c.say_no_memory-in_default-vec.result c.say_no_memory-in_default-vec.ensures.said
+    c.say_no_memory-in_default-vec.result c.say_no_memory-in_default-vec.ensures.said (ahead_none (g.R.Source.left c.args.source.now))
 
 pub returns-in_default-vec-clause-taken : goal.returns-in_default-vec-clause-taken
 returns-in_default-vec-clause-taken g c = gave_none (g.R.Source.left c.args.source.now)
