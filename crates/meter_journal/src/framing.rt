@@ -1,5 +1,5 @@
 // The frame of an entry, behind a gate that is not open.
-ghost use Rattle.std.specs.Prelude.{◌≡◌, ◌⊎◌, ◌+◌, ◌<◌, ◌≤◌, ◌^◌, ◌++◌, [], ◌∷◌, ℕ, List, IsTrue, length, replicate, OnOk};
+ghost use Rattle.std.specs.Prelude.{◌≡◌, ◌⊎◌, ◌+◌, ◌%◌, ◌<◌, ◌≤◌, ◌^◌, ◌++◌, [], ◌∷◌, ℕ, List, IsTrue, length, replicate, OnOk};
 ghost use Rattle.std.specs.Int.{w32, to_be_bytes};
 ghost use Rattle.office_base.specs.Faults.{HasCause};
 ghost use Rattle.disk_core.specs.Files.{put, synced_file};
@@ -24,6 +24,7 @@ fn ending(block: u64, gate: u64, end: u64, limit: u64) -> &'static [u8]
     requires end { end < 2 ^ 47 }
     ensures zeros { (n : ℕ) × (result.now ≡ 0 ∷ replicate n 0) }
     ensures limit { (length result.now ≡ 1) ⊎ (end + length result.now ≤ limit) }
+    ensures whole { (length result.now ≡ 1) ⊎ ((end + length result.now) % block ≡ 0) }
 {
     let zeros = zeros();
     if block == 0 || end / block == gate / block {

@@ -129,11 +129,7 @@ fn file_of(alloc: Global, bytes: &[u8]) -> Result<MemoryDisk, Fail> {
 }
 
 // Adds the entry to an empty journal with a limit, on a disk with a block, and tells the answer and the file.
-fn added(
-    alloc: Global,
-    block: u64,
-    limit: u64,
-) -> Result<(Result<u64, AppendFault>, Vec<u8>), Fail>
+fn added(alloc: Global, block: u64, limit: u64) -> Result<(Result<u64, AppendFault>, Vec<u8>), Fail>
     requires block { block ≤ 4096 }
     requires limit { limit ≤ 2 ^ 45 }
 {
