@@ -7,7 +7,6 @@ use Rattle.std.proofs.lemmas.Bool.{and_parts}
 use Rattle.office_base.specs.Tags.{Tag, is_tag, keys_rise}
 use Rattle.office_base.proofs.Sizes.{name_small, key_small}
 use Rattle.office_types.specs.declared.command.Command.{Command}
-use Rattle.office_types.specs.declared.command.Command.TheVariants as command
 use Rattle.office_types.specs.declared.command.Entry.{Entry}
 use Rattle.office_types.specs.Entries.{entry_at}
 use Rattle.rules_json.proofs.ShortTexts.{printed_most, long_text}
