@@ -1,6 +1,6 @@
 // One message of a session and its answer.
 ghost use Rattle.std.specs.Prelude.{◌≡◌, ◌≤◌, ◌<◌, ◌+◌, ◌⊎◌, ℕ, List, Option, take, length};
-ghost use Rattle.std.specs.Prelude.{true, false, OnOk, IfOk, IfErr, IsErrOf, IsOk, Ok, Err, Some};
+ghost use Rattle.std.specs.Prelude.{true, false, OnOk, IfOk, IfErr, IfSome, IsErrOf, IsOk, Ok, Err, Some};
 ghost use Rattle.std.specs.Io.KnownBytes.{Appends, prepend_known};
 ghost use Rattle.office_base.specs.Faults.{Rose, HasCause};
 ghost use Rattle.desk_core.specs.declared.fault.DeskFault.{DeskFault};
@@ -189,8 +189,11 @@ fn answer<W: Replies, T: Teller>(
 }
 
 // Says the text of a refusal.
+#[tactic(auto, using(crate::proofs::RefusalLemmas::said_refusal, crate::proofs::RefusalLemmas::said_lack))]
 fn say_bad<W: Replies>(alloc: Global, out: &mut W, bad: http_asks::Bad) -> Result<(), SessionEnd>
-    ensures said { IsRefusedBy (W.said out.old) (W.said out.new) (refused_of bad) result }
+    ensures said { IfSome (refused_of bad) (λ broken. IsRefusedBy (W.said out.old) (W.said out.new) broken result) }
+    ensures not_read { IsErrOf result SessionEnd.ReadFault → ⊥ }
+    ensures not_spent { IsErrOf result SessionEnd.Spent → ⊥ }
     ensures moments { W.moments out.new ≡ W.moments out.old }
     ensures texts { W.texts out.new ≡ W.texts out.old }
     ensures noted { W.noted out.new ≡ W.noted out.old }
