@@ -23,7 +23,7 @@ use Rattle.http_bodies.specs.Multipart.{part_of}
 use Rattle.http_bodies.specs.Settings.{versioning_of}
 use Rattle.http_routes.specs.Spelled.{key_of}
 use Rattle.http_routes.specs.Targets as targets
-use Rattle.http_asks.specs.Meaning.{Meant, asks, refuses, not_a_month, bad_bucket_name, bad_key, flaw_in, not_json, no_such_version, no_such_upload, bad_part, missing_class, flawed, not_built, by_object_key, by_body, by_rules, by_tariff, meant_of, bucket_meant, versioning_meant, lifecycle_meant, object_meant, version_meant, upload_meant, part_meant, act_meant, due_meant, meters_meant, tariff_meant, close_meant, report_meant}
+use Rattle.http_asks.specs.Meaning.{Meant, asks, refuses, not_a_month, bad_bucket_name, bad_key, no_such_version, no_such_upload, bad_part, in_body, in_rules, in_tariff, not_built, by_object_key, by_body, by_rules, by_tariff, meant_of, bucket_meant, versioning_meant, lifecycle_meant, object_meant, version_meant, upload_meant, part_meant, act_meant, due_meant, meters_meant, tariff_meant, close_meant, report_meant}
 use Rattle.http_asks.specs.Numbers.{number_in, version_in, part_in}
 
 -- ---- numbers and ids
@@ -107,7 +107,7 @@ sets : (body : List ℕ) (enabled : Bool) → versioning_of body ≡ Ok enabled 
 unfolding versioning_meant is_bucket_name
 sets body enabled is = ap (λ (said : Result Bool BodyFlaw). by_body said (λ e. asks (Command (SetVersioning (codes "logs") e)))) is
 
-no_status : (body : List ℕ) → versioning_of body ≡ Err (bad_body (codes "Status")) → meant_of (targets.versioning (codes "logs")) (codes "PUT") body ≡ refuses (flawed (bad_body (codes "Status")))
+no_status : (body : List ℕ) → versioning_of body ≡ Err (bad_body (codes "Status")) → meant_of (targets.versioning (codes "logs")) (codes "PUT") body ≡ refuses (in_body (bad_body (codes "Status")))
 unfolding versioning_meant is_bucket_name
 no_status body is = ap (λ (said : Result Bool BodyFlaw). by_body said (λ e. asks (Command (SetVersioning (codes "logs") e)))) is
 
@@ -133,10 +133,10 @@ name_before_rules : meant_of (targets.lifecycle (codes "lo")) (codes "PUT") [] �
 unfolding lifecycle_meant is_bucket_name
 name_before_rules = refl
 
-flaw_told : (meant : Configuration → Meant) → by_rules (Err (faults.Flaw NoAction 2)) meant ≡ refuses (flaw_in NoAction 2)
+flaw_told : (meant : Configuration → Meant) → by_rules (Err (faults.Flaw NoAction 2)) meant ≡ refuses (in_rules (faults.Flaw NoAction 2))
 flaw_told meant = refl
 
-no_json : (meant : Configuration → Meant) → by_rules (Err faults.NotJson) meant ≡ refuses not_json
+no_json : (meant : Configuration → Meant) → by_rules (Err faults.NotJson) meant ≡ refuses (in_rules faults.NotJson)
 no_json meant = refl
 
 -- ---- objects
@@ -220,7 +220,7 @@ sets_prices : (body : List ℕ) (said : Prices) → tariff_of body ≡ Ok said �
 unfolding tariff_meant
 sets_prices body said is = ap (λ (read : Result Prices TariffFlaw). by_tariff read (λ t. asks (Command (SetTariff t)))) is
 
-no_price : (body : List ℕ) → tariff_of body ≡ Err (prices.missing_class Transition Glacier) → meant_of targets.tariff (codes "PUT") body ≡ refuses (missing_class Transition Glacier)
+no_price : (body : List ℕ) → tariff_of body ≡ Err (prices.missing_class Transition Glacier) → meant_of targets.tariff (codes "PUT") body ≡ refuses (in_tariff (prices.missing_class Transition Glacier))
 unfolding tariff_meant
 no_price body is = ap (λ (said : Result Prices TariffFlaw). by_tariff said (λ t. asks (Command (SetTariff t)))) is
 

@@ -1,8 +1,11 @@
 -- What is heard at the front of a stream.
 use Rattle.std.proofs.Common.{◌≡◌, ◌≢◌, ℕ, Bool, List, [], ◌∷◌, ◌++◌, length, drop, refl, sym, ap, ◌∙◌, subst, arith, length-append, append_assoc, append-nil, inl, inr, Option, Some, None, Result, Ok, Err}
-use Rattle.std.specs.Prelude.{◌<◌, IsErrOf}
+use Rattle.std.specs.Prelude.{◌<◌, IsErrOf, IfSome, IsSomeAnd, option_map}
 use Rattle.std.specs.Io.KnownBytes.{prepend_known, IsAtEnd}
 use Rattle.httparse.specs.Spans.{span_bytes}
+use Rattle.http_bodies.specs.Flaws.{body_flaw_of}
+use Rattle.rules_json.specs.Faults.{told_fault}
+use Rattle.tariff.specs.Faults.{tariff_flaw_of}
 use Rattle.http_routes.specs.Targets.{Resource}
 use Rattle.http_routes.proofs.Leads.{one_route}
 use Rattle.http_wire.specs.Answers.{Gave, HasRequest, Refuses, AwaitsLongBody, OnRequest, OnRefused}
@@ -19,9 +22,11 @@ use Rattle.http_wire.proofs.Unique.{stands_unique, stands_rest, stands_more, not
 use Rattle.http_asks.specs.Counts.{AreEnough}
 use Rattle.http_asks.specs.Faults.{refused_of}
 use Rattle.http_asks.specs.Hearing.{IsHeard, last_of}
-use Rattle.http_asks.specs.Meaning.{Refused, not_a_date, not_midnight, not_a_month, bad_bucket_name, bad_key, flaw_in, not_json, unknown_field, wrong_shape, no_such_version, no_such_upload, bad_part, not_toml, missing_class, bad_price, tariff_field, flawed, not_built, Meant, asks, refuses, meant_of, Means, IsMeant}
+use Rattle.http_asks.specs.Meaning.{Refused, not_a_month, bad_bucket_name, bad_key, no_such_version, no_such_upload, bad_part, in_body, in_rules, in_tariff, not_built, Meant, asks, refuses, meant_of, Means, IsMeant}
 use Rattle.http_asks.specs.Streams.{IsItem, IsUnbuilt, StandsUnbuilt, WantsMemory}
 use Rattle.http_asks.specs.Tells.{TellsHeard, TellsRefused}
+use Rattle.http_asks.specs.declared.bad.Bad.{Bad}
+use Rattle.http_asks.specs.declared.bad.Bad.TheVariants as bads
 use Rattle.http_asks.specs.declared.reader.Heard.{Heard}
 use Rattle.http_asks.specs.declared.reader.Heard.TheVariants as heards
 
@@ -52,6 +57,40 @@ one_item stream first second last other rest after x y =
       x.ends ∙ ap (λ (r : Request). r.last) same ∙ sym y.ends,
       stands_rest stream x.found y.found rest after x.stands y.stands,
     )
+
+-- ---- a refusal is heard
+
+some_and : {P Q : Refused → Type 0} (o : Option Refused) → ((broken : Refused) → P broken → Q broken) → IsSomeAnd o P → IsSomeAnd o Q
+some_and None f is = is
+some_and (Some broken) f is = f broken is
+
+mapped_last : {T : Type 0} (rule : T → Refused) (last : Bool) → ((x : T) → last_of (rule x) last ≡ last) → (o : Option T) → IfSome (option_map rule o) (λ (broken : Refused). last_of broken last ≡ last)
+mapped_last rule last is None = tt
+mapped_last rule last is (Some x) = is x
+
+-- what is served need not be the last
+pub last_told : (bad : Bad) (last : Bool) → (bad ≡ bads.NotBuilt → ⊥) → IfSome (refused_of bad) (λ (broken : Refused). last_of broken last ≡ last)
+last_told bads.NotAMonth last served = refl
+last_told bads.BadBucketName last served = refl
+last_told bads.BadKey last served = refl
+last_told bads.NoSuchVersion last served = refl
+last_told bads.NoSuchUpload last served = refl
+last_told bads.BadPart last served = refl
+last_told (bads.Body fault) last served = mapped_last in_body last (λ flaw. refl) (body_flaw_of fault)
+last_told (bads.Rules fault) last served = mapped_last in_rules last (λ told. refl) (told_fault fault)
+last_told (bads.Tariff fault) last served = mapped_last in_tariff last (λ flaw. refl) (tariff_flaw_of fault)
+last_told bads.NotBuilt last served = absurd (served refl)
+
+pub refusal_heard : (Means : Meant → Type 0) (last : Bool) (bad : Bad) (heard : Heard) → IsSomeAnd (refused_of bad) (λ (broken : Refused). Means (refuses broken))
+    → IfSome (refused_of bad) (λ (broken : Refused). heard ≡ heards.Bad bad (last_of broken last)) → IsHeard Means last heard
+refusal_heard Means last bad heard means is = by_rule (refused_of bad) refl means is
+  where
+    by_rule : (o : Option Refused) → refused_of bad ≡ o → IsSomeAnd o (λ (broken : Refused). Means (refuses broken))
+        → IfSome o (λ (broken : Refused). heard ≡ heards.Bad bad (last_of broken last)) → IsHeard Means last heard
+    by_rule None same means is = absurd means
+    by_rule (Some broken) same means is =
+        subst (IsHeard Means last) (sym is)
+        (subst (λ (o : Option Refused). IsSomeAnd o (λ (rule : Refused). Means (refuses rule) × (last_of broken last ≡ last_of rule last))) (sym same) (means, refl))
 
 -- ---- a request stands
 
@@ -98,29 +137,22 @@ refused_told : (bytes more after : List ℕ) (held : Held) (m : MessageParts) (b
     → Means (span_bytes held.bytes m.head.path) (span_bytes held.bytes m.head.method) (body_of m held.bytes) (refuses broken)
     → last ≡ last_of broken m.last → TellsRefused (Some (bytes ++ more)) broken last (Some (after ++ more))
 refused_told bytes more after held m not_built last a rest means ends = (unserved_stands bytes more held m a means, ends)
-refused_told bytes more after held m not_a_date last a rest means ends = item_stands bytes more after held m (refuses not_a_date) last a rest means (λ is. cc) ends
-refused_told bytes more after held m not_midnight last a rest means ends = item_stands bytes more after held m (refuses not_midnight) last a rest means (λ is. cc) ends
 refused_told bytes more after held m not_a_month last a rest means ends = item_stands bytes more after held m (refuses not_a_month) last a rest means (λ is. cc) ends
 refused_told bytes more after held m bad_bucket_name last a rest means ends = item_stands bytes more after held m (refuses bad_bucket_name) last a rest means (λ is. cc) ends
 refused_told bytes more after held m bad_key last a rest means ends = item_stands bytes more after held m (refuses bad_key) last a rest means (λ is. cc) ends
-refused_told bytes more after held m (flaw_in flaw rule) last a rest means ends = item_stands bytes more after held m (refuses (flaw_in flaw rule)) last a rest means (λ is. cc) ends
-refused_told bytes more after held m not_json last a rest means ends = item_stands bytes more after held m (refuses not_json) last a rest means (λ is. cc) ends
-refused_told bytes more after held m (unknown_field name) last a rest means ends = item_stands bytes more after held m (refuses (unknown_field name)) last a rest means (λ is. cc) ends
-refused_told bytes more after held m (wrong_shape field) last a rest means ends = item_stands bytes more after held m (refuses (wrong_shape field)) last a rest means (λ is. cc) ends
 refused_told bytes more after held m no_such_version last a rest means ends = item_stands bytes more after held m (refuses no_such_version) last a rest means (λ is. cc) ends
 refused_told bytes more after held m no_such_upload last a rest means ends = item_stands bytes more after held m (refuses no_such_upload) last a rest means (λ is. cc) ends
 refused_told bytes more after held m bad_part last a rest means ends = item_stands bytes more after held m (refuses bad_part) last a rest means (λ is. cc) ends
-refused_told bytes more after held m not_toml last a rest means ends = item_stands bytes more after held m (refuses not_toml) last a rest means (λ is. cc) ends
-refused_told bytes more after held m (missing_class table class) last a rest means ends = item_stands bytes more after held m (refuses (missing_class table class)) last a rest means (λ is. cc) ends
-refused_told bytes more after held m (bad_price table class) last a rest means ends = item_stands bytes more after held m (refuses (bad_price table class)) last a rest means (λ is. cc) ends
-refused_told bytes more after held m (tariff_field name) last a rest means ends = item_stands bytes more after held m (refuses (tariff_field name)) last a rest means (λ is. cc) ends
-refused_told bytes more after held m (flawed flaw) last a rest means ends = item_stands bytes more after held m (refuses (flawed flaw)) last a rest means (λ is. cc) ends
+refused_told bytes more after held m (in_body flaw) last a rest means ends = item_stands bytes more after held m (refuses (in_body flaw)) last a rest means (λ is. cc) ends
+refused_told bytes more after held m (in_rules fault) last a rest means ends = item_stands bytes more after held m (refuses (in_rules fault)) last a rest means (λ is. cc) ends
+refused_told bytes more after held m (in_tariff flaw) last a rest means ends = item_stands bytes more after held m (refuses (in_tariff flaw)) last a rest means (λ is. cc) ends
 
 request_told : (bytes more after : List ℕ) (held : Held) (m : MessageParts) (heard : Heard) → HasRequest bytes held m → after ≡ drop m.used held.bytes
     → IsHeard (Means (span_bytes held.bytes m.head.path) (span_bytes held.bytes m.head.method) (body_of m held.bytes)) m.last heard
     → TellsHeard (Some (bytes ++ more)) heard (Some (after ++ more))
 request_told bytes more after held m (heards.Asked ask last) a rest is = item_stands bytes more after held m (asks ask) last a rest is.0 (λ is. cc) is.1
-request_told bytes more after held m (heards.Bad bad last) a rest is = refused_told bytes more after held m (refused_of bad) last a rest is.0 is.1
+request_told bytes more after held m (heards.Bad bad last) a rest is =
+    some_and (refused_of bad) (λ (broken : Refused) x. refused_told bytes more after held m broken last a rest x.0 x.1) is
 request_told bytes more after held m heards.End a rest is = absurd is
 
 -- the whole stream, where it is told
@@ -129,27 +161,19 @@ whole_stream held xs ys given is = ap (λ (t : List ℕ). held ++ t) is ∙ sym 
 
 tells_refused_none : (broken : Refused) (bad_last last : Bool) (after : Option (List ℕ)) → bad_last ≡ last_of broken last → TellsRefused None broken bad_last after
 tells_refused_none not_built bad_last last after is = (tt, is)
-tells_refused_none not_a_date bad_last last after is = tt
-tells_refused_none not_midnight bad_last last after is = tt
 tells_refused_none not_a_month bad_last last after is = tt
 tells_refused_none bad_bucket_name bad_last last after is = tt
 tells_refused_none bad_key bad_last last after is = tt
-tells_refused_none (flaw_in flaw rule) bad_last last after is = tt
-tells_refused_none not_json bad_last last after is = tt
-tells_refused_none (unknown_field name) bad_last last after is = tt
-tells_refused_none (wrong_shape field) bad_last last after is = tt
 tells_refused_none no_such_version bad_last last after is = tt
 tells_refused_none no_such_upload bad_last last after is = tt
 tells_refused_none bad_part bad_last last after is = tt
-tells_refused_none not_toml bad_last last after is = tt
-tells_refused_none (missing_class table class) bad_last last after is = tt
-tells_refused_none (bad_price table class) bad_last last after is = tt
-tells_refused_none (tariff_field name) bad_last last after is = tt
-tells_refused_none (flawed flaw) bad_last last after is = tt
+tells_refused_none (in_body flaw) bad_last last after is = tt
+tells_refused_none (in_rules fault) bad_last last after is = tt
+tells_refused_none (in_tariff flaw) bad_last last after is = tt
 
 tells_none : (heard : Heard) (Means : Meant → Type 0) (last : Bool) (after : Option (List ℕ)) → IsHeard Means last heard → TellsHeard None heard after
 tells_none (heards.Asked ask ends) Means last after is = tt
-tells_none (heards.Bad bad ends) Means last after is = tells_refused_none (refused_of bad) ends last after is.1
+tells_none (heards.Bad bad ends) Means last after is = some_and (refused_of bad) (λ (broken : Refused) x. tells_refused_none broken ends last after x.1) is
 tells_none heards.End Means last after is = tt
 
 pub heard_told : (a b c : Held) (la lb : Option (List ℕ)) (m : MessageParts) (heard : Heard) → Gave a b la lb (λ (bytes : List ℕ). HasRequest bytes b m) → c.bytes ≡ drop m.used b.bytes

@@ -1,5 +1,5 @@
 -- What is heard of a request.
-use Rattle.std.specs.Prelude.{◌≡◌, Bool, true}
+use Rattle.std.specs.Prelude.{◌≡◌, Bool, true, IsSomeAnd}
 use Rattle.http_asks.specs.Faults.{refused_of}
 use Rattle.http_asks.specs.Meaning.{Refused, not_built, Meant, asks, refuses}
 use Rattle.http_asks.specs.declared.reader.Heard.{Heard}
@@ -13,5 +13,6 @@ last_of broken last = last
 -- what was heard is what is meant, and the last of its session where this is
 abbrev pub IsHeard : (Meant → Type 0) → Bool → Heard → Type 0
 IsHeard Means last (Asked ask ends) = Means (asks ask) × (ends ≡ last)
-IsHeard Means last (Bad bad ends) = Means (refuses (refused_of bad)) × (ends ≡ last_of (refused_of bad) last)
+IsHeard Means last (Bad bad ends) =
+    IsSomeAnd (refused_of bad) (λ broken. Means (refuses broken) × (ends ≡ last_of broken last))
 IsHeard Means last End = ⊥

@@ -8,14 +8,9 @@ use Rattle.office_base.specs.declared.version_id.VersionId.{VersionId}
 use Rattle.moments.specs.Dates.{is_month, year_in, month_in}
 use Rattle.moments.specs.Months.{month_number}
 use Rattle.rules_core.specs.Configurations.{Configuration}
-use Rattle.rules_core.specs.declared.flaw.RuleFlaw.{RuleFlaw}
 use Rattle.rules_json.specs.Reading.{rules_of}
 use Rattle.rules_json.specs.declared.fault.RulesFault.{RulesFault}
-use Rattle.rules_json.specs.declared.fault.RulesFault.TheVariants as faults
-use Rattle.class_rules.specs.declared.class.Class.{Class}
-use Rattle.tariff.specs.declared.fault.TariffTable.{TariffTable}
 use Rattle.tariff.specs.Faults.{TariffFlaw}
-use Rattle.tariff.specs.Faults as prices
 use Rattle.tariff.specs.Prices.{Prices}
 use Rattle.tariff.specs.Reading.{tariff_of}
 use Rattle.office_types.specs.declared.command.Ask.{Ask}
@@ -24,7 +19,7 @@ use Rattle.office_types.specs.declared.command.Command.TheVariants.{CreateBucket
 use Rattle.office_types.specs.declared.command.Command.TheVariants.{Put, Delete, DeleteVersion, SetTags}
 use Rattle.office_types.specs.declared.command.Command.TheVariants.{StartUpload, PutPart, Complete, Abort, Act, SetTariff, Close}
 use Rattle.office_types.specs.declared.command.Query.TheVariants.{Bucket, Rules, Stack, Upload, Due, Meters, Tariff, Report}
-use Rattle.http_bodies.specs.Flaws.{BodyFlaw, unsupported_class}
+use Rattle.http_bodies.specs.Flaws.{BodyFlaw}
 use Rattle.http_bodies.specs.Multipart.{upload_said, part_of}
 use Rattle.http_bodies.specs.Puts.{put_of}
 use Rattle.http_bodies.specs.Settings.{versioning_of, tagging_of}
@@ -34,25 +29,18 @@ use Rattle.http_routes.specs.Targets as targets
 use Rattle.http_wire.specs.Messages.{Request}
 use Rattle.http_asks.specs.Numbers.{number_in, version_in, part_in}
 
--- the rule that a request breaks; not_built: it asks what is not served (own)
+-- the rule that a request breaks: of what names a part of its path, or of what a body, a lifecycle configuration or a
+-- tariff says; not_built: it asks what is not served (own)
 pub data Refused : Type 0 where
-  not_a_date : Refused
-  not_midnight : Refused
   not_a_month : Refused
   bad_bucket_name : Refused
   bad_key : Refused
-  flaw_in : RuleFlaw → ℕ → Refused
-  not_json : Refused
-  unknown_field : List ℕ → Refused
-  wrong_shape : List ℕ → Refused
   no_such_version : Refused
   no_such_upload : Refused
   bad_part : Refused
-  not_toml : Refused
-  missing_class : TariffTable → Class → Refused
-  bad_price : TariffTable → Class → Refused
-  tariff_field : List ℕ → Refused
-  flawed : BodyFlaw → Refused
+  in_body : BodyFlaw → Refused
+  in_rules : RulesFault → Refused
+  in_tariff : TariffFlaw → Refused
   not_built : Refused
 
 -- what a request means: an ask of the office, or a refusal
@@ -87,35 +75,17 @@ by_part (Some part) refused meant = meant part
 -- this of what a body says, or its flaw
 abbrev pub by_body : {T : Type 0} → Result T BodyFlaw → (T → Meant) → Meant
 by_body (Ok said) meant = meant said
-by_body (Err flaw) meant = refuses (flawed flaw)
-
--- the rule that the text of a lifecycle configuration breaks; want of memory, the last, is the fault of no text
-abbrev pub broken_by : RulesFault → Refused
-broken_by faults.NotADate = not_a_date
-broken_by faults.NotMidnight = not_midnight
-broken_by faults.NotJson = not_json
-broken_by (faults.UnknownField name) = unknown_field name
-broken_by (faults.WrongShape field) = wrong_shape field
-broken_by (faults.UnsupportedClass name) = flawed (unsupported_class name)
-broken_by (faults.Flaw flaw rule) = flaw_in flaw rule
-broken_by faults.NoMemory = not_json
+by_body (Err flaw) meant = refuses (in_body flaw)
 
 -- this of a lifecycle configuration, or what its text breaks
 abbrev pub by_rules : Result Configuration RulesFault → (Configuration → Meant) → Meant
 by_rules (Ok rules) meant = meant rules
-by_rules (Err fault) meant = refuses (broken_by fault)
-
--- the rule that the text of a tariff breaks
-abbrev pub refused_by : TariffFlaw → Refused
-refused_by prices.not_toml = not_toml
-refused_by (prices.missing_class table class) = missing_class table class
-refused_by (prices.bad_price table class) = bad_price table class
-refused_by (prices.unknown_field name) = tariff_field name
+by_rules (Err fault) meant = refuses (in_rules fault)
 
 -- this of a tariff, or what its text breaks
 abbrev pub by_tariff : Result Prices TariffFlaw → (Prices → Meant) → Meant
 by_tariff (Ok tariff) meant = meant tariff
-by_tariff (Err flaw) meant = refuses (refused_by flaw)
+by_tariff (Err flaw) meant = refuses (in_tariff flaw)
 
 -- this, of the month that a part of the path is
 abbrev pub by_month : List ℕ → (ℕ → Meant) → Meant

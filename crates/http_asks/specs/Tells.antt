@@ -1,5 +1,5 @@
 -- What was heard at the front of a stream.
-use Rattle.std.specs.Prelude.{◌≡◌, ℕ, Bool, true, List, Option, Result, Ok, Err, ⊤}
+use Rattle.std.specs.Prelude.{◌≡◌, ℕ, Bool, true, List, Option, IsSomeAnd, IfSome, Result, Ok, Err, ⊤}
 use Rattle.std.specs.Io.KnownBytes.{IsAtEnd}
 use Rattle.http_asks.specs.Faults.{refused_of}
 use Rattle.http_asks.specs.Meaning.{Refused, not_built, asks, refuses}
@@ -13,10 +13,12 @@ abbrev pub TellsRefused : Option (List ℕ) → Refused → Bool → Option (Lis
 TellsRefused before not_built last after = StandsUnbuilt before × (last ≡ true)
 TellsRefused before broken last after = StandsItem before (refuses broken) last after
 
--- what was heard stands at the front of the stream, which is then the later one
+-- what was heard stands at the front of the stream, which is then the later one; a refusal is never heard for want of
+-- memory
 abbrev pub TellsHeard : Option (List ℕ) → Heard → Option (List ℕ) → Type 0
 TellsHeard before (Asked ask last) after = StandsItem before (asks ask) last after
-TellsHeard before (Bad bad last) after = TellsRefused before (refused_of bad) last after
+TellsHeard before (Bad bad last) after =
+    IsSomeAnd (refused_of bad) (λ broken. TellsRefused before broken last after)
 TellsHeard before End after = IsAtEnd before
 
 -- P, where the rule is one that an item breaks
@@ -27,6 +29,6 @@ IfServed broken P = P
 -- P, where an item was heard
 abbrev pub OnItem : {E : Type 0} → Result Heard E → Type 0 → Type 0
 OnItem (Ok (Asked ask last)) P = P
-OnItem (Ok (Bad bad last)) P = IfServed (refused_of bad) P
+OnItem (Ok (Bad bad last)) P = IfSome (refused_of bad) (λ broken. IfServed broken P)
 OnItem (Ok End) P = ⊤
 OnItem (Err e) P = ⊤

@@ -1,7 +1,6 @@
 // What a request asks.
-ghost use Rattle.std.specs.Prelude.{◌≡◌};
 ghost use Rattle.http_routes.specs.Targets.{resource_of};
-ghost use Rattle.http_asks.specs.Faults.{OnMeant};
+ghost use Rattle.http_asks.specs.Faults.{IsMeaning, OnMeant};
 ghost use Rattle.http_asks.specs.Meaning.{Means, meant_of};
 
 use crate::bad::{Bad, Fault};
@@ -15,7 +14,7 @@ use std::alloc::Global;
 
 // What a method asks of the resource that a route names.
 fn route_ask(alloc: Global, route: Route<'_>, method: &[u8], body: &[u8]) -> Result<Ask, Fault>
-    ensures { OnMeant result (λ meant. meant ≡ meant_of (resource_of route.entry) method.now body.now) }
+    ensures { IsMeaning result (meant_of (resource_of route.entry) method.now body.now) }
 {
     match route {
         Route::Bucket { bucket } => bucket_ask(alloc, method, bucket),

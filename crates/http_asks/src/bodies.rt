@@ -7,7 +7,7 @@ ghost use Rattle.rules_json.specs.Reading.{rules_of};
 ghost use Rattle.tariff.specs.Reading.{tariff_of};
 ghost use Rattle.http_asks.specs.Faults.{OnBroken, HasFault, HasPriceFlaw, IsFromBody};
 
-use crate::bad::{Fault, fault_of, rules_fault, tariff_fault};
+use crate::bad::{Fault, body_fault, rules_fault, tariff_fault};
 use http_bodies::{PutBody, UploadBody, read_part, read_put, read_status, read_tags, read_upload};
 use office_base::Tags;
 use rules_core::RuleSet;
@@ -21,7 +21,7 @@ pub(crate) fn put_body(alloc: Global, bytes: &[u8]) -> Result<PutBody, Fault>
 {
     match read_put(alloc, bytes) {
         Ok(body) => Ok(body),
-        Err(fault) => Err(fault_of(fault)),
+        Err(fault) => Err(body_fault(fault)),
     }
 }
 
@@ -31,7 +31,7 @@ pub(crate) fn status_body(alloc: Global, bytes: &[u8]) -> Result<bool, Fault>
 {
     match read_status(alloc, bytes) {
         Ok(enabled) => Ok(enabled),
-        Err(fault) => Err(fault_of(fault)),
+        Err(fault) => Err(body_fault(fault)),
     }
 }
 
@@ -41,7 +41,7 @@ pub(crate) fn tags_body(alloc: Global, bytes: &[u8]) -> Result<Tags, Fault>
 {
     match read_tags(alloc, bytes) {
         Ok(tags) => Ok(tags),
-        Err(fault) => Err(fault_of(fault)),
+        Err(fault) => Err(body_fault(fault)),
     }
 }
 
@@ -51,7 +51,7 @@ pub(crate) fn upload_body(alloc: Global, bytes: &[u8]) -> Result<UploadBody, Fau
 {
     match read_upload(alloc, bytes) {
         Ok(body) => Ok(body),
-        Err(fault) => Err(fault_of(fault)),
+        Err(fault) => Err(body_fault(fault)),
     }
 }
 
@@ -61,7 +61,7 @@ pub(crate) fn part_body(alloc: Global, bytes: &[u8]) -> Result<u64, Fault>
 {
     match read_part(alloc, bytes) {
         Ok(size) => Ok(size),
-        Err(fault) => Err(fault_of(fault)),
+        Err(fault) => Err(body_fault(fault)),
     }
 }
 

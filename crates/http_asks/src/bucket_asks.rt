@@ -1,6 +1,5 @@
 // What is asked of a bucket as a whole.
-ghost use Rattle.std.specs.Prelude.{◌≡◌};
-ghost use Rattle.http_asks.specs.Faults.{OnMeant};
+ghost use Rattle.http_asks.specs.Faults.{IsMeaning};
 ghost use Rattle.http_asks.specs.Meaning.{set_rules_meant};
 ghost use Rattle.http_asks.specs.Meaning.{bucket_meant, versioning_meant, lifecycle_meant};
 ghost use Rattle.http_asks.specs.Meaning.{act_meant, due_meant, meters_meant};
@@ -13,7 +12,7 @@ use std::alloc::Global;
 
 #[tactic(auto, unfolding(crate::specs::Meaning::bucket_meant))]
 pub(crate) fn bucket_ask(alloc: Global, method: &[u8], name: &str) -> Result<Ask, Fault>
-    ensures { OnMeant result (λ meant. meant ≡ bucket_meant method.now name.now) }
+    ensures { IsMeaning result (bucket_meant method.now name.now) }
 {
     if method == b"PUT".as_slice() {
         let bucket = bucket_name(alloc, name)?;
@@ -33,7 +32,7 @@ pub(crate) fn versioning_ask(
     name: &str,
     body: &[u8],
 ) -> Result<Ask, Fault>
-    ensures { OnMeant result (λ meant. meant ≡ versioning_meant method.now name.now body.now) }
+    ensures { IsMeaning result (versioning_meant method.now name.now body.now) }
 {
     if method == b"PUT".as_slice() {
         let bucket = bucket_name(alloc, name)?;
@@ -45,7 +44,7 @@ pub(crate) fn versioning_ask(
 
 // The ask of a PUT of a lifecycle configuration.
 fn rules_ask(alloc: Global, name: &str, body: &[u8]) -> Result<Ask, Fault>
-    ensures { OnMeant result (λ meant. meant ≡ set_rules_meant name.now body.now) }
+    ensures { IsMeaning result (set_rules_meant name.now body.now) }
 {
     let bucket = bucket_name(alloc, name)?;
     let rules = rules_body(alloc, body)?;
@@ -59,7 +58,7 @@ pub(crate) fn lifecycle_ask(
     name: &str,
     body: &[u8],
 ) -> Result<Ask, Fault>
-    ensures { OnMeant result (λ meant. meant ≡ lifecycle_meant method.now name.now body.now) }
+    ensures { IsMeaning result (lifecycle_meant method.now name.now body.now) }
 {
     if method == b"PUT".as_slice() {
         return rules_ask(alloc, name, body);
@@ -77,7 +76,7 @@ pub(crate) fn lifecycle_ask(
 
 #[tactic(auto, unfolding(crate::specs::Meaning::act_meant))]
 pub(crate) fn act_ask(alloc: Global, method: &[u8], name: &str) -> Result<Ask, Fault>
-    ensures { OnMeant result (λ meant. meant ≡ act_meant method.now name.now) }
+    ensures { IsMeaning result (act_meant method.now name.now) }
 {
     if method == b"POST".as_slice() {
         let bucket = bucket_name(alloc, name)?;
@@ -88,7 +87,7 @@ pub(crate) fn act_ask(alloc: Global, method: &[u8], name: &str) -> Result<Ask, F
 
 #[tactic(auto, unfolding(crate::specs::Meaning::due_meant))]
 pub(crate) fn due_ask(alloc: Global, method: &[u8], name: &str) -> Result<Ask, Fault>
-    ensures { OnMeant result (λ meant. meant ≡ due_meant method.now name.now) }
+    ensures { IsMeaning result (due_meant method.now name.now) }
 {
     if method == b"GET".as_slice() {
         let bucket = bucket_name(alloc, name)?;
@@ -104,7 +103,7 @@ pub(crate) fn meters_ask(
     name: &str,
     month: &str,
 ) -> Result<Ask, Fault>
-    ensures { OnMeant result (λ meant. meant ≡ meters_meant method.now name.now month.now) }
+    ensures { IsMeaning result (meters_meant method.now name.now month.now) }
 {
     if method == b"GET".as_slice() {
         let bucket = bucket_name(alloc, name)?;

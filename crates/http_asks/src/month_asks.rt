@@ -1,6 +1,5 @@
 // What is asked of prices and of months.
-ghost use Rattle.std.specs.Prelude.{◌≡◌};
-ghost use Rattle.http_asks.specs.Faults.{OnMeant};
+ghost use Rattle.http_asks.specs.Faults.{IsMeaning};
 ghost use Rattle.http_asks.specs.Meaning.{tariff_meant, close_meant, report_meant};
 
 use crate::bad::{Bad, Fault};
@@ -11,7 +10,7 @@ use std::alloc::Global;
 
 #[tactic(auto, unfolding(crate::specs::Meaning::tariff_meant))]
 pub(crate) fn tariff_ask(alloc: Global, method: &[u8], body: &[u8]) -> Result<Ask, Fault>
-    ensures { OnMeant result (λ meant. meant ≡ tariff_meant method.now body.now) }
+    ensures { IsMeaning result (tariff_meant method.now body.now) }
 {
     if method == b"PUT".as_slice() {
         let tariff = tariff_body(alloc, body)?;
@@ -25,7 +24,7 @@ pub(crate) fn tariff_ask(alloc: Global, method: &[u8], body: &[u8]) -> Result<As
 
 #[tactic(auto, unfolding(crate::specs::Meaning::close_meant))]
 pub(crate) fn close_ask(method: &[u8], month: &str) -> Result<Ask, Fault>
-    ensures { OnMeant result (λ meant. meant ≡ close_meant method.now month.now) }
+    ensures { IsMeaning result (close_meant method.now month.now) }
 {
     if method == b"POST".as_slice() {
         let month = month_of(month)?;
@@ -36,7 +35,7 @@ pub(crate) fn close_ask(method: &[u8], month: &str) -> Result<Ask, Fault>
 
 #[tactic(auto, unfolding(crate::specs::Meaning::report_meant))]
 pub(crate) fn report_ask(method: &[u8], month: &str) -> Result<Ask, Fault>
-    ensures { OnMeant result (λ meant. meant ≡ report_meant method.now month.now) }
+    ensures { IsMeaning result (report_meant method.now month.now) }
 {
     if method == b"GET".as_slice() {
         let month = month_of(month)?;

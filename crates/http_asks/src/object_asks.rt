@@ -1,6 +1,5 @@
 // What is asked of an object and its versions.
-ghost use Rattle.std.specs.Prelude.{◌≡◌};
-ghost use Rattle.http_asks.specs.Faults.{OnMeant};
+ghost use Rattle.http_asks.specs.Faults.{IsMeaning};
 ghost use Rattle.http_asks.specs.Meaning.{put_meant, stack_meant, delete_meant, remove_meant, set_tags_meant};
 ghost use Rattle.http_asks.specs.Meaning.{object_meant, version_meant, tags_meant};
 
@@ -12,7 +11,7 @@ use std::alloc::Global;
 
 // The ask of a PUT of an object.
 fn put_ask(alloc: Global, name: &str, part: &str, body: &[u8]) -> Result<Ask, Fault>
-    ensures { OnMeant result (λ meant. meant ≡ put_meant name.now part.now body.now) }
+    ensures { IsMeaning result (put_meant name.now part.now body.now) }
 {
     let bucket = bucket_name(alloc, name)?;
     let key = object_key(alloc, part)?;
@@ -28,7 +27,7 @@ fn put_ask(alloc: Global, name: &str, part: &str, body: &[u8]) -> Result<Ask, Fa
 
 // The ask of a GET of an object.
 fn stack_ask(alloc: Global, name: &str, part: &str) -> Result<Ask, Fault>
-    ensures { OnMeant result (λ meant. meant ≡ stack_meant name.now part.now) }
+    ensures { IsMeaning result (stack_meant name.now part.now) }
 {
     let bucket = bucket_name(alloc, name)?;
     let key = object_key(alloc, part)?;
@@ -37,7 +36,7 @@ fn stack_ask(alloc: Global, name: &str, part: &str) -> Result<Ask, Fault>
 
 // The ask of a DELETE of an object.
 fn delete_ask(alloc: Global, name: &str, part: &str) -> Result<Ask, Fault>
-    ensures { OnMeant result (λ meant. meant ≡ delete_meant name.now part.now) }
+    ensures { IsMeaning result (delete_meant name.now part.now) }
 {
     let bucket = bucket_name(alloc, name)?;
     let key = object_key(alloc, part)?;
@@ -52,7 +51,7 @@ pub(crate) fn object_ask(
     part: &str,
     body: &[u8],
 ) -> Result<Ask, Fault>
-    ensures { OnMeant result (λ meant. meant ≡ object_meant method.now name.now part.now body.now) }
+    ensures { IsMeaning result (object_meant method.now name.now part.now body.now) }
 {
     if method == b"PUT".as_slice() {
         return put_ask(alloc, name, part, body);
@@ -68,7 +67,7 @@ pub(crate) fn object_ask(
 
 // The ask of a DELETE of a version.
 fn remove_ask(alloc: Global, name: &str, id: &str, part: &str) -> Result<Ask, Fault>
-    ensures { OnMeant result (λ meant. meant ≡ remove_meant name.now id.now part.now) }
+    ensures { IsMeaning result (remove_meant name.now id.now part.now) }
 {
     let bucket = bucket_name(alloc, name)?;
     let id = version_id(id)?;
@@ -84,7 +83,7 @@ pub(crate) fn version_ask(
     id: &str,
     part: &str,
 ) -> Result<Ask, Fault>
-    ensures { OnMeant result (λ meant. meant ≡ version_meant method.now name.now id.now part.now) }
+    ensures { IsMeaning result (version_meant method.now name.now id.now part.now) }
 {
     if method == b"DELETE".as_slice() {
         return remove_ask(alloc, name, id, part);
@@ -94,7 +93,7 @@ pub(crate) fn version_ask(
 
 // The ask of a PUT of the tags of a version.
 fn tagging_ask(alloc: Global, name: &str, id: &str, part: &str, body: &[u8]) -> Result<Ask, Fault>
-    ensures { OnMeant result (λ meant. meant ≡ set_tags_meant name.now id.now part.now body.now) }
+    ensures { IsMeaning result (set_tags_meant name.now id.now part.now body.now) }
 {
     let bucket = bucket_name(alloc, name)?;
     let id = version_id(id)?;
@@ -117,7 +116,7 @@ pub(crate) fn tags_ask(
     part: &str,
     body: &[u8],
 ) -> Result<Ask, Fault>
-    ensures { OnMeant result (λ meant. meant ≡ tags_meant method.now name.now id.now part.now body.now) }
+    ensures { IsMeaning result (tags_meant method.now name.now id.now part.now body.now) }
 {
     if method == b"PUT".as_slice() {
         return tagging_ask(alloc, name, id, part, body);

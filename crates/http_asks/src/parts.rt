@@ -1,5 +1,5 @@
 // The parts of a path that have ranges.
-ghost use Rattle.std.specs.Prelude.{◌≡◌, true, false, IfOk, IfErr};
+ghost use Rattle.std.specs.Prelude.{◌≡◌, true, false, Some, IfOk, IfErr};
 ghost use Rattle.office_base.specs.Keys.{is_key};
 ghost use Rattle.office_base.specs.Names.{is_bucket_name};
 ghost use Rattle.moments.specs.Dates.{is_month, year_in, month_in};
@@ -19,7 +19,7 @@ use std::alloc::Global;
 pub(crate) fn bucket_name(alloc: Global, part: &str) -> Result<BucketName, Fault>
     ensures ok { IfOk result (λ name. (name ≡ part.now) × (is_bucket_name part.now ≡ true)) }
     ensures err { IfErr result (λ fault. OnBroken fault
-        (λ broken. (broken ≡ bad_bucket_name) × (is_bucket_name part.now ≡ false))) }
+        (λ broken. (broken ≡ Some bad_bucket_name) × (is_bucket_name part.now ≡ false))) }
 {
     match BucketName::read(alloc, part) {
         Ok(name) => Ok(name),
@@ -31,7 +31,7 @@ pub(crate) fn bucket_name(alloc: Global, part: &str) -> Result<BucketName, Fault
 pub(crate) fn object_key(alloc: Global, part: &str) -> Result<Key, Fault>
     ensures ok { IfOk result (λ key. (key ≡ key_of part.now) × (is_key (key_of part.now) ≡ true)) }
     ensures err { IfErr result (λ fault. OnBroken fault
-        (λ broken. (broken ≡ bad_key) × (is_key (key_of part.now) ≡ false))) }
+        (λ broken. (broken ≡ Some bad_key) × (is_key (key_of part.now) ≡ false))) }
 {
     match read_key(alloc, part.as_bytes()) {
         Ok(key) => Ok(key),
@@ -44,7 +44,7 @@ pub(crate) fn month_of(part: &str) -> Result<Month, Fault>
     ensures ok { IfOk result (λ m. (m ≡ month_number (year_in part.now) (month_in part.now))
         × (is_month part.now ≡ true)) }
     ensures err { IfErr result (λ fault. OnBroken fault
-        (λ broken. (broken ≡ not_a_month) × (is_month part.now ≡ false))) }
+        (λ broken. (broken ≡ Some not_a_month) × (is_month part.now ≡ false))) }
 {
     match read_month(part) {
         Ok(month) => Ok(month),

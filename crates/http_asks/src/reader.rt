@@ -1,5 +1,5 @@
 // The reader of the messages of a stream.
-ghost use Rattle.std.specs.Prelude.{◌≡◌, ◌≤◌, ◌<◌, ◌+◌, length, [], IfOk, IsErrOf, Ok};
+ghost use Rattle.std.specs.Prelude.{◌≡◌, ◌≤◌, ◌<◌, ◌+◌, length, [], IfOk, IfSome, IsErrOf, Ok};
 ghost use Rattle.std.specs.Io.KnownBytes.{IsAtEnd, prepend_known};
 ghost use Rattle.office_base.specs.Faults.{Rose};
 ghost use Rattle.httparse.specs.Spans.{IsRequestWithin, span_bytes};
@@ -60,8 +60,9 @@ impl Model for Reader {
 }
 
 // What is not served is the last of its session.
+#[tactic(auto, using(crate::proofs::HeardLemmas::last_told))]
 fn refusal_of(bad: Bad, last: bool) -> Heard
-    ensures { result ≡ Heard.Bad bad (last_of (refused_of bad) last) }
+    ensures { IfSome (refused_of bad) (λ broken. result ≡ Heard.Bad bad (last_of broken last)) }
 {
     let last = match bad {
         Bad::NotBuilt => true,

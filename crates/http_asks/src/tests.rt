@@ -1,10 +1,13 @@
 use super::*;
+use http_bodies::BodyFault;
 use http_wire::{MemorySource, MessageStop};
 use office_base::{Key, Tags, VersionId};
 use office_types::{Ask, Command, Query};
+use rules_json::RulesFault;
 use std::alloc::Global;
 use std::process::Abort;
 use std::test::Fail;
+use tariff::TariffFault;
 
 const NEXT: &str = "GET /buckets/next HTTP/1.1\r\n\r\n";
 
@@ -170,43 +173,61 @@ fn put_ask(text: &mut String, ask: &Ask) -> Result<(), Fail> {
     Ok(())
 }
 
-// The name of a refusal, and the text that it holds.
-fn words_of(bad: &Bad) -> (&str, &str) {
-    match bad {
-        Bad::NotADate => ("NotADate", ""),
-        Bad::NotMidnight => ("NotMidnight", ""),
-        Bad::NotAMonth => ("NotAMonth", ""),
-        Bad::BadBucketName => ("BadBucketName", ""),
-        Bad::BadKey => ("BadKey", ""),
-        Bad::BadTags => ("BadTags", ""),
-        Bad::BadSize => ("BadSize", ""),
-        Bad::Flaw { .. } => ("Flaw ", ""),
-        Bad::NotJson => ("NotJson", ""),
-        Bad::UnknownField { name } => ("UnknownField ", name.as_str()),
-        Bad::WrongShape { field } => ("WrongShape ", field.as_str()),
-        Bad::UnsupportedClass { name } => ("UnsupportedClass ", name.as_str()),
-        Bad::NoSuchVersion => ("NoSuchVersion", ""),
-        Bad::NoSuchUpload => ("NoSuchUpload", ""),
-        Bad::BadPart => ("BadPart", ""),
-        Bad::NotToml => ("NotToml", ""),
-        Bad::MissingClass { class, .. } => ("MissingClass ", class.name()),
-        Bad::BadPrice { class, .. } => ("BadPrice ", class.name()),
-        Bad::TariffField { name } => ("TariffField ", name.as_str()),
-        Bad::BadBody { field } => ("BadBody ", field.as_str()),
-        Bad::NotBuilt => ("NotBuilt", ""),
+fn put_body_fault(text: &mut String, fault: &BodyFault) -> Result<(), Fail> {
+    match fault {
+        BodyFault::BadBody { field } => write!(text, "BadBody {field}")?,
+        BodyFault::BadSize => text.push_str("BadSize")?,
+        BodyFault::UnsupportedClass { name } => write!(text, "UnsupportedClass {name}")?,
+        BodyFault::BadTags => text.push_str("BadTags")?,
+        BodyFault::NoMemory => text.push_str("NoMemory")?,
     }
+    Ok(())
 }
 
-fn put_bad(text: &mut String, bad: &Bad) -> Result<(), Fail> {
-    let (word, more) = words_of(bad);
-    text.push_str(word)?;
-    text.push_str(more)?;
-    match bad {
-        Bad::Flaw { flaw, rule } => write!(text, "{flaw:?} {rule}")?,
-        Bad::MissingClass { table, .. } | Bad::BadPrice { table, .. } => {
-            write!(text, " in {}", table.name())?;
+fn put_rules_fault(text: &mut String, fault: &RulesFault) -> Result<(), Fail> {
+    match fault {
+        RulesFault::NotADate => text.push_str("NotADate")?,
+        RulesFault::NotMidnight => text.push_str("NotMidnight")?,
+        RulesFault::NotJson => text.push_str("NotJson")?,
+        RulesFault::UnknownField { name } => write!(text, "UnknownField {}", name.as_str())?,
+        RulesFault::WrongShape { field } => write!(text, "WrongShape {}", field.as_str())?,
+        RulesFault::UnsupportedClass { name } => {
+            write!(text, "UnsupportedClass {}", name.as_str())?;
         }
-        _ => {}
+        RulesFault::Flaw { flaw, rule } => write!(text, "Flaw {flaw:?} {rule}")?,
+        RulesFault::NoMemory => text.push_str("NoMemory")?,
+    }
+    Ok(())
+}
+
+fn put_tariff_fault(text: &mut String, fault: &TariffFault) -> Result<(), Fail> {
+    match fault {
+        TariffFault::NotToml => text.push_str("NotToml")?,
+        TariffFault::MissingClass { table, class } => {
+            write!(text, "MissingClass {} in {}", class.name(), table.name())?;
+        }
+        TariffFault::BadPrice { table, class } => {
+            write!(text, "BadPrice {} in {}", class.name(), table.name())?;
+        }
+        TariffFault::UnknownField { name } => write!(text, "TariffField {name}")?,
+        TariffFault::NoMemory => text.push_str("NoMemory")?,
+    }
+    Ok(())
+}
+
+// The name of a refusal, and what it holds.
+fn put_bad(text: &mut String, bad: &Bad) -> Result<(), Fail> {
+    match bad {
+        Bad::NotAMonth => text.push_str("NotAMonth")?,
+        Bad::BadBucketName => text.push_str("BadBucketName")?,
+        Bad::BadKey => text.push_str("BadKey")?,
+        Bad::NoSuchVersion => text.push_str("NoSuchVersion")?,
+        Bad::NoSuchUpload => text.push_str("NoSuchUpload")?,
+        Bad::BadPart => text.push_str("BadPart")?,
+        Bad::Body(fault) => put_body_fault(text, fault)?,
+        Bad::Rules(fault) => put_rules_fault(text, fault)?,
+        Bad::Tariff(fault) => put_tariff_fault(text, fault)?,
+        Bad::NotBuilt => text.push_str("NotBuilt")?,
     }
     Ok(())
 }

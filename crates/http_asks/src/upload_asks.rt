@@ -1,6 +1,5 @@
 // What is asked of multipart uploads.
-ghost use Rattle.std.specs.Prelude.{◌≡◌};
-ghost use Rattle.http_asks.specs.Faults.{OnMeant};
+ghost use Rattle.http_asks.specs.Faults.{IsMeaning};
 ghost use Rattle.http_asks.specs.Meaning.{start_meant, shown_meant, complete_meant, abort_meant, put_part_meant};
 ghost use Rattle.http_asks.specs.Meaning.{uploads_meant, upload_meant, part_meant};
 
@@ -12,7 +11,7 @@ use std::alloc::Global;
 
 // The ask of a POST that starts an upload.
 fn start_ask(alloc: Global, name: &str, part: &str, body: &[u8]) -> Result<Ask, Fault>
-    ensures { OnMeant result (λ meant. meant ≡ start_meant name.now part.now body.now) }
+    ensures { IsMeaning result (start_meant name.now part.now body.now) }
 {
     let bucket = bucket_name(alloc, name)?;
     let key = object_key(alloc, part)?;
@@ -33,7 +32,7 @@ pub(crate) fn uploads_ask(
     part: &str,
     body: &[u8],
 ) -> Result<Ask, Fault>
-    ensures { OnMeant result (λ meant. meant ≡ uploads_meant method.now name.now part.now body.now) }
+    ensures { IsMeaning result (uploads_meant method.now name.now part.now body.now) }
 {
     if method == b"POST".as_slice() {
         return start_ask(alloc, name, part, body);
@@ -43,7 +42,7 @@ pub(crate) fn uploads_ask(
 
 // The ask of a GET of an upload.
 fn shown_ask(alloc: Global, name: &str, id: &str) -> Result<Ask, Fault>
-    ensures { OnMeant result (λ meant. meant ≡ shown_meant name.now id.now) }
+    ensures { IsMeaning result (shown_meant name.now id.now) }
 {
     let bucket = bucket_name(alloc, name)?;
     let upload = upload_number(id)?;
@@ -52,7 +51,7 @@ fn shown_ask(alloc: Global, name: &str, id: &str) -> Result<Ask, Fault>
 
 // The ask of a POST that completes an upload.
 fn complete_ask(alloc: Global, name: &str, id: &str) -> Result<Ask, Fault>
-    ensures { OnMeant result (λ meant. meant ≡ complete_meant name.now id.now) }
+    ensures { IsMeaning result (complete_meant name.now id.now) }
 {
     let bucket = bucket_name(alloc, name)?;
     let upload = upload_number(id)?;
@@ -61,7 +60,7 @@ fn complete_ask(alloc: Global, name: &str, id: &str) -> Result<Ask, Fault>
 
 // The ask of a DELETE of an upload.
 fn abort_ask(alloc: Global, name: &str, id: &str) -> Result<Ask, Fault>
-    ensures { OnMeant result (λ meant. meant ≡ abort_meant name.now id.now) }
+    ensures { IsMeaning result (abort_meant name.now id.now) }
 {
     let bucket = bucket_name(alloc, name)?;
     let upload = upload_number(id)?;
@@ -70,7 +69,7 @@ fn abort_ask(alloc: Global, name: &str, id: &str) -> Result<Ask, Fault>
 
 #[tactic(auto, unfolding(crate::specs::Meaning::upload_meant))]
 pub(crate) fn upload_ask(alloc: Global, method: &[u8], name: &str, id: &str) -> Result<Ask, Fault>
-    ensures { OnMeant result (λ meant. meant ≡ upload_meant method.now name.now id.now) }
+    ensures { IsMeaning result (upload_meant method.now name.now id.now) }
 {
     if method == b"GET".as_slice() {
         return shown_ask(alloc, name, id);
@@ -86,7 +85,7 @@ pub(crate) fn upload_ask(alloc: Global, method: &[u8], name: &str, id: &str) -> 
 
 // The ask of a PUT of a part.
 fn put_part_ask(alloc: Global, name: &str, id: &str, part: &str, body: &[u8]) -> Result<Ask, Fault>
-    ensures { OnMeant result (λ meant. meant ≡ put_part_meant name.now id.now part.now body.now) }
+    ensures { IsMeaning result (put_part_meant name.now id.now part.now body.now) }
 {
     let bucket = bucket_name(alloc, name)?;
     let upload = upload_number(id)?;
@@ -109,7 +108,7 @@ pub(crate) fn part_ask(
     part: &str,
     body: &[u8],
 ) -> Result<Ask, Fault>
-    ensures { OnMeant result (λ meant. meant ≡ part_meant method.now name.now id.now part.now body.now) }
+    ensures { IsMeaning result (part_meant method.now name.now id.now part.now body.now) }
 {
     if method == b"PUT".as_slice() {
         return put_part_ask(alloc, name, id, part, body);

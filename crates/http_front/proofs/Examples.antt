@@ -7,7 +7,7 @@ use Rattle.office_types.specs.declared.command.Ask.{Ask}
 use Rattle.desk_core.specs.Answers.{Answer, Call}
 use Rattle.desk_core.specs.declared.fault.DeskFault.TheVariants.{StoreFault, JournalFull}
 use Rattle.http_bodies.specs.Flaws.{bad_size}
-use Rattle.http_asks.specs.Meaning.{not_a_month, bad_key, flawed, not_built}
+use Rattle.http_asks.specs.Meaning.{not_a_month, bad_key, in_body, not_built}
 use Rattle.http_front.specs.Exchanges.{answered, refused, calls_of, moments_of}
 use Rattle.http_front.specs.Texts.{named_text, field_text, rule_text, damaged_text, refused_status, fault_status, bad_text, not_built_text}
 use Rattle.http_front.proofs.PrintLemmas.{two_digits, three_digits}
@@ -42,7 +42,7 @@ damaged_told =
 store_is_unavailable : (number : Option ℕ) (count : ℕ) → fault_status (StoreFault number count) ≡ 503
 store_is_unavailable number count = refl
 
-size_is_bad_request : refused_status (flawed bad_size) ≡ 400
+size_is_bad_request : refused_status (in_body bad_size) ≡ 400
 size_is_bad_request = refl
 
 unserved_text : bad_text not_built ≡ not_built_text

@@ -1,4 +1,5 @@
 mod Examples
 pub mod PrintLemmas
+pub mod RefusalLemmas
 pub mod SaidLemmas
 pub mod TalkLemmas

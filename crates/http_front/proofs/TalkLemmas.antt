@@ -1,5 +1,6 @@
 -- A session goes on.
 use Rattle.std.proofs.Common.{◌≡◌, ℕ, ◌+◌, ◌-◌, ◌<◌, ◌≤◌, Bool, true, false, List, [], ◌∷◌, ◌++◌, take, length, refl, sym, ap, ◌∙◌, subst, arith, append_assoc, append-nil, length-append, Option, Some, None, Result, Ok, Err, inl, inr, ⊎_elim, OnOk, IfErr}
+use Rattle.std.proofs.lemmas.Option.{IfSome_then}
 use Rattle.std.specs.Prelude.{◌⊎◌, option_map, IsOk}
 use Rattle.std.specs.Io.KnownBytes.{Appends, IsAtEnd, prepend_known}
 use Rattle.std.proofs.Math.Seq.{take-append-add, take-append_seam}
@@ -688,7 +689,8 @@ held_if broken P Q f p = f p
 pub held_back : (heard : Heard) (now : Held) (left : Option (List ℕ)) → OnItem {E = MessageStop} (Ok heard) (length now.bytes ≤ head_room)
     → OnItem {E = MessageStop} (Ok heard) (IsHeldBack (prepend_known now.bytes left) left)
 held_back (heards.Asked ask last) now left short = (now.bytes, short, refl)
-held_back (heards.Bad bad last) now left short = held_if (refused_of bad) (length now.bytes ≤ head_room) (IsHeldBack (prepend_known now.bytes left) left) (λ few. (now.bytes, few, refl)) short
+held_back (heards.Bad bad last) now left short =
+    IfSome_then (refused_of bad) short (λ (broken : Refused). held_if broken (length now.bytes ≤ head_room) (IsHeldBack (prepend_known now.bytes left) left) (λ few. (now.bytes, few, refl)))
 held_back heards.End now left short = tt
 
 -- a refusal after which the session goes on was an item

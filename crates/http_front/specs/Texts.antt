@@ -1,5 +1,5 @@
 -- What is said.
-use Rattle.std.specs.Prelude.{ℕ, List, [], ◌∷◌, codes, Result, Ok, Err}
+use Rattle.std.specs.Prelude.{ℕ, List, [], ◌∷◌, codes, Option, Some, None, Result, Ok, Err}
 use Rattle.std.specs.List.{flat_map}
 use Rattle.serde_json.specs.Data.{string}
 use Rattle.serde_json.specs.Written.{compact_text}
@@ -7,15 +7,17 @@ use Rattle.class_rules.specs.Classes.{class_name}
 use Rattle.class_rules.specs.declared.class.Class.{Class}
 use Rattle.rules_core.specs.declared.flaw.RuleFlaw.{RuleFlaw}
 use Rattle.rules_core.specs.declared.flaw.RuleFlaw.TheVariants as flaws
+use Rattle.rules_json.specs.declared.fault.RulesFault.{RulesFault}
+use Rattle.rules_json.specs.declared.fault.RulesFault.TheVariants as rules
+use Rattle.tariff.specs.Faults.{TariffFlaw}
+use Rattle.tariff.specs.Faults as tariffs
 use Rattle.tariff.specs.Reading.{table_name}
 use Rattle.tariff.specs.declared.fault.TariffTable.{TariffTable}
 use Rattle.http_bodies.specs.Flaws.{BodyFlaw, bad_body, bad_size, unsupported_class, bad_tags}
 use Rattle.http_text.specs.Replies.{whole_data, error_data, error_text, reply_with, answer_text}
 use Rattle.http_asks.specs.Faults.{refused_of}
-use Rattle.http_asks.specs.Meaning.{Refused, not_a_date, not_midnight, not_a_month, bad_bucket_name, bad_key}
-use Rattle.http_asks.specs.Meaning.{flaw_in, not_json, unknown_field, wrong_shape}
-use Rattle.http_asks.specs.Meaning.{no_such_version, no_such_upload, bad_part, flawed, not_built}
-use Rattle.http_asks.specs.Meaning.{not_toml, missing_class, bad_price, tariff_field}
+use Rattle.http_asks.specs.Meaning.{Refused, not_a_month, bad_bucket_name, bad_key, no_such_version, no_such_upload}
+use Rattle.http_asks.specs.Meaning.{bad_part, in_body, in_rules, in_tariff, not_built}
 use Rattle.meter_journal.specs.declared.fault.OpenFault.{OpenFault}
 use Rattle.meter_journal.specs.declared.fault.OpenFault.TheVariants as opening
 use Rattle.desk_core.specs.Answers.{Answer}
@@ -93,24 +95,32 @@ flaw_body bad_size = error_text (codes "BadSize") 13
 flaw_body (unsupported_class name) = named_text (codes "UnsupportedClass") 43 name
 flaw_body (bad_body field) = field_text (codes "BadBody") 123 field
 
+abbrev pub rules_fault_body : RulesFault → List ℕ
+rules_fault_body rules.NotADate = error_text (codes "NotADate") 2
+rules_fault_body rules.NotMidnight = error_text (codes "NotMidnight") 3
+rules_fault_body rules.NotJson = error_text (codes "NotJson") 40
+rules_fault_body (rules.UnknownField name) = named_text (codes "UnknownField") 41 name
+rules_fault_body (rules.WrongShape field) = field_text (codes "WrongShape") 42 field
+rules_fault_body (rules.UnsupportedClass name) = named_text (codes "UnsupportedClass") 43 name
+rules_fault_body (rules.Flaw flaw rule) = rule_text (flaw_name flaw) (flaw_number flaw) rule
+rules_fault_body rules.NoMemory = error_text (codes "NoMemory") 115
+
+abbrev pub tariff_flaw_body : TariffFlaw → List ℕ
+tariff_flaw_body tariffs.not_toml = error_text (codes "NotToml") 70
+tariff_flaw_body (tariffs.missing_class table class) = price_text (codes "MissingClass") 71 table class
+tariff_flaw_body (tariffs.bad_price table class) = price_text (codes "BadPrice") 72 table class
+tariff_flaw_body (tariffs.unknown_field name) = named_text (codes "UnknownField") 73 name
+
 abbrev pub refused_body : Refused → List ℕ
-refused_body not_a_date = error_text (codes "NotADate") 2
-refused_body not_midnight = error_text (codes "NotMidnight") 3
 refused_body not_a_month = error_text (codes "NotAMonth") 4
 refused_body bad_bucket_name = error_text (codes "BadBucketName") 10
 refused_body bad_key = error_text (codes "BadKey") 11
-refused_body (flaw_in flaw rule) = rule_text (flaw_name flaw) (flaw_number flaw) rule
-refused_body not_json = error_text (codes "NotJson") 40
-refused_body (unknown_field name) = named_text (codes "UnknownField") 41 name
-refused_body (wrong_shape field) = field_text (codes "WrongShape") 42 field
 refused_body no_such_version = error_text (codes "NoSuchVersion") 51
 refused_body no_such_upload = error_text (codes "NoSuchUpload") 60
 refused_body bad_part = error_text (codes "BadPart") 61
-refused_body not_toml = error_text (codes "NotToml") 70
-refused_body (missing_class table class) = price_text (codes "MissingClass") 71 table class
-refused_body (bad_price table class) = price_text (codes "BadPrice") 72 table class
-refused_body (tariff_field name) = named_text (codes "UnknownField") 73 name
-refused_body (flawed flaw) = flaw_body flaw
+refused_body (in_body flaw) = flaw_body flaw
+refused_body (in_rules fault) = rules_fault_body fault
+refused_body (in_tariff flaw) = tariff_flaw_body flaw
 refused_body not_built = error_text (codes "NotBuilt") 119
 
 -- Not Found, Conflict, Not Implemented, or Bad Request (RFC 9110, "Status Codes")
@@ -123,6 +133,18 @@ refused_status other = 400
 
 abbrev pub bad_text : Refused → List ℕ
 bad_text broken = reply_with (refused_status broken) (refused_body broken)
+
+-- the same of what is told of a refusal: of no rule where memory ran out, as in no refusal that is heard
+abbrev pub told_body : Option Refused → List ℕ
+told_body None = error_text (codes "NoMemory") 115
+told_body (Some broken) = refused_body broken
+
+abbrev pub told_status : Option Refused → ℕ
+told_status None = 500
+told_status (Some broken) = refused_status broken
+
+abbrev pub told_text : Option Refused → List ℕ
+told_text told = reply_with (told_status told) (told_body told)
 
 -- ---- a message that is asked
 
@@ -170,7 +192,7 @@ text_of (Err fault) = fault_text fault
 
 -- the text of a refusal, or of a call without an answer
 abbrev pub bad_text_of : Bad → List ℕ
-bad_text_of (Message bad) = bad_text (refused_of bad)
+bad_text_of (Message bad) = told_text (refused_of bad)
 bad_text_of (Desk fault) = fault_text fault
 
 -- ---- a session

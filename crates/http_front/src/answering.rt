@@ -1,6 +1,6 @@
 // One message of a session and its answer.
 ghost use Rattle.std.specs.Prelude.{◌≡◌, ◌≤◌, ◌<◌, ◌+◌, ℕ, List, Option, length};
-ghost use Rattle.std.specs.Prelude.{true, false, OnOk, IfErr, IsErrOf, IsOk, Ok, Err};
+ghost use Rattle.std.specs.Prelude.{true, false, OnOk, IfErr, IfSome, IsErrOf, IsOk, Ok, Err};
 ghost use Rattle.std.specs.Io.KnownBytes.{prepend_known};
 ghost use Rattle.std.specs.Result.{IsErr};
 ghost use Rattle.desk_core.specs.declared.fault.DeskFault.{DeskFault};
@@ -162,8 +162,12 @@ fn answer<W: Replies, T: Teller>(
 }
 
 // Says the text of a refusal.
+#[tactic(auto, using(crate::proofs::RefusalLemmas::said_refusal, crate::proofs::RefusalLemmas::said_lack,
+    crate::proofs::RefusalLemmas::lack_not_read, crate::proofs::RefusalLemmas::lack_not_spent))]
 fn say_bad<W: Replies>(alloc: Global, out: &mut W, bad: http_asks::Bad) -> Result<(), SessionEnd>
-    ensures said { IsRefusedBy W.Replies out.old out.new (refused_of bad) result }
+    ensures said { IfSome (refused_of bad) (λ broken. IsRefusedBy W.Replies out.old out.new broken result) }
+    ensures not_read { IsErrOf result SessionEnd.ReadFault → ⊥ }
+    ensures not_spent { IsErrOf result SessionEnd.Spent → ⊥ }
     ensures only_says { OnlySays W.Replies out.old out.new (IsErrOf result SessionEnd.WriteFault) }
 {
     let bad = Bad::Message(bad);

@@ -2,7 +2,7 @@
 use desk_core::DeskFault;
 
 /// Why a message has no answer of the office.
-#[derive(PartialEq, Debug, Drop)]
+#[derive(Drop)]
 pub enum Bad {
     /// The message's own text is refused. It was not asked.
     Message(http_asks::Bad),

@@ -1,27 +1,46 @@
 // Replies to messages that have no answer of the office.
-ghost use Rattle.std.specs.Prelude.{◌≡◌, ◌++◌, IfOk};
+ghost use Rattle.std.specs.Prelude.{◌≡◌, ◌++◌, option_map, IfOk};
 ghost use Rattle.http_asks.specs.Faults.{refused_of};
+ghost use Rattle.http_asks.specs.Meaning.{in_body, in_rules, in_tariff};
+ghost use Rattle.http_bodies.specs.Flaws.{body_flaw_of};
+ghost use Rattle.rules_json.specs.Faults.{told_fault};
+ghost use Rattle.tariff.specs.Faults.{tariff_flaw_of};
 ghost use Rattle.http_text.specs.Replies.{head_text};
 ghost use Rattle.http_text.specs.Room.{Puts};
-ghost use Rattle.http_front.specs.Texts.{bad_text, bad_text_of, refused_body, refused_status};
+ghost use Rattle.http_front.specs.Texts.{bad_text_of, told_body, told_status, told_text};
 ghost use Rattle.http_front.specs.Texts.{field_text, flaw_name, flaw_number, named_text, price_text, rule_text};
 
 use crate::bad::Bad;
 use crate::printing::print_call;
 use class_rules::Class;
 use http::StatusCode;
+use http_bodies::BodyFault;
 use http_text::{put, put_error, put_head, put_number, put_quoted};
 use office_base::NoMemory;
 use rules_core::RuleFlaw;
+use rules_json::RulesFault;
 use std::alloc::Global;
-use tariff::TariffTable;
+use tariff::{TariffFault, TariffTable};
 
+#[tactic(auto, using(crate::proofs::RefusalLemmas::body_status, crate::proofs::RefusalLemmas::rules_status, crate::proofs::RefusalLemmas::tariff_status))]
 fn status(bad: &http_asks::Bad) -> StatusCode
-    ensures { result ≡ refused_status (refused_of bad.now) }
+    ensures { result ≡ told_status (refused_of bad.now) }
 {
     match bad {
         http_asks::Bad::NoSuchVersion | http_asks::Bad::NoSuchUpload => StatusCode::NOT_FOUND,
         http_asks::Bad::BadPart => StatusCode::CONFLICT,
+        http_asks::Bad::Body(fault) => match fault {
+            BodyFault::NoMemory => StatusCode::INTERNAL_SERVER_ERROR,
+            _ => StatusCode::BAD_REQUEST,
+        },
+        http_asks::Bad::Rules(fault) => match fault {
+            RulesFault::NoMemory => StatusCode::INTERNAL_SERVER_ERROR,
+            _ => StatusCode::BAD_REQUEST,
+        },
+        http_asks::Bad::Tariff(fault) => match fault {
+            TariffFault::NoMemory => StatusCode::INTERNAL_SERVER_ERROR,
+            _ => StatusCode::BAD_REQUEST,
+        },
         http_asks::Bad::NotBuilt => StatusCode::NOT_IMPLEMENTED,
         _ => StatusCode::BAD_REQUEST,
     }
@@ -132,44 +151,74 @@ fn put_price(
     put(room, at, b"}")
 }
 
+fn put_body_fault(room: &mut [u8], at: usize, fault: &BodyFault) -> usize
+    ensures { Puts room.old at room.new result (told_body (option_map in_body (body_flaw_of fault.now))) }
+{
+    match fault {
+        BodyFault::BadTags => put_error(room, at, "BadTags", 12),
+        BodyFault::BadSize => put_error(room, at, "BadSize", 13),
+        BodyFault::UnsupportedClass { name } => put_named(room, at, "UnsupportedClass", 43, name),
+        BodyFault::BadBody { field } => put_field(room, at, "BadBody", 123, field),
+        BodyFault::NoMemory => put_error(room, at, "NoMemory", 115),
+    }
+}
+
+fn put_rules_fault(room: &mut [u8], at: usize, fault: &RulesFault) -> usize
+    ensures { Puts room.old at room.new result (told_body (option_map in_rules (told_fault fault.now))) }
+{
+    match fault {
+        RulesFault::NotADate => put_error(room, at, "NotADate", 2),
+        RulesFault::NotMidnight => put_error(room, at, "NotMidnight", 3),
+        RulesFault::Flaw { flaw, rule } => put_flaw(room, at, *flaw, *rule),
+        RulesFault::NotJson => put_error(room, at, "NotJson", 40),
+        RulesFault::UnknownField { name } => {
+            put_named(room, at, "UnknownField", 41, name.as_str())
+        }
+        RulesFault::WrongShape { field } => put_field(room, at, "WrongShape", 42, field.as_str()),
+        RulesFault::UnsupportedClass { name } => {
+            put_named(room, at, "UnsupportedClass", 43, name.as_str())
+        }
+        RulesFault::NoMemory => put_error(room, at, "NoMemory", 115),
+    }
+}
+
+fn put_tariff_fault(room: &mut [u8], at: usize, fault: &TariffFault) -> usize
+    ensures { Puts room.old at room.new result (told_body (option_map in_tariff (tariff_flaw_of fault.now))) }
+{
+    match fault {
+        TariffFault::NotToml => put_error(room, at, "NotToml", 70),
+        TariffFault::MissingClass { table, class } => {
+            put_price(room, at, "MissingClass", 71, *table, *class)
+        }
+        TariffFault::BadPrice { table, class } => {
+            put_price(room, at, "BadPrice", 72, *table, *class)
+        }
+        TariffFault::UnknownField { name } => put_named(room, at, "UnknownField", 73, name),
+        TariffFault::NoMemory => put_error(room, at, "NoMemory", 115),
+    }
+}
+
 fn put_body(room: &mut [u8], at: usize, bad: &http_asks::Bad) -> usize
-    ensures { Puts room.old at room.new result (refused_body (refused_of bad.now)) }
+    ensures { Puts room.old at room.new result (told_body (refused_of bad.now)) }
 {
     match bad {
-        http_asks::Bad::NotADate => put_error(room, at, "NotADate", 2),
-        http_asks::Bad::NotMidnight => put_error(room, at, "NotMidnight", 3),
         http_asks::Bad::NotAMonth => put_error(room, at, "NotAMonth", 4),
         http_asks::Bad::BadBucketName => put_error(room, at, "BadBucketName", 10),
         http_asks::Bad::BadKey => put_error(room, at, "BadKey", 11),
-        http_asks::Bad::BadTags => put_error(room, at, "BadTags", 12),
-        http_asks::Bad::BadSize => put_error(room, at, "BadSize", 13),
-        http_asks::Bad::Flaw { flaw, rule } => put_flaw(room, at, *flaw, *rule),
-        http_asks::Bad::NotJson => put_error(room, at, "NotJson", 40),
-        http_asks::Bad::UnknownField { name } => put_named(room, at, "UnknownField", 41, name),
-        http_asks::Bad::WrongShape { field } => put_field(room, at, "WrongShape", 42, field),
-        http_asks::Bad::UnsupportedClass { name } => {
-            put_named(room, at, "UnsupportedClass", 43, name)
-        }
         http_asks::Bad::NoSuchVersion => put_error(room, at, "NoSuchVersion", 51),
         http_asks::Bad::NoSuchUpload => put_error(room, at, "NoSuchUpload", 60),
         http_asks::Bad::BadPart => put_error(room, at, "BadPart", 61),
-        http_asks::Bad::NotToml => put_error(room, at, "NotToml", 70),
-        http_asks::Bad::MissingClass { table, class } => {
-            put_price(room, at, "MissingClass", 71, *table, *class)
-        }
-        http_asks::Bad::BadPrice { table, class } => {
-            put_price(room, at, "BadPrice", 72, *table, *class)
-        }
-        http_asks::Bad::TariffField { name } => put_named(room, at, "UnknownField", 73, name),
-        http_asks::Bad::BadBody { field } => put_field(room, at, "BadBody", 123, field),
+        http_asks::Bad::Body(fault) => put_body_fault(room, at, fault),
+        http_asks::Bad::Rules(fault) => put_rules_fault(room, at, fault),
+        http_asks::Bad::Tariff(fault) => put_tariff_fault(room, at, fault),
         http_asks::Bad::NotBuilt => put_error(room, at, "NotBuilt", 119),
     }
 }
 
 // Writes the reply, whose head says that the body has so many bytes, at the front of a room.
 fn put_reply(room: &mut [u8], bad: &http_asks::Bad, size: usize) -> usize
-    ensures { Puts room.old 0 room.new result (head_text (refused_status (refused_of bad.now)) size ++ refused_body
-        (refused_of bad.now)) }
+    ensures { Puts room.old 0 room.new result (head_text (told_status (refused_of bad.now)) size
+        ++ told_body (refused_of bad.now)) }
 {
     let at = put_head(room, 0, status(bad), size);
     put_body(room, at, bad)
@@ -177,7 +226,7 @@ fn put_reply(room: &mut [u8], bad: &http_asks::Bad, size: usize) -> usize
 
 // Prints the reply to a message that is refused.
 fn print_refusal(alloc: Global, bad: &http_asks::Bad) -> Result<Vec<u8>, NoMemory>
-    ensures text { IfOk result (λ v. v.items ≡ bad_text (refused_of bad.now)) }
+    ensures text { IfOk result (λ v. v.items ≡ told_text (refused_of bad.now)) }
 {
     let size = put_body(&mut [], 0, bad);
     let whole = put_reply(&mut [], bad, size);

@@ -2,15 +2,17 @@ use super::*;
 use class_rules::Class;
 use desk_core::{Acked, Desk, DeskFault, ListClock};
 use disk_core::{Disk, FileNo, MemoryDisk};
+use http_bodies::BodyFault;
 use http_text::is_short;
 use meter_journal::OpenFault;
 use office_base::BucketName;
 use office_types::{Ask, Command};
 use rules_core::RuleFlaw;
+use rules_json::RulesFault;
 use std::alloc::Global;
 use std::process::Abort;
 use std::test::Fail;
-use tariff::TariffTable;
+use tariff::{TariffFault, TariffTable};
 
 const MADE: &[u8] =
     b"HTTP/1.1 201 Created\r\ncontent-type: application/json\r\ncontent-length: 17\r\n\r\n{\"bucket\":\"logs\"}";
@@ -193,7 +195,7 @@ fn faults_and_refusals_are_printed_exactly(rt: HostRuntime) -> Result<(), Fail> 
     let body: &[u8] = b"{\"error\":\"UnsupportedClass\",\"name\":\"FOO\",\"number\":43}";
     let reply = joined(alloc, &[BAD, b"53", GAP, body])?;
     let name = String::from_str(alloc, "FOO")?;
-    let bad = Bad::Message(http_asks::Bad::UnsupportedClass { name });
+    let bad = Bad::Message(http_asks::Bad::Body(BodyFault::UnsupportedClass { name }));
     assert_printed(&rt, alloc, &bad, &reply);
     Ok(())
 }
@@ -201,28 +203,28 @@ fn faults_and_refusals_are_printed_exactly(rt: HostRuntime) -> Result<(), Fail> 
 // Refusals that tell no text of the message. RFC 9110, "Status Codes".
 const REFUSALS: [(http_asks::Bad, &[u8], &[u8], &[u8]); 10] = [
     (
-        http_asks::Bad::NotADate,
+        http_asks::Bad::Rules(RulesFault::NotADate),
         b"400 Bad Request",
         b"31",
         b"{\"error\":\"NotADate\",\"number\":2}",
     ),
     (
-        http_asks::Bad::NotMidnight,
+        http_asks::Bad::Rules(RulesFault::NotMidnight),
         b"400 Bad Request",
         b"34",
         b"{\"error\":\"NotMidnight\",\"number\":3}",
     ),
     (
-        http_asks::Bad::Flaw {
+        http_asks::Bad::Rules(RulesFault::Flaw {
             flaw: RuleFlaw::MarkerRule,
             rule: 1,
-        },
+        }),
         b"400 Bad Request",
         b"43",
         b"{\"error\":\"MarkerRule\",\"number\":32,\"rule\":1}",
     ),
     (
-        http_asks::Bad::NotJson,
+        http_asks::Bad::Rules(RulesFault::NotJson),
         b"400 Bad Request",
         b"31",
         b"{\"error\":\"NotJson\",\"number\":40}",
@@ -246,25 +248,25 @@ const REFUSALS: [(http_asks::Bad, &[u8], &[u8], &[u8]); 10] = [
         b"{\"error\":\"BadPart\",\"number\":61}",
     ),
     (
-        http_asks::Bad::NotToml,
+        http_asks::Bad::Tariff(TariffFault::NotToml),
         b"400 Bad Request",
         b"31",
         b"{\"error\":\"NotToml\",\"number\":70}",
     ),
     (
-        http_asks::Bad::MissingClass {
+        http_asks::Bad::Tariff(TariffFault::MissingClass {
             table: TariffTable::Storage,
             class: Class::Glacier,
-        },
+        }),
         b"400 Bad Request",
         b"72",
         b"{\"class\":\"GLACIER\",\"error\":\"MissingClass\",\"number\":71,\"table\":\"storage\"}",
     ),
     (
-        http_asks::Bad::BadPrice {
+        http_asks::Bad::Tariff(TariffFault::BadPrice {
             table: TariffTable::Transition,
             class: Class::StandardIa,
-        },
+        }),
         b"400 Bad Request",
         b"75",
         b"{\"class\":\"STANDARD_IA\",\"error\":\"BadPrice\",\"number\":72,\"table\":\"transition\"}",

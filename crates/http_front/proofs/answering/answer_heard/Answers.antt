@@ -1,7 +1,8 @@
-use Rattle.std.proofs.Common.{[], ◌<◌, ◌≡◌, inl, inr, refl, sym, ap, subst, Result, Ok, Err}
+use Rattle.std.proofs.Common.{[], ◌∙◌, ◌<◌, ◌≡◌, inl, inr, refl, sym, ap, subst, Result, Ok, Err}
 use Rattle.std.specs.Result.{IsErrAnd}
 use Rattle.std.proofs.lemmas.List.Elements.{All-nil}
 use Rattle.http_asks.specs.Faults.{refused_of}
+use Rattle.http_asks.specs.Meaning.{Refused}
 use Rattle.http_asks.specs.Tells.{TellsHeard, OnItem}
 use Rattle.http_asks.specs.declared.reader.Heard.{Heard}
 use Rattle.http_wire.specs.declared.message.MessageStop.{MessageStop}
@@ -9,6 +10,7 @@ use Rattle.http_front.specs.Counts.{reading, IsHeldBack}
 use Rattle.http_front.specs.Talk.{sides, Went}
 use Rattle.http_front.specs.declared.answering.SessionEnd.{SessionEnd}
 use Rattle.http_front.specs.declared.answering.SessionEnd.TheVariants.{Ended}
+use Rattle.http_front.proofs.RefusalLemmas.{of_rule}
 use Rattle.http_front.proofs.TalkLemmas.{asked_on, asked_end, bad_on, bad_end, closed_here, item_refused, says_none, IsNoLack}
 use Rattle.http_front.proofs.answering.answer_heard.Goals as goal
 
@@ -39,17 +41,19 @@ returns-in_err-answer-in-Asked-clause-went g c stream rest left total tells unde
 
 pub returns-in_ok-say_bad-in-Bad-clause-went : goal.returns-in_ok-say_bad-in-Bad-clause-went
 returns-in_ok-say_bad-in-Bad-clause-went g c stream rest left total tells under within ahead held =
-    bad_on g.T.Teller.moves g.W.Replies left c.args.teller.now c.args.out.now c.say_bad.new.out stream rest total
-    (refused_of c.in-Bad.bad) c.in-Bad.last
-    (Ok c.in_ok-say_bad-in-Bad.field-0) c.go_on_unless-in-Bad.result refl
-    c.in_ok-say_bad-in-Bad.ensures.said (subst (λ (h : Heard). TellsHeard stream h rest) c.in-Bad.is tells) within ahead
+    of_rule (refused_of c.in-Bad.bad) (subst (λ (h : Heard). TellsHeard stream h rest) c.in-Bad.is tells) c.in_ok-say_bad-in-Bad.ensures.said
     (subst (λ (h : Heard). OnItem {E = MessageStop} (Ok h) (IsHeldBack rest left)) c.in-Bad.is held)
-    c.go_on_unless-in-Bad.ensures.goes_on c.go_on_unless-in-Bad.ensures.ends
+    (λ (broken : Refused) told said behind.
+    bad_on g.T.Teller.moves g.W.Replies left c.args.teller.now c.args.out.now c.say_bad.new.out stream rest total broken c.in-Bad.last
+    (Ok c.in_ok-say_bad-in-Bad.field-0) c.go_on_unless-in-Bad.result refl
+    said told within ahead behind c.go_on_unless-in-Bad.ensures.goes_on c.go_on_unless-in-Bad.ensures.ends)
 
 pub returns-in_ok-say_bad-in-Bad-clause-item : goal.returns-in_ok-say_bad-in-Bad-clause-item
 returns-in_ok-say_bad-in-Bad-clause-item g c stream rest few many tells item =
-    item_refused stream rest (refused_of c.in-Bad.bad) c.in-Bad.last c.go_on_unless-in-Bad.result (few < many) (subst (λ (h : Heard). TellsHeard stream h rest) c.in-Bad.is tells)
-    (subst (λ (h : Heard). OnItem {E = MessageStop} (Ok h) (few < many)) c.in-Bad.is item) c.go_on_unless-in-Bad.ensures.ends
+    let used = subst (λ (h : Heard). OnItem {E = MessageStop} (Ok h) (few < many)) c.in-Bad.is item in
+    of_rule (refused_of c.in-Bad.bad) (subst (λ (h : Heard). TellsHeard stream h rest) c.in-Bad.is tells) used used
+    (λ (broken : Refused) told served _.
+    item_refused stream rest broken c.in-Bad.last c.go_on_unless-in-Bad.result (few < many) told served c.go_on_unless-in-Bad.ensures.ends)
 
 pub returns-in_err-say_bad-in-Bad-clause-went : goal.returns-in_err-say_bad-in-Bad-clause-went
 returns-in_err-say_bad-in-Bad-clause-went g c stream rest left total tells under within ahead held =
@@ -57,10 +61,11 @@ returns-in_err-say_bad-in-Bad-clause-went g c stream rest left total tells under
     (reading stream left) rest total) (err_of
     c.from_residual-in_err-say_bad-in-Bad.result c.in_err-say_bad-in-Bad.field-0.0
     c.from_residual-in_err-say_bad-in-Bad.ensures.1) (
-    bad_end g.T.Teller.moves g.W.Replies left c.args.teller.now c.args.out.now c.say_bad.new.out stream rest total
-    (refused_of c.in-Bad.bad) c.in-Bad.last c.in_err-say_bad-in-Bad.field-0.0 c.in_err-say_bad-in-Bad.ensures.said
-    (subst (λ (h : Heard). TellsHeard stream h rest) c.in-Bad.is tells) within ahead
+    of_rule (refused_of c.in-Bad.bad) (subst (λ (h : Heard). TellsHeard stream h rest) c.in-Bad.is tells) c.in_err-say_bad-in-Bad.ensures.said
     (subst (λ (h : Heard). OnItem {E = MessageStop} (Ok h) (IsHeldBack rest left)) c.in-Bad.is held)
+    (λ (broken : Refused) told said behind.
+    bad_end g.T.Teller.moves g.W.Replies left c.args.teller.now c.args.out.now c.say_bad.new.out stream rest total broken c.in-Bad.last
+    c.in_err-say_bad-in-Bad.field-0.0 said told within ahead behind)
     )
 
 pub returns-in-End-clause-went : goal.returns-in-End-clause-went
@@ -69,3 +74,13 @@ returns-in-End-clause-went g c stream rest left total tells under within ahead h
     Ended [] (says_none g.T.Teller.moves g.W.Replies c.args.out.now)
     (refl, inr (refl, inl ((subst (λ (h : Heard). TellsHeard stream h rest) c.in-End.is tells), under c.in-End.is, refl))) (All-nil IsNoLack) ahead
     (λ is. absurd cc)
+
+pub returns-in_err-say_bad-in-Bad-clause-not_read : goal.returns-in_err-say_bad-in-Bad-clause-not_read
+returns-in_err-say_bad-in-Bad-clause-not_read g c is =
+    c.in_err-say_bad-in-Bad.ensures.not_read
+    (err_of c.from_residual-in_err-say_bad-in-Bad.result c.in_err-say_bad-in-Bad.field-0.0 c.from_residual-in_err-say_bad-in-Bad.ensures.1 ∙ is)
+
+pub returns-in_err-say_bad-in-Bad-clause-not_spent : goal.returns-in_err-say_bad-in-Bad-clause-not_spent
+returns-in_err-say_bad-in-Bad-clause-not_spent g c is =
+    c.in_err-say_bad-in-Bad.ensures.not_spent
+    (err_of c.from_residual-in_err-say_bad-in-Bad.result c.in_err-say_bad-in-Bad.field-0.0 c.from_residual-in_err-say_bad-in-Bad.ensures.1 ∙ is)
