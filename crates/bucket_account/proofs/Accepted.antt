@@ -4,6 +4,7 @@ use Rattle.std.specs.Prelude.{Option, Some, None, Result, Ok, Err, IfOk}
 use Rattle.std.specs.Option.{ok_or}
 use Rattle.office_base.specs.declared.version_id.VersionId.TheVariants.{Null}
 use Rattle.office_base.specs.Maps.{at_name, at_number}
+use Rattle.office_base.specs.Results.{◌>>=◌}
 use Rattle.rules_core.specs.Matching.{is_empty}
 use Rattle.stacks.specs.Stacks.{found, tags_at}
 use Rattle.stacks.specs.declared.refusal.StackRefusal.{StackRefusal}
@@ -15,7 +16,7 @@ use Rattle.due_core.specs.Choice.{choice}
 use Rattle.due_core.specs.declared.action.Action.{Action}
 use Rattle.plain_office.specs.Office.{Account}
 use Rattle.plain_office.specs.Changes.{next_id, remove_version, add_version}
-use Rattle.plain_office.specs.Step.{◌>>=◌, Change, refuse_if, is_accepted, has_stack, stack_in, upload_in, of_stack, delete, act}
+use Rattle.plain_office.specs.Step.{Change, refuse_if, is_accepted, has_stack, stack_in, upload_in, of_stack, delete, act}
 use Rattle.office_types.specs.Fits.{RefusalFits}
 use Rattle.office_types.specs.declared.command.Command.{Command}
 use Rattle.office_types.specs.declared.command.Command.TheVariants as command

@@ -1,8 +1,8 @@
 -- What is known of the lifecycle action that is chosen before it is done.
-use Rattle.std.proofs.Common.{◌≡◌, ◌⊎◌, inl, inr, ℕ, ◌≤◌, ◌<◌, List, refl, ap, sym, ◌∙◌, subst, Bool, true, cond}
-use Rattle.std.specs.Prelude.{Option, Some, None, Result, Ok, Err, unwrap_or, IsSome, IfSome, is_some, IsTrue}
+use Rattle.std.proofs.Common.{◌≡◌, ℕ, ◌≤◌, List, refl, ap, sym, ◌∙◌, subst, true}
+use Rattle.std.specs.Prelude.{Option, Some, None, Result, unwrap_or, IsSome, IfSome, is_some, IsTrue}
 use Rattle.std.proofs.lemmas.Bool.{and_parts}
-use Rattle.office_base.specs.Maps.{at_name, at_number}
+use Rattle.office_base.specs.Maps.{at_number}
 use Rattle.office_base.specs.declared.version_id.VersionId.{VersionId}
 use Rattle.class_rules.specs.declared.class.Class.{Class}
 use Rattle.stacks.specs.Stacks.{StackRecord, new_stack, ids_differ, version_at}

@@ -4,6 +4,7 @@ use Rattle.std.specs.Prelude.{Option, Some, None, Ok, Err, IsSome, is_some, unwr
 use Rattle.std.specs.Option.{ok_or}
 use Rattle.std.specs.List.{list_any, find}
 use Rattle.office_base.specs.Maps.{at_name}
+use Rattle.office_base.specs.Results.{◌>>=◌}
 use Rattle.office_base.specs.declared.version_id.VersionId.{VersionId}
 use Rattle.office_base.specs.declared.version_id.VersionId.TheVariants.{Null}
 use Rattle.stacks.specs.Stacks.{StackRecord, new_stack, version_at, or_no_such, found}
@@ -15,7 +16,7 @@ use Rattle.due_core.specs.Buckets.{BucketRecord}
 use Rattle.plain_office.specs.Office.{Account}
 use Rattle.plain_office.specs.Changes.{add_version, remove_version, next_id, versions_of}
 use Rattle.plain_office.specs.Orderly.{IsOneNullObject, FitsVersioning, IsOrderlyBucket}
-use Rattle.plain_office.specs.Step.{Change, ◌>>=◌, of_stack, delete, delete_version}
+use Rattle.plain_office.specs.Step.{Change, of_stack, delete, delete_version}
 use Rattle.office_types.specs.declared.reply.Reply.TheVariants.{Deleted, VersionDeleted}
 use Rattle.office_types.specs.declared.refusal.Refusal.TheVariants.{NoSuchKey, NoSuchVersion}
 use Rattle.office_laws.proofs.Buckets.{stack_orderly}

@@ -1,5 +1,5 @@
 -- How a move to another class is booked.
-use Rattle.std.proofs.Common.{◌≡◌, ℕ, ◌≤◌, List, [], ◌∷◌, ◌++◌, refl, ap, sym, ◌∙◌, subst}
+use Rattle.std.proofs.Common.{◌≡◌, ℕ, ◌≤◌, List, ap, sym, ◌∙◌, subst}
 use Rattle.std.specs.Prelude.{Some}
 use Rattle.office_base.specs.Tags.{Tag}
 use Rattle.class_rules.specs.Lines.{object_lines}

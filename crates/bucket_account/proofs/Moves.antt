@@ -1,6 +1,6 @@
 -- A bucket after an object moved to another class.
-use Rattle.std.proofs.Common.{◌≡◌, inl, ℕ, ◌+◌, ◌≤◌, ◌<◌, List, [], ◌∷◌, length, refl, ap, sym, ◌∙◌, subst, false, cond, arith}
-use Rattle.std.specs.Prelude.{Option, Some, None, Ok, unwrap_or, sum_by}
+use Rattle.std.proofs.Common.{◌≡◌, ℕ, ◌≤◌, ◌<◌, List, [], ◌∷◌, length, refl, ap, sym, ◌∙◌, subst, false, cond, arith}
+use Rattle.std.specs.Prelude.{Option, Some, None, Ok, unwrap_or}
 use Rattle.std.proofs.lemmas.List.{length-map}
 use Rattle.office_base.specs.Maps.{at_name, with_name}
 use Rattle.office_base.specs.declared.version_id.VersionId.{VersionId}
@@ -12,9 +12,8 @@ use Rattle.accrual.specs.Totals.{Totals, AreTotalsOf}
 use Rattle.due_core.specs.Buckets.{BucketRecord}
 use Rattle.plain_office.specs.Office.{Account, Books, book_of}
 use Rattle.plain_office.specs.Changes.{stacks_with, books_moved, move_version}
-use Rattle.plain_office.specs.Counts.{tag_bytes_of}
 use Rattle.office_types.specs.declared.refusal.What.TheVariants.{Buckets, Versions, Uploads, Parts, Names, Rules}
-use Rattle.office_laws.proofs.Buckets.{stack_orderly, weight_of, weight_with, not_empty}
+use Rattle.office_laws.proofs.Buckets.{stack_orderly, weight_with, not_empty}
 use Rattle.office_laws.proofs.Versions.{tags_moved}
 use Rattle.bucket_account.specs.declared.counts.Counts.{Counts}
 use Rattle.bucket_account.specs.Booking.{MayHaveStay, stack_under}

@@ -1,12 +1,11 @@
 -- The ids of the rules of a configuration.
 use Rattle.std.proofs.Common.{◌≡◌, ℕ, ◌+◌, ◌≤◌, ◌<◌, ◌-◌, zero, suc, List, [], ◌∷◌, ◌++◌, length, get_or, refl, ap, sym, ◌∙◌, subst, Bool, true, false, cond, arith}
 use Rattle.std.specs.Prelude.{Option, Some, None, Result, Ok, Err, IfOk, unwrap_or, option_map, nat_lt, slice_get}
-use Rattle.std.specs.List.{find}
 use Rattle.std.proofs.lemmas.Bool.{ltb-false}
 use Rattle.std.proofs.lemmas.Option.{slice_get_past}
 use Rattle.std.proofs.lemmas.Str.{chars-nil}
 use Rattle.office_base.specs.Tags.{char_count}
-use Rattle.rules_core.specs.Conditions.{breaks, flaws, flaw_of, first_flaw, first_flaw_after}
+use Rattle.rules_core.specs.Conditions.{breaks, flaw_of, first_flaw, first_flaw_after}
 use Rattle.rules_core.specs.Configurations.{Configuration, IsConfiguration}
 use Rattle.rules_core.specs.declared.flaw.RuleFlaw.{RuleFlaw}
 use Rattle.rules_core.specs.declared.flaw.RuleFlaw.TheVariants.{LongId, TooManyRules}

@@ -7,6 +7,7 @@ use Rattle.std.proofs.lemmas.Bool.{and_parts, not-true}
 use Rattle.std.proofs.lemmas.Bool.Decides.{nat_tests}
 use Rattle.std.proofs.lemmas.List.Sums.{sum_by-cons}
 use Rattle.office_base.specs.Maps.{at_name, with_name}
+use Rattle.office_base.specs.Results.{◌>>=◌}
 use Rattle.office_base.specs.Tags.{Tag}
 use Rattle.office_base.specs.declared.version_id.VersionId.{VersionId}
 use Rattle.rules_core.specs.Matching.{is_empty}
@@ -22,7 +23,7 @@ use Rattle.due_core.specs.Buckets.{BucketRecord}
 use Rattle.plain_office.specs.Office.{Account, Books, book_of}
 use Rattle.plain_office.specs.Changes.{with_stack}
 use Rattle.plain_office.specs.Counts.{tag_bytes, tag_bytes_of, name_bytes}
-use Rattle.plain_office.specs.Step.{Change, ◌>>=◌, of_stack, set_tags}
+use Rattle.plain_office.specs.Step.{Change, of_stack, set_tags}
 use Rattle.office_types.specs.declared.reply.Reply.TheVariants.{TagsSet}
 use Rattle.office_types.specs.declared.refusal.Refusal.{Refusal}
 use Rattle.office_types.specs.declared.refusal.Refusal.TheVariants.{NoMemory, NoSuchKey}

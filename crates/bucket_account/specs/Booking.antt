@@ -1,5 +1,6 @@
 -- How a version's coming and going is booked, in meters that stand for a bucket's books.
-use Rattle.std.specs.Prelude.{◌≡◌, ℕ, ◌+◌, ◌-◌, ◌≤◌, List, [], ◌∷◌, ◌^◌, Option, Some, None, is_some, unwrap_or, option_map, length, IsSome, ◌==◌, if◌then◌else◌}
+use Rattle.std.specs.Prelude.{◌≡◌, ℕ, ◌+◌, ◌-◌, ◌≤◌, List, [], ◌∷◌, ◌^◌, Option, Some, None, is_some, unwrap_or, option_map, length, IsSome}
+use Rattle.std.specs.Prelude.{◌==◌, if◌then◌else◌}
 use Rattle.std.specs.List.{filter}
 use Rattle.office_base.specs.Maps.{at_name}
 use Rattle.office_base.specs.declared.version_id.VersionId.{VersionId}

@@ -3,7 +3,8 @@ use Rattle.std.specs.Prelude.{◌≡◌, ◌⊎◌, ℕ, List, [], ◌∷◌, No
 use Rattle.due_core.specs.Buckets.{BucketRecord}
 use Rattle.plain_office.specs.Office.{Account}
 use Rattle.plain_office.specs.Orderly.{HasOpenStays, IsOrderlyBucket}
-use Rattle.plain_office.specs.Step.{Change, is_unversioned, set_versioning, set_rules, drop_rules, put_object, delete, delete_version, set_tags, start_upload, put_part, complete, abort, act}
+use Rattle.plain_office.specs.Step.{Change, is_unversioned, set_versioning, set_rules, drop_rules, put_object, delete, delete_version}
+use Rattle.plain_office.specs.Step.{set_tags, start_upload, put_part, complete, abort, act}
 use Rattle.office_types.specs.declared.command.Command.{Command}
 use Rattle.office_types.specs.declared.command.Command.TheVariants as command
 use Rattle.office_types.specs.declared.refusal.Refusal.{Refusal}

@@ -1,5 +1,6 @@
 // A version comes: an object, or a delete marker.
-ghost use Rattle.std.specs.Prelude.{◌≡◌, ◌⊎◌, ◌+◌, ◌^◌, ◌<◌, ◌≤◌, List, [], ℕ, None, option_map, OnOk, OnErr, IfOk, IfErr};
+ghost use Rattle.std.specs.Prelude.{◌≡◌, ◌⊎◌, ◌+◌, ◌^◌, ◌<◌, ◌≤◌, List, [], ℕ, None, option_map, OnOk, OnErr, IfOk};
+ghost use Rattle.std.specs.Prelude.{IfErr};
 ghost use Rattle.office_base.specs.Maps.{bytes_cmp, at_name, with_name, Rises};
 ghost use Rattle.stacks.specs.Stacks.{IsFreeNumber, new_stack, replaced};
 ghost use Rattle.accrual.specs.Books.{Book};
@@ -7,8 +8,11 @@ ghost use Rattle.accrual.specs.Totals.{AreTotalsOf, HasRow, most_bookings};
 ghost use Rattle.plain_office.specs.Office as plain;
 ghost use Rattle.plain_office.specs.Office.{Books, book_of};
 ghost use Rattle.plain_office.specs.Changes.{number_after, add_version};
-ghost use Rattle.bucket_account.specs.Booking.{MayCome, leaving_of, stack_under, stack_put, gone_of, since_option, books_put, counts_put, counts_after, gone_bytes, MayHaveStay, MayBePut, AreMovable};
-ghost use Rattle.bucket_account.specs.Counting.{account_of, AreCountsOver, IsWithinBy, HasGrownBy, first_over, IsFullOf};
+ghost use Rattle.bucket_account.specs.Booking.{MayCome, leaving_of, stack_under, stack_put, gone_of, since_option};
+ghost use Rattle.bucket_account.specs.Booking.{books_put, counts_put, counts_after, gone_bytes, MayHaveStay, MayBePut};
+ghost use Rattle.bucket_account.specs.Booking.{AreMovable};
+ghost use Rattle.bucket_account.specs.Counting.{account_of, AreCountsOver, IsWithinBy, HasGrownBy, first_over};
+ghost use Rattle.bucket_account.specs.Counting.{IsFullOf};
 ghost use Rattle.bucket_account.specs.Effects.{IsReadyAt, DoesEffect};
 ghost use Rattle.bucket_account.specs.Standing.{StandsForAccount, most_commands};
 

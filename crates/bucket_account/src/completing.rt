@@ -1,5 +1,6 @@
 // An object is made of the parts of an upload.
-ghost use Rattle.std.specs.Prelude.{◌≡◌, ◌⊎◌, ◌+◌, ◌≤◌, ◌∷◌, [], ℕ, None, true, false, option_map, OnOk, OnErr, IfOk, IfErr};
+ghost use Rattle.std.specs.Prelude.{◌≡◌, ◌⊎◌, ◌+◌, ◌≤◌, ◌∷◌, [], ℕ, None, true, false, option_map, OnOk, OnErr, IfOk};
+ghost use Rattle.std.specs.Prelude.{IfErr};
 ghost use Rattle.std.specs.Ordering.{nat_cmp};
 ghost use Rattle.office_base.specs.Maps.{bytes_cmp, with_name, Rises};
 ghost use Rattle.rules_core.specs.Matching.{is_empty};
@@ -7,7 +8,8 @@ ghost use Rattle.accrual.specs.Books.{Book};
 ghost use Rattle.accrual.specs.Totals.{AreTotalsOf, most_bookings};
 ghost use Rattle.plain_office.specs.Office.{Books, book_of};
 ghost use Rattle.office_types.specs.declared.refusal.What.TheVariants.{Versions, Names};
-ghost use Rattle.bucket_account.specs.Booking.{leaving_of, stack_under, stack_put, gone_of, books_put, counts_after, gone_bytes, MayHaveStay, MayBePut, AreMovable};
+ghost use Rattle.bucket_account.specs.Booking.{leaving_of, stack_under, stack_put, gone_of, books_put, counts_after};
+ghost use Rattle.bucket_account.specs.Booking.{gone_bytes, MayHaveStay, MayBePut, AreMovable};
 ghost use Rattle.bucket_account.specs.Counting.{first_over, IsFullOf};
 ghost use Rattle.bucket_account.specs.Uploading.{HavePartStays, parts_ended, whole_of};
 

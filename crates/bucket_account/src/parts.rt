@@ -1,5 +1,6 @@
 // A part of an upload is put.
-ghost use Rattle.std.specs.Prelude.{◌≡◌, ◌⊎◌, ◌+◌, ◌<◌, ◌≤◌, ◌∷◌, [], ℕ, List, None, true, false, OnOk, OnErr, IfOk, IfErr};
+ghost use Rattle.std.specs.Prelude.{◌≡◌, ◌⊎◌, ◌+◌, ◌<◌, ◌≤◌, ◌∷◌, [], ℕ, List, None, true, false, OnOk, OnErr, IfOk};
+ghost use Rattle.std.specs.Prelude.{IfErr};
 ghost use Rattle.uploads.specs.Uploads.{IsUpload, new_part, part_at, after_part, admits_part};
 ghost use Rattle.accrual.specs.Books.{Book};
 ghost use Rattle.accrual.specs.Totals.{AreTotalsOf, HasRow, most_bookings};
@@ -7,7 +8,8 @@ ghost use Rattle.plain_office.specs.Office.{Books, Item, book_of, of_part};
 ghost use Rattle.plain_office.specs.Books.{with_end};
 ghost use Rattle.office_types.specs.declared.refusal.What.TheVariants.{Parts};
 ghost use Rattle.bucket_account.specs.Counting.{first_over};
-ghost use Rattle.bucket_account.specs.Uploading.{HasPartStay, MayEndAt, put_since, books_with_part, counts_with_part, IsPartRefused};
+ghost use Rattle.bucket_account.specs.Uploading.{HasPartStay, MayEndAt, put_since, books_with_part, counts_with_part};
+ghost use Rattle.bucket_account.specs.Uploading.{IsPartRefused};
 
 use crate::booking::reserve;
 use crate::counts::Counts;

@@ -9,8 +9,10 @@ ghost use Rattle.plain_office.specs.Office as plain;
 ghost use Rattle.plain_office.specs.Office.{Books, book_of};
 ghost use Rattle.plain_office.specs.Books.{without_option};
 ghost use Rattle.plain_office.specs.Changes.{versions_of, stacks_with, remove_version};
-ghost use Rattle.bucket_account.specs.Booking.{leaving_of, stack_under, taken_of, lost_bytes, since_option, counts_taken, counts_from, MayHaveStay, AreTakable, MayGo};
-ghost use Rattle.bucket_account.specs.Counting.{account_of, AreCountsOver, IsWithinBy, HasGrownBy, first_over, IsFullOf};
+ghost use Rattle.bucket_account.specs.Booking.{leaving_of, stack_under, taken_of, lost_bytes, since_option};
+ghost use Rattle.bucket_account.specs.Booking.{counts_taken, counts_from, MayHaveStay, AreTakable, MayGo};
+ghost use Rattle.bucket_account.specs.Counting.{account_of, AreCountsOver, IsWithinBy, HasGrownBy, first_over};
+ghost use Rattle.bucket_account.specs.Counting.{IsFullOf};
 ghost use Rattle.bucket_account.specs.Effects.{IsReadyAt, DoesEffect};
 ghost use Rattle.bucket_account.specs.Standing.{StandsForAccount, most_commands};
 

@@ -6,7 +6,8 @@ ghost use Rattle.plain_office.specs.Step.{start_upload, put_part, complete, abor
 ghost use Rattle.office_types.specs.declared.refusal.What.TheVariants.{Versions, Uploads, Parts, Names};
 ghost use Rattle.office_types.specs.Fits.{ReplyFits};
 ghost use Rattle.bucket_account.specs.Changing.{IsOrderlyAccount, DoesTold};
-ghost use Rattle.bucket_account.specs.Counting.{account_of, AreCountsOver, IsWithinBy, HasGrownBy, IsFewMore, first_over, IsFullOf};
+ghost use Rattle.bucket_account.specs.Counting.{account_of, AreCountsOver, IsWithinBy, HasGrownBy, IsFewMore};
+ghost use Rattle.bucket_account.specs.Counting.{first_over, IsFullOf};
 ghost use Rattle.bucket_account.specs.Uploading.{counts_started};
 ghost use Rattle.bucket_account.specs.Standing.{StandsForAccount, most_commands};
 

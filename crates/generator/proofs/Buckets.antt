@@ -9,6 +9,7 @@ use Rattle.std.specs.Ordering.{match_ordering}
 use Rattle.std.proofs.lemmas.Bool.Decides.{nat_tests}
 use Rattle.class_rules.specs.declared.class.Class.TheVariants.{Standard}
 use Rattle.office_base.specs.Maps.{bytes_cmp, at_name, with_name}
+use Rattle.office_base.specs.Results.{◌>>=◌}
 use Rattle.due_core.specs.Buckets.{BucketRecord}
 use Rattle.office_types.specs.declared.reply.Reply.{Reply}
 use Rattle.office_types.specs.declared.reply.Reply.TheVariants.{NothingDue}
@@ -18,7 +19,8 @@ use Rattle.office_types.specs.declared.refusal.What.{What}
 use Rattle.office_types.specs.declared.refusal.What.TheVariants.{Buckets, Versions, Uploads, Parts, Names, Rules}
 use Rattle.plain_office.specs.Office.{Office, Account, empty_office}
 use Rattle.plain_office.specs.Counts.{count_of, first_full, over_buckets, version_count}
-use Rattle.plain_office.specs.Step.{◌>>=◌, Change, Outcome, refuse_if, unless_full, within_limits, on_bucket, new_account, create_bucket, settled, outcome, step, put_object, delete, set_versioning, set_rules, delete_version, start_upload, put_part, complete, act}
+use Rattle.plain_office.specs.Step.{Change, Outcome, refuse_if, unless_full, within_limits, on_bucket, new_account, create_bucket, settled, outcome, step, put_object, delete, set_versioning}
+use Rattle.plain_office.specs.Step.{set_rules, delete_version, start_upload, put_part, complete, act}
 use Rattle.generator.specs.Drafts.{name_of, key_named, drafted_id, rules_set, draft_command}
 use Rattle.generator.specs.Draws.{draw, state_after}
 use Rattle.generator.specs.Places.{class_ranked, first_draft, draft_of, kind_drawn, drawn, draft_at, place_after}

@@ -1,10 +1,11 @@
 -- What the desk answers to the commands of a load, and to what is asked of its buckets.
-use Rattle.std.proofs.Common.{◌≡◌, ℕ, suc, ◌+◌, ◌*◌, ◌-◌, ◌^◌, ◌<◌, ◌≤◌, min, true, false, List, [], ◌∷◌, Option, Some, None, Result, Ok, Err, refl, ap, sym, ◌∙◌, subst, arith, inl, inr, length-append}
+use Rattle.std.proofs.Common.{◌≡◌, ℕ, suc, ◌+◌, ◌*◌, ◌-◌, ◌^◌, ◌<◌, ◌≤◌, min, false, List, [], ◌∷◌, Option, Some, None, Result, Ok, Err, refl, ap, sym, ◌∙◌, subst, arith, inl, inr, length-append}
 use Rattle.std.specs.Prelude.{IsSomeAnd, IfOk, OnOk}
 use Rattle.std.specs.Option.{ok_or}
 use Rattle.std.specs.Io.KnownBytes.{Appends}
 use Rattle.moments.specs.Time.{end_of_time}
 use Rattle.office_base.specs.Maps.{at_name}
+use Rattle.office_base.specs.Results.{◌>>=◌}
 use Rattle.disk_core.specs.contracts.memory.MemoryDiskDisk.TheImpl as memory
 use Rattle.disk_core.specs.declared.memory.MemoryDisk.{MemoryDisk}
 use Rattle.office_types.specs.declared.command.Ask.{Ask}
@@ -20,7 +21,7 @@ use Rattle.office_types.specs.Entries.{entry_at}
 use Rattle.plain_office.specs.Office.{Office, Account}
 use Rattle.plain_office.specs.Counts.{version_count}
 use Rattle.plain_office.specs.Answers.{answer, bucket_shown}
-use Rattle.plain_office.specs.Step.{◌>>=◌, step}
+use Rattle.plain_office.specs.Step.{step}
 use Rattle.plain_office.specs.Run.{run}
 use Rattle.meter_journal.specs.History.{header, end_gate}
 use Rattle.desk_core.specs.Answers.{Answer}
@@ -176,19 +177,6 @@ pub record Keeps (bucket : ℕ) (first desk : DeskView MemoryDisk PlaceClock) (k
 
 told_at : (number n m : ℕ) (history : List Entry) (desk : DeskView MemoryDisk PlaceClock) → n ≡ m → IsDeskAfter number n history desk → IsDeskAfter number m history desk
 told_at number n m history desk is s = subst (λ (k : ℕ). IsDeskAfter number k history desk) is s
-
-pub keeps_first : (desk : DeskView MemoryDisk PlaceClock) (kept : Kept) → kept ≡ record { versions = 0; uploads = 0; position = 10 } → Keeps 0 desk desk kept
-keeps_first desk kept is = record {
-  small = omega (arith, ap (λ (k : Kept). k.versions) is, ap (λ (k : Kept). k.uploads) is);
-  stands = λ number made small s. (
-    told_at number made (made + 0) (progress number made).accepted desk (omega arith) s,
-    record {
-      versions = ap (λ (k : Kept). k.versions) is;
-      uploads = ap (λ (k : Kept). k.uploads) is;
-      position = λ none. absurd (omega (arith, none));
-    },
-  );
-}
 
 -- what the desk of a load answers to a question
 abbrev pub AnswersNext : DeskView MemoryDisk PlaceClock → Ask → Answer → DeskView MemoryDisk PlaceClock → Type 0

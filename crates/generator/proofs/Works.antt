@@ -1,7 +1,7 @@
 -- A load, from its first command to its last one.
 use Rattle.std.proofs.Common.{◌≡◌, ℕ, suc, ◌+◌, ◌^◌, ◌<◌, List, [], ap, sym, ◌∙◌, subst, arith}
 use Rattle.disk_core.specs.contracts.memory.MemoryDiskDisk.TheImpl as memory
-use Rattle.std.specs.Prelude.{true, false}
+use Rattle.std.specs.Prelude.{false}
 use Rattle.office_types.specs.declared.command.Ask.TheVariants as ask
 use Rattle.office_types.specs.declared.command.Command.{Command}
 use Rattle.office_types.specs.declared.command.Entry.{Entry}

@@ -7,7 +7,8 @@ use Rattle.class_rules.specs.declared.class.Class.{Class}
 use Rattle.class_rules.specs.declared.class.Class.TheVariants.{DeepArchive}
 use Rattle.generator.specs.Draws.{draw, state_after}
 use Rattle.generator.specs.declared.draft.Draft.{Draft}
-use Rattle.generator.specs.declared.draft.Draft.TheVariants.{CreateBucket, Enable, SetRules, SetTariff, Put, Delete, DeleteVersion, StartUpload, PutPart, Complete, Act}
+use Rattle.generator.specs.declared.draft.Draft.TheVariants.{CreateBucket, Enable, SetRules, SetTariff, Put, Delete, DeleteVersion}
+use Rattle.generator.specs.declared.draft.Draft.TheVariants.{StartUpload, PutPart, Complete, Act}
 use Rattle.generator.specs.declared.place.Place.{Place}
 
 -- before the first command: no draw was made of the number, and it is 2024-01-01 00:00 UTC

@@ -1,5 +1,5 @@
 -- The desk of a load while its commands are made, and what its buckets hold.
-use Rattle.std.specs.Prelude.{◌≡◌, ℕ, zero, suc, ◌+◌, ◌<◌, true, false, List, length, Option, Some, None, Result, Ok, Err}
+use Rattle.std.specs.Prelude.{◌≡◌, ℕ, zero, suc, ◌+◌, ◌<◌, false, List, length, Option, Some, None, Result, Ok, Err}
 use Rattle.disk_core.specs.contracts.memory.MemoryDiskDisk.TheImpl as memory
 use Rattle.disk_core.specs.declared.memory.MemoryDisk.{MemoryDisk}
 use Rattle.office_base.specs.Maps.{at_name}

@@ -22,7 +22,8 @@ use Rattle.stacks.specs.declared.version.Kind.TheVariants.{Object, Marker}
 use Rattle.stacks.specs.declared.version.Version.{Version}
 use Rattle.stacks.specs.Stacks.{StackRecord}
 use Rattle.uploads.specs.Uploads.{UploadRecord}
-use Rattle.due_core.specs.RuleActions.{Placed, placed_from, expirations, expiring, admits_move, object_actions, lone_marker_actions, noncurrent_removals, noncurrent_transitions, keeps_newer, version_actions, matches_version}
+use Rattle.due_core.specs.RuleActions.{Placed, placed_from, expirations, expiring, admits_move, object_actions, lone_marker_actions, noncurrent_removals, noncurrent_transitions, keeps_newer}
+use Rattle.due_core.specs.RuleActions.{version_actions, matches_version}
 use Rattle.due_core.specs.Candidates.{enabled_rules, timely, stack_candidates, upload_candidates, eligible_by, eligible}
 use Rattle.due_core.specs.Choice.{choice}
 use Rattle.due_core.specs.declared.action.Action.{Action}

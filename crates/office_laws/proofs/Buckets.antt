@@ -24,7 +24,8 @@ use Rattle.due_core.specs.declared.action.Candidate.{Candidate}
 use Rattle.plain_office.specs.Changes.{versions_of, with_stack, with_upload}
 use Rattle.plain_office.specs.Orderly.{IsOrderlyStack, IsOrderlyUpload, IsOrderlyBucket}
 use Rattle.office_laws.proofs.Lists.{every, every_append, every_parts, every_weaker, every_map, every_flat_map, each_list, added_sum, replaced_sum}
-use Rattle.office_laws.proofs.Maps.{by_name, by_number, other_names, found_every, at_written, at_other, rises_written, every_written, added, replaced, removed, remove_none, every_left, rises_left, at_removed, at_left}
+use Rattle.office_laws.proofs.Maps.{by_name, by_number, other_names, found_every, at_written, at_other, rises_written, every_written, added, replaced, removed, remove_none, every_left, rises_left}
+use Rattle.office_laws.proofs.Maps.{at_removed, at_left}
 use Rattle.office_laws.proofs.Versions.{Fits, fits_none, fits_stack, stack_fits, stack_later}
 
 -- ---- a bucket with another next number, and seen later

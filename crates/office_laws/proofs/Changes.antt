@@ -30,8 +30,10 @@ use Rattle.office_types.specs.declared.refusal.What.TheVariants.{Buckets, Versio
 use Rattle.office_laws.proofs.Ids.{adding}
 use Rattle.office_laws.proofs.Lists.{every_weaker, added_length, added_sum, replaced_length, replaced_sum}
 use Rattle.office_laws.proofs.Maps.{by_number, added, replaced, removed}
-use Rattle.office_laws.proofs.Versions.{Fits, IsFresh, KindFits, replaced_is, next_more, fits_added, fits_without, fits_changed, tags_change, class_change, moments_tagged, moments_moved, stack_count, count_without, count_changed, count_marked, tags_without, tags_marked, tags_moved}
-use Rattle.office_laws.proofs.Buckets.{HasStack, with_versions, numbered_later, ChangedBy, fits_now, bucket_with, weight_of, weight_with, IsTimely, timely_rules, timely_with, timely_upload, timely_without, timely_numbered, rules_with, uploads_with}
+use Rattle.office_laws.proofs.Versions.{Fits, IsFresh, KindFits, replaced_is, next_more, fits_added, fits_without, fits_changed, tags_change, class_change, moments_tagged, moments_moved, stack_count}
+use Rattle.office_laws.proofs.Versions.{count_without, count_changed, count_marked, tags_without, tags_marked, tags_moved}
+use Rattle.office_laws.proofs.Buckets.{HasStack, with_versions, numbered_later, ChangedBy, fits_now, bucket_with, weight_of, weight_with, IsTimely, timely_rules, timely_with, timely_upload}
+use Rattle.office_laws.proofs.Buckets.{timely_without, timely_numbered, rules_with, uploads_with}
 use Rattle.office_laws.proofs.Accounts.{MayMove, added as with_added, stays_added, stays_removed, stays_moved, stays_tagged}
 use Rattle.office_laws.proofs.Uploads.{upload_orderly, fresh_number, bucket_upload, bucket_without, new_orderly, part_orderly, stays_started, stays_part, stays_aborted}
 use Rattle.office_laws.proofs.Booked.{booked_begun, booked_ended, booked_version, booked_option, booked_moved, booked_parts}

@@ -1,5 +1,5 @@
 -- What is known of the choice of a bucket: it has come, its target is there, and nothing of the target changed after it.
-use Rattle.std.proofs.Common.{◌≡◌, ℕ, ◌+◌, ◌-◌, ◌<◌, ◌≤◌, List, [], ◌∷◌, ◌++◌, refl, ap, sym, ◌∙◌, subst, Bool, true, false, ◌&&◌, cond, arith, filter, length, flat_map, ◌==◌}
+use Rattle.std.proofs.Common.{◌≡◌, ℕ, ◌-◌, ◌≤◌, List, [], ◌∷◌, refl, subst, Bool, true, false, ◌&&◌, cond, arith, filter, flat_map, ◌==◌}
 use Rattle.std.specs.Prelude.{Option, Some, None, option_map, option_to_list, nat_lt, nat_le, max}
 use Rattle.std.specs.List.{AllByRecursion, best_of}
 use Rattle.std.specs.Ordering.{nat_cmp, is_lt, ordering_then}
@@ -21,7 +21,8 @@ use Rattle.stacks.specs.declared.version.Kind.{Kind}
 use Rattle.stacks.specs.declared.version.Kind.TheVariants.{Object, Marker}
 use Rattle.stacks.specs.Stacks.{StackRecord}
 use Rattle.uploads.specs.Uploads.{UploadRecord}
-use Rattle.due_core.specs.RuleActions.{Placed, placed_from, expirations, expiring, admits_move, object_actions, lone_marker_actions, noncurrent_removals, noncurrent_transitions, keeps_newer, version_actions, matches_version, upload_actions}
+use Rattle.due_core.specs.RuleActions.{Placed, placed_from, expirations, expiring, admits_move, object_actions, lone_marker_actions, noncurrent_removals, noncurrent_transitions, keeps_newer}
+use Rattle.due_core.specs.RuleActions.{version_actions, matches_version, upload_actions}
 use Rattle.due_core.specs.Candidates.{enabled_rules, timely, stack_candidates, upload_candidates, eligible_by, eligible, candidates}
 use Rattle.due_core.specs.Choice.{least, comes_before, choice}
 use Rattle.due_core.specs.declared.action.Action.{Action}

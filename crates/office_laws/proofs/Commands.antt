@@ -6,6 +6,7 @@ use Rattle.office_base.specs.Tags.{Tag}
 use Rattle.office_base.specs.Sizes.{largest_size}
 use Rattle.rules_core.specs.Matching.{is_empty}
 use Rattle.office_base.specs.Maps.{at_name, at_number}
+use Rattle.office_base.specs.Results.{◌>>=◌}
 use Rattle.uploads.specs.Uploads.{new_part, admits_part, total_size}
 use Rattle.class_rules.specs.declared.class.Class.{Class}
 use Rattle.office_base.specs.declared.version_id.VersionId.{VersionId}
@@ -22,7 +23,8 @@ use Rattle.due_core.specs.declared.action.Action.{Action}
 use Rattle.plain_office.specs.Office.{Account}
 use Rattle.plain_office.specs.Changes.{next_id, add_version, remove_version, remove_upload, effect, add_part}
 use Rattle.plain_office.specs.Counts.{rules_bytes}
-use Rattle.plain_office.specs.Step.{◌>>=◌, refuse_if, Change, has_stack, stack_in, of_stack, is_unversioned, set_versioning, set_rules, drop_rules, put_object, delete, delete_version, set_tags, start_upload, put_part, complete, abort, act, shown_action, marker_made}
+use Rattle.plain_office.specs.Step.{refuse_if, Change, has_stack, stack_in, of_stack, is_unversioned, set_versioning, set_rules, drop_rules, put_object, delete, delete_version, set_tags, start_upload}
+use Rattle.plain_office.specs.Step.{put_part, complete, abort, act, shown_action, marker_made}
 use Rattle.office_types.specs.declared.reply.Reply.{Reply}
 use Rattle.office_types.specs.declared.reply.Reply.TheVariants.{PartStored, Deleted, VersioningSet, NothingDue}
 use Rattle.office_types.specs.declared.refusal.Refusal.{Refusal}

@@ -5,10 +5,12 @@ use Rattle.std.specs.Option.{ok_or}
 use Rattle.std.specs.Str.{bytes_eq}
 use Rattle.moments.specs.Months.{month_end}
 use Rattle.office_base.specs.Maps.{at_name, with_name}
+use Rattle.office_base.specs.Results.{◌>>=◌}
 use Rattle.due_core.specs.declared.action.Action.{Action}
 use Rattle.plain_office.specs.Office.{Office, Account}
 use Rattle.plain_office.specs.Counts.{first_full}
-use Rattle.plain_office.specs.Step.{◌>>=◌, Change, Outcome, refuse_if, unless_full, within_limits, on_bucket, new_account, create_bucket, month_to_close, due_before, unless_due, settled, outcome, step, put_object, delete, set_versioning, set_rules, drop_rules, delete_version, set_tags, start_upload, put_part, complete, abort, act}
+use Rattle.plain_office.specs.Step.{Change, Outcome, refuse_if, unless_full, within_limits, on_bucket, new_account, create_bucket, month_to_close, due_before, unless_due, settled, outcome, step}
+use Rattle.plain_office.specs.Step.{put_object, delete, set_versioning, set_rules, drop_rules, delete_version, set_tags, start_upload, put_part, complete, abort, act}
 use Rattle.tariff.specs.Prices.{Prices}
 use Rattle.office_types.specs.declared.command.Command.{Command}
 use Rattle.office_types.specs.declared.command.Command.TheVariants as command

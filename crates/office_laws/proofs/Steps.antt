@@ -11,6 +11,7 @@ use Rattle.std.proofs.lemmas.Option.{same_Some}
 use Rattle.moments.specs.Months.{month_end, month_at}
 use Rattle.class_rules.specs.Classes.{all_classes}
 use Rattle.office_base.specs.Maps.{bytes_cmp, at_name, with_name, at_number, Rises}
+use Rattle.office_base.specs.Results.{◌>>=◌}
 use Rattle.class_rules.specs.declared.class.Class.{Class}
 use Rattle.due_core.specs.Candidates.{eligible}
 use Rattle.due_core.specs.Choice.{choice}
@@ -23,7 +24,8 @@ use Rattle.plain_office.specs.Charges.{class_lines, report_lines}
 use Rattle.plain_office.specs.Counts.{limit_of, count_of, first_full}
 use Rattle.plain_office.specs.Orderly.{IsOrderlyBucket, HasOpenStays, FollowEachOther, last_end, closed_until, IsOrderly, SizeFits}
 use Rattle.plain_office.specs.Run.{is_not_before}
-use Rattle.plain_office.specs.Step.{◌>>=◌, Change, Outcome, refuse_if, unless_full, within_limits, on_bucket, new_bucket, new_account, month_to_close, due_before, unless_due, adds_marker, is_unversioned, accepted, settled, outcome, step, put_object, delete, set_versioning, set_rules, drop_rules, delete_version, set_tags, start_upload, put_part, complete, abort, act}
+use Rattle.plain_office.specs.Step.{Change, Outcome, refuse_if, unless_full, within_limits, on_bucket, new_bucket, new_account, month_to_close, due_before, unless_due, adds_marker, is_unversioned}
+use Rattle.plain_office.specs.Step.{accepted, settled, outcome, step, put_object, delete, set_versioning, set_rules, drop_rules, delete_version, set_tags, start_upload, put_part, complete, abort, act}
 use Rattle.tariff.specs.Prices.{Prices}
 use Rattle.office_types.specs.declared.command.Command.{Command}
 use Rattle.office_types.specs.declared.command.Command.TheVariants as command

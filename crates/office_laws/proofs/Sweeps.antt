@@ -4,6 +4,7 @@ use Rattle.std.proofs.lemmas.Option.{same_Some}
 use Rattle.std.specs.Prelude.{Option, Some, None, option_map, Result, Ok, ◌↔◌}
 use Rattle.std.specs.List.{AllByRecursion}
 use Rattle.office_base.specs.Maps.{at_name, with_name}
+use Rattle.office_base.specs.Results.{◌>>=◌}
 use Rattle.due_core.specs.Buckets.{BucketRecord}
 use Rattle.due_core.specs.Candidates.{candidates}
 use Rattle.due_core.specs.Choice.{choice, least, comes_before}
@@ -13,7 +14,7 @@ use Rattle.due_core.proofs.Later.{choice_stays}
 use Rattle.plain_office.specs.Office.{Office, Account}
 use Rattle.plain_office.specs.Changes.{effect}
 use Rattle.plain_office.specs.Run.{is_not_before, accept, run_from}
-use Rattle.plain_office.specs.Step.{◌>>=◌, Change, Outcome, settled, outcome, step, shown_action, marker_made, is_accepted}
+use Rattle.plain_office.specs.Step.{Change, Outcome, settled, outcome, step, shown_action, marker_made, is_accepted}
 use Rattle.plain_office.specs.Sweep.{IsSwept}
 use Rattle.office_types.specs.declared.command.Command.{Command}
 use Rattle.office_types.specs.declared.command.Command.TheVariants as command

@@ -20,7 +20,8 @@ ghost use Rattle.office_types.specs.declared.reply.Reply.TheVariants.{NothingDue
 ghost use Rattle.plain_office.specs.Office.{Office, Account, Booked, of_version, of_part, empty_office, book_of};
 ghost use Rattle.plain_office.specs.Books.{is_open_stay};
 ghost use Rattle.plain_office.specs.Changes.{versions_of, effect};
-ghost use Rattle.plain_office.specs.Orderly.{IsOrderly, SizeFits, HasOpenStays, stays_expected, stay_of_version, stay_of_part};
+ghost use Rattle.plain_office.specs.Orderly.{IsOrderly, SizeFits, HasOpenStays, stays_expected, stay_of_version};
+ghost use Rattle.plain_office.specs.Orderly.{stay_of_part};
 ghost use Rattle.plain_office.specs.Step.{step, shown_action, marker_made};
 ghost use Rattle.plain_office.specs.Answers.{answer};
 ghost use Rattle.plain_office.specs.Run.{is_not_before, run_from, run};

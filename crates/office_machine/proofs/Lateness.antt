@@ -24,7 +24,8 @@ use Rattle.office_laws.proofs.Steps.{KeepsClosed, closed_same, step_keeps, step_
 use Rattle.office_laws.proofs.Sweeps.{acted, act_found, act_nothing, act_swept}
 use Rattle.office_machine.specs.Standing.{Records, StandsForOffice, Does}
 use Rattle.office_machine.specs.Lateness.{SweepEndsIn, LeavesLaterSweeps, HasEmptySweep, LeavesOthers, AsksClosedMonth, KeepsClosedMonths}
-use Rattle.office_machine.proofs.Steps.{Answer, step_missing}
+use Rattle.plain_office.proofs.Runs.{Answer}
+use Rattle.office_machine.proofs.Steps.{step_missing}
 
 -- ---- later sweeps
 

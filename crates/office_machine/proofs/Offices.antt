@@ -45,7 +45,8 @@ use Rattle.office_machine.specs.AnswerParts.{rules_told, stack_told, upload_told
 use Rattle.plain_office.specs.Charges.{tariff_for, report_lines}
 use Rattle.office_machine.specs.Closing.{closing_with, first_due, due_refusal}
 use Rattle.office_machine.proofs.Months.{closed_office, close_refused, close_due, close_done, due_same, due_of, none_due}
-use Rattle.office_machine.proofs.Steps.{Answer, step_missing, step_refused, step_full, step_done, step_nothing, placed, made, create_exists, create_full, create_made, priced, tariff_told}
+use Rattle.plain_office.proofs.Runs.{Answer}
+use Rattle.office_machine.proofs.Steps.{step_missing, step_refused, step_full, step_done, step_nothing, placed, made, create_exists, create_full, create_made, priced, tariff_told}
 
 -- ---- an answer that is the step's
 

@@ -1,11 +1,12 @@
 -- What a command gives, told by what stands in the office.
 use Rattle.std.proofs.Common.{◌≡◌, ℕ, List, [], ◌∷◌, refl, ap, ◌∙◌, subst, Bool, true, false, not, cond}
-use Rattle.std.specs.Prelude.{Option, Some, None, Result, Ok, Err, is_some}
+use Rattle.std.specs.Prelude.{Option, Some, None, Ok, Err, is_some}
 use Rattle.office_base.specs.Maps.{at_name, with_name}
 use Rattle.tariff.specs.Prices.{Prices}
 use Rattle.plain_office.specs.Office.{Office, Account}
 use Rattle.plain_office.specs.Counts.{limit_of, first_full}
-use Rattle.plain_office.specs.Step.{Change, Outcome, on_bucket, within_limits, unless_full, settled, accepted, outcome, step, is_accepted, new_account, adds_marker, is_unversioned, set_versioning, set_rules, drop_rules, put_object, delete, delete_version, set_tags, start_upload, put_part, complete, abort, act}
+use Rattle.plain_office.specs.Step.{Change, Outcome, on_bucket, within_limits, unless_full, settled, accepted, outcome, step, is_accepted, new_account, adds_marker, is_unversioned, set_versioning}
+use Rattle.plain_office.specs.Step.{set_rules, drop_rules, put_object, delete, delete_version, set_tags, start_upload, put_part, complete, abort, act}
 use Rattle.office_types.specs.declared.command.Command.{Command}
 use Rattle.office_types.specs.declared.command.Command.TheVariants as command
 use Rattle.office_types.specs.declared.reply.Reply.{Reply}
@@ -15,9 +16,6 @@ use Rattle.office_types.specs.declared.refusal.Refusal.TheVariants.{NoSuchBucket
 use Rattle.office_types.specs.declared.refusal.What.{What}
 use Rattle.office_types.specs.declared.refusal.What.TheVariants.{Buckets, Versions, Uploads, Parts, Names, Rules}
 use Rattle.bucket_account.specs.Changing.{change_of, limits_of, IsOnBucket}
-
-abbrev pub Answer : Type 0
-Answer = Result Reply Refusal
 
 swapped : (b : Bool) (x y : List What) → cond (not b) x y ≡ cond b y x
 swapped true x y = refl

@@ -6,12 +6,12 @@ use Rattle.std.specs.Option.{ok_or}
 use Rattle.accrual.specs.Books.{IsBookedBy}
 use Rattle.class_rules.specs.Classes.{all_classes}
 use Rattle.office_base.specs.Maps.{at_name, at_number}
+use Rattle.office_base.specs.Results.{◌>>=◌}
 use Rattle.tariff.specs.Prices.{Prices}
 use Rattle.due_core.specs.Buckets.{BucketRecord}
 use Rattle.plain_office.specs.Office.{Account, empty_books, book_of}
 use Rattle.plain_office.specs.Charges.{storage_line, transition_line, class_lines}
 use Rattle.plain_office.specs.Answers.{due_shown}
-use Rattle.plain_office.specs.Step.{◌>>=◌}
 use Rattle.office_types.specs.declared.reply.ClassMeters.{ClassMeters}
 use Rattle.office_types.specs.declared.reply.LineKind.TheVariants.{Storage, Early}
 use Rattle.office_types.specs.declared.reply.Reply.{Reply}

@@ -1,10 +1,11 @@
 -- What the parts of closing a month give, in the words of the plain office.
 use Rattle.std.specs.Prelude.{ℕ, List, [], ◌∷◌, ◌++◌, map, Option, option_map, Result}
 use Rattle.moments.specs.Months.{month_end}
+use Rattle.office_base.specs.Results.{◌>>=◌}
 use Rattle.tariff.specs.Prices.{Prices}
 use Rattle.due_core.specs.declared.action.Action.{Action}
 use Rattle.plain_office.specs.Office.{Office, Account, empty_books}
-use Rattle.plain_office.specs.Step.{◌>>=◌, Outcome, due_before, unless_due}
+use Rattle.plain_office.specs.Step.{Outcome, due_before, unless_due}
 use Rattle.office_types.specs.declared.reply.Reply.TheVariants.{Closed}
 use Rattle.office_types.specs.declared.refusal.Refusal.{Refusal}
 use Rattle.office_types.specs.declared.refusal.Refusal.TheVariants.{DueActions}

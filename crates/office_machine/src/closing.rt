@@ -10,7 +10,6 @@ ghost use Rattle.bucket_account.specs.Standing.{most_commands};
 ghost use Rattle.office_machine.specs.Closing.{closing_with, first_due, due_refusal};
 ghost use Rattle.office_machine.specs.Standing.{StandsForOffice, Does, accepted_after};
 
-use crate::calendar::{month_numbered, number_of};
 use crate::commands::{copy_of, first_of};
 use crate::office::Office;
 use bucket_account::Account;
@@ -53,18 +52,18 @@ impl Office {
             → close t month p ≡ closing_with t month p result }
         ensures fits { IfErr result RefusalFits }
     {
-        let number = number_of(month);
+        let number = month.number();
         let (_, end) = month_window(month);
         if t.ms() < end {
             return Err(Refusal::MonthNotOver { end });
         }
-        let open = number_of(first_of(self.first_month, t)) + self.closed.len() as u64;
+        let open = first_of(self.first_month, t).number() + self.closed.len() as u64;
         if number < open {
             return Err(Refusal::AlreadyClosed);
         }
         if open < number {
             return Err(Refusal::EarlierMonthOpen {
-                month: month_numbered(open),
+                month: Month::numbered(open),
             });
         }
         match self.tariff {

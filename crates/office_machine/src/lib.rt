@@ -1,7 +1,6 @@
 //! The office in memory: its buckets, its tariff and its closed months, changed by commands.
 #![tactic(auto)]
 
-mod calendar;
 mod closing;
 mod commands;
 mod office;

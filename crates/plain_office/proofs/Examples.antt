@@ -14,7 +14,8 @@ use Rattle.rules_core.specs.Configurations.{Configuration}
 use Rattle.rules_core.specs.declared.rule.Rule.{Rule}
 use Rattle.rules_core.specs.declared.rule.Filter.{Filter}
 use Rattle.rules_core.specs.declared.rule.SizeMode.TheVariants as mode
-use Rattle.rules_json.specs.Printing.{printed, configuration_data, rule_data, filter_data, single_data, conjunction_data, tag_data, transition_data, noncurrent_move_data, expiration_data, noncurrent_data, abort_data}
+use Rattle.rules_json.specs.Printing.{printed, configuration_data, rule_data, filter_data, single_data, conjunction_data, tag_data, transition_data, noncurrent_move_data, expiration_data}
+use Rattle.rules_json.specs.Printing.{noncurrent_data, abort_data}
 use Rattle.stacks.specs.Stacks.{new_version, stack_of}
 use Rattle.uploads.specs.Uploads.{new_upload, upload_of}
 use Rattle.stacks.specs.declared.version.Kind.TheVariants as kind

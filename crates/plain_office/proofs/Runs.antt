@@ -15,16 +15,16 @@ use Rattle.office_types.specs.declared.refusal.Refusal.TheVariants.{NoMemory}
 abbrev pub Answer : Type 0
 Answer = Result Reply Refusal
 
-abbrev done : Reply → Answer
+abbrev pub done : Reply → Answer
 done reply = Ok reply
 
-abbrev refused : Refusal → Answer
+abbrev pub refused : Refusal → Answer
 refused refusal = Err refusal
 
-refusal_is : (a b : Refusal) → refused a ≡ refused b → a ≡ b
+pub refusal_is : (a b : Refusal) → refused a ≡ refused b → a ≡ b
 refusal_is a b e = cc
 
-no_reply : (reply : Reply) (refusal : Refusal) → done reply ≡ refused refusal → ⊥
+pub no_reply : (reply : Reply) (refusal : Refusal) → done reply ≡ refused refusal → ⊥
 no_reply reply refusal e = absurd cc
 
 -- ---- every command

@@ -3,6 +3,7 @@ use Rattle.std.specs.Prelude.{ℕ, List, map, length, Option, Some, None, Result
 use Rattle.std.specs.Option.{ok_or}
 use Rattle.class_rules.specs.Classes.{all_classes}
 use Rattle.class_rules.specs.declared.class.Class.{Class}
+use Rattle.office_base.specs.Results.{◌>>=◌}
 use Rattle.rules_core.specs.Configurations.{Configuration}
 use Rattle.due_core.specs.Choice.{choice}
 use Rattle.due_core.specs.declared.action.Action.{Action}
@@ -12,13 +13,14 @@ use Rattle.office_types.specs.declared.command.Query.{Query}
 use Rattle.office_types.specs.declared.command.Query.TheVariants as query
 use Rattle.office_types.specs.declared.reply.ClassMeters.{ClassMeters}
 use Rattle.office_types.specs.declared.reply.Reply.{Reply}
-use Rattle.office_types.specs.declared.reply.Reply.TheVariants.{NothingDue, BucketShown, RulesShown, StackShown, UploadShown, MetersShown, TariffShown, Report}
+use Rattle.office_types.specs.declared.reply.Reply.TheVariants.{NothingDue, BucketShown, RulesShown, StackShown, UploadShown, MetersShown}
+use Rattle.office_types.specs.declared.reply.Reply.TheVariants.{TariffShown, Report}
 use Rattle.office_types.specs.declared.refusal.Refusal.{Refusal}
 use Rattle.office_types.specs.declared.refusal.Refusal.TheVariants.{NoRules, NoTariff}
 use Rattle.plain_office.specs.Office.{Office, Account, book_of}
 use Rattle.plain_office.specs.Counts.{version_count}
 use Rattle.plain_office.specs.Charges.{tariff_for, report_lines}
-use Rattle.plain_office.specs.Step.{◌>>=◌, account_at, stack_in, upload_in, shown_action}
+use Rattle.plain_office.specs.Step.{account_at, stack_in, upload_in, shown_action}
 
 abbrev pub rule_count : Option Configuration → ℕ
 rule_count None = 0

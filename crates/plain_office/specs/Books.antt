@@ -1,5 +1,6 @@
 -- How the coming and going of versions and parts is booked.
-use Rattle.std.specs.Prelude.{ℕ, ◌+◌, ◌-◌, ◌*◌, Bool, false, ◌&&◌, List, [], ◌∷◌, ◌++◌, map, length, nat_lt, ◌==◌, Option, Some, None, is_none, if◌then◌else◌}
+use Rattle.std.specs.Prelude.{ℕ, ◌+◌, ◌-◌, ◌*◌, Bool, false, ◌&&◌, List, [], ◌∷◌, ◌++◌, map, length, nat_lt, ◌==◌, Option, Some, None}
+use Rattle.std.specs.Prelude.{is_none, if◌then◌else◌}
 use Rattle.std.specs.Str.{bytes_eq}
 use Rattle.class_rules.specs.Classes.{least_stay}
 use Rattle.class_rules.specs.Lines.{own_bytes, object_lines, marker_line}

@@ -5,7 +5,8 @@ use Rattle.office_base.specs.declared.version_id.VersionId.{VersionId}
 use Rattle.class_rules.specs.Lines.{part_line}
 use Rattle.class_rules.specs.declared.class.Class.{Class}
 use Rattle.rules_core.specs.Matching.{is_empty}
-use Rattle.stacks.specs.Stacks.{StackRecord, new_stack, version_at, new_id, new_version, replaced, after_adding, after_removal, after_move, with_class}
+use Rattle.stacks.specs.Stacks.{StackRecord, new_stack, version_at, new_id, new_version, replaced, after_adding, after_removal, after_move}
+use Rattle.stacks.specs.Stacks.{with_class}
 use Rattle.stacks.specs.declared.version.Versioning.{Versioning}
 use Rattle.stacks.specs.declared.version.Versioning.TheVariants.{Unversioned, Enabled, Suspended}
 use Rattle.stacks.specs.declared.version.Kind.{Kind}

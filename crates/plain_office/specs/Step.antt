@@ -1,9 +1,11 @@
 -- What each command answers and does, at a moment.
-use Rattle.std.specs.Prelude.{ℕ, ◌+◌, ◌-◌, Bool, true, false, not, ◌&&◌, List, [], ◌∷◌, ◌++◌, length, nat_lt, slice_get, Option, Some, None, is_some, unwrap_or, option_map, Result, Ok, Err, if◌then◌else◌}
+use Rattle.std.specs.Prelude.{ℕ, ◌+◌, ◌-◌, Bool, true, false, not, ◌&&◌, List, [], ◌∷◌, ◌++◌, length, nat_lt, slice_get, Option, Some, None}
+use Rattle.std.specs.Prelude.{is_some, unwrap_or, option_map, Result, Ok, Err, if◌then◌else◌}
 use Rattle.std.specs.Option.{ok_or}
 use Rattle.moments.specs.Months.{month_at, month_end}
 use Rattle.class_rules.specs.declared.class.Class.{Class}
 use Rattle.office_base.specs.Maps.{at_name, with_name, at_number}
+use Rattle.office_base.specs.Results.{◌>>=◌}
 use Rattle.office_base.specs.Tags.{Tag}
 use Rattle.office_base.specs.declared.version_id.VersionId.{VersionId}
 use Rattle.office_base.specs.declared.version_id.VersionId.TheVariants.{Null}
@@ -26,19 +28,18 @@ use Rattle.due_core.specs.declared.action.Action.{Action}
 use Rattle.office_types.specs.declared.command.Command.{Command}
 use Rattle.office_types.specs.declared.command.Command.TheVariants as command
 use Rattle.office_types.specs.declared.reply.Reply.{Reply}
-use Rattle.office_types.specs.declared.reply.Reply.TheVariants.{BucketMade, VersioningSet, RulesSet, Stored, Deleted, VersionDeleted, TagsSet, UploadStarted, PartStored, Aborted, Chosen, NothingDue, TariffSet, Closed}
+use Rattle.office_types.specs.declared.reply.Reply.TheVariants.{BucketMade, VersioningSet, RulesSet, Stored, Deleted, VersionDeleted}
+use Rattle.office_types.specs.declared.reply.Reply.TheVariants.{TagsSet, UploadStarted, PartStored, Aborted, Chosen, NothingDue, TariffSet}
+use Rattle.office_types.specs.declared.reply.Reply.TheVariants.{Closed}
 use Rattle.office_types.specs.declared.refusal.Refusal.{Refusal}
-use Rattle.office_types.specs.declared.refusal.Refusal.TheVariants.{BucketExists, NoSuchBucket, NoRules, NotEnabledBefore, NoSuchKey, NoSuchVersion, IsMarker, NoSuchUpload, BadPart, NoParts, MonthNotOver, AlreadyClosed, EarlierMonthOpen, NoTariff, DueActions, Full}
+use Rattle.office_types.specs.declared.refusal.Refusal.TheVariants.{BucketExists, NoSuchBucket, NoRules, NotEnabledBefore, NoSuchKey}
+use Rattle.office_types.specs.declared.refusal.Refusal.TheVariants.{NoSuchVersion, IsMarker, NoSuchUpload, BadPart, NoParts, MonthNotOver}
+use Rattle.office_types.specs.declared.refusal.Refusal.TheVariants.{AlreadyClosed, EarlierMonthOpen, NoTariff, DueActions, Full}
 use Rattle.office_types.specs.declared.refusal.What.{What}
 use Rattle.office_types.specs.declared.refusal.What.TheVariants.{Buckets, Versions, Uploads, Parts, Names, Rules}
 use Rattle.plain_office.specs.Office.{Office, Account, empty_books}
 use Rattle.plain_office.specs.Changes.{with_stack, next_id, add_version, remove_version, with_upload, add_part, remove_upload, effect}
 use Rattle.plain_office.specs.Counts.{limit_of, first_full}
-
-infixl 10 ◌>>=◌
-abbrev pub ◌>>=◌ : {A B : Type 0} → Result A Refusal → (A → Result B Refusal) → Result B Refusal
-(Ok x) >>= f = f x
-(Err refusal) >>= f = Err refusal
 
 -- refused where the test holds
 abbrev pub refuse_if : {A : Type 0} → Bool → Refusal → A → Result A Refusal

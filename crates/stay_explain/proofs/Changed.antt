@@ -4,6 +4,7 @@ use Rattle.std.specs.Prelude.{Option, Some, None, Result, Ok, Err, is_some, nat_
 use Rattle.std.specs.Option.{ok_or}
 use Rattle.moments.specs.Months.{month_end}
 use Rattle.office_base.specs.Maps.{at_name, with_name}
+use Rattle.office_base.specs.Results.{◌>>=◌}
 use Rattle.tariff.specs.Prices.{Prices}
 use Rattle.due_core.specs.declared.action.Action.{Action}
 use Rattle.office_types.specs.declared.command.Command.{Command}
@@ -16,19 +17,11 @@ use Rattle.office_types.specs.declared.refusal.What.{What}
 use Rattle.office_types.specs.declared.refusal.What.TheVariants.{Buckets}
 use Rattle.plain_office.specs.Office.{Office, Account}
 use Rattle.plain_office.specs.Counts.{first_full, limit_of}
-use Rattle.plain_office.specs.Step.{◌>>=◌, Outcome, settled, outcome, step, is_accepted, new_account, close, month_to_close, due_before, unless_due}
+use Rattle.plain_office.specs.Step.{Outcome, settled, outcome, step, is_accepted, new_account, close, month_to_close, due_before, unless_due}
+use Rattle.plain_office.proofs.Runs.{Answer, done, refused}
 use Rattle.bucket_account.specs.Changing.{change_of, limits_of, IsOnBucket}
 use Rattle.office_machine.proofs.Offices.{nothing_of}
 use Rattle.office_machine.proofs.Steps.{step_missing, step_refused, step_full, step_done, step_nothing, placed, made, create_exists, create_full, create_made}
-
-abbrev Answer : Type 0
-Answer = Result Reply Refusal
-
-abbrev done : Reply → Answer
-done reply = Ok reply
-
-abbrev refused : Refusal → Answer
-refused refusal = Err refusal
 
 -- ---- an accepted command
 

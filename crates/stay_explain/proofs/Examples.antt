@@ -1,5 +1,5 @@
 -- A table of stays, computed.
-use Rattle.std.specs.Prelude.{◌≡◌, [], ◌∷◌, codes, refl}
+use Rattle.std.specs.Prelude.{◌≡◌, [], ◌∷◌, ◌++◌, codes, refl}
 use Rattle.std.specs.Fmt.{digits}
 use Rattle.csv.specs.Writing.{escaped, fields_text, is_blank}
 use Rattle.moments.specs.Months.{days_of_months, first_day, months_over}
@@ -23,7 +23,9 @@ two_stays : tables_csv ((
   (record { key = codes "u,v"; item = of_part 1 2 }, ended_stay (part_line Glacier 7) 1_704_067_200_000 1_704_070_800_000)
       ∷ (record { key = codes "u,v"; item = of_version (Number 3) }, open_stay (object_lines Glacier 7) 1_704_070_800_000) ∷ [],
 ) ∷ [])
-    ≡ codes
-    "bucket,key,item,class,bytes,from,to\nlogs,\"u,v\",u:1/2,STANDARD,7,2024-01-01T00:00:00.000Z,2024-01-01T01:00:00.000Z\nlogs,\"u,v\",v:3,GLACIER,32775,2024-01-01T01:00:00.000Z,open\nlogs,\"u,v\",v:3,STANDARD,8192,2024-01-01T01:00:00.000Z,open\n"
+    ≡ codes "bucket,key,item,class,bytes,from,to\n"
+    ++ codes "logs,\"u,v\",u:1/2,STANDARD,7,2024-01-01T00:00:00.000Z,2024-01-01T01:00:00.000Z\n"
+    ++ codes "logs,\"u,v\",v:3,GLACIER,32775,2024-01-01T01:00:00.000Z,open\n"
+    ++ codes "logs,\"u,v\",v:3,STANDARD,8192,2024-01-01T01:00:00.000Z,open\n"
 unfolding tables_csv escaped fields_text is_blank digits moment_text months_over first_day days_of_months
 two_stays = refl

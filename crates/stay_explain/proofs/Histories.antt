@@ -1,5 +1,6 @@
 -- The ledger after one entry more.
-use Rattle.std.proofs.Common.{◌≡◌, ◌⊎◌, inl, inr, ⊎_elim, ℕ, ◌+◌, ◌^◌, ◌<◌, ◌≤◌, Bool, true, false, if◌then◌else◌, List, [], ◌∷◌, ◌++◌, length, map, Option, Some, None, Result, Ok, Err, refl, sym, ap, ◌∙◌, subst, arith, length-append}
+use Rattle.std.proofs.Common.{◌≡◌, ◌⊎◌, inl, inr, ⊎_elim, ℕ, ◌+◌, ◌^◌, ◌<◌, ◌≤◌, Bool, true, false, if◌then◌else◌, List, [], ◌∷◌, ◌++◌, map, Option, Some, None, Ok, Err, refl, sym, ap}
+use Rattle.std.proofs.Common.{◌∙◌, subst, arith, length-append}
 use Rattle.std.specs.Prelude.{IsTrue}
 use Rattle.plain_office.specs.Office.{Office, empty_office}
 use Rattle.plain_office.specs.Step.{step, is_accepted}
@@ -9,7 +10,7 @@ use Rattle.office_types.specs.declared.reply.Reply.{Reply}
 use Rattle.office_types.specs.declared.reply.Reply.TheVariants.{NothingDue}
 use Rattle.office_types.specs.declared.refusal.Refusal.{Refusal}
 use Rattle.office_types.specs.declared.refusal.Refusal.TheVariants as refusals
-use Rattle.plain_office.proofs.Runs.{IsStep, accepted_by, refused_by, nothing_by, early_refused, run_more, run_none}
+use Rattle.plain_office.proofs.Runs.{Answer, refused, refusal_is, no_reply, IsStep, accepted_by, refused_by, nothing_by, early_refused, run_more, run_none}
 use Rattle.bucket_account.specs.Standing.{most_commands}
 use Rattle.office_machine.specs.Standing.{Records, StandsForOffice, Does, accepted_after}
 use Rattle.meter_journal.specs.History.{header, end_gate}
@@ -20,21 +21,6 @@ use Rattle.stay_explain.specs.Ledgers.{LedgerRecord, IsLedgerOf, IsNotTaken, Tab
 use Rattle.stay_explain.specs.Table.{stays_of}
 use Rattle.stay_explain.proofs.Ledgers.{tables_step}
 
-abbrev Answer : Type 0
-Answer = Result Reply Refusal
-
-abbrev refused : Refusal → Answer
-refused refusal = Err refusal
-
-abbrev done : Reply → Answer
-done reply = Ok reply
-
-reply_not : (reply : Reply) (refusal : Refusal) → done reply ≡ refused refusal → ⊥
-reply_not reply refusal e = absurd cc
-
-refusal_same : (a b : Refusal) → refused a ≡ refused b → a ≡ b
-refusal_same a b e = cc
-
 -- ---- what an answer tells
 
 -- an answer is the step's, unless memory is wanting
@@ -43,10 +29,10 @@ answer_is x p new answer other (inl same) = same
 answer_is x p new answer other (inr wanting) = absurd (other wanting.0)
 
 other_lack : (refusal : Refusal) → (refusal ≡ refusals.NoMemory → ⊥) → refused refusal ≡ Err refusals.NoMemory → ⊥
-other_lack refusal other e = other (refusal_same refusal refusals.NoMemory e)
+other_lack refusal other e = other (refusal_is refusal refusals.NoMemory e)
 
 pub reply_is : (x : Office × Answer) (p : Office) (new : Records) (reply : Reply) → Does x p new (Ok reply) → (Ok reply ≡ x.1) × StandsForOffice new x.0
-reply_is x p new reply does = answer_is x p new (Ok reply) (λ e. reply_not reply refusals.NoMemory e) does
+reply_is x p new reply does = answer_is x p new (Ok reply) (λ e. no_reply reply refusals.NoMemory e) does
 
 is_step : (x : Office × Answer) (p : Office) (answer : Answer) → answer ≡ x.1 → IsStep x p x.0 answer
 is_step x p answer is = inl (ap (λ (a : Answer). (x.0, a)) is)

@@ -1,6 +1,6 @@
 -- What an accepted command does to the tables of the office's stays.
 use Rattle.std.proofs.Common.{◌≡◌, ℕ, List, map, refl, ap, sym, ◌∙◌, subst, true}
-use Rattle.std.specs.Prelude.{Option, Some, None, Result, Ok, Err, option_map, IfSome}
+use Rattle.std.specs.Prelude.{Option, Some, None, Ok, option_map, IfSome}
 use Rattle.std.specs.List.{AllByRecursion}
 use Rattle.std.specs.Map.{set_value}
 use Rattle.std.specs.BTreeMap.{is_at}
@@ -9,10 +9,10 @@ use Rattle.office_base.specs.Maps.{bytes_cmp, at_name, with_name, Rises}
 use Rattle.office_types.specs.declared.command.Command.{Command}
 use Rattle.office_types.specs.declared.command.Command.TheVariants as command
 use Rattle.office_types.specs.declared.reply.Reply.{Reply}
-use Rattle.office_types.specs.declared.refusal.Refusal.{Refusal}
 use Rattle.plain_office.specs.Office.{Office, Account, Booked}
 use Rattle.plain_office.specs.Orderly.{HasOpenStays, IsOrderly}
 use Rattle.plain_office.specs.Step.{step, is_accepted, new_account}
+use Rattle.plain_office.proofs.Runs.{Answer, done}
 use Rattle.office_laws.proofs.Maps.{by_name, found_every, at_written}
 use Rattle.bucket_account.specs.Changing.{IsOnBucket}
 use Rattle.bucket_account.specs.Counting.{AccountRecord}
@@ -27,15 +27,6 @@ use Rattle.stay_explain.specs.Ledgers.{plan_at, plan_in, planned, table_by, tabl
 use Rattle.stay_explain.proofs.Tables.{map_with, set_map, at_map, free_by}
 use Rattle.stay_explain.proofs.Told.{plan_tells}
 use Rattle.stay_explain.proofs.Changed.{changes, bucket_made, closed_keeps}
-
-abbrev Answer : Type 0
-Answer = Result Reply Refusal
-
-abbrev done : Reply → Answer
-done reply = Ok reply
-
-abbrev refused : Refusal → Answer
-refused refusal = Err refusal
 
 -- ---- the tables after it
 

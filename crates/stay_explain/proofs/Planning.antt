@@ -7,6 +7,7 @@ use Rattle.class_rules.specs.Lines.{object_lines}
 use Rattle.class_rules.specs.Classes.{least_stay}
 use Rattle.class_rules.specs.declared.class.Class.{Class}
 use Rattle.office_base.specs.Maps.{at_name, at_number}
+use Rattle.office_base.specs.Results.{◌>>=◌}
 use Rattle.office_base.specs.Tags.{Tag}
 use Rattle.office_base.specs.declared.version_id.VersionId.{VersionId}
 use Rattle.office_base.specs.declared.version_id.VersionId.TheVariants.{Null, Number}
@@ -33,8 +34,9 @@ use Rattle.plain_office.specs.Office.{Item, of_version, of_part, Booked, Books, 
 use Rattle.plain_office.specs.Books.{is_open_stay, with_end, with_early, without_option, lines_of_kind}
 use Rattle.plain_office.specs.Changes.{versions_of, add_version, remove_version, next_id, books_moved, move_version, add_part, remove_upload, remove_upload_at, effect}
 use Rattle.plain_office.specs.Orderly.{HasOpenStays, stay_of_version}
-use Rattle.plain_office.specs.Step.{◌>>=◌, refuse_if, of_stack, Change, has_stack, put_object, delete, delete_version, put_part, complete, abort, act, shown_action, marker_made}
-use Rattle.stay_explain.specs.Plans.{Plan, end_stays, begin_stay, after_ends, stays_by, stays_after, goes, null_ends, comes, marked, deleted, moves, part_put, part_items, dropped, made_whole, completed, action_done, acted}
+use Rattle.plain_office.specs.Step.{refuse_if, of_stack, Change, has_stack, put_object, delete, delete_version, put_part, complete, abort, act, shown_action, marker_made}
+use Rattle.stay_explain.specs.Plans.{Plan, end_stays, begin_stay, after_ends, stays_by, stays_after, goes, null_ends, comes, marked, deleted, moves, part_put, part_items, dropped, made_whole}
+use Rattle.stay_explain.specs.Plans.{completed, action_done, acted}
 
 -- ---- stays of an item that has none open
 

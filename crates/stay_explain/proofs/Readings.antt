@@ -6,7 +6,7 @@ use Rattle.meter_journal.specs.History.{header, HasHistory}
 use Rattle.meter_journal.specs.Reading.{IsMade, HasPrefix, frame_at, Whole, Ended}
 use Rattle.meter_journal.proofs.Heads.{made_head}
 use Rattle.meter_journal.proofs.Prefix.{frame_next, prefix_start, prefix_more, prefix_end}
-use Rattle.stay_explain.specs.Explaining.{IsDamagedAt, ExplainFails, IsFaultAt}
+use Rattle.stay_explain.specs.Explaining.{ExplainFails}
 use Rattle.stay_explain.specs.Ledgers.{LedgerRecord, IsLedgerOf, IsNotTaken}
 use Rattle.stay_explain.specs.declared.fault.ExplainFault.{ExplainFault}
 use Rattle.stay_explain.specs.declared.fault.ExplainFault.TheVariants as faults
@@ -41,15 +41,6 @@ pub few_read : (file : List ℕ) (gate : ℕ) (ledger : LedgerRecord) → HasRea
 few_read file gate ledger read = few read.history ledger gate read.is read.prefix.size read.small
 
 -- ---- why reading fails
-
-pub frame_fails : (file : List ℕ) (gate : ℕ) (ledger : LedgerRecord) (fault : ExplainFault) → IsMade file → HasRead file gate ledger
-    → IsFaultAt fault gate (frame_at gate file) → ExplainFails fault file
-frame_fails file gate ledger faults.NotMade made read fault = absurd fault
-frame_fails file gate ledger faults.Foreign made read fault = absurd fault
-frame_fails file gate ledger (faults.Damaged at) made read fault =
-    subst (λ (k : ℕ). IsDamagedAt k file) (sym fault.0)
-    (record { made = made; history = read.history; office = read.is.plain; before = read.prefix; is_run = read.is.is_run; breaks = inl fault.1 })
-frame_fails file gate ledger faults.NoMemory made read fault = tt
 
 pub take_fails : (file : List ℕ) (gate next : ℕ) (ledger : LedgerRecord) (e : Entry) (fault : ExplainFault) → IsMade file
     → HasRead file gate ledger → frame_at gate file ≡ Whole e next → IsNotTaken ledger e fault gate → ExplainFails fault file

@@ -11,7 +11,8 @@ use Rattle.plain_office.specs.Orderly.{HasOpenStays}
 use Rattle.plain_office.specs.Step.{of_stack}
 use Rattle.bucket_account.specs.Changing.{change_of}
 use Rattle.stay_explain.specs.Plans.{plan_of}
-use Rattle.stay_explain.proofs.Planning.{Tells, tells_ok, tells_err, tells_unless, tells_stack, tells_bound, tells_put, tells_delete, tells_delete_version, tells_part, tells_complete, tells_abort, tells_act}
+use Rattle.stay_explain.proofs.Planning.{Tells, tells_ok, tells_err, tells_unless, tells_stack, tells_bound, tells_put, tells_delete, tells_delete_version, tells_part, tells_complete, tells_abort}
+use Rattle.stay_explain.proofs.Planning.{tells_act}
 
 -- ---- what is told of a command on a bucket is what is planned
 

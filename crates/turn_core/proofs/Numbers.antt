@@ -1,5 +1,6 @@
 -- Pass numbers: each step keeps them apart, and the calls under each of them.
-use Rattle.std.proofs.Common.{◌≡◌, ◌≢◌, ◌∙◌, sym, ap, refl, subst, ℕ, suc, ◌+◌, ◌*◌, ◌<◌, ◌≤◌, List, [], ◌∷◌, ◌++◌, length, get_or, map, set, ⊎_elim, ◌⊎◌, inl, inr, arith, Option, true, zero-mul, one-mul, add-mul, mul_assoc, suc-mul, mul-le-mul_right}
+use Rattle.std.proofs.Common.{◌≡◌, ◌≢◌, ◌∙◌, sym, ap, refl, subst, ℕ, suc, ◌+◌, ◌*◌, ◌<◌, ◌≤◌, List, [], ◌∷◌, ◌++◌, length, get_or, map, set, ⊎_elim, ◌⊎◌, inl, inr, arith, Option, true, zero-mul}
+use Rattle.std.proofs.Common.{one-mul, add-mul, mul_assoc, suc-mul, mul-le-mul_right}
 use Rattle.std.specs.Prelude.{All, AllPairs, Contains}
 use Rattle.std.proofs.lemmas.List.Elements.{All-append, All-cons, All-map, All-nil, All-push, Contains-append_left, Contains-append_right}
 use Rattle.std.proofs.lemmas.List.Kept.{AllPairs-cons}

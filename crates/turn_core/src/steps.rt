@@ -1,7 +1,8 @@
 // The steps of a turn.
 ghost use Rattle.std.specs.Prelude.{◌≡◌, ◌≢◌, ℕ, ◌%◌, ◌^◌, ◌<◌, [], ◌∷◌, Some, true};
 ghost use Rattle.turn_core.specs.Plays.{Learned, Moved, Served};
-ghost use Rattle.turn_core.specs.Seats.{IsSeatAt, IsSameSeat, IsWaiting, IsWaitingWith, HasValue, HasCalled, HasAnswered};
+ghost use Rattle.turn_core.specs.Seats.{IsSeatAt, IsSameSeat, IsWaiting, IsWaitingWith, HasValue, HasCalled};
+ghost use Rattle.turn_core.specs.Seats.{HasAnswered};
 ghost use Rattle.turn_core.specs.Views.{AtRest, Called, Counted, IsLawful};
 
 use crate::rule::{Held, Known, Law, SERVING, TICKET};

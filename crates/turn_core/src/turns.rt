@@ -1,6 +1,7 @@
 // The turns.
 ghost use Rattle.std.specs.Prelude.{◌≡◌, ◌<◌, List, [], ◌∷◌, ◌++◌, IfOk, IfErr, IsSome, Some};
-ghost use Rattle.turn_core.specs.Views.{Called, Counted, IsLawful, IsWhole, Joined, StandsSince, newcomer, left, right, all_shares};
+ghost use Rattle.turn_core.specs.Views.{Called, Counted, IsLawful, IsWhole, Joined, StandsSince, newcomer, left, right};
+ghost use Rattle.turn_core.specs.Views.{all_shares};
 
 use crate::pass::TicketPass;
 use crate::rule::{Held, Known, Law, Meeting, Parting};

@@ -1,5 +1,5 @@
-use Rattle.std.proofs.Common.{◌≡◌, [], sym, ap, ◌∙◌, subst}
-use Rattle.std.specs.Prelude.{Some, IsSome}
+use Rattle.std.proofs.Common.{[], sym, ap, ◌∙◌, subst}
+use Rattle.std.specs.Prelude.{IsSome}
 use Rattle.stacks.specs.Stacks.{version_at}
 use Rattle.stacks.specs.declared.version.Kind.TheVariants.{Marker}
 use Rattle.due_core.specs.Buckets.{BucketRecord}

@@ -1,8 +1,7 @@
-use Rattle.std.proofs.Common.{◌≤◌, arith}
+use Rattle.std.proofs.Common.{arith}
 use Rattle.moments.specs.Months.{month_at}
 use Rattle.class_rules.specs.Lines.{lines_of}
 use Rattle.plain_office.specs.Office.{book_of}
-use Rattle.accrual.specs.Totals.{HasRow}
 use Rattle.accrual.proofs.Windows.{month_at_order}
 use Rattle.bucket_account.proofs.Moved.{entered_by, move_booked}
 use Rattle.bucket_account.proofs.moving.book_move.Goals as goal

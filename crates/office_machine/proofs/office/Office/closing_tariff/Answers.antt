@@ -7,4 +7,4 @@ use Rattle.office_machine.proofs.office.Office.closing_tariff.Goals as goal
 pub returns-then-ms-end-clause-fits : goal.returns-then-ms-end-clause-fits
 returns-then-ms-end-clause-fits c =
     subst (λ (end : ℕ). end ≤ end_of_time) (sym c.month_window-end.ensures.ends) (month_fits c.args.month
-    (subst (λ (n : ℕ). n < months) c.number_of-number.ensures.number c.number_of-number.ensures.among))
+    (subst (λ (n : ℕ). n < months) c.number-number.ensures.number c.number-number.ensures.among))
