@@ -4,17 +4,15 @@ use Rattle.std.specs.Prelude.{IsTrue}
 use Rattle.office_base.specs.Faults.{Rose}
 use Rattle.disk_core.specs.declared.disk.Disk as disks
 use Rattle.disk_core.specs.Moments.{KeepsTo}
-use Rattle.plain_office.specs.Answers.{answer}
 use Rattle.plain_office.specs.Office.{Office}
 use Rattle.plain_office.specs.Step.{step, is_accepted}
 use Rattle.plain_office.specs.Run.{is_not_before}
 use Rattle.office_types.specs.declared.command.Ask.TheVariants as ask
 use Rattle.office_types.specs.declared.command.Command.{Command}
-use Rattle.office_types.specs.declared.command.Query.{Query}
 use Rattle.office_types.specs.declared.command.Entry.{Entry}
 use Rattle.office_types.specs.declared.reply.Reply.{Reply}
 use Rattle.office_types.specs.declared.refusal.Refusal.{Refusal}
-use Rattle.office_types.specs.declared.refusal.Refusal.TheVariants.{NoMemory, ClockEnd}
+use Rattle.office_types.specs.declared.refusal.Refusal.TheVariants.{NoMemory}
 use Rattle.office_types.specs.Entries.{entry_at}
 use Rattle.office_machine.specs.Standing.{Records, StandsForOffice, Does, accepted_after}
 use Rattle.entry_codec.specs.Spelling.{spelling}
@@ -23,9 +21,9 @@ use Rattle.meter_journal.proofs.History.{end_gate-push}
 use Rattle.desk_core.specs.declared.fault.DeskFault.{DeskFault}
 use Rattle.desk_core.specs.declared.fault.DeskFault.TheVariants as faults
 use Rattle.desk_core.specs.Answers.{Answer}
-use Rattle.desk_core.specs.Desk.{EngineView, HoldsHistory}
+use Rattle.desk_core.specs.Desk.{DeskView, HoldsHistory}
 use Rattle.desk_core.specs.Offices.{StandsAfter}
-use Rattle.desk_core.specs.Answering.{IsAnswerOf, Stays, AddsEntry, AnswersInTime, AnswersEnded}
+use Rattle.desk_core.specs.Answering.{IsAnswerOf, Stays, AddsEntry, AnswersInTime}
 use Rattle.desk_core.proofs.Offices.{answer_is, reply_is, taken, more_after, same_after}
 
 -- the end gate behind one entry more
@@ -38,10 +36,10 @@ accepted_as : (one other : Result Reply Refusal) (b : Bool) → one ≡ other �
 accepted_as one other b same is = ap (λ (x : Result Reply Refusal). is_accepted x) same ∙ is
 
 module _ {D C : Type 0} (d : disks.Ghosts D) where
-  abbrev made : ℕ → ℕ → Result Reply Refusal → EngineView D C → Answer
+  abbrev made : ℕ → ℕ → Result Reply Refusal → DeskView D C → Answer
   made t number reply desk = record { moment = t; told = number; reply = reply; position = desk.gate; disk_moment = d.moment desk.disk }
 
-  is_made : (t m number : ℕ) (reply : Result Reply Refusal) (desk : EngineView D C) (said : Answer) → m ≡ t → said ≡ made m number reply desk → IsAnswerOf d.moment t number desk said
+  is_made : (t m number : ℕ) (reply : Result Reply Refusal) (desk : DeskView D C) (said : Answer) → m ≡ t → said ≡ made m number reply desk → IsAnswerOf d.moment t number desk said
   is_made t m number reply desk said at same = record {
     moment = ap (λ (a : Answer). a.moment) same ∙ at;
     told = ap (λ (a : Answer). a.told) same;
@@ -49,9 +47,21 @@ module _ {D C : Type 0} (d : disks.Ghosts D) where
     disk_moment = ap (λ (a : Answer). a.disk_moment) same;
   }
 
-  module _ (t number : ℕ) (before : List Entry) (old : EngineView D C) (hold : HoldsHistory d before old) where
+  -- what a command does to a desk is told of what this view of it is
+  pub seen_so : (t number : ℕ) (command : Command) (bytes : List ℕ) (before : List Entry) (new : DeskView D C) (said : Result Answer DeskFault)
+      → {inside desk : DeskView D C} → inside ≡ desk → bytes ≡ spelling (entry_at t command)
+      → ((hold : HoldsHistory d before inside) → inside.gate + 6 + length (spelling (entry_at t command)) ≤ inside.limit → IsTrue (is_not_before inside.office.last t)
+      → AnswersInTime d t number (ask.Command command) hold.office.plain before inside new said)
+      → (hold : HoldsHistory d before desk) → desk.gate + 6 + length bytes ≤ desk.limit → IsTrue (is_not_before desk.office.last t)
+      → AnswersInTime d t number (ask.Command command) hold.office.plain before desk new said
+  seen_so t number command bytes before new said is spelled does = subst
+      (λ (desk : DeskView D C). (hold : HoldsHistory d before desk) → desk.gate + 6 + length bytes ≤ desk.limit → IsTrue (is_not_before desk.office.last t)
+      → AnswersInTime d t number (ask.Command command) hold.office.plain before desk new said) is
+      (λ hold fits. does hold (omega (arith, fits, ap length spelled)))
+
+  module _ (t number : ℕ) (before : List Entry) (old : DeskView D C) (hold : HoldsHistory d before old) where
     -- a desk that holds the same office, and the same disk and journal
-    stayed_as : (new : EngineView D C) → HoldsHistory d before (record old { office = new.office }) → new.disk ≡ old.disk → new.gate ≡ old.gate → new.limit ≡ old.limit → Stays d before old new
+    stayed_as : (new : DeskView D C) → HoldsHistory d before (record old { office = new.office }) → new.disk ≡ old.disk → new.gate ≡ old.gate → new.limit ≡ old.limit → Stays d before old new
     stayed_as new same disk gate limit = record {
       holds = record {
         office = same.office;
@@ -62,23 +72,10 @@ module _ {D C : Type 0} (d : disks.Ghosts D) where
       disk = disk;
     }
 
-    -- the same desk, but for its clock
-    pub stayed : Stays d before old old
-    stayed = record { holds = hold; disk = λ i. old.disk }
-
-    pub ended : (said : Answer) → said ≡ made t number (Err (ClockEnd t)) old → AnswersEnded d t number before old old (Ok said)
-    ended said same = (is_made t t number (Err (ClockEnd t)) old said refl same, ap (λ (a : Answer). a.reply) same, stayed)
-
-    -- ---- a query
-
-    pub queried : (m : ℕ) (query : Query) (reply : Result Reply Refusal) (said : Answer) → m ≡ t → reply ≡ answer t query hold.office.plain → said ≡ made m number reply old
-        → AnswersInTime d t number (ask.Query query) hold.office.plain before old old (Ok said)
-    queried m query reply said at is same = (is_made t m number reply old said at same, (ap (λ (a : Answer). a.reply) same ∙ is, stayed))
-
     -- ---- a command
 
     module _ (command : Command) where
-      abbrev Keeping : EngineView D C → Result Answer DeskFault → Type 0
+      abbrev Keeping : DeskView D C → Result Answer DeskFault → Type 0
       Keeping new said = AnswersInTime d t number (ask.Command command) hold.office.plain before old new said
 
       abbrev entry : Entry
@@ -92,7 +89,7 @@ module _ {D C : Type 0} (d : disks.Ghosts D) where
       Run first x = KeepsTo d first x (BeforeOrAfter header before entry (d.state first))
 
       module _ (fits : old.gate + 6 + length (spelling entry) ≤ old.limit) where
-        pub added : (mid new : EngineView D C) (reply : Reply) (said : Result Answer DeskFault) → is_accepted (Ok reply) ≡ true → IsTrue (is_not_before old.office.last t)
+        pub added : (mid new : DeskView D C) (reply : Reply) (said : Result Answer DeskFault) → is_accepted (Ok reply) ≡ true → IsTrue (is_not_before old.office.last t)
             → ((p : Office) → StandsForOffice old.office p → Does (step t command p) p mid.office (Ok reply))
             → mid.office.accepted ≡ accepted_after (Ok reply) old.office.accepted → mid.disk ≡ old.disk → new.office ≡ mid.office → new.limit ≡ old.limit
             → AddsEntry d t number (Ok reply) before entry mid new said → Keeping new said
@@ -137,7 +134,7 @@ module _ {D C : Type 0} (d : disks.Ghosts D) where
         added mid new reply (Err (faults.Broken fault)) accepts later all counted same office limit adds = absurd adds
         added mid new reply (Err faults.NoMemory) accepts later all counted same office limit adds = absurd adds
 
-        unaccepted_stays : (new : EngineView D C) (reply : Result Reply Refusal) → is_accepted reply ≡ false
+        unaccepted_stays : (new : DeskView D C) (reply : Result Reply Refusal) → is_accepted reply ≡ false
             → Does expected hold.office.plain new.office reply → new.office.accepted ≡ accepted_after reply old.office.accepted
             → new.disk ≡ old.disk → new.gate ≡ old.gate → new.limit ≡ old.limit → Stays d before old new
         unaccepted_stays new reply not_accepted does counted disk gate limit =
@@ -149,7 +146,7 @@ module _ {D C : Type 0} (d : disks.Ghosts D) where
             }) disk gate limit
 
         -- an answer that is not accepted, and not for want of memory
-        pub unaccepted : (m : ℕ) (new : EngineView D C) (reply : Result Reply Refusal) (said : Answer) → m ≡ t → is_accepted reply ≡ false
+        pub unaccepted : (m : ℕ) (new : DeskView D C) (reply : Result Reply Refusal) (said : Answer) → m ≡ t → is_accepted reply ≡ false
             → (reply ≡ Err NoMemory → ⊥) → Does expected hold.office.plain new.office reply
             → new.office.accepted ≡ accepted_after reply old.office.accepted → new.disk ≡ old.disk → new.gate ≡ old.gate
             → new.limit ≡ old.limit → said ≡ made m number reply new → Keeping new (Ok said)
@@ -163,6 +160,6 @@ module _ {D C : Type 0} (d : disks.Ghosts D) where
               ),
             )
 
-        pub wanting : (new : EngineView D C) (refusal : Refusal) → Does expected hold.office.plain new.office (Err refusal) → new.office.accepted ≡ accepted_after (Err refusal) old.office.accepted
+        pub wanting : (new : DeskView D C) (refusal : Refusal) → Does expected hold.office.plain new.office (Err refusal) → new.office.accepted ≡ accepted_after (Err refusal) old.office.accepted
             → new.disk ≡ old.disk → new.gate ≡ old.gate → new.limit ≡ old.limit → Keeping new (Err faults.NoMemory)
         wanting new refusal does counted disk gate limit = unaccepted_stays new (Err refusal) refl does counted disk gate limit

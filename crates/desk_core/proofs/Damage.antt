@@ -24,7 +24,7 @@ use Rattle.meter_journal.proofs.History.{end_gate-none, end_gate-push}
 use Rattle.meter_journal.proofs.Prefix.{prefix_start, read_more, read_end}
 use Rattle.meter_journal.proofs.Unique.{goes_on, never_broken}
 use Rattle.desk_core.specs.Histories.{HasAcceptedHistory}
-use Rattle.desk_core.specs.Damage.{IsDamagedAt, OpenFails, ReplayFails, HasReplayed}
+use Rattle.desk_core.specs.Damage.{IsDamagedAt, IsNotTaken, OpenFails, ReplayFails, HasReplayed}
 use Rattle.desk_core.specs.Offices.{StandsAfter}
 use Rattle.desk_core.proofs.Offices.{few, nothing_taken, not_taken as refused}
 
@@ -36,28 +36,27 @@ pub record HasRead {D : Type 0} (d : disks.Ghosts D) (disk : D) (gate : ℕ) (of
   pub small : gate ≤ 2 ^ 45
   pub prefix : IsTrue d.honest → (file : List ℕ) → (d.state disk).journal ≡ synced_file file → IsMade file → HasPrefix header history gate file
 
--- why an entry is not taken
-abbrev pub IsNotTaken : Records → Entry → OpenFault → ℕ → Type 0
-IsNotTaken old e fault gate =
-    (fault ≡ faults.NoMemory) ⊎ ((fault ≡ faults.Damaged gate) × ((history : List Entry) (is : StandsAfter history old) → accept is.plain e ≡ None))
+-- ---- why an entry is not taken
 
 lacks_or_not : (refusal : Refusal) → (refusal ≡ refusals.NoMemory) ⊎ (refusal ≡ refusals.NoMemory → ⊥)
 lacks_or_not refusals.NoMemory = inl refl
 lacks_or_not refusal = inr (λ e. absurd cc)
 
-pub not_taken : (old new : Records) (e : Entry) (refusal : Refusal) (fault : OpenFault) (gate : ℕ) → ((p : Office) → StandsForOffice old p → Does (step e.moment e.command p) p new (Err refusal))
-    → (refusal ≡ refusals.NoMemory → fault ≡ faults.NoMemory) → ((refusal ≡ refusals.NoMemory → ⊥) → fault ≡ faults.Damaged gate) → IsNotTaken old e fault gate
-not_taken old new e refusal fault gate does memory damaged = ⊎_elim
-    (λ lacks. inl (memory lacks))
-    (λ other. inr (damaged other, λ history is. refused is.plain e new refusal other (does is.plain is.stands))) (lacks_or_not refusal)
+module _ {F : Type 0} {wanting damaged fault : F} where
+  pub not_taken : (old new : Records) (e : Entry) (refusal : Refusal) → ((p : Office) → StandsForOffice old p → Does (step e.moment e.command p) p new (Err refusal))
+      → (refusal ≡ refusals.NoMemory → fault ≡ wanting) → ((refusal ≡ refusals.NoMemory → ⊥) → fault ≡ damaged) → IsNotTaken old e wanting damaged fault
+  not_taken old new e refusal does lacks other = ⊎_elim
+      (λ is. inl (lacks is))
+      (λ not. inr (other not, λ history is. refused is.plain e new refusal not (does is.plain is.stands))) (lacks_or_not refusal)
 
-pub nothing_due : (old new : Records) (e : Entry) (reply : Reply) (fault : OpenFault) (gate : ℕ) → ((p : Office) → StandsForOffice old p → Does (step e.moment e.command p) p new (Ok reply))
-    → fault ≡ faults.Damaged gate → reply ≡ NothingDue → IsNotTaken old e fault gate
-nothing_due old new e reply fault gate does at nothing =
-    inr (at, λ history is. nothing_taken is.plain e new (subst (λ (r : Reply). Does (step e.moment e.command is.plain) is.plain new (Ok r)) nothing (does is.plain is.stands)))
+  pub nothing_due : (old new : Records) (e : Entry) (reply : Reply) → ((p : Office) → StandsForOffice old p → Does (step e.moment e.command p) p new (Ok reply))
+      → fault ≡ damaged → reply ≡ NothingDue → IsNotTaken old e wanting damaged fault
+  nothing_due old new e reply does at nothing =
+      inr (at, λ history is. nothing_taken is.plain e new (subst (λ (r : Reply). Does (step e.moment e.command is.plain) is.plain new (Ok r)) nothing (does is.plain is.stands)))
 
-pub not_in_order : (old : Records) (e : Entry) → is_not_before old.last e.moment ≡ false → (history : List Entry) (is : StandsAfter history old) → accept is.plain e ≡ None
-not_in_order old e early history is = early_refused is.plain e (subst (λ (last : Option ℕ). is_not_before last e.moment ≡ false) is.stands.last early)
+pub not_in_order : {F : Type 0} {wanting damaged : F} (old : Records) (e : Entry) → is_not_before old.last e.moment ≡ false → IsNotTaken old e wanting damaged damaged
+not_in_order old e early =
+    inr (refl, λ history is. early_refused is.plain e (subst (λ (last : Option ℕ). is_not_before last e.moment ≡ false) is.stands.last early))
 
 -- ---- reading all entries
 

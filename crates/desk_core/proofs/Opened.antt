@@ -13,11 +13,11 @@ use Rattle.meter_journal.specs.declared.fault.OpenFault.{OpenFault}
 use Rattle.desk_core.specs.Submitting.{Reopens}
 use Rattle.desk_core.specs.Damage.{HasReplayed}
 use Rattle.desk_core.specs.Histories.{HasAcceptedHistory}
-use Rattle.desk_core.specs.Desk.{EngineView}
+use Rattle.desk_core.specs.Desk.{DeskView}
 use Rattle.desk_core.specs.Opening.{Opens, opened_with}
 use Rattle.desk_core.proofs.Serving.{rest_image, unique}
 use Rattle.desk_core.proofs.OneCallMore.{starts}
-use Rattle.desk_core.proofs.Standing.{view_of, same_parts, still_true}
+use Rattle.desk_core.proofs.Standing.{still_true}
 
 pub on_done : {P Q : Type 0} (r : Result Unit OpenFault) → (P → Q) → OnOk r P → OnOk r Q
 on_done (Ok x) f p = f p
@@ -33,7 +33,7 @@ module _ {D : Type 0} {C : Type 0} (d : disks.Ghosts D)
     (since_earlier : (disk : D) (t u : ℕ) (s : State) → t ≤ u → d.had_since disk u s → d.had_since disk t s)
     (own : IsTrue d.honest → (disk : D) → IsImage (d.state disk).journal (d.state disk).journal.seen) where
   -- all entries of the journal were read
-  pub reopened : (old office : EngineView D C) (begun : D) (size : ℕ) → HasReplayed d begun office.disk office.gate office.office → office.limit ≡ old.limit → old.limit ≤ 2 ^ 45
+  pub reopened : (old office : DeskView D C) (begun : D) (size : ℕ) → HasReplayed d begun office.disk office.gate office.office → office.limit ≡ old.limit → old.limit ≤ 2 ^ 45
       → office.clock ≡ old.clock
       → (IsTrue d.honest → IsMade (d.state old.disk).journal.seen × (size ≡ length (d.state begun).journal.seen) × ((d.state begun).journal ≡ synced_file (d.state old.disk).journal.seen))
       → (IsTrue d.honest → KeepsTo d old.disk begun (Narrower (d.state old.disk))) → (IsTrue d.honest → Untouched d begun office.disk) → d.fault_count old.disk ≤ d.fault_count office.disk
@@ -56,19 +56,19 @@ module _ {D : Type 0} {C : Type 0} (d : disks.Ghosts D)
       seen_is tells = ap (λ (s : State). s.journal.seen) (untouched tells).now ∙ ap (λ (f : File). f.seen) (begin tells).2
 
   -- the desk over them stands for no call yet
-  pub opened : (old office : EngineView D C) → Reopens d old office → Opens d old.disk old.clock old.limit (view_of office false)
-  opened old office again = record {
+  pub opened : (old office : DeskView D C) → office.stale ≡ false → Reopens d old office → Opens d old.disk old.clock old.limit office
+  opened old office fresh again = record {
     history = again.history;
     stands = record {
       limit = refl;
       faults = (omega arith, tt);
-      holds = λ _. (again.history, refl, same_parts d again.history office false again.holds);
-      lost = λ not is. absurd (still_true false is refl);
-      serves = λ tells. starts d counts_now only_now since_earlier (opened_with d again.history (view_of office false)) office.disk
+      holds = λ _. (again.history, refl, again.holds);
+      lost = λ not is. absurd (still_true office.stale is fresh);
+      serves = λ tells. starts d counts_now only_now since_earlier (opened_with d again.history office) office.disk
           (λ image is. (again.history, rest_image (d.state office.disk) office.gate again.history again.holds.office.plain (again.holds.at_rest tells) again.holds.office.is_run image is))
           (λ image history is other. unique history again.history image other (each_image header (d.state office.disk) office.gate again.history (again.holds.at_rest tells) image is)) refl refl;
     };
-    fresh = refl;
+    fresh = fresh;
     limit_is = again.limit;
     clock_is = again.clock;
     read = again.read;

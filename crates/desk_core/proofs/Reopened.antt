@@ -21,22 +21,14 @@ use Rattle.desk_core.specs.Damage.{IsBroken, OpenFails}
 use Rattle.desk_core.specs.Calls.{Legal, IsLegal}
 use Rattle.desk_core.specs.Histories.{IsSound}
 use Rattle.desk_core.specs.Serving.{Opened, IsToldBy, Recoverable, KeepsSlots}
-use Rattle.desk_core.specs.Desk.{EngineView, DeskView, engine_of, StandsFor, GoesOn, stale_after}
+use Rattle.desk_core.specs.Desk.{DeskView, StandsFor, GoesOn, stale_after}
 use Rattle.desk_core.specs.Answering.{AnswersAsk}
+use Rattle.desk_core.specs.TurnLaws.{by_honesty, honest_legal}
 use Rattle.desk_core.proofs.Damage.{opens as never_fails}
 use Rattle.desk_core.proofs.Serving.{one_legal, rose_from, last_below, some_run}
 use Rattle.desk_core.proofs.Narrowing.{narrowed, narrowed_run, idle, recoverable_more, run_more, told_all}
 use Rattle.desk_core.proofs.OneCallMore.{last_faults, legal_append, told_more}
-use Rattle.desk_core.proofs.Standing.{StandsAt, view_of, still_true, submitted}
-
--- a disk tells what it holds, or it does not
-pub by_honesty : {P : Type 0} (honest : Bool) → (IsTrue honest → P) → ((IsTrue honest → ⊥) → P) → P
-by_honesty true tells silent = tells refl
-by_honesty false tells silent = silent (λ is. still_true false is refl)
-
-pub honest_legal : (honest : Bool) (limit counted : ℕ) (calls : List Call) (before after : List Entry) → IsTrue honest
-    → Legal true limit counted calls before after → Legal honest limit counted calls before after
-honest_legal honest limit counted calls before after tells rule = subst (λ (b : Bool). Legal b limit counted calls before after) (sym tells) rule
+use Rattle.desk_core.proofs.Standing.{StandsAt, still_true, submitted}
 
 run_some : {P : Type 0} (o : Option Office) → IsSome o → ((p : Office) → o ≡ Some p → P) → P
 run_some (Some p) is f = f p refl
@@ -54,10 +46,10 @@ no_broken at broken (inl is) = absurd (subst IsBroken is broken)
 no_broken at broken (inr is) = absurd (subst IsBroken is broken)
 
 -- where each image has a history, what is read is no broken journal
-pub sound_unbroken : {D C : Type 0} (d : disks.Ghosts D) (stale : Bool) (old new : EngineView D C) (fault : DeskFault) (at : OpenFault)
-    → IsImage (d.state old.disk).journal (d.state old.disk).journal.seen → Unopened d stale old new (Err fault) → IsTrue d.honest
+pub sound_unbroken : {D C : Type 0} (d : disks.Ghosts D) (old new : DeskView D C) (fault : DeskFault) (at : OpenFault)
+    → IsImage (d.state old.disk).journal (d.state old.disk).journal.seen → Unopened d old new (Err fault) → IsTrue d.honest
     → IsSound (d.state old.disk) → answer_err fault ≡ answer_err (faults.Broken at) → ⊥
-sound_unbroken d stale old new fault at own u tells sound is =
+sound_unbroken d old new fault at own u tells sound is =
     let why = subst (λ (r : Result Answer DeskFault). IsUnopened d old.disk new.disk r) is u.why in
     let seen = (d.state old.disk).journal.seen in
     let has = sound seen own in
@@ -71,8 +63,8 @@ module _ {D : Type 0} {C : Type 0} (d : disks.Ghosts D)
   abbrev Stands : Opened → List Call → DeskView D C → Type 0
   Stands opened calls desk = StandsFor d opened calls desk
 
-  abbrev At : Opened → List Call → EngineView D C → Type 0
-  At opened calls parts = StandsAt d opened calls parts
+  abbrev At : Opened → List Call → DeskView D C → Type 0
+  At opened calls desk = StandsAt d opened calls desk
 
   module _ (desk : DeskView D C) (opened : Opened) (calls : List Call) (s : Stands opened calls desk) where
     abbrev last : ℕ
@@ -82,11 +74,11 @@ module _ {D : Type 0} {C : Type 0} (d : disks.Ghosts D)
     Rule history = Legal d.honest opened.limit opened.faults calls opened.history history
 
     -- a desk that is not stale
-    pub stands_fresh : desk.stale ≡ false → At opened calls (engine_of desk)
+    pub stands_fresh : desk.stale ≡ false → At opened calls desk
     stands_fresh fresh = let h = s.holds fresh in record { limit = s.limit; faults = s.faults; history = h.0; legal = h.1; holds = h.2; serves = s.serves }
 
     -- one that opened its journal again
-    module _ (office : EngineView D C) (stale : desk.stale ≡ true) (again : Reopens d (engine_of desk) office) where
+    module _ (office : DeskView D C) (stale : desk.stale ≡ true) (again : Reopens d desk office) where
       led : Rule again.history
       led = by_honesty d.honest
           (λ tells. honest_legal d.honest opened.limit opened.faults calls opened.history again.history tells
@@ -126,8 +118,8 @@ module _ {D : Type 0} {C : Type 0} (d : disks.Ghosts D)
       kept_by b call legal history some = run_of history some (λ p is. one_legal b opened.limit last call history history p is (legal p history))
 
       -- want of memory leaves a stale desk stale
-      pub stays_stale : (new : EngineView D C) → desk.stale ≡ true → GoesOn d opened (calls ++ call_of faults.NoMemory ∷ []) desk.disk (view_of new false)
-          → GoesOn d opened (calls ++ call_of faults.NoMemory ∷ []) desk.disk (view_of new true)
+      pub stays_stale : (new : DeskView D C) → desk.stale ≡ true → GoesOn d opened (calls ++ call_of faults.NoMemory ∷ []) desk.disk (record new { stale = false })
+          → GoesOn d opened (calls ++ call_of faults.NoMemory ∷ []) desk.disk (record new { stale = true })
       stays_stale new stale goes = record {
         stands = record {
           limit = goes.stands.limit;
@@ -187,31 +179,29 @@ module _ {D : Type 0} {C : Type 0} (d : disks.Ghosts D)
       -- ---- one call more
 
       -- that no office answers
-      pub unopened_call : (new : EngineView D C) (fault : DeskFault) → Unopened d desk.stale (engine_of desk) new (Err fault)
-          → GoesOn d opened (calls ++ call_of fault ∷ []) desk.disk (view_of new desk.stale)
-      unopened_call new (faults.StoreFault None count) u =
-          let seat = view_of new desk.stale in
+      pub unopened_call : (new : DeskView D C) (fault : DeskFault) → new.stale ≡ desk.stale → Unopened d desk new (Err fault)
+          → GoesOn d opened (calls ++ call_of fault ∷ []) desk.disk new
+      unopened_call new (faults.StoreFault None count) stays u =
           let fault = faults.StoreFault None count in
-          let rose = rose_last seat fault u.is_stale u.is_stale u.limit u.later u.any_moment count u.why in
-          unopened_by seat fault u.is_stale u.is_stale u.limit u.later u.any_moment (λ p h. (tt, rose, λ _. inl refl)) (λ tells p h. (tt, rose, λ _. inl refl)) (omega (arith, u.why.1))
-      unopened_call new (faults.StoreFault (Some number) count) u = absurd u.why
-      unopened_call new faults.JournalFull u = absurd u.why
-      unopened_call new (faults.Broken at) u =
-          let seat = view_of new desk.stale in
+          let rose = rose_last new fault u.is_stale (stays ∙ u.is_stale) u.limit u.later u.any_moment count u.why in
+          unopened_by new fault u.is_stale (stays ∙ u.is_stale) u.limit u.later u.any_moment (λ p h. (tt, rose, λ _. inl refl)) (λ tells p h. (tt, rose, λ _. inl refl)) (omega (arith, u.why.1))
+      unopened_call new (faults.StoreFault (Some number) count) stays u = absurd u.why
+      unopened_call new faults.JournalFull stays u = absurd u.why
+      unopened_call new (faults.Broken at) stays u =
           let fault = faults.Broken at in
-          let never = not_broken seat fault u.is_stale u.is_stale u.limit u.later u.any_moment at u.why.0 u.why.1 in
-          unopened_by seat fault u.is_stale u.is_stale u.limit u.later u.any_moment (λ p h tells. never tells) (λ tells p h _. never tells) tt
-      unopened_call new faults.NoMemory u =
-          unopened_by (view_of new desk.stale) faults.NoMemory u.is_stale u.is_stale u.limit u.later u.any_moment (λ p h. refl) (λ tells p h. refl) tt
+          let never = not_broken new fault u.is_stale (stays ∙ u.is_stale) u.limit u.later u.any_moment at u.why.0 u.why.1 in
+          unopened_by new fault u.is_stale (stays ∙ u.is_stale) u.limit u.later u.any_moment (λ p h tells. never tells) (λ tells p h _. never tells) tt
+      unopened_call new faults.NoMemory stays u =
+          unopened_by new faults.NoMemory u.is_stale (stays ∙ u.is_stale) u.limit u.later u.any_moment (λ p h. refl) (λ tells p h. refl) tt
 
       abbrev all : Result Answer DeskFault → List Call
       all said = calls ++ record { ask = question; said = said } ∷ []
 
-      abbrev Goes : EngineView D C → Result Answer DeskFault → Bool → Type 0
-      Goes new said is = GoesOn d opened (all said) desk.disk (view_of new is)
+      abbrev Goes : DeskView D C → Result Answer DeskFault → Bool → Type 0
+      Goes new said is = GoesOn d opened (all said) desk.disk (record new { stale = is })
 
       -- want of memory alone leaves a stale desk stale
-      restaled : (new : EngineView D C) (said : Result Answer DeskFault) → desk.stale ≡ true → Goes new said (stale_after false said) → Goes new said (stale_after true said)
+      restaled : (new : DeskView D C) (said : Result Answer DeskFault) → desk.stale ≡ true → Goes new said (stale_after false said) → Goes new said (stale_after true said)
       restaled new (Ok answer) stale goes = goes
       restaled new (Err (faults.StoreFault number count)) stale goes = goes
       restaled new (Err faults.JournalFull) stale goes = goes
@@ -219,14 +209,14 @@ module _ {D : Type 0} {C : Type 0} (d : disks.Ghosts D)
       restaled new (Err faults.NoMemory) stale goes = stays_stale new stale goes
 
       -- that this office answers
-      pub asked_call : (office new : EngineView D C) (number : ℕ) (said : Result Answer DeskFault) → IsOffice d desk.stale (engine_of desk) office
+      pub asked_call : (office new : DeskView D C) (number : ℕ) (said : Result Answer DeskFault) → IsOffice d desk office
           → new.limit ≡ office.limit → d.fault_count office.disk ≤ d.fault_count new.disk → AnswersAsk d number question office new said → Goes new said (stale_after desk.stale said)
       asked_call office new number said (inl (fresh, same)) limit later asks =
-          let stands = subst (λ (x : EngineView D C). At opened calls x) (sym same) (stands_fresh fresh) in
+          let stands = subst (λ (x : DeskView D C). At opened calls x) (sym same) (stands_fresh fresh) in
           let goes = submitted d counts_now only_now since_earlier own office new opened calls number question said stands limit later asks in
           subst (λ (b : Bool). Goes new said (stale_after b said)) (sym fresh)
-          (subst (λ (x : EngineView D C). GoesOn d opened (all said) x.disk (view_of new (stale_after false said))) same goes)
+          (subst (λ (x : DeskView D C). GoesOn d opened (all said) x.disk (record new { stale = stale_after false said })) same goes)
       asked_call office new number said (inr (stale, again)) limit later asks =
           let goes = submitted d counts_now only_now since_earlier own office new opened calls number question said (stands_again office stale again) limit later asks in
           subst (λ (b : Bool). Goes new said (stale_after b said)) (sym stale)
-          (restaled new said stale (run_again office stale again (view_of new (stale_after false said)) (record { ask = question; said = said }) goes))
+          (restaled new said stale (run_again office stale again (record new { stale = stale_after false said }) (record { ask = question; said = said }) goes))

@@ -13,12 +13,12 @@ use Rattle.plain_office.proofs.Runs.{run_none}
 use Rattle.desk_core.specs.declared.clock.Clock as clocks
 use Rattle.desk_core.specs.Answers.{Call}
 use Rattle.desk_core.specs.Calls.{Legal}
-use Rattle.desk_core.specs.Desk.{DeskView, engine_of, HoldsHistory, StandsFor}
+use Rattle.desk_core.specs.Desk.{DeskView, HoldsHistory, StandsFor}
 use Rattle.desk_core.specs.Numbers.{AreNumbers}
 use Rattle.desk_core.specs.Opening.{Opens, opened_with}
 use Rattle.desk_core.specs.Runs.{KeepsHistories, KeepsCalls, AnswersCalls, outside, stale_by}
 use Rattle.desk_core.specs.Serving.{Opened, KeepsSlots, DiskServes}
-use Rattle.desk_core.proofs.Reopened.{by_honesty, honest_legal}
+use Rattle.desk_core.specs.TurnLaws.{by_honesty, honest_legal}
 use Rattle.desk_core.proofs.Following.{Path, Followed, follow, numbers_told, stale_is}
 use Rattle.desk_core.proofs.Serving.{rest_image, some_run}
 use Rattle.desk_core.proofs.OneCallMore.{calls_grow}
@@ -30,7 +30,7 @@ module _ {D C : Type 0} (d : disks.Ghosts D) (k : clocks.Ghosts C)
     (own : IsTrue d.honest → (disk : D) → IsImage (d.state disk).journal (d.state disk).journal.seen) where
   -- a history to which the calls lead, and which the desk holds if it is not stale
   abbrev Led : Opened → List Call → DeskView D C → Type 0
-  Led opened calls desk = (history : List Entry) × Legal d.honest opened.limit opened.faults calls opened.history history × (desk.stale ≡ false → HoldsHistory d history (engine_of desk))
+  Led opened calls desk = (history : List Entry) × Legal d.honest opened.limit opened.faults calls opened.history history × (desk.stale ≡ false → HoldsHistory d history desk)
 
   led_stale : (opened : Opened) (calls : List Call) (desk : DeskView D C) → StandsFor d opened calls desk → desk.stale ≡ true → Led opened calls desk
   led_stale opened calls desk s stale = by_honesty d.honest
@@ -63,7 +63,7 @@ module _ {D C : Type 0} (d : disks.Ghosts D) (k : clocks.Ghosts C)
 
   keeps_calls : (disk : D) (clock : C) (limit : ℕ) (old new : DeskView D C) (calls : List Call) (opens : Opens d disk clock limit old)
       (followed : Followed d k old.disk (opened_with d opens.history old) calls new)
-      → Path d k old calls new → (history : List Entry) → (new.stale ≡ false → HoldsHistory d history (engine_of new)) → IsTrue d.honest
+      → Path d k old calls new → (history : List Entry) → (new.stale ≡ false → HoldsHistory d history new) → IsTrue d.honest
       → KeepsCalls d disk new.disk (opened_with d opens.history old) calls history
   keeps_calls disk clock limit old new calls opens followed path history holds tells = record {
     read = opens.read tells;

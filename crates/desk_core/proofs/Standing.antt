@@ -26,7 +26,7 @@ use Rattle.desk_core.specs.Answers.{Answer, Call}
 use Rattle.desk_core.specs.Calls.{Legal, IsLegal, IsReply, IsFull, IsKeptAt, moment_after}
 use Rattle.desk_core.specs.Serving.{Opened, IsToldBy, AreToldBy, KeepsSlots, DiskServes}
 use Rattle.desk_core.specs.Submitting.{PassesLimit}
-use Rattle.desk_core.specs.Desk.{EngineView, DeskView, engine_of, HoldsHistory, GoesOn, stale_after}
+use Rattle.desk_core.specs.Desk.{DeskView, HoldsHistory, GoesOn, stale_after}
 use Rattle.desk_core.specs.Answering.{IsAnswerOf, Grows, StoreFails, IsDoneAt, HasFailed, AnswersInTime, AnswersEnded, AnswersAt, AnswersAsk}
 use Rattle.desk_core.proofs.Serving.{one_legal, rose_from, last_below, unique, makes_still, makes_grown, makes_failed}
 use Rattle.desk_core.proofs.OneCallMore.{last_faults, IsKept, Makes, one_more, recoverable, legal_append, told_more}
@@ -42,7 +42,7 @@ still_true true is not = absurd cc
 still_true false is not = absurd cc
 
 module _ {D : Type 0} {C : Type 0} (d : disks.Ghosts D) where
-  module _ (b : Bool) (limit counted t number : ℕ) (question : Ask) (office : Office) (said : Answer) (before after : List Entry) (new : EngineView D C)
+  module _ (b : Bool) (limit counted t number : ℕ) (question : Ask) (office : Office) (said : Answer) (before after : List Entry) (new : DeskView D C)
       (at : t ≡ moment_after number office.last) (made : IsAnswerOf d.moment t number new said) (end : new.gate ≡ end_gate header after) where
     at_moment : said.moment ≡ moment_after said.told office.last
     at_moment = made.moment ∙ at ∙ ap (λ (n : ℕ). moment_after n office.last) (sym made.told)
@@ -63,33 +63,30 @@ module _ {D : Type 0} {C : Type 0} (d : disks.Ghosts D) where
       position = made.position ∙ end;
     }
 
--- the desk over this office
-abbrev pub view_of : {D C : Type 0} → EngineView D C → Bool → DeskView D C
-view_of parts stale = record { disk = parts.disk; clock = parts.clock; office = parts.office; gate = parts.gate; limit = parts.limit; stale = stale }
-
-pub same_parts : {D C : Type 0} (d : disks.Ghosts D) (history : List Entry) (parts : EngineView D C) (stale : Bool) → HoldsHistory d history parts
-    → HoldsHistory d history (engine_of (view_of parts stale))
-same_parts d history parts stale h = record { office = h.office; end = h.end; limit = h.limit; at_rest = h.at_rest }
+-- a desk holds a history whether or not it is marked as stale
+pub marked_holds : {D C : Type 0} (d : disks.Ghosts D) (history : List Entry) (desk : DeskView D C) (stale : Bool) → HoldsHistory d history desk
+    → HoldsHistory d history (record desk { stale = stale })
+marked_holds d history desk stale h = record { office = h.office; end = h.end; limit = h.limit; at_rest = h.at_rest }
 
 -- an office over its journal stands for a list of calls since the opening of its desk
-pub record StandsAt {D C : Type 0} (d : disks.Ghosts D) (opened : Opened) (calls : List Call) (parts : EngineView D C) : Type 0 where
-  pub limit : parts.limit ≡ opened.limit
-  pub faults : (opened.faults ≤ d.fault_count parts.disk) × AreToldBy (d.fault_count parts.disk) calls
+pub record StandsAt {D C : Type 0} (d : disks.Ghosts D) (opened : Opened) (calls : List Call) (desk : DeskView D C) : Type 0 where
+  pub limit : desk.limit ≡ opened.limit
+  pub faults : (opened.faults ≤ d.fault_count desk.disk) × AreToldBy (d.fault_count desk.disk) calls
   pub history : List Entry
   pub legal : Legal d.honest opened.limit opened.faults calls opened.history history
-  pub holds : HoldsHistory d history parts
-  pub serves : IsTrue d.honest → DiskServes d opened parts.disk calls
+  pub holds : HoldsHistory d history desk
+  pub serves : IsTrue d.honest → DiskServes d opened desk.disk calls
 
 module _ {D : Type 0} {C : Type 0} (d : disks.Ghosts D)
     (counts_now : (disk : D) (t : ℕ) → t ≤ d.moment disk → d.had_since disk t (d.state disk))
     (only_now : (disk : D) (s : State) → d.had_since disk (d.moment disk) s → s ≡ d.state disk)
     (since_earlier : (disk : D) (t u : ℕ) (s : State) → t ≤ u → d.had_since disk u s → d.had_since disk t s)
     (own : IsTrue d.honest → (disk : D) → IsImage (d.state disk).journal (d.state disk).journal.seen) where
-  abbrev Stands : Opened → List Call → EngineView D C → Type 0
-  Stands opened calls parts = StandsAt d opened calls parts
+  abbrev Stands : Opened → List Call → DeskView D C → Type 0
+  Stands opened calls desk = StandsAt d opened calls desk
 
-  at_clock : (opened : Opened) (calls : List Call) (parts : EngineView D C) (clock : C) → Stands opened calls parts → Stands opened calls (record parts { clock = clock })
-  at_clock opened calls parts clock s = record {
+  at_clock : (opened : Opened) (calls : List Call) (desk : DeskView D C) (clock : C) → Stands opened calls desk → Stands opened calls (record desk { clock = clock })
+  at_clock opened calls desk clock s = record {
     limit = s.limit;
     faults = s.faults;
     history = s.history;
@@ -98,13 +95,13 @@ module _ {D : Type 0} {C : Type 0} (d : disks.Ghosts D)
     serves = s.serves;
   }
 
-  module _ (old new : EngineView D C) (same_limit : new.limit ≡ old.limit) (later : d.fault_count old.disk ≤ d.fault_count new.disk)
+  module _ (old new : DeskView D C) (same_limit : new.limit ≡ old.limit) (later : d.fault_count old.disk ≤ d.fault_count new.disk)
       (opened : Opened) (calls : List Call) (s : Stands opened calls old) where
     abbrev last : ℕ
     last = last_faults opened.faults calls
 
     abbrev Next : Call → Type 0
-    Next call = GoesOn d opened (calls ++ call ∷ []) old.disk (view_of new (stale_after false call.said))
+    Next call = GoesOn d opened (calls ++ call ∷ []) old.disk (record new { stale = stale_after false call.said })
 
     grown_by : (call : Call) (after : List Entry) → ((b : Bool) → Legal b opened.limit last (call ∷ []) s.history after) → (stale_after false call.said ≡ false → HoldsHistory d after new)
         → ((IsTrue d.honest → ⊥) → stale_after false call.said ≡ true → (history : List Entry) → Legal d.honest opened.limit last (call ∷ []) s.history history)
@@ -117,7 +114,7 @@ module _ {D : Type 0} {C : Type 0} (d : disks.Ghosts D)
         holds = λ fine. (
           after,
           legal_append d.honest opened.limit opened.faults calls (call ∷ []) opened.history s.history after s.legal (rule d.honest),
-          same_parts d after new (stale_after false call.said) (holds fine),
+          marked_holds d after new (stale_after false call.said) (holds fine),
         );
         lost = λ not is history some. legal_append d.honest opened.limit opened.faults calls (call ∷ []) opened.history s.history history s.legal (lost not is history);
         serves = λ tells. one_more d counts_now only_now since_earlier opened old.disk new.disk calls call (s.serves tells) (makes tells);
@@ -250,10 +247,10 @@ module _ {D : Type 0} {C : Type 0} (d : disks.Ghosts D)
       answers_call question said (inr past) = ended_call question said past.0 past.1
 
   -- a call of which the clock told its number
-  pub submitted : (old new : EngineView D C) (opened : Opened) (calls : List Call) (number : ℕ) (question : Ask) (said : Result Answer DeskFault)
+  pub submitted : (old new : DeskView D C) (opened : Opened) (calls : List Call) (number : ℕ) (question : Ask) (said : Result Answer DeskFault)
       → Stands opened calls old → new.limit ≡ old.limit → d.fault_count old.disk ≤ d.fault_count new.disk
       → AnswersAsk d number question old new said
-      → GoesOn d opened (calls ++ record { ask = question; said = said } ∷ []) old.disk (view_of new (stale_after false said))
+      → GoesOn d opened (calls ++ record { ask = question; said = said } ∷ []) old.disk (record new { stale = stale_after false said })
   unfolding at_clock
   submitted old new opened calls number question said s limit later asks =
       let told = record old { clock = asks.clock } in

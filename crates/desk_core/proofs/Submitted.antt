@@ -1,5 +1,5 @@
 -- What the answer to an ask tells of its call.
-use Rattle.std.proofs.Common.{◌≡◌, ◌⊎◌, inl, inr, ⊎_elim, ℕ, ◌+◌, ◌-◌, ◌^◌, ◌<◌, ◌≤◌, min, true, false, List, [], ◌∷◌, ◌++◌, Some, None, Option, Result, Ok, Err, refl, sym, ap, ◌∙◌, subst, arith}
+use Rattle.std.proofs.Common.{◌≡◌, ◌⊎◌, inl, inr, ⊎_elim, ℕ, ◌+◌, ◌-◌, ◌^◌, ◌<◌, ◌≤◌, min, Bool, true, false, List, [], ◌∷◌, ◌++◌, Some, None, Option, Result, Ok, Err, refl, sym, ap, ◌∙◌, subst, arith}
 use Rattle.std.specs.Prelude.{IsTrue}
 use Rattle.std.specs.Io.KnownBytes.{Appends}
 use Rattle.office_base.specs.Faults.{Rose}
@@ -25,7 +25,7 @@ use Rattle.desk_core.specs.declared.fault.DeskFault.TheVariants as faults
 use Rattle.desk_core.specs.Answers.{Answer}
 use Rattle.desk_core.specs.Calls.{moment_after}
 use Rattle.desk_core.specs.Submitting.{LeavesDisk, HasStoreReason, IsAcceptedAt, PassesLimit, IsClockEnd, KeepsOrAdds, HasCauses}
-use Rattle.desk_core.specs.Desk.{EngineView, HoldsHistory, IsReady, IsLast, IsStamped, stale_after}
+use Rattle.desk_core.specs.Desk.{DeskView, HoldsHistory, IsReady, IsLast, IsStamped, stale_after}
 use Rattle.desk_core.specs.Answering.{IsDoneAt, HasFailed, AnswersInTime, AnswersEnded, AnswersAt, AnswersAsk}
 use Rattle.plain_office.proofs.Runs.{run_more}
 use Rattle.meter_journal.specs.History.{header, HasEntries, BeforeOrAfter}
@@ -38,7 +38,7 @@ accepted_not : (reply : Result Reply Refusal) → IsTrue (is_accepted reply) →
 accepted_not reply is not = still_true (is_accepted reply) is not
 
 module _ {D : Type 0} {C : Type 0} (d : disks.Ghosts D)
-    (t number : ℕ) (question : Ask) (office : Office) (before : List Entry) (old new : EngineView D C) where
+    (t number : ℕ) (question : Ask) (office : Office) (before : List Entry) (old new : DeskView D C) where
   abbrev Kept : Result Answer DeskFault → Type 0
   Kept said = AnswersInTime d t number question office before old new said
 
@@ -99,7 +99,7 @@ module _ {D : Type 0} {C : Type 0} (d : disks.Ghosts D)
 -- ---- the disk, and causes in it
 
 module _ {D : Type 0} {C : Type 0} (d : disks.Ghosts D)
-    (t number : ℕ) (office : Office) (before : List Entry) (old new : EngineView D C) where
+    (t number : ℕ) (office : Office) (before : List Entry) (old new : DeskView D C) where
   done_leaves : (question : Ask) (said : Answer) → IsDoneAt d t question office before old new said.reply → LeavesDisk (Ok said) question old.disk new.disk
   done_leaves (ask.Command command) said is = λ not. ⊎_elim (λ grew. absurd (accepted_not said.reply grew.0 not)) (λ stayed. stayed.1.disk) is.2
   done_leaves (ask.Query query) said is = is.1.disk
@@ -160,15 +160,15 @@ module _ {D : Type 0} {C : Type 0} (d : disks.Ghosts D)
 
 -- ---- histories of images
 
-pub holds_sound : {D C : Type 0} (d : disks.Ghosts D) (history : List Entry) (parts : EngineView D C) → HoldsHistory d history parts → IsTrue d.honest → IsSound (d.state parts.disk)
-holds_sound d history parts holds tells image is =
-    (history, rest_image (d.state parts.disk) parts.gate history holds.office.plain (holds.at_rest tells) holds.office.is_run image is)
+pub holds_sound : {D C : Type 0} (d : disks.Ghosts D) (history : List Entry) (desk : DeskView D C) → HoldsHistory d history desk → IsTrue d.honest → IsSound (d.state desk.disk)
+holds_sound d history desk holds tells image is =
+    (history, rest_image (d.state desk.disk) desk.gate history holds.office.plain (holds.at_rest tells) holds.office.is_run image is)
 
 pub narrower_sound : (first s : State) → IsSound first → Narrower first s → IsSound s
 narrower_sound first s sound narrow image is = sound image (narrow.journal image is)
 
 module _ {D : Type 0} {C : Type 0} (d : disks.Ghosts D)
-    (t number : ℕ) (before : List Entry) (old new : EngineView D C) (hold : HoldsHistory d before old) where
+    (t number : ℕ) (before : List Entry) (old new : DeskView D C) (hold : HoldsHistory d before old) where
   failed_sound : (question : Ask) → HasFailed d t question hold.office.plain before old new → IsTrue d.honest → IsSound (d.state new.disk)
   failed_sound (ask.Command command) fails tells = λ image is.
       let entry = entry_at t command in
@@ -198,7 +198,7 @@ module _ {D : Type 0} {C : Type 0} (d : disks.Ghosts D)
 -- ---- what a crash inside the call leaves
 
 module _ {D : Type 0} {C : Type 0} (d : disks.Ghosts D) (only_now : (disk : D) (s : State) → d.had_since disk (d.moment disk) s → s ≡ d.state disk)
-    (tells : IsTrue d.honest) (t number : ℕ) (before : List Entry) (old new : EngineView D C) (hold : HoldsHistory d before old) where
+    (tells : IsTrue d.honest) (t number : ℕ) (before : List Entry) (old new : DeskView D C) (hold : HoldsHistory d before old) where
   abbrev Inside : Ask → Type 0
   Inside question = KeepsTo d old.disk new.disk (KeepsOrAdds t question before)
 
@@ -244,9 +244,9 @@ module _ {D : Type 0} {C : Type 0} (d : disks.Ghosts D) (only_now : (disk : D) (
 
 -- ---- a call of which the clock told its number
 
-module _ {D : Type 0} {C : Type 0} (d : disks.Ghosts D)
-    (number : ℕ) (question : Ask) (old new : EngineView D C) (said : Result Answer DeskFault) (asks : AnswersAsk d number question old new said) (ready : IsReady d old) where
-  abbrev told : EngineView D C
+module _ {D C : Type 0} {d : disks.Ghosts D} {number : ℕ} {question : Ask} {old new : DeskView D C} {said : Result Answer DeskFault}
+    (asks : AnswersAsk d number question old new said) (ready : IsReady d old) where
+  abbrev told : DeskView D C
   told = record old { clock = asks.clock }
 
   abbrev before : List Entry
@@ -294,3 +294,24 @@ module _ {D : Type 0} {C : Type 0} (d : disks.Ghosts D)
 
   pub sound_by : IsTrue d.honest → IsSound (d.state new.disk)
   sound_by tells = sound_on d asks.t number before told new hold question said one tells
+
+-- an office tells the same of a call once it is marked as stale or not
+pub marked_causes : {D C : Type 0} (d : disks.Ghosts D) (k : clocks.Ghosts C) (office new : DeskView D C) (question : Ask) (said : Result Answer DeskFault) (stale : Bool)
+    → HasCauses d k office question said new → HasCauses d k office question said (record new { stale = stale })
+marked_causes d k office new question said stale causes = record {
+  once = causes.once;
+  quiet = causes.quiet;
+  inside = causes.inside;
+  reason = causes.reason;
+  ended = causes.ended;
+  full = causes.full;
+  full_alone = causes.full_alone;
+}
+
+-- a desk that is not stale after a call would not be so had it been fresh before
+pub fresh_after : (stale : Bool) (said : Result Answer DeskFault) → stale_after stale said ≡ false → stale_after false said ≡ false
+fresh_after stale (Ok answer) fresh = refl
+fresh_after stale (Err (faults.StoreFault number count)) fresh = fresh
+fresh_after stale (Err faults.JournalFull) fresh = refl
+fresh_after stale (Err (faults.Broken fault)) fresh = fresh
+fresh_after stale (Err faults.NoMemory) fresh = refl

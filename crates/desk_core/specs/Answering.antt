@@ -20,13 +20,13 @@ use Rattle.entry_codec.specs.Spelling.{spelling}
 use Rattle.meter_journal.specs.History.{header, end_gate, IsAtRest, BeforeOrAfter}
 use Rattle.desk_core.specs.Answers.{Answer}
 use Rattle.desk_core.specs.Calls.{moment_after}
-use Rattle.desk_core.specs.Desk.{EngineView, HoldsHistory}
+use Rattle.desk_core.specs.Desk.{DeskView, HoldsHistory}
 use Rattle.desk_core.specs.Submitting.{PassesLimit}
 use Rattle.desk_core.specs.declared.fault.DeskFault.{DeskFault}
 use Rattle.desk_core.specs.declared.fault.DeskFault.TheVariants as faults
 
 -- the answer has this moment and number, and was given by this office, at its disk's moment
-pub record IsAnswerOf {D C : Type 0} (disk_time : D → ℕ) (t number : ℕ) (new : EngineView D C)
+pub record IsAnswerOf {D C : Type 0} (disk_time : D → ℕ) (t number : ℕ) (new : DeskView D C)
     (said : Answer) : Type 0 where
   pub moment : said.moment ≡ t
   pub told : said.told ≡ number
@@ -35,18 +35,18 @@ pub record IsAnswerOf {D C : Type 0} (disk_time : D → ℕ) (t number : ℕ) (n
 
 module _ {D C : Type 0} (d : disks.Ghosts D) where
   -- the history grew by the entry, and in between each image had it or had it not
-  pub record Grows (before : List Entry) (entry : Entry) (old new : EngineView D C) : Type 0 where
+  pub record Grows (before : List Entry) (entry : Entry) (old new : DeskView D C) : Type 0 where
     pub holds : HoldsHistory d (before ++ entry ∷ []) new
     pub run : IsTrue d.honest → KeepsTo d old.disk new.disk (BeforeOrAfter header before entry (d.state old.disk))
 
   -- nothing was written
-  pub record Stays (before : List Entry) (old new : EngineView D C) : Type 0 where
+  pub record Stays (before : List Entry) (old new : DeskView D C) : Type 0 where
     pub holds : HoldsHistory d before new
     pub disk : new.disk ≡ old.disk
 
   -- the disk failed while the entry was added
   pub record StoreFails (office : Office) (before : List Entry) (entry : Entry)
-      (old new : EngineView D C) : Type 0 where
+      (old new : DeskView D C) : Type 0 where
     pub accepted : (plain : Office) → StandsForOffice old.office plain
         → IsTrue (is_accepted (step entry.moment entry.command plain).1)
     pub next : (after : Office) × (accept office entry ≡ Some after)
@@ -54,7 +54,7 @@ module _ {D C : Type 0} (d : disks.Ghosts D) where
     pub rose : Rose (d.fault_count old.disk) (d.fault_count new.disk)
 
   -- what adding the entry of a command does, to which this is the reply: the entry is there, or the disk failed
-  abbrev pub AddsEntry : ℕ → ℕ → Result Reply Refusal → List Entry → Entry → EngineView D C → EngineView D C
+  abbrev pub AddsEntry : ℕ → ℕ → Result Reply Refusal → List Entry → Entry → DeskView D C → DeskView D C
       → Result Answer DeskFault → Type 0
   AddsEntry t number reply before entry old new (Ok said) =
       (said ≡ record { moment = t; told = number; reply = reply; position = new.gate; disk_moment = d.moment new.disk })
@@ -71,7 +71,7 @@ module _ {D C : Type 0} (d : disks.Ghosts D) where
 
   -- what an ask does that is answered before the end of time: by a command that is accepted the history grows, and by
   -- none else is anything written
-  abbrev pub IsDoneAt : ℕ → Ask → Office → List Entry → EngineView D C → EngineView D C → Result Reply Refusal → Type 0
+  abbrev pub IsDoneAt : ℕ → Ask → Office → List Entry → DeskView D C → DeskView D C → Result Reply Refusal → Type 0
   IsDoneAt t (ask.Command command) office before old new reply =
       (reply ≡ (step t command office).1) × (old.gate + 6 + length (spelling (entry_at t command)) ≤ old.limit)
       × ((IsTrue (is_accepted reply) × Grows before (entry_at t command) old new)
@@ -79,12 +79,12 @@ module _ {D C : Type 0} (d : disks.Ghosts D) where
   IsDoneAt t (ask.Query query) office before old new reply = (reply ≡ answer t query office) × Stays before old new
 
   -- what an ask does that the disk failed
-  abbrev pub HasFailed : ℕ → Ask → Office → List Entry → EngineView D C → EngineView D C → Type 0
+  abbrev pub HasFailed : ℕ → Ask → Office → List Entry → DeskView D C → DeskView D C → Type 0
   HasFailed t (ask.Command command) office before old new = StoreFails office before (entry_at t command) old new
   HasFailed t (ask.Query query) office before old new = ⊥
 
   -- what an ask does before the end of time, on the plain office after this history
-  abbrev pub AnswersInTime : ℕ → ℕ → Ask → Office → List Entry → EngineView D C → EngineView D C
+  abbrev pub AnswersInTime : ℕ → ℕ → Ask → Office → List Entry → DeskView D C → DeskView D C
       → Result Answer DeskFault → Type 0
   AnswersInTime t number question office before old new (Ok said) =
       IsAnswerOf d.moment t number new said × IsDoneAt t question office before old new said.reply
@@ -97,20 +97,20 @@ module _ {D C : Type 0} (d : disks.Ghosts D) where
   AnswersInTime t number question office before old new (Err faults.NoMemory) = Stays before old new
 
   -- from the end of time on the ask is answered so, and nothing is written
-  abbrev pub AnswersEnded : ℕ → ℕ → List Entry → EngineView D C → EngineView D C → Result Answer DeskFault → Type 0
+  abbrev pub AnswersEnded : ℕ → ℕ → List Entry → DeskView D C → DeskView D C → Result Answer DeskFault → Type 0
   AnswersEnded t number before old new (Ok said) =
       IsAnswerOf d.moment t number new said × (said.reply ≡ Err (ClockEnd t)) × Stays before old new
   AnswersEnded t number before old new (Err fault) = ⊥
 
   -- what an ask does
-  abbrev pub AnswersAt : ℕ → ℕ → Ask → Office → List Entry → EngineView D C → EngineView D C → Result Answer DeskFault
+  abbrev pub AnswersAt : ℕ → ℕ → Ask → Office → List Entry → DeskView D C → DeskView D C → Result Answer DeskFault
       → Type 0
   AnswersAt t number question office before old new said =
       ((t < end_of_time) × AnswersInTime t number question office before old new said)
       ⊎ ((end_of_time ≤ t) × AnswersEnded t number before old new said)
 
   -- an ask does so at the moment that this number of the clock gives it
-  pub record AnswersAsk (number : ℕ) (question : Ask) (old new : EngineView D C)
+  pub record AnswersAsk (number : ℕ) (question : Ask) (old new : DeskView D C)
       (said : Result Answer DeskFault) : Type 0 where
     pub t : ℕ
     pub at : t ≡ moment_after number old.office.last

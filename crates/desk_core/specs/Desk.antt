@@ -1,5 +1,5 @@
 -- What a desk stands for, and what a call does to it.
-use Rattle.std.specs.Prelude.{◌≡◌, ◌⊎◌, ℕ, ◌^◌, ◌≤◌, Bool, true, false, List, [], ◌∷◌, Option, Some, None, Result, Ok, Err, IsTrue, IsSome}
+use Rattle.std.specs.Prelude.{◌≡◌, ℕ, ◌^◌, ◌≤◌, Bool, true, false, List, Some, None, Result, Ok, Err, IsTrue, IsSome}
 use Rattle.office_base.specs.Faults.{Rose}
 use Rattle.disk_core.specs.declared.disk.Disk as disks
 use Rattle.disk_core.specs.Moments.{KeepsTo}
@@ -14,16 +14,8 @@ use Rattle.desk_core.specs.Serving.{Opened, AreToldBy, Recoverable, KeepsSlots, 
 use Rattle.desk_core.specs.declared.fault.DeskFault.{DeskFault}
 use Rattle.desk_core.specs.declared.fault.DeskFault.TheVariants as faults
 
--- what contracts see of an office over its journal: its disk and clock, the office in memory, the offset of the
--- journal's end gate and the journal's limit, both in bytes
-pub record EngineView (D C : Type 0) : Type 0 where
-  pub disk : D
-  pub clock : C
-  pub office : Records
-  pub gate : ℕ
-  pub limit : ℕ
-
--- what they see of a desk: the same, and whether its journal has to be opened again
+-- what contracts see of a desk: its disk and clock, the office in memory, the offset of the journal's end gate and the
+-- journal's limit, both in bytes, and whether the journal has to be opened again
 pub record DeskView (D C : Type 0) : Type 0 where
   pub disk : D
   pub clock : C
@@ -32,22 +24,18 @@ pub record DeskView (D C : Type 0) : Type 0 where
   pub limit : ℕ
   pub stale : Bool
 
-abbrev pub engine_of : {D C : Type 0} → DeskView D C → EngineView D C
-engine_of desk =
-    record { disk = desk.disk; clock = desk.clock; office = desk.office; gate = desk.gate; limit = desk.limit }
-
 -- the office is the one after this history, and the gate the end of its journal, whose limit is at most 2^45 bytes; an
 -- honest disk holds that journal, synced
 pub record HoldsHistory {D C : Type 0} (d : disks.Ghosts D) (history : List Entry)
-    (parts : EngineView D C) : Type 0 where
-  pub office : StandsAfter history parts.office
-  pub end : parts.gate ≡ end_gate header history
-  pub limit : parts.limit ≤ 2 ^ 45
-  pub at_rest : IsTrue d.honest → IsAtRest header (d.state parts.disk) parts.gate history
+    (desk : DeskView D C) : Type 0 where
+  pub office : StandsAfter history desk.office
+  pub end : desk.gate ≡ end_gate header history
+  pub limit : desk.limit ≤ 2 ^ 45
+  pub at_rest : IsTrue d.honest → IsAtRest header (d.state desk.disk) desk.gate history
 
 -- so it is of some history
-abbrev pub IsReady : {D C : Type 0} → disks.Ghosts D → EngineView D C → Type 0
-IsReady d parts = (history : List Entry) × HoldsHistory d history parts
+abbrev pub IsReady : {D C : Type 0} → disks.Ghosts D → DeskView D C → Type 0
+IsReady d desk = (history : List Entry) × HoldsHistory d history desk
 
 -- Whether a desk is stale after a call: the journal has to be opened again after a fault of the store, and where it
 -- broke. Want of memory leaves the desk as it was.
@@ -67,7 +55,7 @@ pub record StandsFor {D C : Type 0} (d : disks.Ghosts D)
   pub faults : (opened.faults ≤ d.fault_count desk.disk) × AreToldBy (d.fault_count desk.disk) calls
   pub holds : desk.stale ≡ false
       → (history : List Entry) × Legal d.honest opened.limit opened.faults calls opened.history history
-      × HoldsHistory d history (engine_of desk)
+      × HoldsHistory d history desk
   pub lost : (IsTrue d.honest → ⊥) → desk.stale ≡ true → (history : List Entry) → IsSome (run history)
       → Legal d.honest opened.limit opened.faults calls opened.history history
   pub serves : IsTrue d.honest → DiskServes d opened desk.disk calls

@@ -1,5 +1,5 @@
 -- What a call tells of the office that answers it, and how a stale desk comes to one.
-use Rattle.std.specs.Prelude.{◌≡◌, ◌⊎◌, ℕ, ◌+◌, ◌-◌, ◌^◌, ◌<◌, ◌≤◌, min, Bool, true, false, List, [], ◌∷◌, ◌++◌, length, Some, None, Result, Ok, Err, IsTrue}
+use Rattle.std.specs.Prelude.{◌≡◌, ◌⊎◌, ℕ, ◌+◌, ◌-◌, ◌^◌, ◌<◌, ◌≤◌, min, true, false, List, [], ◌∷◌, ◌++◌, length, Some, None, Result, Ok, Err, IsTrue}
 use Rattle.office_base.specs.Faults.{Rose}
 use Rattle.disk_core.specs.declared.disk.Disk as disks
 use Rattle.disk_core.specs.Files.{State, IsImage}
@@ -20,7 +20,7 @@ use Rattle.desk_core.specs.Answers.{Answer, Call}
 use Rattle.desk_core.specs.Calls.{moment_after}
 use Rattle.desk_core.specs.Histories.{HasAcceptedHistory}
 use Rattle.desk_core.specs.Damage.{IsBroken, OpenFails}
-use Rattle.desk_core.specs.Desk.{EngineView, DeskView, engine_of, HoldsHistory, StandsFor, GoesOn, IsLast, IsStamped, TellsFault, stale_after}
+use Rattle.desk_core.specs.Desk.{DeskView, HoldsHistory, StandsFor, GoesOn, IsLast, IsStamped, TellsFault, stale_after}
 use Rattle.desk_core.specs.Numbers.{IsNumber}
 use Rattle.desk_core.specs.Serving.{Opened}
 use Rattle.desk_core.specs.declared.clock.Clock as clocks
@@ -75,9 +75,9 @@ KeepsOrAdds t (ask.Command command) before s = (image : List ℕ) → IsImage s.
 KeepsOrAdds t (ask.Query query) before s = (image : List ℕ) → IsImage s.journal image → HasAcceptedHistory before image
 
 -- what a call tells of the office that answers it, where the clock's last number is then this
-pub record HasCauses {D C : Type 0} (d : disks.Ghosts D) (k : clocks.Ghosts C) (office : EngineView D C)
+pub record HasCauses {D C : Type 0} (d : disks.Ghosts D) (k : clocks.Ghosts C) (office : DeskView D C)
     (question : Ask)
-    (said : Result Answer DeskFault) (new : EngineView D C) : Type 0 where
+    (said : Result Answer DeskFault) (new : DeskView D C) : Type 0 where
   -- the clock is asked once
   pub once : k.count new.clock ≡ min (k.count office.clock + 1) (2 ^ 64 - 1)
   pub quiet : LeavesDisk said question office.disk new.disk
@@ -112,7 +112,7 @@ IsUnopened d old new (Ok answer) = ⊥
 module _ {D C : Type 0} (d : disks.Ghosts D) where
   -- The journal was opened again: the office is the one after a history, on an honest disk that of the bytes that its
   -- journal file reads, and every image since is one that it had.
-  pub record Reopens (old office : EngineView D C) : Type 0 where
+  pub record Reopens (old office : DeskView D C) : Type 0 where
     pub history : List Entry
     pub holds : HoldsHistory d history office
     pub read : IsTrue d.honest → HasAcceptedHistory history (d.state old.disk).journal.seen
@@ -122,12 +122,12 @@ module _ {D C : Type 0} (d : disks.Ghosts D) where
     pub later : d.fault_count old.disk ≤ d.fault_count office.disk
 
   -- the office that answers a call: that of the desk, and of a stale desk the one that is opened again
-  abbrev pub IsOffice : Bool → EngineView D C → EngineView D C → Type 0
-  IsOffice stale old office = ((stale ≡ false) × (office ≡ old)) ⊎ ((stale ≡ true) × Reopens old office)
+  abbrev pub IsOffice : DeskView D C → DeskView D C → Type 0
+  IsOffice old office = ((old.stale ≡ false) × (office ≡ old)) ⊎ ((old.stale ≡ true) × Reopens old office)
 
   -- no office answers a call of a stale desk: its journal could not be opened again, and the clock is not asked
-  pub record Unopened (stale : Bool) (old new : EngineView D C) (said : Result Answer DeskFault) : Type 0 where
-    pub is_stale : stale ≡ true
+  pub record Unopened (old new : DeskView D C) (said : Result Answer DeskFault) : Type 0 where
+    pub is_stale : old.stale ≡ true
     pub why : IsUnopened d old.disk new.disk said
     pub clock : new.clock ≡ old.clock
     pub any_moment : IsTrue d.honest → KeepsTo d old.disk new.disk (Narrower (d.state old.disk))
@@ -142,9 +142,8 @@ pub record Submits {D C : Type 0} (d : disks.Ghosts D) (k : clocks.Ghosts C) (ol
     (said : Result Answer DeskFault) (new : DeskView D C) : Type 0 where
   pub stands : (opened : Opened) (calls : List Call) → StandsFor d opened calls old
       → GoesOn d opened (calls ++ record { ask = question; said = said } ∷ []) old.disk new
-  pub causes : Unopened d old.stale (engine_of old) (engine_of new) said
-      ⊎ ((office : EngineView D C) × IsOffice d old.stale (engine_of old) office
-      × HasCauses d k office question said (engine_of new))
+  pub causes : Unopened d old new said
+      ⊎ ((office : DeskView D C) × IsOffice d old office × HasCauses d k office question said new)
   pub not_broken : IsTrue d.honest → (fault : OpenFault) → said ≡ Err (faults.Broken fault) → ⊥
   pub number : k.count new.clock < 2 ^ 64 - 1 → IsNumber (k.told old.clock) (k.told new.clock) said
   pub last_told : IsLast (k.last new.clock) said

@@ -18,11 +18,12 @@ use Rattle.desk_core.specs.Turns.{Moves, calls_from, Reaches, LegalSince}
 use Rattle.desk_core.specs.declared.clock.Clock as clocks
 use Rattle.desk_core.specs.declared.fault.DeskFault.{DeskFault}
 
-by_honesty : {P : Type 0} (honest : Bool) → (IsTrue honest → P) → ((IsTrue honest → ⊥) → P) → P
+-- a disk tells what it holds, or it does not
+pub by_honesty : {P : Type 0} (honest : Bool) → (IsTrue honest → P) → ((IsTrue honest → ⊥) → P) → P
 by_honesty true tells silent = tells refl
 by_honesty false tells silent = silent (λ is. absurd cc)
 
-honest_legal : (honest : Bool) (limit counted : ℕ) (calls : List Call) (before after : List Entry) → IsTrue honest
+pub honest_legal : (honest : Bool) (limit counted : ℕ) (calls : List Call) (before after : List Entry) → IsTrue honest
     → Legal true limit counted calls before after → Legal honest limit counted calls before after
 honest_legal honest limit counted calls before after tells rule =
     subst (λ (b : Bool). Legal b limit counted calls before after) (sym tells) rule

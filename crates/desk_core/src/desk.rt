@@ -10,7 +10,7 @@ ghost use Rattle.office_types.specs.declared.command.Entry.{Entry};
 ghost use Rattle.desk_core.specs.Answers.{Call};
 ghost use Rattle.desk_core.specs.Submitting.{IsOffice, HasCauses, Submits, Unopened};
 ghost use Rattle.desk_core.specs.Damage.{OpenFails};
-ghost use Rattle.desk_core.specs.Desk.{EngineView, DeskView, engine_of, StandsFor, GoesOn};
+ghost use Rattle.desk_core.specs.Desk.{DeskView, StandsFor, GoesOn};
 ghost use Rattle.desk_core.specs.Desk.{TellsFault, IsLast, IsStamped, stale_after};
 ghost use Rattle.desk_core.specs.Histories.{HasAcceptedHistory};
 ghost use Rattle.desk_core.specs.Looking.{IsReadAfter};
@@ -34,7 +34,6 @@ use std::marker::Model;
 #[derive(Drop)]
 pub struct Desk<D: Disk + Drop, C: Clock + Drop> {
     engine: Engine<D, C>,
-    stale: bool,
 }
 
 impl<D: Disk + Drop, C: Clock + Drop> Model for Desk<D, C> {
@@ -44,31 +43,11 @@ impl<D: Disk + Drop, C: Clock + Drop> Model for Desk<D, C> {
 
     ghost Value = { DeskView D C };
 
-    ghost view = { λ d. record {
-      disk = d.engine.disk;
-      clock = d.engine.clock;
-      office = d.engine.office;
-      gate = d.engine.gate;
-      limit = d.engine.limit;
-      stale = d.stale;
-    } };
+    ghost view = { λ d. d.engine };
 
     // A desk that is not stale holds its journal as it was read, and each image of an honest disk has a history.
-    ghost invariant = { λ d. (d.stale ≡ false → IsReady D.Disk d.engine)
+    ghost invariant = { λ d. (d.engine.stale ≡ false → IsReady D.Disk d.engine)
         × (IsTrue D.honest → IsSound (D.state d.engine.disk)) };
-}
-
-// Whether the journal has to be opened again after a call.
-fn is_stale(stale: bool, said: &Result<Acked, DeskFault>) -> bool
-    ensures { result ≡ stale_after stale said.now }
-{
-    match said {
-        Ok(_) => false,
-        Err(DeskFault::StoreFault { .. }) => true,
-        Err(DeskFault::JournalFull) => false,
-        Err(DeskFault::Broken(_)) => true,
-        Err(DeskFault::NoMemory) => stale,
-    }
 }
 
 impl<D: Disk + Drop, C: Clock + Drop> Desk<D, C> {
@@ -113,10 +92,7 @@ impl<D: Disk + Drop, C: Clock + Drop> Desk<D, C> {
     {
         let mut engine = Engine::over(alloc, disk, clock, limit);
         match engine.open() {
-            Ok(()) => Ok(Desk {
-                engine,
-                stale: false,
-            }),
+            Ok(()) => Ok(Desk { engine }),
             Err(fault) => {
                 let (disk, clock) = engine.give_back();
                 Err((fault, disk, clock))
@@ -158,9 +134,9 @@ impl<D: Disk + Drop, C: Clock + Drop> Desk<D, C> {
             → GoesOn D.Disk opened (calls ++ record { ask = ask.now; said = result } ∷ []) self.old.disk self.new }
 
         // The office that answers is the desk's own, or of a stale desk one that was opened again, where it could be.
-        ensures causes { Unopened D.Disk self.old.stale (engine_of self.old) (engine_of self.new) result
-            ⊎ ((office : EngineView D C) × IsOffice D.Disk self.old.stale (engine_of self.old) office
-            × HasCauses D.Disk C.Clock office ask.now result (engine_of self.new)) }
+        ensures causes { Unopened D.Disk self.old self.new result
+            ⊎ ((office : DeskView D C) × IsOffice D.Disk self.old office
+            × HasCauses D.Disk C.Clock office ask.now result self.new) }
 
         // So an honest disk has no broken journal.
         ensures not_broken { IsTrue D.honest → (fault : OpenFault) → (result ≡ Err (DeskFault.Broken fault) → ⊥) }
@@ -178,11 +154,12 @@ impl<D: Disk + Drop, C: Clock + Drop> Desk<D, C> {
         ensures clock_later { C.count self.old.clock ≤ C.count self.new.clock }
         ensures disk_later { D.fault_count self.old.disk ≤ D.fault_count self.new.disk }
     {
-        if let Err(fault) = self.engine.refresh(self.stale) {
+        let was_stale = self.engine.stale();
+        if let Err(fault) = self.engine.refresh() {
             return Err(fault);
         }
         let said = self.engine.answer_now(ask);
-        self.stale = is_stale(self.stale, &said);
+        self.engine.mark(was_stale, &said);
         said
     }
 
@@ -209,7 +186,7 @@ impl<D: Disk + Drop, C: Clock + Drop> Desk<D, C> {
     pub fn stale(&self) -> bool
         ensures { result ≡ self.now.stale }
     {
-        self.stale
+        self.engine.stale()
     }
 
     /// Ends the work of the desk, and gives the disk and the clock back. No checkpoint is kept yet, so it makes no

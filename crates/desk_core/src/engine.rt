@@ -12,7 +12,7 @@ ghost use Rattle.plain_office.specs.Run.{is_not_before};
 ghost use Rattle.entry_codec.specs.Spelling.{EntryFits, IsEntry, spelling};
 ghost use Rattle.meter_journal.specs.History.{header, end_gate, IsAtRest};
 ghost use Rattle.desk_core.specs.Calls.{moment_after};
-ghost use Rattle.desk_core.specs.Desk.{EngineView, HoldsHistory, IsReady, IsLast, IsStamped, stale_after};
+ghost use Rattle.desk_core.specs.Desk.{DeskView, HoldsHistory, IsReady, IsLast, IsStamped, stale_after};
 ghost use Rattle.desk_core.specs.Submitting.{PassesLimit, HasCauses};
 ghost use Rattle.desk_core.specs.Histories.{IsSound};
 ghost use Rattle.desk_core.specs.Looking.{IsRead};
@@ -32,20 +32,22 @@ use office_types::{Ask, Command, Query, Refusal, Reply};
 use std::alloc::Global;
 use std::marker::Model;
 
-// The office after the entries of a journal, with the journal's end and a clock.
+// The office after the entries of a journal, with the journal's end and a clock, and whether the journal has to be
+// opened again.
 #[derive(Drop)]
 pub(crate) struct Engine<D: Disk + Drop, C: Clock + Drop> {
     pub(crate) alloc: Global,
     pub(crate) office: Office,
     pub(crate) journal: Journal<D>,
     pub(crate) clock: C,
+    pub(crate) stale: bool,
 }
 
 impl<D: Disk + Drop, C: Clock + Drop> Model for Engine<D, C> {
     ghost use Rattle.std.specs.Prelude.{◌≤◌, ◌^◌};
-    ghost use Rattle.desk_core.specs.Desk.{EngineView};
+    ghost use Rattle.desk_core.specs.Desk.{DeskView};
 
-    ghost Value = { EngineView D C };
+    ghost Value = { DeskView D C };
 
     ghost view = { λ e. record {
       disk = e.journal.disk;
@@ -53,6 +55,7 @@ impl<D: Disk + Drop, C: Clock + Drop> Model for Engine<D, C> {
       office = e.office;
       gate = e.journal.gate;
       limit = e.journal.limit;
+      stale = e.stale;
     } };
 
     ghost invariant = { λ e. e.journal.limit ≤ 2 ^ 45 };
@@ -76,13 +79,34 @@ impl<D: Disk + Drop, C: Clock + Drop> Engine<D, C> {
         ensures disk { result.disk ≡ disk }
         ensures clock { result.clock ≡ clock }
         ensures limit { result.limit ≡ limit }
+        ensures fresh { result.stale ≡ false }
     {
         Engine {
             alloc,
             office: Office::new(alloc),
             journal: Journal::over(disk, limit),
             clock,
+            stale: false,
         }
+    }
+
+    pub(crate) fn stale(&self) -> bool
+        ensures { result ≡ self.now.stale }
+    {
+        self.stale
+    }
+
+    // Marks whether the journal has to be opened again, after a call of an office of which this was so or not before.
+    pub(crate) fn mark(&mut self, was_stale: bool, said: &Result<Acked, DeskFault>)
+        ensures { self.new ≡ record self.old { stale = stale_after was_stale said.now } }
+    {
+        self.stale = match said {
+            Ok(_) => false,
+            Err(DeskFault::StoreFault { .. }) => true,
+            Err(DeskFault::JournalFull) => false,
+            Err(DeskFault::Broken(_)) => true,
+            Err(DeskFault::NoMemory) => was_stale,
+        };
     }
 
     pub(crate) fn give_back(self) -> (D, C)

@@ -7,12 +7,12 @@ ghost use Rattle.disk_core.specs.Fronts.{Narrower};
 ghost use Rattle.disk_core.specs.Moments.{KeepsTo, Untouched};
 ghost use Rattle.office_types.specs.declared.command.Entry.{Entry};
 ghost use Rattle.office_types.specs.declared.reply.Reply.TheVariants.{NothingDue};
-ghost use Rattle.plain_office.specs.Run.{accept, is_not_before};
+ghost use Rattle.plain_office.specs.Run.{is_not_before};
 ghost use Rattle.plain_office.specs.Step.{is_accepted};
 ghost use Rattle.bucket_account.specs.Standing.{most_commands};
 ghost use Rattle.meter_journal.specs.Reading.{IsMade, HasStoreCause};
 ghost use Rattle.desk_core.specs.Submitting.{Reopens, IsOffice, Unopened};
-ghost use Rattle.desk_core.specs.Damage.{HasReplayed, ReplayFails, OpenFails, IsBroken};
+ghost use Rattle.desk_core.specs.Damage.{HasReplayed, IsNotTaken, ReplayFails, OpenFails, IsBroken};
 ghost use Rattle.desk_core.specs.Offices.{StandsAfter};
 
 use crate::clock::Clock;
@@ -61,8 +61,8 @@ fn take(office: &mut Office, entry: Entry, gate: u64) -> Result<(), OpenFault>
     requires few { office.old.accepted < most_commands }
     ensures ok { OnOk result ((history : List Entry) → StandsAfter history office.old
         → StandsAfter (history ++ entry ∷ []) office.new) }
-    ensures damaged { IfErr result (λ e. (e ≡ OpenFault.NoMemory) ⊎ ((e ≡ OpenFault.Damaged gate)
-        × ((history : List Entry) (is : StandsAfter history office.old) → accept is.plain entry ≡ None))) }
+    ensures damaged { IfErr result (λ e.
+        IsNotTaken office.old entry OpenFault.NoMemory (OpenFault.Damaged gate) e) }
 {
     if !is_in_order(office.last(), entry.moment) {
         return Err(OpenFault::Damaged { offset: gate });
@@ -117,6 +117,7 @@ impl<D: Disk + Drop, C: Clock + Drop> Engine<D, C> {
             → KeepsTo D.Disk self.old.disk self.new.disk (Narrower (D.state self.old.disk)) }
         ensures clock { self.new.clock ≡ self.old.clock }
         ensures limit { self.new.limit ≡ self.old.limit }
+        ensures stale { self.new.stale ≡ self.old.stale }
         ensures cause { HasStoreCause (D.fault_count self.old.disk) (D.fault_count self.new.disk) result }
     {
         let end = match self.journal.open(None) {
@@ -128,13 +129,14 @@ impl<D: Disk + Drop, C: Clock + Drop> Engine<D, C> {
     }
 
     // Opens the journal of a stale desk again, before a call.
-    pub(crate) fn refresh(&mut self, stale: bool) -> Result<(), DeskFault>
-        ensures office { OnOk result (IsOffice D.Disk stale self.old self.new) }
+    pub(crate) fn refresh(&mut self) -> Result<(), DeskFault>
+        ensures office { OnOk result (IsOffice D.Disk self.old self.new) }
         ensures any_moment { IsTrue D.honest
             → KeepsTo D.Disk self.old.disk self.new.disk (Narrower (D.state self.old.disk)) }
-        ensures unopened { IfErr result (λ fault. Unopened D.Disk stale self.old self.new (Err fault)) }
+        ensures unopened { IfErr result (λ fault. Unopened D.Disk self.old self.new (Err fault)) }
+        ensures stale { self.new.stale ≡ self.old.stale }
     {
-        if !stale {
+        if !self.stale {
             return Ok(());
         }
         match self.open() {

@@ -26,7 +26,7 @@ use Rattle.plain_office.specs.Run.{run}
 use Rattle.meter_journal.specs.History.{header, end_gate}
 use Rattle.desk_core.specs.Answers.{Answer}
 use Rattle.desk_core.specs.Calls.{moment_after, GrowsBy, IsAnswered}
-use Rattle.desk_core.specs.Desk.{DeskView, engine_of, HoldsHistory}
+use Rattle.desk_core.specs.Desk.{DeskView, HoldsHistory}
 use Rattle.generator.specs.Drafts.{name_of}
 use Rattle.generator.specs.Places.{place_after}
 use Rattle.generator.specs.Clocks.{moments_told}
@@ -46,7 +46,7 @@ use Rattle.generator.proofs.Progress.{last_of, runs, last_within, last_before, e
 -- the desk answered, and its clock told the moment of one command more
 pub next_asked : {E : Type 0} (number told : ℕ) (history : List Entry) (question : Ask) (old new : DeskView MemoryDisk PlaceClock) (r : Result Answer E)
     → told < 2 ^ 33 → IsDeskAfter number told history old
-    → IfOk r (λ said. (after : List Entry) × IsSomeAnd (run history) (λ office. IsAnswered old.limit question office said history after) × HoldsHistory memory.ghosts after (engine_of new))
+    → IfOk r (λ said. (after : List Entry) × IsSomeAnd (run history) (λ office. IsAnswered old.limit question office said history after) × HoldsHistory memory.ghosts after new)
     → OnOk r (new.stale ≡ false)
     → OnOk r (new.clock.place.made + 1 ≡ min (old.clock.place.made + 1 + 1) (2 ^ 64 - 1))
     → (new.clock.place.made + 1 < 2 ^ 64 - 1

@@ -12,7 +12,7 @@ use Rattle.desk_core.specs.declared.clock.Clock as clocks
 use Rattle.desk_core.specs.Answers.{Answer, Call}
 use Rattle.desk_core.specs.Submitting.{IsOffice, HasCauses, Unopened}
 use Rattle.desk_core.specs.Calls.{IsAnswered}
-use Rattle.desk_core.specs.Desk.{EngineView, DeskView, engine_of, HoldsHistory, StandsFor, GoesOn}
+use Rattle.desk_core.specs.Desk.{DeskView, HoldsHistory, StandsFor, GoesOn}
 use Rattle.desk_core.specs.Opening.{Opens, opened_with}
 use Rattle.desk_core.specs.Serving.{Opened}
 use Rattle.desk_core.proofs.Serving.{rest_image, unique}
@@ -24,7 +24,7 @@ module _ {D : Type 0} {C : Type 0} (d : disks.Ghosts D)
     (counts_now : (disk : D) (t : ℕ) → t ≤ d.moment disk → d.had_since disk t (d.state disk))
     (since_earlier : (disk : D) (t u : ℕ) (s : State) → t ≤ u → d.had_since disk u s → d.had_since disk t s) where
   -- it stands for no call since now
-  stands_now : (history : List Entry) (desk : DeskView D C) → desk.stale ≡ false → HoldsHistory d history (engine_of desk)
+  stands_now : (history : List Entry) (desk : DeskView D C) → desk.stale ≡ false → HoldsHistory d history desk
       → StandsFor d (opened_with d history desk) [] desk
   stands_now history desk fresh holds = record {
     limit = refl;
@@ -37,10 +37,10 @@ module _ {D : Type 0} {C : Type 0} (d : disks.Ghosts D)
   }
 
   -- the office of its history answers, and it holds the history after the call
-  pub asked : (history : List Entry) (desk new : DeskView D C) (question : Ask) (said : Answer) → desk.stale ≡ false → new.stale ≡ false → HoldsHistory d history (engine_of desk)
+  pub asked : (history : List Entry) (desk new : DeskView D C) (question : Ask) (said : Answer) → desk.stale ≡ false → new.stale ≡ false → HoldsHistory d history desk
       → ((opened : Opened) (calls : List Call) → StandsFor d opened calls desk
       → GoesOn d opened (calls ++ record { ask = question; said = Ok said } ∷ []) desk.disk new)
-      → (after : List Entry) × IsSomeAnd (run history) (λ office. IsAnswered desk.limit question office said history after) × HoldsHistory d after (engine_of new)
+      → (after : List Entry) × IsSomeAnd (run history) (λ office. IsAnswered desk.limit question office said history after) × HoldsHistory d after new
   asked history desk new question said fresh fresh_new holds stands =
       let goes = stands (opened_with d history desk) [] (stands_now history desk fresh holds) in
       let found = goes.stands.holds fresh_new in
@@ -49,19 +49,19 @@ module _ {D : Type 0} {C : Type 0} (d : disks.Ghosts D)
 
   -- and asks its clock once
   pub asked_once : (k : clocks.Ghosts C) (desk new : DeskView D C) (question : Ask) (said : Answer) → desk.stale ≡ false
-      → Unopened d desk.stale (engine_of desk) (engine_of new) (Ok said)
-      ⊎ ((office : EngineView D C) × IsOffice d desk.stale (engine_of desk) office × HasCauses d k office question (Ok said) (engine_of new))
+      → Unopened d desk new (Ok said)
+      ⊎ ((office : DeskView D C) × IsOffice d desk office × HasCauses d k office question (Ok said) new)
       → k.count new.clock ≡ min (k.count desk.clock + 1) (2 ^ 64 - 1)
   asked_once k desk new question said fresh (inl unopened) = absurd (still_true desk.stale unopened.is_stale fresh)
   asked_once k desk new question said fresh (inr (office, is, causes)) =
       ⊎_elim
-      (λ own. causes.once ∙ ap (λ (parts : EngineView D C). min (k.count parts.clock + 1) (2 ^ 64 - 1)) own.1)
+      (λ own. causes.once ∙ ap (λ (parts : DeskView D C). min (k.count parts.clock + 1) (2 ^ 64 - 1)) own.1)
       (λ again. absurd (still_true desk.stale again.0 fresh)) is
 
   -- a desk that was opened over a journal without entries holds none
   pub opened_empty : (disk : D) (clock : C) (limit : ℕ) (desk : DeskView D C) → IsImage (d.state disk).journal (d.state disk).journal.seen → IsTrue d.honest → IsAtRest header (d.state disk) 10 []
-      → Opens d disk clock limit desk → HoldsHistory d [] (engine_of desk)
+      → Opens d disk clock limit desk → HoldsHistory d [] desk
   opened_empty disk clock limit desk own tells rest opens =
       let found = opens.stands.holds opens.fresh in
       let none : opens.history ≡ [] = unique opens.history [] (d.state disk).journal.seen (opens.read tells) (each_image header (d.state disk) 10 [] rest (d.state disk).journal.seen own) in
-      subst (λ (history : List Entry). HoldsHistory d history (engine_of desk)) (found.1 ∙ none) found.2
+      subst (λ (history : List Entry). HoldsHistory d history desk) (found.1 ∙ none) found.2

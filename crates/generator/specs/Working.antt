@@ -11,7 +11,7 @@ use Rattle.due_core.specs.Buckets.{BucketRecord}
 use Rattle.plain_office.specs.Office.{Office, Account}
 use Rattle.plain_office.specs.Counts.{version_count}
 use Rattle.meter_journal.specs.History.{header, end_gate}
-use Rattle.desk_core.specs.Desk.{DeskView, engine_of, HoldsHistory}
+use Rattle.desk_core.specs.Desk.{DeskView, HoldsHistory}
 use Rattle.generator.specs.Drafts.{name_of}
 use Rattle.generator.specs.Places.{place_after}
 use Rattle.generator.specs.Generated.{Progress, progress}
@@ -22,7 +22,7 @@ use Rattle.generator.specs.declared.work.Work.{Work}
 
 -- the desk holds the journal of these entries, and its clock has told the number and as many moments behind it
 pub record IsDeskAfter (number told : ℕ) (history : List Entry) (desk : DeskView MemoryDisk PlaceClock) : Type 0 where
-  pub holds : HoldsHistory memory.ghosts history (engine_of desk)
+  pub holds : HoldsHistory memory.ghosts history desk
   pub fresh : desk.stale ≡ false
   pub number_is : desk.clock.number ≡ number
   pub told_is : desk.clock.place.made ≡ told

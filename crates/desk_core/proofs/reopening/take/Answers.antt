@@ -1,4 +1,4 @@
-use Rattle.std.proofs.Common.{◌≡◌, inr, refl, false, rules}
+use Rattle.std.proofs.Common.{◌≡◌, false, rules}
 use Rattle.std.specs.Prelude.{IsTrue}
 use Rattle.plain_office.specs.Run.{is_not_before}
 use Rattle.desk_core.proofs.Damage.{not_taken, nothing_due, not_in_order}
@@ -16,14 +16,14 @@ returns-in-Ok-clause-ok c =
 pub returns-in-Ok-clause-damaged : goal.returns-in-Ok-clause-damaged
 returns-in-Ok-clause-damaged c =
     on_fault c.taken.result
-    (λ e told. nothing_due c.args.office.now c.apply.new.self c.args.entry c.in-Ok.reply e c.args.gate c.in-Ok.ensures.step told.0 told.1) c.taken.ensures.damaged
+    (λ e told. nothing_due c.args.office.now c.apply.new.self c.args.entry c.in-Ok.reply c.in-Ok.ensures.step told.0 told.1) c.taken.ensures.damaged
 
 pub returns-clause-damaged : goal.returns-clause-damaged
 returns-clause-damaged c =
-    not_taken c.args.office.now c.apply.new.self c.args.entry c.in-Err.refusal c.refused.result c.args.gate
+    not_taken c.args.office.now c.apply.new.self c.args.entry c.in-Err.refusal
     c.in-Err.ensures.step c.refused.ensures.memory c.refused.ensures.damaged
 
 pub returns-then-not-is_in_order-clause-damaged : goal.returns-then-not-is_in_order-clause-damaged
 returns-then-not-is_in_order-clause-damaged c =
     let early : is_not_before c.args.office.now.last c.args.entry.moment ≡ false = search rules in
-    inr (refl, not_in_order c.args.office.now c.args.entry early)
+    not_in_order c.args.office.now c.args.entry early

@@ -1,10 +1,9 @@
-use Rattle.std.proofs.Common.{ℕ, false, subst}
+use Rattle.std.proofs.Common.{ℕ, ◌∙◌, subst}
 use Rattle.disk_core.specs.declared.disk.FileNo.TheVariants.{Journal}
 use Rattle.desk_core.specs.Damage.{OpenFails}
 use Rattle.desk_core.specs.Opening.{Opens}
 use Rattle.desk_core.proofs.Damage.{opens}
 use Rattle.desk_core.proofs.Opened.{opened}
-use Rattle.desk_core.proofs.Standing.{view_of}
 use Rattle.desk_core.proofs.Submitted.{holds_sound}
 use Rattle.desk_core.proofs.desk.Desk.open.Goals as goal
 
@@ -14,10 +13,11 @@ returns-in-Ok-clause-opens g c =
     let m = g.met.D.Disk in
     let over = c.over-engine.result in
     let engine = c.open.new.self in
-    let opens_over = opened d m.only_now m.counts_now m.since_earlier (λ tells disk. m.reads_image tells disk Journal) over engine c.in-Ok.ensures.opens in
-    let on_disk = subst (λ (x : g.row.D.Denot). Opens d x over.clock over.limit (view_of engine false)) c.over-engine.ensures.disk opens_over in
-    let on_clock = subst (λ (x : g.row.C.Denot). Opens d c.args.disk x over.limit (view_of engine false)) c.over-engine.ensures.clock on_disk in
-    subst (λ (n : ℕ). Opens d c.args.disk c.args.clock n (view_of engine false)) c.over-engine.ensures.limit on_clock
+    let opens_over = opened d m.only_now m.counts_now m.since_earlier (λ tells disk. m.reads_image tells disk Journal) over engine (c.open.ensures.stale ∙ c.over-engine.ensures.fresh)
+    c.in-Ok.ensures.opens in
+    let on_disk = subst (λ (x : g.row.D.Denot). Opens d x over.clock over.limit engine) c.over-engine.ensures.disk opens_over in
+    let on_clock = subst (λ (x : g.row.C.Denot). Opens d c.args.disk x over.limit engine) c.over-engine.ensures.clock on_disk in
+    subst (λ (n : ℕ). Opens d c.args.disk c.args.clock n engine) c.over-engine.ensures.limit on_clock
 
 pub returns-in-Err-clause-sound : goal.returns-in-Err-clause-sound
 returns-in-Err-clause-sound g c told history has =

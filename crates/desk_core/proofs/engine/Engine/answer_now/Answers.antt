@@ -4,7 +4,7 @@ use Rattle.office_types.specs.declared.command.Entry.{Entry}
 use Rattle.desk_core.specs.declared.fault.DeskFault.TheVariants.{JournalFull, NoMemory}
 use Rattle.desk_core.specs.Submitting.{PassesLimit}
 use Rattle.desk_core.specs.Calls.{moment_after}
-use Rattle.desk_core.specs.Desk.{EngineView, HoldsHistory}
+use Rattle.desk_core.specs.Desk.{DeskView, HoldsHistory}
 use Rattle.desk_core.specs.Answering.{AnswersAt, AnswersAsk}
 use Rattle.desk_core.proofs.Submitted.{stamped_by, numbered_by, last_by, ready_by, sound_by, tells_by}
 use Rattle.desk_core.proofs.engine.Engine.answer_now.Goals as goal
@@ -12,7 +12,7 @@ use Rattle.desk_core.proofs.engine.Engine.answer_now.Goals as goal
 pub returns-clause-asks : goal.returns-clause-asks
 returns-clause-asks g c =
     let d = g.D.Disk in
-    let P : Type 0 = EngineView g.row.D.Denot g.row.C.Denot in
+    let P : Type 0 = DeskView g.row.D.Denot g.row.C.Denot in
     let last_is : g.C.Clock.last c.answer_at.new.self.clock ≡ c.now-told.result = ap g.C.Clock.last c.answer_at.ensures.clock ∙ c.now-told.ensures.last in
     subst (λ (n : ℕ). AnswersAsk d n c.args.ask.now c.args.self.now c.answer_at.new.self c.answer_at.result) (sym last_is)
     (record {
@@ -27,35 +27,30 @@ returns-clause-asks g c =
 
 pub returns-clause-stamped : goal.returns-clause-stamped
 returns-clause-stamped g c =
-    let d = g.D.Disk in
-    stamped_by d (g.C.Clock.last c.answer_at.new.self.clock) c.args.ask.now c.args.self.now c.answer_at.new.self c.answer_at.result (returns-clause-asks g c) c.requires.ready
+    stamped_by (returns-clause-asks g c) c.requires.ready
 
 pub returns-clause-last : goal.returns-clause-last
 returns-clause-last g c =
-    let d = g.D.Disk in
-    last_by d (g.C.Clock.last c.answer_at.new.self.clock) c.args.ask.now c.args.self.now c.answer_at.new.self c.answer_at.result (returns-clause-asks g c) c.requires.ready
+    last_by (returns-clause-asks g c) c.requires.ready
 
 pub returns-clause-ready : goal.returns-clause-ready
 returns-clause-ready g c fine =
-    let d = g.D.Disk in
-    ready_by d (g.C.Clock.last c.answer_at.new.self.clock) c.args.ask.now c.args.self.now c.answer_at.new.self c.answer_at.result (returns-clause-asks g c) c.requires.ready fine
+    ready_by (returns-clause-asks g c) c.requires.ready fine
 
 pub returns-clause-number : goal.returns-clause-number
 returns-clause-number g c small =
-    let d = g.D.Disk in
     let k = g.C.Clock in
     let more = c.now-told.ensures.told (subst (λ (x : g.row.C.Denot). k.count x < 2 ^ 64 - 1) c.answer_at.ensures.clock small) in
-    let from = subst (λ (s : EngineView g.row.D.Denot g.row.C.Denot). Appends (k.told s.clock) (k.told c.now-told.new.self) (c.now-told.result ∷ [])) c.self.view_is more in
+    let from = subst (λ (s : DeskView g.row.D.Denot g.row.C.Denot). Appends (k.told s.clock) (k.told c.now-told.new.self) (c.now-told.result ∷ [])) c.self.view_is more in
     let both = subst (λ (x : g.row.C.Denot). Appends (k.told c.args.self.now.clock) (k.told x) (c.now-told.result ∷ [])) (sym c.answer_at.ensures.clock) from in
     let last_is : k.last c.answer_at.new.self.clock ≡ c.now-told.result = ap k.last c.answer_at.ensures.clock ∙ c.now-told.ensures.last in
-    numbered_by d (k.last c.answer_at.new.self.clock) c.args.ask.now c.args.self.now c.answer_at.new.self c.answer_at.result (returns-clause-asks g c) c.requires.ready
+    numbered_by (returns-clause-asks g c) c.requires.ready
     (k.told c.args.self.now.clock) (k.told c.answer_at.new.self.clock) (subst (λ (n : ℕ). Appends (k.told c.args.self.now.clock) (k.told c.answer_at.new.self.clock) (n ∷ [])) (sym last_is) both)
 
 pub returns-clause-tells : goal.returns-clause-tells
 returns-clause-tells g c =
-    let d = g.D.Disk in
     let k = g.C.Clock in
-    let P : Type 0 = EngineView g.row.D.Denot g.row.C.Denot in
+    let P : Type 0 = DeskView g.row.D.Denot g.row.C.Denot in
     let last_is : k.last c.answer_at.new.self.clock ≡ c.now-told.result = ap k.last c.answer_at.ensures.clock ∙ c.now-told.ensures.last in
     let at : c.moment_for-moment.result ≡ moment_after c.now-told.result c.args.self.now.office.last =
     subst (λ (s : P). c.moment_for-moment.result ≡ moment_after c.now-told.result s.office.last) c.self.view_is
@@ -70,12 +65,11 @@ returns-clause-tells g c =
     let full = subst (λ (s : P). PassesLimit c.moment_for-moment.result s.gate s.limit c.args.ask.now
     → (c.answer_at.result ≡ Err JournalFull) ⊎ (c.answer_at.result ≡ Err NoMemory)) c.self.view_is
     c.answer_at.ensures.full in
-    tells_by d (k.last c.answer_at.new.self.clock) c.args.ask.now c.args.self.now c.answer_at.new.self c.answer_at.result (returns-clause-asks g c) c.requires.ready
+    tells_by (returns-clause-asks g c) c.requires.ready
     k g.met.D.Disk.only_now refl once (subst (λ (t : ℕ).
     PassesLimit t c.args.self.now.gate c.args.self.now.limit c.args.ask.now
     → (c.answer_at.result ≡ Err JournalFull) ⊎ (c.answer_at.result ≡ Err NoMemory)) now_is full)
 
 pub returns-clause-sound : goal.returns-clause-sound
 returns-clause-sound g c tells =
-    let d = g.D.Disk in
-    sound_by d (g.C.Clock.last c.answer_at.new.self.clock) c.args.ask.now c.args.self.now c.answer_at.new.self c.answer_at.result (returns-clause-asks g c) c.requires.ready tells
+    sound_by (returns-clause-asks g c) c.requires.ready tells

@@ -1,7 +1,7 @@
 use Rattle.std.proofs.Common.{◌∙◌, refl, subst, arith}
 use Rattle.disk_core.specs.declared.disk.FileNo.TheVariants.{Journal}
 use Rattle.desk_core.specs.Submitting.{Reopens}
-use Rattle.desk_core.specs.Desk.{EngineView}
+use Rattle.desk_core.specs.Desk.{DeskView}
 use Rattle.desk_core.proofs.Offices.{none_after}
 use Rattle.desk_core.proofs.Opened.{reopened, on_done}
 use Rattle.desk_core.proofs.engine.Engine.open.Goals as goal
@@ -13,11 +13,11 @@ pub returns-clause-opens : goal.returns-clause-opens
 returns-clause-opens g c =
     let d = g.D.Disk in
     let m = g.met.D.Disk in
-    let P : Type 0 = EngineView g.row.D.Denot g.row.C.Denot in
+    let P : Type 0 = DeskView g.row.D.Denot g.row.C.Denot in
     let inside = c.self.inside in
-    let old : P = record { disk = inside.journal.disk; clock = inside.clock; office = inside.office; gate = inside.journal.gate; limit = inside.journal.limit } in
+    let old : P = record { disk = inside.journal.disk; clock = inside.clock; office = inside.office; gate = inside.journal.gate; limit = inside.journal.limit; stale = inside.stale } in
     let journal = c.replay.new.journal in
-    let office : P = record { disk = journal.disk; clock = inside.clock; office = c.replay.new.office; gate = journal.gate; limit = journal.limit } in
+    let office : P = record { disk = journal.disk; clock = inside.clock; office = c.replay.new.office; gate = journal.gate; limit = journal.limit; stale = inside.stale } in
     on_done c.replay.result (λ read. subst (λ (s : P). Reopens d s office) c.self.view_is
     (reopened d m.only_now m.counts_now m.since_earlier (λ tells disk. m.reads_image tells disk Journal) old office c.open.new.self.disk c.in-Ok.end
     read (c.replay.ensures.limit ∙ c.in-Ok.ensures.limit) c.self.invariant refl c.in-Ok.ensures.ok
