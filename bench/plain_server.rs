@@ -8,9 +8,8 @@
 //! office answers them with: `PUT /buckets/NAME` makes a bucket, `GET /buckets/NAME` tells it, and with a JOURNAL
 //! `PUT /buckets/NAME/objects/KEY` counts an object; everything else gets 501. The buckets lie in a map under a lock.
 //! Under that lock an object's entry of ENTRY_BYTES is written to the new file JOURNAL as the office writes one: its
-//! length, the entry and a closed gate, a data sync, the gate, a data sync; with the closed gate of a frame that goes on
-//! into a new block also zeros up to the end of that block. What the entry says is not written. It serves until it is
-//! stopped.
+//! length, the entry, and a closed gate, with zeros up to the end of its block of the file where that is a new one; a data
+//! sync, the gate, a data sync. What the entry says is not written. It serves until it is stopped.
 
 use std::collections::HashMap;
 use std::fs::File;
@@ -19,8 +18,8 @@ use std::net::{TcpListener, TcpStream};
 use std::os::unix::fs::FileExt;
 use std::sync::Mutex;
 
-/// In how many bytes at a time the journal becomes longer.
-const BLOCK: u64 = 4_096;
+/// In how many bytes at a time the file is made longer.
+const BLOCK: u64 = 4096;
 
 /// A file of entries, each behind a gate of one byte that is opened once the entry is synced.
 struct Journal {
@@ -35,8 +34,8 @@ impl Journal {
         self.file.write_all_at(&(size as u32).to_be_bytes(), gate + 1)?;
         self.file.write_all_at(&self.entry, gate + 5)?;
         let end = gate + 5 + size;
-        let zeros = if end / BLOCK == gate / BLOCK { 1 } else { BLOCK - end % BLOCK };
-        self.file.write_all_at(&[0; BLOCK as usize][..zeros as usize], end)?;
+        let closed = if end / BLOCK == gate / BLOCK { 1 } else { BLOCK - end % BLOCK };
+        self.file.write_all_at(&[0; BLOCK as usize][..closed as usize], end)?;
         self.file.sync_data()?;
         self.file.write_all_at(&[0xA5], gate)?;
         self.file.sync_data()?;

@@ -90,9 +90,9 @@ def plain_turn(work, workers, seconds, what):
     return found
 
 
-def limit_turn(work, commands):
+def limit_turn(work, mode, commands):
     """A turn of the bare loop of three writes, a data sync, one byte, a data sync: commands a second, p50 and p99."""
-    words = [str(work / "disk_limit"), "limit", "fdatasync", str(commands), str(ENTRY_BYTES)]
+    words = [str(work / "disk_limit"), "limit", mode, str(commands), str(ENTRY_BYTES)]
     begin = time.monotonic()
     line = subprocess.run(words, cwd=work, check=True, text=True, stdout=subprocess.PIPE).stdout
     rate = commands / (time.monotonic() - begin)
@@ -127,7 +127,8 @@ def main():
                     lambda turn: office_turn(work, program, workers, seconds, "query"),
                     lambda: plain_turn(work, workers, seconds, "query"))
         for workers in (1, 4):
-            for unit, other in (("limit", lambda: limit_turn(work, 3000)),
+            for unit, other in (("limit", lambda: limit_turn(work, "fdatasync", 3000)),
+                                ("blocks", lambda: limit_turn(work, "fdatasync-blocks", 3000)),
                                 ("plain", lambda: plain_turn(work, workers, seconds, "turn00"))):
                 compare(f"puts workers {workers}", unit, rounds,
                         lambda turn: office_turn(work, program, workers, seconds, f"turn{turn:02}"), other)
