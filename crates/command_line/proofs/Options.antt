@@ -4,7 +4,8 @@ use Rattle.clap.specs.Walk.{Row, rows_of}
 use Rattle.clap.specs.Matches.{first_value}
 use Rattle.clap.specs.declared.parser.matches.Found.{Found}
 use Rattle.clap.proofs.WalkLemmas.{first_value-rows}
-use Rattle.command_line.specs.Lines.{serve, report, explain, gen, number_between, number_or, most_seed, most_generated, serve_of, report_of, explain_of, gen_of, month_of_text, is_set, given, workers_of, connections_of}
+use Rattle.command_line.specs.Lines.{serve, report, explain, gen, number_between, number_or, most_seed, most_generated, serve_of, report_of, explain_of, gen_of, month_of_text, is_set, given}
+use Rattle.command_line.specs.Lines.{workers_of, connections_of}
 
 -- what clap gives for an option is what the words gave it
 pub given_is : (found : Found) (name : List ℕ) (text : Option (Bor (List ℕ))) → option_map (λ t. t.now) text ≡ first_value found name → given (rows_of found) name ≡ option_map (λ t. t.now) text

@@ -9,7 +9,8 @@ use Rattle.clap.proofs.WalkLemmas.{both}
 use Rattle.clap.specs.Walk.{Row, is_empty}
 use Rattle.clap.specs.Faults.{fault_of}
 use Rattle.clap.specs.Simple.{subcommand_of}
-use Rattle.command_line.specs.Lines.{Line, init, run, serve, report, explain, gen, asked, subcommand_line, serve_of, report_of, explain_of, gen_of, month_of_text, is_set, number_between, most_seed, most_generated, number_to, number_or, workers_of, connections_of, given, most_workers, default_workers}
+use Rattle.command_line.specs.Lines.{Line, init, run, serve, report, explain, gen, asked, subcommand_line, serve_of, report_of, explain_of, gen_of, month_of_text, is_set, number_between, most_seed}
+use Rattle.command_line.specs.Lines.{most_generated, number_to, number_or, workers_of, connections_of, given, most_workers, default_workers}
 use Rattle.command_line.specs.Words.{office_words}
 
 if_some : {A : Type 0} (b : Bool) (x y : A) → (if b then Some x else None) ≡ Some y → (b ≡ true) × (x ≡ y)

@@ -1,6 +1,8 @@
 // What a command line asks for.
-ghost use Rattle.std.specs.Prelude.{◌≡◌, ◌≢◌, Some, None, ◌≤◌, IfOk, IfSome, IsErrOf, map, string_bytes, option_map, option_and_then};
-ghost use Rattle.command_line.specs.Lines.{asked, asked_by, subcommand_line, line_of, options_of, serve_of, report_of, explain_of, gen_of, month_of_text, is_set, number_between};
+ghost use Rattle.std.specs.Prelude.{◌≡◌, ◌≢◌, Some, None, ◌≤◌, IfOk, IfSome, IsErrOf, map, string_bytes, option_map};
+ghost use Rattle.std.specs.Prelude.{option_and_then};
+ghost use Rattle.command_line.specs.Lines.{asked, asked_by, subcommand_line, line_of, options_of, serve_of, report_of};
+ghost use Rattle.command_line.specs.Lines.{explain_of, gen_of, month_of_text, is_set, number_between};
 
 use crate::numbers::{number, number_of};
 use crate::words::office;

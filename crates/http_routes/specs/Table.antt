@@ -1,9 +1,11 @@
 -- The table of the routes: the pattern of each kind of route, and what it names by its parts.
 use Rattle.std.specs.Prelude.{ℕ, List, [], ◌∷◌, map, get_or}
 use Rattle.route_table.specs.Patterns.{Shape, shapes_of}
-use Rattle.http_routes.specs.Targets.{Resource, bucket, versioning, lifecycle, object, version, tags, uploads, upload, part, act, due, meters, tariff, close, report, pieces_of}
+use Rattle.http_routes.specs.Targets.{Resource, bucket, versioning, lifecycle, object, version, tags, uploads, upload, part, act, due}
+use Rattle.http_routes.specs.Targets.{meters, tariff, close, report, pieces_of}
 use Rattle.http_routes.specs.declared.routes.Kind.{Kind}
-use Rattle.http_routes.specs.declared.routes.Kind.TheVariants.{Bucket, Versioning, Lifecycle, Object, Version, Tags, Uploads, Upload, Part, Act, Due, Meters, Tariff, Close, Report}
+use Rattle.http_routes.specs.declared.routes.Kind.TheVariants.{Bucket, Versioning, Lifecycle, Object, Version, Tags, Uploads, Upload, Part}
+use Rattle.http_routes.specs.declared.routes.Kind.TheVariants.{Act, Due, Meters, Tariff, Close, Report}
 
 -- the first, second and third of some parts; no part is as an empty one
 abbrev pub first_part : List (List ℕ) → List ℕ

@@ -21,7 +21,8 @@ use Rattle.std.specs.Prelude.{◌≡◌, ℕ, false, List, [], ◌∷◌, codes,
 use Rattle.std.specs.Str.{is_utf8}
 use Rattle.route_table.specs.Paths.{Piece, word, segment, remainder, has_byte, path_of, AreInRange}
 use Rattle.http_routes.specs.declared.route.Route.{Route}
-use Rattle.http_routes.specs.declared.route.Route.TheVariants.{Bucket, Versioning, Lifecycle, Object, Version, Tags, Uploads, Upload, Part, Act, Due, Meters, Tariff, Close, Report}
+use Rattle.http_routes.specs.declared.route.Route.TheVariants.{Bucket, Versioning, Lifecycle, Object, Version, Tags, Uploads, Upload, Part}
+use Rattle.http_routes.specs.declared.route.Route.TheVariants.{Act, Due, Meters, Tariff, Close, Report}
 
 -- what a target names, with the parts that it has, in their order
 pub data Resource : Type 0 where

@@ -1,5 +1,5 @@
 -- Replies computed on examples.
-use Rattle.std.specs.Prelude.{◌≡◌, [], ◌∷◌, codes, refl, Some, None, Ok, Err}
+use Rattle.std.specs.Prelude.{◌≡◌, [], ◌∷◌, ◌++◌, codes, refl, Some, None, Ok, Err}
 use Rattle.std.specs.Fmt.{digits}
 use Rattle.serde_json.proofs.OnLiterals.{serde_json_on_literals}
 use Rattle.moments.specs.Months.{days_of_months, first_day, months_over}
@@ -48,8 +48,11 @@ versions : body_text (Ok (StackShown (codes "a") (record {
   versions = (record { id = Number 2; kind = Marker; created = 1_704_067_200_000; ceased = 1_704_067_200_000 })
       ∷ (record { id = Null; kind = Object 5 Standard ((codes "kind", codes "raw") ∷ []) 0; created = 0; ceased = 1_704_067_200_000 }) ∷ [];
 })))
-    ≡ codes
-    "{\"changed\":\"2024-01-01T00:00:00.000Z\",\"key\":\"a\",\"versions\":[{\"created\":\"2024-01-01T00:00:00.000Z\",\"kind\":\"marker\",\"version\":\"2\"},{\"class\":\"STANDARD\",\"created\":\"1970-01-01T00:00:00.000Z\",\"entered\":\"1970-01-01T00:00:00.000Z\",\"kind\":\"object\",\"noncurrent_since\":\"2024-01-01T00:00:00.000Z\",\"size\":5,\"tags\":{\"kind\":\"raw\"},\"version\":\"null\"}]}"
+    ≡ codes "{\"changed\":\"2024-01-01T00:00:00.000Z\",\"key\":\"a\","
+    ++ codes "\"versions\":[{\"created\":\"2024-01-01T00:00:00.000Z\",\"kind\":\"marker\",\"version\":\"2\"},"
+    ++ codes "{\"class\":\"STANDARD\",\"created\":\"1970-01-01T00:00:00.000Z\",\"entered\":\"1970-01-01T00:00:00.000Z\","
+    ++ codes "\"kind\":\"object\",\"noncurrent_since\":\"2024-01-01T00:00:00.000Z\",\"size\":5,"
+    ++ codes "\"tags\":{\"kind\":\"raw\"},\"version\":\"null\"}]}"
 unfolding body_text serde_json_on_literals digits moment_text months_over first_day days_of_months
 versions = refl
 
@@ -59,8 +62,9 @@ unfolding body_text serde_json_on_literals digits moment_text months_over first_
 upload = refl
 
 prices : body_text (Ok (TariffShown (record { storage = 1 ∷ 2 ∷ 3 ∷ 4 ∷ 5 ∷ 6 ∷ []; transition = 7 ∷ 8 ∷ 9 ∷ 1 ∷ 0 ∷ [] })))
-    ≡ codes
-    "{\"storage\":{\"DEEP_ARCHIVE\":6,\"GLACIER\":5,\"GLACIER_IR\":4,\"ONEZONE_IA\":3,\"STANDARD\":1,\"STANDARD_IA\":2},\"transition\":{\"DEEP_ARCHIVE\":0,\"GLACIER\":1,\"GLACIER_IR\":9,\"ONEZONE_IA\":8,\"STANDARD_IA\":7}}"
+    ≡ codes "{\"storage\":{\"DEEP_ARCHIVE\":6,\"GLACIER\":5,\"GLACIER_IR\":4,\"ONEZONE_IA\":3,\"STANDARD\":1,"
+    ++ codes "\"STANDARD_IA\":2},\"transition\":{\"DEEP_ARCHIVE\":0,\"GLACIER\":1,\"GLACIER_IR\":9,\"ONEZONE_IA\":8,"
+    ++ codes "\"STANDARD_IA\":7}}"
 unfolding body_text serde_json_on_literals digits
 prices = refl
 

@@ -1,5 +1,6 @@
 -- The bodies of long replies, by their parts.
-use Rattle.std.proofs.Common.{◌≡◌, ◌∙◌, ℕ, ◌+◌, ◌-◌, ◌<◌, ◌≤◌, true, false, List, [], ◌∷◌, ◌++◌, take, drop, length, get_or, slice_index_or, arith, map, codes, decimal, refl, sym, ap, Option, Some, None, Ok}
+use Rattle.std.proofs.Common.{◌≡◌, ◌∙◌, ℕ, ◌+◌, ◌-◌, ◌<◌, ◌≤◌, true, false, List, [], ◌∷◌, ◌++◌, take, drop, length, get_or, slice_index_or, arith, map, codes, decimal, refl, sym, ap, Option, Some}
+use Rattle.std.proofs.Common.{None, Ok}
 use Rattle.std.proofs.lemmas.List.{take_all}
 use Rattle.json.specs.Print.{quoted}
 use Rattle.serde_json.specs.View.{items_of}

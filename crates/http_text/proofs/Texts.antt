@@ -12,8 +12,10 @@ use Rattle.due_core.specs.declared.action.ActionKind.TheVariants as action
 use Rattle.due_core.specs.declared.action.Target.{Target}
 use Rattle.due_core.specs.declared.action.Target.TheVariants as target
 use Rattle.office_types.specs.declared.reply.ClassMeters.{ClassMeters}
-use Rattle.office_types.specs.declared.reply.Reply.TheVariants.{BucketMade, VersioningSet, RulesSet, Stored, Deleted, VersionDeleted, TagsSet, UploadStarted, PartStored, Aborted, Chosen, NothingDue, TariffSet, Closed, BucketShown, MetersShown}
-use Rattle.office_types.specs.declared.refusal.Refusal.TheVariants.{BucketExists, NoSuchBucket, NoRules, NotEnabledBefore, NoSuchKey, NoSuchVersion, IsMarker, NoSuchUpload, BadPart, NoParts, MonthNotOver, AlreadyClosed, EarlierMonthOpen, NoTariff, DueActions, Full, ClockEnd, NoMemory}
+use Rattle.office_types.specs.declared.reply.Reply.TheVariants.{BucketMade, VersioningSet, RulesSet, Stored, Deleted, VersionDeleted, TagsSet, UploadStarted, PartStored, Aborted, Chosen, NothingDue}
+use Rattle.office_types.specs.declared.reply.Reply.TheVariants.{TariffSet, Closed, BucketShown, MetersShown}
+use Rattle.office_types.specs.declared.refusal.Refusal.TheVariants.{BucketExists, NoSuchBucket, NoRules, NotEnabledBefore, NoSuchKey, NoSuchVersion, IsMarker, NoSuchUpload, BadPart, NoParts}
+use Rattle.office_types.specs.declared.refusal.Refusal.TheVariants.{MonthNotOver, AlreadyClosed, EarlierMonthOpen, NoTariff, DueActions, Full, ClockEnd, NoMemory}
 use Rattle.office_types.specs.declared.refusal.What.{What}
 use Rattle.http_text.specs.Bodies.{meters_text, classes_text}
 use Rattle.http_text.specs.Json.{text_object, number_object}

@@ -1,5 +1,5 @@
 -- Reports computed on examples.
-use Rattle.std.specs.Prelude.{◌≡◌, [], ◌∷◌, List, codes, refl}
+use Rattle.std.specs.Prelude.{◌≡◌, [], ◌∷◌, ◌++◌, List, codes, refl}
 use Rattle.std.specs.Fmt.{digits}
 use Rattle.csv.specs.Writing.{escaped, fields_text, is_blank}
 use Rattle.class_rules.specs.declared.class.Class.TheVariants.{Standard}
@@ -28,7 +28,7 @@ unfolding report_csv escaped fields_text is_blank digits
 nothing_csv = refl
 
 january_text : report_text january
-    ≡ codes
-    "logs                     storage      STANDARD                2875910101401600000            23000\n                         total                                                               23000\n"
+    ≡ codes "logs                     storage      STANDARD                2875910101401600000            23000\n"
+    ++ codes "                         total                                                               23000\n"
 unfolding january report_text table_line digits
 january_text = refl
