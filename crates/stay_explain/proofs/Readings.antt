@@ -6,11 +6,11 @@ use Rattle.meter_journal.specs.History.{header, HasHistory}
 use Rattle.meter_journal.specs.Reading.{IsMade, HasPrefix, frame_at, Whole, Ended}
 use Rattle.meter_journal.proofs.Heads.{made_head}
 use Rattle.meter_journal.proofs.Prefix.{frame_next, prefix_start, prefix_more, prefix_end}
+use Rattle.desk_core.proofs.Offices.{few}
 use Rattle.stay_explain.specs.Explaining.{ExplainFails}
-use Rattle.stay_explain.specs.Ledgers.{LedgerRecord, IsLedgerOf, IsNotTaken}
+use Rattle.stay_explain.specs.Ledgers.{LedgerRecord, IsLedgerOf, IsNotTakenAt}
 use Rattle.stay_explain.specs.declared.fault.ExplainFault.{ExplainFault}
 use Rattle.stay_explain.specs.declared.fault.ExplainFault.TheVariants as faults
-use Rattle.stay_explain.proofs.Histories.{few}
 
 -- the entries up to this gate were read
 pub record HasRead (file : List ℕ) (gate : ℕ) (ledger : LedgerRecord) : Type 0 where
@@ -38,13 +38,13 @@ all_read file gate ledger read is = (read.history, prefix_end header read.histor
 
 -- the office can count one entry more
 pub few_read : (file : List ℕ) (gate : ℕ) (ledger : LedgerRecord) → HasRead file gate ledger → ledger.office.accepted < most_commands
-few_read file gate ledger read = few read.history ledger gate read.is read.prefix.size read.small
+few_read file gate ledger read = few read.history ledger.office gate read.is.office read.prefix.size read.small
 
 -- ---- why reading fails
 
 pub take_fails : (file : List ℕ) (gate next : ℕ) (ledger : LedgerRecord) (e : Entry) (fault : ExplainFault) → IsMade file
-    → HasRead file gate ledger → frame_at gate file ≡ Whole e next → IsNotTaken ledger e fault gate → ExplainFails fault file
+    → HasRead file gate ledger → frame_at gate file ≡ Whole e next → IsNotTakenAt gate ledger e fault → ExplainFails fault file
 take_fails file gate next ledger e fault made read is (inl want) = subst (λ (f : ExplainFault). ExplainFails f file) (sym want) tt
 take_fails file gate next ledger e fault made read is (inr x) =
     subst (λ (f : ExplainFault). ExplainFails f file) (sym x.0)
-    (record { made = made; history = read.history; office = read.is.plain; before = read.prefix; is_run = read.is.is_run; breaks = inr (e, next, is, x.1 read.history read.is) })
+    (record { made = made; history = read.history; office = read.is.office.plain; before = read.prefix; is_run = read.is.office.is_run; breaks = inr (e, next, is, x.1 read.history read.is.office) })

@@ -1,10 +1,11 @@
 -- What a journal is explained by, and why it is not.
-use Rattle.std.specs.Prelude.{◌≡◌, ◌⊎◌, ℕ, List, Some, None}
-use Rattle.meter_journal.specs.History.{header, HasHistory}
-use Rattle.meter_journal.specs.Reading.{IsMade, IsNotMade, IsForeign, HasPrefix, Frame, frame_at, Broken, Whole}
+use Rattle.std.specs.Prelude.{◌≡◌, ℕ, List, Some}
+use Rattle.meter_journal.specs.History.{HasHistory}
+use Rattle.meter_journal.specs.Reading.{IsNotMade, IsForeign, Frame, Broken}
 use Rattle.office_types.specs.declared.command.Entry.{Entry}
 use Rattle.plain_office.specs.Office.{Office}
-use Rattle.plain_office.specs.Run.{run, accept}
+use Rattle.plain_office.specs.Run.{run}
+use Rattle.desk_core.specs.Damage.{IsDamagedAt}
 use Rattle.stay_explain.specs.Table.{table_csv}
 use Rattle.stay_explain.specs.declared.fault.ExplainFault.{ExplainFault}
 use Rattle.stay_explain.specs.declared.fault.ExplainFault.TheVariants as faults
@@ -17,18 +18,6 @@ pub record IsTableOf (file text : List ℕ) : Type 0 where
   pub entries : HasHistory history file
   pub is_run : run history ≡ Some office
   pub table : text ≡ table_csv office
-
--- Damaged at this gate, and at none before it: before the gate stand entries that the office accepts. The file ends
--- before the gate, or the gate is open and no whole frame stands there, or an entry that the office does not accept
--- at its place.
-pub record IsDamagedAt (at : ℕ) (file : List ℕ) : Type 0 where
-  pub made : IsMade file
-  pub history : List Entry
-  pub office : Office
-  pub before : HasPrefix header history at file
-  pub is_run : run history ≡ Some office
-  pub breaks : (frame_at at file ≡ Broken)
-      ⊎ ((entry : Entry) × (next : ℕ) × (frame_at at file ≡ Whole entry next) × (accept office entry ≡ None))
 
 -- why a journal of these bytes is not explained; want of memory is no fault of the bytes
 abbrev pub ExplainFails : ExplainFault → List ℕ → Type 0

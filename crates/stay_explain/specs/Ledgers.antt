@@ -1,5 +1,5 @@
 -- The office in memory after a history, and the stays of each of its buckets.
-use Rattle.std.specs.Prelude.{◌≡◌, ◌⊎◌, ℕ, List, [], map, length, Option, Some, None, IfSome}
+use Rattle.std.specs.Prelude.{◌≡◌, ℕ, List, [], map, Option, Some, None, IfSome}
 use Rattle.std.specs.Map.{set_value}
 use Rattle.std.specs.BTreeMap.{is_at}
 use Rattle.office_base.specs.Maps.{bytes_cmp, at_name, with_name}
@@ -7,10 +7,11 @@ use Rattle.office_types.specs.declared.command.Command.{Command}
 use Rattle.office_types.specs.declared.command.Command.TheVariants as command
 use Rattle.office_types.specs.declared.command.Entry.{Entry}
 use Rattle.office_laws.specs.Commands.{bucket_of}
-use Rattle.plain_office.specs.Office.{Office, Booked}
-use Rattle.plain_office.specs.Run.{run, accept}
+use Rattle.plain_office.specs.Office.{Booked}
 use Rattle.bucket_account.specs.Counting.{AccountRecord}
-use Rattle.office_machine.specs.Standing.{Records, StandsForOffice}
+use Rattle.office_machine.specs.Standing.{Records}
+use Rattle.desk_core.specs.Damage.{IsNotTaken}
+use Rattle.desk_core.specs.Offices.{StandsAfter}
 use Rattle.stay_explain.specs.Plans.{Plan, plan_of, stays_by, BeginsFree}
 use Rattle.stay_explain.specs.Table.{stays_of}
 use Rattle.stay_explain.specs.declared.fault.ExplainFault.{ExplainFault}
@@ -25,13 +26,10 @@ pub record LedgerRecord : Type 0 where
   pub office : Records
   pub tables : Tables
 
--- the office stands for the one after the history and counts its entries, and the tables are the stays of its buckets
+-- the office stands for the one after the history, and the tables are the stays of its buckets
 pub record IsLedgerOf (history : List Entry) (ledger : LedgerRecord) : Type 0 where
-  pub plain : Office
-  pub is_run : run history ≡ Some plain
-  pub stands : StandsForOffice ledger.office plain
-  pub counted : ledger.office.accepted ≡ length history
-  pub tables : ledger.tables ≡ map stays_of plain.accounts
+  pub office : StandsAfter history ledger.office
+  pub tables : ledger.tables ≡ map stays_of office.plain.accounts
 
 -- ---- what an entry books
 
@@ -72,7 +70,5 @@ IsBookable (command.CreateBucket name) plan tables = Unit {0}
 IsBookable other plan tables = IsFreeIn (bucket_of other) plan tables
 
 -- why an entry at a gate is not taken
-abbrev pub IsNotTaken : LedgerRecord → Entry → ExplainFault → ℕ → Type 0
-IsNotTaken ledger entry fault gate =
-    (fault ≡ faults.NoMemory) ⊎ ((fault ≡ faults.Damaged gate)
-    × ((history : List Entry) (is : IsLedgerOf history ledger) → accept is.plain entry ≡ None))
+abbrev pub IsNotTakenAt : ℕ → LedgerRecord → Entry → ExplainFault → Type 0
+IsNotTakenAt gate ledger entry fault = IsNotTaken ledger.office entry faults.NoMemory (faults.Damaged gate) fault

@@ -6,7 +6,7 @@ ghost use Rattle.meter_journal.specs.Reading.{Frame, HeadGives, IsMade};
 ghost use Rattle.meter_journal.specs.Reading as reading;
 ghost use Rattle.stay_explain.specs.Explaining.{ExplainFails, IsFaultAt, IsTableOf};
 ghost use Rattle.bucket_account.specs.Standing.{most_commands};
-ghost use Rattle.stay_explain.specs.Ledgers.{IsLedgerOf, IsNotTaken};
+ghost use Rattle.stay_explain.specs.Ledgers.{IsLedgerOf, IsNotTakenAt};
 
 use crate::fault::ExplainFault;
 use crate::ledger::Ledger;
@@ -39,7 +39,7 @@ fn take(ledger: &mut Ledger, alloc: Global, entry: Entry, gate: u64) -> Result<(
     requires few { ledger.old.office.accepted < most_commands }
     ensures ok { OnOk result ((history : List Entry) → IsLedgerOf history ledger.old
         → IsLedgerOf (history ++ entry ∷ []) ledger.new) }
-    ensures fault { IfErr result (λ fault. IsNotTaken ledger.old entry fault gate) }
+    ensures fault { IfErr result (λ fault. IsNotTakenAt gate ledger.old entry fault) }
 {
     ledger.take(alloc, &entry, gate)
 }

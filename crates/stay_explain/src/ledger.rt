@@ -1,5 +1,5 @@
 // The office after the entries that were read, and the stays of each of its buckets.
-ghost use Rattle.std.specs.Prelude.{◌≡◌, ◌⊎◌, ◌<◌, ◌++◌, ◌∷◌, [], ℕ, List, IfErr, IfOk, IfSome, OnOk, Ok, true};
+ghost use Rattle.std.specs.Prelude.{◌≡◌, ◌<◌, ◌++◌, ◌∷◌, [], ℕ, List, IfErr, IfOk, IfSome, OnOk, Ok, true};
 ghost use Rattle.office_base.specs.Maps.{at_name, with_name};
 ghost use Rattle.office_types.specs.declared.command.Entry.{Entry};
 ghost use Rattle.office_types.specs.declared.reply.Reply.TheVariants.{NothingDue};
@@ -7,7 +7,7 @@ ghost use Rattle.plain_office.specs.Run.{is_not_before};
 ghost use Rattle.plain_office.specs.Step.{is_accepted};
 ghost use Rattle.bucket_account.specs.Standing.{most_commands};
 ghost use Rattle.stay_explain.specs.Plans.{BeginsFree};
-ghost use Rattle.stay_explain.specs.Ledgers.{IsLedgerOf, IsNotTaken, IsBookable, planned, table_by, tables_after};
+ghost use Rattle.stay_explain.specs.Ledgers.{IsLedgerOf, IsNotTakenAt, IsBookable, planned, table_by, tables_after};
 
 use crate::booking::{Booking, plan};
 use crate::fault::ExplainFault;
@@ -163,7 +163,7 @@ impl Ledger {
         requires few { self.old.office.accepted < most_commands }
         ensures ok { OnOk result ((history : List Entry) → IsLedgerOf history self.old
             → IsLedgerOf (history ++ entry.now ∷ []) self.new) }
-        ensures fault { IfErr result (λ fault. IsNotTaken self.old entry.now fault gate) }
+        ensures fault { IfErr result (λ fault. IsNotTakenAt gate self.old entry.now fault) }
     {
         if !is_in_order(self.office.last(), entry.moment) {
             return Err(ExplainFault::Damaged { offset: gate });

@@ -3,27 +3,28 @@ use Rattle.std.specs.Prelude.{IsTrue, Ok}
 use Rattle.plain_office.specs.Run.{is_not_before}
 use Rattle.plain_office.specs.Step.{is_accepted}
 use Rattle.stay_explain.specs.Plans.{Plan}
-use Rattle.stay_explain.specs.Ledgers.{LedgerRecord, IsLedgerOf, IsNotTaken, IsBookable, tables_after, planned}
+use Rattle.stay_explain.specs.Ledgers.{LedgerRecord, IsLedgerOf, IsNotTakenAt, IsBookable, tables_after, planned}
 use Rattle.stay_explain.specs.declared.fault.ExplainFault.TheVariants.{Damaged}
-use Rattle.stay_explain.proofs.Histories.{not_in_order, not_taken, nothing_due, bookable, ledger_more}
+use Rattle.desk_core.proofs.Damage.{not_in_order, not_taken, nothing_due}
+use Rattle.stay_explain.proofs.Histories.{bookable, ledger_more}
 use Rattle.stay_explain.proofs.ledger.Ledger.take.Goals as goal
 
 pub returns-then-not-is_in_order-clause-fault : goal.returns-then-not-is_in_order-clause-fault
 returns-then-not-is_in_order-clause-fault c =
     let early : is_not_before c.self.inside.office.last c.args.entry.now.moment ≡ false = search rules in
-    subst (λ (l : LedgerRecord). IsNotTaken l c.args.entry.now (Damaged c.args.gate) c.args.gate) c.self.view_is
-    (not_in_order (record { office = c.self.inside.office; tables = c.self.inside.tables.entries }) c.args.entry.now c.args.gate early)
+    subst (λ (l : LedgerRecord). IsNotTakenAt c.args.gate l c.args.entry.now (Damaged c.args.gate)) c.self.view_is
+    (not_in_order c.self.inside.office c.args.entry.now early)
 
 pub returns-in-Err-clause-fault : goal.returns-in-Err-clause-fault
 returns-in-Err-clause-fault c =
-    subst (λ (l : LedgerRecord). IsNotTaken l c.args.entry.now c.refused.result c.args.gate) c.self.view_is
-    (not_taken (record { office = c.self.inside.office; tables = c.self.inside.tables.entries }) c.apply.new.self c.args.entry.now c.in-Err.refusal c.refused.result c.args.gate
+    subst (λ (l : LedgerRecord). IsNotTakenAt c.args.gate l c.args.entry.now c.refused.result) c.self.view_is
+    (not_taken c.self.inside.office c.apply.new.self c.args.entry.now c.in-Err.refusal
     c.in-Err.ensures.step c.refused.ensures.memory c.refused.ensures.damaged)
 
 pub returns-in-Err-taken-clause-fault : goal.returns-in-Err-taken-clause-fault
 returns-in-Err-taken-clause-fault c =
-    subst (λ (l : LedgerRecord). IsNotTaken l c.args.entry.now c.in-Err-taken.fault c.args.gate) c.self.view_is
-    (nothing_due (record { office = c.self.inside.office; tables = c.self.inside.tables.entries }) c.apply.new.self c.args.entry.now c.in-Ok-apply.reply c.in-Err-taken.fault c.args.gate
+    subst (λ (l : LedgerRecord). IsNotTakenAt c.args.gate l c.args.entry.now c.in-Err-taken.fault) c.self.view_is
+    (nothing_due c.self.inside.office c.apply.new.self c.args.entry.now c.in-Ok-apply.reply
     c.in-Ok-apply.ensures.step c.in-Err-taken.ensures.damaged.0 c.in-Err-taken.ensures.damaged.1)
 
 pub book-requires : goal.book-requires
