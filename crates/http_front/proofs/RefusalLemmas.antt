@@ -73,6 +73,9 @@ module _ {W : Type 0} (w : sinks.Ghosts W) where
   pub lack_not_spent : (old new : W) (end : SessionEnd) → SaysNoMemory w old new end → end ≡ ends.Spent → ⊥
   lack_not_spent old new end says is = subst (SaysNoMemory w old new) is says
 
+-- what is said to a refusal, and that nothing of a read ends the session there
+pub ruleset says_refusal = (said_refusal, said_lack, lack_not_read, lack_not_spent)
+
 -- what follows of the rule that a refusal tells of
 pub of_rule : {P Q R : Refused → Type 0} {G : Type 0} (told : Option Refused) → IsSomeAnd told P → IfSome told Q → IfSome told R
     → ((broken : Refused) → P broken → Q broken → R broken → G) → G

@@ -162,7 +162,7 @@ fn answer<W: Replies, T: Teller>(
 }
 
 // Says the text of a refusal.
-#[tactic(auto, using(crate::proofs::RefusalLemmas::said_refusal, crate::proofs::RefusalLemmas::said_lack, crate::proofs::RefusalLemmas::lack_not_read, crate::proofs::RefusalLemmas::lack_not_spent))]
+#[tactic(auto, using(crate::proofs::RefusalLemmas::says_refusal))]
 fn say_bad<W: Replies>(alloc: Global, out: &mut W, bad: http_asks::Bad) -> Result<(), SessionEnd>
     ensures said { IfSome (refused_of bad) (λ broken. IsRefusedBy W.Replies out.old out.new broken result) }
     ensures not_read { IsErrOf result SessionEnd.ReadFault → ⊥ }
