@@ -80,7 +80,7 @@ nothing_taken p e new does =
 
 -- ---- histories
 
-pub none_after : (records : Records) → StandsForOffice records empty_office → records.accepted ≡ 0 → StandsAfter [] records
+unfoldable pub none_after : (records : Records) → StandsForOffice records empty_office → records.accepted ≡ 0 → StandsAfter [] records
 none_after records stands none = record { plain = empty_office; is_run = run_none; stands = stands; counted = none }
 
 one_more : (new old : ℕ) (answer : Answer) → new ≡ accepted_after answer old → is_accepted answer ≡ true → new ≡ old + 1
@@ -89,7 +89,7 @@ one_more new old answer counted made = counted ∙ ap (λ (b : Bool). if b then 
 no_more : (new old : ℕ) (answer : Answer) → new ≡ accepted_after answer old → is_accepted answer ≡ false → new ≡ old
 no_more new old answer counted not_made = counted ∙ ap (λ (b : Bool). if b then old + 1 else old) not_made
 
-pub more_after : (history : List Entry) (e : Entry) (old new : Records) (reply : Reply) (is : StandsAfter history old) → is_accepted (Ok reply) ≡ true → IsTrue (is_not_before old.last e.moment)
+unfoldable pub more_after : (history : List Entry) (e : Entry) (old new : Records) (reply : Reply) (is : StandsAfter history old) → is_accepted (Ok reply) ≡ true → IsTrue (is_not_before old.last e.moment)
     → Does (step e.moment e.command is.plain) is.plain new (Ok reply) → new.accepted ≡ accepted_after (Ok reply) old.accepted → StandsAfter (history ++ e ∷ []) new
 more_after history e old new reply is made later does counted =
     let x = step e.moment e.command is.plain in
