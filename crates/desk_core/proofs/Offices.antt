@@ -83,7 +83,7 @@ nothing_taken p e new does =
 unfoldable pub none_after : (records : Records) → StandsForOffice records empty_office → records.accepted ≡ 0 → StandsAfter [] records
 none_after records stands none = record { plain = empty_office; is_run = run_none; stands = stands; counted = none }
 
-one_more : (new old : ℕ) (answer : Answer) → new ≡ accepted_after answer old → is_accepted answer ≡ true → new ≡ old + 1
+pub one_more : (new old : ℕ) (answer : Answer) → new ≡ accepted_after answer old → is_accepted answer ≡ true → new ≡ old + 1
 one_more new old answer counted made = counted ∙ ap (λ (b : Bool). if b then old + 1 else old) made
 
 no_more : (new old : ℕ) (answer : Answer) → new ≡ accepted_after answer old → is_accepted answer ≡ false → new ≡ old
