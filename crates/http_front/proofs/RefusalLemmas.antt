@@ -44,6 +44,8 @@ tariff_status (tariffs.BadPrice table class) told = refl
 tariff_status (tariffs.UnknownField name) told = refl
 tariff_status tariffs.NoMemory told = absurd (told refl)
 
+pub ruleset bad_requests = (body_status, rules_status, tariff_status)
+
 -- ---- what is said
 
 module _ {W : Type 0} (w : sinks.Ghosts W) where

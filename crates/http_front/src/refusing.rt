@@ -22,7 +22,7 @@ use rules_json::RulesFault;
 use std::alloc::Global;
 use tariff::{TariffFault, TariffTable};
 
-#[tactic(auto, using(crate::proofs::RefusalLemmas::body_status, crate::proofs::RefusalLemmas::rules_status, crate::proofs::RefusalLemmas::tariff_status))]
+#[tactic(auto, using(crate::proofs::RefusalLemmas::bad_requests))]
 fn status(bad: &http_asks::Bad) -> StatusCode
     ensures { result ≡ told_status (refused_of bad.now) }
 {
