@@ -151,7 +151,8 @@ fn answer<W: Replies, T: Teller>(
     teller: &mut T,
 ) -> Result<(), SessionEnd>
     requires room { 16384 ≤ length room.old }
-    ensures answers { AnswersOne T.moves W.Replies (sides teller.old out.old) (sides teller.new out.new) ask.now result }
+    ensures answers { AnswersOne T.moves W.Replies (sides teller.old out.old) (sides teller.new out.new)
+        ask.now result }
     ensures room { 16384 ≤ length room.new }
     ensures only_says { OnlySays W.Replies out.old out.new (IsErrOf result SessionEnd.WriteFault) }
 {

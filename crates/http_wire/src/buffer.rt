@@ -1,5 +1,6 @@
 // A buffer that is filled from a source.
-ghost use Rattle.std.specs.Prelude.{◌≡◌, ◌<◌, ◌≤◌, ◌+◌, ◌-◌, ◌^◌, ◌++◌, ℕ, List, Option, [], length, take, drop, IfOk, OnOk, IfErr, IsTrue, IsFalse, Ok};
+ghost use Rattle.std.specs.Prelude.{◌≡◌, ◌<◌, ◌≤◌, ◌+◌, ◌-◌, ◌^◌, ◌++◌, ℕ, List, Option, [], length, take, drop};
+ghost use Rattle.std.specs.Prelude.{IfOk, OnOk, IfErr, IsTrue, IsFalse, Ok};
 ghost use Rattle.std.specs.Io.KnownBytes.{Consumes, IsAtEnd, Keeps};
 ghost use Rattle.office_base.specs.Faults.{HasCause};
 ghost use Rattle.httparse.specs.Spans.{IsRequestOf, IsRequestWithin};

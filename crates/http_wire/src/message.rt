@@ -8,7 +8,8 @@ ghost use Rattle.http_wire.specs.Headings.{HasHeading};
 ghost use Rattle.http_wire.specs.Held.{take_limit};
 ghost use Rattle.http_wire.specs.Messages.{IsUnsettled};
 ghost use Rattle.http_wire.specs.Parts.{body_of};
-ghost use Rattle.http_wire.specs.Answers.{Gave, HasRequest, Refuses, AwaitsLongBody, OnRequest, OnRefused, Tells, TakesFew};
+ghost use Rattle.http_wire.specs.Answers.{Gave, HasRequest, Refuses, AwaitsLongBody, OnRequest, OnRefused, Tells};
+ghost use Rattle.http_wire.specs.Answers.{TakesFew};
 
 use crate::body::{Gap, fill_body, fill_to};
 use crate::buffer::{Buffer, ROOM};

@@ -53,7 +53,8 @@ pub(crate) fn read_head<R: Source>(
     ensures at_end { (result ≡ Ok Heading.CutShort) ⊎ (result ≡ Ok Heading.End) → buffer.new.taken < take_limit }
     ensures spent { IsErrOf result MessageStop.Spent
         → (buffer.new.taken ≡ take_limit) × IsOpen buffer.new.bytes × (length buffer.new.bytes < head_room) }
-    ensures failed { IsErrOf result MessageStop.ReadFault → IsOpen buffer.new.bytes × (length buffer.new.bytes < head_room) }
+    ensures failed { IsErrOf result MessageStop.ReadFault
+        → IsOpen buffer.new.bytes × (length buffer.new.bytes < head_room) }
     ensures enough { IsErrOf result MessageStop.NoMemory → ⊥ }
     // The source is read only where the bytes that are held settle nothing.
     ensures settled { (IsOpen buffer.old.bytes → ⊥) → source.new ≡ source.old }

@@ -3,7 +3,8 @@ ghost use Rattle.std.specs.Prelude.{◌≡◌, ◌+◌, ◌<◌, ◌≤◌, ◌^
 ghost use Rattle.std.specs.Int.{w32};
 ghost use Rattle.entry_codec.specs.Reading.{entry_of};
 ghost use Rattle.entry_codec.specs.Spelling.{EntryFits, spelling};
-ghost use Rattle.meter_journal.specs.Reading.{HeadGives, BodyGives, FrameGives, entry_frame, body_at, frame_at, size_at};
+ghost use Rattle.meter_journal.specs.Reading.{HeadGives, BodyGives, FrameGives, entry_frame, body_at, frame_at};
+ghost use Rattle.meter_journal.specs.Reading.{size_at};
 
 use crate::fault::OpenFault;
 use crate::gate::OPEN;

@@ -1,5 +1,6 @@
 // Making a journal file.
-ghost use Rattle.std.specs.Prelude.{◌≡◌, ◌+◌, ◌≤◌, ◌<◌, ◌^◌, [], ◌∷◌, List, ℕ, IsTrue, length, IfOk, OnOk, IfErr, IsErrOf};
+ghost use Rattle.std.specs.Prelude.{◌≡◌, ◌+◌, ◌≤◌, ◌<◌, ◌^◌, [], ◌∷◌, List, ℕ, IsTrue, length, IfOk, OnOk, IfErr};
+ghost use Rattle.std.specs.Prelude.{IsErrOf};
 ghost use Rattle.office_base.specs.Faults.{HasCause};
 ghost use Rattle.disk_core.specs.Files.{put, synced_file};
 ghost use Rattle.disk_core.specs.Fronts.{Narrower};

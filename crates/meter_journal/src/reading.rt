@@ -4,7 +4,8 @@ ghost use Rattle.std.specs.Int.{w32};
 ghost use Rattle.office_base.specs.Faults.{HasCause};
 ghost use Rattle.entry_codec.specs.Spelling.{EntryFits, entry_limit, spelling};
 ghost use Rattle.disk_core.specs.Moments.{Untouched};
-ghost use Rattle.meter_journal.specs.Reading.{body_at, frame_at, size_at, entry_frame_at, BodyGives, FrameGives, HasStoreCause};
+ghost use Rattle.meter_journal.specs.Reading.{body_at, frame_at, size_at, entry_frame_at, BodyGives, FrameGives};
+ghost use Rattle.meter_journal.specs.Reading.{HasStoreCause};
 
 use crate::bytes::entry_in;
 use crate::fault::OpenFault;
