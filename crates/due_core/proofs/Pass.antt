@@ -1,5 +1,5 @@
 -- One pass over what the rules ask finds the first of the candidates.
-use Rattle.std.proofs.Common.{◌≡◌, ℕ, List, [], ◌∷◌, ◌++◌, refl, sym, ap, ◌∙◌, Bool, true, false, cond, filter, flat_map, fold}
+use Rattle.std.proofs.Common.{◌≡◌, ℕ, List, [], ◌∷◌, ◌++◌, refl, sym, ap, ◌∙◌, Bool, true, false, cond, filter, flat_map}
 use Rattle.std.specs.Prelude.{max, Option, Some, None, option_map, unwrap_or, nat_lt, nat_le}
 use Rattle.std.specs.List.{best_of, enumerate_from}
 use Rattle.std.proofs.lemmas.List.{append-nil, append_assoc}

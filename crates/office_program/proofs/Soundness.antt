@@ -2,7 +2,6 @@
 use Rattle.std.proofs.Common.{⊎_elim, inl, inr, ℕ, Bool, List, subst, sym}
 use Rattle.std.specs.Prelude.{IsTrue}
 use Rattle.disk_core.specs.declared.disk.Disk as disks
-use Rattle.disk_core.specs.Fronts.{Narrower}
 use Rattle.disk_core.specs.Moments.{KeepsTo}
 use Rattle.disk_core.proofs.Time.{weakened, joined}
 use Rattle.office_types.specs.declared.command.Entry.{Entry}
@@ -12,7 +11,6 @@ use Rattle.desk_core.specs.declared.clock.Clock as clocks
 use Rattle.desk_core.specs.Answers.{Call}
 use Rattle.desk_core.specs.Histories.{HasAcceptedHistory, IsSound}
 use Rattle.desk_core.specs.Runs.{Outside, AnswersCalls}
-use Rattle.desk_core.specs.Serving.{Recoverable}
 use Rattle.desk_core.proofs.Submitted.{narrower_sound}
 use Rattle.http_front.specs.declared.replies.Replies as sinks
 use Rattle.office_program.specs.Making.{Inits}

@@ -1,5 +1,5 @@
 -- What the program does with the words behind its name, whatever they ask for.
-use Rattle.std.specs.Prelude.{◌≡◌, ◌⊎◌, ◌≤◌, ℕ, Bool, String, List, Option, Some, None, map, string_bytes, IsTrue}
+use Rattle.std.specs.Prelude.{◌≡◌, ◌⊎◌, ◌≤◌, ℕ, Bool, String, List, Option, Some, None, map, string_bytes}
 use Rattle.office_base.specs.Faults.{Rose}
 use Rattle.command_line.specs.Lines.{Line, asked, init, run, serve, report}
 use Rattle.http_front.specs.declared.replies.Replies as sinks

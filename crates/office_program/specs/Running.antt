@@ -1,5 +1,5 @@
 -- What the commands of the program do.
-use Rattle.std.specs.Prelude.{◌≡◌, ◌⊎◌, ℕ, ◌-◌, ◌^◌, ◌<◌, ◌≤◌, ◌+◌, ◌*◌, min, Bool, true, false, List, [], ◌∷◌, length, take, Option, option_map, IsTrue}
+use Rattle.std.specs.Prelude.{◌≡◌, ◌⊎◌, ℕ, ◌-◌, ◌^◌, ◌<◌, ◌≤◌, ◌+◌, ◌*◌, min, false, List, [], ◌∷◌, length, take, option_map, IsTrue}
 use Rattle.std.specs.Io.KnownBytes.{Appends}
 use Rattle.moments.specs.Time.{end_of_time}
 use Rattle.office_base.specs.Faults.{Rose}

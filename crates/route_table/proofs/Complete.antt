@@ -12,7 +12,7 @@ use Rattle.matchit.specs.Rows.{RowsOf, param_token, catch_all_token}
 use Rattle.matchit.specs.Seek.{own, step, or_else, seek, param_step, has_slash, segment, longest_suffix, longest_from, better, cuts, with_suffix, same_text, slash}
 use Rattle.route_table.specs.Routed.{Among}
 use Rattle.route_table.proofs.Sound.{drop_less}
-use Rattle.route_table.proofs.Tokens.{IsSegment, Takes, IsEndOrSlash, IsPlain, ArePlain}
+use Rattle.route_table.proofs.Tokens.{IsSegment, Takes, IsEndOrSlash, ArePlain}
 
 -- some answer is given
 abbrev pub Answers : {K : Type 0} → Option K → Type 0

@@ -1,4 +1,4 @@
-use Rattle.std.proofs.Common.{◌≡◌, ◌∙◌, sym, ap, subst, ◌+◌, ◌-◌, Option, IsSome, Some, arith, rules}
+use Rattle.std.proofs.Common.{◌≡◌, ◌∙◌, sym, ap, subst, ◌+◌, ◌-◌, Option, IsSome, arith, rules}
 use Rattle.std.specs.Prelude.{Result}
 use Rattle.turn_core.specs.Passes.{view}
 use Rattle.turn_core.specs.Views.{left, right, newcomer}
