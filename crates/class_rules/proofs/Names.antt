@@ -1,20 +1,32 @@
 -- The names of the classes.
-use Rattle.std.proofs.Common.{◌≡◌, ◌≢◌, ◌+◌, ◌*◌, ℕ, List, length, get_or, ap, refl, arith}
+use Rattle.std.proofs.Common.{◌≡◌, ◌≢◌, ◌+◌, ◌*◌, ℕ, Bool, true, false, List, Some, None, length, get_or, ap, refl, arith}
 use Rattle.std.specs.Prelude.{codes}
-use Rattle.class_rules.specs.Classes.{class_name}
+use Rattle.std.specs.Str.{bytes_eq}
+use Rattle.std.proofs.lemmas.Slice.Eq.{bytes_eq-Decides}
+use Rattle.class_rules.specs.Classes.{class_name, class_with}
 use Rattle.class_rules.specs.declared.class.Class.{Class}
 use Rattle.class_rules.specs.declared.class.Class.TheVariants.{Standard, StandardIa, OnezoneIa, GlacierIr, Glacier, DeepArchive}
 
--- a text that is none of the six names is that of no class
-pub no_other : (text : List ℕ)
+-- a name finds its class
+pub with_name : (name : List ℕ) (class : Class) → name ≡ class_name class → class_with name ≡ Some class
+with_name name Standard is = rw is refl
+with_name name StandardIa is = rw is refl
+with_name name OnezoneIa is = rw is refl
+with_name name GlacierIr is = rw is refl
+with_name name Glacier is = rw is refl
+with_name name DeepArchive is = rw is refl
+
+differ : (a b : List ℕ) (same : Bool) → bytes_eq a b ≡ same → a ≢ b → same ≡ false
+differ a b true is other = absurd (other ((bytes_eq-Decides a b).0 is))
+differ a b false is other = refl
+
+-- a text that is none of the six names finds none
+pub with_no_name : (text : List ℕ)
     → text ≢ codes "STANDARD" → text ≢ codes "STANDARD_IA" → text ≢ codes "ONEZONE_IA" → text ≢ codes "GLACIER_IR" → text ≢ codes "GLACIER" → text ≢ codes "DEEP_ARCHIVE"
-    → (class : Class) → text ≢ class_name class
-no_other text n0 n1 n2 n3 n4 n5 Standard = n0
-no_other text n0 n1 n2 n3 n4 n5 StandardIa = n1
-no_other text n0 n1 n2 n3 n4 n5 OnezoneIa = n2
-no_other text n0 n1 n2 n3 n4 n5 GlacierIr = n3
-no_other text n0 n1 n2 n3 n4 n5 Glacier = n4
-no_other text n0 n1 n2 n3 n4 n5 DeepArchive = n5
+    → class_with text ≡ None
+with_no_name text n0 n1 n2 n3 n4 n5 = rw (
+    differ text (codes "STANDARD") _ refl n0, differ text (codes "STANDARD_IA") _ refl n1, differ text (codes "ONEZONE_IA") _ refl n2,
+    differ text (codes "GLACIER_IR") _ refl n3, differ text (codes "GLACIER") _ refl n4, differ text (codes "DEEP_ARCHIVE") _ refl n5) refl
 
 -- the first letter and the length, which tell the six names apart
 mark : List ℕ → ℕ

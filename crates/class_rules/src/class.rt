@@ -1,6 +1,6 @@
 // The storage classes.
-ghost use Rattle.std.specs.Prelude.{◌≡◌, ◌≢◌, IfSome, IfNone};
-ghost use Rattle.class_rules.specs.Classes.{class_name, rank_of, may_move, least_stay};
+ghost use Rattle.std.specs.Prelude.{◌≡◌};
+ghost use Rattle.class_rules.specs.Classes.{class_name, class_with, rank_of, may_move, least_stay};
 
 /// A storage class, the warmest first.
 ///
@@ -40,10 +40,9 @@ impl Class {
     }
 
     /// Finds the class with this name, exactly as `name` writes it; None for any other text. Takes no memory.
-    #[tactic(auto, using(crate::proofs::Names::no_other))]
+    #[tactic(auto, using(crate::proofs::Names::with_name, crate::proofs::Names::with_no_name))]
     pub fn named(text: &str) -> Option<Class>
-        ensures found { IfSome result (λ class. text.now ≡ class_name class) }
-        ensures none { IfNone result ((class : Class) → text.now ≢ class_name class) }
+        ensures { result ≡ class_with text.now }
     {
         match text {
             "STANDARD" => Some(Class::Standard),

@@ -4,7 +4,8 @@ use Rattle.std.specs.Str.{is_utf8, chars}
 use Rattle.serde_json.proofs.OnLiterals.{serde_json_on_literals}
 use Rattle.office_base.specs.Tags.{is_tag, are_tags, by_key}
 use Rattle.class_rules.specs.declared.class.Class.TheVariants.{Standard, Glacier}
-use Rattle.http_bodies.specs.Bodies.{json_of, body_object}
+use Rattle.json_fields.specs.Fields.{json_of}
+use Rattle.http_bodies.specs.Bodies.{body_object}
 use Rattle.http_bodies.specs.Flaws.{bad_body, bad_size, unsupported_class, bad_tags}
 use Rattle.http_bodies.specs.Puts.{put_of, put_in_range}
 

@@ -1,4 +1,2 @@
 pub mod BodyLemmas
-pub mod ClassLemmas
 mod Examples
-pub mod Fields

@@ -2,7 +2,8 @@
 use Rattle.std.specs.Prelude.{◌≡◌, ℕ, List, [], Option, Some, None, Result, Ok, Err, IfSome, ok_or, string_bytes}
 use Rattle.serde_json.specs.Data.{Data}
 use Rattle.office_base.specs.Results.{◌>>=◌}
-use Rattle.http_bodies.specs.Bodies.{body_object, first_unknown}
+use Rattle.json_fields.specs.Fields.{first_unknown}
+use Rattle.http_bodies.specs.Bodies.{body_object}
 use Rattle.http_bodies.specs.declared.fault.BodyFault.{BodyFault}
 use Rattle.http_bodies.specs.declared.fault.BodyFault.TheVariants.{BadBody, BadSize, UnsupportedClass}
 use Rattle.http_bodies.specs.declared.fault.BodyFault.TheVariants.{BadTags, NoMemory}

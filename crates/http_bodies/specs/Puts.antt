@@ -5,7 +5,8 @@ use Rattle.serde_json.specs.Find.{as_str}
 use Rattle.office_base.specs.Results.{◌>>=◌}
 use Rattle.office_base.specs.Tags.{Tag}
 use Rattle.http_bodies.specs.declared.put.PutBody.{PutBody}
-use Rattle.http_bodies.specs.Bodies.{whole_number, text_pairs, held, if_held}
+use Rattle.json_fields.specs.Fields.{whole_number}
+use Rattle.http_bodies.specs.Bodies.{text_pairs, held, if_held}
 use Rattle.http_bodies.specs.Flaws.{BodyFlaw, bad_body, body_with}
 use Rattle.http_bodies.specs.Ranges.{size_in_range, class_in_range, tags_in_range}
 

@@ -1,86 +1,37 @@
 // The object that a body is, and its fields.
-ghost use Rattle.std.specs.Prelude.{◌≡◌, [], ◌∷◌, Some, None, option_map, not, ok_or, map, string_bytes, IfOk};
-ghost use Rattle.std.specs.List.{find, list_any};
-ghost use Rattle.std.specs.Str.{bytes_eq};
-ghost use Rattle.std.specs.Map.{keys_of};
+ghost use Rattle.std.specs.Prelude.{◌≡◌, [], option_map, ok_or, map, IfOk};
 ghost use Rattle.serde_json.specs.Find.{as_str};
 ghost use Rattle.serde_json.specs.View.{view, members_view};
 ghost use Rattle.office_base.specs.Tags.{tags_of};
-ghost use Rattle.office_base.specs.Texts.{is_among};
-ghost use Rattle.http_bodies.specs.Bodies.{body_object, names_of, first_unknown, whole_number};
+ghost use Rattle.json_fields.specs.Fields.{whole_number};
+ghost use Rattle.http_bodies.specs.Bodies.{body_object};
 ghost use Rattle.http_bodies.specs.Bodies.{text_members, text_pairs, held, if_held};
 ghost use Rattle.http_bodies.specs.Flaws.{BodySays, bad_body, with_fields, body_with};
 ghost use Rattle.http_bodies.specs.Settings.{status_named, versioning_status};
 
 use crate::fault::{BodyFault, bad_field};
+use json_fields::{first_unknown, read_json};
 use serde_json::{Map, Value};
 use std::alloc::{AllocError, Global};
 
 // Reads the object that a body is.
-#[tactic(auto, unfolding(crate::specs::Bodies::body_object, crate::specs::Bodies::json_of))]
+#[tactic(auto, using(crate::proofs::BodyLemmas::of_some), unfolding(crate::specs::Bodies::body_object))]
 fn read_body(alloc: Global, bytes: &[u8]) -> Result<Value, BodyFault>
     ensures { BodySays view result (ok_or (body_object bytes.now) (bad_body [])) }
 {
     if bytes.is_empty() {
         return Ok(Value::Object(Map::new(alloc)));
     }
-    match Value::from_slice(alloc, bytes) {
-        Ok(value) => {
+    match read_json(alloc, bytes) {
+        Ok(Some(value)) => {
             if value.is_object() {
                 Ok(value)
             } else {
                 Err(bad_field(alloc, ""))
             }
         }
-        Err(e) => {
-            if e.is_memory() {
-                Err(BodyFault::NoMemory)
-            } else {
-                Err(bad_field(alloc, ""))
-            }
-        }
-    }
-}
-
-fn any_is(known: &[&str], name: &str) -> bool
-    ensures { result ≡ list_any (λ k. bytes_eq name.now k.now) known.now }
-{
-    known.iter().any(|k| name == *k)
-}
-
-fn is_known(known: &[&str], name: &str) -> bool
-    ensures { result ≡ is_among (map (λ k. k.now) known.now) name.now }
-{
-    any_is(known, name)
-}
-
-fn other_key<'m>(members: &'m Map<String, Value>, known: &[&str]) -> Option<&'m String>
-    ensures { option_map (λ name. name.now) result
-        ≡ find (λ name. not (is_among (map (λ k. k.now) known.now) (string_bytes name))) (keys_of members.now.entries) }
-{
-    members.keys().find(|name| !is_known(known, name.as_str()))
-}
-
-#[tactic(auto, using(crate::proofs::Fields::find_names))]
-fn first_other<'m>(members: &'m Map<String, Value>, known: &[&str]) -> Option<&'m str>
-    ensures { option_map (λ name. name.now) result
-        ≡ find (λ name. not (is_among (map (λ k. k.now) known.now) name))
-        (names_of (members_view members.now.entries)) }
-{
-    match other_key(members, known) {
-        Some(name) => Some(name.as_str()),
-        None => None,
-    }
-}
-
-// The first field, in the order of the names' bytes, that is none of these.
-fn first_unknown<'b>(body: &'b Value, known: &[&str]) -> Option<&'b str>
-    ensures { option_map (λ name. name.now) result
-        ≡ first_unknown (map (λ k. k.now) known.now) (view body.now) }
-{
-    match body.as_object() {
-        Some(members) => first_other(members, known),
-        None => None,
+        Ok(None) => Err(bad_field(alloc, "")),
+        Err(_) => Err(BodyFault::NoMemory),
     }
 }
 

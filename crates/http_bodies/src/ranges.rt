@@ -28,7 +28,6 @@ fn unsupported(alloc: Global, name: &str) -> BodyFault
     }
 }
 
-#[tactic(auto, using(crate::proofs::ClassLemmas::with_name, crate::proofs::ClassLemmas::with_no_name))]
 pub(crate) fn class_in_range(alloc: Global, name: Option<&str>) -> Result<Class, BodyFault>
     ensures { BodySays (λ class. class) result (class_in_range (option_map (λ n. n.now) name.entry)) }
 {

@@ -5,7 +5,7 @@ use Rattle.std.specs.Map.{keys_of}
 use Rattle.std.specs.declared.alloc.Global.{Global}
 use Rattle.serde_json.specs.View.{members_view}
 use Rattle.serde_json.specs.declared.value.Value.{Value}
-use Rattle.http_bodies.specs.Bodies.{names_of}
+use Rattle.json_fields.specs.Fields.{names_of}
 
 pub find_names : (test : List ℕ → Bool) (es : List (String Global × Value))
     → find test (names_of (members_view es)) ≡ option_map string_bytes (find (λ name. test (string_bytes name)) (keys_of es))

@@ -1,0 +1,3 @@
+mod Examples
+pub mod FieldLemmas
+pub mod JsonLemmas
