@@ -42,7 +42,8 @@ fn put_kept(
         Ok(gone) => Ok(gone),
         Err(refusal) => match refusal {
             UploadRefusal::BadPart => Err(Refusal::BadPart),
-            _ => Err(Refusal::NoMemory),
+            UploadRefusal::NoMemory => Err(Refusal::NoMemory),
+            UploadRefusal::NoParts => unreachable!(),
         },
     }
 }

@@ -24,7 +24,8 @@ pub(crate) fn bucket_name(alloc: Global, part: &str) -> Result<BucketName, Fault
     match BucketName::read(alloc, part) {
         Ok(name) => Ok(name),
         Err(NameRefusal::BadBucketName) => Err(Fault::Bad(Bad::BadBucketName)),
-        Err(_) => Err(Fault::NoMemory),
+        Err(NameRefusal::NoMemory) => Err(Fault::NoMemory),
+        Err(_) => unreachable!(),
     }
 }
 
@@ -36,7 +37,8 @@ pub(crate) fn object_key(alloc: Global, part: &str) -> Result<Key, Fault>
     match read_key(alloc, part.as_bytes()) {
         Ok(key) => Ok(key),
         Err(NameRefusal::BadKey) => Err(Fault::Bad(Bad::BadKey)),
-        Err(_) => Err(Fault::NoMemory),
+        Err(NameRefusal::NoMemory) => Err(Fault::NoMemory),
+        Err(_) => unreachable!(),
     }
 }
 

@@ -3,5 +3,4 @@ pub mod Ledgers
 pub mod Pages
 pub mod Plans
 pub mod Rows
-pub mod Sheets
 pub mod Table

@@ -6,7 +6,7 @@ ghost use Rattle.csv.specs.Writing.{default_writer, row_text};
 ghost use Rattle.class_rules.specs.Lines.{lines_of};
 ghost use Rattle.plain_office.specs.Office.{Booked};
 ghost use Rattle.stay_explain.specs.Rows.{item_of, booked_of};
-ghost use Rattle.stay_explain.specs.Sheets.{IsAtRowStart, bytes_written};
+ghost use Rattle.csv_sheet.specs.Sheets.{IsAtRowStart, bytes_written};
 ghost use Rattle.stay_explain.specs.Table.{end_text, stays_header, item_text, stay_row};
 ghost use Rattle.stay_explain.specs.Table.{stay_rows, table_rows};
 ghost use Rattle.stay_explain.specs.Pages.{rows_csv};
@@ -14,31 +14,10 @@ ghost use Rattle.stay_explain.specs.Pages.{rows_csv};
 use crate::row::{Item, Row};
 use crate::table::Table;
 use class_rules::Class;
-use csv::{Writer, WriterBuilder};
+use csv_sheet::{Sheet, finish, put_row, start};
 use moments::{Moment, print_moment};
 use office_base::{BucketName, NoMemory};
 use std::alloc::{AllocError, Global};
-
-type Sheet = Writer<Vec<u8>>;
-
-fn start(alloc: Global) -> Sheet
-    ensures ready { IsAtRowStart result }
-    ensures empty { bytes_written result ≡ Some [] }
-{
-    WriterBuilder::new().from_writer(Vec::new(alloc))
-}
-
-fn put_row(sheet: &mut Sheet, fields: &[&[u8]]) -> Result<(), NoMemory>
-    requires { IsAtRowStart sheet.old }
-    ensures ready { OnOk result (IsAtRowStart sheet.new) }
-    ensures bytes { OnOk result (bytes_written sheet.new
-        ≡ append_known (bytes_written sheet.old) (row_text default_writer (map (λ f. f.now) fields.now))) }
-{
-    match sheet.write_fields(fields) {
-        Ok(()) => Ok(()),
-        Err(_) => Err(NoMemory),
-    }
-}
 
 // A row of seven texts.
 fn put_texts<'a>(
@@ -210,15 +189,6 @@ fn put_table(sheet: &mut Sheet, alloc: Global, table: &Table<'_>) -> Result<(), 
         (flat_map (row_text default_writer) (table_rows table.now))) }
 {
     put_stays(sheet, alloc, table.bucket, table.rows)
-}
-
-fn finish(sheet: Sheet) -> Result<Vec<u8>, NoMemory>
-    ensures { IfOk result (λ v. bytes_written sheet ≡ Some v.items) }
-{
-    match sheet.into_inner() {
-        Ok(bytes) => Ok(bytes),
-        Err(_) => Err(NoMemory),
-    }
 }
 
 /// Prints the header.

@@ -1,4 +1,3 @@
 pub mod Csv
 pub mod Lines
-pub mod Sheets
 pub mod Tables

@@ -1,37 +1,16 @@
 // The report of a month as CSV.
-ghost use Rattle.std.specs.Prelude.{◌≡◌, ◌<◌, ◌^◌, [], ◌∷◌, map, Some, IfOk, OnOk, decimal};
+ghost use Rattle.std.specs.Prelude.{◌≡◌, ◌<◌, ◌^◌, [], ◌∷◌, IfOk, OnOk, decimal};
 ghost use Rattle.std.specs.Io.KnownBytes.{append_known};
 ghost use Rattle.office_types.specs.Reports.{charges};
 ghost use Rattle.csv.specs.Writing.{default_writer, row_text};
 ghost use Rattle.usage_report.specs.Csv.{report_header, report_row, report_csv, total_row};
-ghost use Rattle.usage_report.specs.Sheets.{IsAtRowStart, bytes_written};
+ghost use Rattle.csv_sheet.specs.Sheets.{IsAtRowStart, bytes_written};
 
 use crate::names::line_name;
-use csv::{Writer, WriterBuilder};
+use csv_sheet::{Sheet, finish, put_row, start};
 use office_base::NoMemory;
 use office_types::ReportLine;
 use std::alloc::Global;
-
-type Sheet = Writer<Vec<u8>>;
-
-fn start(alloc: Global) -> Sheet
-    ensures ready { IsAtRowStart result }
-    ensures empty { bytes_written result ≡ Some [] }
-{
-    WriterBuilder::new().from_writer(Vec::new(alloc))
-}
-
-fn put_row(sheet: &mut Sheet, fields: &[&[u8]]) -> Result<(), NoMemory>
-    requires { IsAtRowStart sheet.old }
-    ensures ready { OnOk result (IsAtRowStart sheet.new) }
-    ensures bytes { OnOk result (bytes_written sheet.new
-        ≡ append_known (bytes_written sheet.old) (row_text default_writer (map (λ f. f.now) fields.now))) }
-{
-    match sheet.write_fields(fields) {
-        Ok(()) => Ok(()),
-        Err(_) => Err(NoMemory),
-    }
-}
 
 // A row of six texts.
 fn put_texts<'a>(
@@ -94,15 +73,6 @@ fn put_total(sheet: &mut Sheet, total: u128) -> Result<(), NoMemory>
         "",
         itoa::Buffer::new().format(total),
     )
-}
-
-fn finish(sheet: Sheet) -> Result<Vec<u8>, NoMemory>
-    ensures { IfOk result (λ v. bytes_written sheet ≡ Some v.items) }
-{
-    match sheet.into_inner() {
-        Ok(bytes) => Ok(bytes),
-        Err(_) => Err(NoMemory),
-    }
 }
 
 /// Writes the lines of a report and their total as CSV (RFC 4180, but lines end in a line feed), with the header

@@ -1,6 +1,6 @@
 use Rattle.std.proofs.Common.{◌≡◌, drop, map}
 use Rattle.stay_explain.specs.Rows.{booked_of}
-use Rattle.stay_explain.specs.Sheets.{IsAtRowStart, bytes_written}
+use Rattle.csv_sheet.specs.Sheets.{IsAtRowStart, bytes_written}
 use Rattle.stay_explain.proofs.Texts.{and_stays}
 use Rattle.stay_explain.proofs.printing.put_stays.Given as goal
 

@@ -1,6 +1,6 @@
 use Rattle.std.proofs.Common.{◌≡◌, drop, Some}
 use Rattle.stay_explain.specs.Pages.{rows_csv}
-use Rattle.stay_explain.specs.Sheets.{IsAtRowStart, bytes_written}
+use Rattle.csv_sheet.specs.Sheets.{IsAtRowStart, bytes_written}
 use Rattle.stay_explain.proofs.Texts.{and_tables}
 use Rattle.stay_explain.proofs.printing.rows_text.Given as goal
 

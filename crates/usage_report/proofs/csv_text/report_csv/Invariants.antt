@@ -1,6 +1,6 @@
 use Rattle.std.proofs.Common.{◌≡◌, ◌+◌, take, drop, Some}
 use Rattle.office_types.specs.Reports.{charges}
-use Rattle.usage_report.specs.Sheets.{IsAtRowStart, bytes_written}
+use Rattle.csv_sheet.specs.Sheets.{IsAtRowStart, bytes_written}
 use Rattle.usage_report.proofs.CsvRows.{rows_of}
 use Rattle.usage_report.proofs.csv_text.report_csv.Given as goal
 

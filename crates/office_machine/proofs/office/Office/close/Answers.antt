@@ -13,40 +13,23 @@ use Rattle.office_machine.specs.Closing.{first_due, due_refusal}
 use Rattle.office_machine.specs.Standing.{Records, StandsForOffice, IsOfAnOffice, Does}
 use Rattle.office_machine.proofs.Offices.{does_stay_open, does_wait, does_close, accepted_records, with_month, kept_on}
 use Rattle.office_machine.proofs.Room.{room_more}
+use Rattle.office_machine.proofs.Seen.{seen, seen_later, seen_stands}
 use Rattle.office_machine.proofs.office.Office.close.Goals as goal
 
 pub returns-in_err-tariff-clause-step : goal.returns-in_err-tariff-clause-step
 returns-in_err-tariff-clause-step c = λ p stands.
-    let inside : Records =
-    record {
-      last = c.self.inside.last;
-      tariff = c.self.inside.tariff;
-      first_month = c.self.inside.first_month;
-      closed = c.self.inside.closed.items;
-      accounts = c.self.inside.accounts.entries;
-      counts = c.self.inside.counts;
-      accepted = c.self.inside.accepted;
-    } in
-    let later : is_not_before inside.last c.args.t ≡ true = subst (λ (r : Records). is_not_before r.last c.args.t ≡ true) (sym c.self.view_is) c.requires.later in
-    let stood : StandsForOffice inside p = subst (λ (r : Records). StandsForOffice r p) (sym c.self.view_is) stands in
+    let inside = seen c.self.view_is in
+    let later : is_not_before inside.last c.args.t ≡ true = seen_later c.self.view_is c.requires.later in
+    let stood : StandsForOffice inside p = seen_stands c.self.view_is stands in
     subst (λ (r : Result Reply Refusal). Does (step c.args.t (command.Close c.args.month) p) p c.args.self.now r) (err_of c.from_residual.result c.in_err-tariff.field-0.0 c.from_residual.ensures.1)
     (subst (λ (r : Records). Does (step c.args.t (command.Close c.args.month) p) p r (Err c.in_err-tariff.field-0.0)) c.self.view_is
     (does_stay_open inside p stood c.args.t later c.args.month c.in_err-tariff.field-0.0 (c.in_err-tariff.ensures.tests p stands)))
 
 pub returns-in-Some-clause-step : goal.returns-in-Some-clause-step
 returns-in-Some-clause-step c = λ p stands.
-    let inside : Records =
-    record {
-      last = c.self.inside.last;
-      tariff = c.self.inside.tariff;
-      first_month = c.self.inside.first_month;
-      closed = c.self.inside.closed.items;
-      accounts = c.self.inside.accounts.entries;
-      counts = c.self.inside.counts;
-      accepted = c.self.inside.accepted;
-    } in
-    let later : is_not_before inside.last c.args.t ≡ true = subst (λ (r : Records). is_not_before r.last c.args.t ≡ true) (sym c.self.view_is) c.requires.later in
-    let stood : StandsForOffice inside p = subst (λ (r : Records). StandsForOffice r p) (sym c.self.view_is) stands in
+    let inside = seen c.self.view_is in
+    let later : is_not_before inside.last c.args.t ≡ true = seen_later c.self.view_is c.requires.later in
+    let stood : StandsForOffice inside p = seen_stands c.self.view_is stands in
     subst (λ (r : Records). Does (step c.args.t (command.Close c.args.month) p) p r (Err c.in-Some.refusal)) c.self.view_is
     (does_wait inside p stood c.args.t later c.args.month c.in_ok-tariff.tariff (c.in_ok-tariff.ensures.tests p stands) c.in-Some.refusal
     (subst (λ (end : ℕ). due_refusal (first_due c.args.t end inside.accounts) ≡ Some c.in-Some.refusal) c.month_window-end.ensures.ends (sym c.in_ok-refusal.ensures.exact ∙ c.in-Some.is)))
@@ -65,17 +48,8 @@ pushed_of c = items_of c.push.result _ _ _ (sym c.is_err.ensures.value ∙ c.if-
 
 pub invariant_of-self-2 : goal.invariant_of-self-2
 invariant_of-self-2 c =
-    let inside : Records =
-    record {
-      last = c.self.inside.last;
-      tariff = c.self.inside.tariff;
-      first_month = c.self.inside.first_month;
-      closed = c.self.inside.closed.items;
-      accounts = c.self.inside.accounts.entries;
-      counts = c.self.inside.counts;
-      accepted = c.self.inside.accepted;
-    } in
-    let later : is_not_before inside.last c.args.t ≡ true = subst (λ (r : Records). is_not_before r.last c.args.t ≡ true) (sym c.self.view_is) c.requires.later in
+    let inside = seen c.self.view_is in
+    let later : is_not_before inside.last c.args.t ≡ true = seen_later c.self.view_is c.requires.later in
     let p : Office = c.self.invariant.office in
     let shut : Records = record inside { closed = c.push.new.self.items } in
     with_month c.args.t shut inside.accounts inside.counts (inside.accepted + 1) c.first_of.result c.first_of.ensures IsOfAnOffice
@@ -88,18 +62,9 @@ invariant_of-self-2 c =
 
 pub returns-clause-step : goal.returns-clause-step
 returns-clause-step c = λ p stands.
-    let inside : Records =
-    record {
-      last = c.self.inside.last;
-      tariff = c.self.inside.tariff;
-      first_month = c.self.inside.first_month;
-      closed = c.self.inside.closed.items;
-      accounts = c.self.inside.accounts.entries;
-      counts = c.self.inside.counts;
-      accepted = c.self.inside.accepted;
-    } in
-    let later : is_not_before inside.last c.args.t ≡ true = subst (λ (r : Records). is_not_before r.last c.args.t ≡ true) (sym c.self.view_is) c.requires.later in
-    let stood : StandsForOffice inside p = subst (λ (r : Records). StandsForOffice r p) (sym c.self.view_is) stands in
+    let inside = seen c.self.view_is in
+    let later : is_not_before inside.last c.args.t ≡ true = seen_later c.self.view_is c.requires.later in
+    let stood : StandsForOffice inside p = seen_stands c.self.view_is stands in
     let shut : Records = record inside { closed = c.push.new.self.items } in
     with_month c.args.t shut inside.accounts inside.counts (inside.accepted + 1) c.first_of.result c.first_of.ensures
     (λ (r : Records). Does (step c.args.t (command.Close c.args.month) p) p r (Ok (Closed c.args.month)))

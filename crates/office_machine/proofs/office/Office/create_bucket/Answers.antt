@@ -18,6 +18,7 @@ use Rattle.office_machine.specs.Standing.{Records, StandsForOffice, IsOfAnOffice
 use Rattle.bucket_account.proofs.Handed.{err_of}
 use Rattle.office_machine.proofs.Offices.{does_exist, does_fill, does_make, one_more, accepted_records, with_month, kept_on}
 use Rattle.office_machine.proofs.Room.{IsRoomy, room_more, room_with}
+use Rattle.office_machine.proofs.Seen.{seen, seen_later, seen_stands}
 use Rattle.office_machine.proofs.office.Office.create_bucket.Goals as goal
 
 ok_of : {T E : Type 0} (r : Result T E) (P : Type 0) → is_err r ≡ false → OnOk r P → P
@@ -27,26 +28,17 @@ ok_of (Err e) P ok holds = absurd cc
 pub returns-then-contains_key-clause-step : goal.returns-then-contains_key-clause-step
 returns-then-contains_key-clause-step c = λ p stands.
     subst (λ (r : Records). Does (step c.args.t (command.CreateBucket c.args.name.now) p) p r (Err BucketExists)) c.self.view_is
-    (does_exist _ p (subst (λ (r : Records). StandsForOffice r p) (sym c.self.view_is) stands) c.args.name.now c.args.t
-    (subst (λ (r : Records). is_not_before r.last c.args.t ≡ true) (sym c.self.view_is) c.requires.later) (sym c.contains_key.ensures ∙ c.if-contains_key.true))
+    (does_exist _ p (seen_stands c.self.view_is stands) c.args.name.now c.args.t
+    (seen_later c.self.view_is c.requires.later) (sym c.contains_key.ensures ∙ c.if-contains_key.true))
 
 pub returns-in_err-counts-clause-step : goal.returns-in_err-counts-clause-step
 returns-in_err-counts-clause-step c = λ p stands.
-    let inside : Records =
-    record {
-      last = c.self.inside.last;
-      tariff = c.self.inside.tariff;
-      first_month = c.self.inside.first_month;
-      closed = c.self.inside.closed.items;
-      accounts = c.self.inside.accounts.entries;
-      counts = c.self.inside.counts;
-      accepted = c.self.inside.accepted;
-    } in
+    let inside = seen c.self.view_is in
     let full = c.in_err-counts.ensures.full in
     let none = sym c.contains_key.ensures ∙ c.if-contains_key.false in
     let done =
-    does_fill inside p (subst (λ (r : Records). StandsForOffice r p) (sym c.self.view_is) stands) c.args.name.now c.args.t
-    (subst (λ (r : Records). is_not_before r.last c.args.t ≡ true) (sym c.self.view_is) c.requires.later) none
+    does_fill inside p (seen_stands c.self.view_is stands) c.args.name.now c.args.t
+    (seen_later c.self.view_is c.requires.later) none
     (record c.self.inside.counts { buckets = c.self.inside.counts.buckets + 1 }) (one_more c.self.inside.counts c.args.t) full.0 full.1 in
     subst (λ (r : Records). Does (step c.args.t (command.CreateBucket c.args.name.now) p) p r c.from_residual.result) c.self.view_is
     (subst (λ (r : Result Reply Refusal). Does (step c.args.t (command.CreateBucket c.args.name.now) p) p inside r)
@@ -54,17 +46,8 @@ returns-in_err-counts-clause-step c = λ p stands.
 
 pub invariant_of-self-2 : goal.invariant_of-self-2
 invariant_of-self-2 c =
-    let inside : Records =
-    record {
-      last = c.self.inside.last;
-      tariff = c.self.inside.tariff;
-      first_month = c.self.inside.first_month;
-      closed = c.self.inside.closed.items;
-      accounts = c.self.inside.accounts.entries;
-      counts = c.self.inside.counts;
-      accepted = c.self.inside.accepted;
-    } in
-    let later : is_not_before inside.last c.args.t ≡ true = subst (λ (r : Records). is_not_before r.last c.args.t ≡ true) (sym c.self.view_is) c.requires.later in
+    let inside = seen c.self.view_is in
+    let later : is_not_before inside.last c.args.t ≡ true = seen_later c.self.view_is c.requires.later in
     let none = sym c.contains_key.ensures ∙ c.if-contains_key.false in
     let ok : is_err c.insert.result ≡ false = sym c.is_err.ensures.value ∙ c.if-is_err.false in
     let entries = ok_of c.insert.result _ ok c.insert.ensures.entries in
@@ -84,17 +67,8 @@ invariant_of-self-2 c =
 
 pub returns-clause-step : goal.returns-clause-step
 returns-clause-step c = λ p stands.
-    let inside : Records =
-    record {
-      last = c.self.inside.last;
-      tariff = c.self.inside.tariff;
-      first_month = c.self.inside.first_month;
-      closed = c.self.inside.closed.items;
-      accounts = c.self.inside.accounts.entries;
-      counts = c.self.inside.counts;
-      accepted = c.self.inside.accepted;
-    } in
-    let later : is_not_before inside.last c.args.t ≡ true = subst (λ (r : Records). is_not_before r.last c.args.t ≡ true) (sym c.self.view_is) c.requires.later in
+    let inside = seen c.self.view_is in
+    let later : is_not_before inside.last c.args.t ≡ true = seen_later c.self.view_is c.requires.later in
     let none = sym c.contains_key.ensures ∙ c.if-contains_key.false in
     let ok : is_err c.insert.result ≡ false = sym c.is_err.ensures.value ∙ c.if-is_err.false in
     let entries = ok_of c.insert.result _ ok c.insert.ensures.entries in
@@ -114,7 +88,7 @@ returns-clause-step c = λ p stands.
       counts = counts;
       accepted = inside.accepted + 1;
     } in
-    let stood : StandsForOffice inside p = subst (λ (r : Records). StandsForOffice r p) (sym c.self.view_is) stands in
+    let stood : StandsForOffice inside p = seen_stands c.self.view_is stands in
     subst (λ (shown : List ℕ). Does (step c.args.t (command.CreateBucket c.args.name.now) p) p after (Ok (BucketMade shown))) (sym c.in_ok-shown.ensures.ok)
     (with_month c.args.t inside c.insert.new.self.entries counts (inside.accepted + 1) c.first_of.result c.first_of.ensures
     (λ (r : Records). Does (step c.args.t (command.CreateBucket c.args.name.now) p) p r (Ok (BucketMade c.args.name.now)))

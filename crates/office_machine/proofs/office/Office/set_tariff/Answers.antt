@@ -1,4 +1,4 @@
-use Rattle.std.proofs.Common.{◌≡◌, ◌+◌, sym, subst, true}
+use Rattle.std.proofs.Common.{◌≡◌, ◌+◌, true}
 use Rattle.std.specs.Prelude.{Ok, Some}
 use Rattle.plain_office.specs.Office.{Office}
 use Rattle.plain_office.specs.Run.{is_not_before}
@@ -8,21 +8,13 @@ use Rattle.office_types.specs.declared.reply.Reply.TheVariants.{TariffSet}
 use Rattle.office_machine.specs.Standing.{Records, StandsForOffice, IsOfAnOffice, Does}
 use Rattle.office_machine.proofs.Offices.{does_price, accepted_records, with_month, kept_on}
 use Rattle.office_machine.proofs.Room.{room_more}
+use Rattle.office_machine.proofs.Seen.{seen, seen_later, seen_stands}
 use Rattle.office_machine.proofs.office.Office.set_tariff.Goals as goal
 
 pub invariant_of-self : goal.invariant_of-self
 invariant_of-self c =
-    let inside : Records =
-    record {
-      last = c.self.inside.last;
-      tariff = c.self.inside.tariff;
-      first_month = c.self.inside.first_month;
-      closed = c.self.inside.closed.items;
-      accounts = c.self.inside.accounts.entries;
-      counts = c.self.inside.counts;
-      accepted = c.self.inside.accepted;
-    } in
-    let later : is_not_before inside.last c.args.t ≡ true = subst (λ (r : Records). is_not_before r.last c.args.t ≡ true) (sym c.self.view_is) c.requires.later in
+    let inside = seen c.self.view_is in
+    let later : is_not_before inside.last c.args.t ≡ true = seen_later c.self.view_is c.requires.later in
     let p : Office = c.self.invariant.office in
     let priced : Records = record inside { tariff = Some c.args.tariff } in
     with_month c.args.t priced inside.accounts inside.counts (inside.accepted + 1) c.first_of.result c.first_of.ensures IsOfAnOffice
@@ -32,18 +24,9 @@ invariant_of-self c =
 
 pub returns-clause-step : goal.returns-clause-step
 returns-clause-step c = λ p stands.
-    let inside : Records =
-    record {
-      last = c.self.inside.last;
-      tariff = c.self.inside.tariff;
-      first_month = c.self.inside.first_month;
-      closed = c.self.inside.closed.items;
-      accounts = c.self.inside.accounts.entries;
-      counts = c.self.inside.counts;
-      accepted = c.self.inside.accepted;
-    } in
-    let later : is_not_before inside.last c.args.t ≡ true = subst (λ (r : Records). is_not_before r.last c.args.t ≡ true) (sym c.self.view_is) c.requires.later in
-    let stood : StandsForOffice inside p = subst (λ (r : Records). StandsForOffice r p) (sym c.self.view_is) stands in
+    let inside = seen c.self.view_is in
+    let later : is_not_before inside.last c.args.t ≡ true = seen_later c.self.view_is c.requires.later in
+    let stood : StandsForOffice inside p = seen_stands c.self.view_is stands in
     let priced : Records = record inside { tariff = Some c.args.tariff } in
     with_month c.args.t priced inside.accounts inside.counts (inside.accepted + 1) c.first_of.result c.first_of.ensures
     (λ (r : Records). Does (step c.args.t (command.SetTariff c.args.tariff) p) p r (Ok TariffSet))

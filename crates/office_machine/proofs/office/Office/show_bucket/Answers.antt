@@ -1,12 +1,12 @@
-use Rattle.std.proofs.Common.{inl, sym, subst}
-use Rattle.office_machine.specs.Standing.{Records, StandsForOffice}
+use Rattle.std.proofs.Common.{inl, sym}
 use Rattle.office_machine.proofs.Offices.{shows_none, few_versions, few_uploads, shows}
+use Rattle.office_machine.proofs.Seen.{seen_stands}
 use Rattle.office_machine.proofs.office.Office.show_bucket.Goals as goal
 
 pub returns-in_default : goal.returns-in_default
 returns-in_default c = record {
   reply = λ t p stands.
-      inl (sym (shows_none _ p (subst (λ (r : Records). StandsForOffice r p) (sym c.self.view_is) stands) c.args.name.now t (sym c.in_default.ensures.value)));
+      inl (sym (shows_none _ p (seen_stands c.self.view_is stands) c.args.name.now t (sym c.in_default.ensures.value)));
   fits = tt;
 }
 
@@ -19,7 +19,7 @@ versions-requires c = record { few = few_versions _ c.self.invariant.office c.se
 pub returns : goal.returns
 returns c = record {
   reply = λ t p stands.
-      let is = shows _ p (subst (λ (r : Records). StandsForOffice r p) (sym c.self.view_is) stands) c.args.name.now c.in-Some.account.now (sym c.in-Some.ensures.value) t in
+      let is = shows _ p (seen_stands c.self.view_is stands) c.args.name.now c.in-Some.account.now (sym c.in-Some.ensures.value) t in
       inl (rw (c.in_ok-copy_of.ensures.ok, c.rules.ensures, c.uploads.ensures, c.versioning.ensures, c.versions.ensures) (sym is));
   fits = tt;
 }

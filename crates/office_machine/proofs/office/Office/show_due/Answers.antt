@@ -4,18 +4,18 @@ use Rattle.due_core.specs.Buckets.{BucketRecord}
 use Rattle.office_types.specs.declared.reply.Reply.{Reply}
 use Rattle.office_types.specs.declared.refusal.Refusal.{Refusal}
 use Rattle.office_machine.specs.AnswerParts.{IsAnswer, due_told}
-use Rattle.office_machine.specs.Standing.{Records, StandsForOffice}
 use Rattle.office_machine.proofs.Offices.{due_none, shows_due}
+use Rattle.office_machine.proofs.Seen.{seen_stands}
 use Rattle.office_machine.proofs.office.Office.show_due.Goals as goal
 
 pub returns-in-Some-clause-reply : goal.returns-in-Some-clause-reply
 returns-in-Some-clause-reply c = λ p stands.
-    let stood = subst (λ (r : Records). StandsForOffice r p) (sym c.self.view_is) stands in
+    let stood = seen_stands c.self.view_is stands in
     let is = shows_due _ p stood c.args.name.now c.in-Some.account.now (sym c.in-Some.ensures.value) c.args.t in
     subst (λ (expected : Result Reply Refusal). IsAnswer expected c.due_of.result) (sym is)
     (subst (λ (bucket : BucketRecord). IsAnswer (due_told c.args.t bucket) c.due_of.result) c.bucket.ensures c.due_of.ensures.reply)
 
 pub returns-in-None-clause-reply : goal.returns-in-None-clause-reply
 returns-in-None-clause-reply c = λ p stands.
-    let stood = subst (λ (r : Records). StandsForOffice r p) (sym c.self.view_is) stands in
+    let stood = seen_stands c.self.view_is stands in
     inl (sym (due_none _ p stood c.args.name.now c.args.t (sym c.in-None.ensures.value)))

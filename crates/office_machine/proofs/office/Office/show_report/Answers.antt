@@ -4,8 +4,8 @@ use Rattle.plain_office.specs.Run.{is_not_before}
 use Rattle.office_types.specs.declared.reply.Reply.TheVariants.{Report}
 use Rattle.office_types.specs.declared.reply.ReportLine.{ReportLine}
 use Rattle.office_types.specs.Reports.{charges}
-use Rattle.office_machine.specs.Standing.{Records, StandsForOffice}
 use Rattle.office_machine.proofs.Offices.{shows_report, shows_no_report, listed, few_accounts}
+use Rattle.office_machine.proofs.Seen.{seen_later, seen_stands}
 use Rattle.office_machine.proofs.office.Office.show_report.Goals as goal
 
 pub returns-in_default-clause-reply : goal.returns-in_default-clause-reply
@@ -14,8 +14,8 @@ returns-in_default-clause-reply c = λ p stands.
 
 pub returns-clause-reply : goal.returns-clause-reply
 returns-clause-reply c = λ p stands.
-    let stood = subst (λ (r : Records). StandsForOffice r p) (sym c.self.view_is) stands in
-    let later : is_not_before c.self.inside.last c.args.t ≡ true = subst (λ (r : Records). is_not_before r.last c.args.t ≡ true) (sym c.self.view_is) c.requires.later in
+    let stood = seen_stands c.self.view_is stands in
+    let later : is_not_before c.self.inside.last c.args.t ≡ true = seen_later c.self.view_is c.requires.later in
     let told = shows_report _ p stood c.args.t c.args.month c.in-Some.tariff (sym (c.tariff_for.ensures p stands) ∙ c.in-Some.is) in
     let lines = c.of.ensures ∙ listed _ p stood c.args.t later c.in-Some.tariff c.args.month c.in_ok-lines.lines.items c.in_ok-lines.ensures.exact in
     inl (ap (λ (l : List ReportLine). Ok (Report l)) lines ∙ sym told)

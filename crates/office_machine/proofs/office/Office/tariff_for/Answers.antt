@@ -1,19 +1,19 @@
-use Rattle.std.proofs.Common.{ap, ◌∙◌, sym, subst}
+use Rattle.std.proofs.Common.{ap, ◌∙◌, sym}
 use Rattle.std.specs.Prelude.{Option}
 use Rattle.tariff.specs.Prices.{Prices}
 use Rattle.office_machine.specs.AnswerParts.{kept_prices, closed_at}
-use Rattle.office_machine.specs.Standing.{Records, StandsForOffice}
 use Rattle.office_machine.proofs.Offices.{shows_prices}
+use Rattle.office_machine.proofs.Seen.{seen_stands}
 use Rattle.office_machine.proofs.office.Office.tariff_for.Goals as goal
 
 pub returns-in-Some : goal.returns-in-Some
 returns-in-Some c = λ p stands.
-    let stood = subst (λ (r : Records). StandsForOffice r p) (sym c.self.view_is) stands in
+    let stood = seen_stands c.self.view_is stands in
     let found = ap (closed_at c.args.month) (sym c.deref.ensures.value) ∙ sym c.in-Some.ensures in
     sym (shows_prices _ p stood c.args.month ∙ ap (λ (o : Option Prices). kept_prices o c.self.inside.tariff) found)
 
 pub returns-in-None : goal.returns-in-None
 returns-in-None c = λ p stands.
-    let stood = subst (λ (r : Records). StandsForOffice r p) (sym c.self.view_is) stands in
+    let stood = seen_stands c.self.view_is stands in
     let none = ap (closed_at c.args.month) (sym c.deref.ensures.value) ∙ sym c.in-None.ensures in
     sym (shows_prices _ p stood c.args.month ∙ ap (λ (o : Option Prices). kept_prices o c.self.inside.tariff) none)

@@ -1,0 +1,6 @@
+//! A CSV text that is written row by row.
+#![tactic(auto)]
+
+mod sheet;
+
+pub use sheet::{Sheet, finish, put_row, start};
