@@ -1,5 +1,6 @@
 -- The office in memory after one entry more.
-use Rattle.std.proofs.Common.{◌≡◌, inl, inr, ℕ, ◌+◌, ◌^◌, ◌<◌, ◌≤◌, Bool, true, false, if◌then◌else◌, List, [], ◌∷◌, ◌++◌, Option, Some, None, Result, Ok, Err, sym, ap, ◌∙◌, subst, arith, length-append}
+use Rattle.std.proofs.Common.{◌≡◌, inl, inr, ℕ, ◌+◌, ◌^◌, ◌<◌, ◌≤◌, Bool, true, false, if◌then◌else◌, List, [], ◌∷◌, ◌++◌, Option, Some, None, Result, Ok, Err, sym, ap}
+use Rattle.std.proofs.Common.{◌∙◌, subst, arith, length-append}
 use Rattle.std.specs.Prelude.{IsTrue}
 use Rattle.plain_office.specs.Office.{Office, empty_office}
 use Rattle.plain_office.specs.Step.{step, is_accepted}
@@ -89,7 +90,8 @@ one_more new old answer counted made = counted ∙ ap (λ (b : Bool). if b then 
 no_more : (new old : ℕ) (answer : Answer) → new ≡ accepted_after answer old → is_accepted answer ≡ false → new ≡ old
 no_more new old answer counted not_made = counted ∙ ap (λ (b : Bool). if b then old + 1 else old) not_made
 
-unfoldable pub more_after : (history : List Entry) (e : Entry) (old new : Records) (reply : Reply) (is : StandsAfter history old) → is_accepted (Ok reply) ≡ true → IsTrue (is_not_before old.last e.moment)
+unfoldable pub more_after : (history : List Entry) (e : Entry) (old new : Records) (reply : Reply) (is : StandsAfter history old) → is_accepted (Ok reply) ≡ true
+    → IsTrue (is_not_before old.last e.moment)
     → Does (step e.moment e.command is.plain) is.plain new (Ok reply) → new.accepted ≡ accepted_after (Ok reply) old.accepted → StandsAfter (history ++ e ∷ []) new
 more_after history e old new reply is made later does counted =
     let x = step e.moment e.command is.plain in

@@ -71,6 +71,7 @@ pub price_flaw_told : (fault : TariffFault) (told : Fault) (read : Result Prices
 price_flaw_told fault faults.NoMemory read is same = tt
 price_flaw_told fault (faults.Bad bad) read is same = by_flaw (tariff_flaw_of fault) is same
   where
-    by_flaw : (o : Option TariffFlaw) → IfSome o (λ (flaw : TariffFlaw). read ≡ Err flaw) → IsSomeAnd o (λ (flaw : TariffFlaw). refused_of bad ≡ Some (in_tariff flaw)) → HasPriceFlaw read (refused_of bad)
+    by_flaw : (o : Option TariffFlaw) → IfSome o (λ (flaw : TariffFlaw). read ≡ Err flaw)
+        → IsSomeAnd o (λ (flaw : TariffFlaw). refused_of bad ≡ Some (in_tariff flaw)) → HasPriceFlaw read (refused_of bad)
     by_flaw None is same = absurd same
     by_flaw (Some flaw) is same = subst (λ (r : Result Prices TariffFlaw). HasPriceFlaw r (refused_of bad)) (sym is) same

@@ -23,7 +23,9 @@ use Rattle.http_bodies.specs.Multipart.{part_of}
 use Rattle.http_bodies.specs.Settings.{versioning_of}
 use Rattle.http_routes.specs.Spelled.{key_of}
 use Rattle.http_routes.specs.Targets as targets
-use Rattle.http_asks.specs.Meaning.{Meant, asks, refuses, not_a_month, bad_bucket_name, bad_key, no_such_version, no_such_upload, bad_part, in_body, in_rules, in_tariff, not_built, by_object_key, by_body, by_rules, by_tariff, meant_of, bucket_meant, versioning_meant, lifecycle_meant, object_meant, version_meant, upload_meant, part_meant, act_meant, due_meant, meters_meant, tariff_meant, close_meant, report_meant}
+use Rattle.http_asks.specs.Meaning.{Meant, asks, refuses, not_a_month, bad_bucket_name, bad_key, no_such_version, no_such_upload, bad_part, in_body, in_rules, in_tariff}
+use Rattle.http_asks.specs.Meaning.{not_built, by_object_key, by_body, by_rules, by_tariff, meant_of, bucket_meant, versioning_meant, lifecycle_meant, object_meant}
+use Rattle.http_asks.specs.Meaning.{version_meant, upload_meant, part_meant, act_meant, due_meant, meters_meant, tariff_meant, close_meant, report_meant}
 use Rattle.http_asks.specs.Numbers.{number_in, version_in, part_in}
 
 -- ---- numbers and ids

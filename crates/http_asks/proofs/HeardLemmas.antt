@@ -1,5 +1,6 @@
 -- What is heard at the front of a stream.
-use Rattle.std.proofs.Common.{◌≡◌, ◌≢◌, ℕ, Bool, List, [], ◌∷◌, ◌++◌, length, drop, refl, sym, ap, ◌∙◌, subst, arith, length-append, append_assoc, append-nil, inl, inr, Option, Some, None, Result, Ok, Err}
+use Rattle.std.proofs.Common.{◌≡◌, ◌≢◌, ℕ, Bool, List, [], ◌∷◌, ◌++◌, length, drop, refl, sym, ap, ◌∙◌, subst, arith, length-append, append_assoc, append-nil, inl, inr}
+use Rattle.std.proofs.Common.{Option, Some, None, Result, Ok, Err}
 use Rattle.std.specs.Prelude.{◌<◌, IsErrOf, IfSome, IsSomeAnd, option_map}
 use Rattle.std.specs.Io.KnownBytes.{prepend_known, IsAtEnd}
 use Rattle.httparse.specs.Spans.{span_bytes}
@@ -22,7 +23,8 @@ use Rattle.http_wire.proofs.Unique.{stands_unique, stands_rest, stands_more, not
 use Rattle.http_asks.specs.Counts.{AreEnough}
 use Rattle.http_asks.specs.Faults.{refused_of}
 use Rattle.http_asks.specs.Hearing.{IsHeard, last_of}
-use Rattle.http_asks.specs.Meaning.{Refused, not_a_month, bad_bucket_name, bad_key, no_such_version, no_such_upload, bad_part, in_body, in_rules, in_tariff, not_built, Meant, asks, refuses, meant_of, Means, IsMeant}
+use Rattle.http_asks.specs.Meaning.{Refused, not_a_month, bad_bucket_name, bad_key, no_such_version, no_such_upload, bad_part, in_body, in_rules, in_tariff, not_built}
+use Rattle.http_asks.specs.Meaning.{Meant, asks, refuses, meant_of, Means, IsMeant}
 use Rattle.http_asks.specs.Streams.{IsItem, IsUnbuilt, StandsUnbuilt, WantsMemory}
 use Rattle.http_asks.specs.Tells.{TellsHeard, TellsRefused}
 use Rattle.http_asks.specs.declared.bad.Bad.{Bad}
@@ -64,7 +66,8 @@ some_and : {P Q : Refused → Type 0} (o : Option Refused) → ((broken : Refuse
 some_and None f is = is
 some_and (Some broken) f is = f broken is
 
-mapped_last : {T : Type 0} (rule : T → Refused) (last : Bool) → ((x : T) → last_of (rule x) last ≡ last) → (o : Option T) → IfSome (option_map rule o) (λ (broken : Refused). last_of broken last ≡ last)
+mapped_last : {T : Type 0} (rule : T → Refused) (last : Bool) → ((x : T) → last_of (rule x) last ≡ last) → (o : Option T)
+    → IfSome (option_map rule o) (λ (broken : Refused). last_of broken last ≡ last)
 mapped_last rule last is None = tt
 mapped_last rule last is (Some x) = is x
 

@@ -1,5 +1,6 @@
 -- A session goes on.
-use Rattle.std.proofs.Common.{◌≡◌, ℕ, ◌+◌, ◌-◌, ◌<◌, ◌≤◌, Bool, true, false, List, [], ◌∷◌, ◌++◌, take, length, refl, sym, ap, ◌∙◌, subst, arith, append_assoc, append-nil, length-append, Option, Some, None, Result, Ok, Err, inl, inr, ⊎_elim, OnOk, IfErr}
+use Rattle.std.proofs.Common.{◌≡◌, ℕ, ◌+◌, ◌-◌, ◌<◌, ◌≤◌, Bool, true, false, List, [], ◌∷◌, ◌++◌, take, length, refl, sym, ap, ◌∙◌, subst, arith, append_assoc}
+use Rattle.std.proofs.Common.{append-nil, length-append, Option, Some, None, Result, Ok, Err, inl, inr, ⊎_elim, OnOk, IfErr}
 use Rattle.std.proofs.lemmas.Option.{IfSome_then}
 use Rattle.std.specs.Prelude.{◌⊎◌, option_map, IsOk}
 use Rattle.std.specs.Io.KnownBytes.{Appends, IsAtEnd, prepend_known}
@@ -617,7 +618,8 @@ module _ {T W : Type 0} (moves : T → Ask → Result Answer DeskFault → T →
 
     -- what stands there is not served, and it was answered
     unbuilt_on : (at : T) (oa ob : W) (a b : Option (List ℕ)) (total : Option ℕ) (last : Bool) (done result : Result Unit SessionEnd) → IsOk done → IsRefusedBy w oa ob not_built done
-        → StandsUnbuilt a × (last ≡ true) → IsUnspent total a → IsTakenAhead a remains → (last ≡ true → result ≡ Err ends.Ended) → Went moves w (sides at oa) (sides at ob) (reading a remains) b total result
+        → StandsUnbuilt a × (last ≡ true) → IsUnspent total a → IsTakenAhead a remains → (last ≡ true → result ≡ Err ends.Ended)
+        → Went moves w (sides at oa) (sides at ob) (reading a remains) b total result
     unbuilt_on at oa ob a b total last (Err e) result ok says stands within ahead stops = absurd cc
     unbuilt_on at oa ob a b total last (Ok x) result ok says stands within ahead stops =
         subst (Went moves w (sides at oa) (sides at ob) (reading a remains) b total) (sym (stops stands.1))

@@ -18,8 +18,8 @@ fn zeros() -> &'static [u8]
     &ZEROS
 }
 
-// What ends the frame behind this gate, from the place of its end gate on: a closed gate, and zeros up to the end of the
-// block there where that is another one than that of the gate, but not past the limit.
+// What ends the frame behind this gate, from the place of its end gate on: a closed gate, and zeros up to the end of
+// the block there where that is another one than that of the gate, but not past the limit.
 fn ending(block: u64, gate: u64, end: u64, limit: u64) -> &'static [u8]
     requires block { block ≤ 4096 }
     requires end { end < 2 ^ 47 }
