@@ -4,69 +4,45 @@ use Rattle.std.specs.Result.{IsErrAnd}
 use Rattle.http_wire.specs.declared.message.MessageStop.{MessageStop}
 use Rattle.http_wire.specs.declared.message.Next.{Next}
 use Rattle.http_wire.specs.declared.message.MessageStop.TheVariants.{ReadFault, Spent}
+use Rattle.http_wire.specs.Answers.{Gave, Tells}
 use Rattle.http_wire.specs.Messages.{IsUnsettled}
 use Rattle.http_wire.proofs.MessageLemmas.{request_part, refused_part, end_part, spent_part, failed_part, given_part, uses_part, fits_part, told_more, open_head, head_settled, unsettled_front}
+use Rattle.http_wire.proofs.message.read_message.Given as given
 use Rattle.http_wire.proofs.message.read_message.Goals as goal
+use Rattle.http_wire.proofs.message.read_message.Goals.{After-next_of}
 
 err_of : (result : Result Next MessageStop) (stop other : MessageStop) → IsErrAnd result (λ (e : MessageStop). e ≡ stop) → IsErrOf result other → stop ≡ other
 err_of (Ok x) stop other same is = absurd same
 err_of (Err e) stop other same is = cc
 
+told : (g : given.Over) (c : goal.After-next_of g)
+    → Gave c.args.buffer.now c.next_of.new.buffer (g.R.Source.left c.args.source.now) (g.R.Source.left c.next_of.new.source)
+        (Tells c.next_of.new.buffer (g.R.Source.left c.next_of.new.source) c.next_of.result)
+told g c = told_more _ _ _ _ _ _ c.next_of.result c.in_ok-heading.ensures.took c.next_of.ensures.tells
+
 pub returns-clause-request : goal.returns-clause-request
-returns-clause-request g c =
-    let left = g.R.Source.left in
-    request_part c.args.buffer.now c.next_of.new.buffer (left c.args.source.now) (left c.next_of.new.source) c.next_of.result
-    (told_more c.args.buffer.now c.read_head.new.buffer c.next_of.new.buffer (left c.args.source.now) (left c.read_head.new.source) (left c.next_of.new.source) c.next_of.result
-    c.in_ok-heading.ensures.took c.next_of.ensures.tells)
+returns-clause-request g c = request_part _ _ _ _ _ (told g (goal.at.returns-clause-request g c).After-next_of)
 
 pub returns-clause-refused : goal.returns-clause-refused
-returns-clause-refused g c =
-    let left = g.R.Source.left in
-    refused_part c.args.buffer.now c.next_of.new.buffer (left c.args.source.now) (left c.next_of.new.source) c.next_of.result
-    (told_more c.args.buffer.now c.read_head.new.buffer c.next_of.new.buffer (left c.args.source.now) (left c.read_head.new.source) (left c.next_of.new.source) c.next_of.result
-    c.in_ok-heading.ensures.took c.next_of.ensures.tells)
+returns-clause-refused g c = refused_part _ _ _ _ _ (told g (goal.at.returns-clause-refused g c).After-next_of)
 
 pub returns-clause-end : goal.returns-clause-end
-returns-clause-end g c =
-    let left = g.R.Source.left in
-    end_part c.args.buffer.now c.next_of.new.buffer (left c.args.source.now) (left c.next_of.new.source) c.next_of.result
-    (told_more c.args.buffer.now c.read_head.new.buffer c.next_of.new.buffer (left c.args.source.now) (left c.read_head.new.source) (left c.next_of.new.source) c.next_of.result
-    c.in_ok-heading.ensures.took c.next_of.ensures.tells)
+returns-clause-end g c = end_part _ _ _ _ _ (told g (goal.at.returns-clause-end g c).After-next_of)
 
 pub returns-clause-spent : goal.returns-clause-spent
-returns-clause-spent g c =
-    let left = g.R.Source.left in
-    spent_part c.args.buffer.now c.next_of.new.buffer (left c.args.source.now) (left c.next_of.new.source) c.next_of.result
-    (told_more c.args.buffer.now c.read_head.new.buffer c.next_of.new.buffer (left c.args.source.now) (left c.read_head.new.source) (left c.next_of.new.source) c.next_of.result
-    c.in_ok-heading.ensures.took c.next_of.ensures.tells)
+returns-clause-spent g c = spent_part _ _ _ _ _ (told g (goal.at.returns-clause-spent g c).After-next_of)
 
 pub returns-clause-failed : goal.returns-clause-failed
-returns-clause-failed g c =
-    let left = g.R.Source.left in
-    failed_part c.args.buffer.now c.next_of.new.buffer (left c.args.source.now) (left c.next_of.new.source) c.next_of.result
-    (told_more c.args.buffer.now c.read_head.new.buffer c.next_of.new.buffer (left c.args.source.now) (left c.read_head.new.source) (left c.next_of.new.source) c.next_of.result
-    c.in_ok-heading.ensures.took c.next_of.ensures.tells)
+returns-clause-failed g c = failed_part _ _ _ _ _ (told g (goal.at.returns-clause-failed g c).After-next_of)
 
 pub returns-clause-given : goal.returns-clause-given
-returns-clause-given g c =
-    let left = g.R.Source.left in
-    given_part c.args.buffer.now c.next_of.new.buffer (left c.args.source.now) (left c.next_of.new.source) c.next_of.result
-    (told_more c.args.buffer.now c.read_head.new.buffer c.next_of.new.buffer (left c.args.source.now) (left c.read_head.new.source) (left c.next_of.new.source) c.next_of.result
-    c.in_ok-heading.ensures.took c.next_of.ensures.tells)
+returns-clause-given g c = given_part _ _ _ _ _ (told g (goal.at.returns-clause-given g c).After-next_of)
 
 pub returns-clause-uses : goal.returns-clause-uses
-returns-clause-uses g c =
-    let left = g.R.Source.left in
-    uses_part c.args.buffer.now c.next_of.new.buffer (left c.args.source.now) (left c.next_of.new.source) c.next_of.result
-    (told_more c.args.buffer.now c.read_head.new.buffer c.next_of.new.buffer (left c.args.source.now) (left c.read_head.new.source) (left c.next_of.new.source) c.next_of.result
-    c.in_ok-heading.ensures.took c.next_of.ensures.tells)
+returns-clause-uses g c = uses_part _ _ _ _ _ (told g (goal.at.returns-clause-uses g c).After-next_of)
 
 pub returns-clause-fits : goal.returns-clause-fits
-returns-clause-fits g c =
-    let left = g.R.Source.left in
-    fits_part c.args.buffer.now c.next_of.new.buffer (left c.args.source.now) (left c.next_of.new.source) c.next_of.result
-    (told_more c.args.buffer.now c.read_head.new.buffer c.next_of.new.buffer (left c.args.source.now) (left c.read_head.new.source) (left c.next_of.new.source) c.next_of.result
-    c.in_ok-heading.ensures.took c.next_of.ensures.tells)
+returns-clause-fits g c = fits_part _ _ _ _ _ (told g (goal.at.returns-clause-fits g c).After-next_of)
 
 pub returns-clause-settled : goal.returns-clause-settled
 returns-clause-settled g c settled =
