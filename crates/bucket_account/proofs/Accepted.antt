@@ -14,6 +14,7 @@ use Rattle.stacks.specs.declared.version.Versioning.{Versioning}
 use Rattle.stacks.specs.declared.version.Versioning.TheVariants.{Unversioned, Enabled, Suspended}
 use Rattle.due_core.specs.Choice.{choice}
 use Rattle.due_core.specs.declared.action.Action.{Action}
+use Rattle.due_core.specs.Buckets.{BucketRecord}
 use Rattle.plain_office.specs.Office.{Account}
 use Rattle.plain_office.specs.Changes.{next_id, remove_version, add_version}
 use Rattle.plain_office.specs.Step.{Change, refuse_if, is_accepted, has_stack, stack_in, upload_in, of_stack, delete, act}
@@ -27,7 +28,7 @@ use Rattle.office_types.specs.declared.refusal.Refusal.TheVariants.{MonthNotOver
 use Rattle.office_types.specs.declared.refusal.What.{What}
 use Rattle.bucket_account.specs.declared.change.Done.{Done}
 use Rattle.bucket_account.specs.declared.counts.Counts.{Counts}
-use Rattle.bucket_account.specs.Changing.{change_of, DoesTold}
+use Rattle.bucket_account.specs.Changing.{change_of, limits_of, DoesTold}
 use Rattle.bucket_account.specs.Counting.{AccountRecord}
 
 abbrev is_plain : Refusal → Bool
@@ -151,6 +152,12 @@ module _ (whats : List What) (before : Account) (counts : Counts) (after : Accou
   refusal_fits (Err refused) refusal (inr nothing) h = absurd cc
   refusal_fits (Ok told) refusal is (inl wanting, same) = subst RefusalFits (sym wanting) tt
   refusal_fits (Ok told) refusal is (inr full, same) = subst RefusalFits (sym full.full.2) tt
+
+-- what a command is told is what the command is told that it is
+pub as_asked : (t : ℕ) (bucket : BucketRecord) (before : Account) (counts : Counts) (after : AccountRecord) (result : Result Done Refusal) (asked command : Command) → asked ≡ command
+    → DoesTold (limits_of command bucket) (change_of t command before) before counts after result → DoesTold (limits_of asked bucket) (change_of t asked before) before counts after result
+as_asked t bucket before counts after result asked command same told =
+    subst (λ (c : Command). DoesTold (limits_of c bucket) (change_of t c before) before counts after result) (sym same) told
 
 -- a command other than an act has another reply than that nothing is due
 pub something_done : (t : ℕ) (asked : Command) → IsNoAct asked → (whats : List What) (before : Account) (counts : Counts) (after : AccountRecord) (result : Result Done Refusal)

@@ -1,5 +1,5 @@
 -- The names of the classes.
-use Rattle.std.proofs.Common.{◌≡◌, ◌≢◌, ◌+◌, ◌*◌, ℕ, Bool, true, false, List, Some, None, length, get_or, ap, refl, arith}
+use Rattle.std.proofs.Common.{◌≡◌, ◌≢◌, ℕ, Bool, true, false, List, Some, None, refl, sym, ap, ◌∙◌}
 use Rattle.std.specs.Prelude.{codes}
 use Rattle.std.specs.Str.{bytes_eq}
 use Rattle.std.proofs.lemmas.Slice.Eq.{bytes_eq-Decides}
@@ -28,45 +28,9 @@ with_no_name text n0 n1 n2 n3 n4 n5 = rw (
     differ text (codes "STANDARD") _ refl n0, differ text (codes "STANDARD_IA") _ refl n1, differ text (codes "ONEZONE_IA") _ refl n2,
     differ text (codes "GLACIER_IR") _ refl n3, differ text (codes "GLACIER") _ refl n4, differ text (codes "DEEP_ARCHIVE") _ refl n5) refl
 
--- the first letter and the length, which tell the six names apart
-mark : List ℕ → ℕ
-mark text = 100 * get_or text 0 0 + length text
+some_injective : {a b : Class} → Some a ≡ Some b → a ≡ b
+some_injective same = cc
 
+-- a name is that of one class
 pub same_class : (a b : Class) → class_name a ≡ class_name b → a ≡ b
-unfolding mark
-same_class Standard Standard e = refl
-same_class Standard StandardIa e = absurd (omega (arith, ap mark e))
-same_class Standard OnezoneIa e = absurd (omega (arith, ap mark e))
-same_class Standard GlacierIr e = absurd (omega (arith, ap mark e))
-same_class Standard Glacier e = absurd (omega (arith, ap mark e))
-same_class Standard DeepArchive e = absurd (omega (arith, ap mark e))
-same_class StandardIa Standard e = absurd (omega (arith, ap mark e))
-same_class StandardIa StandardIa e = refl
-same_class StandardIa OnezoneIa e = absurd (omega (arith, ap mark e))
-same_class StandardIa GlacierIr e = absurd (omega (arith, ap mark e))
-same_class StandardIa Glacier e = absurd (omega (arith, ap mark e))
-same_class StandardIa DeepArchive e = absurd (omega (arith, ap mark e))
-same_class OnezoneIa Standard e = absurd (omega (arith, ap mark e))
-same_class OnezoneIa StandardIa e = absurd (omega (arith, ap mark e))
-same_class OnezoneIa OnezoneIa e = refl
-same_class OnezoneIa GlacierIr e = absurd (omega (arith, ap mark e))
-same_class OnezoneIa Glacier e = absurd (omega (arith, ap mark e))
-same_class OnezoneIa DeepArchive e = absurd (omega (arith, ap mark e))
-same_class GlacierIr Standard e = absurd (omega (arith, ap mark e))
-same_class GlacierIr StandardIa e = absurd (omega (arith, ap mark e))
-same_class GlacierIr OnezoneIa e = absurd (omega (arith, ap mark e))
-same_class GlacierIr GlacierIr e = refl
-same_class GlacierIr Glacier e = absurd (omega (arith, ap mark e))
-same_class GlacierIr DeepArchive e = absurd (omega (arith, ap mark e))
-same_class Glacier Standard e = absurd (omega (arith, ap mark e))
-same_class Glacier StandardIa e = absurd (omega (arith, ap mark e))
-same_class Glacier OnezoneIa e = absurd (omega (arith, ap mark e))
-same_class Glacier GlacierIr e = absurd (omega (arith, ap mark e))
-same_class Glacier Glacier e = refl
-same_class Glacier DeepArchive e = absurd (omega (arith, ap mark e))
-same_class DeepArchive Standard e = absurd (omega (arith, ap mark e))
-same_class DeepArchive StandardIa e = absurd (omega (arith, ap mark e))
-same_class DeepArchive OnezoneIa e = absurd (omega (arith, ap mark e))
-same_class DeepArchive GlacierIr e = absurd (omega (arith, ap mark e))
-same_class DeepArchive Glacier e = absurd (omega (arith, ap mark e))
-same_class DeepArchive DeepArchive e = refl
+same_class a b same = some_injective (sym (with_name (class_name a) a refl) ∙ ap class_with same ∙ with_name (class_name b) b refl)

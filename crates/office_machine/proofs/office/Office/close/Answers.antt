@@ -19,7 +19,7 @@ use Rattle.office_machine.proofs.office.Office.close.Goals as goal
 pub returns-in_err-tariff-clause-step : goal.returns-in_err-tariff-clause-step
 returns-in_err-tariff-clause-step c = λ p stands.
     let inside = seen c.self.view_is in
-    let later : is_not_before inside.last c.args.t ≡ true = seen_later c.self.view_is c.requires.later in
+    let later : is_not_before inside.last c.args.t ≡ true = seen_later c.args.t c.self.view_is c.requires.later in
     let stood : StandsForOffice inside p = seen_stands c.self.view_is stands in
     subst (λ (r : Result Reply Refusal). Does (step c.args.t (command.Close c.args.month) p) p c.args.self.now r) (err_of c.from_residual.result c.in_err-tariff.field-0.0 c.from_residual.ensures.1)
     (subst (λ (r : Records). Does (step c.args.t (command.Close c.args.month) p) p r (Err c.in_err-tariff.field-0.0)) c.self.view_is
@@ -28,7 +28,7 @@ returns-in_err-tariff-clause-step c = λ p stands.
 pub returns-in-Some-clause-step : goal.returns-in-Some-clause-step
 returns-in-Some-clause-step c = λ p stands.
     let inside = seen c.self.view_is in
-    let later : is_not_before inside.last c.args.t ≡ true = seen_later c.self.view_is c.requires.later in
+    let later : is_not_before inside.last c.args.t ≡ true = seen_later c.args.t c.self.view_is c.requires.later in
     let stood : StandsForOffice inside p = seen_stands c.self.view_is stands in
     subst (λ (r : Records). Does (step c.args.t (command.Close c.args.month) p) p r (Err c.in-Some.refusal)) c.self.view_is
     (does_wait inside p stood c.args.t later c.args.month c.in_ok-tariff.tariff (c.in_ok-tariff.ensures.tests p stands) c.in-Some.refusal
@@ -49,7 +49,7 @@ pushed_of c = items_of c.push.result _ _ _ (sym c.is_err.ensures.value ∙ c.if-
 pub invariant_of-self-2 : goal.invariant_of-self-2
 invariant_of-self-2 c =
     let inside = seen c.self.view_is in
-    let later : is_not_before inside.last c.args.t ≡ true = seen_later c.self.view_is c.requires.later in
+    let later : is_not_before inside.last c.args.t ≡ true = seen_later c.args.t c.self.view_is c.requires.later in
     let p : Office = c.self.invariant.office in
     let shut : Records = record inside { closed = c.push.new.self.items } in
     with_month c.args.t shut inside.accounts inside.counts (inside.accepted + 1) c.first_of.result c.first_of.ensures IsOfAnOffice
@@ -63,7 +63,7 @@ invariant_of-self-2 c =
 pub returns-clause-step : goal.returns-clause-step
 returns-clause-step c = λ p stands.
     let inside = seen c.self.view_is in
-    let later : is_not_before inside.last c.args.t ≡ true = seen_later c.self.view_is c.requires.later in
+    let later : is_not_before inside.last c.args.t ≡ true = seen_later c.args.t c.self.view_is c.requires.later in
     let stood : StandsForOffice inside p = seen_stands c.self.view_is stands in
     let shut : Records = record inside { closed = c.push.new.self.items } in
     with_month c.args.t shut inside.accounts inside.counts (inside.accepted + 1) c.first_of.result c.first_of.ensures

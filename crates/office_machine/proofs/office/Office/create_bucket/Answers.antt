@@ -29,7 +29,7 @@ pub returns-then-contains_key-clause-step : goal.returns-then-contains_key-claus
 returns-then-contains_key-clause-step c = λ p stands.
     subst (λ (r : Records). Does (step c.args.t (command.CreateBucket c.args.name.now) p) p r (Err BucketExists)) c.self.view_is
     (does_exist _ p (seen_stands c.self.view_is stands) c.args.name.now c.args.t
-    (seen_later c.self.view_is c.requires.later) (sym c.contains_key.ensures ∙ c.if-contains_key.true))
+    (seen_later c.args.t c.self.view_is c.requires.later) (sym c.contains_key.ensures ∙ c.if-contains_key.true))
 
 pub returns-in_err-counts-clause-step : goal.returns-in_err-counts-clause-step
 returns-in_err-counts-clause-step c = λ p stands.
@@ -38,7 +38,7 @@ returns-in_err-counts-clause-step c = λ p stands.
     let none = sym c.contains_key.ensures ∙ c.if-contains_key.false in
     let done =
     does_fill inside p (seen_stands c.self.view_is stands) c.args.name.now c.args.t
-    (seen_later c.self.view_is c.requires.later) none
+    (seen_later c.args.t c.self.view_is c.requires.later) none
     (record c.self.inside.counts { buckets = c.self.inside.counts.buckets + 1 }) (one_more c.self.inside.counts c.args.t) full.0 full.1 in
     subst (λ (r : Records). Does (step c.args.t (command.CreateBucket c.args.name.now) p) p r c.from_residual.result) c.self.view_is
     (subst (λ (r : Result Reply Refusal). Does (step c.args.t (command.CreateBucket c.args.name.now) p) p inside r)
@@ -47,7 +47,7 @@ returns-in_err-counts-clause-step c = λ p stands.
 pub invariant_of-self-2 : goal.invariant_of-self-2
 invariant_of-self-2 c =
     let inside = seen c.self.view_is in
-    let later : is_not_before inside.last c.args.t ≡ true = seen_later c.self.view_is c.requires.later in
+    let later : is_not_before inside.last c.args.t ≡ true = seen_later c.args.t c.self.view_is c.requires.later in
     let none = sym c.contains_key.ensures ∙ c.if-contains_key.false in
     let ok : is_err c.insert.result ≡ false = sym c.is_err.ensures.value ∙ c.if-is_err.false in
     let entries = ok_of c.insert.result _ ok c.insert.ensures.entries in
@@ -68,7 +68,7 @@ invariant_of-self-2 c =
 pub returns-clause-step : goal.returns-clause-step
 returns-clause-step c = λ p stands.
     let inside = seen c.self.view_is in
-    let later : is_not_before inside.last c.args.t ≡ true = seen_later c.self.view_is c.requires.later in
+    let later : is_not_before inside.last c.args.t ≡ true = seen_later c.args.t c.self.view_is c.requires.later in
     let none = sym c.contains_key.ensures ∙ c.if-contains_key.false in
     let ok : is_err c.insert.result ≡ false = sym c.is_err.ensures.value ∙ c.if-is_err.false in
     let entries = ok_of c.insert.result _ ok c.insert.ensures.entries in

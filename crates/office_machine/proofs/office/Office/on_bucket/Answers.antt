@@ -21,7 +21,7 @@ use Rattle.office_machine.proofs.office.Office.on_bucket.Goals as goal
 pub returns-in_default-clause-step : goal.returns-in_default-clause-step
 returns-in_default-clause-step c = λ p stands.
     let inside = seen c.self.view_is in
-    let later : is_not_before inside.last c.args.t ≡ true = seen_later c.self.view_is c.requires.later in
+    let later : is_not_before inside.last c.args.t ≡ true = seen_later c.args.t c.self.view_is c.requires.later in
     let stood : StandsForOffice inside p = seen_stands c.self.view_is stands in
     let same : c.get_mut.follows.lender-at-none.entries ≡ inside.accounts = ap (λ (m : BTreeMap (List ℕ) AccountRecord). m.entries) c.get_mut.follows.holds-at-none in
     subst (λ (l : List (List ℕ × AccountRecord)). Does (step c.args.t c.args.command.now p) p (with_accounts inside l) (Err NoSuchBucket)) (sym same)
@@ -30,7 +30,7 @@ returns-in_default-clause-step c = λ p stands.
 pub apply-requires-clause-account : goal.apply-requires-clause-account
 apply-requires-clause-account c =
     for_account _ c.self.invariant.office c.self.invariant.stands c.args.name.now c.args.t
-    (seen_later c.self.view_is c.requires.later) c.args.command.now c.requires.named c.in-Some.account.now (sym c.in-Some.ensures.value)
+    (seen_later c.args.t c.self.view_is c.requires.later) c.args.command.now c.requires.named c.in-Some.account.now (sym c.in-Some.ensures.value)
 
 pub apply-requires-clause-room : goal.apply-requires-clause-room
 apply-requires-clause-room c = (
@@ -42,12 +42,12 @@ apply-requires-clause-room c = (
 pub apply-requires-clause-counts : goal.apply-requires-clause-counts
 apply-requires-clause-counts c =
     for_counts _ c.self.invariant.office c.self.invariant.stands c.args.name.now c.args.t
-    (seen_later c.self.view_is c.requires.later) c.args.command.now c.requires.named c.in-Some.account.now (sym c.in-Some.ensures.value)
+    (seen_later c.args.t c.self.view_is c.requires.later) c.args.command.now c.requires.named c.in-Some.account.now (sym c.in-Some.ensures.value)
 
 pub invariant_of-self-in_err-done : goal.invariant_of-self-in_err-done
 invariant_of-self-in_err-done c =
     let inside = seen c.self.view_is in
-    let later : is_not_before inside.last c.args.t ≡ true = seen_later c.self.view_is c.requires.later in
+    let later : is_not_before inside.last c.args.t ≡ true = seen_later c.args.t c.self.view_is c.requires.later in
     let found = sym c.in-Some.ensures.value in
     let held : AccountRecord = c.in-Some.account.now in
     let written : AccountRecord = c.apply.new.self in
@@ -65,7 +65,7 @@ invariant_of-self-in_err-done c =
 pub returns-in_err-done-clause-step : goal.returns-in_err-done-clause-step
 returns-in_err-done-clause-step c = λ p stands.
     let inside = seen c.self.view_is in
-    let later : is_not_before inside.last c.args.t ≡ true = seen_later c.self.view_is c.requires.later in
+    let later : is_not_before inside.last c.args.t ≡ true = seen_later c.args.t c.self.view_is c.requires.later in
     let stood : StandsForOffice inside p = seen_stands c.self.view_is stands in
     let found = sym c.in-Some.ensures.value in
     let held : AccountRecord = c.in-Some.account.now in
@@ -79,7 +79,7 @@ returns-in_err-done-clause-step c = λ p stands.
 pub returns-in_err-done-clause-fits : goal.returns-in_err-done-clause-fits
 returns-in_err-done-clause-fits c =
     let inside = seen c.self.view_is in
-    let later : is_not_before inside.last c.args.t ≡ true = seen_later c.self.view_is c.requires.later in
+    let later : is_not_before inside.last c.args.t ≡ true = seen_later c.args.t c.self.view_is c.requires.later in
     let found = sym c.in-Some.ensures.value in
     let held : AccountRecord = c.in-Some.account.now in
     let written : AccountRecord = c.apply.new.self in
@@ -93,7 +93,7 @@ returns-in_err-done-clause-fits c =
 pub invariant_of-self-then-not-is_accepted : goal.invariant_of-self-then-not-is_accepted
 invariant_of-self-then-not-is_accepted c =
     let inside = seen c.self.view_is in
-    let later : is_not_before inside.last c.args.t ≡ true = seen_later c.self.view_is c.requires.later in
+    let later : is_not_before inside.last c.args.t ≡ true = seen_later c.args.t c.self.view_is c.requires.later in
     let found = sym c.in-Some.ensures.value in
     let held : AccountRecord = c.in-Some.account.now in
     let written : AccountRecord = c.apply.new.self in
@@ -114,7 +114,7 @@ invariant_of-self-then-not-is_accepted c =
 pub returns-then-not-is_accepted-clause-step : goal.returns-then-not-is_accepted-clause-step
 returns-then-not-is_accepted-clause-step c = λ p stands.
     let inside = seen c.self.view_is in
-    let later : is_not_before inside.last c.args.t ≡ true = seen_later c.self.view_is c.requires.later in
+    let later : is_not_before inside.last c.args.t ≡ true = seen_later c.args.t c.self.view_is c.requires.later in
     let stood : StandsForOffice inside p = seen_stands c.self.view_is stands in
     let found = sym c.in-Some.ensures.value in
     let held : AccountRecord = c.in-Some.account.now in
@@ -127,7 +127,7 @@ returns-then-not-is_accepted-clause-step c = λ p stands.
 pub invariant_of-self-2 : goal.invariant_of-self-2
 invariant_of-self-2 c =
     let inside = seen c.self.view_is in
-    let later : is_not_before inside.last c.args.t ≡ true = seen_later c.self.view_is c.requires.later in
+    let later : is_not_before inside.last c.args.t ≡ true = seen_later c.args.t c.self.view_is c.requires.later in
     let found = sym c.in-Some.ensures.value in
     let held : AccountRecord = c.in-Some.account.now in
     let written : AccountRecord = c.apply.new.self in
@@ -148,7 +148,7 @@ invariant_of-self-2 c =
 pub returns-clause-step : goal.returns-clause-step
 returns-clause-step c = λ p stands.
     let inside = seen c.self.view_is in
-    let later : is_not_before inside.last c.args.t ≡ true = seen_later c.self.view_is c.requires.later in
+    let later : is_not_before inside.last c.args.t ≡ true = seen_later c.args.t c.self.view_is c.requires.later in
     let stood : StandsForOffice inside p = seen_stands c.self.view_is stands in
     let found = sym c.in-Some.ensures.value in
     let held : AccountRecord = c.in-Some.account.now in

@@ -14,7 +14,7 @@ use Rattle.office_machine.proofs.office.Office.set_tariff.Goals as goal
 pub invariant_of-self : goal.invariant_of-self
 invariant_of-self c =
     let inside = seen c.self.view_is in
-    let later : is_not_before inside.last c.args.t ≡ true = seen_later c.self.view_is c.requires.later in
+    let later : is_not_before inside.last c.args.t ≡ true = seen_later c.args.t c.self.view_is c.requires.later in
     let p : Office = c.self.invariant.office in
     let priced : Records = record inside { tariff = Some c.args.tariff } in
     with_month c.args.t priced inside.accounts inside.counts (inside.accepted + 1) c.first_of.result c.first_of.ensures IsOfAnOffice
@@ -25,7 +25,7 @@ invariant_of-self c =
 pub returns-clause-step : goal.returns-clause-step
 returns-clause-step c = λ p stands.
     let inside = seen c.self.view_is in
-    let later : is_not_before inside.last c.args.t ≡ true = seen_later c.self.view_is c.requires.later in
+    let later : is_not_before inside.last c.args.t ≡ true = seen_later c.args.t c.self.view_is c.requires.later in
     let stood : StandsForOffice inside p = seen_stands c.self.view_is stands in
     let priced : Records = record inside { tariff = Some c.args.tariff } in
     with_month c.args.t priced inside.accounts inside.counts (inside.accepted + 1) c.first_of.result c.first_of.ensures

@@ -20,7 +20,7 @@ returns c = record {
       let is = shows_meters _ p stood c.args.name.now c.in-Some.account.now found c.args.t c.args.month in
       let book : Book = book_of (shown_account _ p stood c.args.name.now c.in-Some.account.now found).books in
       let meters = (shown_stands _ p stood c.args.name.now c.in-Some.account.now found).meters in
-      let booked = shown_booked _ p stood c.args.name.now c.in-Some.account.now found c.args.t (seen_later c.self.view_is c.requires.later) in
+      let booked = shown_booked _ p stood c.args.name.now c.in-Some.account.now found c.args.t (seen_later c.args.t c.self.view_is c.requires.later) in
       let used = c.used_of.ensures book meters booked in
       inl (rw (c.in_ok-bucket.ensures.ok, used) (sym is));
   fits = tt;

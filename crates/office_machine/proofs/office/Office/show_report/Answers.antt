@@ -15,7 +15,7 @@ returns-in_default-clause-reply c = λ p stands.
 pub returns-clause-reply : goal.returns-clause-reply
 returns-clause-reply c = λ p stands.
     let stood = seen_stands c.self.view_is stands in
-    let later : is_not_before c.self.inside.last c.args.t ≡ true = seen_later c.self.view_is c.requires.later in
+    let later : is_not_before c.self.inside.last c.args.t ≡ true = seen_later c.args.t c.self.view_is c.requires.later in
     let told = shows_report _ p stood c.args.t c.args.month c.in-Some.tariff (sym (c.tariff_for.ensures p stands) ∙ c.in-Some.is) in
     let lines = c.of.ensures ∙ listed _ p stood c.args.t later c.in-Some.tariff c.args.month c.in_ok-lines.lines.items c.in_ok-lines.ensures.exact in
     inl (ap (λ (l : List ReportLine). Ok (Report l)) lines ∙ sym told)
