@@ -42,19 +42,19 @@ lacks_or_not : (refusal : Refusal) → (refusal ≡ refusals.NoMemory) ⊎ (refu
 lacks_or_not refusals.NoMemory = inl refl
 lacks_or_not refusal = inr (λ e. absurd cc)
 
-module _ {F : Type 0} {wanting damaged fault : F} where
+module _ {gate : ℕ} {fault : OpenFault} where
   pub not_taken : (old new : Records) (e : Entry) (refusal : Refusal) → ((p : Office) → StandsForOffice old p → Does (step e.moment e.command p) p new (Err refusal))
-      → (refusal ≡ refusals.NoMemory → fault ≡ wanting) → ((refusal ≡ refusals.NoMemory → ⊥) → fault ≡ damaged) → IsNotTaken old e wanting damaged fault
+      → (refusal ≡ refusals.NoMemory → fault ≡ faults.NoMemory) → ((refusal ≡ refusals.NoMemory → ⊥) → fault ≡ faults.Damaged gate) → IsNotTaken gate old e fault
   not_taken old new e refusal does lacks other = ⊎_elim
       (λ is. inl (lacks is))
       (λ not. inr (other not, λ history is. refused is.plain e new refusal not (does is.plain is.stands))) (lacks_or_not refusal)
 
   pub nothing_due : (old new : Records) (e : Entry) (reply : Reply) → ((p : Office) → StandsForOffice old p → Does (step e.moment e.command p) p new (Ok reply))
-      → fault ≡ damaged → reply ≡ NothingDue → IsNotTaken old e wanting damaged fault
+      → fault ≡ faults.Damaged gate → reply ≡ NothingDue → IsNotTaken gate old e fault
   nothing_due old new e reply does at nothing =
       inr (at, λ history is. nothing_taken is.plain e new (subst (λ (r : Reply). Does (step e.moment e.command is.plain) is.plain new (Ok r)) nothing (does is.plain is.stands)))
 
-pub not_in_order : {F : Type 0} {wanting damaged : F} (old : Records) (e : Entry) → is_not_before old.last e.moment ≡ false → IsNotTaken old e wanting damaged damaged
+pub not_in_order : {gate : ℕ} (old : Records) (e : Entry) → is_not_before old.last e.moment ≡ false → IsNotTaken gate old e (faults.Damaged gate)
 not_in_order old e early =
     inr (refl, λ history is. early_refused is.plain e (subst (λ (last : Option ℕ). is_not_before last e.moment ≡ false) is.stands.last early))
 
@@ -106,7 +106,7 @@ module _ {D : Type 0} (d : disks.Ghosts D) where
 seen_is : (first mid : State) (file : List ℕ) → mid ≡ first → first.journal ≡ synced_file file → mid.journal.seen ≡ file
 seen_is first mid file same on_disk = ap (λ (s : State). s.journal.seen) same ∙ ap (λ (f : File). f.seen) on_disk
 
-broken_at : (fault : OpenFault) (history : List Entry) (office : Office) (gate next : ℕ) (file : List ℕ) → IsMade file → HasPrefix header history gate file → run history ≡ Some office
+pub broken_at : (fault : OpenFault) (history : List Entry) (office : Office) (gate next : ℕ) (file : List ℕ) → IsMade file → HasPrefix header history gate file → run history ≡ Some office
     → NextGives (Err fault) gate next (frame_at gate file) → ReplayFails fault file
 broken_at faults.NotMade history office gate next file made before is gives = absurd gives.1
 broken_at faults.Foreign history office gate next file made before is gives = absurd gives.1

@@ -24,11 +24,11 @@ pub record IsDamagedAt (at : ℕ) (file : List ℕ) : Type 0 where
   pub breaks : (frame_at at file ≡ Broken)
       ⊎ ((entry : Entry) × (next : ℕ) × (frame_at at file ≡ Whole entry next) × (accept office entry ≡ None))
 
--- why an entry is not taken: memory is wanting, or the journal is damaged there, since the office that these records
--- stand for does not accept it
-abbrev pub IsNotTaken : {F : Type 0} → Records → Entry → F → F → F → Type 0
-IsNotTaken records entry wanting damaged fault =
-    (fault ≡ wanting) ⊎ ((fault ≡ damaged)
+-- why the entry at this gate is not taken: memory is wanting, or the journal is damaged there, since the office that
+-- these records stand for does not accept it
+abbrev pub IsNotTaken : ℕ → Records → Entry → OpenFault → Type 0
+IsNotTaken gate records entry fault =
+    (fault ≡ faults.NoMemory) ⊎ ((fault ≡ faults.Damaged gate)
     × ((history : List Entry) (is : StandsAfter history records) → accept is.plain entry ≡ None))
 
 -- why a journal file of these bytes is not opened; a failing disk and want of memory are no fault of the bytes

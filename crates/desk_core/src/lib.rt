@@ -7,6 +7,7 @@ mod desk;
 mod engine;
 mod fault;
 mod reopening;
+mod taking;
 mod taking_turns;
 #[cfg(test)]
 mod tests;
@@ -15,3 +16,4 @@ pub use acked::Acked;
 pub use clock::{Clock, ListClock, SystemClock};
 pub use desk::Desk;
 pub use fault::{DeskFault, SaveFault};
+pub use taking::{entry_refused, entry_taken, is_in_order};

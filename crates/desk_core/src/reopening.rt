@@ -6,9 +6,6 @@ ghost use Rattle.disk_core.specs.Files.{synced_file};
 ghost use Rattle.disk_core.specs.Fronts.{Narrower};
 ghost use Rattle.disk_core.specs.Moments.{KeepsTo, Untouched};
 ghost use Rattle.office_types.specs.declared.command.Entry.{Entry};
-ghost use Rattle.office_types.specs.declared.reply.Reply.TheVariants.{NothingDue};
-ghost use Rattle.plain_office.specs.Run.{is_not_before};
-ghost use Rattle.plain_office.specs.Step.{is_accepted};
 ghost use Rattle.bucket_account.specs.Standing.{most_commands};
 ghost use Rattle.meter_journal.specs.Reading.{IsMade, HasStoreCause};
 ghost use Rattle.desk_core.specs.Submitting.{Reopens, IsOffice, Unopened};
@@ -18,43 +15,12 @@ ghost use Rattle.desk_core.specs.Offices.{StandsAfter};
 use crate::clock::Clock;
 use crate::engine::Engine;
 use crate::fault::DeskFault;
+use crate::taking::{entry_refused, entry_taken, is_in_order};
 use disk_core::Disk;
 use meter_journal::{Journal, OpenFault};
-use moments::Moment;
 use office_machine::Office;
-use office_types::{Entry, Refusal, Reply};
+use office_types::Entry;
 use std::alloc::Global;
-
-fn is_in_order(last: Option<Moment>, at: Moment) -> bool
-    ensures { result ≡ is_not_before last at }
-{
-    match last {
-        Some(last) => last.ms() <= at.ms(),
-        None => true,
-    }
-}
-
-// Why the entry at this gate is not taken: the office does not accept it, or memory ran out.
-fn refused(refusal: Refusal, gate: u64) -> OpenFault
-    ensures memory { refusal ≡ Refusal.NoMemory → result ≡ OpenFault.NoMemory }
-    ensures damaged { (refusal ≡ Refusal.NoMemory → ⊥) → result ≡ OpenFault.Damaged gate }
-{
-    match refusal {
-        Refusal::NoMemory => OpenFault::NoMemory,
-        _ => OpenFault::Damaged { offset: gate },
-    }
-}
-
-// What the entry at this gate comes to that the office answers so: an act that finds nothing due is no entry.
-fn taken(reply: &Reply, gate: u64) -> Result<(), OpenFault>
-    ensures ok { OnOk result (is_accepted (Ok reply.now) ≡ true) }
-    ensures damaged { IfErr result (λ e. (e ≡ OpenFault.Damaged gate) × (reply.now ≡ NothingDue)) }
-{
-    match reply {
-        Reply::NothingDue => Err(OpenFault::Damaged { offset: gate }),
-        _ => Ok(()),
-    }
-}
 
 // Makes the change of an entry again. Where the office does not accept it, the journal is damaged at its gate.
 fn take(office: &mut Office, entry: Entry, gate: u64) -> Result<(), OpenFault>
@@ -62,14 +28,14 @@ fn take(office: &mut Office, entry: Entry, gate: u64) -> Result<(), OpenFault>
     ensures ok { OnOk result ((history : List Entry) → StandsAfter history office.old
         → StandsAfter (history ++ entry ∷ []) office.new) }
     ensures damaged { IfErr result (λ e.
-        IsNotTaken office.old entry OpenFault.NoMemory (OpenFault.Damaged gate) e) }
+        IsNotTaken gate office.old entry e) }
 {
     if !is_in_order(office.last(), entry.moment) {
         return Err(OpenFault::Damaged { offset: gate });
     }
     match office.apply(entry.moment, &entry.command) {
-        Ok(reply) => taken(&reply, gate),
-        Err(refusal) => Err(refused(refusal, gate)),
+        Ok(reply) => entry_taken(&reply, gate),
+        Err(refusal) => Err(entry_refused(refusal, gate)),
     }
 }
 

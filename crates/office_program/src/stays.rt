@@ -4,7 +4,6 @@ ghost use Rattle.office_base.specs.Faults.{Rose};
 ghost use Rattle.meter_journal.specs.Reading.{HasStoreCause};
 ghost use Rattle.disk_core.specs.Moments.{Untouched};
 ghost use Rattle.office_types.specs.declared.command.Entry.{Entry};
-ghost use Rattle.stay_explain.specs.Explaining.{ExplainFails};
 ghost use Rattle.desk_core.specs.Damage.{OpenFails};
 ghost use Rattle.desk_core.specs.Histories.{HasAcceptedHistory};
 ghost use Rattle.office_program.specs.Lines.{IsRunExit};
@@ -18,22 +17,9 @@ use desk_core::Clock;
 use disk_core::Disk;
 use http_front::Replies;
 use meter_journal::{OpenFault, read_all};
-use stay_explain::{ExplainFault, explain};
+use stay_explain::explain;
 use std::alloc::Global;
 use std::thread::Threads;
-
-// Why a journal is not explained, in the words of an opening.
-fn open_fault(fault: ExplainFault) -> OpenFault
-    ensures fails { (file : List ℕ) → ExplainFails fault file → OpenFails result file }
-    ensures bytes { result ≡ OpenFault.StoreFault → ⊥ }
-{
-    match fault {
-        ExplainFault::NotMade => OpenFault::NotMade,
-        ExplainFault::Foreign => OpenFault::Foreign,
-        ExplainFault::Damaged { offset } => OpenFault::Damaged { offset },
-        ExplainFault::NoMemory => OpenFault::NoMemory,
-    }
-}
 
 // Reads the journal, and gives the table of its stays.
 fn table<D: Disk, R: Threads + Sync>(
@@ -49,10 +35,7 @@ fn table<D: Disk, R: Threads + Sync>(
     ensures cause { HasStoreCause (D.fault_count disk.old) (D.fault_count disk.new) result }
 {
     match read_all(alloc, disk) {
-        Ok(bytes) => match explain(rt, alloc, &bytes, workers) {
-            Ok(text) => Ok(text),
-            Err(fault) => Err(open_fault(fault)),
-        },
+        Ok(bytes) => explain(rt, alloc, &bytes, workers),
         Err(fault) => Err(fault),
     }
 }

@@ -3,14 +3,14 @@ use Rattle.std.proofs.Common.{◌≡◌, inl, inr, ℕ, ◌<◌, ◌≤◌, ◌^
 use Rattle.office_types.specs.declared.command.Entry.{Entry}
 use Rattle.bucket_account.specs.Standing.{most_commands}
 use Rattle.meter_journal.specs.History.{header, HasHistory}
-use Rattle.meter_journal.specs.Reading.{IsMade, HasPrefix, frame_at, Whole, Ended}
+use Rattle.meter_journal.specs.Reading.{IsMade, HasPrefix, FrameFails, frame_at, Whole, Ended}
 use Rattle.meter_journal.proofs.Heads.{made_head}
 use Rattle.meter_journal.proofs.Prefix.{frame_next, prefix_start, prefix_more, prefix_end}
+use Rattle.meter_journal.specs.declared.fault.OpenFault.{OpenFault}
+use Rattle.desk_core.specs.Damage.{OpenFails, IsNotTaken}
+use Rattle.desk_core.proofs.Damage.{broken_at, replay_open}
 use Rattle.desk_core.proofs.Offices.{few}
-use Rattle.stay_explain.specs.Explaining.{ExplainFails}
-use Rattle.stay_explain.specs.Ledgers.{LedgerRecord, IsLedgerOf, IsNotTakenAt}
-use Rattle.stay_explain.specs.declared.fault.ExplainFault.{ExplainFault}
-use Rattle.stay_explain.specs.declared.fault.ExplainFault.TheVariants as faults
+use Rattle.stay_explain.specs.Ledgers.{LedgerRecord, IsLedgerOf}
 
 -- the entries up to this gate were read
 pub record HasRead (file : List ℕ) (gate : ℕ) (ledger : LedgerRecord) : Type 0 where
@@ -42,9 +42,16 @@ few_read file gate ledger read = few read.history ledger.office gate read.is.off
 
 -- ---- why reading fails
 
-pub take_fails : (file : List ℕ) (gate next : ℕ) (ledger : LedgerRecord) (e : Entry) (fault : ExplainFault) → IsMade file
-    → HasRead file gate ledger → frame_at gate file ≡ Whole e next → IsNotTakenAt gate ledger e fault → ExplainFails fault file
-take_fails file gate next ledger e fault made read is (inl want) = subst (λ (f : ExplainFault). ExplainFails f file) (sym want) tt
+-- no whole frame stands at the gate
+pub frame_fails : (file : List ℕ) (gate : ℕ) (ledger : LedgerRecord) (fault : OpenFault) → IsMade file → HasRead file gate ledger
+    → FrameFails fault gate (frame_at gate file) → OpenFails fault file
+frame_fails file gate ledger fault made read fails =
+    replay_open fault file (broken_at fault read.history read.is.office.plain gate gate file made read.prefix read.is.office.is_run (refl, fails))
+
+-- its entry is not taken
+pub take_fails : (file : List ℕ) (gate next : ℕ) (ledger : LedgerRecord) (e : Entry) (fault : OpenFault) → IsMade file
+    → HasRead file gate ledger → frame_at gate file ≡ Whole e next → IsNotTaken gate ledger.office e fault → OpenFails fault file
+take_fails file gate next ledger e fault made read is (inl want) = subst (λ (f : OpenFault). OpenFails f file) (sym want) tt
 take_fails file gate next ledger e fault made read is (inr x) =
-    subst (λ (f : ExplainFault). ExplainFails f file) (sym x.0)
+    subst (λ (f : OpenFault). OpenFails f file) (sym x.0)
     (record { made = made; history = read.history; office = read.is.office.plain; before = read.prefix; is_run = read.is.office.is_run; breaks = inr (e, next, is, x.1 read.history read.is.office) })

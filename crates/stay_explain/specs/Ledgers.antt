@@ -10,12 +10,9 @@ use Rattle.office_laws.specs.Commands.{bucket_of}
 use Rattle.plain_office.specs.Office.{Booked}
 use Rattle.bucket_account.specs.Counting.{AccountRecord}
 use Rattle.office_machine.specs.Standing.{Records}
-use Rattle.desk_core.specs.Damage.{IsNotTaken}
 use Rattle.desk_core.specs.Offices.{StandsAfter}
 use Rattle.stay_explain.specs.Plans.{Plan, plan_of, stays_by, BeginsFree}
 use Rattle.stay_explain.specs.Table.{stays_of}
-use Rattle.stay_explain.specs.declared.fault.ExplainFault.{ExplainFault}
-use Rattle.stay_explain.specs.declared.fault.ExplainFault.TheVariants as faults
 
 -- the stays of each bucket, under its name
 abbrev pub Tables : Type 0
@@ -68,7 +65,3 @@ IsFreeIn (Some name) (Some plan) tables = IfSome (at_name name tables) (λ stays
 abbrev pub IsBookable : Command → Option Plan → Tables → Type 0
 IsBookable (command.CreateBucket name) plan tables = Unit {0}
 IsBookable other plan tables = IsFreeIn (bucket_of other) plan tables
-
--- why an entry at a gate is not taken
-abbrev pub IsNotTakenAt : ℕ → LedgerRecord → Entry → ExplainFault → Type 0
-IsNotTakenAt gate ledger entry fault = IsNotTaken ledger.office entry faults.NoMemory (faults.Damaged gate) fault

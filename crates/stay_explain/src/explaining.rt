@@ -1,14 +1,13 @@
 // Explaining a journal.
-ghost use Rattle.std.specs.Prelude.{◌≡◌, ◌<◌, ◌≤◌, ◌++◌, ◌∷◌, [], ℕ, List, Err, IfErr, IfOk, OnOk};
+ghost use Rattle.std.specs.Prelude.{◌<◌, ◌≤◌, ◌++◌, ◌∷◌, [], List, IfErr, IfOk, OnOk, IsErrOf};
 ghost use Rattle.office_types.specs.declared.command.Entry.{Entry};
 ghost use Rattle.meter_journal.specs.History.{HasHistory};
-ghost use Rattle.meter_journal.specs.Reading.{Frame, HeadGives, IsMade};
-ghost use Rattle.meter_journal.specs.Reading as reading;
-ghost use Rattle.stay_explain.specs.Explaining.{ExplainFails, IsFaultAt, IsTableOf};
+ghost use Rattle.meter_journal.specs.Reading.{IsMade};
 ghost use Rattle.bucket_account.specs.Standing.{most_commands};
-ghost use Rattle.stay_explain.specs.Ledgers.{IsLedgerOf, IsNotTakenAt};
+ghost use Rattle.desk_core.specs.Damage.{OpenFails, IsNotTaken};
+ghost use Rattle.stay_explain.specs.Explaining.{IsTableOf};
+ghost use Rattle.stay_explain.specs.Ledgers.{IsLedgerOf};
 
-use crate::fault::ExplainFault;
 use crate::ledger::Ledger;
 use crate::working::table_text;
 use meter_journal::{OpenFault, frame, made};
@@ -20,36 +19,24 @@ use std::thread::Threads;
 /// The place of the first gate.
 const FIRST: u64 = 10;
 
-fn fault_of(fault: OpenFault) -> ExplainFault
-    requires { fault ≡ OpenFault.StoreFault → ⊥ }
-    ensures head { (file : List ℕ) → HeadGives {T = ℕ} (Err fault) file → ExplainFails result file }
-    ensures damaged { (gate : ℕ) (frame : Frame) → reading.FrameFails fault gate frame → IsFaultAt result gate frame }
-{
-    match fault {
-        OpenFault::NotMade => ExplainFault::NotMade,
-        OpenFault::Foreign => ExplainFault::Foreign,
-        OpenFault::Damaged { offset } => ExplainFault::Damaged { offset },
-        OpenFault::StoreFault | OpenFault::NoMemory => ExplainFault::NoMemory,
-    }
-}
-
 /// Takes the entry at this gate.
-fn take(ledger: &mut Ledger, alloc: Global, entry: Entry, gate: u64) -> Result<(), ExplainFault>
+fn take(ledger: &mut Ledger, alloc: Global, entry: Entry, gate: u64) -> Result<(), OpenFault>
     requires known { (history : List Entry) × IsLedgerOf history ledger.old }
     requires few { ledger.old.office.accepted < most_commands }
     ensures ok { OnOk result ((history : List Entry) → IsLedgerOf history ledger.old
         → IsLedgerOf (history ++ entry ∷ []) ledger.new) }
-    ensures fault { IfErr result (λ fault. IsNotTakenAt gate ledger.old entry fault) }
+    ensures fault { IfErr result (λ fault. IsNotTaken gate ledger.old.office entry fault) }
 {
     ledger.take(alloc, &entry, gate)
 }
 
 /// Reads the entries of a made journal, and books their stays.
-fn read(alloc: Global, journal: &[u8]) -> Result<Ledger, ExplainFault>
+fn read(alloc: Global, journal: &[u8]) -> Result<Ledger, OpenFault>
     requires made { IsMade journal.now }
     ensures read { IfOk result (λ ledger. (history : List Entry) × HasHistory history journal.now
         × IsLedgerOf history ledger) }
-    ensures fails { IfErr result (λ fault. ExplainFails fault journal.now) }
+    ensures fails { IfErr result (λ fault. OpenFails fault journal.now) }
+    ensures no_disk { IsErrOf result OpenFault.StoreFault → ⊥ }
 {
     let mut ledger = Ledger::new(alloc);
     let mut gate = FIRST;
@@ -62,7 +49,7 @@ fn read(alloc: Global, journal: &[u8]) -> Result<Ledger, ExplainFault>
                 gate = next;
             }
             Ok(None) => return Ok(ledger),
-            Err(fault) => return Err(fault_of(fault)),
+            Err(fault) => return Err(fault),
         }
     }
 }
@@ -81,17 +68,19 @@ pub fn explain<R: Threads + Sync>(
     alloc: Global,
     journal: &[u8],
     workers: u32,
-) -> Result<Vec<u8>, ExplainFault>
+) -> Result<Vec<u8>, OpenFault>
     requires workers { (1 ≤ workers) × (workers ≤ 64) }
     ensures table { IfOk result (λ text. IsTableOf journal.now text.items) }
-    ensures fault { IfErr result (λ fault. ExplainFails fault journal.now) }
+    ensures fault { IfErr result (λ fault. OpenFails fault journal.now) }
+    // No disk is read.
+    ensures no_disk { IsErrOf result OpenFault.StoreFault → ⊥ }
 {
     if let Err(fault) = made(journal) {
-        return Err(fault_of(fault));
+        return Err(fault);
     }
     let ledger = read(alloc, journal)?;
     match table_text(rt, alloc, ledger.tables(), workers) {
         Ok(text) => Ok(text),
-        Err(NoMemory) => Err(ExplainFault::NoMemory),
+        Err(NoMemory) => Err(OpenFault::NoMemory),
     }
 }

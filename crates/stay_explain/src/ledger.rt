@@ -2,21 +2,19 @@
 ghost use Rattle.std.specs.Prelude.{◌≡◌, ◌<◌, ◌++◌, ◌∷◌, [], ℕ, List, IfErr, IfOk, IfSome, OnOk, Ok, true};
 ghost use Rattle.office_base.specs.Maps.{at_name, with_name};
 ghost use Rattle.office_types.specs.declared.command.Entry.{Entry};
-ghost use Rattle.office_types.specs.declared.reply.Reply.TheVariants.{NothingDue};
-ghost use Rattle.plain_office.specs.Run.{is_not_before};
-ghost use Rattle.plain_office.specs.Step.{is_accepted};
 ghost use Rattle.bucket_account.specs.Standing.{most_commands};
 ghost use Rattle.stay_explain.specs.Plans.{BeginsFree};
-ghost use Rattle.stay_explain.specs.Ledgers.{IsLedgerOf, IsNotTakenAt, IsBookable, planned, table_by, tables_after};
+ghost use Rattle.desk_core.specs.Damage.{IsNotTaken};
+ghost use Rattle.stay_explain.specs.Ledgers.{IsLedgerOf, IsBookable, planned, table_by, tables_after};
 
 use crate::booking::{Booking, plan};
-use crate::fault::ExplainFault;
 use crate::naming::bucket_of;
 use crate::stays::Stays;
-use moments::Moment;
+use desk_core::{entry_refused, entry_taken, is_in_order};
+use meter_journal::OpenFault;
 use office_base::{BucketName, NoMemory};
 use office_machine::Office;
-use office_types::{Command, Entry, Refusal, Reply};
+use office_types::{Command, Entry};
 use std::alloc::Global;
 use std::collections::BTreeMap;
 use std::marker::Model;
@@ -34,37 +32,6 @@ impl Model for Ledger {
     ghost Value = { LedgerRecord };
 
     ghost view = { λ l. record { office = l.office; tables = l.tables.entries } };
-}
-
-fn is_in_order(last: Option<Moment>, at: Moment) -> bool
-    ensures { result ≡ is_not_before last at }
-{
-    match last {
-        Some(last) => last.ms() <= at.ms(),
-        None => true,
-    }
-}
-
-/// Why the entry at this gate is not taken: the office does not accept it, or memory ran out.
-fn refused(refusal: Refusal, gate: u64) -> ExplainFault
-    ensures memory { refusal ≡ Refusal.NoMemory → result ≡ ExplainFault.NoMemory }
-    ensures damaged { (refusal ≡ Refusal.NoMemory → ⊥) → result ≡ ExplainFault.Damaged gate }
-{
-    match refusal {
-        Refusal::NoMemory => ExplainFault::NoMemory,
-        _ => ExplainFault::Damaged { offset: gate },
-    }
-}
-
-/// What the entry at this gate comes to that the office answers so: an act that finds nothing due is no entry.
-fn taken(reply: &Reply, gate: u64) -> Result<(), ExplainFault>
-    ensures ok { OnOk result (is_accepted (Ok reply.now) ≡ true) }
-    ensures damaged { IfErr result (λ e. (e ≡ ExplainFault.Damaged gate) × (reply.now ≡ NothingDue)) }
-{
-    match reply {
-        Reply::NothingDue => Err(ExplainFault::Damaged { offset: gate }),
-        _ => Ok(()),
-    }
 }
 
 /// Makes the stays of a bucket that is made.
@@ -158,29 +125,29 @@ impl Ledger {
         alloc: Global,
         entry: &Entry,
         gate: u64,
-    ) -> Result<(), ExplainFault>
+    ) -> Result<(), OpenFault>
         requires known { (history : List Entry) × IsLedgerOf history self.old }
         requires few { self.old.office.accepted < most_commands }
         ensures ok { OnOk result ((history : List Entry) → IsLedgerOf history self.old
             → IsLedgerOf (history ++ entry.now ∷ []) self.new) }
-        ensures fault { IfErr result (λ fault. IsNotTakenAt gate self.old entry.now fault) }
+        ensures fault { IfErr result (λ fault. IsNotTaken gate self.old.office entry.now fault) }
     {
         if !is_in_order(self.office.last(), entry.moment) {
-            return Err(ExplainFault::Damaged { offset: gate });
+            return Err(OpenFault::Damaged { offset: gate });
         }
         let Ok(booking) = self.booking_of(alloc, entry) else {
-            return Err(ExplainFault::NoMemory);
+            return Err(OpenFault::NoMemory);
         };
         let reply = match self.office.apply(entry.moment, &entry.command) {
             Ok(reply) => reply,
-            Err(refusal) => return Err(refused(refusal, gate)),
+            Err(refusal) => return Err(entry_refused(refusal, gate)),
         };
-        if let Err(fault) = taken(&reply, gate) {
+        if let Err(fault) = entry_taken(&reply, gate) {
             return Err(fault);
         }
         match book(&mut self.tables, alloc, &entry.command, booking) {
             Ok(()) => Ok(()),
-            Err(NoMemory) => Err(ExplainFault::NoMemory),
+            Err(NoMemory) => Err(OpenFault::NoMemory),
         }
     }
 }

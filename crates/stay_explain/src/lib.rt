@@ -4,7 +4,6 @@
 
 mod booking;
 mod explaining;
-mod fault;
 mod ledger;
 mod naming;
 mod pages;
@@ -17,4 +16,3 @@ mod tests;
 mod working;
 
 pub use explaining::explain;
-pub use fault::ExplainFault;

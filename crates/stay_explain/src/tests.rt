@@ -3,6 +3,7 @@ ghost use Rattle.std.specs.Prelude.{◌≤◌};
 use super::*;
 use class_rules::Class;
 use entry_codec::encode;
+use meter_journal::OpenFault;
 use moments::Moment;
 use office_base::{BucketName, Key, Nth, Size, Tags, VersionId};
 use office_types::{Command, Entry};
@@ -348,7 +349,7 @@ fn is_fault(
     rt: &(impl Abort + Threads + Sync),
     alloc: Global,
     bytes: &[u8],
-    fault: ExplainFault,
+    fault: OpenFault,
 ) -> Result<(), Fail> {
     match explain(rt, alloc, bytes, 4) {
         Ok(_) => return Err(Fail::new("explained")),
@@ -360,18 +361,18 @@ fn is_fault(
 #[test]
 fn faults(rt: HostRuntime) -> Result<(), Fail> {
     let alloc = rt.alloc();
-    is_fault(&rt, alloc, &[], ExplainFault::NotMade)?;
+    is_fault(&rt, alloc, &[], OpenFault::NotMade)?;
     is_fault(
         &rt,
         alloc,
         b"another file of another kind",
-        ExplainFault::Foreign,
+        OpenFault::Foreign,
     )?;
     let twice = journal(alloc, &[(0, Wish::Make("logs")), (0, Wish::Make("logs"))])?;
-    is_fault(&rt, alloc, &twice, ExplainFault::Damaged { offset: 30 })?;
+    is_fault(&rt, alloc, &twice, OpenFault::Damaged { offset: 30 })?;
     let back = journal(alloc, &[(1, Wish::Make("logs")), (0, Wish::Make("barn"))])?;
-    is_fault(&rt, alloc, &back, ExplainFault::Damaged { offset: 30 })?;
+    is_fault(&rt, alloc, &back, OpenFault::Damaged { offset: 30 })?;
     let idle = journal(alloc, &[(1, Wish::Make("logs")), (1, Wish::Act)])?;
-    is_fault(&rt, alloc, &idle, ExplainFault::Damaged { offset: 30 })?;
+    is_fault(&rt, alloc, &idle, OpenFault::Damaged { offset: 30 })?;
     Ok(())
 }

@@ -3,7 +3,7 @@ use Rattle.office_types.specs.declared.command.Entry.{Entry}
 use Rattle.meter_journal.specs.Reading.{frame_at, Whole, Ended}
 use Rattle.stay_explain.specs.Ledgers.{IsLedgerOf}
 use Rattle.meter_journal.proofs.Prefix.{frame_next}
-use Rattle.stay_explain.proofs.Readings.{none_read, one_read, all_read, few_read, take_fails}
+use Rattle.stay_explain.proofs.Readings.{none_read, one_read, all_read, few_read, take_fails, frame_fails}
 use Rattle.stay_explain.proofs.explaining.read.Goals as goal
 
 pub reading-init : goal.reading-init
@@ -33,3 +33,7 @@ pub returns-in-Ok-None-clause-read : goal.returns-in-Ok-None-clause-read
 returns-in-Ok-None-clause-read c =
     let ended : frame_at c.reading.gate c.args.journal.now ≡ Ended = search rules in
     all_read c.args.journal.now c.reading.gate c.reading.ledger c.reading.invariant ended
+
+pub returns-in-Err-clause-fails : goal.returns-in-Err-clause-fails
+returns-in-Err-clause-fails c =
+    frame_fails c.args.journal.now c.reading.gate c.reading.ledger c.in-Err.fault c.requires.made c.reading.invariant c.in-Err.ensures.exact
