@@ -32,7 +32,7 @@ use Rattle.http_front.specs.declared.answering.SessionEnd.TheVariants as ends
 use Rattle.http_front.specs.Counts.{GaveBytes, total_of, IsUnder, IsSpent, IsUnspent, reading, IsHeldBack, IsTakenAhead, IsBegun}
 use Rattle.http_front.specs.Exchanges.{Exchange, answered, refused, exchange_meant, calls_of, exchange_moment, moments_of, Goes, Hears}
 use Rattle.desk_core.specs.Turns.{Moves}
-use Rattle.http_front.specs.Session.{IsCut, IsLong, IsUnsaid, IsWritten, NoneLacks, LastLacks, LacksBy, Session}
+use Rattle.http_front.specs.Session.{EndsWithExchange, IsCut, IsLong, IsUnsaid, IsWritten, NoneLacks, LastLacks, LacksBy, Session}
 use Rattle.http_front.specs.declared.replies.Replies as sinks
 use Rattle.http_front.specs.Saying.{OnlyReads, OnlySays, Says, SaysFront}
 use Rattle.http_front.specs.Talk.{SaysNoMemory, IsRefusedBy, Sides, sides, AnswersOne, Talked, Closed, Went}
@@ -205,6 +205,21 @@ gave_some a b la lb given none few = (b, few, (given.given, omega (arith, given.
 pub gave_all : (a b : ℕ) (la lb : Option (List ℕ)) → Given a b la lb → a ≡ 0 → b ≡ take_limit → GaveBytes la lb take_limit
 gave_all a b la lb given none all = (given.given, omega (arith, given.counted, none, all), given.left)
 
+-- ---- the exchange with which a session ends
+
+-- it is the last of the second part
+ends_later : (first second whole : List Exchange) (closed : Bool) → NoneLacks (calls_of first) → EndsWithExchange (first ++ second) (first ++ whole) closed
+    → EndsWithExchange second whole closed
+ends_later first second whole closed enough (inl is) = inl is
+ends_later first second whole closed enough (inr (inl not)) = inr (inl (λ all. not (all_then first second whole all)))
+ends_later first second whole closed enough (inr (inr lacks)) = inr (inr (λ none. lacks (enough_then first second enough none)))
+
+-- there is none
+none_ends : EndsWithExchange [] [] false → ⊥
+none_ends (inl is) = absurd cc
+none_ends (inr (inl not)) = not refl
+none_ends (inr (inr lacks)) = lacks (All-nil IsNoLack)
+
 no_totals : (later : Option ℕ) → Totals None later
 no_totals later = record { under = λ x. tt; spent = λ rest x. tt; unspent = λ rest x. tt }
 
@@ -373,7 +388,7 @@ module _ {T W : Type 0} (moves : T → Ask → Result Answer DeskFault → T →
             is_written = written_then total later totals end x y.exchanges y.whole y.rest y.closed y.written first.enough y.is_written;
             lacked = lacked_then end x y.exchanges first.enough y.lacked;
             ahead = y.ahead;
-            behind = y.behind;
+            behind = λ is. y.behind (ends_later x y.exchanges y.whole y.closed first.enough is);
             begun = y.begun;
           };
           moved = moved_then moves x y.exchanges old.teller mid.teller new.teller first.moved second.moved;
@@ -583,7 +598,7 @@ module _ {T W : Type 0} (moves : T → Ask → Result Answer DeskFault → T →
         is_written = is;
         lacked = lacked;
         ahead = ahead;
-        behind = λ is. absurd (let e : false ≡ true = is in cc);
+        behind = λ is. absurd (none_ends is);
         begun = begun;
       };
       moved = refl;

@@ -89,6 +89,12 @@ IsWritten total ends.NoMemory exchanges whole rest closed written =
 
 -- ---- a session
 
+-- The session ends with its last exchange: that closes it, or not all exchanges were said whole, or memory ran out for
+-- an answer. Else it ends where a further message is sought.
+abbrev pub EndsWithExchange : List Exchange → List Exchange → Bool → Type 0
+EndsWithExchange exchanges whole closed =
+    (closed ≡ true) ⊎ ((whole ≡ exchanges → ⊥) ⊎ (NoneLacks (calls_of exchanges) → ⊥))
+
 -- The transcript of a session over what was read, of a source with so many bytes in all: the messages that it heard,
 -- each with what was answered or as a refusal, what is left behind them, whether the last one closed it, and what was
 -- written.
@@ -104,8 +110,8 @@ pub record Transcript (total : Option ℕ) (read : StreamEnds) (end : SessionEnd
   pub lacked : LacksBy end exchanges
   -- behind the last exchange at most one message is read, with what is held behind it
   pub ahead : IsTakenAhead rest read.left
-  -- behind a message that closes it nothing is read but what was held with it
-  pub behind : closed ≡ true → IsHeldBack rest read.left
+  -- behind an exchange with which it ends nothing is read but what was held with it
+  pub behind : EndsWithExchange exchanges whole closed → IsHeldBack rest read.left
   -- where the source failed, each message that had come whole is an exchange
   pub begun : end ≡ ends.ReadFault → IsBegun rest read.left
 
