@@ -1,5 +1,5 @@
 -- A bucket after an upload was completed: the object comes before its parts' stays end, which is the same as after.
-use Rattle.std.proofs.Common.{◌≡◌, ◌⊎◌, inl, inr, ℕ, ◌≤◌, List, [], ◌∷◌, refl, ap, sym, ◌∙◌, subst, true, false, arith}
+use Rattle.std.proofs.Common.{◌≡◌, ◌⊎◌, inl, inr, ℕ, ◌≤◌, List, [], ◌∷◌, refl, ap, sym, ◌∙◌, subst, false, arith}
 use Rattle.std.specs.Prelude.{Some, None, Ok, Err, option_map}
 use Rattle.accrual.specs.Totals.{Totals, AreTotalsOf}
 use Rattle.office_base.specs.Maps.{at_number, without_number, with_name}
@@ -15,7 +15,7 @@ use Rattle.plain_office.specs.Changes.{remove_upload, add_version, next_id, numb
 use Rattle.plain_office.specs.Step.{Change, complete}
 use Rattle.office_types.specs.declared.reply.Reply.TheVariants.{Stored}
 use Rattle.office_types.specs.declared.refusal.Refusal.{Refusal}
-use Rattle.office_types.specs.declared.refusal.Refusal.TheVariants.{NoMemory, NoParts}
+use Rattle.office_types.specs.declared.refusal.Refusal.TheVariants.{NoMemory}
 use Rattle.office_types.specs.declared.refusal.What.{What}
 use Rattle.office_types.specs.declared.refusal.What.TheVariants.{Versions, Names}
 use Rattle.office_laws.proofs.Uploads.{bucket_without, stays_aborted}
@@ -67,9 +67,6 @@ module _ (account : Account) (number t : ℕ) (upload : UploadRecord) (there : a
 
   complete_is : is_empty upload.parts ≡ false → complete t number account ≡ Ok (add_version upload.key kind t left, Stored t (next_id account.bucket))
   complete_is some = rw (there, some) refl
-
-  complete_none : is_empty upload.parts ≡ true → complete t number account ≡ Err NoParts
-  complete_none none = rw (there, none) refl
 
   module _ (counts : Counts) (over : AreCountsOver account.bucket counts) where
     over_left : AreCountsOver left.bucket (counts_without upload counts)
@@ -135,13 +132,6 @@ module _ (b : BucketRecord) (account : Account) (same : b ≡ account.bucket) (n
     (found : at_number number b.uploads ≡ Some upload) (orderly : IsOrderlyAccount t account) where
   abbrev there_for : at_number number account.bucket.uploads ≡ Some upload
   there_for = subst (λ (x : BucketRecord). at_number number x.uploads ≡ Some upload) same found
-
-  pub refused_for : (after : AccountRecord) → StandsForAccount after account → (counts : Counts) (refusal : Refusal) → (refusal ≡ NoMemory) ⊎ ((refusal ≡ NoParts) × (is_empty upload.parts ≡ true))
-      → DoesTold whats (complete t number account) account counts after (Err refusal)
-  refused_for after stands counts refusal (inl is) =
-      subst (λ (r : Refusal). DoesTold whats (complete t number account) account counts after (Err r)) (sym is) (wanting whats (complete t number account) account counts after stands)
-  refused_for after stands counts refusal (inr none) =
-      subst (λ (told : Change). DoesTold whats told account counts after (Err refusal)) (sym (complete_none account number t upload there_for orderly none.1)) (inr none.0, stands)
 
   module _ (object : Incoming) (is : object ≡ whole_of upload b.versioning b.next_version t) where
     whole_is : object ≡ whole_of upload account.bucket.versioning account.bucket.next_version t

@@ -20,7 +20,7 @@ use Rattle.office_types.specs.declared.refusal.Refusal.{Refusal}
 use Rattle.office_types.specs.declared.refusal.Refusal.TheVariants.{NoMemory}
 use Rattle.office_types.specs.declared.refusal.What.{What}
 use Rattle.office_types.specs.declared.refusal.What.TheVariants.{Buckets, Versions, Uploads, Parts, Names, Rules}
-use Rattle.office_laws.proofs.Buckets.{not_empty, stack_orderly, with_versions, weight_of, weight_with}
+use Rattle.office_laws.proofs.Buckets.{not_empty, stack_orderly, weight_of, weight_with}
 use Rattle.office_laws.proofs.Versions.{replaced_is}
 use Rattle.bucket_account.specs.declared.counts.Counts.{Counts}
 use Rattle.bucket_account.specs.declared.incoming.Incoming.{Incoming}
@@ -112,9 +112,6 @@ module _ (b : BucketRecord) (books : Books) (key : List ℕ) (kind : Kind) (at :
   abbrev after : BucketRecord
   after = (add_version key kind at account).bucket
 
-  after_is : after ≡ record (with_versions key at (new ∷ below) b) { next_version = number_after b.versioning b.next_version }
-  after_is = refl
-
   names_weight : weight_of b key by_names key versions + new_bytes key b.stacks ≡ length key + sum_by tag_bytes_of versions
   names_weight = names_by b key orderly.last orderly.bucket (at_name key b.stacks) refl
 
@@ -159,9 +156,6 @@ module _ (b : BucketRecord) (books : Books) (key : List ℕ) (kind : Kind) (at :
         let cons = sum_by-cons tag_bytes_of new below in
         omega (arith, sum, before, left, is, most, n.0, cons)
     have_moved Rules = refl
-
-    pub few_more : moved.versions ≤ counts.versions + 1
-    few_more = omega arith
 
     -- ---- what the bucket stands for
 

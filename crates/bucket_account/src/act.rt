@@ -29,8 +29,12 @@ use stacks::Kind;
 use std::alloc::{AllocError, Global};
 
 /// Copies the id of the rule at this place, from 1; the empty text where there is none.
+///
+/// # Errors
+///
+/// Memory ran out.
 #[tactic(auto, using(crate::proofs::RuleIds::short_id))]
-fn rule_id(alloc: Global, rules: &Option<RuleSet>, place: u32) -> Result<Text, AllocError>
+pub fn rule_id(alloc: Global, rules: &Option<RuleSet>, place: u32) -> Result<Text, AllocError>
     ensures same { IfOk result (λ id. id ≡ rule_id rules.now place) }
     ensures short { IfOk result (λ id. char_count id ≤ 255) }
 {

@@ -21,5 +21,6 @@ mod upload;
 mod versioning;
 
 pub use account::Account;
+pub use act::rule_id;
 pub use change::Done;
 pub use counts::{Counts, NOTHING};

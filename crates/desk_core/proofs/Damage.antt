@@ -18,7 +18,7 @@ use Rattle.meter_journal.specs.declared.fault.OpenFault.{OpenFault}
 use Rattle.meter_journal.specs.declared.fault.OpenFault.TheVariants as faults
 use Rattle.entry_codec.specs.Spelling.{EntryFits, spelling}
 use Rattle.meter_journal.specs.History.{header, end_gate}
-use Rattle.meter_journal.specs.Reading.{IsMade, HeadGives, NextGives, Advances, HasPrefix, frame_at, Whole, Ended}
+use Rattle.meter_journal.specs.Reading.{IsMade, NextGives, Advances, HasPrefix, frame_at, Whole, Ended}
 use Rattle.meter_journal.proofs.Heads.{made_head, made_not_none, made_not_foreign, history_made}
 use Rattle.meter_journal.proofs.History.{end_gate-none, end_gate-push}
 use Rattle.meter_journal.proofs.Prefix.{prefix_start, read_more, read_end}
@@ -147,13 +147,6 @@ replay_open faults.Foreign file fails = absurd fails
 replay_open (faults.Damaged at) file fails = fails
 replay_open faults.StoreFault file fails = tt
 replay_open faults.NoMemory file fails = tt
-
-pub head_open : (fault : OpenFault) (file : List ℕ) → HeadGives {T = ℕ} (Err fault) file → OpenFails fault file
-head_open faults.NotMade file gives = gives
-head_open faults.Foreign file gives = gives
-head_open (faults.Damaged at) file gives = absurd gives
-head_open faults.StoreFault file gives = tt
-head_open faults.NoMemory file gives = absurd gives
 
 -- ---- a file with a history is opened
 

@@ -17,13 +17,11 @@ use Rattle.desk_core.specs.Desk.{DeskView, StandsFor}
 use Rattle.desk_core.specs.Serving.{Opened, Recoverable, KeepsSlots}
 use Rattle.desk_core.specs.declared.fault.DeskFault.{DeskFault}
 use Rattle.desk_core.specs.declared.fault.DeskFault.TheVariants as faults
+use Rattle.desk_core.proofs.Serving.{rose_later}
 use Rattle.desk_core.proofs.Narrowing.{recoverable_more}
 use Rattle.desk_core.specs.Turns.{Moves}
 use Rattle.desk_core.specs.Numbers.{BeginsWith, IsNumber, AreNumbers}
 use Rattle.desk_core.specs.Runs.{stale_by}
-
-pub rose_later : (a b c : ℕ) → a ≤ b → Rose b c → Rose a c
-rose_later a b c le rose = omega (arith, le, rose)
 
 rose_on : (a b c : ℕ) → Rose a b → b ≤ c → Rose a c
 rose_on a b c rose le = omega (arith, rose, le)

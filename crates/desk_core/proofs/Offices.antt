@@ -1,5 +1,5 @@
 -- The office in memory after one entry more.
-use Rattle.std.proofs.Common.{◌≡◌, inl, inr, ℕ, ◌+◌, ◌^◌, ◌<◌, ◌≤◌, Bool, true, false, if◌then◌else◌, List, [], ◌∷◌, ◌++◌, Option, Some, None, Result, Ok, Err, sym, ap}
+use Rattle.std.proofs.Common.{◌≡◌, inl, inr, ℕ, ◌+◌, ◌^◌, ◌<◌, ◌≤◌, Bool, true, false, if◌then◌else◌, List, [], ◌∷◌, ◌++◌, Option, Some, None, Ok, Err, sym, ap}
 use Rattle.std.proofs.Common.{◌∙◌, subst, arith, length-append}
 use Rattle.std.specs.Prelude.{IsTrue}
 use Rattle.plain_office.specs.Office.{Office, empty_office}
@@ -11,27 +11,12 @@ use Rattle.office_types.specs.declared.reply.Reply.{Reply}
 use Rattle.office_types.specs.declared.reply.Reply.TheVariants.{NothingDue}
 use Rattle.office_types.specs.declared.refusal.Refusal.{Refusal}
 use Rattle.office_types.specs.declared.refusal.Refusal.TheVariants.{NoMemory}
-use Rattle.plain_office.proofs.Runs.{IsStep, accepted_by, refused_by, nothing_by, step_refused, step_nothing, run_more, run_none}
+use Rattle.plain_office.proofs.Runs.{Answer, done, refused, no_reply, refusal_is, IsStep, accepted_by, refused_by, nothing_by, step_refused, step_nothing, run_more, run_none}
 use Rattle.bucket_account.specs.Standing.{most_commands}
 use Rattle.office_machine.specs.Standing.{Records, StandsForOffice, Does, accepted_after}
 use Rattle.meter_journal.specs.History.{header, end_gate}
 use Rattle.meter_journal.proofs.History.{gate_high}
 use Rattle.desk_core.specs.Offices.{StandsAfter}
-
-abbrev Answer : Type 0
-Answer = Result Reply Refusal
-
-abbrev refused : Refusal → Answer
-refused refusal = Err refusal
-
-abbrev done : Reply → Answer
-done reply = Ok reply
-
-reply_not : (reply : Reply) (refusal : Refusal) → done reply ≡ refused refusal → ⊥
-reply_not reply refusal e = absurd cc
-
-refusal_same : (a b : Refusal) → refused a ≡ refused b → a ≡ b
-refusal_same a b e = cc
 
 -- ---- what an answer tells
 
@@ -41,10 +26,10 @@ answer_is x p new answer other (inl same) = same
 answer_is x p new answer other (inr wanting) = absurd (other wanting.0)
 
 pub no_lack : (reply : Reply) → done reply ≡ Err NoMemory → ⊥
-no_lack reply e = absurd (reply_not reply NoMemory e)
+no_lack reply e = absurd (no_reply reply NoMemory e)
 
 pub other_lack : (refusal : Refusal) → (refusal ≡ NoMemory → ⊥) → refused refusal ≡ Err NoMemory → ⊥
-other_lack refusal other e = other (refusal_same refusal NoMemory e)
+other_lack refusal other e = other (refusal_is refusal NoMemory e)
 
 pub reply_is : (x : Office × Answer) (p : Office) (new : Records) (reply : Reply) → Does x p new (Ok reply) → (Ok reply ≡ x.1) × StandsForOffice new x.0
 reply_is x p new reply does = answer_is x p new (Ok reply) (no_lack reply) does

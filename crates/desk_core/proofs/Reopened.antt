@@ -25,7 +25,7 @@ use Rattle.desk_core.specs.Desk.{DeskView, StandsFor, GoesOn, stale_after}
 use Rattle.desk_core.specs.Answering.{AnswersAsk}
 use Rattle.desk_core.specs.TurnLaws.{by_honesty, honest_legal}
 use Rattle.desk_core.proofs.Damage.{opens as never_fails}
-use Rattle.desk_core.proofs.Serving.{one_legal, rose_from, last_below, some_run}
+use Rattle.desk_core.proofs.Serving.{one_legal, rose_later, last_below, some_run}
 use Rattle.desk_core.proofs.Narrowing.{narrowed, narrowed_run, idle, recoverable_more, run_more, told_all}
 use Rattle.desk_core.proofs.OneCallMore.{last_faults, legal_append, told_more}
 use Rattle.desk_core.proofs.Standing.{StandsAt, still_true, submitted}
@@ -165,7 +165,7 @@ module _ {D : Type 0} {C : Type 0} (d : disks.Ghosts D)
         }
 
         rose_last : (count : ℕ) → Rose (d.fault_count desk.disk) (d.fault_count new.disk) × (count ≡ d.fault_count new.disk) → Rose last count
-        rose_last count why = subst (λ (k : ℕ). Rose last k) (sym why.1) (rose_from last (d.fault_count desk.disk) (d.fault_count new.disk)
+        rose_last count why = subst (λ (k : ℕ). Rose last k) (sym why.1) (rose_later last (d.fault_count desk.disk) (d.fault_count new.disk)
             (last_below opened.faults (d.fault_count desk.disk) calls s.faults.0 s.faults.1) why.0)
 
         -- an honest disk has no broken journal

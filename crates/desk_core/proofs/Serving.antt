@@ -27,8 +27,8 @@ pub one_legal : (honest : Bool) (limit told : ℕ) (call : Call) (before after :
 one_legal honest limit told call before after p is legal =
     (after, subst (λ (o : Option Office). IsSomeAnd o (λ office. IsLegal honest limit told call.ask call.said office before after)) (sym is) legal, refl)
 
-pub rose_from : (a b c : ℕ) → a ≤ b → Rose b c → Rose a c
-rose_from a b c le rose = omega (arith, le, rose)
+pub rose_later : (a b c : ℕ) → a ≤ b → Rose b c → Rose a c
+rose_later a b c le rose = omega (arith, le, rose)
 
 last_next : (first now : ℕ) (said : Result Answer DeskFault) → first ≤ now → IsToldBy now said → faults_after first said ≤ now
 last_next first now (Ok answer) le told = le

@@ -28,7 +28,7 @@ use Rattle.desk_core.specs.Serving.{Opened, IsToldBy, AreToldBy, KeepsSlots, Dis
 use Rattle.desk_core.specs.Submitting.{PassesLimit}
 use Rattle.desk_core.specs.Desk.{DeskView, HoldsHistory, GoesOn, stale_after}
 use Rattle.desk_core.specs.Answering.{IsAnswerOf, Grows, StoreFails, IsDoneAt, HasFailed, AnswersInTime, AnswersEnded, AnswersAt, AnswersAsk}
-use Rattle.desk_core.proofs.Serving.{one_legal, rose_from, last_below, unique, makes_still, makes_grown, makes_failed}
+use Rattle.desk_core.proofs.Serving.{one_legal, rose_later, last_below, unique, makes_still, makes_grown, makes_failed}
 use Rattle.desk_core.proofs.OneCallMore.{last_faults, IsKept, Makes, one_more, recoverable, legal_append, told_more}
 
 -- ---- legal answers
@@ -202,7 +202,7 @@ module _ {D : Type 0} {C : Type 0} (d : disks.Ghosts D)
               → Next (asked (ask.Command command) (Err (faults.StoreFault (Some number) count)))
           failed count is fails =
               let call = asked (ask.Command command) (Err (faults.StoreFault (Some number) count)) in
-              let rose : Rose last count = subst (λ (k : ℕ). Rose last k) (sym is) (rose_from last (d.fault_count old.disk) (d.fault_count new.disk)
+              let rose : Rose last count = subst (λ (k : ℕ). Rose last k) (sym is) (rose_later last (d.fault_count old.disk) (d.fault_count new.disk)
               (last_below opened.faults (d.fault_count old.disk) calls s.faults.0 s.faults.1) fails.rose) in
               let rule : (b : Bool) → Legal b opened.limit last (call ∷ []) s.history s.history = λ b. one_legal b opened.limit last call
               s.history s.history plain held.office.is_run (tt, rose, λ _. inl refl) in

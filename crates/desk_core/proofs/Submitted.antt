@@ -27,7 +27,7 @@ use Rattle.desk_core.specs.Answers.{Answer}
 use Rattle.desk_core.specs.Calls.{moment_after}
 use Rattle.desk_core.specs.Submitting.{LeavesDisk, HasStoreReason, IsAcceptedAt, PassesLimit, IsClockEnd, KeepsOrAdds, HasCauses}
 use Rattle.desk_core.specs.Desk.{DeskView, HoldsHistory, IsReady, IsLast, IsStamped, stale_after}
-use Rattle.desk_core.specs.Answering.{IsDoneAt, HasFailed, AnswersInTime, AnswersEnded, AnswersAt, AnswersAsk}
+use Rattle.desk_core.specs.Answering.{IsDoneAt, HasFailed, AnswersInTime, AnswersAt, AnswersAsk}
 use Rattle.plain_office.proofs.Runs.{run_more}
 use Rattle.meter_journal.specs.History.{header, HasEntries, BeforeOrAfter}
 use Rattle.desk_core.specs.Histories.{IsSound}
@@ -42,9 +42,6 @@ module _ {D : Type 0} {C : Type 0} (d : disks.Ghosts D)
     (t number : ℕ) (question : Ask) (office : Office) (before : List Entry) (old new : DeskView D C) where
   abbrev Kept : Result Answer DeskFault → Type 0
   Kept said = AnswersInTime d t number question office before old new said
-
-  abbrev Ended : Result Answer DeskFault → Type 0
-  Ended said = AnswersEnded d t number before old new said
 
   abbrev Asked : Result Answer DeskFault → Type 0
   Asked said = AnswersAt d t number question office before old new said

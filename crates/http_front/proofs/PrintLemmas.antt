@@ -10,6 +10,7 @@ use Rattle.http_text.specs.Replies.{error_text, head_text, reply_with}
 use Rattle.http_text.proofs.Texts.{error_is}
 use Rattle.http_text.proofs.Whole.{head_parts}
 use Rattle.http_text.proofs.Small.{decimal_small}
+use Rattle.http_text.proofs.Statuses.{IsLow}
 use Rattle.meter_journal.specs.declared.fault.OpenFault.{OpenFault}
 use Rattle.meter_journal.specs.declared.fault.OpenFault.TheVariants as opening
 use Rattle.desk_core.specs.declared.fault.DeskFault.{DeskFault}
@@ -126,10 +127,6 @@ damaged_small offset fits =
       decimal_small 112 (omega arith),
       decimal_small offset fits,
     )
-
--- the statuses of faults are low, and their phrases short
-abbrev IsLow : ℕ → Type 0
-IsLow status = (status < 1_000) × (length (unwrap_or (reason_phrase status) []) ≤ 100)
 
 open_low : (fault : OpenFault) → IsLow (open_status fault)
 open_low opening.NotMade = (omega arith, omega arith)

@@ -12,7 +12,7 @@ use Rattle.office_types.specs.declared.command.Ask.{Ask}
 use Rattle.desk_core.specs.Answers.{Answer, Call}
 use Rattle.desk_core.specs.declared.fault.DeskFault.{DeskFault}
 use Rattle.desk_core.specs.declared.fault.DeskFault.TheVariants as faults
-use Rattle.desk_core.proofs.Following.{rose_later}
+use Rattle.desk_core.proofs.Serving.{rose_later}
 use Rattle.http_wire.specs.declared.source.Source as sources
 use Rattle.http_wire.specs.Answers.{Gave as GaveTo, TakesFew}
 use Rattle.http_wire.specs.Held.{Held, head_room, take_limit}

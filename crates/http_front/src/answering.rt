@@ -79,7 +79,7 @@ fn say_short<W: Replies>(out: &mut W, room: &mut [u8], acked: &Acked) -> Result<
             Ok(()) => Ok(()),
             Err(_) => Err(SessionEnd::WriteFault),
         },
-        Err(_) => Err(SessionEnd::WriteFault),
+        Err(_) => unreachable!(),
     }
 }
 
@@ -128,7 +128,7 @@ fn say_fault<W: Replies>(out: &mut W, room: &mut [u8], fault: DeskFault) -> Resu
             Ok(()) => go_on_after(fault),
             Err(end) => Err(end),
         },
-        Err(_) => Err(SessionEnd::WriteFault),
+        Err(_) => unreachable!(),
     }
 }
 

@@ -147,10 +147,6 @@ module _ (mode : SizeMode) (rule : Rule) where
   some_before : (newer : ℕ) → newer ≡ length {A = Version} [] → (newer == 0) ≡ false → ⊥
   some_before newer is more = grind (arith, nat_tests)
 
-  later_removal : (kind : Kind) (f : Version) (front back : List Version) → RemoveFits kind (f ∷ front) back
-  later_removal (Object size class tags entered) f front back = tt
-  later_removal Marker f front back = tt
-
   version_fit : (versioning : Versioning) (changed : ℕ) (front : List Version) (kind : Kind) (id : VersionId) (created ceased : ℕ) (back : List Version) (newer older : ℕ)
       → newer ≡ length front → older ≡ length back
       → AllByRecursion (DueFits kind front back)

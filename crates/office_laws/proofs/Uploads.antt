@@ -151,9 +151,6 @@ stays_part number upload part size at account found has =
     ∙ open_kept k i upload.key (of_part number part) differs at account.books.stays)
     asked
   where
-    after : UploadRecord
-    after = after_part part size at upload
-
     kept : Part
     kept = record { size = size; put = at }
 

@@ -5,7 +5,6 @@ pub mod Months
 pub mod Offices
 pub mod Room
 pub mod Rows
-pub mod RuleIds
 pub mod Seen
 pub mod Steps
 pub mod Sums

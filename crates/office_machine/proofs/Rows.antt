@@ -1,5 +1,5 @@
 -- The lines of a report, in the steps of its loops.
-use Rattle.std.proofs.Common.{◌≡◌, ◌⊎◌, inl, inr, ℕ, eqb, true, false, arith, map, ◌+◌, ◌<◌, ◌≤◌, List, [], ◌∷◌, ◌++◌, length, drop, get_or, refl, sym, ap, ◌∙◌, Bool, flat_map, append_assoc}
+use Rattle.std.proofs.Common.{◌≡◌, ◌⊎◌, inl, inr, ℕ, eqb, true, false, arith, map, ◌+◌, ◌<◌, ◌≤◌, List, [], ◌∷◌, ◌++◌, length, drop, refl, sym, ap, ◌∙◌, Bool, flat_map, append_assoc}
 use Rattle.std.proofs.Common.{append-nil}
 use Rattle.std.specs.List.{AllByRecursion}
 use Rattle.std.specs.Ordering.{is_eq, nat_cmp}
@@ -7,7 +7,7 @@ use Rattle.std.specs.Cmp.{nat_cmp_is}
 use Rattle.std.specs.declared.cmp.Ordering.TheVariants.{Less, Equal, Greater}
 use Rattle.std.proofs.lemmas.Bool.{cases_lt}
 use Rattle.std.proofs.lemmas.Bool.Decides.{eqb_tells}
-use Rattle.std.proofs.lemmas.List.{at_drop_more, at_drop_all}
+use Rattle.std.proofs.lemmas.List.{at_drop_all}
 use Rattle.class_rules.specs.Classes.{all_classes}
 use Rattle.accrual.specs.Books.{Book, IsBookedBy}
 use Rattle.accrual.specs.Totals.{AreTotalsOf}
@@ -25,16 +25,6 @@ use Rattle.office_machine.specs.Standing.{StandForAccounts}
 -- ---- one turn of a loop over a slice
 
 module _ {X Y : Type 0} (f : X → List Y) where
-  pub turn : (old new base : List Y) (xs : List X) (i : ℕ) (x : X) → i < length xs → x ≡ get_or xs i x
-      → old ++ flat_map f (drop i xs) ≡ base → new ≡ old ++ f x → new ++ flat_map f (drop (i + 1) xs) ≡ base
-  turn old new base xs i x inside here so_far added =
-      let rest = drop (i + 1) xs in
-      ap (λ (l : List Y). l ++ flat_map f rest) added
-      ∙ append_assoc old (f x) (flat_map f rest)
-      ∙ ap (λ (y : X). old ++ (f y ++ flat_map f rest)) here
-      ∙ ap (λ (l : List Y). old ++ l) (sym (at_drop_more (λ (l : List X). flat_map f l) xs i x inside))
-      ∙ so_far
-
   pub end : (old base : List Y) (xs : List X) (i : ℕ) → length xs ≤ i → old ++ flat_map f (drop i xs) ≡ base → old ≡ base
   end old base xs i over so_far =
       sym (append-nil old) ∙ ap (λ (l : List Y). old ++ l) (sym (at_drop_all (λ (l : List X). flat_map f l) xs i over)) ∙ so_far
@@ -71,12 +61,6 @@ module _ (tariff : Prices) (month t : ℕ) where
   abbrev pub IsListing : List (List ℕ × AccountRecord) → List (List ℕ × AccountRecord) → List ReportLine → Type 0
   IsListing all left lines = (plainly : List (List ℕ × Account)) → StandForAccounts all plainly → AllByRecursion (IsBookedIn t) plainly → Left left lines plainly
 
-  pub started : (all : List (List ℕ × AccountRecord)) → IsListing all all []
-  started all plainly stand booked = record { rest = plainly; stand = stand; booked = booked; lines_are = refl }
-
-  used_lines : (name : List ℕ) (book : Book) → flat_map (metered_lines tariff month name) (map (class_meters month t book) all_classes) ≡ flat_map (class_lines tariff month t name book) all_classes
-  used_lines name book = refl
-
   module _ (entry : List ℕ × AccountRecord) (left : List (List ℕ × AccountRecord)) (old new : List ReportLine) (used : List ClassMeters)
       (added : new ≡ old ++ flat_map (metered_lines tariff month entry.0) used) (reads : (book : Book)
       → AreTotalsOf entry.1.meters book → IsBookedBy t book → used ≡ map (class_meters month t book) all_classes)
@@ -101,13 +85,3 @@ module _ (tariff : Prices) (month t : ℕ) where
 
       pub went_on : (all : List (List ℕ × AccountRecord)) → IsListing all (entry ∷ left) old → IsListing all left new
       went_on all h plainly stand booked = let so_far = h plainly stand booked in more plainly so_far.rest so_far.stand so_far.booked so_far.lines_are
-
-  nothing_left : (lines : List ReportLine) (plainly rest : List (List ℕ × Account)) → StandForAccounts [] rest
-      → lines ++ flat_map (entry_lines tariff month t) rest ≡ flat_map (entry_lines tariff month t) plainly
-      → lines ≡ flat_map (entry_lines tariff month t) plainly
-  nothing_left lines plainly [] stand is = sym (append-nil lines) ∙ is
-  nothing_left lines plainly (first ∷ rest) stand is = absurd stand
-
-  pub all_listed : (all : List (List ℕ × AccountRecord)) (lines : List ReportLine) → IsListing all [] lines
-      → (plainly : List (List ℕ × Account)) → StandForAccounts all plainly → AllByRecursion (IsBookedIn t) plainly → lines ≡ flat_map (entry_lines tariff month t) plainly
-  all_listed all lines h plainly stand booked = let so_far = h plainly stand booked in nothing_left lines plainly so_far.rest so_far.stand so_far.lines_are

@@ -16,7 +16,7 @@ ghost use Rattle.office_machine.specs.Standing.{StandsForOffice};
 use crate::closing::choice_of;
 use crate::commands::copy_of;
 use crate::office::Office;
-use bucket_account::Account;
+use bucket_account::{Account, rule_id};
 use class_rules::Class;
 use due_core::{Action, Bucket};
 use moments::{Moment, Month};
@@ -192,15 +192,9 @@ fn id_of(alloc: Global, rules: &Option<RuleSet>, place: u32) -> Result<Text, Ref
     ensures short { IfOk result (λ id. char_count id ≤ 255) }
     ensures refusal { IfErr result (λ refusal. refusal ≡ Refusal.NoMemory) }
 {
-    let Some(rules) = rules else {
-        return Ok(Text::of(String::new(alloc)));
-    };
-    match rules.rules().get(place.saturating_sub(1) as usize) {
-        Some(rule) => match rule.id.copy() {
-            Ok(id) => Ok(id),
-            Err(_) => Err(Refusal::NoMemory),
-        },
-        None => Ok(Text::of(String::new(alloc))),
+    match rule_id(alloc, rules, place) {
+        Ok(id) => Ok(id),
+        Err(_) => Err(Refusal::NoMemory),
     }
 }
 

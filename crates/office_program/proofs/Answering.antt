@@ -104,19 +104,6 @@ module _ {D C : Type 0} (d : disks.Ghosts D) (k : clocks.Ghosts C) where
       (λ before. absurd (still_true old.stale before fresh)) (λ rose. rose)
       (stale_rose d k old new calls path (sym stale_new ∙ two_stale end stale status is two))
 
-pub two_stale_workers : (end : WorkerEnd) (stale : Bool) (status : ℕ) → status ≡ workers_exit end stale → status ≡ 2 → IsTrue stale
-two_stale_workers end true status is two = refl
-two_stale_workers workers.PortFault false status is two = absurd (omega (arith, is, two))
-two_stale_workers workers.NoMemory false status is two = absurd (omega (arith, is, two))
-two_stale_workers workers.Done false status is two = absurd (omega (arith, is, two))
-
-pub seven_failed : (end : WorkerEnd) (stale : Bool) (status : ℕ) → status ≡ workers_exit end stale → status ≡ 7 → end ≡ workers.PortFault
-seven_failed workers.PortFault stale status is seven = refl
-seven_failed workers.NoMemory true status is seven = absurd (omega (arith, is, seven))
-seven_failed workers.NoMemory false status is seven = absurd (omega (arith, is, seven))
-seven_failed workers.Done true status is seven = absurd (omega (arith, is, seven))
-seven_failed workers.Done false status is seven = absurd (omega (arith, is, seven))
-
 pub zero_done : (end : WorkerEnd) (stale : Bool) (status : ℕ) → status ≡ workers_exit end stale → status ≡ 0 → end ≡ workers.Done
 zero_done workers.Done stale status is zero = refl
 zero_done workers.PortFault stale status is zero = absurd (omega (arith, is, zero))

@@ -3,7 +3,7 @@ use Rattle.std.proofs.Common.{◌≡◌, ◌≢◌, ◌∙◌, sym, ap, refl, su
 use Rattle.std.specs.Prelude.{All, Contains}
 use mathlib.Core.Option.{some, some-injective}
 use lib.ListN.{get_elem?}
-use Rattle.atomic_table.specs.Table.{State, Me, opening, Seen, Final}
+use Rattle.atomic_table.specs.Table.{State, opening, Seen, Final}
 use Rattle.turn_core.specs.declared.view.Call.{Call}
 use Rattle.turn_core.specs.declared.view.View.{View}
 use Rattle.turn_core.specs.declared.view.Kept.{Kept}
@@ -21,9 +21,6 @@ module _ {T A S : Type 0} (stands : T → T → List (A × S) → Type 0) where
 
   abbrev St : Type 0
   St = State (Option K) D
-
-  abbrev M : Type 0
-  M = Me (Option K) D
 
   module _ (value : T) where
     abbrev v₀ : D

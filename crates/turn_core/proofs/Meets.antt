@@ -10,7 +10,7 @@ use Rattle.turn_core.specs.declared.view.View.{View}
 use Rattle.turn_core.specs.declared.view.Kept.{Kept}
 use Rattle.turn_core.specs.Plays.{Learns, Learned}
 use Rattle.turn_core.specs.Rule.{InTurn, Fits, AtHome, Away, out, share, has, OneList, IsOut}
-use Rattle.turn_core.specs.Views.{AtRest, both, spent, Joined, Counted, IsWhole, all_shares}
+use Rattle.turn_core.specs.Views.{AtRest, both, spent, Joined, IsWhole, all_shares}
 use Rattle.turn_core.proofs.Numbers.{meet_numbers}
 use Rattle.turn_core.proofs.Parts.{sum_of-replaced, one_view, placed, true_not_false, none_some, same_or_not}
 use Rattle.turn_core.proofs.Prefixes.{longer_prefix, shorter_begins, longer_whole, each_begins}
@@ -181,10 +181,6 @@ module _ {T A S : Type 0} (stands : T → T → List (A × S) → Type 0) where
         begins = subst (λ (x : D). IsPrefix m.0.seen x.seen) (sym is) two.0;
         begins_too = subst (λ (x : D). IsPrefix n.0.seen x.seen) (sym is) two.1;
       }
-
-  -- what is known of a pass that did not change
-  pub still_counted : (m m' : M) → Learned m m' → Counted m'.0
-  still_counted m m' learned = subst (λ (x : M). Counted x.0) (sym learned.3) learned.1
 
   pub still_whole_list : (m m' : M) → Learned m m' → m'.0.share ≡ all_shares → IsWhole m'.0
   still_whole_list m m' learned = subst (λ (x : M). x.0.share ≡ all_shares → IsWhole x.0) (sym learned.3) learned.2

@@ -46,12 +46,9 @@ not_odd k j n s pos e (no more) =
     let l : y + 2 * s ≤ x = subst (λ (z : ℕ). z ≤ x) (suc-mul j (2 * s)) less in omega (arith, e', l, pos)
 
 module _ {T A S : Type 0} where
-  -- a pass owns its number, and the next one
+  -- a pass owns its number
   pub own_number : (v : View T A S) → Owns v v.number
   own_number v = (0, (let z = zero-mul v.stride in omega (arith, z)))
-
-  next_number : (v : View T A S) → Owns v (v.number + v.stride)
-  next_number v = (1, ap (λ (n : ℕ). v.number + n) (sym (one-mul v.stride)))
 
   -- what the two parts of a pass own was the pass's
   pub owned_left : (v : View T A S) (number : ℕ) → Owns (left v) number → Owns v number
@@ -126,9 +123,6 @@ module _ {T A S : Type 0} where
   module _ (log : List (Call A S)) (views : List (View T A S)) (n : Numbered log views) (x : View T A S) (named : Named log x) (none_met : x.met ≡ [])
       (new : (by : ℕ) (u : View T A S) (number : ℕ) → get_elem? views by ≡ some u → 0 < u.share → Owns u number → Owns x number → ⊥)
       (not_met : (by : ℕ) (u : View T A S) → get_elem? views by ≡ some u → 0 < u.share → All (λ m. Owns x m.number → ⊥) u.met) where
-    abbrev Is : ℕ → View T A S → Type 0
-    Is by u = (get_elem? views by ≡ some u) ⊎ ((x ≡ u) × (by ≡ length views))
-
     numbers_apart : (by : ℕ) (u : View T A S) → get_elem? views by ≡ some u → 0 < u.share → Disjoint (numbers u) (x.number ∷ [])
     numbers_apart by u e l =
         All-cons (λ (p : ℕ). All (λ y. p ≢ y) (x.number ∷ [])) u.number (map (λ m. m.number) u.met)

@@ -18,9 +18,6 @@ module _ {A : Type 0} where
   no_rest xs [] less = refl
   no_rest xs (x ∷ t) less = absurd (omega (arith, less, length-append xs (x ∷ t)))
 
-  pub prefix_length : (xs ys : List A) → IsPrefix xs ys → length xs ≤ length ys
-  prefix_length xs ys (t, e) = let n : length (xs ++ t) ≡ length ys = ap length e in omega (arith, n, length-append xs t)
-
   pub prefix_whole : (xs ys : List A) → IsPrefix xs ys → length ys ≤ length xs → xs ≡ ys
   prefix_whole xs ys (t, e) less =
       let n : length (xs ++ t) ≡ length ys = ap length e in

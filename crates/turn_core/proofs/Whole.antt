@@ -23,9 +23,6 @@ module _ {T A S : Type 0} (stands : T → T → List (A × S) → Type 0) where
   abbrev drew : D → ℕ → D
   drew v t = record v { ticket = Some t }
 
-  abbrev Held : M → K → Done A S → Type 0
-  Held m k d = (m.1 ≡ (0, Some k) ∷ []) × (k.last ≡ Some d)
-
   pub holds_value : (m₁ m₂ : M) → Served stands m₁ m₂ → (k : K) × (m₂.1 ≡ (0, Some k) ∷ []) × StandsSince stands m₂.0.opening k.value m₂.0.seen
   holds_value m₁ m₂ h = (h.0, h.1, subst (λ (o : Option T). StandsSince stands o h.0.value m₂.0.seen) (sym (ap (λ (v : D). v.opening) h.4)) h.2)
 

@@ -1,5 +1,5 @@
 use Rattle.std.proofs.Common.{◌≡◌, ℕ, ◌+◌, List, [], ◌∷◌, sym, ap, subst, ◌∙◌, true, false}
-use Rattle.std.specs.Prelude.{Result, Ok, Err, OnOk, Some, None, is_err}
+use Rattle.std.specs.Prelude.{Result, Ok, Err, Some, None, is_err}
 use Rattle.std.specs.List.{AllByRecursion}
 use Rattle.office_base.specs.Maps.{with_name}
 use Rattle.plain_office.specs.Office.{Office}
@@ -17,13 +17,10 @@ use Rattle.bucket_account.specs.Counting.{amount, in_bucket, first_over}
 use Rattle.office_machine.specs.Standing.{Records, StandsForOffice, IsOfAnOffice, Does}
 use Rattle.bucket_account.proofs.Handed.{err_of}
 use Rattle.office_machine.proofs.Offices.{does_exist, does_fill, does_make, one_more, accepted_records, with_month, kept_on}
+use Rattle.bucket_account.proofs.Started.{ok_of}
 use Rattle.office_machine.proofs.Room.{IsRoomy, room_more, room_with}
 use Rattle.office_machine.proofs.Seen.{seen, seen_later, seen_stands}
 use Rattle.office_machine.proofs.office.Office.create_bucket.Goals as goal
-
-ok_of : {T E : Type 0} (r : Result T E) (P : Type 0) → is_err r ≡ false → OnOk r P → P
-ok_of (Ok x) P ok holds = holds
-ok_of (Err e) P ok holds = absurd cc
 
 pub returns-then-contains_key-clause-step : goal.returns-then-contains_key-clause-step
 returns-then-contains_key-clause-step c = λ p stands.
