@@ -107,7 +107,7 @@ few_option : {X : Type 0} (o : Option X) → length (option_to_list o) ≤ 1
 few_option None = omega arith
 few_option (Some x) = omega arith
 
-few_expected : (bucket : BucketRecord) (key : List ℕ) (item : Item) → length (stays_expected bucket key item) ≤ 1
+pub few_expected : (bucket : BucketRecord) (key : List ℕ) (item : Item) → length (stays_expected bucket key item) ≤ 1
 few_expected bucket key (of_version id) = few_option (option_map (stay_of_version key) (version_at id (versions_of key bucket)))
 few_expected bucket key (of_part number place) = by (at_number number bucket.uploads) where
   either : (b : Bool) (l : List Booked) → length l ≤ 1 → length (cond b l []) ≤ 1

@@ -118,7 +118,7 @@ either_stays : (b : Bool) (a c : Books) → a.stays ≡ c.stays → (cond b a c)
 either_stays true a c h = h
 either_stays false a c h = refl
 
-early_stays : (kind : Kind) (at : ℕ) (books : Books) → (with_early kind at books).stays ≡ books.stays
+pub early_stays : (kind : Kind) (at : ℕ) (books : Books) → (with_early kind at books).stays ≡ books.stays
 early_stays Marker at books = refl
 early_stays (Object size class tags entered) at books = either_stays (nat_lt at (entered + least_stay class)) _ books refl
 

@@ -9,8 +9,10 @@ use Rattle.std.proofs.lemmas.Bool.{and_parts, and_from, eqb-true, eqb-false}
 use Rattle.std.proofs.lemmas.Option.{get_or_from_slice_get}
 use Rattle.std.proofs.lemmas.Slice.Eq.{bytes_eq-Decides}
 use Rattle.office_base.specs.declared.version_id.VersionId.TheVariants as id
-use Rattle.plain_office.specs.Office.{Item, of_version, of_part, Booked}
+use Rattle.plain_office.specs.Office.{Booked}
 use Rattle.plain_office.specs.Books.{is_open_stay, same_item}
+use Rattle.office_laws.proofs.Maps.{bytes_itself}
+use Rattle.office_laws.proofs.Stays.{item_itself}
 use Rattle.stay_explain.specs.declared.row.Item.{Item as Spot}
 use Rattle.stay_explain.specs.declared.row.Item.TheVariants as spot
 use Rattle.stay_explain.specs.declared.row.Owner.{Owner}
@@ -20,19 +22,11 @@ use Rattle.stay_explain.specs.Plans.{end_stay, end_stays}
 
 -- ---- an open row is the open stay of its owner, and of no other
 
-bytes_itself : (name : List ℕ) → bytes_eq name name ≡ true
-bytes_itself name = (bytes_eq-Decides name name).1 refl
-
 number_itself : (n : ℕ) → (n == n) ≡ true
 number_itself n = by (n == n) refl where
   by : (b : Bool) → (n == n) ≡ b → b ≡ true
   by true h = refl
   by false h = absurd (eqb-false n n h refl)
-
-same_itself : (item : Item) → same_item item item ≡ true
-same_itself (of_version id.Null) = refl
-same_itself (of_version (id.Number n)) = number_itself n
-same_itself (of_part upload part) = and_from (upload == upload) (part == part) (number_itself upload) (number_itself part)
 
 same_spot : (a b : Spot) → same_item (item_of a) (item_of b) ≡ true → b ≡ a
 same_spot spot.Null spot.Null h = refl
@@ -68,7 +62,7 @@ is_opens owner row owns open_yet =
     subst (λ (o : Owner). opens o row ≡ true) owns
     (and_from (is_none row.to && bytes_eq row.owner.key row.owner.key) (same_item (item_of row.owner.item) (item_of row.owner.item))
     (and_from (is_none row.to) (bytes_eq row.owner.key row.owner.key) (ap is_none open_yet) (bytes_itself row.owner.key))
-    (same_itself (item_of row.owner.item)))
+    (item_itself (item_of row.owner.item)))
 
 -- ---- places in a list
 

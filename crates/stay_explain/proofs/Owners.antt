@@ -7,6 +7,7 @@ use Rattle.std.specs.Ordering.{is_eq, nat_cmp, ordering_then}
 use Rattle.std.specs.BTreeMap.{is_at}
 use Rattle.std.proofs.lemmas.Cmp.{tied_itself}
 use Rattle.std.proofs.lemmas.Map.Lookups.{CmpEqualImpliesEq, exact_unsigned, exact_bytes}
+use Rattle.office_laws.proofs.Maps.{equal_of}
 use Rattle.stay_explain.specs.declared.row.Item.{Item}
 use Rattle.stay_explain.specs.declared.row.Item.TheVariants.{Null, Number, Part}
 use Rattle.stay_explain.specs.declared.row.Owner.{Owner}
@@ -42,11 +43,6 @@ owner_exact : CmpEqualImpliesEq owner_cmp
 owner_exact a b h =
     let e = both_equal _ (item_cmp a.item b.item) h in
     λ i. record { key = exact_bytes a.key b.key e.0 i; item = item_exact a.item b.item e.1 i }
-
-equal_of : (o : Ordering) → is_eq o ≡ true → o ≡ Equal
-equal_of Less h = absurd cc
-equal_of Equal h = refl
-equal_of Greater h = absurd cc
 
 -- the owner that is searched, and no other
 pub owner_is : (owner other : Owner) → is_at (owner_cmp owner) other ≡ true → other ≡ owner

@@ -1,10 +1,9 @@
 -- What the plan of a command books is what the plain office tells.
-use Rattle.std.proofs.Common.{◌≡◌, ℕ, List, [], ◌∷◌, ◌++◌, filter, fold, refl, ap, sym, ◌∙◌, subst, Bool, true, false, cond}
-use Rattle.std.specs.Prelude.{Option, Some, None, Result, Ok, Err, ◌+◌, nat_lt, option_map, option_to_list, not}
+use Rattle.std.proofs.Common.{◌≡◌, ℕ, List, [], ◌∷◌, ◌++◌, fold, refl, ap, sym, ◌∙◌, subst, Bool, true, false, cond}
+use Rattle.std.specs.Prelude.{Option, Some, None, Result, Ok, Err, ◌+◌, option_map, option_to_list, not}
 use Rattle.std.specs.Option.{ok_or}
 use Rattle.std.proofs.lemmas.Bool.{eqb-true}
 use Rattle.class_rules.specs.Lines.{object_lines}
-use Rattle.class_rules.specs.Classes.{least_stay}
 use Rattle.class_rules.specs.declared.class.Class.{Class}
 use Rattle.office_base.specs.Maps.{at_name, at_number}
 use Rattle.office_base.specs.Results.{◌>>=◌}
@@ -31,17 +30,15 @@ use Rattle.office_types.specs.declared.reply.Reply.TheVariants.{Stored, PartStor
 use Rattle.office_types.specs.declared.refusal.Refusal.{Refusal}
 use Rattle.office_types.specs.declared.refusal.Refusal.TheVariants.{NoSuchUpload, NoSuchKey, NoParts, BadPart}
 use Rattle.plain_office.specs.Office.{Item, of_version, of_part, Booked, Books, Account}
-use Rattle.plain_office.specs.Books.{is_open_stay, with_end, with_early, without_option, lines_of_kind}
+use Rattle.plain_office.specs.Books.{is_open_stay, with_end, without_option, lines_of_kind}
 use Rattle.plain_office.specs.Changes.{versions_of, add_version, remove_version, next_id, books_moved, move_version, add_part, remove_upload, remove_upload_at, effect}
 use Rattle.plain_office.specs.Orderly.{HasOpenStays, stay_of_version}
 use Rattle.plain_office.specs.Step.{refuse_if, of_stack, Change, has_stack, put_object, delete, delete_version, put_part, complete, abort, act, shown_action, marker_made}
+use Rattle.office_laws.proofs.Stays.{open_of, early_stays}
 use Rattle.stay_explain.specs.Plans.{Plan, end_stays, begin_stay, after_ends, stays_by, stays_after, goes, null_ends, comes, marked, deleted, moves, part_put, part_items, dropped, made_whole}
 use Rattle.stay_explain.specs.Plans.{completed, action_done, acted}
 
 -- ---- stays of an item that has none open
-
-abbrev open_of : List ℕ → Item → List Booked → List Booked
-open_of key item stays = filter (is_open_stay key item) stays
 
 module _ (key : List ℕ) (item : Item) (at : ℕ) where
   nil_or_more : (y : Booked) (ys : List Booked) → y ∷ ys ≡ [] → ⊥
@@ -92,13 +89,6 @@ found_at id version versions false v is h more = more h
 pub has_the_id : (id : VersionId) (version : Version) (versions : List Version) → version_at id versions ≡ Some version → version.id ≡ id
 has_the_id id version [] h = absurd cc
 has_the_id id version (v ∷ versions) h = found_at id version versions (has_id id v) v refl h (has_the_id id version versions)
-
-early_stays : (kind : Kind) (at : ℕ) (books : Books) → (with_early kind at books).stays ≡ books.stays
-early_stays Marker at books = refl
-early_stays (Object size class tags entered) at books = by (nat_lt at (entered + least_stay class)) _ refl where
-  by : (b : Bool) (x : Books) → x.stays ≡ books.stays → (cond b x books).stays ≡ books.stays
-  by true x h = h
-  by false x h = refl
 
 -- a version's stays where it has none open that is not there
 abbrev KnowsNone : List ℕ → VersionId → Option Version → List Booked → Type 0

@@ -1,6 +1,6 @@
 -- The tables of the stays of accounts, and what begins has no open stay.
 use Rattle.std.proofs.Common.{◌≡◌, ℕ, ◌+◌, ◌≤◌, List, [], ◌∷◌, ◌++◌, length, map, filter, refl, ap, sym, ◌∙◌, Bool, true, false, cond, arith, length-append}
-use Rattle.std.specs.Prelude.{Option, Some, None, option_map, option_to_list}
+use Rattle.std.specs.Prelude.{Option, Some, None, option_map}
 use Rattle.std.specs.Str.{bytes_eq}
 use Rattle.std.specs.declared.cmp.Ordering.{Ordering}
 use Rattle.std.specs.declared.cmp.Ordering.TheVariants.{Less, Equal, Greater}
@@ -10,17 +10,14 @@ use Rattle.std.specs.BTreeMap.{is_at}
 use Rattle.std.proofs.lemmas.Bool.{and_from}
 use Rattle.std.proofs.lemmas.List.Elements.{filter-append}
 use Rattle.class_rules.specs.declared.class.Class.{Class}
-use Rattle.office_base.specs.Maps.{bytes_cmp, at_name, with_name, at_number}
-use Rattle.stacks.specs.Stacks.{version_at}
-use Rattle.uploads.specs.Uploads.{UploadRecord}
-use Rattle.due_core.specs.Buckets.{BucketRecord}
+use Rattle.office_base.specs.Maps.{bytes_cmp, at_name, with_name}
 use Rattle.accrual.specs.Books.{open_stay}
-use Rattle.plain_office.specs.Office.{Account, Item, of_version, of_part, Booked}
+use Rattle.plain_office.specs.Office.{Account, Item, Booked}
 use Rattle.plain_office.specs.Books.{is_open_stay, same_item}
-use Rattle.plain_office.specs.Changes.{versions_of}
-use Rattle.plain_office.specs.Orderly.{HasOpenStays, stays_expected, part_stays_expected, stay_of_version, stay_of_part}
+use Rattle.plain_office.specs.Orderly.{HasOpenStays, stays_expected}
 use Rattle.office_laws.proofs.Maps.{bytes_itself}
 use Rattle.office_laws.proofs.Stays.{item_itself}
+use Rattle.office_laws.proofs.OneStay.{few_expected}
 use Rattle.stay_explain.specs.Plans.{Plan, stays_by, after_begin, after_ends, BeginsFree, HasNoOpenStay}
 use Rattle.stay_explain.specs.Table.{stays_of}
 use Rattle.stay_explain.specs.Ledgers.{Tables}
@@ -57,22 +54,6 @@ at_map name [] = refl
 at_map name (e ∷ es) = at_pick (is_at (bytes_cmp name) e.0) e.1 (at_name name (map stays_of es)) (at_name name es) (at_map name es)
 
 -- ---- what begins has no open stay, where it alone is open afterwards
-
-few_option : {X : Type 0} (o : Option X) → length (option_to_list o) ≤ 1
-few_option None = omega arith
-few_option (Some x) = omega arith
-
-few_either : (b : Bool) (l : List Booked) → length l ≤ 1 → length (cond b l []) ≤ 1
-few_either true l h = h
-few_either false l h = omega arith
-
-few_part : (key : List ℕ) (number place : ℕ) (o : Option UploadRecord) → length (part_stays_expected key number place o) ≤ 1
-few_part key number place None = omega arith
-few_part key number place (Some upload) = few_either (bytes_eq key upload.key) _ (few_option (option_map (stay_of_part number upload place) (at_number place upload.parts)))
-
-few_expected : (bucket : BucketRecord) (key : List ℕ) (item : Item) → length (stays_expected bucket key item) ≤ 1
-few_expected bucket key (of_version id) = few_option (option_map (stay_of_version key) (version_at id (versions_of key bucket)))
-few_expected bucket key (of_part number place) = few_part key number place (at_number number bucket.uploads)
 
 none_left : (xs : List Booked) → length xs + 1 ≤ 1 → xs ≡ []
 none_left [] h = refl
