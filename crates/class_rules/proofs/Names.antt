@@ -25,8 +25,13 @@ pub with_no_name : (text : List ℕ)
     → text ≢ codes "STANDARD" → text ≢ codes "STANDARD_IA" → text ≢ codes "ONEZONE_IA" → text ≢ codes "GLACIER_IR" → text ≢ codes "GLACIER" → text ≢ codes "DEEP_ARCHIVE"
     → class_with text ≡ None
 with_no_name text n0 n1 n2 n3 n4 n5 = rw (
-    differ text (codes "STANDARD") _ refl n0, differ text (codes "STANDARD_IA") _ refl n1, differ text (codes "ONEZONE_IA") _ refl n2,
-    differ text (codes "GLACIER_IR") _ refl n3, differ text (codes "GLACIER") _ refl n4, differ text (codes "DEEP_ARCHIVE") _ refl n5) refl
+  differ text (codes "STANDARD") _ refl n0,
+  differ text (codes "STANDARD_IA") _ refl n1,
+  differ text (codes "ONEZONE_IA") _ refl n2,
+  differ text (codes "GLACIER_IR") _ refl n3,
+  differ text (codes "GLACIER") _ refl n4,
+  differ text (codes "DEEP_ARCHIVE") _ refl n5,
+) refl
 
 some_injective : {a b : Class} → Some a ≡ Some b → a ≡ b
 some_injective same = cc

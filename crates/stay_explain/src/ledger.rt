@@ -120,12 +120,7 @@ impl Ledger {
     /// # Errors
     ///
     /// `Damaged` at the gate: the office does not accept the entry at its place. `NoMemory`: memory ran out.
-    pub(crate) fn take(
-        &mut self,
-        alloc: Global,
-        entry: &Entry,
-        gate: u64,
-    ) -> Result<(), OpenFault>
+    pub(crate) fn take(&mut self, alloc: Global, entry: &Entry, gate: u64) -> Result<(), OpenFault>
         requires known { (history : List Entry) × IsLedgerOf history self.old }
         requires few { self.old.office.accepted < most_commands }
         ensures ok { OnOk result ((history : List Entry) → IsLedgerOf history self.old

@@ -17,7 +17,7 @@ err_of (Err e) stop other same is = cc
 
 told : (g : given.Over) (c : goal.After-next_of g)
     → Gave c.args.buffer.now c.next_of.new.buffer (g.R.Source.left c.args.source.now) (g.R.Source.left c.next_of.new.source)
-        (Tells c.next_of.new.buffer (g.R.Source.left c.next_of.new.source) c.next_of.result)
+    (Tells c.next_of.new.buffer (g.R.Source.left c.next_of.new.source) c.next_of.result)
 told g c = told_more _ _ _ _ _ _ c.next_of.result c.in_ok-heading.ensures.took c.next_of.ensures.tells
 
 pub returns-clause-request : goal.returns-clause-request
