@@ -8,7 +8,6 @@ use Rattle.std.specs.BTreeMap.{is_at}
 use Rattle.std.proofs.lemmas.Bool.{and_parts, and_from, eqb-true, eqb-false}
 use Rattle.std.proofs.lemmas.Option.{get_or_from_slice_get}
 use Rattle.std.proofs.lemmas.Slice.Eq.{bytes_eq-Decides}
-use Rattle.office_base.specs.declared.version_id.VersionId.TheVariants as id
 use Rattle.plain_office.specs.Office.{Booked}
 use Rattle.plain_office.specs.Books.{is_open_stay, same_item}
 use Rattle.office_laws.proofs.Maps.{bytes_itself}

@@ -1,6 +1,6 @@
 -- What the plan of a command books is what the plain office tells.
 use Rattle.std.proofs.Common.{◌≡◌, ℕ, List, [], ◌∷◌, ◌++◌, fold, refl, ap, sym, ◌∙◌, subst, Bool, true, false, cond}
-use Rattle.std.specs.Prelude.{Option, Some, None, Result, Ok, Err, ◌+◌, option_map, option_to_list, not}
+use Rattle.std.specs.Prelude.{Option, Some, None, Result, Ok, Err, option_map, option_to_list, not}
 use Rattle.std.specs.Option.{ok_or}
 use Rattle.std.proofs.lemmas.Bool.{eqb-true}
 use Rattle.class_rules.specs.Lines.{object_lines}

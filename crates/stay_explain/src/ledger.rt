@@ -1,5 +1,5 @@
 // The office after the entries that were read, and the stays of each of its buckets.
-ghost use Rattle.std.specs.Prelude.{◌≡◌, ◌<◌, ◌++◌, ◌∷◌, [], ℕ, List, IfErr, IfOk, IfSome, OnOk, Ok, true};
+ghost use Rattle.std.specs.Prelude.{◌≡◌, ◌<◌, ◌++◌, ◌∷◌, [], List, IfErr, IfOk, IfSome, OnOk};
 ghost use Rattle.office_base.specs.Maps.{at_name, with_name};
 ghost use Rattle.office_types.specs.declared.command.Entry.{Entry};
 ghost use Rattle.bucket_account.specs.Standing.{most_commands};
