@@ -4,8 +4,6 @@
 mod meters;
 mod monthly;
 mod rows;
-#[cfg(test)]
-mod tests;
 
 pub use meters::Meters;
 pub use monthly::MonthSums;

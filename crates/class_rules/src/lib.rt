@@ -3,8 +3,6 @@
 
 mod billing;
 mod class;
-#[cfg(test)]
-mod tests;
 
 pub use billing::{Lines, billed, marker_lines, part_lines};
 pub use class::{Class, least_duration, may_go, names_differ, rank};

@@ -4,8 +4,6 @@
 mod laws;
 mod line;
 mod numbers;
-#[cfg(test)]
-mod tests;
 mod words;
 
 pub use laws::{exact_numbers, workers_in_range};

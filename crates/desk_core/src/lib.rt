@@ -9,8 +9,6 @@ mod fault;
 mod reopening;
 mod taking;
 mod taking_turns;
-#[cfg(test)]
-mod tests;
 
 pub use acked::Acked;
 pub use clock::{Clock, ListClock, SystemClock};

@@ -6,8 +6,6 @@ mod disk;
 mod file_disk;
 mod memory;
 mod pending;
-#[cfg(test)]
-mod tests;
 
 pub use disk::{Disk, FileNo};
 pub use file_disk::FileDisk;

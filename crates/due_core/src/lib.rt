@@ -7,8 +7,6 @@ mod bucket;
 mod found;
 mod kept;
 mod laws;
-#[cfg(test)]
-mod tests;
 mod walk;
 
 pub use action::{Action, ActionKind, Candidate, Target};

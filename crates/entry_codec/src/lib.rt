@@ -12,8 +12,6 @@ mod months;
 mod prices;
 mod reading;
 mod rules;
-#[cfg(test)]
-mod tests;
 mod writing;
 
 pub use fault::EntryFault;

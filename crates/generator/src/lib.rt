@@ -7,8 +7,6 @@ mod draws;
 mod generating;
 mod place;
 mod tally;
-#[cfg(test)]
-mod tests;
 mod work;
 
 pub use generating::generate;

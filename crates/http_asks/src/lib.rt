@@ -10,8 +10,6 @@ mod month_asks;
 mod object_asks;
 mod parts;
 mod reader;
-#[cfg(test)]
-mod tests;
 mod upload_asks;
 
 pub use bad::Bad;

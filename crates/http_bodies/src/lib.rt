@@ -7,8 +7,6 @@ mod multipart;
 mod put;
 mod ranges;
 mod settings;
-#[cfg(test)]
-mod tests;
 
 pub use fault::BodyFault;
 pub use multipart::{UploadBody, read_part, read_upload};

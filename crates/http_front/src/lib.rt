@@ -10,8 +10,6 @@ mod refusing;
 mod replies;
 mod talking;
 mod teller;
-#[cfg(test)]
-mod tests;
 mod texts;
 mod writer_replies;
 

@@ -5,8 +5,6 @@ mod keys;
 mod laws;
 mod route;
 mod routes;
-#[cfg(test)]
-mod tests;
 
 pub use keys::read_key;
 pub use laws::one_route;

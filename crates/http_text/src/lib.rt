@@ -11,8 +11,6 @@ mod refusals;
 mod room;
 mod stack_body;
 mod tag_body;
-#[cfg(test)]
-mod tests;
 mod upload_body;
 
 pub use printing::{is_short, print_answer, put_answer, put_head};

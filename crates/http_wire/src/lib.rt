@@ -11,8 +11,6 @@ mod memory_source;
 mod message;
 mod reading;
 mod source;
-#[cfg(test)]
-mod tests;
 
 pub use buffer::Buffer;
 pub use framing::FramingRefusal;

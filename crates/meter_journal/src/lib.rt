@@ -11,8 +11,6 @@ mod laws;
 mod making;
 mod opening;
 mod reading;
-#[cfg(test)]
-mod tests;
 
 pub use bytes::{frame, made};
 pub use fault::OpenFault;

@@ -7,8 +7,6 @@ mod due;
 mod moment;
 mod month;
 mod print;
-#[cfg(test)]
-mod tests;
 
 pub use date::{midnights_read_back, read_date, read_month};
 pub use due::{due_after, next_midnights, up};

@@ -8,8 +8,6 @@ mod key;
 mod refusal;
 mod size;
 mod tags;
-#[cfg(test)]
-mod tests;
 mod text;
 mod version_id;
 

@@ -6,7 +6,5 @@ mod commands;
 mod office;
 mod queries;
 mod reports;
-#[cfg(test)]
-mod tests;
 
 pub use office::Office;

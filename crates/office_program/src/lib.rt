@@ -9,8 +9,6 @@ mod report;
 mod run;
 mod saying;
 mod serve;
-#[cfg(test)]
-mod serve_tests;
 mod stays;
 
 pub use lines::refuse_words;

@@ -5,8 +5,6 @@ mod laws;
 mod parts;
 mod shape;
 mod table;
-#[cfg(test)]
-mod tests;
 
 pub use laws::one_answer;
 pub use parts::Parts;

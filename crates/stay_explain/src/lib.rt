@@ -11,8 +11,6 @@ mod printing;
 mod row;
 mod stays;
 mod table;
-#[cfg(test)]
-mod tests;
 mod working;
 
 pub use explaining::explain;

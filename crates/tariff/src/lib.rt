@@ -5,8 +5,6 @@ mod charges;
 mod fault;
 mod prices;
 mod read;
-#[cfg(test)]
-mod tests;
 
 pub use charges::{a_charge_is_the_whole_part, charge, move_charge};
 pub use fault::{TariffFault, TariffTable};

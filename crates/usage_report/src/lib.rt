@@ -4,8 +4,6 @@
 mod csv_text;
 mod names;
 mod table;
-#[cfg(test)]
-mod tests;
 
 pub use csv_text::report_csv;
 pub use table::report_text;

@@ -1,0 +1,450 @@
+use desk_core::{Clock, Desk, DeskFault, ListClock, SystemClock};
+use class_rules::Class;
+use disk_core::{Disk, FileNo, MemoryDisk};
+use meter_journal::{OpenFault, read_all};
+use moments::Month;
+use office_base::{BucketName, Key, Size, Tags, VersionId};
+use office_types::{Ask, Command, Query, Refusal, Reply};
+use std::alloc::Global;
+use std::io;
+use std::process::Abort;
+use std::test::Fail;
+use std::time::{Clock as SystemTimes, Duration};
+
+// 2024-01-01 00:00 UTC.
+const J0: u64 = 1_704_067_200_000;
+
+// 2100-01-01 00:00 UTC.
+const END: u64 = 4_102_444_800_000;
+
+const DAY: u64 = 86_400_000;
+
+const EMPTY: [u8; 11] = [
+    0xA5, 0x4D, 0x45, 0x54, 0x45, 0x52, 0x4A, 0x52, 0x4E, 0x31, 0,
+];
+
+// The bucket logs, made at J0.
+const LOGS: [u8; 31] = [
+    0xA5, 0x4D, 0x45, 0x54, 0x45, 0x52, 0x4A, 0x52, 0x4E, 0x31, 0xA5, 0, 0, 0, 15, 0, 0, 0x01,
+    0x8C, 0xC2, 0x51, 0xF4, 0x00, 0x01, 0, 4, 0x6C, 0x6F, 0x67, 0x73, 0,
+];
+
+// The bucket logs, made one millisecond before 2100-01-01 00:00 UTC.
+const LATE: [u8; 31] = [
+    0xA5, 0x4D, 0x45, 0x54, 0x45, 0x52, 0x4A, 0x52, 0x4E, 0x31, 0xA5, 0, 0, 0, 15, 0, 0, 0x03,
+    0xBB, 0x2C, 0xC3, 0xD7, 0xFF, 0x01, 0, 4, 0x6C, 0x6F, 0x67, 0x73, 0,
+];
+
+// The frame of the bucket data, made at J0, behind its gate, with the next gate.
+const DATA_FRAME: [u8; 20] = [
+    0, 0, 0, 15, 0, 0, 0x01, 0x8C, 0xC2, 0x51, 0xF4, 0x00, 0x01, 0, 4, 0x64, 0x61, 0x74, 0x61, 0,
+];
+
+// The same, made one millisecond before J0.
+const BEFORE_FRAME: [u8; 20] = [
+    0, 0, 0, 15, 0, 0, 0x01, 0x8C, 0xC2, 0x51, 0xF3, 0xFF, 0x01, 0, 4, 0x64, 0x61, 0x74, 0x61, 0,
+];
+
+// A journal file with these bytes. The write is the first call of its disk.
+fn disk_with(alloc: Global, bytes: &[u8], failing: &[u64]) -> Result<MemoryDisk, Fail> {
+    let mut disk = MemoryDisk::new(alloc, failing.to_vec(alloc)?);
+    disk.write_at(FileNo::Journal, 0, bytes)?;
+    Ok(disk)
+}
+
+// The bytes of the bucket logs, with a further frame behind them.
+fn logs_and(alloc: Global, frame: &[u8]) -> Result<Vec<u8>, Fail> {
+    let mut bytes = LOGS[..30].to_vec(alloc)?;
+    bytes.push(0xA5)?;
+    bytes.extend_from_slice(frame)?;
+    Ok(bytes)
+}
+
+// What a desk is asked, of a bucket with this name.
+#[derive(Clone, Copy, Debug)]
+enum Wish {
+    Make(&'static str),
+    Show(&'static str),
+    // A put of this many bytes under the key a.
+    Put(&'static str, u64),
+    // The meters of January 2024.
+    January(&'static str),
+}
+
+fn asked(alloc: Global, wish: Wish) -> Result<Ask, Fail> {
+    let (Wish::Make(name) | Wish::Show(name) | Wish::Put(name, _) | Wish::January(name)) = wish;
+    let bucket = BucketName::read(alloc, name)?;
+    let ask = match wish {
+        Wish::Make(_) => Ask::Command(Command::CreateBucket { bucket }),
+        Wish::Show(_) => Ask::Query(Query::Bucket(bucket)),
+        Wish::Put(_, size) => Ask::Command(Command::Put {
+            bucket,
+            key: Key::read(alloc, b"a")?,
+            size: Size::of(size)?,
+            class: Class::Standard,
+            tags: Tags::read(alloc, Vec::new(alloc))?,
+        }),
+        Wish::January(_) => {
+            let Some(month) = Month::of(2024, 1) else {
+                return Err(Fail::new("no month"));
+            };
+            Ask::Query(Query::Meters(bucket, month))
+        }
+    };
+    Ok(ask)
+}
+
+// What was answered, without the names.
+#[derive(Clone, Copy, Debug, PartialEq, Eq)]
+enum Heard {
+    Made,
+    // The moment of a put of the null version.
+    Stored(u64),
+    // How many versions.
+    Shown(u32),
+    // The byte-milliseconds in STANDARD.
+    Standard(u128),
+    // The bucket is there.
+    There,
+    // There is no such bucket.
+    Missing,
+    // The moment that is not below the end of time.
+    Ended(u64),
+    Other,
+}
+
+// The answer, and the position of the journal's end.
+type Said = Result<(Heard, u64), DeskFault>;
+
+fn reply_of(reply: &Result<Reply, Refusal>) -> Heard {
+    match reply {
+        Ok(Reply::BucketMade { .. }) => Heard::Made,
+        Ok(
+            Reply::Stored {
+                moment,
+                version: VersionId::Null,
+            },
+        ) => Heard::Stored(moment.ms()),
+        Ok(Reply::Stored { .. }) => Heard::Other,
+        Ok(Reply::BucketShown { versions, .. }) => Heard::Shown(*versions),
+        Ok(Reply::MetersShown { classes, .. }) => Heard::Standard(classes[0].byte_ms),
+        Err(Refusal::BucketExists) => Heard::There,
+        Err(Refusal::NoSuchBucket) => Heard::Missing,
+        Err(Refusal::ClockEnd { moment }) => Heard::Ended(*moment),
+        _ => Heard::Other,
+    }
+}
+
+// What the desk says, and whether it is stale then.
+fn answer(desk: &mut Desk<MemoryDisk, ListClock>, ask: &Ask) -> (Said, bool) {
+    let said = match desk.submit(ask) {
+        Ok(acked) => Ok((reply_of(acked.reply()), acked.position())),
+        Err(fault) => Err(fault),
+    };
+    (said, desk.stale())
+}
+
+// A wish, with what the desk says and whether it is stale then.
+type Turn = (Wish, Said, bool);
+
+// Opens a desk over this disk and a clock that tells these numbers, takes the turns, and gives the disk back, with
+// the fault where the desk is not opened.
+fn take_turns(
+    rt: &impl Abort,
+    alloc: Global,
+    disk: MemoryDisk,
+    numbers: &[u64],
+    limit: u64,
+    turns: &[Turn],
+) -> Result<(Option<OpenFault>, MemoryDisk), Fail> {
+    let clock = ListClock::new(numbers.to_vec(alloc)?);
+    match Desk::open(alloc, disk, clock, limit.min(1 << 45)) {
+        Err((fault, disk, _)) => Ok((Some(fault), disk)),
+        Ok(mut desk) => {
+            for (wish, said, stale) in turns {
+                let found = answer(&mut desk, &asked(alloc, *wish)?);
+                assert_eq!(rt; found, (*said, *stale), "{wish:?}, limit {limit}");
+            }
+            Ok((None, desk.finish().0))
+        }
+    }
+}
+
+const MAKE: Wish = Wish::Make("logs");
+
+const SHOW: Wish = Wish::Show("logs");
+
+// What is said of the bucket logs, behind whose entry the journal ends at 30.
+const MADE: Said = Ok((Heard::Made, 30));
+
+const THERE: Said = Ok((Heard::There, 30));
+
+// The clock is at its end; and the store failed in the first command.
+const ENDED: Heard = Heard::Ended(END);
+
+const LOST: Said = Err(DeskFault::StoreFault {
+    told: Some(J0),
+    faults: 1,
+});
+
+#[test]
+fn a_bucket_is_made_once_and_within_the_limit(rt: HostRuntime) -> Result<(), Fail> {
+    let alloc = rt.alloc();
+    let full: Said = Err(DeskFault::JournalFull);
+    let ended: Said = Ok((ENDED, 10));
+    let past: Said = Ok((Heard::Ended(u64::MAX), 10));
+    // The clock's number, the limit, what is told twice, and the bytes of the file then.
+    for (number, limit, first, second, file) in [
+        (J0, 30, full, full, &EMPTY[..]),
+        (J0, 31, MADE, full, &LOGS[..]),
+        (J0, 50, MADE, full, &LOGS[..]),
+        (J0, 51, MADE, THERE, &LOGS[..]),
+        (END - 1, 51, MADE, THERE, &LATE[..]),
+        // At the end of time nothing is done, and the limit is not looked at.
+        (END, 30, ended, ended, &EMPTY[..]),
+        (u64::MAX, 51, past, past, &EMPTY[..]),
+    ] {
+        let disk = disk_with(alloc, &EMPTY, &[])?;
+        let turns = [(MAKE, first, false), (MAKE, second, false)];
+        let (fault, mut disk) = take_turns(&rt, alloc, disk, &[number], limit, &turns)?;
+        assert_eq!(rt; fault, None, "limit {limit}");
+        assert!(rt;
+            read_all(alloc, &mut disk)?.as_slice() == file,
+            "limit {limit}"
+        );
+    }
+    Ok(())
+}
+
+#[test]
+fn a_journal_is_opened_where_the_office_accepts_it(rt: HostRuntime) -> Result<(), Fail> {
+    let alloc = rt.alloc();
+    let twice = logs_and(alloc, &LOGS[11..])?;
+    let back = logs_and(alloc, &BEFORE_FRAME)?;
+    let cut = logs_and(alloc, &DATA_FRAME[..19])?;
+    let both = logs_and(alloc, &DATA_FRAME)?;
+    let damaged = Some(OpenFault::Damaged { offset: 30 });
+    let there = Heard::There;
+    for (file, fault, data) in [
+        (&[][..], Some(OpenFault::NotMade), there),
+        (b"METERJRN1 is its mark", Some(OpenFault::Foreign), there),
+        (twice.as_slice(), damaged, there),
+        (back.as_slice(), damaged, there),
+        (cut.as_slice(), damaged, there),
+        (both.as_slice(), None, there),
+        (&LOGS[..], None, Heard::Made),
+    ] {
+        let disk = disk_with(alloc, file, &[])?;
+        let end = (file.len() as u64).saturating_sub(1);
+        // The clock tells 0, and the entry has the moment of the one before.
+        let turns = [
+            (MAKE, Ok((there, end)), false),
+            (Wish::Make("data"), Ok((data, 50)), false),
+        ];
+        let (found, mut disk) = take_turns(&rt, alloc, disk, &[], 1 << 45, &turns)?;
+        assert_eq!(rt; found, fault, "a file that ends at {end}");
+        let left = if fault.is_none() {
+            both.as_slice()
+        } else {
+            file
+        };
+        assert!(rt;
+            read_all(alloc, &mut disk)?.as_slice() == left,
+            "a file that ends at {end}"
+        );
+    }
+    Ok(())
+}
+
+#[test]
+fn a_fault_of_the_store_is_told(rt: HostRuntime) -> Result<(), Fail> {
+    let alloc = rt.alloc();
+    // Calls 2 to 5 open the journal: a sync, the length, the head, the first gate. Calls 6 to 11 add the entry: three
+    // writes, a sync, the gate, a sync.
+    for call in 2..12 {
+        let disk = disk_with(alloc, &EMPTY, &[call])?;
+        let turns = [(MAKE, LOST, true)];
+        let (fault, mut disk) = take_turns(&rt, alloc, disk, &[J0], 100, &turns)?;
+        let want = if call < 6 {
+            Some(OpenFault::StoreFault)
+        } else {
+            None
+        };
+        assert_eq!(rt; fault, want, "call {call}");
+        assert_eq!(rt; disk.faults(), 1, "call {call}");
+        // Opened again, the office has the bucket exactly where the gate of its entry is open.
+        let is_open = read_all(alloc, &mut disk)?.get(10) == Some(&0xA5);
+        let turns = [(MAKE, if is_open { THERE } else { MADE }, false)];
+        let (fault, _) = take_turns(&rt, alloc, disk, &[J0], 100, &turns)?;
+        assert_eq!(rt; fault, None, "call {call}");
+    }
+    Ok(())
+}
+
+// The calls of the disk that fail, over an empty journal; what the clock tells; and the turns.
+type Row = (&'static [u64], &'static [u64], &'static [Turn]);
+
+const ADDING: Turn = (MAKE, LOST, true);
+
+const OPENING: Turn = (
+    MAKE,
+    Err(DeskFault::StoreFault {
+        told: None,
+        faults: 2,
+    }),
+    true,
+);
+
+const NEW: Turn = (MAKE, MADE, false);
+
+const OLD: Turn = (MAKE, THERE, false);
+
+const EMPTY_SHOWN: Turn = (SHOW, Ok((Heard::Shown(0), 30)), false);
+
+const PUT: Wish = Wish::Put("logs", 1_000);
+
+// Call 9 syncs the frame of the first command, call 11 its gate, and call 12 the journal that is opened again.
+const STALE: [Row; 4] = [
+    (&[9], &[J0], &[ADDING, NEW, OLD]),
+    (&[11], &[J0], &[ADDING, OLD, OLD]),
+    (&[9, 12], &[J0], &[ADDING, OPENING, NEW]),
+    (&[11, 12], &[J0], &[ADDING, OPENING, OLD]),
+];
+
+// An entry of a put ends 33 bytes behind the one before it.
+const CLOCKS: [Row; 3] = [
+    (
+        &[],
+        &[J0, J0, END, J0],
+        &[NEW, EMPTY_SHOWN, (PUT, Ok((ENDED, 30)), false), EMPTY_SHOWN],
+    ),
+    (
+        &[],
+        &[END, END, END, END],
+        &[
+            (MAKE, Ok((ENDED, 10)), false),
+            (SHOW, Ok((ENDED, 10)), false),
+            (PUT, Ok((ENDED, 10)), false),
+            (SHOW, Ok((ENDED, 10)), false),
+        ],
+    ),
+    (
+        &[],
+        &[J0 + 5, J0, J0, J0],
+        &[
+            NEW,
+            EMPTY_SHOWN,
+            (PUT, Ok((Heard::Stored(J0 + 5), 63)), false),
+            (SHOW, Ok((Heard::Shown(1), 63)), false),
+        ],
+    ),
+];
+
+// Call 12 would be the first one behind the entry of the bucket, and it fails.
+const QUERIES: [Row; 1] = [(
+    &[12],
+    &[J0],
+    &[
+        NEW,
+        EMPTY_SHOWN,
+        (Wish::Show("data"), Ok((Heard::Missing, 30)), false),
+        (PUT, LOST, true),
+    ],
+)];
+
+fn assert_rows(rt: &impl Abort, alloc: Global, rows: &[Row]) -> Result<(), Fail> {
+    for (failing, numbers, turns) in rows {
+        let disk = disk_with(alloc, &EMPTY, *failing)?;
+        let (fault, _) = take_turns(rt, alloc, disk, *numbers, 1 << 20, *turns)?;
+        assert_eq!(rt; fault, None);
+    }
+    Ok(())
+}
+
+#[test]
+fn a_stale_desk_opens_its_journal_again(rt: HostRuntime) -> Result<(), Fail> {
+    assert_rows(&rt, rt.alloc(), &STALE)
+}
+
+#[test]
+fn the_clock_ends_and_does_not_go_back(rt: HostRuntime) -> Result<(), Fail> {
+    assert_rows(&rt, rt.alloc(), &CLOCKS)
+}
+
+#[test]
+fn a_query_makes_no_call_of_the_disk(rt: HostRuntime) -> Result<(), Fail> {
+    assert_rows(&rt, rt.alloc(), &QUERIES)
+}
+
+#[test]
+fn meters_are_the_same_after_an_opening(rt: HostRuntime) -> Result<(), Fail> {
+    let alloc = rt.alloc();
+    let disk = disk_with(alloc, &EMPTY, &[])?;
+    // 1,000 bytes for a day, and 2,000 bytes for another.
+    let used = (
+        Wish::January("logs"),
+        Ok((Heard::Standard(259_200_000_000), 96)),
+        false,
+    );
+    let turns = [
+        (MAKE, MADE, false),
+        (Wish::Put("logs", 1_000), Ok((Heard::Stored(J0), 63)), false),
+        (
+            Wish::Put("logs", 2_000),
+            Ok((Heard::Stored(J0 + DAY), 96)),
+            false,
+        ),
+        used,
+    ];
+    let numbers = [J0, J0, J0 + DAY, J0 + 2 * DAY];
+    let (fault, disk) = take_turns(&rt, alloc, disk, &numbers, 1 << 20, &turns)?;
+    assert_eq!(rt; fault, None);
+    let (fault, _) = take_turns(&rt, alloc, disk, &[J0 + 2 * DAY], 1 << 20, &[used])?;
+    assert_eq!(rt; fault, None);
+    Ok(())
+}
+
+/// A machine's clock that stands still, or does not answer.
+#[derive(Drop)]
+struct Stopped {
+    at: Option<Duration>,
+}
+
+impl SystemTimes for Stopped {
+    fn monotonic(&self) -> io::Result<Duration> {
+        self.since_1970()
+    }
+
+    fn since_1970(&self) -> io::Result<Duration> {
+        match self.at {
+            Some(at) => Ok(at),
+            None => Err(io::Error::from(io::ErrorKind::Unsupported)),
+        }
+    }
+}
+
+fn tell<C: Clock>(clock: &mut C) -> u64 {
+    clock.now()
+}
+
+#[test]
+fn clocks_tell_milliseconds(rt: HostRuntime) -> Result<(), Fail> {
+    let alloc = rt.alloc();
+    for (moments, told) in [
+        (&[5, 3, 9][..], [5, 3, 9, 9, 9]),
+        (&[7][..], [7, 7, 7, 7, 7]),
+        (&[][..], [0, 0, 0, 0, 0]),
+    ] {
+        let mut clock = ListClock::new(moments.to_vec(alloc)?);
+        for number in told {
+            assert_eq!(rt; tell(&mut clock), number);
+        }
+    }
+    // 2024-01-01 00:00 UTC and 5,999,999 nanoseconds.
+    let at = Some(Duration::new(1_704_067_200, 5_999_999));
+    assert_eq!(rt; tell(&mut SystemClock::new(Stopped { at })), J0 + 5);
+    assert_eq!(rt; tell(&mut SystemClock::new(Stopped { at: None })), u64::MAX);
+    // The machine's own clock is past that day.
+    assert!(rt; J0 < tell(&mut SystemClock::new(rt)));
+    Ok(())
+}

@@ -1,0 +1,556 @@
+ghost use Rattle.std.specs.Prelude.{◌≡◌};
+ghost use Rattle.plain_office.specs.Run.{is_not_before};
+
+use office_machine::Office;
+use class_rules::Class;
+use moments::{Moment, Month};
+use office_base::{BucketName, Key, Size, Tags, VersionId};
+use office_types::{ClassMeters, Command, Query, Refusal, Reply, What};
+use std::alloc::Global;
+use std::marker::Model;
+use std::process::Abort;
+use std::test::Fail;
+
+// 2024-01-01 00:00 UTC, and the milliseconds of a day.
+const NEW_YEAR: u64 = 1_704_067_200_000;
+
+const DAY: u64 = 86_400_000;
+
+// What an office is asked, of a bucket with this name.
+#[derive(Clone, Copy, Debug)]
+enum Wish<'a> {
+    Make(&'a str),
+    // A put under this key, of this many bytes.
+    Put(&'a str, &'a str, u64, Class),
+    // A put of one byte under this key, with this many tags.
+    Tagged(&'a str, &'a str, u64),
+    Show(&'a str),
+    // The meters of this month of a year.
+    Meters(&'a str, u16, u8),
+}
+
+// What was used of STANDARD and STANDARD_IA in byte-milliseconds, and the early quantity of the latter; nothing else.
+#[derive(Clone, Copy, Debug, PartialEq, Eq)]
+struct Used {
+    standard: u128,
+    infrequent: u128,
+    early: u128,
+}
+
+// What was answered.
+#[derive(Clone, Copy, Debug, PartialEq, Eq)]
+enum Heard {
+    Made,
+    Stored,
+    // How many versions.
+    Shown(u32),
+    Metered(Used),
+    Exists,
+    Missing,
+    Full(What, u64),
+    // Another refusal, or a reply to something else.
+    Other,
+}
+
+fn month_of(year: u16, number: u8) -> Result<Month, Fail> {
+    match Month::of(year, number) {
+        Some(month) => Ok(month),
+        None => Err(Fail::new("no month")),
+    }
+}
+
+// An office to which few commands have led.
+#[derive(Drop)]
+struct Tried {
+    office: Office,
+    asked: u64,
+}
+
+impl Model for Tried {
+    ghost use Rattle.std.specs.Prelude.{◌≤◌};
+    ghost use Rattle.office_machine.specs.Standing.{Records};
+
+    ghost Value = { Records };
+
+    ghost view = { λ t. t.office };
+
+    ghost invariant = { λ t. t.office.accepted ≤ t.asked };
+}
+
+// As many tags, with different keys.
+fn tags(alloc: Global, number: u64) -> Result<Tags, Fail> {
+    let mut pairs = Vec::new(alloc);
+    for n in 0..number {
+        pairs.push((format!(in alloc; "key-{n}")?, format!(in alloc; "value")?))?;
+    }
+    Ok(Tags::read(alloc, pairs)?)
+}
+
+impl Tried {
+    fn new(alloc: Global) -> Tried {
+        Tried {
+            office: Office::new(alloc),
+            asked: 0,
+        }
+    }
+
+    // Does what is wished, and gives what was answered.
+    fn turn(
+        &mut self,
+        rt: &impl Abort,
+        alloc: Global,
+        ms: u64,
+        wish: Wish<'_>,
+    ) -> Result<Heard, Fail> {
+        let (Wish::Make(name)
+        | Wish::Put(name, ..)
+        | Wish::Tagged(name, ..)
+        | Wish::Show(name)
+        | Wish::Meters(name, ..)) = wish;
+        let bucket = BucketName::read(alloc, name)?;
+        let moment = Moment::of(ms)?;
+        let said = match wish {
+            Wish::Make(_) => self.ask(rt, moment, &Command::CreateBucket { bucket }),
+            Wish::Put(_, key, size, class) => {
+                let command = Command::Put {
+                    bucket,
+                    key: Key::read(alloc, key.as_bytes())?,
+                    size: Size::of(size)?,
+                    class,
+                    tags: tags(alloc, 0)?,
+                };
+                self.ask(rt, moment, &command)
+            }
+            Wish::Tagged(_, key, number) => {
+                let command = Command::Put {
+                    bucket,
+                    key: Key::read(alloc, key.as_bytes())?,
+                    size: Size::of(1)?,
+                    class: Class::Standard,
+                    tags: tags(alloc, number)?,
+                };
+                self.ask(rt, moment, &command)
+            }
+            Wish::Show(_) => self.show(rt, moment, &Query::Bucket(bucket)),
+            Wish::Meters(_, year, number) => {
+                self.show(rt, moment, &Query::Meters(bucket, month_of(year, number)?))
+            }
+        };
+        Ok(answer_of(&said, ms, wish))
+    }
+
+    fn ask(
+        &mut self,
+        rt: &impl Abort,
+        moment: Moment,
+        command: &Command,
+    ) -> Result<Reply, Refusal> {
+        assert!(rt; self.is_later(moment));
+        assert!(rt; self.asked < 1_000_000);
+        self.asked += 1;
+        self.office.apply(moment, command)
+    }
+
+    fn show(&self, rt: &impl Abort, moment: Moment, query: &Query) -> Result<Reply, Refusal> {
+        assert!(rt; self.is_later(moment));
+        self.office.answer(moment, query)
+    }
+
+    // The moment is not before the last one.
+    fn is_later(&self, moment: Moment) -> bool
+        ensures { result ≡ is_not_before self.now.last moment }
+    {
+        match self.office.last() {
+            Some(last) => last.ms() <= moment.ms(),
+            None => true,
+        }
+    }
+
+    fn last_ms(&self) -> Option<u64> {
+        match self.office.last() {
+            Some(last) => Some(last.ms()),
+            None => None,
+        }
+    }
+}
+
+fn answer_of(said: &Result<Reply, Refusal>, ms: u64, wish: Wish<'_>) -> Heard {
+    let reply = match said {
+        Ok(reply) => reply,
+        Err(refusal) => return refused(refusal),
+    };
+    let (what, is_so) = match (reply, wish) {
+        (Reply::BucketMade { bucket }, Wish::Make(name)) => (Heard::Made, bucket.text() == name),
+        (Reply::Stored { moment, version }, Wish::Put(..) | Wish::Tagged(..)) => {
+            (
+                Heard::Stored,
+                moment.ms() == ms && *version == VersionId::Null,
+            )
+        }
+        (
+            Reply::BucketShown {
+                bucket,
+                versions,
+                rules,
+                uploads,
+                ..
+            },
+            Wish::Show(name),
+        ) => {
+            (
+                Heard::Shown(*versions),
+                bucket.text() == name && *rules == 0 && *uploads == 0,
+            )
+        }
+        (
+            Reply::MetersShown {
+                bucket,
+                month,
+                classes,
+            },
+            Wish::Meters(name, year, number),
+        ) => {
+            let is_month = month.year() == year && month.month() == number;
+            (metered(classes), is_month && bucket.text() == name)
+        }
+        _ => (Heard::Other, true),
+    };
+    if is_so { what } else { Heard::Other }
+}
+
+fn refused(refusal: &Refusal) -> Heard {
+    match refusal {
+        Refusal::BucketExists => Heard::Exists,
+        Refusal::NoSuchBucket => Heard::Missing,
+        Refusal::Full { what, limit } => Heard::Full(*what, *limit),
+        _ => Heard::Other,
+    }
+}
+
+fn metered(meters: &[ClassMeters; 6]) -> Heard {
+    let used = Used {
+        standard: meters[0].byte_ms,
+        infrequent: meters[1].byte_ms,
+        early: meters[1].early_byte_ms,
+    };
+    let classes = [
+        Class::Standard,
+        Class::StandardIa,
+        Class::OnezoneIa,
+        Class::GlacierIr,
+        Class::Glacier,
+        Class::DeepArchive,
+    ];
+    for (meters, class) in meters.iter().zip(classes) {
+        if *meters != used.of(class) {
+            return Heard::Other;
+        }
+    }
+    Heard::Metered(used)
+}
+
+impl Used {
+    fn of(self, class: Class) -> ClassMeters {
+        let (byte_ms, early_byte_ms) = match class {
+            Class::Standard => (self.standard, 0),
+            Class::StandardIa => (self.infrequent, self.early),
+            _ => (0, 0),
+        };
+        ClassMeters {
+            class,
+            byte_ms,
+            early_byte_ms,
+            moves: 0,
+        }
+    }
+}
+
+// The moment, what is wished then, what is answered, and the moment of the last accepted command after it.
+type Row = (u64, Wish<'static>, Heard, u64);
+
+fn assert_rows(rt: &impl Abort, alloc: Global, rows: &[Row]) -> Result<(), Fail> {
+    let mut tried = Tried::new(alloc);
+    assert_eq!(rt; tried.last_ms(), None);
+    for (ms, wish, answer, last) in rows {
+        assert_eq!(rt;
+            tried.turn(rt, alloc, *ms, *wish)?,
+            *answer,
+            "{wish:?} at {ms}"
+        );
+        assert_eq!(rt; tried.last_ms(), Some(*last), "after {wish:?} at {ms}");
+    }
+    Ok(())
+}
+
+const MADE: Heard = Heard::Made;
+
+const EXISTS: Heard = Heard::Exists;
+
+const MISSING: Heard = Heard::Missing;
+
+const STANDARD: Class = Class::Standard;
+
+const LOGS: Wish<'static> = Wish::Show("logs");
+
+const DATA: Wish<'static> = Wish::Show("data");
+
+const NAMES: [Row; 8] = [
+    (5, Wish::Make("logs"), MADE, 5),
+    (5, Wish::Make("data"), MADE, 5),
+    (6, Wish::Make("logs"), EXISTS, 5),
+    (7, Wish::Make("zoo"), MADE, 7),
+    (8, Wish::Make("data"), EXISTS, 7),
+    (9, Wish::Make("log"), MADE, 9),
+    (9, Wish::Make("logs-2"), MADE, 9),
+    (10, Wish::Make("logs"), EXISTS, 9),
+];
+
+#[test]
+fn a_name_is_taken_once(rt: HostRuntime) -> Result<(), Fail> {
+    assert_rows(&rt, rt.alloc(), &NAMES)
+}
+
+const PUTS: [Row; 24] = [
+    (5, Wish::Make("logs"), MADE, 5),
+    (5, Wish::Make("data"), MADE, 5),
+    (6, Wish::Put("logs", "a", 1, STANDARD), Heard::Stored, 6),
+    (6, LOGS, Heard::Shown(1), 6),
+    (6, DATA, Heard::Shown(0), 6),
+    (6, Wish::Put("logs", "b", 1, STANDARD), Heard::Stored, 6),
+    (6, LOGS, Heard::Shown(2), 6),
+    (6, DATA, Heard::Shown(0), 6),
+    (7, Wish::Put("logs", "a", 1, STANDARD), Heard::Stored, 7),
+    (7, LOGS, Heard::Shown(2), 7),
+    (7, DATA, Heard::Shown(0), 7),
+    (8, Wish::Put("zoo", "a", 1, STANDARD), MISSING, 7),
+    (8, LOGS, Heard::Shown(2), 7),
+    (8, DATA, Heard::Shown(0), 7),
+    (9, Wish::Put("data", "a", 1, STANDARD), Heard::Stored, 9),
+    (9, LOGS, Heard::Shown(2), 9),
+    (9, DATA, Heard::Shown(1), 9),
+    (9, Wish::Put("log", "a", 1, STANDARD), MISSING, 9),
+    (9, LOGS, Heard::Shown(2), 9),
+    (9, DATA, Heard::Shown(1), 9),
+    (10, Wish::Put("logs", "a/b", 1, STANDARD), Heard::Stored, 10),
+    (10, LOGS, Heard::Shown(3), 10),
+    (10, DATA, Heard::Shown(1), 10),
+    (11, Wish::Show("zoo"), MISSING, 10),
+];
+
+#[test]
+fn versions_and_refusals(rt: HostRuntime) -> Result<(), Fail> {
+    assert_rows(&rt, rt.alloc(), &PUTS)
+}
+
+const TWO_PUTS: [Row; 8] = [
+    (NEW_YEAR, Wish::Make("logs"), MADE, NEW_YEAR),
+    (
+        NEW_YEAR,
+        Wish::Put("logs", "a", 1_000, STANDARD),
+        Heard::Stored,
+        NEW_YEAR,
+    ),
+    (
+        NEW_YEAR + DAY,
+        Wish::Put("logs", "a", 2_000, STANDARD),
+        Heard::Stored,
+        NEW_YEAR + DAY,
+    ),
+    (
+        NEW_YEAR + DAY,
+        Wish::Meters("logs", 2024, 1),
+        Heard::Metered(Used {
+            standard: 86_400_000_000,
+            infrequent: 0,
+            early: 0,
+        }),
+        NEW_YEAR + DAY,
+    ),
+    (
+        NEW_YEAR + 2 * DAY,
+        Wish::Meters("logs", 2024, 1),
+        Heard::Metered(Used {
+            standard: 259_200_000_000,
+            infrequent: 0,
+            early: 0,
+        }),
+        NEW_YEAR + DAY,
+    ),
+    (
+        NEW_YEAR + 2 * DAY,
+        Wish::Meters("logs", 2023, 12),
+        Heard::Metered(Used {
+            standard: 0,
+            infrequent: 0,
+            early: 0,
+        }),
+        NEW_YEAR + DAY,
+    ),
+    (
+        NEW_YEAR + 2 * DAY,
+        Wish::Meters("logs", 2024, 2),
+        Heard::Metered(Used {
+            standard: 0,
+            infrequent: 0,
+            early: 0,
+        }),
+        NEW_YEAR + DAY,
+    ),
+    (
+        NEW_YEAR + 32 * DAY,
+        Wish::Meters("logs", 2024, 2),
+        Heard::Metered(Used {
+            standard: 172_800_000_000,
+            infrequent: 0,
+            early: 0,
+        }),
+        NEW_YEAR + DAY,
+    ),
+];
+
+#[test]
+fn two_puts_a_day_apart(rt: HostRuntime) -> Result<(), Fail> {
+    assert_rows(&rt, rt.alloc(), &TWO_PUTS)
+}
+
+const REPLACED: [Row; 6] = [
+    (NEW_YEAR, Wish::Make("logs"), MADE, NEW_YEAR),
+    (
+        NEW_YEAR,
+        Wish::Put("logs", "a", 200_000, Class::StandardIa),
+        Heard::Stored,
+        NEW_YEAR,
+    ),
+    (
+        NEW_YEAR + 10 * DAY,
+        Wish::Put("logs", "a", 0, STANDARD),
+        Heard::Stored,
+        NEW_YEAR + 10 * DAY,
+    ),
+    (
+        NEW_YEAR + 10 * DAY,
+        Wish::Meters("logs", 2024, 1),
+        Heard::Metered(Used {
+            standard: 0,
+            infrequent: 172_800_000_000_000,
+            early: 345_600_000_000_000,
+        }),
+        NEW_YEAR + 10 * DAY,
+    ),
+    (
+        NEW_YEAR + 31 * DAY,
+        Wish::Meters("logs", 2024, 1),
+        Heard::Metered(Used {
+            standard: 0,
+            infrequent: 172_800_000_000_000,
+            early: 345_600_000_000_000,
+        }),
+        NEW_YEAR + 10 * DAY,
+    ),
+    (
+        NEW_YEAR + 31 * DAY,
+        Wish::Meters("logs", 2024, 2),
+        Heard::Metered(Used {
+            standard: 0,
+            infrequent: 0,
+            early: 0,
+        }),
+        NEW_YEAR + 10 * DAY,
+    ),
+];
+
+#[test]
+fn replaced_before_the_least_duration(rt: HostRuntime) -> Result<(), Fail> {
+    assert_rows(&rt, rt.alloc(), &REPLACED)
+}
+
+// 100 bytes in STANDARD_IA are billed as 131,072.
+const LEFT_EARLY: [Row; 4] = [
+    (NEW_YEAR, Wish::Make("logs"), MADE, NEW_YEAR),
+    (
+        NEW_YEAR,
+        Wish::Put("logs", "a", 100, Class::StandardIa),
+        Heard::Stored,
+        NEW_YEAR,
+    ),
+    (
+        NEW_YEAR + 10 * DAY,
+        Wish::Put("logs", "a", 0, STANDARD),
+        Heard::Stored,
+        NEW_YEAR + 10 * DAY,
+    ),
+    (
+        NEW_YEAR + 10 * DAY,
+        Wish::Meters("logs", 2024, 1),
+        Heard::Metered(Used {
+            standard: 0,
+            infrequent: 113_246_208_000_000,
+            early: 226_492_416_000_000,
+        }),
+        NEW_YEAR + 10 * DAY,
+    ),
+];
+
+const LEFT_AT_THE_LEAST_DURATION: [Row; 4] = [
+    (NEW_YEAR, Wish::Make("logs"), MADE, NEW_YEAR),
+    (
+        NEW_YEAR,
+        Wish::Put("logs", "a", 100, Class::StandardIa),
+        Heard::Stored,
+        NEW_YEAR,
+    ),
+    (
+        NEW_YEAR + 30 * DAY,
+        Wish::Put("logs", "a", 0, STANDARD),
+        Heard::Stored,
+        NEW_YEAR + 30 * DAY,
+    ),
+    (
+        NEW_YEAR + 30 * DAY,
+        Wish::Meters("logs", 2024, 1),
+        Heard::Metered(Used {
+            standard: 0,
+            infrequent: 339_738_624_000_000,
+            early: 0,
+        }),
+        NEW_YEAR + 30 * DAY,
+    ),
+];
+
+#[test]
+fn replaced_at_the_least_size(rt: HostRuntime) -> Result<(), Fail> {
+    assert_rows(&rt, rt.alloc(), &LEFT_EARLY)?;
+    assert_rows(&rt, rt.alloc(), &LEFT_AT_THE_LEAST_DURATION)
+}
+
+const TAGGED: [Row; 5] = [
+    (5, Wish::Make("logs"), MADE, 5),
+    (6, Wish::Tagged("logs", "a", 10), Heard::Stored, 6),
+    (7, Wish::Tagged("logs", "a", 1), Heard::Stored, 7),
+    (8, Wish::Tagged("logs", "b", 2), Heard::Stored, 8),
+    (9, LOGS, Heard::Shown(2), 8),
+];
+
+#[test]
+fn puts_with_tags(rt: HostRuntime) -> Result<(), Fail> {
+    assert_rows(&rt, rt.alloc(), &TAGGED)
+}
+
+#[test]
+fn a_thousand_buckets(rt: HostRuntime) -> Result<(), Fail> {
+    let alloc = rt.alloc();
+    let mut tried = Tried::new(alloc);
+    for number in 0u64..2_000 {
+        let name = format!(in alloc; "bucket-{}", 1_000 - number % 1_000)?;
+        let wanted = if number < 1_000 { MADE } else { EXISTS };
+        assert_eq!(rt;
+            tried.turn(&rt, alloc, 100, Wish::Make(&name))?,
+            wanted,
+            "{name}"
+        );
+    }
+    let full = Heard::Full(What::Buckets, 1_000);
+    assert_eq!(rt; tried.turn(&rt, alloc, 101, Wish::Make("one-more"))?, full);
+    assert_eq!(rt; tried.last_ms(), Some(100));
+    Ok(())
+}

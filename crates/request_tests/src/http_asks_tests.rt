@@ -1,0 +1,771 @@
+use http_asks::{Bad, Heard, Reader};
+use http_bodies::BodyFault;
+use http_wire::{MemorySource, MessageStop};
+use office_base::{Key, Tags, VersionId};
+use office_types::{Ask, Command, Query};
+use rules_json::RulesFault;
+use std::alloc::Global;
+use std::process::Abort;
+use std::test::Fail;
+use tariff::TariffFault;
+
+const NEXT: &str = "GET /buckets/next HTTP/1.1\r\n\r\n";
+
+fn put_key(text: &mut String, key: &Key) -> Result<(), Fail> {
+    match str::from_utf8(key.bytes()) {
+        Ok(key) => text.push_str(key)?,
+        Err(_) => text.push_str("no text")?,
+    }
+    Ok(())
+}
+
+fn put_id(text: &mut String, id: VersionId) -> Result<(), Fail> {
+    match id {
+        VersionId::Null => text.push_str(" null")?,
+        VersionId::Number(number) => write!(text, " {}", number.get())?,
+    }
+    Ok(())
+}
+
+fn put_tags(text: &mut String, tags: &Tags) -> Result<(), Fail> {
+    for (key, value) in tags.pairs() {
+        write!(text, " {key}={value}")?;
+    }
+    Ok(())
+}
+
+fn put_bucket_command(text: &mut String, command: &Command) -> Result<(), Fail> {
+    match command {
+        Command::CreateBucket { bucket } => write!(text, "CreateBucket {}", bucket.text())?,
+        Command::SetVersioning { bucket, enabled } => {
+            write!(text, "SetVersioning {} {enabled}", bucket.text())?;
+        }
+        Command::SetRules { bucket, rules } => {
+            write!(text, "SetRules {} {}", bucket.text(), rules.rules().len())?;
+        }
+        Command::DropRules { bucket } => write!(text, "DropRules {}", bucket.text())?,
+        Command::Act { bucket } => write!(text, "Act {}", bucket.text())?,
+        _ => {}
+    }
+    Ok(())
+}
+
+fn put_object_command(text: &mut String, command: &Command) -> Result<(), Fail> {
+    match command {
+        Command::Put {
+            bucket,
+            key,
+            size,
+            class,
+            tags,
+        } => {
+            write!(text, "Put {} ", bucket.text())?;
+            put_key(text, key)?;
+            write!(text, " {} {}", size.bytes(), class.name())?;
+            put_tags(text, tags)?;
+        }
+        Command::Delete { bucket, key } => {
+            write!(text, "Delete {} ", bucket.text())?;
+            put_key(text, key)?;
+        }
+        Command::DeleteVersion { bucket, key, id } => {
+            write!(text, "DeleteVersion {} ", bucket.text())?;
+            put_key(text, key)?;
+            put_id(text, *id)?;
+        }
+        Command::SetTags {
+            bucket,
+            key,
+            id,
+            tags,
+        } => {
+            write!(text, "SetTags {} ", bucket.text())?;
+            put_key(text, key)?;
+            put_id(text, *id)?;
+            put_tags(text, tags)?;
+        }
+        _ => {}
+    }
+    Ok(())
+}
+
+fn put_upload_command(text: &mut String, command: &Command) -> Result<(), Fail> {
+    match command {
+        Command::StartUpload {
+            bucket,
+            key,
+            class,
+            tags,
+        } => {
+            write!(text, "StartUpload {} ", bucket.text())?;
+            put_key(text, key)?;
+            write!(text, " {}", class.name())?;
+            put_tags(text, tags)?;
+        }
+        Command::PutPart {
+            bucket,
+            upload,
+            part,
+            size,
+        } => write!(text, "PutPart {} {upload} {part} {size}", bucket.text())?,
+        Command::Complete { bucket, upload } => {
+            write!(text, "Complete {} {upload}", bucket.text())?;
+        }
+        Command::Abort { bucket, upload } => write!(text, "Abort {} {upload}", bucket.text())?,
+        _ => {}
+    }
+    Ok(())
+}
+
+fn put_office_command(text: &mut String, command: &Command) -> Result<(), Fail> {
+    match command {
+        Command::SetTariff { tariff } => {
+            text.push_str("SetTariff")?;
+            for price in &tariff.storage {
+                write!(text, " {price}")?;
+            }
+            for price in &tariff.transition {
+                write!(text, " {price}")?;
+            }
+        }
+        Command::Close { month } => write!(text, "Close {}/{}", month.year(), month.month())?,
+        _ => {}
+    }
+    Ok(())
+}
+
+fn put_query(text: &mut String, query: &Query) -> Result<(), Fail> {
+    match query {
+        Query::Bucket(bucket) => write!(text, "Bucket {}", bucket.text())?,
+        Query::Rules(bucket) => write!(text, "Rules {}", bucket.text())?,
+        Query::Stack(bucket, key) => {
+            write!(text, "Stack {} ", bucket.text())?;
+            put_key(text, key)?;
+        }
+        Query::Upload(bucket, upload) => write!(text, "Upload {} {upload}", bucket.text())?,
+        Query::Due(bucket) => write!(text, "Due {}", bucket.text())?,
+        Query::Meters(bucket, month) => {
+            write!(
+                text,
+                "Meters {} {}/{}",
+                bucket.text(),
+                month.year(),
+                month.month()
+            )?;
+        }
+        Query::Tariff => text.push_str("Tariff")?,
+        Query::Report(month) => write!(text, "Report {}/{}", month.year(), month.month())?,
+    }
+    Ok(())
+}
+
+// Writes what is asked; each of the four writes the commands of its own.
+fn put_ask(text: &mut String, ask: &Ask) -> Result<(), Fail> {
+    match ask {
+        Ask::Command(command) => {
+            put_bucket_command(text, command)?;
+            put_object_command(text, command)?;
+            put_upload_command(text, command)?;
+            put_office_command(text, command)?;
+        }
+        Ask::Query(query) => put_query(text, query)?,
+    }
+    Ok(())
+}
+
+fn put_body_fault(text: &mut String, fault: &BodyFault) -> Result<(), Fail> {
+    match fault {
+        BodyFault::BadBody { field } => write!(text, "BadBody {field}")?,
+        BodyFault::BadSize => text.push_str("BadSize")?,
+        BodyFault::UnsupportedClass { name } => write!(text, "UnsupportedClass {name}")?,
+        BodyFault::BadTags => text.push_str("BadTags")?,
+        BodyFault::NoMemory => text.push_str("NoMemory")?,
+    }
+    Ok(())
+}
+
+fn put_rules_fault(text: &mut String, fault: &RulesFault) -> Result<(), Fail> {
+    match fault {
+        RulesFault::NotADate => text.push_str("NotADate")?,
+        RulesFault::NotMidnight => text.push_str("NotMidnight")?,
+        RulesFault::NotJson => text.push_str("NotJson")?,
+        RulesFault::UnknownField { name } => write!(text, "UnknownField {}", name.as_str())?,
+        RulesFault::WrongShape { field } => write!(text, "WrongShape {}", field.as_str())?,
+        RulesFault::UnsupportedClass { name } => {
+            write!(text, "UnsupportedClass {}", name.as_str())?;
+        }
+        RulesFault::Flaw { flaw, rule } => write!(text, "Flaw {flaw:?} {rule}")?,
+        RulesFault::NoMemory => text.push_str("NoMemory")?,
+    }
+    Ok(())
+}
+
+fn put_tariff_fault(text: &mut String, fault: &TariffFault) -> Result<(), Fail> {
+    match fault {
+        TariffFault::NotToml => text.push_str("NotToml")?,
+        TariffFault::MissingClass { table, class } => {
+            write!(text, "MissingClass {} in {}", class.name(), table.name())?;
+        }
+        TariffFault::BadPrice { table, class } => {
+            write!(text, "BadPrice {} in {}", class.name(), table.name())?;
+        }
+        TariffFault::UnknownField { name } => write!(text, "TariffField {name}")?,
+        TariffFault::NoMemory => text.push_str("NoMemory")?,
+    }
+    Ok(())
+}
+
+// The name of a refusal, and what it holds.
+fn put_bad(text: &mut String, bad: &Bad) -> Result<(), Fail> {
+    match bad {
+        Bad::NotAMonth => text.push_str("NotAMonth")?,
+        Bad::BadBucketName => text.push_str("BadBucketName")?,
+        Bad::BadKey => text.push_str("BadKey")?,
+        Bad::NoSuchVersion => text.push_str("NoSuchVersion")?,
+        Bad::NoSuchUpload => text.push_str("NoSuchUpload")?,
+        Bad::BadPart => text.push_str("BadPart")?,
+        Bad::Body(fault) => put_body_fault(text, fault)?,
+        Bad::Rules(fault) => put_rules_fault(text, fault)?,
+        Bad::Tariff(fault) => put_tariff_fault(text, fault)?,
+        Bad::NotBuilt => text.push_str("NotBuilt")?,
+    }
+    Ok(())
+}
+
+// Hears one message, writes what it means, and tells whether no other is heard after it.
+fn hear(
+    alloc: Global,
+    reader: &mut Reader,
+    source: &mut MemorySource,
+    text: &mut String,
+) -> Result<bool, Fail> {
+    let (ending, is_last) = match reader.next(alloc, source) {
+        Ok(Heard::Asked { ask, last }) => {
+            put_ask(text, &ask)?;
+            (if last { " last" } else { "; " }, last)
+        }
+        Ok(Heard::Bad { bad, last }) => {
+            put_bad(text, &bad)?;
+            (if last { " last" } else { "; " }, last)
+        }
+        Ok(Heard::End) => ("End", true),
+        Err(MessageStop::ReadFault) => ("ReadFault", true),
+        Err(_) => ("Stop", true),
+    };
+    text.push_str(ending)?;
+    Ok(is_last)
+}
+
+// What is heard, one message after another, up to the end or the last message of the session.
+fn heard(alloc: Global, bytes: &[u8], cut: usize) -> Result<String, Fail> {
+    let mut source = MemorySource::new(bytes.to_vec(alloc)?, cut, Vec::new(alloc));
+    let mut reader = Reader::new(alloc)?;
+    let mut text = String::new(alloc);
+    for _ in 0..4 {
+        if hear(alloc, &mut reader, &mut source, &mut text)? {
+            return Ok(text);
+        }
+    }
+    Ok(text)
+}
+
+// What is heard of a stream, read by single bytes and at once.
+fn assert_heard(rt: &impl Abort, alloc: Global, stream: &str, wanted: &str) -> Result<(), Fail> {
+    for cut in [1, 65_536] {
+        let text = heard(alloc, stream.as_bytes(), cut)?;
+        assert_eq!(rt; text.as_str(), wanted, "{stream}");
+    }
+    Ok(())
+}
+
+// What is heard where the next message stands behind one with this meaning.
+fn with_next(alloc: Global, meaning: &str) -> Result<String, Fail> {
+    let mut text = String::from_str(alloc, meaning)?;
+    if meaning == "NotBuilt" {
+        text.push_str(" last")?;
+    } else {
+        text.push_str("; Bucket next; End")?;
+    }
+    Ok(text)
+}
+
+fn assert_request(
+    rt: &impl Abort,
+    alloc: Global,
+    start: &str,
+    body: &str,
+    meaning: &str,
+) -> Result<(), Fail> {
+    let stream = format!(in alloc;
+        "{start} HTTP/1.1\r\nContent-Length: {}\r\n\r\n{body}{NEXT}",
+        body.len()
+    )?;
+    let wanted = with_next(alloc, meaning)?;
+    assert_heard(rt, alloc, &stream, &wanted)
+}
+
+// The first line of a request, its body, and what it means. RFC 9112 for the messages, RFC 8259 for the bodies, the S3
+// User Guide for names, keys, sizes, classes and tags.
+type Row = (&'static str, &'static str, &'static str);
+
+fn assert_requests(rt: &impl Abort, alloc: Global, rows: &[Row]) -> Result<(), Fail> {
+    for (start, body, meaning) in rows {
+        assert_request(rt, alloc, *start, *body, *meaning)?;
+    }
+    Ok(())
+}
+
+const BUCKETS: [Row; 17] = [
+    ("PUT /buckets/logs", "", "CreateBucket logs"),
+    ("GET /buckets/logs", "", "Bucket logs"),
+    ("PUT /buckets/my.log-2", "", "CreateBucket my.log-2"),
+    // A body is passed over.
+    ("PUT /buckets/logs", "{\"size\":1}", "CreateBucket logs"),
+    ("GET /buckets/logs", "no JSON", "Bucket logs"),
+    ("PUT /buckets/lo", "", "BadBucketName"),
+    ("PUT /buckets/Logs", "", "BadBucketName"),
+    ("GET /buckets/lo", "", "BadBucketName"),
+    // A name is not decoded.
+    ("PUT /buckets/lo%67s", "", "BadBucketName"),
+    (
+        "PUT /buckets/logs/versioning",
+        "{\"Status\":\"Enabled\"}",
+        "SetVersioning logs true",
+    ),
+    (
+        "PUT /buckets/logs/versioning",
+        "{\"Status\":\"Suspended\"}",
+        "SetVersioning logs false",
+    ),
+    (
+        "PUT /buckets/logs/versioning",
+        "{\"Status\":\"Off\"}",
+        "BadBody Status",
+    ),
+    ("PUT /buckets/lo/versioning", "[]", "BadBucketName"),
+    ("POST /buckets/logs/act", "", "Act logs"),
+    ("POST /buckets/lo/act", "", "BadBucketName"),
+    ("GET /buckets/logs/due", "", "Due logs"),
+    ("GET /buckets/lo/due", "", "BadBucketName"),
+];
+
+#[test]
+fn requests_for_buckets(rt: HostRuntime) -> Result<(), Fail> {
+    assert_requests(&rt, rt.alloc(), &BUCKETS)
+}
+
+const LIFECYCLES: [Row; 15] = [
+    (
+        "PUT /buckets/logs/lifecycle",
+        "{\"Rules\":[{\"Status\":\"Enabled\",\"Expiration\":{\"Days\":365}}]}",
+        "SetRules logs 1",
+    ),
+    (
+        "PUT /buckets/logs/lifecycle",
+        "{\"Rules\":[]}",
+        "SetRules logs 0",
+    ),
+    ("GET /buckets/logs/lifecycle", "", "Rules logs"),
+    ("DELETE /buckets/logs/lifecycle", "", "DropRules logs"),
+    ("GET /buckets/lo/lifecycle", "", "BadBucketName"),
+    ("DELETE /buckets/lo/lifecycle", "", "BadBucketName"),
+    // The body goes as it stands to the reader of configurations, an empty one too.
+    ("PUT /buckets/logs/lifecycle", "", "NotJson"),
+    ("PUT /buckets/lo/lifecycle", "", "BadBucketName"),
+    ("PUT /buckets/logs/lifecycle", "[]", "WrongShape "),
+    (
+        "PUT /buckets/logs/lifecycle",
+        "{\"Rules\":7}",
+        "WrongShape Rules",
+    ),
+    (
+        "PUT /buckets/logs/lifecycle",
+        "{\"Rules\":[],\"Owner\":\"x\"}",
+        "UnknownField Owner",
+    ),
+    (
+        "PUT /buckets/logs/lifecycle",
+        "{\"Rules\":[{\"Status\":\"Enabled\",\"Expiration\":{\"Date\":\"2024-02-30\"}}]}",
+        "NotADate",
+    ),
+    (
+        "PUT /buckets/logs/lifecycle",
+        "{\"Rules\":[{\"Status\":\"Enabled\",\"Expiration\":{\"Date\":\"2024-02-03T04:00:00Z\"}}]}",
+        "NotMidnight",
+    ),
+    (
+        "PUT /buckets/logs/lifecycle",
+        "{\"Rules\":[{\"Status\":\"Enabled\",\"Transitions\":[{\"Days\":30,\"StorageClass\":\"FOO\"}]}]}",
+        "UnsupportedClass FOO",
+    ),
+    (
+        "PUT /buckets/logs/lifecycle",
+        "{\"Rules\":[{\"Status\":\"Enabled\",\"Expiration\":{\"Days\":0}}]}",
+        "Flaw BadDays 1",
+    ),
+];
+
+#[test]
+fn requests_for_lifecycle_configurations(rt: HostRuntime) -> Result<(), Fail> {
+    assert_requests(&rt, rt.alloc(), &LIFECYCLES)
+}
+
+const OBJECTS: [Row; 23] = [
+    (
+        "PUT /buckets/logs/objects/a",
+        "{\"size\":5}",
+        "Put logs a 5 STANDARD",
+    ),
+    (
+        "PUT /buckets/logs/objects/a",
+        "{\"size\":5,\"class\":\"GLACIER\"}",
+        "Put logs a 5 GLACIER",
+    ),
+    (
+        "PUT /buckets/logs/objects/a",
+        "{\"size\":5,\"tags\":{\"kind\":\"raw\"}}",
+        "Put logs a 5 STANDARD kind=raw",
+    ),
+    (
+        "PUT /buckets/logs/objects/a%2Fb",
+        "{\"size\":0}",
+        "Put logs a/b 0 STANDARD",
+    ),
+    (
+        "PUT /buckets/logs/objects/%zz",
+        "{\"size\":5}",
+        "Put logs %zz 5 STANDARD",
+    ),
+    (
+        "PUT /buckets/logs/objects//",
+        "{\"size\":5}",
+        "Put logs / 5 STANDARD",
+    ),
+    (
+        "PUT /buckets/logs/objects/a//b",
+        "{\"size\":5}",
+        "Put logs a//b 5 STANDARD",
+    ),
+    ("PUT /buckets/logs/objects/%ff", "{\"size\":5}", "BadKey"),
+    // A bad name comes before a bad key, and that before a bad body.
+    ("PUT /buckets/lo/objects/%ff", "[]", "BadBucketName"),
+    ("PUT /buckets/logs/objects/%ff", "[]", "BadKey"),
+    ("PUT /buckets/logs/objects/a", "[]", "BadBody "),
+    ("PUT /buckets/logs/objects/a", "", "BadBody size"),
+    (
+        "PUT /buckets/logs/objects/a",
+        "{\"size\":5,\"acl\":\"x\"}",
+        "BadBody acl",
+    ),
+    (
+        "PUT /buckets/logs/objects/a",
+        "{\"size\":5497558138880}",
+        "Put logs a 5497558138880 STANDARD",
+    ),
+    (
+        "PUT /buckets/logs/objects/a",
+        "{\"size\":5497558138881}",
+        "BadSize",
+    ),
+    (
+        "PUT /buckets/logs/objects/a",
+        "{\"size\":5,\"class\":\"FOO\"}",
+        "UnsupportedClass FOO",
+    ),
+    (
+        "PUT /buckets/logs/objects/a",
+        "{\"size\":5,\"tags\":{\"\":\"x\"}}",
+        "BadTags",
+    ),
+    ("GET /buckets/logs/objects/a/b", "[]", "Stack logs a/b"),
+    ("GET /buckets/lo/objects/%ff", "", "BadBucketName"),
+    ("GET /buckets/logs/objects/%ff", "", "BadKey"),
+    ("DELETE /buckets/logs/objects/a", "", "Delete logs a"),
+    ("DELETE /buckets/lo/objects/%ff", "", "BadBucketName"),
+    ("DELETE /buckets/logs/objects/%ff", "", "BadKey"),
+];
+
+#[test]
+fn requests_for_objects(rt: HostRuntime) -> Result<(), Fail> {
+    assert_requests(&rt, rt.alloc(), &OBJECTS)
+}
+
+const VERSIONS: [Row; 16] = [
+    (
+        "DELETE /buckets/logs/versions/null/a%20b",
+        "",
+        "DeleteVersion logs a b null",
+    ),
+    (
+        "DELETE /buckets/logs/versions/18446744073709551615/a/b",
+        "",
+        "DeleteVersion logs a/b 18446744073709551615",
+    ),
+    (
+        "DELETE /buckets/logs/versions/18446744073709551616/a",
+        "",
+        "NoSuchVersion",
+    ),
+    ("DELETE /buckets/logs/versions/0/a", "", "NoSuchVersion"),
+    ("DELETE /buckets/logs/versions/01/a", "", "NoSuchVersion"),
+    ("DELETE /buckets/logs/versions/+1/a", "", "NoSuchVersion"),
+    // The parts go from left to right: the name, the id, the key.
+    ("DELETE /buckets/lo/versions/01/%ff", "", "BadBucketName"),
+    ("DELETE /buckets/logs/versions/01/%ff", "", "NoSuchVersion"),
+    ("DELETE /buckets/logs/versions/1/%ff", "", "BadKey"),
+    (
+        "PUT /buckets/logs/tags/3/a",
+        "{\"tags\":{\"b\":\"y\",\"a\":\"x\"}}",
+        "SetTags logs a 3 a=x b=y",
+    ),
+    (
+        "PUT /buckets/logs/tags/null/a",
+        "{\"tags\":{}}",
+        "SetTags logs a null",
+    ),
+    ("PUT /buckets/logs/tags/3/a", "", "BadBody tags"),
+    ("PUT /buckets/lo/tags/x/%ff", "[]", "BadBucketName"),
+    ("PUT /buckets/logs/tags/x/%ff", "[]", "NoSuchVersion"),
+    ("PUT /buckets/logs/tags/3/%ff", "[]", "BadKey"),
+    ("PUT /buckets/logs/tags/3/a", "[]", "BadBody "),
+];
+
+#[test]
+fn requests_for_versions(rt: HostRuntime) -> Result<(), Fail> {
+    assert_requests(&rt, rt.alloc(), &VERSIONS)
+}
+
+const UPLOADS: [Row; 23] = [
+    (
+        "POST /buckets/logs/uploads/a/b",
+        "{\"class\":\"GLACIER\",\"tags\":{\"k\":\"v\"}}",
+        "StartUpload logs a/b GLACIER k=v",
+    ),
+    (
+        "POST /buckets/logs/uploads/a",
+        "",
+        "StartUpload logs a STANDARD",
+    ),
+    ("POST /buckets/lo/uploads/%ff", "[]", "BadBucketName"),
+    ("POST /buckets/logs/uploads/%ff", "[]", "BadKey"),
+    (
+        "POST /buckets/logs/uploads/a",
+        "{\"size\":1}",
+        "BadBody size",
+    ),
+    ("GET /buckets/logs/upload/1", "", "Upload logs 1"),
+    (
+        "POST /buckets/logs/upload/18446744073709551615",
+        "",
+        "Complete logs 18446744073709551615",
+    ),
+    ("DELETE /buckets/logs/upload/20", "", "Abort logs 20"),
+    ("GET /buckets/logs/upload/0", "", "NoSuchUpload"),
+    ("POST /buckets/logs/upload/01", "", "NoSuchUpload"),
+    (
+        "DELETE /buckets/logs/upload/18446744073709551616",
+        "",
+        "NoSuchUpload",
+    ),
+    ("GET /buckets/logs/upload/null", "", "NoSuchUpload"),
+    ("GET /buckets/lo/upload/null", "", "BadBucketName"),
+    (
+        "PUT /buckets/logs/parts/7/00001",
+        "{\"size\":18446744073709551615}",
+        "PutPart logs 7 1 18446744073709551615",
+    ),
+    (
+        "PUT /buckets/logs/parts/7/99999",
+        "{\"size\":0}",
+        "PutPart logs 7 99999 0",
+    ),
+    (
+        "PUT /buckets/logs/parts/7/0",
+        "{\"size\":0}",
+        "PutPart logs 7 0 0",
+    ),
+    (
+        "PUT /buckets/logs/parts/7/000001",
+        "{\"size\":0}",
+        "BadPart",
+    ),
+    ("PUT /buckets/logs/parts/7/+1", "{\"size\":0}", "BadPart"),
+    ("PUT /buckets/logs/parts/7/1a", "{\"size\":0}", "BadPart"),
+    // The parts go from left to right: the name, the upload, the part; then the body.
+    ("PUT /buckets/lo/parts/0/x", "[]", "BadBucketName"),
+    ("PUT /buckets/logs/parts/0/x", "[]", "NoSuchUpload"),
+    ("PUT /buckets/logs/parts/7/x", "[]", "BadPart"),
+    ("PUT /buckets/logs/parts/7/1", "[]", "BadBody "),
+];
+
+#[test]
+fn requests_for_uploads(rt: HostRuntime) -> Result<(), Fail> {
+    assert_requests(&rt, rt.alloc(), &UPLOADS)
+}
+
+const METERS: [Row; 8] = [
+    ("GET /buckets/logs/meters/2024-01", "", "Meters logs 2024/1"),
+    (
+        "GET /buckets/logs/meters/2099-12",
+        "",
+        "Meters logs 2099/12",
+    ),
+    (
+        "GET /buckets/logs/meters/1970-01",
+        "{",
+        "Meters logs 1970/1",
+    ),
+    ("GET /buckets/logs/meters/2024-13", "", "NotAMonth"),
+    ("GET /buckets/logs/meters/2024-1", "", "NotAMonth"),
+    ("GET /buckets/logs/meters/1969-12", "", "NotAMonth"),
+    ("GET /buckets/logs/meters/2100-01", "", "NotAMonth"),
+    ("GET /buckets/lo/meters/2024-13", "", "BadBucketName"),
+];
+
+#[test]
+fn queries_of_meters(rt: HostRuntime) -> Result<(), Fail> {
+    assert_requests(&rt, rt.alloc(), &METERS)
+}
+
+const PRICES: &str =
+    "[storage]\nSTANDARD = 6\nSTANDARD_IA = 5\nONEZONE_IA = 4\nGLACIER_IR = 3\nGLACIER = 2\n\
+DEEP_ARCHIVE = 1\n[transition]\nSTANDARD_IA = 0\nONEZONE_IA = 7\nGLACIER_IR = 8\nGLACIER = 9\nDEEP_ARCHIVE = 10\n";
+
+// TOML v1.1.0 for the bodies.
+const MONTHS: [Row; 14] = [
+    ("PUT /tariff", PRICES, "SetTariff 6 5 4 3 2 1 0 7 8 9 10"),
+    ("GET /tariff", "", "Tariff"),
+    ("GET /tariff", "[", "Tariff"),
+    // The body goes as it stands to the reader of tariffs, an empty one too.
+    ("PUT /tariff", "{\"storage\":{}}", "NotToml"),
+    ("PUT /tariff", "", "MissingClass STANDARD in storage"),
+    (
+        "PUT /tariff",
+        "[storage]\nSTANDARD = -1\n",
+        "BadPrice STANDARD in storage",
+    ),
+    (
+        "PUT /tariff",
+        "[storage]\n[transition]\nSTANDARD = 1\n",
+        "TariffField STANDARD",
+    ),
+    ("POST /months/2024-02/close", "", "Close 2024/2"),
+    ("POST /months/2024-13/close", "", "NotAMonth"),
+    ("POST /months/1969-12/close", "", "NotAMonth"),
+    ("GET /months/2099-12/report", "", "Report 2099/12"),
+    ("GET /months/1970-01/report", "x", "Report 1970/1"),
+    ("GET /months/2100-01/report", "", "NotAMonth"),
+    ("GET /months/2024-1/report", "", "NotAMonth"),
+];
+
+#[test]
+fn requests_for_prices_and_months(rt: HostRuntime) -> Result<(), Fail> {
+    assert_requests(&rt, rt.alloc(), &MONTHS)
+}
+
+const NOT_SERVED: [Row; 22] = [
+    // Neither a route nor a method that is served.
+    ("put /buckets/logs", "", "NotBuilt"),
+    ("Get /buckets/logs", "", "NotBuilt"),
+    ("put /buckets/lo", "", "NotBuilt"),
+    ("DELETE /buckets/logs", "", "NotBuilt"),
+    ("GET /", "", "NotBuilt"),
+    ("GET /bucket/logs", "", "NotBuilt"),
+    ("GET /buckets/logs?list-type=2", "", "NotBuilt"),
+    ("GET /buckets/lo/versioning", "", "NotBuilt"),
+    ("POST /buckets/logs/lifecycle", "{}", "NotBuilt"),
+    ("POST /buckets/logs/objects/a", "", "NotBuilt"),
+    ("GET /buckets/logs/versions/0/a", "", "NotBuilt"),
+    ("GET /buckets/logs/tags/0/a", "", "NotBuilt"),
+    ("GET /buckets/logs/uploads/a", "", "NotBuilt"),
+    ("PUT /buckets/logs/upload/0", "", "NotBuilt"),
+    ("GET /buckets/logs/parts/0/x", "", "NotBuilt"),
+    ("GET /buckets/logs/act", "", "NotBuilt"),
+    ("POST /buckets/logs/due", "", "NotBuilt"),
+    ("PUT /buckets/logs/meters/2024-01", "", "NotBuilt"),
+    ("PUT /buckets/logs/objects/", "{\"size\":5}", "NotBuilt"),
+    ("DELETE /tariff", "", "NotBuilt"),
+    ("GET /months/2024-13/close", "", "NotBuilt"),
+    ("PUT /months/2024-01/report", "", "NotBuilt"),
+];
+
+#[test]
+fn requests_that_are_not_served(rt: HostRuntime) -> Result<(), Fail> {
+    assert_requests(&rt, rt.alloc(), &NOT_SERVED)
+}
+
+// A stream, and what is heard of it.
+const ENDINGS: [(&str, &str); 10] = [
+    ("", "End"),
+    (
+        "PUT /buckets/logs HTTP/1.1\r\nConnection: close\r\n\r\nGET /",
+        "CreateBucket logs last",
+    ),
+    (
+        "GET /buckets/logs HTTP/1.0\r\n\r\nGET /",
+        "Bucket logs last",
+    ),
+    (
+        "GET /buckets/lo HTTP/1.1\r\nconnection: Close\r\n\r\n",
+        "BadBucketName last",
+    ),
+    (
+        "PUT /buckets/logs HTTP/1.1\r\nContent-Length: 40\r\n\r\n0123456789012345678901234567890123456789GET \
+/buckets/logs HTTP/1.0\r\n\r\n",
+        "CreateBucket logs; Bucket logs last",
+    ),
+    (
+        "PUT /buckets/logs HTTP/1.1\r\nContent-Length: 40\r\n\r\n012345678901234567890123456789012345678",
+        "NotBuilt last",
+    ),
+    (
+        "PUT /buckets/logs HTTP/1.1\r\n\r\nPUT /buckets/logs HTTP/1.1\r\nHost",
+        "CreateBucket logs; NotBuilt last",
+    ),
+    (
+        "PUT /buckets/logs HTTP/1.1\r\nTransfer-Encoding: chunked\r\n\r\n0\r\n\r\n",
+        "NotBuilt last",
+    ),
+    (
+        "PUT /buckets/logs HTTP/1.1\r\nContent-Length: 1048577\r\n\r\n",
+        "NotBuilt last",
+    ),
+    ("G(T", "NotBuilt last"),
+];
+
+#[test]
+fn the_last_messages_of_a_session(rt: HostRuntime) -> Result<(), Fail> {
+    for (stream, wanted) in ENDINGS {
+        assert_heard(&rt, rt.alloc(), stream, wanted)?;
+    }
+    Ok(())
+}
+
+#[test]
+fn a_body_longer_than_the_buffer(rt: HostRuntime) -> Result<(), Fail> {
+    let alloc = rt.alloc();
+    let mut stream = String::new(alloc);
+    stream.push_str("PUT /buckets/logs/objects/a HTTP/1.1\r\nContent-Length: 9010\r\n\r\n")?;
+    for _ in 0..9_000 {
+        stream.push(' ')?;
+    }
+    stream.push_str("{\"size\":7}")?;
+    stream.push_str(NEXT)?;
+    for cut in [1_000, 65_536] {
+        let text = heard(alloc, stream.as_bytes(), cut)?;
+        assert_eq!(rt; text.as_str(), "Put logs a 7 STANDARD; Bucket next; End");
+    }
+    Ok(())
+}
+
+#[test]
+fn a_read_that_fails_changes_no_message(rt: HostRuntime) -> Result<(), Fail> {
+    let alloc = rt.alloc();
+    let mut source = MemorySource::new(NEXT.as_bytes().to_vec(alloc)?, 16, [2].to_vec(alloc)?);
+    let mut reader = Reader::new(alloc)?;
+    let mut text = String::new(alloc);
+    assert!(rt; hear(alloc, &mut reader, &mut source, &mut text)?);
+    assert!(rt; !hear(alloc, &mut reader, &mut source, &mut text)?);
+    assert_eq!(rt; text.as_str(), "ReadFaultBucket next; ");
+    Ok(())
+}

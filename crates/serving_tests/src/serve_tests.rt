@@ -1,0 +1,275 @@
+// The program with workers side by side, over a port and a gate of the tests' own.
+ghost use Rattle.std.specs.Prelude.{Some, ⊤};
+
+use office_program::{End, office};
+use desk_core::{Acked, ListClock};
+use disk_core::{Disk, FileNo, MemoryDisk};
+use http_front::{Bad, MemoryReplies, Replies, SessionEnd};
+use http_wire::MemorySource;
+use office_base::{Failed, NoMemory};
+use serving::{Gate, MemoryPort, Port, PortFault};
+use std::alloc::Global;
+use std::sync::Wait;
+use std::sync::atomic::{AtomicU64, Ordering};
+use std::test::Fail;
+use std::thread;
+use std::thread::Threads;
+
+const PUT: &[u8] = b"PUT /buckets/logs HTTP/1.1\r\nHost: x\r\n\r\n";
+
+const PUT_MORE: &[u8] = b"PUT /buckets/more HTTP/1.1\r\nHost: x\r\n\r\n";
+
+// The journal without entries.
+const EMPTY: &[u8] = b"\xA5METERJRN1\x00";
+
+// 2024-01-01 00:00 UTC.
+const NEW_YEAR: u64 = 1_704_067_200_000;
+
+// Two workers, of which each serves one connection.
+const WORDS: &[&str] = &["serve", "--listen=here", "--workers=2", "--connections=1"];
+
+fn made_disk(alloc: Global) -> Result<MemoryDisk, Fail> {
+    let mut disk = MemoryDisk::new(alloc, Vec::new(alloc));
+    disk.write_at(FileNo::Journal, 0, EMPTY)?;
+    Ok(disk)
+}
+
+fn port_of(alloc: Global, lines: &[&[u8]]) -> Result<MemoryPort, Fail> {
+    let mut list = Vec::new(alloc);
+    for line in lines {
+        list.push(line.to_vec(alloc)?)?;
+    }
+    MemoryPort::new(alloc, list, Vec::new(alloc)).map_err(|_| Fail::from("no memory"))
+}
+
+/// What the command is given, but for the port and the gate: no input, at 2024-01-01 00:00 UTC, over a journal without
+/// entries.
+#[derive(Drop)]
+struct Given {
+    words: Vec<String>,
+    input: MemorySource,
+    out: MemoryReplies,
+    disk: MemoryDisk,
+    clock: ListClock,
+}
+
+impl Given {
+    fn new(alloc: Global) -> Result<Given, Fail> {
+        let mut words = Vec::new(alloc);
+        for word in WORDS {
+            words.push(String::from_str(alloc, *word)?)?;
+        }
+        Ok(Given {
+            words,
+            input: MemorySource::new(Vec::new(alloc), 1, Vec::new(alloc)),
+            out: MemoryReplies::new(alloc, Vec::new(alloc)),
+            disk: made_disk(alloc)?,
+            clock: ListClock::new([NEW_YEAR].to_vec(alloc)?),
+        })
+    }
+}
+
+// Does the command. It is the one place at which the program is called.
+fn serve_on<P: Port + Send, G: Gate + Sync, R: Threads + Wait + Sync>(
+    rt: &R,
+    alloc: Global,
+    given: Given,
+    port: &mut P,
+    gate: &G,
+) -> End<MemoryDisk, ListClock>
+where
+    P::Source: Send,
+    P::Replies: Send,
+{
+    let Given {
+        words,
+        mut input,
+        mut out,
+        disk,
+        clock,
+    } = given;
+    office(
+        rt, alloc, &words, &mut input, &mut out, disk, clock, port, gate,
+    )
+}
+
+/// Replies in memory that raise a flag once one was said.
+#[derive(Drop)]
+struct FlagReplies<'a> {
+    inner: MemoryReplies,
+    answered: &'a AtomicU64,
+}
+
+impl<'a> Replies for FlagReplies<'a> {
+    ghost said = { λ r. ⟦<MemoryReplies as Replies>⟧.said r.inner };
+
+    ghost moments = { λ r. ⟦<MemoryReplies as Replies>⟧.moments r.inner };
+
+    ghost texts = { λ r. ⟦<MemoryReplies as Replies>⟧.texts r.inner };
+
+    ghost noted = { λ r. ⟦<MemoryReplies as Replies>⟧.noted r.inner };
+
+    ghost faults = { λ r. ⟦<MemoryReplies as Replies>⟧.faults r.inner };
+
+    fn say(&mut self, acked: &Acked, bytes: &[u8]) -> Result<(), Failed> {
+        let said = self.inner.say(acked, bytes);
+        self.answered.store(1, Ordering::SeqCst);
+        said
+    }
+
+    fn say_bad(&mut self, bad: &Bad, bytes: &[u8]) -> Result<(), Failed> {
+        self.inner.say_bad(bad, bytes)
+    }
+
+    fn text(&mut self, bytes: &[u8]) -> Result<(), Failed> {
+        self.inner.text(bytes)
+    }
+
+    fn note(&mut self, bytes: &[u8]) {
+        self.inner.note(bytes);
+    }
+}
+
+/// A port in memory with such replies.
+#[derive(Drop)]
+struct FlagPort<'a> {
+    inner: MemoryPort,
+    answered: &'a AtomicU64,
+}
+
+impl<'a> Port for FlagPort<'a> {
+    type Source = MemorySource;
+
+    type Replies = FlagReplies<'a>;
+
+    ghost faults = { λ p. p.inner.faults };
+
+    ghost given = { λ p. p.inner.given };
+
+    ghost ended = { λ p. p.inner.ended };
+
+    ghost connections = { λ p. Some p.inner.connections };
+
+    ghost listens = { λ p at. ⊤ };
+
+    fn listen<R: Wait>(&mut self, rt: &R, alloc: Global, address: &str) -> Result<(), PortFault> {
+        self.inner.listen(rt, alloc, address)
+    }
+
+    fn twin(&self, alloc: Global) -> Result<Self, NoMemory> {
+        let inner = self.inner.twin(alloc)?;
+        Ok(FlagPort {
+            inner,
+            answered: self.answered,
+        })
+    }
+
+    fn take_back(&mut self, twin: Self) {
+        let FlagPort { inner, answered: _ } = twin;
+        self.inner.take_back(inner);
+    }
+
+    fn accept<R: Wait>(
+        &mut self,
+        rt: &R,
+        alloc: Global,
+    ) -> Result<(MemorySource, FlagReplies<'a>), PortFault> {
+        match self.inner.accept(rt, alloc) {
+            Ok((source, inner)) => Ok((
+                source,
+                FlagReplies {
+                    inner,
+                    answered: self.answered,
+                },
+            )),
+            Err(fault) => Err(fault),
+        }
+    }
+
+    fn end(
+        &mut self,
+        worker: u32,
+        source: MemorySource,
+        replies: FlagReplies<'a>,
+        end: SessionEnd,
+    ) {
+        let FlagReplies { inner, answered: _ } = replies;
+        self.inner.end(worker, source, inner, end);
+    }
+}
+
+/// Holds the first call of one worker until a reply was said, with a limit of tries.
+#[derive(Drop)]
+struct HoldingGate<'a> {
+    held: u32,
+    answered: &'a AtomicU64,
+    late: AtomicU64,
+}
+
+impl<'a> Gate for HoldingGate<'a> {
+    fn pass<R: Wait>(&self, _rt: &R, worker: u32, call: u64) {
+        if worker != self.held || call != 1 {
+            return;
+        }
+        for _ in 0..10_000_000 {
+            if self.answered.load(Ordering::SeqCst) != 0 {
+                return;
+            }
+            thread::yield_now();
+        }
+        self.late.store(1, Ordering::SeqCst);
+    }
+}
+
+/// What two workers left that served one connection each.
+#[derive(Drop)]
+struct Served {
+    status: u8,
+    /// The length of the journal, in bytes.
+    journal: u64,
+    /// Whether the call that was held went on because a reply was said.
+    in_time: bool,
+    /// Whether both connections were served.
+    both: bool,
+}
+
+// Two workers serve one connection each, where the first call of one is held until the other was answered.
+fn beside<R: Threads + Wait + Sync>(rt: &R, alloc: Global, held: u32) -> Result<Served, Fail> {
+    let answered = AtomicU64::new(0);
+    let gate = HoldingGate {
+        held,
+        answered: &answered,
+        late: AtomicU64::new(0),
+    };
+    let mut port = FlagPort {
+        inner: port_of(alloc, &[PUT, PUT_MORE])?,
+        answered: &answered,
+    };
+    let End {
+        status,
+        mut disk,
+        ..
+    } = serve_on(rt, alloc, Given::new(alloc)?, &mut port, &gate);
+    Ok(Served {
+        status,
+        journal: disk.length(FileNo::Journal)?,
+        in_time: gate.late.load(Ordering::SeqCst) == 0,
+        both: port.inner.said(2).is_some(),
+    })
+}
+
+// Either worker can be answered before the other. A bucket takes 20 bytes of the journal.
+#[test]
+fn workers_run_beside_each_other(rt: HostRuntime) -> Result<(), Fail> {
+    for held in [1, 2] {
+        let ran = beside(&rt, rt.alloc(), held)?;
+        assert!(rt; ran.in_time, "worker {held} is held too long");
+        assert!(rt;
+            ran.both,
+            "worker {held} is held, and a connection is not served"
+        );
+        assert_eq!(rt; ran.status, 0);
+        assert_eq!(rt; ran.journal, 51);
+    }
+    Ok(())
+}

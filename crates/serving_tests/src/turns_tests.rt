@@ -1,0 +1,263 @@
+// Two passes on one office, each in a thread of its own.
+ghost use Rattle.std.specs.Prelude.{◌≡◌, ◌⊎◌, ◌<◌, ℕ, [], ◌∷◌, length, slice_index_or, IsSome, IfSome, Some, None};
+ghost use Rattle.turn_core.specs.Passes.{IsPassOf, view};
+ghost use Rattle.turn_core.specs.Views.{left, right};
+ghost use Rattle.serving.specs.Askers.{AsksOnce};
+ghost use Rattle.serving.specs.Seats.{IsPassAt, turns_id};
+
+use serving::{Gate, Seated};
+use desk_core::{Acked, Clock, Desk, DeskFault, ListClock};
+use disk_core::{Disk, FileNo, MemoryDisk};
+use http_front::Teller;
+use office_base::BucketName;
+use office_types::{Ask, Command, Query, Refusal, Reply};
+use std::alloc::Global;
+use std::sync::Wait;
+use std::sync::atomic::{AtomicU64, Ordering};
+use std::test::Fail;
+use std::thread;
+use std::thread::Threads;
+use turn_core::{Pass, Turned, Turns};
+
+// The journal without entries.
+const EMPTY: &[u8] = b"\xA5METERJRN1\x00";
+
+// 2024-01-01 00:00 UTC.
+const NEW_YEAR: u64 = 1_704_067_200_000;
+
+// The asker that makes the bucket.
+const MAKER: u32 = 1;
+
+// The asker that asks for it.
+const VIEWER: u32 = 2;
+
+type Said = Result<Acked, DeskFault>;
+
+/// Holds the call of one asker until another was answered, with a limit of tries. No asker has the number 0.
+#[derive(Drop)]
+struct HoldingGate {
+    held: u32,
+    passed: AtomicU64,
+    answered: AtomicU64,
+    late: AtomicU64,
+}
+
+impl HoldingGate {
+    fn new(held: u32) -> HoldingGate {
+        HoldingGate {
+            held,
+            passed: AtomicU64::new(0),
+            answered: AtomicU64::new(0),
+            late: AtomicU64::new(0),
+        }
+    }
+
+    // Whether both calls passed, and none was held to the limit.
+    fn let_both_through(&self) -> bool {
+        self.passed.load(Ordering::SeqCst) == 2 && self.late.load(Ordering::SeqCst) == 0
+    }
+}
+
+impl Gate for HoldingGate {
+    fn pass<R: Wait>(&self, _rt: &R, worker: u32, _call: u64) {
+        self.passed.fetch_add(1, Ordering::SeqCst);
+        if worker != self.held {
+            return;
+        }
+        for _ in 0..10_000_000 {
+            if self.answered.load(Ordering::SeqCst) != 0 {
+                return;
+            }
+            thread::yield_now();
+        }
+        self.late.store(1, Ordering::SeqCst);
+    }
+}
+
+/// One who asks once: its seat at the turns, the gate of all seats, its ask, and what was said.
+#[derive(Drop)]
+struct Asker<'a, D: Disk + Drop, C: Clock + Drop, R: Wait> {
+    seated: Seated<'a, D, C, HoldingGate, R>,
+    gate: &'a HoldingGate,
+    ask: &'a Ask,
+    said: Option<Said>,
+}
+
+impl<'a, D: Disk + Drop, C: Clock + Drop, R: Wait> Asker<'a, D, C, R> {
+    fn new(seated: Seated<'a, D, C, HoldingGate, R>, gate: &'a HoldingGate, ask: &'a Ask) -> Self
+        ensures { (result.seated ≡ seated.entry) × (result.ask.now ≡ ask.now) }
+    {
+        Asker {
+            seated,
+            gate,
+            ask,
+            said: None,
+        }
+    }
+
+    fn ask_once(&mut self)
+        ensures { AsksOnce ⟦<Desk<D, C> as Turned>⟧.lawful self.old.seated self.old.ask.now self.new.said
+            self.new.seated }
+    {
+        self.said = Some(self.seated.ask(self.ask));
+        self.gate.answered.store(1, Ordering::SeqCst);
+    }
+
+    // Its pass, and what was said.
+    fn leave(self) -> (Pass<Desk<D, C>>, Said)
+        requires { IsSome self.said }
+        ensures own { IsPassAt self.entry.seated.turns result.0 }
+        ensures pass { view result.0 ≡ self.entry.seated.pass }
+        ensures said { self.entry.said ≡ Some result.1 }
+    {
+        let Asker {
+            seated,
+            gate: _,
+            ask: _,
+            said,
+        } = self;
+        let Some(said) = said else { unreachable!() };
+        (seated.leave(), said)
+    }
+}
+
+// Each asks, in a thread of its own.
+fn ask_all<D, C, R>(rt: &R, askers: &mut [Asker<'_, D, C, R>])
+where
+    D: Disk + Drop + Send,
+    C: Clock + Drop + Send,
+    R: Threads + Wait + Sync,
+    requires { 0 < length askers.old }
+    ensures { (i : ℕ) (d : _) → i < length askers.old
+        → AsksOnce ⟦<Desk<D, C> as Turned>⟧.lawful (slice_index_or askers.old i d).seated
+        (slice_index_or askers.old i d).ask.now (slice_index_or askers.new i d).said
+        (slice_index_or askers.new i d).seated }
+{
+    let threads = askers.len();
+    thread::for_each_mut(rt, askers, threads, &|_, asker| asker.ask_once());
+}
+
+// Two askers, of which the second has a pass that is split off. The pass comes back only for want of memory.
+fn seat<'a, D: Disk + Drop, C: Clock + Drop, R: Wait>(
+    rt: &'a R,
+    alloc: Global,
+    turns: &'a Turns<Desk<D, C>>,
+    mut pass: Pass<Desk<D, C>>,
+    gate: &'a HoldingGate,
+    make: &'a Ask,
+    show: &'a Ask,
+) -> (Vec<Asker<'a, D, C, R>>, Option<Pass<Desk<D, C>>>)
+    requires own { IsPassOf turns.now pass }
+    requires share { 1 < (view pass).share }
+    ensures seated { result.1 ≡ None → (one : _) × (two : _) × (result.0.items ≡ one ∷ two ∷ [])
+        × (one.seated ≡ record { turns = turns_id turns.now; pass = left (view pass) }) × (one.ask.now ≡ make.now)
+        × (two.seated ≡ record { turns = turns_id turns.now; pass = right (view pass) }) × (two.ask.now ≡ show.now) }
+    ensures back { IfSome result.1 (λ p. p ≡ pass) }
+{
+    let mut askers = Vec::new(alloc);
+    if askers.reserve(2).is_err() {
+        return (askers, Some(pass));
+    }
+    let other = turns.split(&mut pass);
+    let maker = Seated::new(rt, turns, pass, gate, MAKER);
+    askers.push_reserved(Asker::new(maker, gate, make));
+    let viewer = Seated::new(rt, turns, other, gate, VIEWER);
+    askers.push_reserved(Asker::new(viewer, gate, show));
+    (askers, None)
+}
+
+// The two askers of a list.
+fn part<'a, D: Disk + Drop, C: Clock + Drop, R: Wait>(
+    mut askers: Vec<Asker<'a, D, C, R>>,
+) -> (Asker<'a, D, C, R>, Asker<'a, D, C, R>)
+    requires { length askers.items ≡ 2 }
+    ensures { askers.entry.items ≡ result.0 ∷ result.1 ∷ [] }
+{
+    let Some(two) = askers.pop() else {
+        unreachable!()
+    };
+    let Some(one) = askers.pop() else {
+        unreachable!()
+    };
+    (one, two)
+}
+
+// What two asks were told, each by one turn in a thread of its own, and the desk after them: where both calls lead it,
+// one after the other. None only for want of memory.
+fn both_asked<D, C, R>(
+    rt: &R,
+    alloc: Global,
+    desk: Desk<D, C>,
+    gate: &HoldingGate,
+    make: &Ask,
+    show: &Ask,
+) -> Option<(Said, Said, Desk<D, C>)>
+where
+    D: Disk + Drop + Send,
+    C: Clock + Drop + Send,
+    R: Threads + Wait + Sync,
+    ensures { IfSome result (λ r.
+        ⟦<Desk<D, C> as Turned>⟧.stands desk r.2 ((make.now, r.0) ∷ (show.now, r.1) ∷ [])
+        ⊎ ⟦<Desk<D, C> as Turned>⟧.stands desk r.2 ((show.now, r.1) ∷ (make.now, r.0) ∷ [])) }
+{
+    let Ok((turns, pass)) = Turns::new(alloc, desk) else {
+        return None;
+    };
+    let (mut askers, unseated) = seat(rt, alloc, &turns, pass, gate, make, show);
+    if let Some(pass) = unseated {
+        drop(askers);
+        drop(turns.close(pass));
+        return None;
+    }
+    ask_all(rt, askers.as_mut_slice());
+    let (one, two) = part(askers);
+    let (mut pass, made) = one.leave();
+    let (other, shown) = two.leave();
+    turns.meet(&mut pass, other);
+    Some((made, shown, turns.close(pass)))
+}
+
+fn made_desk(alloc: Global) -> Result<Desk<MemoryDisk, ListClock>, Fail> {
+    let mut disk = MemoryDisk::new(alloc, Vec::new(alloc));
+    disk.write_at(FileNo::Journal, 0, EMPTY)?;
+    let clock = ListClock::new([NEW_YEAR].to_vec(alloc)?);
+    Desk::open(alloc, disk, clock, 1 << 30).map_err(|_| Fail::from("not opened"))
+}
+
+// Whether the bucket was shown where one asker makes it, another asks for it, and the gate holds one of them.
+fn is_shown<R: Threads + Wait + Sync>(rt: &R, alloc: Global, held: u32) -> Result<bool, Fail> {
+    let make = Ask::Command(Command::CreateBucket {
+        bucket: BucketName::read(alloc, "logs")?,
+    });
+    let show = Ask::Query(Query::Bucket(BucketName::read(alloc, "logs")?));
+    let gate = HoldingGate::new(held);
+    let desk = made_desk(alloc)?;
+    let Some((made, shown, desk)) = both_asked(rt, alloc, desk, &gate, &make, &show) else {
+        return Err(Fail::from("no memory"));
+    };
+    let (Ok(made), Ok(shown)) = (made, shown) else {
+        return Err(Fail::from("not answered"));
+    };
+    let (mut disk, _, _) = desk.finish();
+    // The end gate stands at 10 of an empty journal, and 20 bytes further behind the bucket.
+    if disk.length(FileNo::Journal)? != 31 || made.position() != 30 || !gate.let_both_through() {
+        return Err(Fail::from("not both asked once"));
+    }
+    match (made.reply(), shown.reply(), shown.position()) {
+        (Ok(Reply::BucketMade { .. }), Ok(Reply::BucketShown { .. }), 30) => Ok(true),
+        (Ok(Reply::BucketMade { .. }), Err(Refusal::NoSuchBucket), 10) => Ok(false),
+        _ => Err(Fail::from("another reply")),
+    }
+}
+
+// A bucket is shown exactly where the call that made it stands before the one that asks for it.
+#[test]
+fn a_bucket_is_shown_once_it_was_made(rt: HostRuntime) -> Result<(), Fail> {
+    for _ in 0..20 {
+        assert!(rt; is_shown(&rt, rt.alloc(), VIEWER)?);
+        assert!(rt; !is_shown(&rt, rt.alloc(), MAKER)?);
+        // No one is held: whoever comes first.
+        is_shown(&rt, rt.alloc(), 0)?;
+    }
+    Ok(())
+}
