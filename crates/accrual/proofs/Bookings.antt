@@ -12,7 +12,7 @@ use Rattle.class_rules.specs.declared.billing.Lines.{Lines}
 use Rattle.accrual.specs.Books.{Stay, Early, Move, Book, empty_book, open_stay, ended_stay, book_with_stay, book_with_early, with_move}
 use Rattle.accrual.specs.Meters.{bytes_in_class, is_in_month, same_class, early_quantity, move_count}
 use Rattle.accrual.specs.Totals.{Totals, AreTotalsOf, HasOpenStay, with_early_of, ms_within, ended_ms, running_bytes, ended_sum, running_sum, since_sum}
-use Rattle.accrual.specs.declared.rows.Kept.{Kept}
+use Rattle.accrual.specs.declared.rows.Numbers.{Numbers}
 use Rattle.accrual.specs.Rows.{nothing, kept_in, HasBegun, IsBegun, IsEnded, IsAdded, in_month, at_place}
 use Rattle.accrual.proofs.Cases.{none_added, by_same}
 use Rattle.accrual.proofs.Windows.{in_month_is}
@@ -227,10 +227,10 @@ unfolding move_count
 moves_push month class move book = count_push (λ (move : Move). same_class move.class class && is_in_month month move.moment) book.moves move
 
 -- the numbers of an early quantity, and of a move
-abbrev pub early_numbers : ℕ → Kept
+abbrev pub early_numbers : ℕ → Numbers
 early_numbers amount = record { ended = 0; running = 0; since = 0; early = amount; moves = 0 }
 
-abbrev pub move_numbers : Kept
+abbrev pub move_numbers : Numbers
 move_numbers = record { ended = 0; running = 0; since = 0; early = 0; moves = 1 }
 
 pub stands_early : (old new : Totals) (book : Book) (class : Class) (month at amount : ℕ) → IsInMonth month at
@@ -339,9 +339,9 @@ stands_owed old new book class month bytes entered at is added stands = owed_cas
 pub stands_empty : (totals : Totals) → ((month rank : ℕ) → kept_in totals.rows month rank ≡ nothing) → AreTotalsOf totals empty_book
 unfolding ended_sum running_sum since_sum early_quantity move_count
 stands_empty totals none = record {
-  ended = λ m class. ap (λ (k : Kept). k.ended) (none m (rank_of class));
-  running = λ m class. ap (λ (k : Kept). k.running) (none m (rank_of class));
-  since = λ m class. ap (λ (k : Kept). k.since) (none m (rank_of class));
-  early = λ m class. ap (λ (k : Kept). k.early) (none m (rank_of class));
-  moves = λ m class. ap (λ (k : Kept). k.moves) (none m (rank_of class));
+  ended = λ m class. ap (λ (k : Numbers). k.ended) (none m (rank_of class));
+  running = λ m class. ap (λ (k : Numbers). k.running) (none m (rank_of class));
+  since = λ m class. ap (λ (k : Numbers). k.since) (none m (rank_of class));
+  early = λ m class. ap (λ (k : Numbers). k.early) (none m (rank_of class));
+  moves = λ m class. ap (λ (k : Numbers). k.moves) (none m (rank_of class));
 }

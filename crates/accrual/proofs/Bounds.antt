@@ -14,7 +14,7 @@ use Rattle.accrual.specs.Meters.{bytes_in_class}
 use Rattle.accrual.specs.Totals.{IsBilled, most_bookings}
 use Rattle.accrual.specs.Bounds.{IsBounded}
 use Rattle.accrual.specs.Sums.{IsSmall}
-use Rattle.accrual.specs.declared.rows.Kept.{Kept}
+use Rattle.accrual.specs.declared.rows.Numbers.{Numbers}
 use Rattle.accrual.specs.declared.rows.Rows.{Rows}
 use Rattle.accrual.specs.Rows.{nothing, kept_in, HasRoom, IsModest, IsBegun, IsEnded, IsAdded, in_month, running_to}
 use Rattle.accrual.proofs.Cases.{if_less, by_less, by_same}
@@ -228,13 +228,13 @@ bounded_same old new booked bounded same run = record {
   run = run;
   few = bounded.few;
   used = λ m class.
-      let e = running_same old new (rank_of class) months (λ m. ap (λ (k : Kept). k.running) (same m (rank_of class))) in
-      let k = ap (λ (k : Kept). k.ended) (same m (rank_of class)) in
+      let e = running_same old new (rank_of class) months (λ m. ap (λ (k : Numbers). k.running) (same m (rank_of class))) in
+      let k = ap (λ (k : Numbers). k.ended) (same m (rank_of class)) in
       let o = bounded.used m class in
       omega (arith, e, k, o);
-  since = λ m class. subst (λ (k : Kept). k.since ≤ booked * 2 ^ 76) (sym (same m (rank_of class))) (bounded.since m class);
-  early = λ m class. subst (λ (k : Kept). k.early < 2 ^ 120 + booked * 5 * 2 ^ 74) (sym (same m (rank_of class))) (bounded.early m class);
-  moves = λ m class. subst (λ (k : Kept). k.moves < 2 ^ 62 + booked) (sym (same m (rank_of class))) (bounded.moves m class);
+  since = λ m class. subst (λ (k : Numbers). k.since ≤ booked * 2 ^ 76) (sym (same m (rank_of class))) (bounded.since m class);
+  early = λ m class. subst (λ (k : Numbers). k.early < 2 ^ 120 + booked * 5 * 2 ^ 74) (sym (same m (rank_of class))) (bounded.early m class);
+  moves = λ m class. subst (λ (k : Numbers). k.moves < 2 ^ 62 + booked) (sym (same m (rank_of class))) (bounded.moves m class);
 }
 
 running_empty : (rows : Rows) (rank n : ℕ) → ((month : ℕ) → (kept_in rows month rank).running ≡ 0) → running_to rows rank n ≡ 0

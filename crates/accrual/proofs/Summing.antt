@@ -16,7 +16,7 @@ use Rattle.accrual.specs.Meters.{is_in_month, bytes_in_class}
 use Rattle.accrual.specs.Totals.{Totals, AreTotalsOf, has_no_end, running_bytes, running_sum, since_sum}
 use Rattle.accrual.specs.Rows.{kept_in, nothing, HasRowIn, IsRowPut}
 use Rattle.accrual.specs.Sums.{listed, AreSumsOf, HasAllEnded, HaveRisingMonths, is_zero, is_nothing, IsSmallMonth, AreSumsIn, IsMonthOf, HasNoSum, IsSmall, summed_numbers}
-use Rattle.accrual.specs.declared.rows.Kept.{Kept}
+use Rattle.accrual.specs.declared.rows.Numbers.{Numbers}
 use Rattle.accrual.specs.declared.rows.Rows.{Rows}
 use Rattle.accrual.specs.declared.monthly.MonthSums.{MonthSums}
 use Rattle.accrual.proofs.Cases.{by_less, by_same}
@@ -42,9 +42,9 @@ none_yet m number n none = by_less m number (λ less. let z = none less in grind
 
 pub listed_none : (rows : Rows) (number : ℕ) → ((m rank : ℕ) → m < number → kept_in rows m rank ≡ nothing) → AreSumsTo rows number []
 listed_none rows number none = record {
-  ended = λ m class. none_yet m number _ (λ less. ap (λ (k : Kept). k.ended) (none m (rank_of class) less));
-  early = λ m class. none_yet m number _ (λ less. ap (λ (k : Kept). k.early) (none m (rank_of class) less));
-  moves = λ m class. none_yet m number _ (λ less. ap (λ (k : Kept). k.moves) (none m (rank_of class) less));
+  ended = λ m class. none_yet m number _ (λ less. ap (λ (k : Numbers). k.ended) (none m (rank_of class) less));
+  early = λ m class. none_yet m number _ (λ less. ap (λ (k : Numbers). k.early) (none m (rank_of class) less));
+  moves = λ m class. none_yet m number _ (λ less. ap (λ (k : Numbers). k.moves) (none m (rank_of class) less));
   rising = λ i j d less in_list. grind (arith, in_list);
   earlier = All-nil _;
   some = All-nil _;
@@ -106,9 +106,9 @@ all_up_to m number a w e none =
 
 pub listed_all : (rows : Rows) (number : ℕ) (sums : List MonthSums) → ((m rank : ℕ) → number ≤ m → kept_in rows m rank ≡ nothing) → AreSumsTo rows number sums → AreSumsIn rows sums
 listed_all rows number sums none so = record {
-  ended = λ m class. all_up_to m number _ _ (so.ended m class) (λ from. ap (λ (k : Kept). k.ended) (none m (rank_of class) from));
-  early = λ m class. all_up_to m number _ _ (so.early m class) (λ from. ap (λ (k : Kept). k.early) (none m (rank_of class) from));
-  moves = λ m class. all_up_to m number _ _ (so.moves m class) (λ from. ap (λ (k : Kept). k.moves) (none m (rank_of class) from));
+  ended = λ m class. all_up_to m number _ _ (so.ended m class) (λ from. ap (λ (k : Numbers). k.ended) (none m (rank_of class) from));
+  early = λ m class. all_up_to m number _ _ (so.early m class) (λ from. ap (λ (k : Numbers). k.early) (none m (rank_of class) from));
+  moves = λ m class. all_up_to m number _ _ (so.moves m class) (λ from. ap (λ (k : Numbers). k.moves) (none m (rank_of class) from));
 }
 
 -- a number of a month whose numbers are all 0
@@ -127,21 +127,21 @@ nothing_there rows month s is e class =
       moves = sym (is.moves class) ∙ zero_at s.moves (rank_of class) a.1;
     }
 
-pub month_row : (rows : Rows) (number : ℕ) (row : List Kept) (s : MonthSums) → HasRowIn rows number → row ≡ get_or rows.rows.items (number - rows.first) row → s.month ≡ number
+pub month_row : (rows : Rows) (number : ℕ) (row : List Numbers) (s : MonthSums) → HasRowIn rows number → row ≡ get_or rows.rows.items (number - rows.first) row → s.month ≡ number
     → ((class : Class) → get_or s.ended (rank_of class) 0 ≡ (get_or row (rank_of class) nothing).ended)
     → ((class : Class) → get_or s.early (rank_of class) 0 ≡ (get_or row (rank_of class) nothing).early)
     → ((class : Class) → get_or s.moves (rank_of class) 0 ≡ (get_or row (rank_of class) nothing).moves)
     → IsMonthOf rows number s
 month_row rows number row s has is month ended early moves = record {
   month = month;
-  ended = λ class. ended class ∙ ap (λ (k : Kept). k.ended) (here (rank_of class));
-  early = λ class. early class ∙ ap (λ (k : Kept). k.early) (here (rank_of class));
-  moves = λ class. moves class ∙ ap (λ (k : Kept). k.moves) (here (rank_of class));
+  ended = λ class. ended class ∙ ap (λ (k : Numbers). k.ended) (here (rank_of class));
+  early = λ class. early class ∙ ap (λ (k : Numbers). k.early) (here (rank_of class));
+  moves = λ class. moves class ∙ ap (λ (k : Numbers). k.moves) (here (rank_of class));
 } where
   here : (r : ℕ) → get_or row r nothing ≡ kept_in rows number r
   here r =
       let w : get_or rows.rows.items (number - rows.first) [] ≡ row = get_or_default rows.rows.items (number - rows.first) [] row (omega (arith, has)) ∙ sym is in
-      ap (λ (l : List Kept). get_or l r nothing) (sym w) ∙ sym (kept_row rows number r has)
+      ap (λ (l : List Numbers). get_or l r nothing) (sym w) ∙ sym (kept_row rows number r has)
 
 -- ---- taking up the entries
 
@@ -164,8 +164,8 @@ listed_before numbers sums i d class few rising =
     fresh (λ (s : MonthSums). if s.month == (get_or sums i d).month then get_or (numbers s) (rank_of class) 0 else 0) sums i d (omega (arith, few))
     (λ k less. other_month (get_or sums k d).month (get_or sums i d).month _ (rising k i d less few))
 
-one_entry : (numbers : MonthSums → List ℕ) (number : Kept → ℕ) (sums : List MonthSums) (i : ℕ) (s : MonthSums)
-    (old new : Kept) (m : ℕ) (class : Class)
+one_entry : (numbers : MonthSums → List ℕ) (number : Numbers → ℕ) (sums : List MonthSums) (i : ℕ) (s : MonthSums)
+    (old new : Numbers) (m : ℕ) (class : Class)
     → i < length sums → s ≡ get_or sums i s → HaveRisingMonths sums
     → listed numbers (take i sums) m class ≡ number old → (m ≡ s.month → number new ≡ get_or (numbers s) (rank_of class) 0) → (m ≢ s.month → number new ≡ number old)
     → listed numbers (take (i + 1) sums) m class ≡ number new
@@ -189,7 +189,7 @@ one_entry numbers number sums i s old new m class few is rising so here there =
 abbrev pub IsTakenUp : Rows → Rows → MonthSums → Type 0
 IsTakenUp old new s = ((class : Class) → kept_in new s.month (rank_of class) ≡ summed_numbers s (rank_of class)) × ((m r : ℕ) → m ≢ s.month → kept_in new m r ≡ kept_in old m r)
 
-pub taken_up : (old mid new : Rows) (number : ℕ) (s : MonthSums) (row : List Kept) → number ≡ s.month → ((m r : ℕ) → kept_in mid m r ≡ kept_in old m r) → IsRowPut mid new number row
+pub taken_up : (old mid new : Rows) (number : ℕ) (s : MonthSums) (row : List Numbers) → number ≡ s.month → ((m r : ℕ) → kept_in mid m r ≡ kept_in old m r) → IsRowPut mid new number row
     → ((class : Class) → get_or row (rank_of class) nothing ≡ summed_numbers s (rank_of class)) → IsTakenUp old new s
 taken_up old mid new number s row is same put of = (
   λ class. subst (λ k. kept_in new k (rank_of class) ≡ summed_numbers s (rank_of class)) is (put.there (rank_of class) ∙ of class),
@@ -200,11 +200,11 @@ pub sums_more : (old new : Rows) (sums : List MonthSums) (i : ℕ) (s : MonthSum
     → AreSumsIn new (take (i + 1) sums)
 sums_more old new sums i s few is rising taken so = record {
   ended = λ m class. one_entry (λ s. s.ended) (λ k. k.ended) sums i s (kept_in old m (rank_of class)) (kept_in new m (rank_of class)) m class few is rising (so.ended m class)
-      (λ same. rw same (ap (λ (k : Kept). k.ended) (taken.0 class))) (λ other. ap (λ (k : Kept). k.ended) (taken.1 m (rank_of class) other));
+      (λ same. rw same (ap (λ (k : Numbers). k.ended) (taken.0 class))) (λ other. ap (λ (k : Numbers). k.ended) (taken.1 m (rank_of class) other));
   early = λ m class. one_entry (λ s. s.early) (λ k. k.early) sums i s (kept_in old m (rank_of class)) (kept_in new m (rank_of class)) m class few is rising (so.early m class)
-      (λ same. rw same (ap (λ (k : Kept). k.early) (taken.0 class))) (λ other. ap (λ (k : Kept). k.early) (taken.1 m (rank_of class) other));
+      (λ same. rw same (ap (λ (k : Numbers). k.early) (taken.0 class))) (λ other. ap (λ (k : Numbers). k.early) (taken.1 m (rank_of class) other));
   moves = λ m class. one_entry (λ s. s.moves) (λ k. k.moves) sums i s (kept_in old m (rank_of class)) (kept_in new m (rank_of class)) m class few is rising (so.moves m class)
-      (λ same. rw same (ap (λ (k : Kept). k.moves) (taken.0 class))) (λ other. ap (λ (k : Kept). k.moves) (taken.1 m (rank_of class) other));
+      (λ same. rw same (ap (λ (k : Numbers). k.moves) (taken.0 class))) (λ other. ap (λ (k : Numbers). k.moves) (taken.1 m (rank_of class) other));
 }
 
 small_at : (xs : List ℕ) (i b : ℕ) → 0 < b → All (λ n. n < b) xs → get_or xs i 0 < b
@@ -233,9 +233,9 @@ nothing_small = record { ended = omega arith; running = refl; since = refl; earl
 
 pub sums_none : (rows : Rows) → ((m rank : ℕ) → kept_in rows m rank ≡ nothing) → AreSumsIn rows []
 sums_none rows none = record {
-  ended = λ m class. sym (ap (λ (k : Kept). k.ended) (none m (rank_of class)));
-  early = λ m class. sym (ap (λ (k : Kept). k.early) (none m (rank_of class)));
-  moves = λ m class. sym (ap (λ (k : Kept). k.moves) (none m (rank_of class)));
+  ended = λ m class. sym (ap (λ (k : Numbers). k.ended) (none m (rank_of class)));
+  early = λ m class. sym (ap (λ (k : Numbers). k.early) (none m (rank_of class)));
+  moves = λ m class. sym (ap (λ (k : Numbers). k.moves) (none m (rank_of class)));
 }
 
 -- ---- the sums of a book

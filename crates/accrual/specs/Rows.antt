@@ -6,14 +6,14 @@ use Rattle.class_rules.specs.Lines.{lines_of}
 use Rattle.class_rules.specs.declared.class.Class.{Class}
 use Rattle.class_rules.specs.declared.billing.Lines.{Lines}
 use Rattle.accrual.specs.Meters.{bytes_in_class}
-use Rattle.accrual.specs.declared.rows.Kept.{Kept}
+use Rattle.accrual.specs.declared.rows.Numbers.{Numbers}
 use Rattle.accrual.specs.declared.rows.Rows.{Rows}
 
-abbrev pub nothing : Kept
+abbrev pub nothing : Numbers
 nothing = record { ended = 0; running = 0; since = 0; early = 0; moves = 0 }
 
 -- what is kept of the class with this rank in the month: nothing where there is no row
-unfoldable pub kept_in : Rows → ℕ → ℕ → Kept
+unfoldable pub kept_in : Rows → ℕ → ℕ → Numbers
 kept_in rows month rank =
     if nat_le rows.first month then get_or (get_or rows.rows.items (month - rows.first) []) rank nothing else nothing
 
@@ -21,14 +21,14 @@ abbrev pub HasRowIn : Rows → ℕ → Type 0
 HasRowIn rows month = (rows.first ≤ month) × (month < rows.first + length rows.rows.items)
 
 -- one place was written
-pub record IsPut (old new : Rows) (month rank : ℕ) (kept : Kept) : Type 0 where
+pub record IsPut (old new : Rows) (month rank : ℕ) (kept : Numbers) : Type 0 where
   pub there : kept_in new month rank ≡ kept
   pub others : (m r : ℕ) → (m ≢ month) ⊎ (r ≢ rank) → kept_in new m r ≡ kept_in old m r
   pub first : new.first ≡ old.first
   pub as_many : length new.rows.items ≡ length old.rows.items
 
 -- one row was written
-pub record IsRowPut (old new : Rows) (month : ℕ) (row : List Kept) : Type 0 where
+pub record IsRowPut (old new : Rows) (month : ℕ) (row : List Numbers) : Type 0 where
   pub there : (r : ℕ) → kept_in new month r ≡ get_or row r nothing
   pub others : (m r : ℕ) → m ≢ month → kept_in new m r ≡ kept_in old m r
   pub first : new.first ≡ old.first
@@ -39,7 +39,7 @@ abbrev pub at_place : ℕ → ℕ → ℕ → ℕ → ℕ → ℕ
 at_place month rank m r n = if m == month && rank == r then n else 0
 
 -- the numbers were added at one place
-pub record IsAdded (old new : Rows) (month rank : ℕ) (more : Kept) : Type 0 where
+pub record IsAdded (old new : Rows) (month rank : ℕ) (more : Numbers) : Type 0 where
   pub ended : (m r : ℕ) → (kept_in new m r).ended ≡ (kept_in old m r).ended + at_place month rank m r more.ended
   pub running : (m r : ℕ) → (kept_in new m r).running ≡ (kept_in old m r).running + at_place month rank m r more.running
   pub since : (m r : ℕ) → (kept_in new m r).since ≡ (kept_in old m r).since + at_place month rank m r more.since
@@ -49,7 +49,7 @@ pub record IsAdded (old new : Rows) (month rank : ℕ) (more : Kept) : Type 0 wh
   pub as_many : length new.rows.items ≡ length old.rows.items
 
 -- the numbers can be added without leaving their range
-pub record HasRoom (kept more : Kept) : Type 0 where
+pub record HasRoom (kept more : Numbers) : Type 0 where
   pub ended : kept.ended + more.ended < 2 ^ 128
   pub running : kept.running + more.running < 2 ^ 128
   pub since : kept.since + more.since < 2 ^ 128
@@ -57,7 +57,7 @@ pub record HasRoom (kept more : Kept) : Type 0 where
   pub moves : kept.moves + more.moves < 2 ^ 64
 
 -- the numbers can be taken out
-pub record IsWithin (less kept : Kept) : Type 0 where
+pub record IsWithin (less kept : Numbers) : Type 0 where
   pub ended : less.ended ≤ kept.ended
   pub running : less.running ≤ kept.running
   pub since : less.since ≤ kept.since
@@ -68,10 +68,10 @@ pub record IsWithin (less kept : Kept) : Type 0 where
 abbrev pub in_month : ℕ → ℕ → ℕ → ℕ
 in_month month m n = if m == month then n else 0
 
-abbrev pub begun_numbers : ℕ → ℕ → Kept
+abbrev pub begun_numbers : ℕ → ℕ → Numbers
 begun_numbers bytes ms = record { ended = 0; running = bytes; since = bytes * ms; early = 0; moves = 0 }
 
-abbrev pub ended_numbers : ℕ → ℕ → Kept
+abbrev pub ended_numbers : ℕ → ℕ → Numbers
 ended_numbers bytes ms = record { ended = bytes * ms; running = 0; since = 0; early = 0; moves = 0 }
 
 -- the kept numbers of the month hold a stay with these lines, so many milliseconds after its start
@@ -111,7 +111,7 @@ abbrev pub IsSettled : Rows → Rows → Lines → ℕ → ℕ → Type 0
 IsSettled old new lines month ms = IsEnded old new lines (λ m. in_month month m ms)
 
 -- far from the end of its range
-pub record IsModest (kept : Kept) : Type 0 where
+pub record IsModest (kept : Numbers) : Type 0 where
   pub ended : kept.ended < 2 ^ 127
   pub running : kept.running < 2 ^ 127
   pub since : kept.since < 2 ^ 127

@@ -7,7 +7,7 @@ use Rattle.accrual.specs.Books.{Stay, Book}
 use Rattle.accrual.specs.Meters.{early_quantity, move_count}
 use Rattle.accrual.specs.Totals.{has_no_end, ended_sum}
 use Rattle.accrual.specs.Rows.{kept_in}
-use Rattle.accrual.specs.declared.rows.Kept.{Kept}
+use Rattle.accrual.specs.declared.rows.Numbers.{Numbers}
 use Rattle.accrual.specs.declared.rows.Rows.{Rows}
 use Rattle.accrual.specs.declared.monthly.MonthSums.{MonthSums}
 
@@ -62,13 +62,13 @@ pub record IsMonthOf (rows : Rows) (number : ℕ) (sums : MonthSums) : Type 0 wh
   pub moves : (class : Class) → get_or sums.moves (rank_of class) 0 ≡ (kept_in rows number (rank_of class)).moves
 
 -- nothing is kept but of stays without an end
-pub record HasNoSum (kept : Kept) : Type 0 where
+pub record HasNoSum (kept : Numbers) : Type 0 where
   pub ended : kept.ended ≡ 0
   pub early : kept.early ≡ 0
   pub moves : kept.moves ≡ 0
 
 -- what is kept of a class in a month with these sums
-abbrev pub summed_numbers : MonthSums → ℕ → Kept
+abbrev pub summed_numbers : MonthSums → ℕ → Numbers
 summed_numbers sums rank = record {
   ended = get_or sums.ended rank 0;
   running = 0;
@@ -78,7 +78,7 @@ summed_numbers sums rank = record {
 }
 
 -- nothing is kept of a stay without an end, and the sums leave room
-pub record IsSmall (kept : Kept) : Type 0 where
+pub record IsSmall (kept : Numbers) : Type 0 where
   pub ended : kept.ended < 2 ^ 120
   pub running : kept.running ≡ 0
   pub since : kept.since ≡ 0

@@ -6,7 +6,7 @@ use Rattle.moments.specs.Months.{month_start, month_end}
 use Rattle.class_rules.specs.Classes.{rank_of, least_stay}
 use Rattle.class_rules.specs.declared.class.Class.{Class}
 use Rattle.class_rules.specs.declared.billing.Lines.{Lines}
-use Rattle.accrual.specs.declared.rows.Kept.{Kept}
+use Rattle.accrual.specs.declared.rows.Numbers.{Numbers}
 use Rattle.accrual.specs.declared.rows.Rows.{Rows}
 use Rattle.accrual.specs.Books.{Stay, Book, open_stay, book_with_early}
 use Rattle.accrual.specs.Meters.{bytes_in_class, is_in_month, early_quantity, move_count}
@@ -17,7 +17,7 @@ pub record Totals : Type 0 where
   pub rows : Rows
   pub booked : ℕ
 
-abbrev pub kept : Totals → ℕ → Class → Kept
+abbrev pub kept : Totals → ℕ → Class → Numbers
 kept totals month class = kept_in totals.rows month (rank_of class)
 
 -- the month has a row

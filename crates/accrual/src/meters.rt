@@ -10,7 +10,7 @@ ghost use Rattle.accrual.specs.Sums.{AreSumsOf, HasAllEnded, HaveRisingMonths, I
 ghost use Rattle.accrual.specs.Totals.{HasRow, AreTotalsOf, HasOpenStay, IsBilled, most_bookings, with_early_of};
 
 use crate::monthly::MonthSums;
-use crate::rows::{Kept, NOTHING, Rows};
+use crate::rows::{NOTHING, Numbers, Rows};
 use class_rules::{Class, Lines, least_duration};
 use moments::{Moment, Month, month_of, month_window};
 use office_base::NoMemory;
@@ -163,7 +163,7 @@ impl Meters {
     {
         let until = entered.ms() + least_duration(class);
         let owed = bytes as u128 * until.saturating_sub(at.ms()) as u128;
-        let more = Kept {
+        let more = Numbers {
             early: owed,
             ..NOTHING
         };
@@ -180,7 +180,7 @@ impl Meters {
         ensures rows { (month : ℕ) → HasRow self.old month → HasRow self.new month }
         ensures booked { self.new.booked ≡ self.old.booked + 1 }
     {
-        let more = Kept {
+        let more = Numbers {
             moves: 1,
             ..NOTHING
         };

@@ -8,7 +8,7 @@ ghost use Rattle.accrual.specs.Rows.{nothing, kept_in, HasRowIn};
 ghost use Rattle.accrual.specs.Sums.{AreSumsIn, IsMonthOf, HasNoSum, HaveRisingMonths, IsSmallMonth, IsSmall};
 ghost use Rattle.accrual.specs.Sums.{is_nothing, is_zero, summed_numbers};
 
-use crate::rows::{Kept, NOTHING, Rows};
+use crate::rows::{NOTHING, Numbers, Rows};
 use moments::Month;
 use std::alloc::{AllocError, Global};
 
@@ -101,7 +101,7 @@ fn are_zero(numbers: &[u128; 6]) -> bool
 }
 
 // The sums of a month by its row.
-fn sums_of(month: Month, row: &[Kept; 6]) -> MonthSums
+fn sums_of(month: Month, row: &[Numbers; 6]) -> MonthSums
     ensures month { result.month ≡ month }
     ensures ended { (class : Class)
         → get_or result.ended (rank_of class) 0 ≡ (get_or row.now (rank_of class) nothing).ended }
@@ -120,7 +120,7 @@ fn sums_of(month: Month, row: &[Kept; 6]) -> MonthSums
 }
 
 // The row of a month with these sums.
-fn row_of(sums: &MonthSums) -> [Kept; 6]
+fn row_of(sums: &MonthSums) -> [Numbers; 6]
     ensures { (class : Class) → get_or result (rank_of class) nothing ≡ summed_numbers sums.now (rank_of class) }
 {
     [
@@ -134,11 +134,11 @@ fn row_of(sums: &MonthSums) -> [Kept; 6]
 }
 
 // What is kept of the class with this rank in a month with these sums.
-fn kept_of(sums: &MonthSums, rank: usize) -> Kept
+fn kept_of(sums: &MonthSums, rank: usize) -> Numbers
     requires { rank < 6 }
     ensures { result ≡ summed_numbers sums.now rank }
 {
-    Kept {
+    Numbers {
         ended: sums.ended[rank],
         early: sums.early[rank],
         moves: sums.moves[rank],

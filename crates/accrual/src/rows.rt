@@ -13,7 +13,7 @@ use std::alloc::{AllocError, Global};
 
 /// What is kept of a class in a month.
 #[derive(Clone, Copy, Debug, PartialEq, Eq)]
-pub(crate) struct Kept {
+pub(crate) struct Numbers {
     // The byte-milliseconds, inside the month, of the stays that have ended.
     pub(crate) ended: u128,
     // The bytes of the stays without an end that began in the month.
@@ -31,10 +31,10 @@ pub(crate) struct Kept {
 pub(crate) struct Rows {
     // The month of the first row, from 0 for January 1970.
     pub(crate) first: u64,
-    pub(crate) rows: Vec<[Kept; 6]>,
+    pub(crate) rows: Vec<[Numbers; 6]>,
 }
 
-pub(crate) const NOTHING: Kept = Kept {
+pub(crate) const NOTHING: Numbers = Numbers {
     ended: 0,
     running: 0,
     since: 0,
@@ -56,7 +56,7 @@ impl Rows {
 
     // Reads what is kept; nothing where there is no row.
     #[tactic(auto, using(crate::proofs::Places::kept_anywhere))]
-    pub(crate) fn kept(&self, month: u64, class: Class) -> Kept
+    pub(crate) fn kept(&self, month: u64, class: Class) -> Numbers
         ensures { result ≡ kept_in self.now month (rank_of class) }
     {
         if month < self.first || month - self.first >= self.rows.len() as u64 {
@@ -66,7 +66,7 @@ impl Rows {
     }
 
     // Writes what is kept.
-    pub(crate) fn put(&mut self, month: u64, class: Class, kept: Kept)
+    pub(crate) fn put(&mut self, month: u64, class: Class, kept: Numbers)
         requires { HasRowIn self.old month }
         ensures { IsPut self.old self.new month (rank_of class) kept }
     {
@@ -74,7 +74,7 @@ impl Rows {
     }
 
     // Writes a month's row.
-    pub(crate) fn put_row(&mut self, month: u64, row: [Kept; 6])
+    pub(crate) fn put_row(&mut self, month: u64, row: [Numbers; 6])
         requires { HasRowIn self.old month }
         ensures { IsRowPut self.old self.new month row }
     {
@@ -82,13 +82,13 @@ impl Rows {
     }
 
     // Adds to what is kept.
-    pub(crate) fn add(&mut self, month: u64, class: Class, more: Kept)
+    pub(crate) fn add(&mut self, month: u64, class: Class, more: Numbers)
         requires row { HasRowIn self.old month }
         requires room { HasRoom (kept_in self.old month (rank_of class)) more }
         ensures { IsAdded self.old self.new month (rank_of class) more }
     {
         let kept = self.kept(month, class);
-        let sums = Kept {
+        let sums = Numbers {
             ended: kept.ended + more.ended,
             running: kept.running + more.running,
             since: kept.since + more.since,
@@ -99,13 +99,13 @@ impl Rows {
     }
 
     // Takes out of what is kept.
-    fn remove(&mut self, month: u64, class: Class, less: Kept)
+    fn remove(&mut self, month: u64, class: Class, less: Numbers)
         requires row { HasRowIn self.old month }
         requires within { IsWithin less (kept_in self.old month (rank_of class)) }
         ensures { IsAdded self.new self.old month (rank_of class) less }
     {
         let kept = self.kept(month, class);
-        let rest = Kept {
+        let rest = Numbers {
             ended: kept.ended - less.ended,
             running: kept.running - less.running,
             since: kept.since - less.since,
@@ -252,7 +252,7 @@ impl Rows {
 }
 
 // Writes what is kept of a class in a row.
-fn place(row: &mut [Kept; 6], class: Class, kept: Kept)
+fn place(row: &mut [Numbers; 6], class: Class, kept: Numbers)
     ensures classes { length row.old ≡ 6 }
     ensures row { row.new ≡ slice_set row.old (rank_of class) kept }
 {
@@ -260,10 +260,10 @@ fn place(row: &mut [Kept; 6], class: Class, kept: Kept)
 }
 
 // The numbers of a stay without an end.
-fn begun(bytes: u64, ms: u64) -> Kept
+fn begun(bytes: u64, ms: u64) -> Numbers
     ensures { result ≡ begun_numbers bytes ms }
 {
-    Kept {
+    Numbers {
         running: bytes as u128,
         since: bytes as u128 * ms as u128,
         ..NOTHING
@@ -271,10 +271,10 @@ fn begun(bytes: u64, ms: u64) -> Kept
 }
 
 // The numbers of a stay that has ended.
-fn ended(bytes: u64, ms: u64) -> Kept
+fn ended(bytes: u64, ms: u64) -> Numbers
     ensures { result ≡ ended_numbers bytes ms }
 {
-    Kept {
+    Numbers {
         ended: bytes as u128 * ms as u128,
         ..NOTHING
     }

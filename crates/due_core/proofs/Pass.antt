@@ -13,21 +13,21 @@ use Rattle.due_core.specs.Buckets.{BucketRecord}
 use Rattle.due_core.specs.RuleActions.{DueAction, Placed, placed_from, matches_version, version_actions, upload_actions}
 use Rattle.due_core.specs.Candidates.{timely, stack_candidates, upload_candidates, eligible_by, eligible, candidates}
 use Rattle.due_core.specs.Choice.{comes_before, least, choice}
-use Rattle.due_core.specs.Search.{Aim, Kept, nothing_found, none_of_all, with_come, with_each, with_each_due, aimed, setting_of, key_candidates, number_candidates}
+use Rattle.due_core.specs.Search.{Aim, Findings, nothing_found, none_of_all, with_come, with_each, with_each_due, aimed, setting_of, key_candidates, number_candidates}
 use Rattle.due_core.specs.declared.action.Candidate.{Candidate}
 use Rattle.due_core.specs.declared.action.Target.TheVariants as target
 use Rattle.due_core.proofs.Loops.{picked_twice, same_flat}
 
 -- ---- what one rule asks of one target
 
-due_by : (aim : Aim) (kept : Kept) (due : DueAction) (asked : List DueAction) (b : Bool)
-    → ((o : Kept) → with_each_due aim o asked ≡ with_each aim.t o (timely aim.key aim.target aim.rule aim.age aim.not_before asked))
+due_by : (aim : Aim) (kept : Findings) (due : DueAction) (asked : List DueAction) (b : Bool)
+    → ((o : Findings) → with_each_due aim o asked ≡ with_each aim.t o (timely aim.key aim.target aim.rule aim.age aim.not_before asked))
     → with_each_due aim (cond b (with_come aim.t kept (aimed aim due)) kept) asked
     ≡ with_each aim.t kept (Rattle.std.proofs.Common.map (aimed aim) (cond b (due ∷ filter (λ due. nat_lt due.1 end_of_time) asked) (filter (λ due. nat_lt due.1 end_of_time) asked)))
 due_by aim kept due asked true rest = rest (with_come aim.t kept (aimed aim due))
 due_by aim kept due asked false rest = rest kept
 
-pub due_come : (aim : Aim) (kept : Kept) (asked : List DueAction)
+pub due_come : (aim : Aim) (kept : Findings) (asked : List DueAction)
     → with_each_due aim kept asked ≡ with_each aim.t kept (timely aim.key aim.target aim.rule aim.age aim.not_before asked)
 due_come aim kept [] = refl
 due_come aim kept (due ∷ asked) = due_by aim kept due asked (nat_lt due.1 end_of_time) (λ o. due_come aim o asked)
@@ -52,7 +52,7 @@ module _ (bucket : BucketRecord) (rules : Configuration) (t : ℕ) where
       ∙ ap (λ ys. flat_map (stack_candidates bucket rules) bucket.stacks ++ ys) (same_flat _ _ same_upload bucket.uploads)
 
 -- what is kept after the versions and the uploads
-pub is_eligible : (bucket : BucketRecord) (rules : Configuration) (t : ℕ) (start versions all : Kept) → bucket.rules ≡ Some rules
+pub is_eligible : (bucket : BucketRecord) (rules : Configuration) (t : ℕ) (start versions all : Findings) → bucket.rules ≡ Some rules
     → versions ≡ with_each t start (flat_map (key_candidates (setting_of bucket rules t) rules.rules) bucket.stacks)
     → all ≡ with_each t versions (flat_map (number_candidates (setting_of bucket rules t) rules.rules) bucket.uploads)
     → all ≡ with_each t start (eligible bucket)
@@ -69,7 +69,7 @@ is_eligible bucket rules t start versions all own is-versions is-all =
 abbrev has_come : ℕ → Candidate → Bool
 has_come t candidate = nat_le candidate.action.since t
 
-abbrev one : Option Candidate → Kept
+abbrev one : Option Candidate → Findings
 one o = record { first = o; all = None }
 
 some_by : (t : ℕ) (b x : Candidate) (xs : List Candidate) (come : Bool)
@@ -93,10 +93,10 @@ first_none t [] = refl
 first_none t (x ∷ xs) = none_by t x xs (has_come t x) (first_none t xs)
 
 -- the choice of a bucket with rules
-pub is_choice : (bucket : BucketRecord) (t : ℕ) (kept : Kept) → kept ≡ with_each t nothing_found (eligible bucket)
+pub is_choice : (bucket : BucketRecord) (t : ℕ) (kept : Findings) → kept ≡ with_each t nothing_found (eligible bucket)
     → option_map (λ (c : Candidate). c.action) kept.first ≡ choice bucket t
 unfolding choice candidates
-is_choice bucket t kept is = ap (λ (k : Kept). option_map (λ (c : Candidate). c.action) k.first) (is ∙ first_none t (eligible bucket))
+is_choice bucket t kept is = ap (λ (k : Findings). option_map (λ (c : Candidate). c.action) k.first) (is ∙ first_none t (eligible bucket))
 
 -- and of one without
 pub no_choice : (bucket : BucketRecord) (t : ℕ) → bucket.rules ≡ None → choice bucket t ≡ None
@@ -105,7 +105,7 @@ no_choice bucket t own = rw own refl
 
 -- ---- all of those that have come
 
-abbrev many : List Candidate → Kept
+abbrev many : List Candidate → Findings
 many all = record { first = None; all = Some all }
 
 all_by : (t : ℕ) (x : Candidate) (xs all : List Candidate) (come : Bool)
@@ -118,10 +118,10 @@ all_come : (t : ℕ) (all xs : List Candidate) → with_each t (many all) xs ≡
 all_come t all [] = ap many (sym (append-nil all))
 all_come t all (x ∷ xs) = all_by t x xs all (has_come t x) (λ ys. all_come t ys xs)
 
-are_candidates : (bucket : BucketRecord) (t : ℕ) (kept : Kept) → kept ≡ with_each t none_of_all (eligible bucket) → kept.all ≡ Some (candidates bucket t)
+are_candidates : (bucket : BucketRecord) (t : ℕ) (kept : Findings) → kept ≡ with_each t none_of_all (eligible bucket) → kept.all ≡ Some (candidates bucket t)
 unfolding candidates
-are_candidates bucket t kept is = ap (λ (k : Kept). k.all) (is ∙ all_come t [] (eligible bucket))
+are_candidates bucket t kept is = ap (λ (k : Findings). k.all) (is ∙ all_come t [] (eligible bucket))
 
-pub all_found : (bucket : BucketRecord) (t : ℕ) (kept : Kept) (found : List Candidate) → kept ≡ with_each t none_of_all (eligible bucket)
+pub all_found : (bucket : BucketRecord) (t : ℕ) (kept : Findings) (found : List Candidate) → kept ≡ with_each t none_of_all (eligible bucket)
     → found ≡ unwrap_or kept.all [] → found ≡ candidates bucket t
 all_found bucket t kept found is taken = taken ∙ ap (λ (o : Option (List Candidate)). unwrap_or o []) (are_candidates bucket t kept is)

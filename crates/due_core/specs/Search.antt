@@ -25,32 +25,32 @@ sooner None next = next
 sooner (Some best) next = if comes_before next best then next else best
 
 -- what is kept of the candidates whose moment has come: the first so far, or all where they are wanted
-pub record Kept : Type 0 where
+pub record Findings : Type 0 where
   pub first : Option Candidate
   pub all : Option (List Candidate)
 
 -- nothing yet, where the first is wanted
-abbrev pub nothing_found : Kept
+abbrev pub nothing_found : Findings
 nothing_found = record { first = None; all = None }
 
 -- nothing yet, where all are wanted
-abbrev pub none_of_all : Kept
+abbrev pub none_of_all : Findings
 none_of_all = record { first = None; all = Some [] }
 
-abbrev pub took_by : Option Candidate → Option (List Candidate) → Candidate → Kept
+abbrev pub took_by : Option Candidate → Option (List Candidate) → Candidate → Findings
 took_by first None next = record { first = Some (sooner first next); all = None }
 took_by first (Some all) next = record { first = first; all = Some (all ++ next ∷ []) }
 
 -- one more is kept
-abbrev pub took : Kept → Candidate → Kept
+abbrev pub took : Findings → Candidate → Findings
 took kept next = took_by kept.first kept.all next
 
 -- one whose moment has come is kept
-abbrev pub with_come : ℕ → Kept → Candidate → Kept
+abbrev pub with_come : ℕ → Findings → Candidate → Findings
 with_come t kept next = if nat_le next.action.since t then took kept next else kept
 
 -- what is kept after these
-abbrev pub with_each : ℕ → Kept → List Candidate → Kept
+abbrev pub with_each : ℕ → Findings → List Candidate → Findings
 with_each t kept candidates = fold (with_come t) kept candidates
 
 -- a target and a rule that matches it, before which moment no action on it stands, and the moment of the search
@@ -75,11 +75,11 @@ aimed aim due = record {
 }
 
 -- an action that the rule asks for is looked at, unless it is never due
-abbrev pub with_due : Aim → Kept → DueAction → Kept
+abbrev pub with_due : Aim → Findings → DueAction → Findings
 with_due aim kept due = if nat_lt due.1 end_of_time then with_come aim.t kept (aimed aim due) else kept
 
 -- what is kept after what the rule asks for
-abbrev pub with_each_due : Aim → Kept → List DueAction → Kept
+abbrev pub with_each_due : Aim → Findings → List DueAction → Findings
 with_each_due aim kept asked = fold (with_due aim) kept asked
 
 -- ---- the candidates in the order of the search: each version or upload, and each rule with its place from 1

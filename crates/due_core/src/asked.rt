@@ -6,8 +6,8 @@ ghost use Rattle.due_core.specs.RuleActions.{noncurrent_removals, noncurrent_tra
 ghost use Rattle.due_core.specs.RuleActions.{keeps_newer, admits_move, due_when, version_actions, upload_actions};
 ghost use Rattle.due_core.specs.Search.{with_each_due, asked_of_object};
 
+use crate::findings::Findings;
 use crate::found::Found;
-use crate::kept::Kept;
 use crate::{ActionKind, Target};
 use class_rules::{Class, may_go};
 use moments::{Moment, due_after, up};
@@ -104,7 +104,7 @@ fn expiring(versioning: Versioning) -> ActionKind
 
 impl<'a> Aim<'a> {
     // Looks at an action that is due at a moment. It does not stand before its target or the rules changed.
-    fn at(&self, kept: &mut Kept<'a>, kind: ActionKind, due: Moment) -> Result<(), NoMemory>
+    fn at(&self, kept: &mut Findings<'a>, kind: ActionKind, due: Moment) -> Result<(), NoMemory>
         ensures { IfOk result (λ _. kept.new ≡ with_each_due self.now kept.old ((kind, due) ∷ [])) }
     {
         let since = if due.ms() < self.not_before.ms() {
@@ -126,7 +126,7 @@ impl<'a> Aim<'a> {
     // Looks at an action that is due so many days after a moment.
     fn in_days(
         &self,
-        kept: &mut Kept<'a>,
+        kept: &mut Findings<'a>,
         kind: ActionKind,
         from: Moment,
         days: u32,
@@ -142,7 +142,7 @@ impl<'a> Aim<'a> {
     // Looks at an action that is due by days after the creation, or at a date.
     fn expiring(
         &self,
-        kept: &mut Kept<'a>,
+        kept: &mut Findings<'a>,
         kind: ActionKind,
         created: Moment,
         expiration: &Expiration,
@@ -162,7 +162,7 @@ impl<'a> Aim<'a> {
     // Looks at one move of a current object.
     fn transition(
         &self,
-        kept: &mut Kept<'a>,
+        kept: &mut Findings<'a>,
         mode: SizeMode,
         rule: &Rule,
         object: &Held,
@@ -186,7 +186,7 @@ impl<'a> Aim<'a> {
     // Looks at the moves of a current object.
     fn transitions(
         &self,
-        kept: &mut Kept<'a>,
+        kept: &mut Findings<'a>,
         mode: SizeMode,
         rule: &Rule,
         object: &Held,
@@ -204,7 +204,7 @@ impl<'a> Aim<'a> {
     // Looks at the moves of a noncurrent object.
     fn noncurrent_moves(
         &self,
-        kept: &mut Kept<'a>,
+        kept: &mut Findings<'a>,
         mode: SizeMode,
         rule: &Rule,
         object: &Held,
@@ -226,7 +226,7 @@ impl<'a> Aim<'a> {
     // Looks at the removal of a noncurrent version.
     fn noncurrent_removal(
         &self,
-        kept: &mut Kept<'a>,
+        kept: &mut Findings<'a>,
         rule: &Rule,
         newer: u64,
         ceased: Moment,
@@ -249,7 +249,7 @@ impl<'a> Aim<'a> {
     // Looks at what ends a current object.
     fn expiration(
         &self,
-        kept: &mut Kept<'a>,
+        kept: &mut Findings<'a>,
         versioning: Versioning,
         rule: &Rule,
         created: Moment,
@@ -266,7 +266,7 @@ impl<'a> Aim<'a> {
     // Looks at what removes a delete marker that is the only version of its key.
     fn lone_marker(
         &self,
-        kept: &mut Kept<'a>,
+        kept: &mut Findings<'a>,
         rule: &Rule,
         created: Moment,
         changed: Moment,
@@ -290,7 +290,7 @@ impl<'a> Aim<'a> {
     // Looks at an action that is due at the midnight that is not before a moment.
     fn at_midnight(
         &self,
-        kept: &mut Kept<'a>,
+        kept: &mut Findings<'a>,
         kind: ActionKind,
         from: Moment,
     ) -> Result<(), NoMemory>
@@ -305,7 +305,7 @@ impl<'a> Aim<'a> {
     // Looks at all that a rule asks of an object with so many newer versions.
     fn object(
         &self,
-        kept: &mut Kept<'a>,
+        kept: &mut Findings<'a>,
         setting: &Setting,
         rule: &Rule,
         object: &Held,
@@ -327,7 +327,7 @@ impl<'a> Aim<'a> {
     // Looks at all that a rule asks of a delete marker.
     fn marker(
         &self,
-        kept: &mut Kept<'a>,
+        kept: &mut Findings<'a>,
         rule: &Rule,
         placed: &Placed<'a>,
         changed: Moment,
@@ -352,7 +352,7 @@ impl<'a> Aim<'a> {
     #[tactic(auto, unfolding(crate::specs::RuleActions::version_actions))]
     pub(crate) fn version(
         &self,
-        kept: &mut Kept<'a>,
+        kept: &mut Findings<'a>,
         setting: &Setting,
         rule: &Rule,
         placed: &Placed<'a>,
@@ -376,7 +376,7 @@ impl<'a> Aim<'a> {
     /// Looks at what a rule asks of an upload.
     pub(crate) fn upload(
         &self,
-        kept: &mut Kept<'a>,
+        kept: &mut Findings<'a>,
         rule: &Rule,
         upload: &Upload,
     ) -> Result<(), NoMemory>

@@ -4,8 +4,8 @@
 mod action;
 mod asked;
 mod bucket;
+mod findings;
 mod found;
-mod kept;
 mod laws;
 mod walk;
 

@@ -8,7 +8,7 @@ ghost use Rattle.due_core.specs.Search.{with_each, setting_of, asked_of_version,
 ghost use Rattle.due_core.specs.Search.{key_candidates, number_candidates};
 
 use crate::asked::{Aim, Placed, Setting};
-use crate::kept::{Kept, queue};
+use crate::findings::{Findings, queue};
 use crate::{Action, Bucket, Target};
 use moments::Moment;
 use office_base::{Key, NoMemory};
@@ -36,7 +36,7 @@ fn matches_version(filter: &Filter, key: &Key, version: &Version) -> bool
 // Looks at what the rule with this number asks of a version.
 #[tactic(auto, using(crate::proofs::Pass::due_come))]
 fn rule_of_version<'a>(
-    kept: &mut Kept<'a>,
+    kept: &mut Findings<'a>,
     setting: &Setting,
     rule: &Rule,
     number: u32,
@@ -64,7 +64,7 @@ fn rule_of_version<'a>(
 // Looks at what the rule with this number asks of an upload.
 #[tactic(auto, using(crate::proofs::Pass::due_come))]
 fn rule_of_upload<'a>(
-    kept: &mut Kept<'a>,
+    kept: &mut Findings<'a>,
     setting: &Setting,
     rule: &Rule,
     number: u32,
@@ -90,7 +90,7 @@ fn rule_of_upload<'a>(
 
 // Looks at what the rules ask of a version.
 fn version<'a>(
-    kept: &mut Kept<'a>,
+    kept: &mut Findings<'a>,
     setting: &Setting,
     rules: &[Rule],
     key: &'a Key,
@@ -110,7 +110,7 @@ fn version<'a>(
 
 // Looks at what the rules ask of the versions of a key.
 fn stack<'a>(
-    kept: &mut Kept<'a>,
+    kept: &mut Findings<'a>,
     setting: &Setting,
     rules: &[Rule],
     key: &'a Key,
@@ -135,7 +135,7 @@ fn stack<'a>(
 
 // Looks at what the rules ask of an upload.
 fn upload<'a>(
-    kept: &mut Kept<'a>,
+    kept: &mut Findings<'a>,
     setting: &Setting,
     rules: &[Rule],
     place: u64,
@@ -154,7 +154,7 @@ fn upload<'a>(
 
 // Looks at what the rules ask of all versions.
 fn stacks<'a>(
-    kept: &mut Kept<'a>,
+    kept: &mut Findings<'a>,
     bucket: &'a Bucket,
     setting: &Setting,
     rules: &[Rule],
@@ -171,7 +171,7 @@ fn stacks<'a>(
 
 // Looks at what the rules ask of all uploads.
 fn uploads<'a>(
-    kept: &mut Kept<'a>,
+    kept: &mut Findings<'a>,
     bucket: &'a Bucket,
     setting: &Setting,
     rules: &[Rule],
@@ -200,7 +200,7 @@ fn setting_of(bucket: &Bucket, rules: &RuleSet, t: Moment) -> Setting
 // Looks at all that the rules of a bucket ask.
 #[tactic(auto, using(crate::proofs::RuleCount::few_rules))]
 fn look<'a>(
-    kept: &mut Kept<'a>,
+    kept: &mut Findings<'a>,
     bucket: &'a Bucket,
     rules: &RuleSet,
     t: Moment,
@@ -219,7 +219,7 @@ fn first<'a>(bucket: &'a Bucket, rules: &RuleSet, t: Moment) -> Result<Option<Ac
     requires own { bucket.now.rules ≡ Some rules.now }
     ensures { IfOk result (λ action. action ≡ choice bucket.now t) }
 {
-    let mut kept = Kept::first();
+    let mut kept = Findings::first();
     look(&mut kept, bucket, rules, t)?;
     kept.action()
 }
@@ -234,7 +234,7 @@ fn all<'a>(
     requires own { bucket.now.rules ≡ Some rules.now }
     ensures { IfOk result (λ actions. IsQueue (candidates bucket.now t) actions.items) }
 {
-    let mut kept = Kept::all(alloc);
+    let mut kept = Findings::all(alloc);
     look(&mut kept, bucket, rules, t)?;
     queue(alloc, kept.into_all(alloc))
 }

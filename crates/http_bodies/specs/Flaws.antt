@@ -1,7 +1,7 @@
 -- What is wrong with a body.
-use Rattle.std.specs.Prelude.{◌≡◌, ℕ, List, [], Option, Some, None, Result, Ok, Err, IfSome, ok_or, string_bytes}
+use Rattle.std.specs.Prelude.{ℕ, List, [], Option, Some, None, Result, Ok, Err, ok_or, string_bytes}
 use Rattle.serde_json.specs.Data.{Data}
-use Rattle.office_base.specs.Results.{◌>>=◌}
+use Rattle.office_base.specs.Results.{◌>>=◌, GivesBy}
 use Rattle.json_fields.specs.Fields.{first_unknown}
 use Rattle.http_bodies.specs.Bodies.{body_object}
 use Rattle.http_bodies.specs.declared.fault.BodyFault.{BodyFault}
@@ -25,8 +25,7 @@ body_flaw_of NoMemory = None
 
 -- an answer, seen by view, is what reading gives, unless memory ran out
 abbrev pub BodySays : {X Y : Type 0} → (X → Y) → Result X BodyFault → Result Y BodyFlaw → Type 0
-BodySays view (Ok x) read = read ≡ Ok (view x)
-BodySays view (Err fault) read = IfSome (body_flaw_of fault) (λ flaw. read ≡ Err flaw)
+BodySays view answer read = GivesBy body_flaw_of view answer read
 
 -- a body without a field that is unknown
 abbrev pub if_known : Data → Option (List ℕ) → Result Data BodyFlaw

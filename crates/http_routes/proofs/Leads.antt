@@ -5,22 +5,22 @@ use Rattle.std.specs.Str.{IsUtf8}
 use Rattle.std.proofs.lemmas.List.{get_or-map, length-map}
 use Rattle.std.proofs.lemmas.Str.{IsUtf8-from_is_utf8, is_utf8-from_IsUtf8}
 use Rattle.route_table.specs.Paths.{path_of, AreInRange, has_byte}
-use Rattle.route_table.specs.Patterns.{Shape, shapes_of, parts_of, HasPattern, are_disjoint}
+use Rattle.route_table.specs.Patterns.{Shape, shapes_of, parts_between, HasPattern, are_disjoint}
 use Rattle.route_table.specs.Tables.{patterns_of, Leads, LeadsNowhere}
 use Rattle.route_table.proofs.Filled.{filled, filled_shapes, is_filled}
 use Rattle.route_table.proofs.Unique.{leads_only}
 use Rattle.http_routes.specs.declared.routes.Kind.{Kind}
 use Rattle.http_routes.specs.declared.routes.Kind.TheVariants.{Bucket, Versioning, Lifecycle, Object, Version, Tags, Uploads, Upload, Part, Act, Due, Meters, Tariff, Close, Report}
 use Rattle.http_routes.specs.Targets.{Resource, bucket, versioning, lifecycle, object, version, tags, uploads, upload, part, act, due, meters, tariff, close, report, pieces_of, Spells, HasRoute}
-use Rattle.http_routes.specs.Table.{named, pattern_of, all_kinds, rows}
+use Rattle.http_routes.specs.Table.{named, pattern_of, route_kinds, rows}
 
 -- ---- an arm for each route
 
 -- where a kind stands in the table, and that its pattern with parts spells what they name
 pub record HasPlace (kind : Kind) : Type 0 where
   pub place : ℕ
-  pub within : place < length all_kinds
-  pub is : get_or all_kinds place Bucket ≡ kind
+  pub within : place < length route_kinds
+  pub is : get_or route_kinds place Bucket ≡ kind
   pub spells : (parts : List (List ℕ)) → filled (pattern_of kind) parts 0 ≡ pieces_of (named kind parts)
 
 place_of : (kind : Kind) → HasPlace kind
@@ -43,7 +43,7 @@ place_of Report = record { place = 14; within = omega arith; is = refl; spells =
 -- the kind of what is named, which its parts name
 pub record HasKind (resource : Resource) : Type 0 where
   pub kind : Kind
-  pub is : named kind (parts_of (pieces_of resource)) ≡ resource
+  pub is : named kind (parts_between (pieces_of resource)) ≡ resource
 
 kind_of : (resource : Resource) → HasKind resource
 kind_of (bucket name) = record { kind = Bucket; is = refl }
@@ -77,13 +77,13 @@ has_row : (kind : Kind) → Contains rows (row kind)
 unfolding rows
 has_row kind =
     let at = place_of kind in
-    (at.place, omega (arith, length-map all_kinds row, at.within), get_or-map row all_kinds at.place Bucket (row kind) at.within ∙ ap row at.is)
+    (at.place, omega (arith, length-map route_kinds row, at.within), get_or-map row route_kinds at.place Bucket (row kind) at.within ∙ ap row at.is)
 
 row_is : (pattern : List Shape) (kind : Kind) → Contains rows (pattern, kind) → pattern ≡ pattern_of kind
 unfolding rows
 row_is pattern kind (place, within, is) =
-    let there : row (get_or all_kinds place Bucket) ≡ (pattern, kind) =
-    sym (get_or-map row all_kinds place Bucket (pattern, kind) (omega (arith, length-map all_kinds row, within))) ∙ is in
+    let there : row (get_or route_kinds place Bucket) ≡ (pattern, kind) =
+    sym (get_or-map row route_kinds place Bucket (pattern, kind) (omega (arith, length-map route_kinds row, within))) ∙ is in
     sym (ap (λ (r : List Shape × Kind). r.0) there) ∙ ap (λ (r : List Shape × Kind). pattern_of r.1) there
 
 -- what the table leads to is spelled by the path
@@ -94,10 +94,10 @@ spelled path kind parts leads =
     (has.spelled ∙ ap path_of pieces, subst AreInRange pieces has.in_range)
 
 -- and to what is spelled the table leads
-leads : (resource : Resource) (path : List ℕ) → Spells path resource → Leads rows path (kind_of resource).kind (parts_of (pieces_of resource))
+leads : (resource : Resource) (path : List ℕ) → Spells path resource → Leads rows path (kind_of resource).kind (parts_between (pieces_of resource))
 leads resource path is =
     let of = kind_of resource in
-    let parts = parts_of (pieces_of resource) in
+    let parts = parts_between (pieces_of resource) in
     let pieces : filled (pattern_of of.kind) parts 0 ≡ pieces_of resource = (place_of of.kind).spells parts ∙ ap pieces_of of.is in
     record {
       pattern = pattern_of of.kind;
@@ -116,8 +116,8 @@ pub one_route : (target : List ℕ) (one other : Resource) → HasRoute target o
 one_route target one other has also =
     let first = kind_of one in
     let second = kind_of other in
-    let parts = parts_of (pieces_of one) in
-    let more = parts_of (pieces_of other) in
+    let parts = parts_between (pieces_of one) in
+    let more = parts_between (pieces_of other) in
     let same = leads_only rows target second.kind more disjoint (leads other target also.spelled) first.kind parts (leads one target has.spelled) in
     sym first.is ∙ ap (λ (k : Kind). named k parts) same.0 ∙ ap (λ (p : List (List ℕ)). named second.kind p) same.1 ∙ second.is
 
@@ -130,7 +130,7 @@ not_text target not resource has = not (IsUtf8-from_is_utf8 target has.text)
 -- a path that the table leads nowhere is no target
 pub not_found : (target path : List ℕ) → path ≡ target → LeadsNowhere rows path → (resource : Resource) → HasRoute target resource → ⊥
 not_found target path same nowhere resource has =
-    subst (λ (p : List ℕ). LeadsNowhere rows p) same nowhere (kind_of resource).kind (parts_of (pieces_of resource)) (leads resource target has.spelled)
+    subst (λ (p : List ℕ). LeadsNowhere rows p) same nowhere (kind_of resource).kind (parts_between (pieces_of resource)) (leads resource target has.spelled)
 
 -- a path that it leads somewhere is a target of what is named
 pub found : (target path : List ℕ) (resource : Resource) (kind : Kind) (parts : List (List ℕ)) → path ≡ target → IsUtf8 target

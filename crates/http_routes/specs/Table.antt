@@ -40,11 +40,11 @@ abbrev pub pattern_of : Kind → List Shape
 pattern_of kind = shapes_of (pieces_of (named kind []))
 
 -- the kinds, in the order of the table
-abbrev pub all_kinds : List Kind
-all_kinds =
+abbrev pub route_kinds : List Kind
+route_kinds =
     Bucket ∷ Versioning ∷ Lifecycle ∷ Object ∷ Version ∷ Tags ∷ Uploads ∷ Upload ∷ Part ∷ Act ∷ Due ∷ Meters
     ∷ Tariff ∷ Close ∷ Report ∷ []
 
 -- its rows
 unfoldable pub rows : List (List Shape × Kind)
-rows = map (λ kind. (pattern_of kind, kind)) all_kinds
+rows = map (λ kind. (pattern_of kind, kind)) route_kinds

@@ -1,9 +1,10 @@
 -- Values as JSON (RFC 8259).
 use Rattle.std.specs.Prelude.{ℕ, List, [], ◌∷◌, decimal}
-use Rattle.serde_json.specs.Data.{Data, number, unsigned, string, array, object, Members, no_members, put}
+use Rattle.serde_json.specs.Data.{Data, string, array, object, Members, no_members, put}
 use Rattle.serde_json.specs.View.{items_of}
 use Rattle.serde_json.specs.Written.{compact_text}
 use Rattle.moments.specs.Texts.{moment_text}
+pub use Rattle.rules_json.specs.Printing.{whole_data}
 use Rattle.office_base.specs.Tags.{Tag}
 use Rattle.office_base.specs.Versions.{id_text}
 use Rattle.office_base.specs.declared.version_id.VersionId.{VersionId}
@@ -18,9 +19,6 @@ json_object fields = object (members fields)
 
 abbrev pub array_of : List Data → Data
 array_of values = array (items_of values)
-
-abbrev pub whole_data : ℕ → Data
-whole_data n = number (unsigned n)
 
 -- a number as a text of digits
 abbrev pub digits_of : ℕ → Data

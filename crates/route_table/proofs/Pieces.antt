@@ -6,7 +6,7 @@ use Rattle.std.proofs.lemmas.Bool.{and_parts, not-true, false≢true, ltb-true}
 use Rattle.matchit.specs.Rows.{param_token, catch_all_token}
 use Rattle.matchit.specs.Seek.{has_slash}
 use Rattle.route_table.specs.Paths.{Piece, word, segment, remainder, IsPart, has_byte, path_of, AreInRange}
-use Rattle.route_table.specs.Patterns.{Shape, a_word, a_segment, a_remainder, shapes_of, parts_of, HasPattern, is_word_byte, is_pattern}
+use Rattle.route_table.specs.Patterns.{Shape, a_word, a_segment, a_remainder, shapes_of, parts_between, HasPattern, is_word_byte, is_pattern}
 use Rattle.route_table.specs.Routed.{tokens_of}
 use Rattle.route_table.proofs.Tokens.{IsSegment, Takes, IsEndOrSlash, IsPlain, IsSpelled}
 
@@ -187,15 +187,15 @@ word_takes (b ∷ text) tokens path parts small t =
     byte_takes b (text ++ tokens) (text ++ path) parts both.0.small (word_takes text tokens path parts both.1 t)
 
 pieces_take : (pieces : List Piece) → is_pattern (shapes_of pieces) ≡ true → AreInRange pieces
-    → Takes (tokens_of (shapes_of pieces)) (path_of pieces) (parts_of pieces)
+    → Takes (tokens_of (shapes_of pieces)) (path_of pieces) (parts_between pieces)
 pieces_take [] fine are = (refl, refl)
 pieces_take (word text ∷ pieces) fine are =
     let both = first_word text (shapes_of pieces) fine in
-    byte_takes 47 (text ++ tokens_of (shapes_of pieces)) (text ++ path_of pieces) (parts_of pieces) (omega arith)
-    (word_takes text (tokens_of (shapes_of pieces)) (path_of pieces) (parts_of pieces) both.0 (pieces_take pieces both.1 are))
+    byte_takes 47 (text ++ tokens_of (shapes_of pieces)) (text ++ path_of pieces) (parts_between pieces) (omega arith)
+    (word_takes text (tokens_of (shapes_of pieces)) (path_of pieces) (parts_between pieces) both.0 (pieces_take pieces both.1 are))
 pieces_take (segment text ∷ pieces) fine are =
-    byte_takes 47 (param_token ∷ tokens_of (shapes_of pieces)) (text ++ path_of pieces) (text ∷ parts_of pieces) (omega arith)
-    (inr (inl (refl, text, path_of pieces, parts_of pieces, segment_of_part text are.0, refl, refl, pieces_take pieces fine are.1)))
+    byte_takes 47 (param_token ∷ tokens_of (shapes_of pieces)) (text ++ path_of pieces) (text ∷ parts_between pieces) (omega arith)
+    (inr (inl (refl, text, path_of pieces, parts_between pieces, segment_of_part text are.0, refl, refl, pieces_take pieces fine are.1)))
 pieces_take (remainder text ∷ []) fine are =
     let whole = append-nil text in
     byte_takes 47 (catch_all_token ∷ []) (text ++ []) (text ∷ []) (omega arith)
@@ -208,5 +208,5 @@ pub takes : (pattern : List Shape) (path : List ℕ) (parts : List (List ℕ)) �
 takes pattern path parts fine has =
     subst (λ (p : List Shape). Takes (tokens_of p) path parts) has.has_shapes
     (subst (λ (q : List (List ℕ)). Takes (tokens_of (shapes_of has.pieces)) path q) has.has_parts
-    (subst (λ (y : List ℕ). Takes (tokens_of (shapes_of has.pieces)) y (parts_of has.pieces)) (sym has.spelled)
+    (subst (λ (y : List ℕ). Takes (tokens_of (shapes_of has.pieces)) y (parts_between has.pieces)) (sym has.spelled)
     (pieces_take has.pieces (ap is_pattern has.has_shapes ∙ fine) has.in_range)))

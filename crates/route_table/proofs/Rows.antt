@@ -12,7 +12,7 @@ use Rattle.matchit.specs.declared.error.InsertError.{InsertError}
 use Rattle.matchit.specs.declared.error.InsertError.TheVariants.{Conflict, InvalidParam, InvalidParamSegment, InvalidCatchAll, OutOfMemory}
 use Rattle.route_table.specs.Patterns.{Shape, is_pattern, are_disjoint}
 use Rattle.route_table.specs.Tables.{patterns_of}
-use Rattle.route_table.specs.Routed.{spelling, tokens_of, Among, IsRow, AreRows, HasPlace, AddsRow, HoldsRoutes, IsRouted}
+use Rattle.route_table.specs.Routed.{pattern_text, tokens_of, Among, IsRow, AreRows, HasPlace, AddsRow, HoldsRoutes, IsRouted}
 use Rattle.route_table.proofs.Clear.{apart_conflict}
 use Rattle.route_table.proofs.Spelled.{reads, longer}
 use Rattle.route_table.proofs.Unique.{pattern_at, apart_at, patterns_length}
@@ -20,7 +20,7 @@ use Rattle.route_table.proofs.Unique.{pattern_at, apart_at, patterns_length}
 -- ---- one more row
 
 -- what matchit read of a pattern's text is one more row
-pub adds : (shapes : List Shape) (text : List ℕ) (place : ℕ) (old new : RowsOf (RouteOf ℕ)) → text ≡ spelling shapes → length text < 2 ^ 64
+pub adds : (shapes : List Shape) (text : List ℕ) (place : ℕ) (old new : RowsOf (RouteOf ℕ)) → text ≡ pattern_text shapes → length text < 2 ^ 64
     → is_pattern shapes ≡ true → InsertsRead (parse_route text) place old new (Ok tt) → AddsRow (tokens_of shapes) place old new
 adds shapes text place old new e short fine inserts =
     let read = reads shapes fine in
@@ -33,7 +33,7 @@ adds shapes text place old new e short fine inserts =
     }
 
 -- where no row stands in the way, it is refused for want of memory alone
-pub refused : (shapes : List Shape) (text : List ℕ) (place : ℕ) (old new : RowsOf (RouteOf ℕ)) (e : InsertError) → text ≡ spelling shapes
+pub refused : (shapes : List Shape) (text : List ℕ) (place : ℕ) (old new : RowsOf (RouteOf ℕ)) (e : InsertError) → text ≡ pattern_text shapes
     → is_pattern shapes ≡ true → nearest (tokens_of shapes) old ≡ None → InsertsRead (parse_route text) place old new (Err e) → e ≡ OutOfMemory
 refused shapes text place old new e is fine free inserts =
     let read = reads shapes fine in

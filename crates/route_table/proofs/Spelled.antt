@@ -9,7 +9,7 @@ use Rattle.matchit.specs.Route.{Scan, scan, parse_route, after_shape, shape_erro
 use Rattle.matchit.specs.declared.error.InsertError.{InsertError}
 use Rattle.matchit.specs.declared.error.InsertError.TheVariants.{InvalidParam, InvalidParamSegment}
 use Rattle.route_table.specs.Patterns.{Shape, a_word, a_segment, a_remainder, is_word_byte, is_pattern}
-use Rattle.route_table.specs.Routed.{spelling, tokens_of, param_count}
+use Rattle.route_table.specs.Routed.{pattern_text, tokens_of, param_count}
 use Rattle.route_table.proofs.Pieces.{first_byte, first_word}
 
 -- ---- a scan
@@ -43,8 +43,8 @@ over_word (b ∷ word) rest pattern text names start catch fine =
 
 -- the name of a parameter is closed by what follows
 closes : (shapes : List Shape) (pattern text : List ℕ) (names : List (ℕ × ℕ)) (start : ℕ)
-    → scan (behind pattern text names start false) (spelling shapes)
-    ≡ scan (between (pattern ++ param_token ∷ []) (text ++ 125 ∷ []) (names ++ (start, length text) ∷ []) start false) (spelling shapes)
+    → scan (behind pattern text names start false) (pattern_text shapes)
+    ≡ scan (between (pattern ++ param_token ∷ []) (text ++ 125 ∷ []) (names ++ (start, length text) ∷ []) start false) (pattern_text shapes)
 unfolding scan
 closes [] pattern text names start = refl
 closes (shape ∷ shapes) pattern text names start = refl
@@ -59,17 +59,17 @@ count_word (b ∷ word) tokens fine =
     ap (λ (v : Bool). cond v (param_count (word ++ tokens)) (param_count (word ++ tokens) + 1)) (lt-ltb b param_token small) ∙ count_word word tokens both.1
 
 -- the text is at least as long as the tokens
-pub longer : (shapes : List Shape) → length (tokens_of shapes) ≤ length (spelling shapes)
+pub longer : (shapes : List Shape) → length (tokens_of shapes) ≤ length (pattern_text shapes)
 longer [] = omega arith
 longer (a_word text ∷ shapes) =
-    omega (arith, longer shapes, length-append text (tokens_of shapes), length-append text (spelling shapes))
+    omega (arith, longer shapes, length-append text (tokens_of shapes), length-append text (pattern_text shapes))
 longer (a_segment ∷ shapes) = omega (arith, longer shapes)
 longer (a_remainder ∷ shapes) = omega (arith, longer shapes)
 
 -- ---- all pieces
 
 reads_on : (shapes : List Shape) (pattern text : List ℕ) (names : List (ℕ × ℕ)) (start : ℕ) (catch : Bool) → is_pattern shapes ≡ true
-    → Ends (scan (between pattern text names start catch) (spelling shapes)) (pattern ++ tokens_of shapes) (length names + param_count (tokens_of shapes))
+    → Ends (scan (between pattern text names start catch) (pattern_text shapes)) (pattern ++ tokens_of shapes) (length names + param_count (tokens_of shapes))
 unfolding scan
 reads_on [] pattern text names start catch fine = record {
   last = between pattern text names start catch;
@@ -83,7 +83,7 @@ reads_on (a_word word ∷ shapes) pattern text names start catch fine =
     let later = reads_on shapes (before ++ word) ((text ++ 47 ∷ []) ++ word) names start catch both.1 in
     record {
       last = later.last;
-      is = over_word word (spelling shapes) before (text ++ 47 ∷ []) names start catch both.0 ∙ later.is;
+      is = over_word word (pattern_text shapes) before (text ++ 47 ∷ []) names start catch both.0 ∙ later.is;
       pattern = later.pattern ∙ append_assoc before word (tokens_of shapes) ∙ append_assoc pattern (47 ∷ []) (word ++ tokens_of shapes);
       names = later.names ∙ ap (λ (n : ℕ). length names + n) (sym (count_word word (tokens_of shapes) both.0));
     }
@@ -139,7 +139,7 @@ shape_none (a_remainder ∷ []) fine = refl
 shape_none (a_remainder ∷ shape ∷ shapes) fine = absurd (false≢true fine)
 
 -- a pattern's text reads as its tokens, with a name for each part
-pub reads : (shapes : List Shape) → is_pattern shapes ≡ true → Ends (parse_route (spelling shapes)) (tokens_of shapes) (param_count (tokens_of shapes))
+pub reads : (shapes : List Shape) → is_pattern shapes ≡ true → Ends (parse_route (pattern_text shapes)) (tokens_of shapes) (param_count (tokens_of shapes))
 reads shapes fine =
     let all = reads_on shapes [] [] [] 0 false fine in
     record {

@@ -21,17 +21,17 @@ abbrev pub shapes_of : List Piece → List Shape
 shapes_of pieces = map shape_of pieces
 
 -- the parts of some pieces: what stands where a word does not
-abbrev pub parts_of : List Piece → List (List ℕ)
-parts_of [] = []
-parts_of (word text ∷ pieces) = parts_of pieces
-parts_of (segment text ∷ pieces) = text ∷ parts_of pieces
-parts_of (remainder text ∷ pieces) = text ∷ parts_of pieces
+abbrev pub parts_between : List Piece → List (List ℕ)
+parts_between [] = []
+parts_between (word text ∷ pieces) = parts_between pieces
+parts_between (segment text ∷ pieces) = text ∷ parts_between pieces
+parts_between (remainder text ∷ pieces) = text ∷ parts_between pieces
 
 -- the path has the pattern, with these parts: it is spelled by pieces of the pattern's shapes that have these parts
 pub record HasPattern (pattern : List Shape) (parts : List (List ℕ)) (path : List ℕ) : Type 0 where
   pub pieces : List Piece
   pub has_shapes : shapes_of pieces ≡ pattern
-  pub has_parts : parts_of pieces ≡ parts
+  pub has_parts : parts_between pieces ≡ parts
   pub spelled : path ≡ path_of pieces
   pub in_range : AreInRange pieces
 

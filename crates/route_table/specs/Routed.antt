@@ -14,8 +14,8 @@ text_in (a_word text) = text
 text_in a_segment = codes "{p}"
 text_in a_remainder = codes "{*p}"
 
-abbrev pub spelling : List Shape → List ℕ
-spelling pattern = flat_map (λ shape. 47 ∷ text_in shape) pattern
+abbrev pub pattern_text : List Shape → List ℕ
+pattern_text pattern = flat_map (λ shape. 47 ∷ text_in shape) pattern
 
 -- its tokens: a byte of a word stands for itself, and the two tokens for a segment and for what is left
 abbrev pub tokens_in : Shape → List ℕ

@@ -4,7 +4,7 @@ ghost use Rattle.std.specs.String.{string_bytes};
 ghost use Rattle.matchit.specs.Router.{nearest};
 ghost use Rattle.route_table.specs.Patterns.{is_pattern, are_disjoint, shape_in, pattern_in};
 ghost use Rattle.route_table.specs.Tables.{patterns_of, Leads, LeadsOnly, LeadsNowhere};
-ghost use Rattle.route_table.specs.Routed.{text_in, spelling, tokens_of, AddsRow};
+ghost use Rattle.route_table.specs.Routed.{text_in, pattern_text, tokens_of, AddsRow};
 
 use crate::parts::Parts;
 use crate::shape::Shape;
@@ -56,7 +56,7 @@ fn text_of<'p>(shape: &Shape<'p>) -> &'p str
 
 // How matchit writes a pattern.
 fn spell(alloc: Global, pattern: &[Shape]) -> Result<String, AllocError>
-    ensures { IfOk result (λ text. string_bytes text ≡ spelling (pattern_in pattern.now)) }
+    ensures { IfOk result (λ text. string_bytes text ≡ pattern_text (pattern_in pattern.now)) }
 {
     let mut text = String::new(alloc);
     for shape in pattern {

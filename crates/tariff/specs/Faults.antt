@@ -1,5 +1,6 @@
 -- What the reading of a tariff gives: its prices, or the first fault.
-use Rattle.std.specs.Prelude.{◌≡◌, ℕ, List, Option, Some, None, Result, Ok, Err, IfSome, string_bytes}
+use Rattle.std.specs.Prelude.{ℕ, List, Option, Some, None, Result, string_bytes}
+use Rattle.office_base.specs.Results.{GivesBy}
 use Rattle.class_rules.specs.declared.class.Class.{Class}
 use Rattle.tariff.specs.declared.fault.TariffTable.{TariffTable}
 use Rattle.tariff.specs.declared.fault.TariffFault.{TariffFault}
@@ -22,5 +23,4 @@ tariff_flaw_of NoMemory = None
 
 -- an answer, seen by view, is what reading gives, unless memory ran out
 abbrev pub TariffGives : {X Y : Type 0} → (X → Y) → Result X TariffFault → Result Y TariffFlaw → Type 0
-TariffGives view (Ok x) read = read ≡ Ok (view x)
-TariffGives view (Err fault) read = IfSome (tariff_flaw_of fault) (λ flaw. read ≡ Err flaw)
+TariffGives view answer read = GivesBy tariff_flaw_of view answer read

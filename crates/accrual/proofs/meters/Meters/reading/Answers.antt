@@ -1,6 +1,6 @@
 use Rattle.std.proofs.Common.{◌≡◌, ◌≤◌, ◌<◌, ◌+◌, ◌-◌, ◌*◌, ℕ, subst, sym, ap, arith, ◌∙◌}
 use Rattle.std.specs.Prelude.{◌^◌, min}
-use Rattle.accrual.specs.declared.rows.Kept.{Kept}
+use Rattle.accrual.specs.declared.rows.Numbers.{Numbers}
 use Rattle.moments.specs.Months.{month_start, month_end}
 use Rattle.class_rules.specs.Classes.{rank_of}
 use Rattle.accrual.specs.Totals.{Totals, AreTotalsOf}
@@ -13,7 +13,7 @@ use Rattle.accrual.proofs.meters.Meters.reading.Goals as goal
 short_ms : (start end t ms : ℕ) → end ≤ start + 2_678_400_000 → ms ≡ min t end - start → ms < 2 ^ 32
 short_ms start end t ms short is = omega (arith, short, is)
 
-used_by : (k kept : Kept) (before b : ℕ) → kept ≡ k → before ≡ b → k.ended + (b + k.running) * 2 ^ 32 < 2 ^ 121 → kept.ended + (before + kept.running) * 2 ^ 32 < 2 ^ 121
+used_by : (k kept : Numbers) (before b : ℕ) → kept ≡ k → before ≡ b → k.ended + (b + k.running) * 2 ^ 32 < 2 ^ 121 → kept.ended + (before + kept.running) * 2 ^ 32 < 2 ^ 121
 used_by k kept before b e f used = rw (e, f) used
 
 pub running_before-requires-clause-small : goal.running_before-requires-clause-small
@@ -61,7 +61,7 @@ overflow_add-result c =
     let s = c.saturating_sub.ensures in
     omega (arith, all, p, s)
 
-by_kept : (k kept : Kept) (before b ms w rest : ℕ) → kept ≡ k → before ≡ b → ms ≡ w → rest ≡ (before + kept.running) * ms - kept.since → kept.ended + rest ≡ k.ended + ((b + k.running) * w - k.since)
+by_kept : (k kept : Numbers) (before b ms w rest : ℕ) → kept ≡ k → before ≡ b → ms ≡ w → rest ≡ (before + kept.running) * ms - kept.since → kept.ended + rest ≡ k.ended + ((b + k.running) * w - k.since)
 by_kept k kept before b ms w rest e f g h = cc
 
 pub returns-clause-exact : goal.returns-clause-exact

@@ -12,28 +12,28 @@ use std::marker::Model;
 
 /// Of the candidates whose moment has come, the first or all.
 #[derive(Drop)]
-pub(crate) struct Kept<'a> {
+pub(crate) struct Findings<'a> {
     /// The first so far, where it alone is wanted.
     first: Option<Found<'a>>,
     /// All so far, where they are wanted.
     all: Option<Vec<Found<'a>>>,
 }
 
-impl<'a> Model for Kept<'a> {
+impl<'a> Model for Findings<'a> {
     ghost use Rattle.std.specs.Prelude.{option_map};
-    ghost use Rattle.due_core.specs.Search.{Kept as KeptRecord};
+    ghost use Rattle.due_core.specs.Search.{Findings as FindingsRecord};
 
-    ghost Value = { KeptRecord };
+    ghost Value = { FindingsRecord };
 
     ghost view = { λ k. record { first = k.first; all = option_map (λ v. v.items) k.all } };
 }
 
-impl<'a> Kept<'a> {
+impl<'a> Findings<'a> {
     /// Keeps the first.
     pub(crate) fn first() -> Self
         ensures { result ≡ nothing_found }
     {
-        Kept {
+        Findings {
             first: None,
             all: None,
         }
@@ -43,7 +43,7 @@ impl<'a> Kept<'a> {
     pub(crate) fn all(alloc: Global) -> Self
         ensures { result ≡ none_of_all }
     {
-        Kept {
+        Findings {
             first: None,
             all: Some(Vec::new(alloc)),
         }

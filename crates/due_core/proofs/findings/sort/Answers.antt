@@ -3,7 +3,7 @@ use Rattle.std.specs.Ordering.{is_lt}
 use Rattle.std.proofs.lemmas.List.Sorted.{answers_always}
 use Rattle.due_core.specs.Choice.{comes_before}
 use Rattle.due_core.proofs.Queue.{candidate_order}
-use Rattle.due_core.proofs.kept.sort.Goals as goal
+use Rattle.due_core.proofs.findings.sort.Goals as goal
 
 pub returns-in-Ok : goal.returns-in-Ok
 returns-in-Ok c = record {

@@ -1,5 +1,5 @@
 use Rattle.std.proofs.Common.{◌≡◌, map, take}
-use Rattle.due_core.proofs.kept.actions.Given as goal
+use Rattle.due_core.proofs.findings.actions.Given as goal
 
 -- the actions of those that were looked at
 abbrev pub invariant-loop-candidate : goal.invariant-loop-candidate
