@@ -9,6 +9,7 @@ use Rattle.disk_core.specs.declared.disk.Disk as disks
 use Rattle.disk_core.specs.Files.{State}
 use Rattle.disk_core.specs.Fronts.{Narrower}
 use Rattle.disk_core.specs.Moments.{KeepsTo}
+use Rattle.disk_core.proofs.Laws.{DiskLaws}
 use Rattle.disk_core.proofs.Time.{started, weakened}
 use Rattle.plain_office.specs.Office.{Office}
 use Rattle.plain_office.specs.Step.{is_accepted}
@@ -195,7 +196,7 @@ module _ {D : Type 0} {C : Type 0} (d : disks.Ghosts D)
 
 -- ---- what a crash inside the call leaves
 
-module _ {D : Type 0} {C : Type 0} (d : disks.Ghosts D) (only_now : (disk : D) (s : State) → d.had_since disk (d.moment disk) s → s ≡ d.state disk)
+module _ {D C : Type 0} {d : disks.Ghosts D} (laws : DiskLaws d)
     (tells : IsTrue d.honest) (t number : ℕ) (before : List Entry) (old new : DeskView D C) (hold : HoldsHistory d before old) where
   abbrev Inside : Ask → Type 0
   Inside question = KeepsTo d old.disk new.disk (KeepsOrAdds t question before)
@@ -206,7 +207,7 @@ module _ {D : Type 0} {C : Type 0} (d : disks.Ghosts D) (only_now : (disk : D) (
 
   stays_inside : (question : Ask) → new.disk ≡ old.disk → Inside question
   stays_inside question same = subst (λ (z : D). KeepsTo d old.disk z (KeepsOrAdds t question before)) (sym same)
-      (started d old.disk (KeepsOrAdds t question before) (only_now old.disk) (here question))
+      (started d old.disk (KeepsOrAdds t question before) (laws.only_now old.disk) (here question))
 
   adds_inside : (command : Command) (more : Office) → run (before ++ entry_at t command ∷ []) ≡ Some more
       → KeepsTo d old.disk new.disk (BeforeOrAfter header before (entry_at t command) (d.state old.disk)) → Inside (ask.Command command)
@@ -268,13 +269,12 @@ module _ {D C : Type 0} {d : disks.Ghosts D} {number : ℕ} {question : Ask} {ol
   pub ready_by : stale_after false said ≡ false → IsReady d new
   ready_by fine = ready_on d asks.t number hold.office.plain before told new question said fine one
 
-  pub tells_by : (k : clocks.Ghosts C)
-      → ((disk : D) (s : State) → d.had_since disk (d.moment disk) s → s ≡ d.state disk) → k.last new.clock ≡ number
+  pub tells_by : (k : clocks.Ghosts C) → DiskLaws d → k.last new.clock ≡ number
       → k.count new.clock ≡ min (k.count old.clock + 1) (2 ^ 64 - 1)
       → (PassesLimit (moment_after (k.last new.clock) old.office.last) old.gate old.limit question
       → (said ≡ Err faults.JournalFull) ⊎ (said ≡ Err faults.NoMemory))
       → HasCauses d k old question said new
-  tells_by k only_now last_is once full =
+  tells_by k laws last_is once full =
       let now_is : asks.t ≡ moment_after (k.last new.clock) old.office.last = asks.at ∙ ap (λ (n : ℕ). moment_after n old.office.last) (sym last_is) in
       record {
         once = once;
@@ -282,7 +282,7 @@ module _ {D C : Type 0} {d : disks.Ghosts D} {number : ℕ} {question : Ask} {ol
         inside = λ tells b holds.
             let other : HoldsHistory d b told = record { office = holds.office; end = holds.end; limit = holds.limit; at_rest = holds.at_rest } in
             subst (λ (t : ℕ). KeepsTo d old.disk new.disk (KeepsOrAdds t question b)) now_is
-            (inside_of d only_now tells asks.t number b told new other question said (asks.answers b other));
+            (inside_of laws tells asks.t number b told new other question said (asks.answers b other));
         reason = reason d asks.t number hold.office.plain before told new question said asks.at one;
         ended = subst (λ (t : ℕ). end_of_time ≤ t → IsClockEnd t said) now_is (λ past. ended_so d asks.t number question hold.office.plain before told new said past one);
         full = full;

@@ -20,7 +20,7 @@ use Rattle.http_front.specs.declared.answering.SessionEnd.TheVariants.{NoMemory,
 use Rattle.serving.specs.declared.port.Port as ports
 use Rattle.serving.specs.declared.worker.WorkerEnd.{WorkerEnd}
 use Rattle.serving.specs.Serving.{Log, log_calls, AreOfWorkers}
-use Rattle.serving.specs.Works.{Counts, RoseBy}
+use Rattle.serving.specs.Works.{Balances, RoseBy}
 use Rattle.office_program.specs.Lines.{session_exit, fault_exit, workers_exit, clock_note, end_note, fault_note, workers_note}
 
 -- the journal of the program has at most 2^30 bytes
@@ -161,7 +161,7 @@ module _ {P Source Replies : Type 0} (p : ports.Ghosts P Source Replies) where
   pub record Connects (address : List ℕ) (workers connections : ℕ) (old new : P) (end : WorkerEnd) (log : Log)
       : Type 0 where
     pub listens : p.listens new address ⊎ (p.given new ≡ p.given old)
-    pub counts : Counts (workers * connections) end (p.given old) (p.given new) (p.ended old) (p.ended new)
+    pub counts : Balances (workers * connections) end (p.given old) (p.given new) (p.ended old) (p.ended new)
     pub divided : AreOfWorkers workers log (p.connections old) (p.connections new)
 
   -- it is as it was, or was given back as many connections, ended, as it gave

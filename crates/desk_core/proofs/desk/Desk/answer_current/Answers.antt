@@ -1,5 +1,6 @@
 use Rattle.std.proofs.Common.{◌≡◌, Bool, false, IsTrue, ◌∷◌, [], ◌++◌, Err, inr, sym, ◌∙◌, subst}
 use Rattle.disk_core.specs.declared.disk.FileNo.TheVariants.{Journal}
+use Rattle.disk_core.proofs.Laws.{laws_of}
 use Rattle.desk_core.specs.Answers.{Call}
 use Rattle.desk_core.specs.Submitting.{IsOffice, HasCauses}
 use Rattle.desk_core.specs.Desk.{DeskView, IsReady, StandsFor, GoesOn, stale_after}
@@ -12,26 +13,26 @@ use Rattle.desk_core.proofs.desk.Desk.answer_current.Goals as goal
 pub returns-in-Err-clause-stands : goal.returns-in-Err-clause-stands
 returns-in-Err-clause-stands g c opened calls stands =
     let d = g.D.Disk in
-    let m = g.met.D.Disk in
+    let laws = laws_of g.met.D.Disk in
     let S : Type 0 = DeskView g.row.D.Denot g.row.C.Denot in
     let new = c.refresh.new.self in
     let call : Call = record { ask = c.args.ask.now; said = Err c.in-Err.fault } in
     let s = subst (λ (x : S). StandsFor d opened calls x) (sym c.self.view_is) stands in
     subst (λ (x : S). GoesOn d opened (calls ++ call ∷ []) x.disk new) c.self.view_is
-    (unopened_call d m.counts_now m.only_now m.since_earlier (λ tells disk. m.reads_image tells disk Journal) c.self.inside.engine
+    (unopened_call laws c.self.inside.engine
     opened calls s c.args.ask.now new c.in-Err.fault c.refresh.ensures.stale c.in-Err.ensures.unopened)
 
 pub returns-clause-stands : goal.returns-clause-stands
 returns-clause-stands g c opened calls stands =
     let d = g.D.Disk in
-    let m = g.met.D.Disk in
+    let laws = laws_of g.met.D.Disk in
     let S : Type 0 = DeskView g.row.D.Denot g.row.C.Denot in
     let desk = c.self.inside.engine in
     let new = c.answer_now-said.new.self in
     let said = c.answer_now-said.result in
     let call : Call = record { ask = c.args.ask.now; said = said } in
     let s = subst (λ (x : S). StandsFor d opened calls x) (sym c.self.view_is) stands in
-    let goes = asked_call d m.counts_now m.only_now m.since_earlier (λ tells disk. m.reads_image tells disk Journal) desk opened calls s c.args.ask.now c.refresh.new.self new
+    let goes = asked_call laws desk opened calls s c.args.ask.now c.refresh.new.self new
     (g.C.Clock.last new.clock) said c.in_default.ensures.office c.answer_now-said.ensures.limit c.answer_now-said.ensures.disk_later c.answer_now-said.ensures.asks in
     let marked = subst (λ (b : Bool). GoesOn d opened (calls ++ call ∷ []) desk.disk (record new { stale = stale_after b said })) (sym c.stale-was_stale.ensures) goes in
     subst (λ (x : S). GoesOn d opened (calls ++ call ∷ []) x.disk c.mark.new.self) c.self.view_is
