@@ -1,6 +1,6 @@
 -- A journal that was opened, and the desk over it.
 use Rattle.std.proofs.Common.{◌≡◌, ℕ, ◌≤◌, ◌^◌, false, length, Result, Ok, Err, refl, sym, ap, ◌∙◌, subst, arith}
-use Rattle.std.specs.Prelude.{IsTrue, OnOk, IfErr}
+use Rattle.std.specs.Prelude.{IsTrue, OnOk, IfErr, IsErrOf}
 use Rattle.disk_core.specs.declared.disk.Disk as disks
 use Rattle.disk_core.specs.declared.disk.FileNo.TheVariants.{Journal}
 use Rattle.disk_core.specs.Files.{State, File, IsImage, synced_file}
@@ -12,6 +12,7 @@ use Rattle.meter_journal.specs.History.{header, IsAtRest}
 use Rattle.meter_journal.specs.Reading.{IsMade}
 use Rattle.meter_journal.proofs.History.{each_image}
 use Rattle.meter_journal.specs.declared.fault.OpenFault.{OpenFault}
+use Rattle.meter_journal.specs.declared.fault.OpenFault.TheVariants as faults
 use Rattle.desk_core.specs.Submitting.{Reopens}
 use Rattle.desk_core.specs.Damage.{HasReplayed}
 use Rattle.desk_core.specs.Histories.{HasAcceptedHistory}
@@ -25,6 +26,11 @@ pub on_done : {P Q : Type 0} (r : Result Unit OpenFault) → (P → Q) → OnOk 
 on_done (Ok x) f p = f p
 on_done (Err e) f p = p
 
+-- and of an answer that is done it is known that it is no fault of the store
+pub on_quiet : {P Q : Type 0} (r : Result Unit OpenFault) → ((IsErrOf r faults.StoreFault → ⊥) → P → Q) → OnOk r P → OnOk r Q
+on_quiet (Ok x) f p = f (λ is. absurd cc) p
+on_quiet (Err e) f p = p
+
 pub on_fault : {P Q : OpenFault → Type 0} (r : Result Unit OpenFault) → ((e : OpenFault) → P e → Q e) → IfErr r P → IfErr r Q
 on_fault (Ok x) f p = p
 on_fault (Err e) f p = f e p
@@ -35,8 +41,9 @@ module _ {D C : Type 0} {d : disks.Ghosts D} (laws : DiskLaws d) where
       → office.clock ≡ old.clock
       → (IsTrue d.honest → IsMade (d.state old.disk).journal.seen × (size ≡ length (d.state begun).journal.seen) × ((d.state begun).journal ≡ synced_file (d.state old.disk).journal.seen))
       → (IsTrue d.honest → KeepsTo d old.disk begun (Narrower (d.state old.disk))) → (IsTrue d.honest → Untouched d begun office.disk) → d.fault_count old.disk ≤ d.fault_count office.disk
+      → d.fault_count office.disk ≡ d.fault_count old.disk
       → Reopens d old office
-  reopened old office begun size read limit_is small clock_is begin run untouched later = record {
+  reopened old office begun size read limit_is small clock_is begin run untouched later quiet = record {
     history = read.history;
     holds = record { office = read.office_is; end = read.end; limit = subst (λ (n : ℕ). n ≤ 2 ^ 45) (sym limit_is) small; at_rest = rests };
     read = λ tells. subst (HasAcceptedHistory read.history) (seen_is tells)
@@ -46,6 +53,7 @@ module _ {D C : Type 0} {d : disks.Ghosts D} (laws : DiskLaws d) where
     clock = clock_is;
     limit = limit_is;
     later = later;
+    quiet = quiet;
   }
     where
       rests : IsTrue d.honest → IsAtRest header (d.state office.disk) office.gate read.history
@@ -73,4 +81,5 @@ module _ {D C : Type 0} {d : disks.Ghosts D} (laws : DiskLaws d) where
     read = again.read;
     any_moment = again.any_moment;
     later = again.later;
+    quiet = again.quiet;
   }

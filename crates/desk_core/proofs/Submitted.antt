@@ -21,13 +21,14 @@ use Rattle.office_types.specs.declared.command.Entry.{Entry}
 use Rattle.office_types.specs.declared.reply.Reply.{Reply}
 use Rattle.office_types.specs.declared.refusal.Refusal.{Refusal}
 use Rattle.office_types.specs.Entries.{entry_at}
+use Rattle.office_machine.specs.Standing.{Records}
 use Rattle.desk_core.specs.declared.clock.Clock as clocks
 use Rattle.desk_core.specs.declared.fault.DeskFault.{DeskFault}
 use Rattle.desk_core.specs.declared.fault.DeskFault.TheVariants as faults
 use Rattle.desk_core.specs.Answers.{Answer}
 use Rattle.desk_core.specs.Calls.{moment_after}
-use Rattle.desk_core.specs.Submitting.{LeavesDisk, HasStoreReason, IsAcceptedAt, PassesLimit, IsClockEnd, KeepsOrAdds, HasCauses}
-use Rattle.desk_core.specs.Desk.{DeskView, HoldsHistory, IsReady, IsLast, IsStamped, stale_after}
+use Rattle.desk_core.specs.Submitting.{LeavesDisk, HasStoreReason, IsAcceptedAt, PassesLimit, IsClockEnd, KeepsOrAdds, HasCauses, IsOffice, IsUnopened}
+use Rattle.desk_core.specs.Desk.{DeskView, HoldsHistory, IsReady, IsLast, IsStamped, TellsFault, stale_after}
 use Rattle.desk_core.specs.Answering.{IsDoneAt, HasFailed, AnswersInTime, AnswersAt, AnswersAsk}
 use Rattle.plain_office.proofs.Runs.{run_more}
 use Rattle.meter_journal.specs.History.{header, HasEntries, BeforeOrAfter}
@@ -119,23 +120,37 @@ module _ {D : Type 0} {C : Type 0} (d : disks.Ghosts D)
   leaves question (Ok said) (inr past) = ended_leaves question said past.1.2.disk
   leaves question (Err fault) (inr past) = absurd past.1
 
+  -- but where it failed, the disk's count of faults stands still
+  same_count : new.disk ≡ old.disk → d.fault_count new.disk ≡ d.fault_count old.disk
+  same_count same = ap d.fault_count same
+
+  done_quiet : (question : Ask) (said : Answer) → IsDoneAt d t question office before old new said.reply → d.fault_count new.disk ≡ d.fault_count old.disk
+  done_quiet (ask.Command command) said is = ⊎_elim (λ grew. grew.1.quiet) (λ stayed. same_count stayed.1.disk) is.2
+  done_quiet (ask.Query query) said is = same_count is.1.disk
+
+  answered_quiet : (question : Ask) (said : Answer) → AnswersAt d t number question office before old new (Ok said) → d.fault_count new.disk ≡ d.fault_count old.disk
+  answered_quiet question said (inl in_time) = done_quiet question said in_time.1.1
+  answered_quiet question said (inr past) = same_count past.1.2.disk
+
   failed_reason : (question : Ask) → t < end_of_time → HasFailed d t question office before old new → Rose (d.fault_count old.disk) (d.fault_count new.disk) × IsAcceptedAt t question old.office
   failed_reason (ask.Command command) lt fails = (fails.rose, (lt, fails.accepted))
   failed_reason (ask.Query query) lt fails = absurd fails
 
   pub reason : (question : Ask) (said : Result Answer DeskFault) → t ≡ moment_after number old.office.last → AnswersAt d t number question office before old new said
       → HasStoreReason said question old.office (d.fault_count old.disk) (d.fault_count new.disk)
-  reason question (Ok said) at answers = tt
+  reason question (Ok said) at answers = answered_quiet question said answers
   reason question (Err (faults.StoreFault (Some told) count)) at answers =
       let kept = in_time_of d t number question office before old new (faults.StoreFault (Some told) count) answers in
       let why = failed_reason question kept.0 kept.1.2 in
       (why.0, kept.1.1, subst (λ (m : ℕ). IsAcceptedAt m question old.office) (at ∙ ap (λ (n : ℕ). moment_after n old.office.last) (sym kept.1.0)) why.1)
   reason question (Err (faults.StoreFault None count)) at answers =
       absurd (in_time_of d t number question office before old new (faults.StoreFault None count) answers).1
-  reason question (Err faults.JournalFull) at answers = tt
+  reason question (Err faults.JournalFull) at answers =
+      same_count (in_time_of d t number question office before old new faults.JournalFull answers).1.1.disk
   reason question (Err (faults.Broken fault)) at answers =
       absurd (in_time_of d t number question office before old new (faults.Broken fault) answers).1
-  reason question (Err faults.NoMemory) at answers = tt
+  reason question (Err faults.NoMemory) at answers =
+      same_count (in_time_of d t number question office before old new faults.NoMemory answers).1.disk
 
   -- ---- a further call
 
@@ -313,3 +328,33 @@ fresh_after stale (Err (faults.StoreFault number count)) fresh = fresh
 fresh_after stale (Err faults.JournalFull) fresh = refl
 fresh_after stale (Err (faults.Broken fault)) fresh = fresh
 fresh_after stale (Err faults.NoMemory) fresh = refl
+
+-- ---- whether the disk failed
+
+-- what the office that answers tells of faults, a call tells
+office_told : (said : Result Answer DeskFault) (question : Ask) (records : Records) (before after : ℕ) → HasStoreReason said question records before after → TellsFault said before after
+office_told (Ok answer) question records before after told = told
+office_told (Err (faults.StoreFault (Some number) count)) question records before after told = (told.0, told.1)
+office_told (Err (faults.StoreFault None count)) question records before after told = absurd told
+office_told (Err faults.JournalFull) question records before after told = told
+office_told (Err (faults.Broken fault)) question records before after told = absurd told
+office_told (Err faults.NoMemory) question records before after told = told
+
+-- an office is opened again without a fault of the disk
+office_quiet : {D C : Type 0} (d : disks.Ghosts D) (old office : DeskView D C) → IsOffice d old office → d.fault_count office.disk ≡ d.fault_count old.disk
+office_quiet d old office (inl own) = ap (λ (x : DeskView _ _). d.fault_count x.disk) own.1
+office_quiet d old office (inr again) = again.1.quiet
+
+pub asked_told : {D C : Type 0} (d : disks.Ghosts D) (old office : DeskView D C) (question : Ask) (said : Result Answer DeskFault) (after : ℕ) → IsOffice d old office
+    → HasStoreReason said question office.office (d.fault_count office.disk) after → TellsFault said (d.fault_count old.disk) after
+asked_told d old office question said after is told =
+    subst (λ (n : ℕ). TellsFault said n after) (office_quiet d old office is) (office_told said question office.office (d.fault_count office.disk) after told)
+
+-- and where none could be opened, the call tells why
+pub unopened_told : {D : Type 0} (d : disks.Ghosts D) (old new : D) (said : Result Answer DeskFault) → IsUnopened d old new said → TellsFault said (d.fault_count old) (d.fault_count new)
+unopened_told d old new (Ok answer) why = absurd why
+unopened_told d old new (Err (faults.StoreFault None count)) why = (why.0, why.1)
+unopened_told d old new (Err (faults.StoreFault (Some number) count)) why = absurd why
+unopened_told d old new (Err faults.JournalFull) why = absurd why
+unopened_told d old new (Err (faults.Broken fault)) why = why.2
+unopened_told d old new (Err faults.NoMemory) why = why

@@ -7,6 +7,7 @@ use Rattle.disk_core.specs.declared.disk.Disk as disks
 use Rattle.disk_core.specs.Fronts.{Narrower}
 use Rattle.disk_core.specs.Moments.{KeepsTo}
 use Rattle.meter_journal.specs.declared.fault.OpenFault.{OpenFault}
+use Rattle.meter_journal.specs.declared.fault.OpenFault.TheVariants.{StoreFault}
 use Rattle.desk_core.specs.declared.clock.Clock as clocks
 use Rattle.desk_core.specs.Damage.{OpenFails}
 use Rattle.desk_core.specs.Runs.{Outside, outside, AnswersCalls, stale_by}
@@ -115,10 +116,12 @@ module _ {D C W : Type 0} (d : disks.Ghosts D) (k : clocks.Ghosts C) (w : sinks.
 
   -- ---- both
 
-  -- The office was not opened: nothing was said or told, and each image is one that there was.
+  -- The office was not opened: nothing was said or told, and each image is one that there was. Where the disk failed
+  -- that is told, and nothing else.
   pub record FailsToOpen (old new : Surroundings D C W) (status : ℕ) : Type 0 where
     pub fault : OpenFault
     pub why : IsTrue d.honest → OpenFails fault (d.state old.disk).journal.seen
+    pub quiet : (fault ≡ StoreFault → ⊥) → d.fault_count new.disk ≡ d.fault_count old.disk
     pub any_moment : IsTrue d.honest → KeepsTo d old.disk new.disk (Narrower (d.state old.disk))
     pub clock : new.clock ≡ old.clock
     pub silent : IsSilent w old.out new.out
