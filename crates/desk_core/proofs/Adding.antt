@@ -111,6 +111,7 @@ module _ {D C : Type 0} (d : disks.Ghosts D) where
                       at_rest = λ tells. (adds.2 tells).0;
                     };
                     run = λ tells. subst (λ (z : D). Run z new.disk) same (adds.2 tells).1;
+                    quiet = adds.3 ∙ ap d.fault_count same;
                   },
                 ),
               ),

@@ -8,6 +8,7 @@ use Rattle.office_base.specs.Faults.{Rose}
 use Rattle.disk_core.specs.declared.disk.Disk as disks
 use Rattle.disk_core.specs.Files.{State}
 use Rattle.disk_core.specs.Moments.{KeepsTo}
+use Rattle.disk_core.proofs.Laws.{DiskLaws}
 use Rattle.disk_core.proofs.Time.{started, joined}
 use Rattle.office_types.specs.declared.command.Ask.{Ask}
 use Rattle.desk_core.specs.declared.clock.Clock as clocks
@@ -105,13 +106,13 @@ module _ {D C : Type 0} (d : disks.Ghosts D) (k : clocks.Ghosts C) where
       } in
       subst (λ (l : List Call). Followed opening opened l new) (append_assoc so_far (call ∷ []) calls) (follow_on opening opened (so_far ++ call ∷ []) path.0 new calls next path.2)
 
-  module _ (counts_now : (disk : D) (t : ℕ) → t ≤ d.moment disk → d.had_since disk t (d.state disk)) (only_now : (disk : D) (s : State) → d.had_since disk (d.moment disk) s → s ≡ d.state disk) where
+  module _ (laws : DiskLaws d) where
     pub follow : (opened : Opened) (old new : DeskView D C) (calls : List Call) → Stands opened [] old → Path old calls new → Followed old.disk opened calls new
     follow opened old new calls stands path = follow_on old.disk opened [] old new calls (record {
       stands = stands;
-      ran = λ tells. started d old.disk (Recoverable opened []) (only_now old.disk) (λ image is.
+      ran = λ tells. started d old.disk (Recoverable opened []) (laws.only_now old.disk) (λ image is.
           let serves = stands.serves tells in
-          let r = serves.left (d.moment old.disk) (d.state old.disk) image serves.later (omega arith) (counts_now old.disk (d.moment old.disk) (omega arith)) is in
+          let r = serves.left (d.moment old.disk) (d.state old.disk) image serves.later (omega arith) (laws.counts_now old.disk (d.moment old.disk) (omega arith)) is in
           (r.history, r.count, r.has, r.most, r.legal));
-      slots = λ tells. started d old.disk (KeepsSlots (d.state old.disk)) (only_now old.disk) (refl, refl);
+      slots = λ tells. started d old.disk (KeepsSlots (d.state old.disk)) (laws.only_now old.disk) (refl, refl);
     }) path

@@ -6,6 +6,7 @@ use Rattle.disk_core.specs.declared.disk.Disk as disks
 use Rattle.disk_core.specs.Files.{State, IsImage}
 use Rattle.disk_core.specs.Fronts.{Narrower}
 use Rattle.disk_core.specs.Moments.{KeepsTo}
+use Rattle.disk_core.proofs.Laws.{DiskLaws}
 use Rattle.disk_core.proofs.Time.{weakened}
 use Rattle.office_types.specs.declared.command.Entry.{Entry}
 use Rattle.desk_core.specs.Answers.{Answer, Call}
@@ -33,10 +34,7 @@ recoverable_more opened calls more s has image is =
     let front = has image is in
     (front.0, front.1, front.2, most_more calls more front.1 front.3, legal_more opened calls more front.1 front.0 front.3 front.4)
 
-module _ {D : Type 0} (d : disks.Ghosts D)
-    (counts_now : (disk : D) (t : ℕ) → t ≤ d.moment disk → d.had_since disk t (d.state disk))
-    (only_now : (disk : D) (s : State) → d.had_since disk (d.moment disk) s → s ≡ d.state disk)
-    (since_earlier : (disk : D) (t u : ℕ) (s : State) → t ≤ u → d.had_since disk u s → d.had_since disk t s) where
+module _ {D : Type 0} {d : disks.Ghosts D} (laws : DiskLaws d) where
   abbrev Serving : Opened → D → List Call → Type 0
   Serving = DiskServes d
 
@@ -48,7 +46,7 @@ module _ {D : Type 0} (d : disks.Ghosts D)
 
   module _ (opened : Opened) (old new : D) (calls : List Call) (serves : Serving opened old calls) (run : KeepsTo d old new (Narrower (d.state old))) where
     old_now : (image : List ℕ) (t : ℕ) → opened.moment ≤ t → t ≤ d.moment old → IsImage (d.state old).journal image → Recovers opened calls t image
-    old_now image t since le is = serves.left t (d.state old) image since le (counts_now old t le) is
+    old_now image t since le is = serves.left t (d.state old) image since le (laws.counts_now old t le) is
 
     -- by the old disk's moment each acknowledgement was given
     at_any_time : (t : ℕ) (image : List ℕ) → Recovers opened calls (d.moment old) image → Recovers opened calls t image
@@ -64,7 +62,7 @@ module _ {D : Type 0} (d : disks.Ghosts D)
     left_narrower : (t : ℕ) (s : State) (image : List ℕ) → opened.moment ≤ t → d.had_since new t s → IsImage s.journal image → Recovers opened calls t image
     left_narrower t s image since had is = elim (cases_lt (d.moment old) t) [
       | inl later ↦
-          let narrow = run.each s (since_earlier new (d.moment old) t s (omega (arith, later)) had) in
+          let narrow = run.each s (laws.since_earlier new (d.moment old) t s (omega (arith, later)) had) in
           at_any_time t image (old_now image (d.moment old) serves.later (omega arith) (narrow.journal image is))
       | inr le ↦ ⊎_elim (λ was. serves.left t s image since le was is) (λ narrow. old_now image t since le (narrow.journal image is)) (run.before t s le had)
     ]
@@ -77,7 +75,7 @@ module _ {D : Type 0} (d : disks.Ghosts D)
           entries = was.entries;
           place = was.place;
           kept = λ s image history had is_image stands. ⊎_elim (λ before. was.kept s image history before is_image stands)
-              (λ narrow. was.kept (d.state old) image history (counts_now old answer.disk_moment le) (narrow.journal image is_image) stands) (run.before answer.disk_moment s le had);
+              (λ narrow. was.kept (d.state old) image history (laws.counts_now old answer.disk_moment le) (narrow.journal image is_image) stands) (run.before answer.disk_moment s le had);
         }
 
     -- what a crash of the old disk would have left is in each image of the new one, but for one entry at its end
@@ -90,10 +88,10 @@ module _ {D : Type 0} (d : disks.Ghosts D)
         → (image_now : List ℕ) (now : List Entry) → IsImage (d.state new).journal image_now → HasAcceptedHistory now image_now → IsPrefixButOne h now
     steady_narrower t s image h since had is stands image_now now is_now stands_now = elim (cases_lt (d.moment old) t) [
       | inl later ↦
-          let narrow = run.each s (since_earlier new (d.moment old) t s (omega (arith, later)) had) in
-          steady_old (d.moment old) (d.state old) image h serves.later (omega arith) (counts_now old (d.moment old) (omega arith)) (narrow.journal image is) stands image_now now is_now stands_now
+          let narrow = run.each s (laws.since_earlier new (d.moment old) t s (omega (arith, later)) had) in
+          steady_old (d.moment old) (d.state old) image h serves.later (omega arith) (laws.counts_now old (d.moment old) (omega arith)) (narrow.journal image is) stands image_now now is_now stands_now
       | inr le ↦ ⊎_elim (λ was. steady_old t s image h since le was is stands image_now now is_now stands_now)
-          (λ narrow. steady_old t (d.state old) image h since le (counts_now old t le) (narrow.journal image is) stands image_now now is_now stands_now) (run.before t s le had)
+          (λ narrow. steady_old t (d.state old) image h since le (laws.counts_now old t le) (narrow.journal image is) stands image_now now is_now stands_now) (run.before t s le had)
     ]
 
     pub narrowed : d.fault_count old ≤ d.fault_count new → Serving opened new calls

@@ -8,6 +8,7 @@ use Rattle.moments.specs.Time.{end_of_time}
 use Rattle.disk_core.specs.declared.disk.Disk as disks
 use Rattle.disk_core.specs.Files.{State, IsImage}
 use Rattle.disk_core.specs.Moments.{KeepsTo}
+use Rattle.disk_core.proofs.Laws.{DiskLaws}
 use Rattle.disk_core.proofs.Time.{weakened}
 use Rattle.plain_office.specs.Office.{Office}
 use Rattle.plain_office.specs.Run.{run}
@@ -156,10 +157,7 @@ pub told_more : (calls : List Call) (call : Call) (before now : ℕ) → before 
 told_more [] call before now le all here = (here, tt)
 told_more (c ∷ calls) call before now le all here = (told_later c.said before now le all.0, told_more calls call before now le all.1 here)
 
-module _ {D : Type 0} (d : disks.Ghosts D)
-    (counts_now : (disk : D) (t : ℕ) → t ≤ d.moment disk → d.had_since disk t (d.state disk))
-    (only_now : (disk : D) (s : State) → d.had_since disk (d.moment disk) s → s ≡ d.state disk)
-    (since_earlier : (disk : D) (t u : ℕ) (s : State) → t ≤ u → d.had_since disk u s → d.had_since disk t s) where
+module _ {D : Type 0} {d : disks.Ghosts D} (laws : DiskLaws d) where
   abbrev Serving : Opened → D → List Call → Type 0
   Serving = DiskServes d
 
@@ -244,11 +242,11 @@ module _ {D : Type 0} (d : disks.Ghosts D)
 
     left_now : (t : ℕ) (s : State) (image : List ℕ) → t ≤ d.moment new → d.moment new ≤ t → d.had_since new t s → IsImage s.journal image → Recovers opened all t image
     left_now t s image le ge had is =
-        at_return t image (subst (λ (x : State). IsImage x.journal image) (only_now new s (since_earlier new (d.moment new) t s ge had)) is)
+        at_return t image (subst (λ (x : State). IsImage x.journal image) (laws.only_now new s (laws.since_earlier new (d.moment new) t s ge had)) is)
 
     left_before : (t : ℕ) (s : State) (image : List ℕ) → opened.moment ≤ t → t < d.moment new → d.had_since new t s → IsImage s.journal image → Recovers opened all t image
     left_before t s image since lt had is = elim (cases_lt (d.moment old) t) [
-      | inl in_it ↦ in_call t s image lt is (makes.run.each s (since_earlier new (d.moment old) t s (omega (arith, in_it)) had))
+      | inl in_it ↦ in_call t s image lt is (makes.run.each s (laws.since_earlier new (d.moment old) t s (omega (arith, in_it)) had))
       | inr le ↦ ⊎_elim (λ was. from_old t image lt (serves.left t s image since le was is)) (λ now. in_call t s image lt is now) (makes.run.before t s le had)
     ]
 
@@ -263,7 +261,7 @@ module _ {D : Type 0} (d : disks.Ghosts D)
         let was = serves.agrees place answer is in
         let le = (serves.told place answer is).1 in
         let of_old : (history : List Entry) → HasImageOf (d.state old) history → IsPrefixOf was.entries history =
-        λ history has. was.kept (d.state old) has.image history (counts_now old answer.disk_moment le) has.is_image has.has in
+        λ history has. was.kept (d.state old) has.image history (laws.counts_now old answer.disk_moment le) has.is_image has.has in
         record {
           entries = was.entries;
           place = was.place;
@@ -275,7 +273,7 @@ module _ {D : Type 0} (d : disks.Ghosts D)
 
     old_but_one : (h b : List Entry) → HasImageOf (d.state old) h → HasImageOf (d.state old) b → IsPrefixButOne h b
     old_but_one h b has base =
-        serves.steady (d.moment old) (d.state old) has.image h serves.later (omega arith) (counts_now old (d.moment old) (omega arith))
+        serves.steady (d.moment old) (d.state old) has.image h serves.later (omega arith) (laws.counts_now old (d.moment old) (omega arith))
         has.is_image has.has base.image b base.is_image base.has
 
     -- from what each history before the call begins with but for one, to the return
@@ -297,7 +295,7 @@ module _ {D : Type 0} (d : disks.Ghosts D)
     steady_new : (t : ℕ) (s : State) (image : List ℕ) (h : List Entry) → opened.moment ≤ t → d.had_since new t s → IsImage s.journal image → HasAcceptedHistory h image
         → (image_now : List ℕ) (now : List Entry) → IsImage (d.state new).journal image_now → HasAcceptedHistory now image_now → IsPrefixButOne h now
     steady_new t s image h since had is stands image_now now is_now stands_now = elim (cases_lt (d.moment old) t) [
-      | inl in_it ↦ steady_call s image h (makes.run.each s (since_earlier new (d.moment old) t s (omega (arith, in_it)) had)) is stands image_now now is_now stands_now
+      | inl in_it ↦ steady_call s image h (makes.run.each s (laws.since_earlier new (d.moment old) t s (omega (arith, in_it)) had)) is stands image_now now is_now stands_now
       | inr le ↦ ⊎_elim
           (λ was. but_one_at_return h now
           (λ b base. serves.steady t s image h since le was is stands base.image b base.is_image base.has) (makes.done image_now now is_now stands_now))
@@ -311,7 +309,7 @@ module _ {D : Type 0} (d : disks.Ghosts D)
           entries = kept.1;
           place = kept.2;
           kept = λ s image history had is_image stands.
-              let same = only_now new s (since_earlier new (d.moment new) answer.disk_moment s (omega (arith, kept.0)) had) in
+              let same = laws.only_now new s (laws.since_earlier new (d.moment new) answer.disk_moment s (omega (arith, kept.0)) had) in
               ([], kept.3 image history (subst (λ (x : State). IsImage x.journal image) same is_image) stands ∙ sym (append-nil kept.1));
         }
 
@@ -356,13 +354,13 @@ module _ {D : Type 0} (d : disks.Ghosts D)
   starts opened disk sound one at counts = record {
     later = omega (arith, at);
     left = λ t s image since le had is.
-        let here = subst (λ (x : State). IsImage x.journal image) (only_now disk s (since_earlier disk (d.moment disk) t s (omega (arith, since, at)) had)) is in
+        let here = subst (λ (x : State). IsImage x.journal image) (laws.only_now disk s (laws.since_earlier disk (d.moment disk) t s (omega (arith, since, at)) had)) is in
         let found = sound image here in
         record { history = found.0; has = found.1; count = 0; most = omega arith; legal = one image found.0 here found.1; acked = λ place answer none le. absurd none };
     agrees = λ place answer none. absurd none;
     whole = λ image history is stands. one image history is stands;
     steady = λ t s image h since le had is stands image_now now is_now stands_now.
-        let here = subst (λ (x : State). IsImage x.journal image) (only_now disk s (since_earlier disk (d.moment disk) t s (omega (arith, since, at)) had)) is in
+        let here = subst (λ (x : State). IsImage x.journal image) (laws.only_now disk s (laws.since_earlier disk (d.moment disk) t s (omega (arith, since, at)) had)) is in
         inl ([], one image_now now is_now stands_now ∙ sym (one image h here stands) ∙ sym (append-nil h));
     told = λ place answer none. absurd none;
     faults = (omega (arith, counts), tt);

@@ -3,9 +3,11 @@ use Rattle.std.proofs.Common.{◌≡◌, ◌⊎◌, inl, inr, ℕ, ◌≤◌, Bo
 use Rattle.std.specs.Prelude.{IsTrue, IsSome}
 use Rattle.office_base.specs.Faults.{Rose}
 use Rattle.disk_core.specs.declared.disk.Disk as disks
+use Rattle.disk_core.specs.declared.disk.FileNo.TheVariants.{Journal}
 use Rattle.disk_core.specs.Files.{State, IsImage}
 use Rattle.disk_core.specs.Fronts.{Narrower}
 use Rattle.disk_core.specs.Moments.{KeepsTo}
+use Rattle.disk_core.proofs.Laws.{DiskLaws}
 use Rattle.disk_core.proofs.Time.{joined, weakened}
 use Rattle.plain_office.specs.Office.{Office}
 use Rattle.plain_office.specs.Run.{run}
@@ -55,11 +57,7 @@ sound_unbroken d old new fault at own u tells sound is =
     let has = sound seen own in
     no_broken at why.0 (never_fails at has.0 seen has.1 (why.1 tells))
 
-module _ {D : Type 0} {C : Type 0} (d : disks.Ghosts D)
-    (counts_now : (disk : D) (t : ℕ) → t ≤ d.moment disk → d.had_since disk t (d.state disk))
-    (only_now : (disk : D) (s : State) → d.had_since disk (d.moment disk) s → s ≡ d.state disk)
-    (since_earlier : (disk : D) (t u : ℕ) (s : State) → t ≤ u → d.had_since disk u s → d.had_since disk t s)
-    (own : IsTrue d.honest → (disk : D) → IsImage (d.state disk).journal (d.state disk).journal.seen) where
+module _ {D C : Type 0} {d : disks.Ghosts D} (laws : DiskLaws d) where
   abbrev Stands : Opened → List Call → DeskView D C → Type 0
   Stands opened calls desk = StandsFor d opened calls desk
 
@@ -82,7 +80,7 @@ module _ {D : Type 0} {C : Type 0} (d : disks.Ghosts D)
       led : Rule again.history
       led = by_honesty d.honest
           (λ tells. honest_legal d.honest opened.limit opened.faults calls opened.history again.history tells
-          ((s.serves tells).whole (d.state desk.disk).journal.seen again.history (own tells desk.disk) (again.read tells)))
+          ((s.serves tells).whole (d.state desk.disk).journal.seen again.history (laws.reads_image tells desk.disk Journal) (again.read tells)))
           (λ not. s.lost not stale again.history (some_run again.history again.holds.office.plain again.holds.office.is_run))
 
       pub stands_again : At opened calls office
@@ -92,14 +90,14 @@ module _ {D : Type 0} {C : Type 0} (d : disks.Ghosts D)
         history = again.history;
         legal = led;
         holds = again.holds;
-        serves = λ tells. narrowed d counts_now only_now since_earlier opened desk.disk office.disk calls (s.serves tells) (again.any_moment tells) again.later;
+        serves = λ tells. narrowed laws opened desk.disk office.disk calls (s.serves tells) (again.any_moment tells) again.later;
       }
 
       pub run_again : (new : DeskView D C) (call : Call) → GoesOn d opened (calls ++ call ∷ []) office.disk new → GoesOn d opened (calls ++ call ∷ []) desk.disk new
       run_again new call goes = record {
         stands = goes.stands;
         any_moment = λ tells. joined (Recoverable opened (calls ++ call ∷ []))
-            (narrowed_run d counts_now only_now since_earlier opened desk.disk office.disk calls (s.serves tells) (again.any_moment tells))
+            (narrowed_run laws opened desk.disk office.disk calls (s.serves tells) (again.any_moment tells))
             (goes.any_moment tells) (recoverable_more opened calls (call ∷ [])) (λ t p. p);
         slots = λ tells.
             let run = again.any_moment tells in
@@ -155,12 +153,12 @@ module _ {D : Type 0} {C : Type 0} (d : disks.Ghosts D)
             holds = λ fine. absurd (still_true new.stale stays fine);
             lost = λ not is history some. legal_append d.honest opened.limit opened.faults calls (call ∷ []) opened.history history history
                 (s.lost not stale history some) (kept_by d.honest call legal history some);
-            serves = λ tells. idle d counts_now only_now since_earlier opened new.disk calls call
-                (narrowed d counts_now only_now since_earlier opened desk.disk new.disk calls (s.serves tells) (run_is tells) later)
+            serves = λ tells. idle laws opened new.disk calls call
+                (narrowed laws opened desk.disk new.disk calls (s.serves tells) (run_is tells) later)
                 not_acked (λ history has. kept_by true call (legal_true tells) history has.has.accepted) told;
           };
-          any_moment = λ tells. run_more d counts_now only_now since_earlier opened desk.disk new.disk calls (call ∷ [])
-              (narrowed_run d counts_now only_now since_earlier opened desk.disk new.disk calls (s.serves tells) (run_is tells));
+          any_moment = λ tells. run_more laws opened desk.disk new.disk calls (call ∷ [])
+              (narrowed_run laws opened desk.disk new.disk calls (s.serves tells) (run_is tells));
           slots = λ tells. weakened (KeepsSlots (d.state desk.disk)) (run_is tells) (λ t narrow. (narrow.slot0, narrow.slot1));
         }
 
@@ -173,7 +171,7 @@ module _ {D : Type 0} {C : Type 0} (d : disks.Ghosts D)
         not_broken at broken fails tells =
             let seen = (d.state desk.disk).journal.seen in
             let recovers = (s.serves tells).left (d.moment desk.disk) (d.state desk.disk) seen (s.serves tells).later (omega arith)
-            (counts_now desk.disk (d.moment desk.disk) (omega arith)) (own tells desk.disk) in
+            (laws.counts_now desk.disk (d.moment desk.disk) (omega arith)) (laws.reads_image tells desk.disk Journal) in
             no_broken at broken (never_fails at recovers.history seen recovers.has (fails tells))
 
       -- ---- one call more
@@ -213,10 +211,10 @@ module _ {D : Type 0} {C : Type 0} (d : disks.Ghosts D)
           → new.limit ≡ office.limit → d.fault_count office.disk ≤ d.fault_count new.disk → AnswersAsk d number question office new said → Goes new said (stale_after desk.stale said)
       asked_call office new number said (inl (fresh, same)) limit later asks =
           let stands = subst (λ (x : DeskView D C). At opened calls x) (sym same) (stands_fresh fresh) in
-          let goes = submitted d counts_now only_now since_earlier own office new opened calls number question said stands limit later asks in
+          let goes = submitted laws office new opened calls number question said stands limit later asks in
           subst (λ (b : Bool). Goes new said (stale_after b said)) (sym fresh)
           (subst (λ (x : DeskView D C). GoesOn d opened (all said) x.disk (record new { stale = stale_after false said })) same goes)
       asked_call office new number said (inr (stale, again)) limit later asks =
-          let goes = submitted d counts_now only_now since_earlier own office new opened calls number question said (stands_again office stale again) limit later asks in
+          let goes = submitted laws office new opened calls number question said (stands_again office stale again) limit later asks in
           subst (λ (b : Bool). Goes new said (stale_after b said)) (sym stale)
           (restaled new said stale (run_again office stale again (record new { stale = stale_after false said }) (record { ask = question; said = said }) goes))

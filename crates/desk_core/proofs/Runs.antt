@@ -3,7 +3,9 @@ use Rattle.std.proofs.Common.{◌≡◌, ℕ, ◌≤◌, Bool, true, false, List
 use Rattle.std.specs.Prelude.{IsTrue}
 use Rattle.std.specs.Io.KnownBytes.{Appends}
 use Rattle.disk_core.specs.declared.disk.Disk as disks
+use Rattle.disk_core.specs.declared.disk.FileNo.TheVariants.{Journal}
 use Rattle.disk_core.specs.Files.{State, IsImage}
+use Rattle.disk_core.proofs.Laws.{DiskLaws}
 use Rattle.disk_core.proofs.Time.{joined}
 use Rattle.meter_journal.specs.History.{header}
 use Rattle.meter_journal.proofs.Unique.{entries_unique}
@@ -24,10 +26,7 @@ use Rattle.desk_core.proofs.Serving.{rest_image, some_run}
 use Rattle.desk_core.proofs.OneCallMore.{calls_grow}
 use Rattle.desk_core.proofs.Standing.{still_true}
 
-module _ {D C : Type 0} (d : disks.Ghosts D) (k : clocks.Ghosts C)
-    (counts_now : (disk : D) (t : ℕ) → t ≤ d.moment disk → d.had_since disk t (d.state disk))
-    (only_now : (disk : D) (s : State) → d.had_since disk (d.moment disk) s → s ≡ d.state disk)
-    (own : IsTrue d.honest → (disk : D) → IsImage (d.state disk).journal (d.state disk).journal.seen) where
+module _ {D C : Type 0} {d : disks.Ghosts D} (laws : DiskLaws d) (k : clocks.Ghosts C) where
   -- a history to which the calls lead, and which the desk holds if it is not stale
   abbrev Led : Opened → List Call → DeskView D C → Type 0
   Led opened calls desk = (history : List Entry) × Legal d.honest opened.limit opened.faults calls opened.history history × (desk.stale ≡ false → HoldsHistory d history desk)
@@ -36,11 +35,12 @@ module _ {D C : Type 0} (d : disks.Ghosts D) (k : clocks.Ghosts C)
   led_stale opened calls desk s stale = by_honesty d.honest
       (λ tells.
       let seen = (d.state desk.disk).journal.seen in
+      let own = laws.reads_image tells desk.disk Journal in
       let serves = s.serves tells in
-      let recovers = serves.left (d.moment desk.disk) (d.state desk.disk) seen serves.later (omega arith) (counts_now desk.disk (d.moment desk.disk) (omega arith)) (own tells desk.disk) in (
+      let recovers = serves.left (d.moment desk.disk) (d.state desk.disk) seen serves.later (omega arith) (laws.counts_now desk.disk (d.moment desk.disk) (omega arith)) own in (
         recovers.history,
         honest_legal d.honest opened.limit opened.faults calls opened.history recovers.history tells
-            (serves.whole seen recovers.history (own tells desk.disk) recovers.has),
+            (serves.whole seen recovers.history own recovers.has),
         λ fresh. absurd (still_true desk.stale stale fresh),
       ))
       (λ not. ([], s.lost not stale [] (some_run [] empty_office run_none), λ fresh. absurd (still_true desk.stale stale fresh)))
@@ -67,7 +67,8 @@ module _ {D C : Type 0} (d : disks.Ghosts D) (k : clocks.Ghosts C)
       → KeepsCalls d disk new.disk (opened_with d opens.history old) calls history
   keeps_calls disk clock limit old new calls opens followed path history holds tells = record {
     read = opens.read tells;
-    only = λ first each. entries_unique header opens.history first (d.state disk).journal.seen (opens.read tells).entries (each (d.state disk).journal.seen (own tells disk)).entries;
+    only = λ first each. entries_unique header opens.history first (d.state disk).journal.seen (opens.read tells).entries
+        (each (d.state disk).journal.seen (laws.reads_image tells disk Journal)).entries;
     opening = old.disk;
     begun = refl;
     before = opens.any_moment tells;
@@ -88,7 +89,7 @@ module _ {D C : Type 0} (d : disks.Ghosts D) (k : clocks.Ghosts C)
       → AnswersCalls d k limit (outside disk clock) (outside new.disk new.clock) calls
   answers_calls disk clock limit old new calls opens path =
       let opened = opened_with d opens.history old in
-      let followed = follow d k counts_now only_now opened old new calls opens.stands path in
+      let followed = follow d k laws opened old new calls opens.stands path in
       let lead = led opened calls new followed.stands in
       record {
         opened = opened;

@@ -5,6 +5,7 @@ use Rattle.office_base.specs.Faults.{Rose}
 use Rattle.disk_core.specs.declared.disk.Disk as disks
 use Rattle.disk_core.specs.Files.{State, IsImage}
 use Rattle.disk_core.specs.Moments.{KeepsTo}
+use Rattle.disk_core.proofs.Laws.{DiskLaws}
 use Rattle.disk_core.proofs.Time.{started, weakened}
 use Rattle.plain_office.specs.Office.{Office}
 use Rattle.plain_office.specs.Run.{run}
@@ -53,10 +54,7 @@ rest_image s gate before p rest is image has = record { entries = each_image hea
 pub unique : (h before : List Entry) (image : List ℕ) → HasAcceptedHistory h image → HasEntries header before image → h ≡ before
 unique h before image has entries = entries_unique header h before image has.entries entries
 
-module _ {D : Type 0} (d : disks.Ghosts D)
-    (counts_now : (disk : D) (t : ℕ) → t ≤ d.moment disk → d.had_since disk t (d.state disk))
-    (only_now : (disk : D) (s : State) → d.had_since disk (d.moment disk) s → s ≡ d.state disk)
-    (since_earlier : (disk : D) (t u : ℕ) (s : State) → t ≤ u → d.had_since disk u s → d.had_since disk t s) where
+module _ {D : Type 0} {d : disks.Ghosts D} (laws : DiskLaws d) where
   -- ---- what a call makes of the disk, where the journal lay at rest on it
 
   module _ (old : D) (gate : ℕ) (before : List Entry) (p : Office) (rest : IsAtRest header (d.state old) gate before)
@@ -81,7 +79,7 @@ module _ {D : Type 0} (d : disks.Ghosts D)
     makes_still new same rule kept told = record {
       settled = before;
       is_settled = settled;
-      run = subst (λ (z : D). KeepsTo d old z In) (sym same) (started d old In (only_now old) still);
+      run = subst (λ (z : D). KeepsTo d old z In) (sym same) (started d old In (laws.only_now old) still);
       done = λ image h is has.
           let here = subst (λ (z : D). IsImage (d.state z).journal image) same is in
           subst Rule (sym (unique h before image has (each_image header (d.state old) gate before rest image here))) rule;

@@ -4,8 +4,10 @@ use Rattle.std.specs.Prelude.{IsTrue}
 use Rattle.office_base.specs.Faults.{Rose}
 use Rattle.moments.specs.Time.{end_of_time}
 use Rattle.disk_core.specs.declared.disk.Disk as disks
+use Rattle.disk_core.specs.declared.disk.FileNo.TheVariants.{Journal}
 use Rattle.disk_core.specs.Files.{State, IsImage}
 use Rattle.disk_core.specs.Moments.{KeepsTo}
+use Rattle.disk_core.proofs.Laws.{DiskLaws}
 use Rattle.disk_core.proofs.Time.{started, weakened}
 use Rattle.plain_office.specs.Office.{Office}
 use Rattle.plain_office.specs.Step.{step, is_accepted}
@@ -77,11 +79,7 @@ pub record StandsAt {D C : Type 0} (d : disks.Ghosts D) (opened : Opened) (calls
   pub holds : HoldsHistory d history desk
   pub serves : IsTrue d.honest → DiskServes d opened desk.disk calls
 
-module _ {D : Type 0} {C : Type 0} (d : disks.Ghosts D)
-    (counts_now : (disk : D) (t : ℕ) → t ≤ d.moment disk → d.had_since disk t (d.state disk))
-    (only_now : (disk : D) (s : State) → d.had_since disk (d.moment disk) s → s ≡ d.state disk)
-    (since_earlier : (disk : D) (t u : ℕ) (s : State) → t ≤ u → d.had_since disk u s → d.had_since disk t s)
-    (own : IsTrue d.honest → (disk : D) → IsImage (d.state disk).journal (d.state disk).journal.seen) where
+module _ {D C : Type 0} {d : disks.Ghosts D} (laws : DiskLaws d) where
   abbrev Stands : Opened → List Call → DeskView D C → Type 0
   Stands opened calls desk = StandsAt d opened calls desk
 
@@ -117,9 +115,9 @@ module _ {D : Type 0} {C : Type 0} (d : disks.Ghosts D)
           marked_holds d after new (stale_after false call.said) (holds fine),
         );
         lost = λ not is history some. legal_append d.honest opened.limit opened.faults calls (call ∷ []) opened.history s.history history s.legal (lost not is history);
-        serves = λ tells. one_more d counts_now only_now since_earlier opened old.disk new.disk calls call (s.serves tells) (makes tells);
+        serves = λ tells. one_more laws opened old.disk new.disk calls call (s.serves tells) (makes tells);
       };
-      any_moment = λ tells. recoverable d counts_now only_now since_earlier opened old.disk new.disk calls call (s.serves tells) (makes tells);
+      any_moment = λ tells. recoverable laws opened old.disk new.disk calls call (s.serves tells) (makes tells);
       slots = slots;
     }
 
@@ -143,9 +141,9 @@ module _ {D : Type 0} {C : Type 0} (d : disks.Ghosts D)
     still_by call fine same holds legal told kept =
         let rule : (b : Bool) → Legal b opened.limit last (call ∷ []) s.history s.history = λ b. one_legal b opened.limit last call s.history s.history plain held.office.is_run (legal b) in
         grown_by call s.history rule (λ _. holds) (λ not is. absurd (still_true (stale_after false call.said) is fine)) told
-        (λ _. subst (λ (z : D). KeepsTo d old.disk z (KeepsSlots (d.state old.disk))) (sym same) (started d old.disk (KeepsSlots (d.state old.disk)) (only_now old.disk) (refl, refl))) (λ tells.
-        makes_still d counts_now only_now since_earlier old.disk old.gate s.history plain (held.at_rest tells) held.office.is_run
-        (own tells old.disk) opened.limit last call new.disk same (rule true) (kept tells) told)
+        (λ _. subst (λ (z : D). KeepsTo d old.disk z (KeepsSlots (d.state old.disk))) (sym same) (started d old.disk (KeepsSlots (d.state old.disk)) (laws.only_now old.disk) (refl, refl))) (λ tells.
+        makes_still laws old.disk old.gate s.history plain (held.at_rest tells) held.office.is_run
+        (laws.reads_image tells old.disk Journal) opened.limit last call new.disk same (rule true) (kept tells) told)
 
     kept_at : (after : List Entry) (t number : ℕ) (said : Answer) → HoldsHistory d after new → IsAnswerOf d.moment t number new said
         → IsTrue d.honest → IsKept d new.disk (Ok said)
@@ -194,7 +192,7 @@ module _ {D : Type 0} {C : Type 0} (d : disks.Ghosts D)
               let rule : (b : Bool) → Legal b opened.limit last (call ∷ []) s.history after = λ b. one_legal b opened.limit last call s.history after plain held.office.is_run
               (legal_at (ask.Command command) said after made grows.holds.end (reply, inl (accepted, refl), room fits) b) in
               grown_by call after rule (λ _. grows.holds) (λ not is. absurd (still_true false is refl)) tt (λ tells. adding_keeps s.history e (grows.run tells)) (λ tells.
-              makes_grown d counts_now only_now since_earlier old.disk old.gate s.history plain (held.at_rest tells) held.office.is_run (own tells old.disk) opened.limit last call
+              makes_grown laws old.disk old.gate s.history plain (held.at_rest tells) held.office.is_run (laws.reads_image tells old.disk Journal) opened.limit last call
               e grows.holds.office.plain grows.holds.office.is_run (rule true) new.disk new.gate (grows.run tells) (grows.holds.at_rest tells)
               (kept_at after t number said grows.holds made tells) (later, tt))
 
@@ -215,7 +213,7 @@ module _ {D : Type 0} {C : Type 0} (d : disks.Ghosts D)
               one_legal d.honest opened.limit last call s.history history plain held.office.is_run
               (tt, rose, λ tells. absurd (not tells))) told
               (λ tells. adding_keeps s.history e (fails.run tells)) (λ tells.
-              makes_failed d counts_now only_now since_earlier old.disk old.gate s.history plain (held.at_rest tells) held.office.is_run (own tells old.disk) opened.limit last call
+              makes_failed laws old.disk old.gate s.history plain (held.at_rest tells) held.office.is_run (laws.reads_image tells old.disk Journal) opened.limit last call
               e fails.next.0 (run_more s.history e plain fails.next.0 held.office.is_run fails.next.1) kept new.disk (rule true) (fails.run tells) tt (later, told))
 
         done : (question : Ask) (said : Answer) → IsAnswerOf d.moment t number new said → IsDoneAt d t question plain s.history old new said.reply

@@ -9,6 +9,7 @@ use Rattle.disk_core.specs.declared.disk.Disk as disks
 use Rattle.disk_core.specs.Files.{State}
 use Rattle.disk_core.specs.Fronts.{Narrower}
 use Rattle.disk_core.specs.Moments.{KeepsTo}
+use Rattle.disk_core.proofs.Laws.{DiskLaws}
 use Rattle.disk_core.proofs.Time.{started, weakened}
 use Rattle.plain_office.specs.Office.{Office}
 use Rattle.plain_office.specs.Step.{is_accepted}
@@ -20,13 +21,14 @@ use Rattle.office_types.specs.declared.command.Entry.{Entry}
 use Rattle.office_types.specs.declared.reply.Reply.{Reply}
 use Rattle.office_types.specs.declared.refusal.Refusal.{Refusal}
 use Rattle.office_types.specs.Entries.{entry_at}
+use Rattle.office_machine.specs.Standing.{Records}
 use Rattle.desk_core.specs.declared.clock.Clock as clocks
 use Rattle.desk_core.specs.declared.fault.DeskFault.{DeskFault}
 use Rattle.desk_core.specs.declared.fault.DeskFault.TheVariants as faults
 use Rattle.desk_core.specs.Answers.{Answer}
 use Rattle.desk_core.specs.Calls.{moment_after}
-use Rattle.desk_core.specs.Submitting.{LeavesDisk, HasStoreReason, IsAcceptedAt, PassesLimit, IsClockEnd, KeepsOrAdds, HasCauses}
-use Rattle.desk_core.specs.Desk.{DeskView, HoldsHistory, IsReady, IsLast, IsStamped, stale_after}
+use Rattle.desk_core.specs.Submitting.{LeavesDisk, HasStoreReason, IsAcceptedAt, PassesLimit, IsClockEnd, KeepsOrAdds, HasCauses, IsOffice, IsUnopened}
+use Rattle.desk_core.specs.Desk.{DeskView, HoldsHistory, IsReady, IsLast, IsStamped, TellsFault, stale_after}
 use Rattle.desk_core.specs.Answering.{IsDoneAt, HasFailed, AnswersInTime, AnswersAt, AnswersAsk}
 use Rattle.plain_office.proofs.Runs.{run_more}
 use Rattle.meter_journal.specs.History.{header, HasEntries, BeforeOrAfter}
@@ -118,23 +120,37 @@ module _ {D : Type 0} {C : Type 0} (d : disks.Ghosts D)
   leaves question (Ok said) (inr past) = ended_leaves question said past.1.2.disk
   leaves question (Err fault) (inr past) = absurd past.1
 
+  -- but where it failed, the disk's count of faults stands still
+  same_count : new.disk ≡ old.disk → d.fault_count new.disk ≡ d.fault_count old.disk
+  same_count same = ap d.fault_count same
+
+  done_quiet : (question : Ask) (said : Answer) → IsDoneAt d t question office before old new said.reply → d.fault_count new.disk ≡ d.fault_count old.disk
+  done_quiet (ask.Command command) said is = ⊎_elim (λ grew. grew.1.quiet) (λ stayed. same_count stayed.1.disk) is.2
+  done_quiet (ask.Query query) said is = same_count is.1.disk
+
+  answered_quiet : (question : Ask) (said : Answer) → AnswersAt d t number question office before old new (Ok said) → d.fault_count new.disk ≡ d.fault_count old.disk
+  answered_quiet question said (inl in_time) = done_quiet question said in_time.1.1
+  answered_quiet question said (inr past) = same_count past.1.2.disk
+
   failed_reason : (question : Ask) → t < end_of_time → HasFailed d t question office before old new → Rose (d.fault_count old.disk) (d.fault_count new.disk) × IsAcceptedAt t question old.office
   failed_reason (ask.Command command) lt fails = (fails.rose, (lt, fails.accepted))
   failed_reason (ask.Query query) lt fails = absurd fails
 
   pub reason : (question : Ask) (said : Result Answer DeskFault) → t ≡ moment_after number old.office.last → AnswersAt d t number question office before old new said
       → HasStoreReason said question old.office (d.fault_count old.disk) (d.fault_count new.disk)
-  reason question (Ok said) at answers = tt
+  reason question (Ok said) at answers = answered_quiet question said answers
   reason question (Err (faults.StoreFault (Some told) count)) at answers =
       let kept = in_time_of d t number question office before old new (faults.StoreFault (Some told) count) answers in
       let why = failed_reason question kept.0 kept.1.2 in
       (why.0, kept.1.1, subst (λ (m : ℕ). IsAcceptedAt m question old.office) (at ∙ ap (λ (n : ℕ). moment_after n old.office.last) (sym kept.1.0)) why.1)
   reason question (Err (faults.StoreFault None count)) at answers =
       absurd (in_time_of d t number question office before old new (faults.StoreFault None count) answers).1
-  reason question (Err faults.JournalFull) at answers = tt
+  reason question (Err faults.JournalFull) at answers =
+      same_count (in_time_of d t number question office before old new faults.JournalFull answers).1.1.disk
   reason question (Err (faults.Broken fault)) at answers =
       absurd (in_time_of d t number question office before old new (faults.Broken fault) answers).1
-  reason question (Err faults.NoMemory) at answers = tt
+  reason question (Err faults.NoMemory) at answers =
+      same_count (in_time_of d t number question office before old new faults.NoMemory answers).1.disk
 
   -- ---- a further call
 
@@ -195,7 +211,7 @@ module _ {D : Type 0} {C : Type 0} (d : disks.Ghosts D)
 
 -- ---- what a crash inside the call leaves
 
-module _ {D : Type 0} {C : Type 0} (d : disks.Ghosts D) (only_now : (disk : D) (s : State) → d.had_since disk (d.moment disk) s → s ≡ d.state disk)
+module _ {D C : Type 0} {d : disks.Ghosts D} (laws : DiskLaws d)
     (tells : IsTrue d.honest) (t number : ℕ) (before : List Entry) (old new : DeskView D C) (hold : HoldsHistory d before old) where
   abbrev Inside : Ask → Type 0
   Inside question = KeepsTo d old.disk new.disk (KeepsOrAdds t question before)
@@ -206,7 +222,7 @@ module _ {D : Type 0} {C : Type 0} (d : disks.Ghosts D) (only_now : (disk : D) (
 
   stays_inside : (question : Ask) → new.disk ≡ old.disk → Inside question
   stays_inside question same = subst (λ (z : D). KeepsTo d old.disk z (KeepsOrAdds t question before)) (sym same)
-      (started d old.disk (KeepsOrAdds t question before) (only_now old.disk) (here question))
+      (started d old.disk (KeepsOrAdds t question before) (laws.only_now old.disk) (here question))
 
   adds_inside : (command : Command) (more : Office) → run (before ++ entry_at t command ∷ []) ≡ Some more
       → KeepsTo d old.disk new.disk (BeforeOrAfter header before (entry_at t command) (d.state old.disk)) → Inside (ask.Command command)
@@ -268,13 +284,12 @@ module _ {D C : Type 0} {d : disks.Ghosts D} {number : ℕ} {question : Ask} {ol
   pub ready_by : stale_after false said ≡ false → IsReady d new
   ready_by fine = ready_on d asks.t number hold.office.plain before told new question said fine one
 
-  pub tells_by : (k : clocks.Ghosts C)
-      → ((disk : D) (s : State) → d.had_since disk (d.moment disk) s → s ≡ d.state disk) → k.last new.clock ≡ number
+  pub tells_by : (k : clocks.Ghosts C) → DiskLaws d → k.last new.clock ≡ number
       → k.count new.clock ≡ min (k.count old.clock + 1) (2 ^ 64 - 1)
       → (PassesLimit (moment_after (k.last new.clock) old.office.last) old.gate old.limit question
       → (said ≡ Err faults.JournalFull) ⊎ (said ≡ Err faults.NoMemory))
       → HasCauses d k old question said new
-  tells_by k only_now last_is once full =
+  tells_by k laws last_is once full =
       let now_is : asks.t ≡ moment_after (k.last new.clock) old.office.last = asks.at ∙ ap (λ (n : ℕ). moment_after n old.office.last) (sym last_is) in
       record {
         once = once;
@@ -282,7 +297,7 @@ module _ {D C : Type 0} {d : disks.Ghosts D} {number : ℕ} {question : Ask} {ol
         inside = λ tells b holds.
             let other : HoldsHistory d b told = record { office = holds.office; end = holds.end; limit = holds.limit; at_rest = holds.at_rest } in
             subst (λ (t : ℕ). KeepsTo d old.disk new.disk (KeepsOrAdds t question b)) now_is
-            (inside_of d only_now tells asks.t number b told new other question said (asks.answers b other));
+            (inside_of laws tells asks.t number b told new other question said (asks.answers b other));
         reason = reason d asks.t number hold.office.plain before told new question said asks.at one;
         ended = subst (λ (t : ℕ). end_of_time ≤ t → IsClockEnd t said) now_is (λ past. ended_so d asks.t number question hold.office.plain before told new said past one);
         full = full;
@@ -313,3 +328,33 @@ fresh_after stale (Err (faults.StoreFault number count)) fresh = fresh
 fresh_after stale (Err faults.JournalFull) fresh = refl
 fresh_after stale (Err (faults.Broken fault)) fresh = fresh
 fresh_after stale (Err faults.NoMemory) fresh = refl
+
+-- ---- whether the disk failed
+
+-- what the office that answers tells of faults, a call tells
+office_told : (said : Result Answer DeskFault) (question : Ask) (records : Records) (before after : ℕ) → HasStoreReason said question records before after → TellsFault said before after
+office_told (Ok answer) question records before after told = told
+office_told (Err (faults.StoreFault (Some number) count)) question records before after told = (told.0, told.1)
+office_told (Err (faults.StoreFault None count)) question records before after told = absurd told
+office_told (Err faults.JournalFull) question records before after told = told
+office_told (Err (faults.Broken fault)) question records before after told = absurd told
+office_told (Err faults.NoMemory) question records before after told = told
+
+-- an office is opened again without a fault of the disk
+office_quiet : {D C : Type 0} (d : disks.Ghosts D) (old office : DeskView D C) → IsOffice d old office → d.fault_count office.disk ≡ d.fault_count old.disk
+office_quiet d old office (inl own) = ap (λ (x : DeskView _ _). d.fault_count x.disk) own.1
+office_quiet d old office (inr again) = again.1.quiet
+
+pub asked_told : {D C : Type 0} (d : disks.Ghosts D) (old office : DeskView D C) (question : Ask) (said : Result Answer DeskFault) (after : ℕ) → IsOffice d old office
+    → HasStoreReason said question office.office (d.fault_count office.disk) after → TellsFault said (d.fault_count old.disk) after
+asked_told d old office question said after is told =
+    subst (λ (n : ℕ). TellsFault said n after) (office_quiet d old office is) (office_told said question office.office (d.fault_count office.disk) after told)
+
+-- and where none could be opened, the call tells why
+pub unopened_told : {D : Type 0} (d : disks.Ghosts D) (old new : D) (said : Result Answer DeskFault) → IsUnopened d old new said → TellsFault said (d.fault_count old) (d.fault_count new)
+unopened_told d old new (Ok answer) why = absurd why
+unopened_told d old new (Err (faults.StoreFault None count)) why = (why.0, why.1)
+unopened_told d old new (Err (faults.StoreFault (Some number) count)) why = absurd why
+unopened_told d old new (Err faults.JournalFull) why = absurd why
+unopened_told d old new (Err (faults.Broken fault)) why = why.2
+unopened_told d old new (Err faults.NoMemory) why = why

@@ -34,10 +34,11 @@ pub record IsAnswerOf {D C : Type 0} (disk_time : D → ℕ) (t number : ℕ) (n
   pub disk_moment : said.disk_moment ≡ disk_time new.disk
 
 module _ {D C : Type 0} (d : disks.Ghosts D) where
-  -- the history grew by the entry, and in between each image had it or had it not
+  -- the history grew by the entry, and in between each image had it or had it not; the disk did not fail
   pub record Grows (before : List Entry) (entry : Entry) (old new : DeskView D C) : Type 0 where
     pub holds : HoldsHistory d (before ++ entry ∷ []) new
     pub run : IsTrue d.honest → KeepsTo d old.disk new.disk (BeforeOrAfter header before entry (d.state old.disk))
+    pub quiet : d.fault_count new.disk ≡ d.fault_count old.disk
 
   -- nothing was written
   pub record Stays (before : List Entry) (old new : DeskView D C) : Type 0 where
@@ -53,7 +54,8 @@ module _ {D C : Type 0} (d : disks.Ghosts D) where
     pub run : IsTrue d.honest → KeepsTo d old.disk new.disk (BeforeOrAfter header before entry (d.state old.disk))
     pub rose : Rose (d.fault_count old.disk) (d.fault_count new.disk)
 
-  -- what adding the entry of a command does, to which this is the reply: the entry is there, or the disk failed
+  -- what adding the entry of a command does, to which this is the reply: the entry is there and the disk did not fail,
+  -- or the disk failed
   abbrev pub AddsEntry : ℕ → ℕ → Result Reply Refusal → List Entry → Entry → DeskView D C → DeskView D C
       → Result Answer DeskFault → Type 0
   AddsEntry t number reply before entry old new (Ok said) =
@@ -61,6 +63,7 @@ module _ {D C : Type 0} (d : disks.Ghosts D) where
       × (new.gate ≡ end_gate header (before ++ entry ∷ []))
       × (IsTrue d.honest → IsAtRest header (d.state new.disk) new.gate (before ++ entry ∷ [])
       × KeepsTo d old.disk new.disk (BeforeOrAfter header before entry (d.state old.disk)))
+      × (d.fault_count new.disk ≡ d.fault_count old.disk)
   AddsEntry t number reply before entry old new (Err (faults.StoreFault (Some told) count)) =
       (told ≡ number) × (count ≡ d.fault_count new.disk) × Rose (d.fault_count old.disk) (d.fault_count new.disk)
       × (IsTrue d.honest → KeepsTo d old.disk new.disk (BeforeOrAfter header before entry (d.state old.disk)))

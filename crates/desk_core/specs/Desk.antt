@@ -82,10 +82,11 @@ abbrev pub IsStamped : Result Answer DeskFault → ℕ → ℕ → Type 0
 IsStamped (Ok answer) end moment = (answer.position ≡ end) × (answer.disk_moment ≡ moment)
 IsStamped (Err fault) end moment = Unit {0}
 
--- a fault of the store comes only where the disk failed in the call, and tells the disk's count at the return
+-- a fault of the store comes where, and only where, the disk failed in the call, and tells the disk's count at the
+-- return; where anything else is told, that count stands still
 abbrev pub TellsFault : Result Answer DeskFault → ℕ → ℕ → Type 0
-TellsFault (Ok answer) before after = Unit {0}
+TellsFault (Ok answer) before after = after ≡ before
 TellsFault (Err (faults.StoreFault number count)) before after = Rose before after × (count ≡ after)
-TellsFault (Err faults.JournalFull) before after = Unit {0}
-TellsFault (Err (faults.Broken fault)) before after = Unit {0}
-TellsFault (Err faults.NoMemory) before after = Unit {0}
+TellsFault (Err faults.JournalFull) before after = after ≡ before
+TellsFault (Err (faults.Broken fault)) before after = after ≡ before
+TellsFault (Err faults.NoMemory) before after = after ≡ before

@@ -13,7 +13,7 @@ abbrev pub opened_with : {D C : Type 0} → disks.Ghosts D → List Entry → De
 opened_with d history desk =
     record { history = history; limit = desk.limit; faults = d.fault_count desk.disk; moment = d.moment desk.disk }
 
--- A desk that was opened on this disk: it stands for no call yet, from a history on. Of an honest disk that is the
+-- A desk that was opened on this disk, which did not fail: it stands for no call yet, from a history on. Of an honest disk that is the
 -- history of the bytes that its journal file reads, and every image since is one that it had.
 pub record Opens {D C : Type 0} (d : disks.Ghosts D)
     (disk : D) (clock : C) (limit : ℕ) (desk : DeskView D C) : Type 0 where
@@ -25,3 +25,4 @@ pub record Opens {D C : Type 0} (d : disks.Ghosts D)
   pub read : IsTrue d.honest → HasAcceptedHistory history (d.state disk).journal.seen
   pub any_moment : IsTrue d.honest → KeepsTo d disk desk.disk (Narrower (d.state disk))
   pub later : d.fault_count disk ≤ d.fault_count desk.disk
+  pub quiet : d.fault_count desk.disk ≡ d.fault_count disk

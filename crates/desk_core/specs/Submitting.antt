@@ -45,16 +45,16 @@ IsAcceptedAt t (ask.Command command) records =
     × ((office : Office) → StandsForOffice records office → IsTrue (is_accepted (step t command office).1))
 IsAcceptedAt t (ask.Query query) records = ⊥
 
--- a fault of the store comes only where the disk failed in the call, and only for a command that the office accepts;
--- the count that it tells is the disk's at the return
+-- a fault of the store comes where, and only where, the disk failed in the call, and only for a command that the
+-- office accepts; the count that it tells is the disk's at the return
 abbrev pub HasStoreReason : Result Answer DeskFault → Ask → Records → ℕ → ℕ → Type 0
 HasStoreReason (Err (faults.StoreFault (Some number) count)) question records before after =
     Rose before after × (count ≡ after) × IsAcceptedAt (moment_after number records.last) question records
 HasStoreReason (Err (faults.StoreFault None count)) question records before after = ⊥
-HasStoreReason (Ok answer) question records before after = Unit {0}
-HasStoreReason (Err faults.JournalFull) question records before after = Unit {0}
+HasStoreReason (Ok answer) question records before after = after ≡ before
+HasStoreReason (Err faults.JournalFull) question records before after = after ≡ before
 HasStoreReason (Err (faults.Broken fault)) question records before after = ⊥
-HasStoreReason (Err faults.NoMemory) question records before after = Unit {0}
+HasStoreReason (Err faults.NoMemory) question records before after = after ≡ before
 
 -- the ask is a command before the end of time, and its frame, with the gate behind it, would end past the limit
 abbrev pub PassesLimit : ℕ → ℕ → ℕ → Ask → Type 0
@@ -98,20 +98,22 @@ pub record HasCauses {D C : Type 0} (d : disks.Ghosts D) (k : clocks.Ghosts C) (
 
 -- ---- opening again
 
--- why it could not be opened again, in the words of a call
+-- why it could not be opened again, in the words of a call: where the disk failed, and only there, by a fault of the
+-- store
 abbrev pub IsUnopened : {D : Type 0} → disks.Ghosts D → D → D → Result Answer DeskFault → Type 0
 IsUnopened d old new (Err (faults.StoreFault None count)) =
     Rose (d.fault_count old) (d.fault_count new) × (count ≡ d.fault_count new)
 IsUnopened d old new (Err (faults.Broken fault)) =
     IsBroken fault × (IsTrue d.honest → OpenFails fault (d.state old).journal.seen)
-IsUnopened d old new (Err faults.NoMemory) = Unit {0}
+    × (d.fault_count new ≡ d.fault_count old)
+IsUnopened d old new (Err faults.NoMemory) = d.fault_count new ≡ d.fault_count old
 IsUnopened d old new (Err (faults.StoreFault (Some number) count)) = ⊥
 IsUnopened d old new (Err faults.JournalFull) = ⊥
 IsUnopened d old new (Ok answer) = ⊥
 
 module _ {D C : Type 0} (d : disks.Ghosts D) where
-  -- The journal was opened again: the office is the one after a history, on an honest disk that of the bytes that its
-  -- journal file reads, and every image since is one that it had.
+  -- The journal was opened again, without a fault of the disk: the office is the one after a history, on an honest
+  -- disk that of the bytes that its journal file reads, and every image since is one that it had.
   pub record Reopens (old office : DeskView D C) : Type 0 where
     pub history : List Entry
     pub holds : HoldsHistory d history office
@@ -120,6 +122,7 @@ module _ {D C : Type 0} (d : disks.Ghosts D) where
     pub clock : office.clock ≡ old.clock
     pub limit : office.limit ≡ old.limit
     pub later : d.fault_count old.disk ≤ d.fault_count office.disk
+    pub quiet : d.fault_count office.disk ≡ d.fault_count old.disk
 
   -- the office that answers a call: that of the desk, and of a stale desk the one that is opened again
   abbrev pub IsOffice : DeskView D C → DeskView D C → Type 0

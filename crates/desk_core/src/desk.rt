@@ -10,10 +10,10 @@ ghost use Rattle.office_types.specs.declared.command.Entry.{Entry};
 ghost use Rattle.desk_core.specs.Answers.{Call};
 ghost use Rattle.desk_core.specs.Submitting.{IsOffice, HasCauses, Submits, Unopened};
 ghost use Rattle.desk_core.specs.Damage.{OpenFails};
-ghost use Rattle.desk_core.specs.Desk.{DeskView, StandsFor, GoesOn};
+ghost use Rattle.desk_core.specs.Desk.{DeskView, HoldsHistory, StandsFor, GoesOn};
 ghost use Rattle.desk_core.specs.Desk.{TellsFault, IsLast, IsStamped, stale_after};
 ghost use Rattle.desk_core.specs.Histories.{HasAcceptedHistory};
-ghost use Rattle.desk_core.specs.Looking.{IsReadAfter};
+ghost use Rattle.desk_core.specs.Looking.{IsRead, IsReadAfter};
 ghost use Rattle.desk_core.specs.Numbers.{IsNumber};
 ghost use Rattle.desk_core.specs.Opening.{Opens};
 ghost use Rattle.desk_core.specs.Serving.{Opened};
@@ -89,6 +89,9 @@ impl<D: Disk + Drop, C: Clock + Drop> Desk<D, C> {
         ensures clock { IfErr result (λ e. e.2 ≡ clock) }
         ensures later { IfErr result (λ e. D.fault_count disk ≤ D.fault_count e.1) }
         ensures fault { IfErr result (λ e. e.0 ≡ OpenFault.StoreFault → Rose (D.fault_count disk) (D.fault_count e.1)) }
+        // Where anything else is told, the disk did not fail.
+        ensures quiet { IfErr result
+            (λ e. (e.0 ≡ OpenFault.StoreFault → ⊥) → D.fault_count e.1 ≡ D.fault_count disk) }
     {
         let mut engine = Engine::over(alloc, disk, clock, limit);
         match engine.open() {
@@ -176,6 +179,9 @@ impl<D: Disk + Drop, C: Clock + Drop> Desk<D, C> {
         ensures reads { (opened : Opened) (calls : List Call)
             → StandsFor D.Disk opened calls self.now
             → IsReadAfter D.honest opened calls told query.now result }
+        // Whichever history the desk holds, it is of that one.
+        ensures own { (history : List Entry) → HoldsHistory D.Disk history self.now
+            → IsRead told query.now history result }
         ensures fits { AnswerFits result }
     {
         self.engine.look(told, query)

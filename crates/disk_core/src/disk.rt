@@ -25,8 +25,9 @@ pub enum FileNo {
 /// crash it is one of its images: its length is one that it had since the last sync, and the ranges that were
 /// written since then hold any bytes, as do all bytes past the synced length; the others are as they were synced.
 ///
-/// The count of faults never falls, and a call fails only where it rises, or stands at the greatest `u64`. A call
-/// that failed may have happened in part, as its docstring says. Where `honest` is false only the count is told.
+/// The count of faults never falls. A call fails where, and only where, it rises; at the greatest `u64` a call that
+/// fails leaves it. A call that failed may have happened in part, as its docstring says. Where `honest` is false only
+/// the count is told.
 pub trait Disk {
     /// Whether it tells what it holds. Where it does not, nothing is said of contents.
     ghost honest: { Bool };
@@ -52,7 +53,8 @@ pub trait Disk {
         ensures length { IsTrue honest → IfOk result (λ n. n ≡ length (seen_in file (state self.old))) }
         ensures state { IsTrue honest → state self.new ≡ state self.old }
         ensures time { Elapses state moment had_since self.old self.new }
-        ensures cause { HasCause (fault_count self.old) (fault_count self.new) result };
+        ensures cause { HasCause (fault_count self.old) (fault_count self.new) result }
+        ensures quiet { OnOk result (fault_count self.new ≡ fault_count self.old) };
 
     /// Fills the room with the bytes from an offset on. They have to end within the file.
     ///
@@ -65,7 +67,8 @@ pub trait Disk {
             ≡ take (length room.old) (drop at (seen_in file (state self.old)))) }
         ensures state { IsTrue honest → state self.new ≡ state self.old }
         ensures time { Elapses state moment had_since self.old self.new }
-        ensures cause { HasCause (fault_count self.old) (fault_count self.new) result };
+        ensures cause { HasCause (fault_count self.old) (fault_count self.new) result }
+        ensures quiet { OnOk result (fault_count self.new ≡ fault_count self.old) };
 
     /// Writes over what is there from an offset on, and past the end. It begins within the file or at its end.
     ///
@@ -81,7 +84,8 @@ pub trait Disk {
             ≡ put at bytes.now (seen_in file (state self.old))) }
         ensures state { IsTrue honest → Wrote file at (length bytes.now) (state self.old) (state self.new) }
         ensures time { Elapses state moment had_since self.old self.new }
-        ensures cause { HasCause (fault_count self.old) (fault_count self.new) result };
+        ensures cause { HasCause (fault_count self.old) (fault_count self.new) result }
+        ensures quiet { OnOk result (fault_count self.new ≡ fault_count self.old) };
 
     /// Cuts a file to a length, in bytes, which is not above its own.
     ///
@@ -96,7 +100,8 @@ pub trait Disk {
             ≡ take to (seen_in file (state self.old))) }
         ensures state { IsTrue honest → Shortened file to (state self.old) (state self.new) }
         ensures time { Elapses state moment had_since self.old self.new }
-        ensures cause { HasCause (fault_count self.old) (fault_count self.new) result };
+        ensures cause { HasCause (fault_count self.old) (fault_count self.new) result }
+        ensures quiet { OnOk result (fault_count self.new ≡ fault_count self.old) };
 
     /// Makes what a read of the file gives its only image.
     ///
@@ -107,7 +112,8 @@ pub trait Disk {
         ensures done { IsTrue honest → OnOk result (Synced file (state self.old) (state self.new)) }
         ensures state { IsTrue honest → OnErr result (Unsynced file (state self.old) (state self.new)) }
         ensures time { Elapses state moment had_since self.old self.new }
-        ensures cause { HasCause (fault_count self.old) (fault_count self.new) result };
+        ensures cause { HasCause (fault_count self.old) (fault_count self.new) result }
+        ensures quiet { OnOk result (fault_count self.new ≡ fault_count self.old) };
 
     /// Counts the calls that failed, up to the greatest `u64`.
     fn faults(&self) -> u64

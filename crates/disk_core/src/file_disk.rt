@@ -1,5 +1,5 @@
 // Three real files. Nothing is told of what they hold.
-ghost use Rattle.std.specs.Prelude.{◌≡◌, ◌≤◌, false, refl, IfOk};
+ghost use Rattle.std.specs.Prelude.{◌≡◌, ◌≤◌, false, refl, IfOk, OnOk};
 ghost use Rattle.office_base.specs.Faults.{HasCause};
 ghost use Rattle.disk_core.specs.Files.{empty_disk};
 ghost use Rattle.disk_core.specs.Untold.{untold_image, untold_bytes, file_faults};
@@ -54,7 +54,8 @@ impl FileDisk {
 
     // Counts an answer that is an error.
     fn told<T: Drop>(&mut self, answer: io::Result<T>) -> Result<T, Failed>
-        ensures { HasCause self.old.faults self.new.faults result }
+        ensures cause { HasCause self.old.faults self.new.faults result }
+        ensures quiet { OnOk result (self.new.faults ≡ self.old.faults) }
     {
         match answer {
             Ok(value) => Ok(value),

@@ -2,7 +2,8 @@
 use Rattle.std.proofs.Common.{◌≡◌, ℕ, ◌+◌, ◌-◌, ◌^◌, ◌≤◌, min, false, List, [], ◌∷◌, ◌++◌, Ok, refl, sym, ap, ◌∙◌, subst, arith, inl, inr, ⊎_elim}
 use Rattle.std.specs.Prelude.{◌⊎◌, IsTrue, IsSomeAnd}
 use Rattle.disk_core.specs.declared.disk.Disk as disks
-use Rattle.disk_core.specs.Files.{State, IsImage}
+use Rattle.disk_core.specs.declared.disk.FileNo.TheVariants.{Journal}
+use Rattle.disk_core.proofs.Laws.{DiskLaws}
 use Rattle.office_types.specs.declared.command.Ask.{Ask}
 use Rattle.office_types.specs.declared.command.Entry.{Entry}
 use Rattle.plain_office.specs.Run.{run}
@@ -19,10 +20,7 @@ use Rattle.desk_core.proofs.Serving.{rest_image, unique}
 use Rattle.desk_core.proofs.OneCallMore.{starts}
 use Rattle.desk_core.proofs.Standing.{still_true}
 
-module _ {D : Type 0} {C : Type 0} (d : disks.Ghosts D)
-    (only_now : (disk : D) (s : State) → d.had_since disk (d.moment disk) s → s ≡ d.state disk)
-    (counts_now : (disk : D) (t : ℕ) → t ≤ d.moment disk → d.had_since disk t (d.state disk))
-    (since_earlier : (disk : D) (t u : ℕ) (s : State) → t ≤ u → d.had_since disk u s → d.had_since disk t s) where
+module _ {D C : Type 0} {d : disks.Ghosts D} (laws : DiskLaws d) where
   -- it stands for no call since now
   stands_now : (history : List Entry) (desk : DeskView D C) → desk.stale ≡ false → HoldsHistory d history desk
       → StandsFor d (opened_with d history desk) [] desk
@@ -31,7 +29,7 @@ module _ {D : Type 0} {C : Type 0} (d : disks.Ghosts D)
     faults = (omega arith, tt);
     holds = λ _. (history, refl, holds);
     lost = λ not is. absurd (still_true desk.stale is fresh);
-    serves = λ tells. starts d counts_now only_now since_earlier (opened_with d history desk) desk.disk
+    serves = λ tells. starts laws (opened_with d history desk) desk.disk
         (λ image is. (history, rest_image (d.state desk.disk) desk.gate history holds.office.plain (holds.at_rest tells) holds.office.is_run image is))
         (λ image other is has. unique other history image has (each_image header (d.state desk.disk) desk.gate history (holds.at_rest tells) image is)) refl refl;
   }
@@ -59,9 +57,10 @@ module _ {D : Type 0} {C : Type 0} (d : disks.Ghosts D)
       (λ again. absurd (still_true desk.stale again.0 fresh)) is
 
   -- a desk that was opened over a journal without entries holds none
-  pub opened_empty : (disk : D) (clock : C) (limit : ℕ) (desk : DeskView D C) → IsImage (d.state disk).journal (d.state disk).journal.seen → IsTrue d.honest → IsAtRest header (d.state disk) 10 []
+  pub opened_empty : (disk : D) (clock : C) (limit : ℕ) (desk : DeskView D C) → IsTrue d.honest → IsAtRest header (d.state disk) 10 []
       → Opens d disk clock limit desk → HoldsHistory d [] desk
-  opened_empty disk clock limit desk own tells rest opens =
+  opened_empty disk clock limit desk tells rest opens =
       let found = opens.stands.holds opens.fresh in
-      let none : opens.history ≡ [] = unique opens.history [] (d.state disk).journal.seen (opens.read tells) (each_image header (d.state disk) 10 [] rest (d.state disk).journal.seen own) in
+      let seen = (d.state disk).journal.seen in
+      let none : opens.history ≡ [] = unique opens.history [] seen (opens.read tells) (each_image header (d.state disk) 10 [] rest seen (laws.reads_image tells disk Journal)) in
       subst (λ (history : List Entry). HoldsHistory d history desk) (found.1 ∙ none) found.2

@@ -29,7 +29,7 @@ use Rattle.http_wire.specs.declared.message.MessageStop.{MessageStop}
 use Rattle.http_wire.specs.declared.message.MessageStop.TheVariants as stops
 use Rattle.http_front.specs.declared.answering.SessionEnd.{SessionEnd}
 use Rattle.http_front.specs.declared.answering.SessionEnd.TheVariants as ends
-use Rattle.http_front.specs.Counts.{GaveBytes, total_of, IsUnder, IsSpent, IsUnspent, reading, IsHeldBack, IsTakenAhead, IsBegun}
+use Rattle.http_front.specs.Counts.{GaveBytes, total_of, IsUnder, IsSpent, IsUnspent, reading, IsHeldBack, IsTakenAhead, SettlesNothing}
 use Rattle.http_front.specs.Exchanges.{Exchange, answered, refused, exchange_meant, calls_of, exchange_moment, moments_of, Goes, Hears}
 use Rattle.desk_core.specs.Turns.{Moves}
 use Rattle.http_front.specs.Session.{EndsWithExchange, IsCut, IsLong, IsUnsaid, IsWritten, NoneLacks, LastLacks, LacksBy, Session}
@@ -254,7 +254,7 @@ spent_here old new (Some xs) (Some ys) gave all = record {
 }
 
 -- the bytes that are held settle nothing
-pub begun_here : (old new : Held) (la lb : Option (List ℕ)) → GaveTo old new la lb IsUnsettled → IsBegun (prepend_known old.bytes la) lb
+pub begun_here : (old new : Held) (la lb : Option (List ℕ)) → GaveTo old new la lb IsUnsettled → SettlesNothing (prepend_known old.bytes la) lb
 begun_here old new None lb gave = tt
 begun_here old new (Some xs) None gave = absurd gave.left
 begun_here old new (Some xs) (Some ys) gave =
@@ -586,7 +586,7 @@ module _ {T W : Type 0} (moves : T → Ask → Result Answer DeskFault → T →
 
     -- nothing was answered
     pub closed_here : (at : T) (oa ob : W) (a : Option (List ℕ)) (total : Option ℕ) (end : SessionEnd) (written : List ℕ) → Says w oa ob written → IsWritten total end [] [] a false written
-        → LacksBy end [] → IsTakenAhead a remains → (end ≡ ends.ReadFault → IsBegun a remains) → Closed moves w (sides at oa) (sides at ob) (reading a remains) total end
+        → LacksBy end [] → IsTakenAhead a remains → (end ≡ ends.ReadFault → SettlesNothing a remains) → Closed moves w (sides at oa) (sides at ob) (reading a remains) total end
     closed_here at oa ob a total end written says is lacked ahead begun = record {
       talk = record {
         exchanges = [];
@@ -666,7 +666,7 @@ module _ {T W : Type 0} (moves : T → Ask → Result Answer DeskFault → T →
 
     -- nothing was said
     silent : (at : T) (oa ob : W) (a : Option (List ℕ)) (total : Option ℕ) (end kind : SessionEnd) → (end ≡ kind) × (ob ≡ oa) → IsWritten total kind [] [] a false [] → LacksBy kind []
-        → IsTakenAhead a remains → (kind ≡ ends.ReadFault → IsBegun a remains) → Closed moves w (sides at oa) (sides at ob) (reading a remains) total end
+        → IsTakenAhead a remains → (kind ≡ ends.ReadFault → SettlesNothing a remains) → Closed moves w (sides at oa) (sides at ob) (reading a remains) total end
     silent at oa ob a total end kind x is lacked ahead begun =
         subst (λ (e : SessionEnd). Closed moves w (sides at oa) (sides at ob) (reading a remains) total e) (sym x.0)
         (subst (λ (o : W). Closed moves w (sides at oa) (sides at o) (reading a remains) total kind) (sym x.1)
@@ -675,7 +675,7 @@ module _ {T W : Type 0} (moves : T → Ask → Result Answer DeskFault → T →
     pub last_stop : (at : T) (oa ob : W) (a : Option (List ℕ)) (total : Option ℕ) (stop : MessageStop) (end : SessionEnd) → IsTakenAhead a remains
         → (stop ≡ stops.NoMemory → SaysNoMemory w oa ob end)
         → (stop ≡ stops.ReadFault → (end ≡ ends.ReadFault) × (ob ≡ oa)) → (stop ≡ stops.Spent → (end ≡ ends.Spent) × (ob ≡ oa)) → (stop ≡ stops.Spent → IsSpent total a)
-        → (stop ≡ stops.ReadFault → IsBegun a remains) → Closed moves w (sides at oa) (sides at ob) (reading a remains) total end
+        → (stop ≡ stops.ReadFault → SettlesNothing a remains) → Closed moves w (sides at oa) (sides at ob) (reading a remains) total end
     last_stop at oa ob a total stops.NoMemory end ahead says read spent unsettled begun = last_words at oa ob a total end (says refl) ahead
     last_stop at oa ob a total stops.ReadFault end ahead says read spent unsettled begun =
         silent at oa ob a total end ends.ReadFault (read refl) (refl, refl, refl) (All-nil IsNoLack) ahead (λ is. begun refl)

@@ -60,7 +60,7 @@ IsTakenAhead (Some rest) (Some left) =
     (front : List ℕ) × (length front ≤ head_room + body_room) × (rest ≡ front ++ left)
 
 -- what was taken of this rest of a stream settles nothing: no whole message is among it
-abbrev pub IsBegun : Option (List ℕ) → Option (List ℕ) → Type 0
-IsBegun None left = ⊤
-IsBegun (Some rest) None = ⊥
-IsBegun (Some rest) (Some left) = (front : List ℕ) × IsUnsettled front × (rest ≡ front ++ left)
+abbrev pub SettlesNothing : Option (List ℕ) → Option (List ℕ) → Type 0
+SettlesNothing None left = ⊤
+SettlesNothing (Some rest) None = ⊥
+SettlesNothing (Some rest) (Some left) = (front : List ℕ) × IsUnsettled front × (rest ≡ front ++ left)

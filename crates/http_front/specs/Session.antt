@@ -12,7 +12,7 @@ use Rattle.http_asks.specs.Streams.{StandsUnbuilt}
 use Rattle.http_front.specs.declared.answering.SessionEnd.{SessionEnd}
 use Rattle.http_front.specs.declared.answering.SessionEnd.TheVariants as ends
 use Rattle.http_front.specs.declared.replies.Replies as sinks
-use Rattle.http_front.specs.Counts.{IsUnder, IsSpent, IsUnspent, StreamEnds, IsHeldBack, IsTakenAhead, IsBegun}
+use Rattle.http_front.specs.Counts.{IsUnder, IsSpent, IsUnspent, StreamEnds, IsHeldBack, IsTakenAhead, SettlesNothing}
 use Rattle.http_front.specs.Exchanges.{Exchange, answered, calls_of, moments_of, Hears}
 use Rattle.http_front.specs.Texts.{exchange_text, texts, not_built_text, no_memory_text}
 
@@ -113,7 +113,7 @@ pub record Transcript (total : Option ℕ) (read : StreamEnds) (end : SessionEnd
   -- behind an exchange with which it ends nothing is read but what was held with it
   pub behind : EndsWithExchange exchanges whole closed → IsHeldBack rest read.left
   -- where the source failed, each message that had come whole is an exchange
-  pub begun : end ≡ ends.ReadFault → IsBegun rest read.left
+  pub begun : end ≡ ends.ReadFault → SettlesNothing rest read.left
 
 module _ {T W : Type 0} (moves : T → Ask → Result Answer DeskFault → T → Type 0) (w : sinks.Ghosts W) where
   -- A session: the teller moved by the calls of its transcript, in order, and what was written was said, with the

@@ -1,7 +1,7 @@
 -- What a journal file stands for: a list of entries, each behind an open gate. A gate is one byte, which commits what
 -- stands behind it: it is open where it is A5, and closed where it is any other.
 use Rattle.std.specs.Prelude.{◌≡◌, ◌≢◌, ◌⊎◌, ℕ, ◌+◌, ◌^◌, ◌≤◌, List, [], ◌∷◌, ◌++◌, length}
-use Rattle.std.specs.List.{flat_map, AllByRecursion}
+use Rattle.std.specs.List.{flat_map, AllByRecursion, Contains}
 use Rattle.std.specs.Int.{w32, to_be_bytes}
 use Rattle.office_types.specs.declared.command.Entry.{Entry}
 use Rattle.entry_codec.specs.Spelling.{EntryFits, spelling}
@@ -48,6 +48,10 @@ pub record IsAtRest (head : List ℕ) (s : State) (gate : ℕ) (entries : List E
   pub on_disk : s.journal ≡ synced_file bytes
   pub history : HasEntries head entries bytes
   pub end : gate ≡ end_gate head entries
+
+-- the journal file has at most this many bytes, and so has each image of it
+abbrev pub IsNoLonger : ℕ → State → Type 0
+IsNoLonger most s = (n : ℕ) → Contains s.journal.lengths n → n ≤ most
 
 -- each image of the journal file has these entries, with one more or without; the other files are as they were
 pub record BeforeOrAfter (head : List ℕ) (entries : List Entry) (entry : Entry) (first s : State) : Type 0 where

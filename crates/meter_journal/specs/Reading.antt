@@ -109,10 +109,11 @@ Advances (Ok (Some e)) old new = EntryFits e × (new ≡ old + 5 + length (spell
 Advances (Ok None) old new = new ≡ old
 Advances (Err e) old new = new ≡ old
 
--- a count of faults never falls, and StoreFault comes only where it rose
+-- a count of faults never falls; where StoreFault comes it rose, and where anything else comes it stands still
 pub record HasStoreCause {T : Type 0} (before now : ℕ) (result : Result T OpenFault) : Type 0 where
   pub later : before ≤ now
   pub failed : IsErrOf result faults.StoreFault → Rose before now
+  pub quiet : (IsErrOf result faults.StoreFault → ⊥) → now ≡ before
 
 -- behind this head these entries stand in the file before the gate at this place
 pub record HasPrefix (head : List ℕ) (entries : List Entry) (gate : ℕ) (file : List ℕ) : Type 0 where

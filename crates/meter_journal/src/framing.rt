@@ -1,11 +1,12 @@
 // The frame of an entry, behind a gate that is not open.
 ghost use Rattle.std.specs.Prelude.{◌≡◌, ◌⊎◌, ◌+◌, ◌%◌, ◌<◌, ◌≤◌, ◌^◌, ◌++◌, [], ◌∷◌, ℕ, List, IsTrue, length};
-ghost use Rattle.std.specs.Prelude.{replicate, OnOk};
+ghost use Rattle.std.specs.Prelude.{replicate, min, OnOk};
 ghost use Rattle.std.specs.Int.{w32, to_be_bytes};
 ghost use Rattle.office_base.specs.Faults.{HasCause};
 ghost use Rattle.disk_core.specs.Files.{put, synced_file};
 ghost use Rattle.disk_core.specs.Moments.{KeepsTo};
 ghost use Rattle.disk_core.specs.Fronts.{KeepsJournal};
+ghost use Rattle.meter_journal.specs.History.{IsNoLonger};
 
 use disk_core::{Disk, Failed, FileNo};
 
@@ -25,6 +26,7 @@ fn ending(block: u64, gate: u64, end: u64, limit: u64) -> &'static [u8]
     requires end { end < 2 ^ 47 }
     ensures zeros { (n : ℕ) × (result.now ≡ 0 ∷ replicate n 0) }
     ensures limit { (length result.now ≡ 1) ⊎ (end + length result.now ≤ limit) }
+    ensures most { length result.now ≤ 4096 }
     ensures whole { (length result.now ≡ 1) ⊎ ((end + length result.now) % block ≡ 0) }
 {
     let zeros = zeros();
@@ -58,7 +60,13 @@ pub(crate) fn write_frame<D: Disk>(
         ≡ synced_file (put (gate + 1) (to_be_bytes w32 (length entry.now) ++ entry.now ++ 0 ∷ replicate n 0)
         (D.state disk.old).journal.seen))) }
 
+    // The zeros go to the end of a block at most, and not past the limit.
+    ensures room { IsTrue D.honest → (n : ℕ) → gate + 6 + length entry.now ≤ limit
+        → min limit (gate + 6 + length entry.now + 4095) ≤ n → IsNoLonger n (D.state disk.old)
+        → KeepsTo D.Disk disk.old disk.new (IsNoLonger n) }
+
     ensures cause { HasCause (D.fault_count disk.old) (D.fault_count disk.new) result }
+    ensures quiet { OnOk result (D.fault_count disk.new ≡ D.fault_count disk.old) }
 {
     let end = gate + 5 + entry.len() as u64;
     let closing = ending(disk.block(), gate, end, limit);

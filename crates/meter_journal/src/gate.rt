@@ -1,9 +1,10 @@
 // The gate before an entry. The entry counts once it is open.
-ghost use Rattle.std.specs.Prelude.{◌≡◌, ◌<◌, [], ◌∷◌, ℕ, List, IsTrue, length, OnOk};
+ghost use Rattle.std.specs.Prelude.{◌≡◌, ◌+◌, ◌<◌, ◌≤◌, [], ◌∷◌, ℕ, List, IsTrue, length, OnOk};
 ghost use Rattle.office_base.specs.Faults.{HasCause};
 ghost use Rattle.disk_core.specs.Files.{put, synced_file};
 ghost use Rattle.disk_core.specs.Moments.{KeepsTo};
 ghost use Rattle.disk_core.specs.Fronts.{IsButOne};
+ghost use Rattle.meter_journal.specs.History.{IsNoLonger};
 
 use disk_core::{Disk, Failed, FileNo};
 
@@ -21,7 +22,11 @@ pub(crate) fn open_gate<D: Disk>(disk: &mut D, gate: u64) -> Result<(), Failed>
     ensures done { IsTrue D.honest → OnOk result ((D.state disk.new).journal
         ≡ synced_file (put gate (0xA5 ∷ []) (D.state disk.old).journal.seen)) }
 
+    ensures room { IsTrue D.honest → (n : ℕ) → gate + 1 ≤ n → IsNoLonger n (D.state disk.old)
+        → KeepsTo D.Disk disk.old disk.new (IsNoLonger n) }
+
     ensures cause { HasCause (D.fault_count disk.old) (D.fault_count disk.new) result }
+    ensures quiet { OnOk result (D.fault_count disk.new ≡ D.fault_count disk.old) }
 {
     disk.write_at(FileNo::Journal, gate, &[OPEN])?;
     disk.sync(FileNo::Journal)

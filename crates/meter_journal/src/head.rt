@@ -4,6 +4,7 @@ ghost use Rattle.office_base.specs.Faults.{HasCause};
 ghost use Rattle.disk_core.specs.Files.{synced_file};
 ghost use Rattle.disk_core.specs.Fronts.{Narrower};
 ghost use Rattle.disk_core.specs.Moments.{KeepsTo, Untouched};
+ghost use Rattle.meter_journal.specs.History.{IsNoLonger};
 ghost use Rattle.meter_journal.specs.Reading.{HeadGives, HasStoreCause};
 ghost use Rattle.meter_journal.specs.declared.fault.OpenFault.TheVariants.{StoreFault, NoMemory};
 
@@ -38,9 +39,12 @@ pub(crate) fn judge(front: &[u8; 10], end: u64) -> Result<(), OpenFault>
 // Syncs the journal file.
 pub(crate) fn sync_journal<D: Disk>(disk: &mut D) -> Result<(), Failed>
     ensures any_moment { IsTrue D.honest → KeepsTo D.Disk disk.old disk.new (Narrower (D.state disk.old)) }
+    ensures room { IsTrue D.honest → (n : ℕ) → IsNoLonger n (D.state disk.old)
+        → KeepsTo D.Disk disk.old disk.new (IsNoLonger n) }
     ensures done { IsTrue D.honest → OnOk result ((D.state disk.new).journal
         ≡ synced_file (D.state disk.old).journal.seen) }
     ensures cause { HasCause (D.fault_count disk.old) (D.fault_count disk.new) result }
+    ensures quiet { OnOk result (D.fault_count disk.new ≡ D.fault_count disk.old) }
 {
     disk.sync(FileNo::Journal)
 }
@@ -67,6 +71,8 @@ pub(crate) fn look<D: Disk>(disk: &mut D) -> Result<u64, OpenFault>
     ensures exact { IsTrue D.honest → HeadGives result (D.state disk.old).journal.seen }
     ensures size { IsTrue D.honest → IfOk result (λ n. n ≡ length (D.state disk.old).journal.seen) }
     ensures any_moment { IsTrue D.honest → KeepsTo D.Disk disk.old disk.new (Narrower (D.state disk.old)) }
+    ensures room { IsTrue D.honest → (n : ℕ) → IsNoLonger n (D.state disk.old)
+        → KeepsTo D.Disk disk.old disk.new (IsNoLonger n) }
     ensures done { IsTrue D.honest → (IsErrOf result OpenFault.StoreFault → ⊥)
         → (D.state disk.new).journal ≡ synced_file (D.state disk.old).journal.seen }
     ensures cause { HasStoreCause (D.fault_count disk.old) (D.fault_count disk.new) result }

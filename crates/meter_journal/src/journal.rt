@@ -1,13 +1,13 @@
 // A journal, which is read and to which entries are added.
 ghost use Rattle.std.specs.Prelude.{◌≡◌, ◌+◌, ◌<◌, ◌≤◌, ◌^◌, ◌++◌, [], ◌∷◌, List, ℕ, IsTrue, length, OnOk, IfOk};
-ghost use Rattle.std.specs.Prelude.{IfErr, IfSome, Err, IsErrOf, ◌↔◌};
+ghost use Rattle.std.specs.Prelude.{IfErr, IfSome, Err, IsErrOf, ◌↔◌, min};
 ghost use Rattle.office_base.specs.Faults.{Rose, HasCause};
 ghost use Rattle.disk_core.specs.Files.{synced_file};
 ghost use Rattle.disk_core.specs.Fronts.{Narrower};
 ghost use Rattle.disk_core.specs.Moments.{KeepsTo, Untouched};
 ghost use Rattle.office_types.specs.declared.command.Entry.{Entry};
 ghost use Rattle.entry_codec.specs.Spelling.{IsEntry, EntryFits, entry_limit, spelling};
-ghost use Rattle.meter_journal.specs.History.{IsAtRest, BeforeOrAfter};
+ghost use Rattle.meter_journal.specs.History.{IsAtRest, IsNoLonger, BeforeOrAfter};
 ghost use Rattle.meter_journal.specs.Reading.{frame_at, size_at, NextGives, HeadGives, IsMade, HasStoreCause};
 ghost use Rattle.meter_journal.specs.Reading.{from_or_first, Advances};
 ghost use Rattle.meter_journal.specs.declared.fault.OpenFault.TheVariants.{StoreFault};
@@ -66,7 +66,12 @@ fn commit<D: Disk>(disk: &mut D, gate: u64, entry: &[u8], limit: u64) -> Result<
         → IsAtRest head (D.state disk.old) gate entries
         → OnOk result (IsAtRest head (D.state disk.new) (gate + 5 + length entry.now) (entries ++ e ∷ [])) }
 
+    ensures room { IsTrue D.honest → (n : ℕ) → gate + 6 + length entry.now ≤ limit
+        → min limit (gate + 6 + length entry.now + 4095) ≤ n → IsNoLonger n (D.state disk.old)
+        → KeepsTo D.Disk disk.old disk.new (IsNoLonger n) }
+
     ensures cause { HasCause (D.fault_count disk.old) (D.fault_count disk.new) result }
+    ensures quiet { OnOk result (D.fault_count disk.new ≡ D.fault_count disk.old) }
 {
     write_frame(disk, gate, entry, limit)?;
     open_gate(disk, gate)
@@ -202,6 +207,13 @@ impl<D: Disk> Journal<D> {
             → IsAtRest head (D.state self.old.disk) self.old.gate entries
             → OnOk result (IsAtRest head (D.state self.new.disk) self.new.gate (entries ++ e ∷ [])) }
 
+        // Behind the new end gate stand at most 4,095 zeros more, and none past the limit: no image gets longer than
+        // the less of both, but where one was so before.
+        ensures room { IsTrue D.honest → (n : ℕ)
+            → min self.old.limit (self.old.gate + 6 + length entry.now + 4095) ≤ n
+            → IsNoLonger n (D.state self.old.disk)
+            → KeepsTo D.Disk self.old.disk self.new.disk (IsNoLonger n) }
+
         ensures place { IfOk result (λ place. (place ≡ self.new.gate)
             × (place ≡ self.old.gate + 5 + length entry.now)) }
         ensures limit { self.new.limit ≡ self.old.limit }
@@ -211,6 +223,8 @@ impl<D: Disk> Journal<D> {
         ensures later { D.fault_count self.old.disk ≤ D.fault_count self.new.disk }
         ensures fault { IsErrOf result AppendFault.StoreFault
             → Rose (D.fault_count self.old.disk) (D.fault_count self.new.disk) }
+        ensures quiet { (IsErrOf result AppendFault.StoreFault → ⊥)
+            → D.fault_count self.new.disk ≡ D.fault_count self.old.disk }
     {
         let size = entry.len() as u64;
         if self.gate.saturating_add(size).saturating_add(6) > self.limit {

@@ -5,7 +5,7 @@ ghost use Rattle.office_base.specs.Faults.{HasCause};
 ghost use Rattle.disk_core.specs.Files.{put, synced_file};
 ghost use Rattle.disk_core.specs.Fronts.{Narrower};
 ghost use Rattle.disk_core.specs.Moments.{KeepsTo};
-ghost use Rattle.meter_journal.specs.History.{IsAtRest, header};
+ghost use Rattle.meter_journal.specs.History.{IsAtRest, IsNoLonger, header};
 ghost use Rattle.meter_journal.specs.Created.{Bounded, NoneOrEmpty, BeforeOrEmpty};
 ghost use Rattle.meter_journal.specs.Reading.{IsMade, IsNotMade, CreateFails, HasStoreCause};
 
@@ -25,7 +25,11 @@ fn put_synced<D: Disk>(disk: &mut D, at: u64, bytes: &[u8]) -> Result<(), Failed
     ensures done { IsTrue D.honest → OnOk result ((D.state disk.new).journal
         ≡ synced_file (put at bytes.now (D.state disk.old).journal.seen)) }
 
+    ensures room { IsTrue D.honest → (n : ℕ) → at + length bytes.now ≤ n → IsNoLonger n (D.state disk.old)
+        → KeepsTo D.Disk disk.old disk.new (IsNoLonger n) }
+
     ensures cause { HasCause (D.fault_count disk.old) (D.fault_count disk.new) result }
+    ensures quiet { OnOk result (D.fault_count disk.new ≡ D.fault_count disk.old) }
 {
     disk.write_at(FileNo::Journal, at, bytes)?;
     disk.sync(FileNo::Journal)
@@ -39,7 +43,11 @@ fn empty_file<D: Disk>(disk: &mut D) -> Result<(), Failed>
 
     ensures done { IsTrue D.honest → OnOk result ((D.state disk.new).journal ≡ synced_file []) }
 
+    ensures room { IsTrue D.honest → (n : ℕ) → IsNoLonger n (D.state disk.old)
+        → KeepsTo D.Disk disk.old disk.new (IsNoLonger n) }
+
     ensures cause { HasCause (D.fault_count disk.old) (D.fault_count disk.new) result }
+    ensures quiet { OnOk result (D.fault_count disk.new ≡ D.fault_count disk.old) }
 {
     disk.cut(FileNo::Journal, 0)?;
     disk.sync(FileNo::Journal)
@@ -53,7 +61,11 @@ fn make<D: Disk>(disk: &mut D) -> Result<(), Failed>
 
     ensures made { IsTrue D.honest → OnOk result (IsAtRest header (D.state disk.new) 10 []) }
 
+    ensures room { IsTrue D.honest → (n : ℕ) → 11 ≤ n → IsNoLonger n (D.state disk.old)
+        → KeepsTo D.Disk disk.old disk.new (IsNoLonger n) }
+
     ensures cause { HasCause (D.fault_count disk.old) (D.fault_count disk.new) result }
+    ensures quiet { OnOk result (D.fault_count disk.new ≡ D.fault_count disk.old) }
 {
     empty_file(disk)?;
     put_synced(disk, 0, &[0])?;
@@ -100,6 +112,10 @@ pub fn create<D: Disk>(disk: &mut D) -> Result<Made, OpenFault>
 
     // Of any other it is one from before, or not made, or made and without entries.
     ensures any_moment { IsTrue D.honest → KeepsTo D.Disk disk.old disk.new (BeforeOrEmpty (D.state disk.old)) }
+
+    // It gets no longer than 11 bytes.
+    ensures room { IsTrue D.honest → (n : ℕ) → 11 ≤ n → IsNoLonger n (D.state disk.old)
+        → KeepsTo D.Disk disk.old disk.new (IsNoLonger n) }
 
     ensures cause { HasStoreCause (D.fault_count disk.old) (D.fault_count disk.new) result }
 {

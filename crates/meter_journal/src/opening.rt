@@ -69,6 +69,9 @@ impl<D: Disk> Opening<D> {
         ensures later { IfOk result (λ o. D.fault_count disk ≤ D.fault_count o.disk) }
         ensures fault { IfErr result (λ e. (D.fault_count disk ≤ D.fault_count e.1)
             × (e.0 ≡ StoreFault → Rose (D.fault_count disk) (D.fault_count e.1))) }
+        ensures quiet { IfOk result (λ o. D.fault_count o.disk ≡ D.fault_count disk) }
+        ensures quiet_err { IfErr result
+            (λ e. (e.0 ≡ StoreFault → ⊥) → D.fault_count e.1 ≡ D.fault_count disk) }
     {
         let mut journal = Journal::over(disk, limit);
         match journal.open(from) {

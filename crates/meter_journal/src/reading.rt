@@ -1,5 +1,5 @@
 // Reading a frame of a journal file that is on a disk.
-ghost use Rattle.std.specs.Prelude.{◌≡◌, ◌+◌, ◌<◌, ◌≤◌, ◌^◌, IsTrue, IsErrOf, length, get_or, IfOk, IfSome};
+ghost use Rattle.std.specs.Prelude.{◌≡◌, ◌+◌, ◌<◌, ◌≤◌, ◌^◌, IsTrue, IsErrOf, length, get_or, IfOk, IfSome, OnOk};
 ghost use Rattle.std.specs.Int.{w32};
 ghost use Rattle.office_base.specs.Faults.{HasCause};
 ghost use Rattle.entry_codec.specs.Spelling.{EntryFits, entry_limit, spelling};
@@ -20,6 +20,7 @@ fn byte_at<D: Disk>(disk: &mut D, at: u64) -> Result<u8, Failed>
     ensures byte { IsTrue D.honest → IfOk result (λ b. b ≡ get_or (D.state disk.old).journal.seen at 0) }
     ensures untouched { IsTrue D.honest → Untouched D.Disk disk.old disk.new }
     ensures cause { HasCause (D.fault_count disk.old) (D.fault_count disk.new) result }
+    ensures quiet { OnOk result (D.fault_count disk.new ≡ D.fault_count disk.old) }
 {
     let mut room = [0];
     disk.read_at(FileNo::Journal, at, &mut room)?;
@@ -32,6 +33,7 @@ fn size_of<D: Disk>(disk: &mut D, gate: u64) -> Result<u32, Failed>
     ensures size { IsTrue D.honest → IfOk result (λ n. n ≡ size_at gate (D.state disk.old).journal.seen) }
     ensures untouched { IsTrue D.honest → Untouched D.Disk disk.old disk.new }
     ensures cause { HasCause (D.fault_count disk.old) (D.fault_count disk.new) result }
+    ensures quiet { OnOk result (D.fault_count disk.new ≡ D.fault_count disk.old) }
 {
     let mut room = [0; 4];
     disk.read_at(FileNo::Journal, gate + 1, &mut room)?;

@@ -4,7 +4,7 @@ use Rattle.std.specs.Prelude.{IsTrue}
 use Rattle.std.specs.Io.KnownBytes.{Appends}
 use Rattle.office_base.specs.Faults.{Rose}
 use Rattle.disk_core.specs.declared.disk.Disk as disks
-use Rattle.disk_core.specs.Files.{State, IsImage}
+use Rattle.disk_core.proofs.Laws.{DiskLaws}
 use Rattle.desk_core.specs.declared.clock.Clock as clocks
 use Rattle.desk_core.specs.Answers.{Call}
 use Rattle.desk_core.specs.Desk.{DeskView}
@@ -34,10 +34,7 @@ four_lost ends.NoMemory false status is four = absurd (omega (arith, is, four))
 four_lost ends.Ended true status is four = absurd (omega (arith, is, four))
 four_lost ends.Ended false status is four = absurd (omega (arith, is, four))
 
-module _ {D C W : Type 0} (d : disks.Ghosts D) (k : clocks.Ghosts C) (w : sinks.Ghosts W)
-    (counts_now : (disk : D) (t : ℕ) → t ≤ d.moment disk → d.had_since disk t (d.state disk))
-    (only_now : (disk : D) (s : State) → d.had_since disk (d.moment disk) s → s ≡ d.state disk)
-    (own : IsTrue d.honest → (disk : D) → IsImage (d.state disk).journal (d.state disk).journal.seen) where
+module _ {D C W : Type 0} {d : disks.Ghosts D} (laws : DiskLaws d) (k : clocks.Ghosts C) (w : sinks.Ghosts W) where
   pub stream_answered : (disk : D) (clock : C) (old new : DeskView D C) (out_old out_mid out_new : W) (read : StreamEnds) (end : SessionEnd) (stale : Bool) (status : ℕ)
       → Opens d disk clock journal_limit old
       → Session (Step d k) w old new out_old out_mid read end
@@ -47,11 +44,11 @@ module _ {D C W : Type 0} (d : disks.Ghosts D) (k : clocks.Ghosts C) (w : sinks.
       → AnswersStream d k w read (around disk clock out_old) (around new.disk new.clock out_new) status
   stream_answered disk clock old new out_old out_mid out_new read end stale status opens s taken silent same_texts same_noted lost note stale_new is =
       let calls = calls_of s.talk.exchanges in
-      let stale_end : stale ≡ stale_by false calls = stale_new ∙ ends_stale d k counts_now only_now own disk clock journal_limit old new calls opens s.moved in
+      let stale_end : stale ≡ stale_by false calls = stale_new ∙ ends_stale laws k disk clock journal_limit old new calls opens s.moved in
       record {
         end = end;
         talk = s.talk;
-        answers = answers_calls d k counts_now only_now own disk clock journal_limit old new calls opens s.moved;
+        answers = answers_calls laws k disk clock journal_limit old new calls opens s.moved;
         said_all = subst (λ (x : Option (List ℕ)). Appends (w.said out_old) x s.talk.written) (sym silent.0) s.said;
         stamped = subst (λ (x : Option (List ℕ)). Appends (w.moments out_old) x (moments_of s.talk.whole)) (sym silent.1) s.stamped;
         taken = taken;

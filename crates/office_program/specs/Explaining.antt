@@ -18,11 +18,12 @@ module _ {D : Type 0} (d : disks.Ghosts D) where
 
 module _ {D C W : Type 0} (d : disks.Ghosts D) (k : clocks.Ghosts C) (w : sinks.Ghosts W) where
   -- What is said is the table of stays of the journal's history, from which a bill can be checked by hand (own).
-  -- Nothing is written, and the clock tells no number.
+  -- Nothing is written, the disk did not fail, and the clock tells no number.
   pub record TellsTable (old new : Surroundings D C W) (status : ℕ) : Type 0 where
     pub text : List ℕ
     pub table : ReadsTable d old.disk text
     pub any_moment : IsTrue d.honest → KeepsTo d old.disk new.disk (Narrower (d.state old.disk))
+    pub quiet : d.fault_count new.disk ≡ d.fault_count old.disk
     pub clock : new.clock ≡ old.clock
     pub told : IsPutOut w text old.out new.out status
 

@@ -22,16 +22,18 @@ IsMadeSo mades.Now old new =
 IsMadeSo mades.Before old new = IsMade old.journal.seen × (new.journal ≡ synced_file old.journal.seen)
 
 module _ {D W : Type 0} (d : disks.Ghosts D) (w : sinks.Ghosts W) where
-  -- it is there, and this was put out
+  -- it is there, this was put out, and the disk did not fail
   pub record Makes (old new : D) (out_old out_new : W) (status : ℕ) : Type 0 where
     pub made : Made
     pub is_made : IsTrue d.honest → IsMadeSo made (d.state old) (d.state new)
+    pub quiet : d.fault_count new ≡ d.fault_count old
     pub told : IsPutOut w (made_line made) out_old out_new status
 
-  -- it was not made, and nothing was put out
+  -- it was not made, and nothing was put out; where the disk failed that is told, and nothing else
   pub record FailsToMake (old new : D) (out_old out_new : W) (status : ℕ) : Type 0 where
     pub fault : OpenFault
     pub why : IsTrue d.honest → CreateFails fault (d.state old).journal.seen
+    pub quiet : (fault ≡ faults.StoreFault → ⊥) → d.fault_count new ≡ d.fault_count old
     -- a foreign file reads as before
     pub kept : IsTrue d.honest → fault ≡ faults.Foreign → (d.state new).journal ≡ synced_file (d.state old).journal.seen
     pub silent : w.texts out_new ≡ w.texts out_old

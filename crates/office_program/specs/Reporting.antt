@@ -41,13 +41,14 @@ module _ {W : Type 0} (w : sinks.Ghosts W) where
 
 module _ {D C W : Type 0} (d : disks.Ghosts D) (k : clocks.Ghosts C) (w : sinks.Ghosts W) where
   -- The journal was read: what is said is the report of the month by the office after its history, as of the later of
-  -- the clock's first number and the last moment; or memory ran out. Nothing is written, and the clock tells no
-  -- further number.
+  -- the clock's first number and the last moment; or memory ran out. Nothing is written, the disk did not fail, and
+  -- the clock tells no further number.
   pub record TellsMonth (month : ℕ) (as_text : Bool) (first : ℕ) (old new : Surroundings D C W) (status : ℕ) : Type 0
     where
       pub history : List Entry
       pub read : IsTrue d.honest → HasAcceptedHistory history (d.state old.disk).journal.seen
       pub any_moment : IsTrue d.honest → KeepsTo d old.disk new.disk (Narrower (d.state old.disk))
+      pub quiet : d.fault_count new.disk ≡ d.fault_count old.disk
       pub clock : new.clock ≡ old.clock
       pub plain : Office
       pub is_run : run history ≡ Some plain

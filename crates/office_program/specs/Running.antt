@@ -7,6 +7,7 @@ use Rattle.disk_core.specs.declared.disk.Disk as disks
 use Rattle.disk_core.specs.Fronts.{Narrower}
 use Rattle.disk_core.specs.Moments.{KeepsTo}
 use Rattle.meter_journal.specs.declared.fault.OpenFault.{OpenFault}
+use Rattle.meter_journal.specs.declared.fault.OpenFault.TheVariants.{StoreFault}
 use Rattle.desk_core.specs.declared.clock.Clock as clocks
 use Rattle.desk_core.specs.Damage.{OpenFails}
 use Rattle.desk_core.specs.Runs.{Outside, outside, AnswersCalls, stale_by}
@@ -20,7 +21,7 @@ use Rattle.http_front.specs.declared.answering.SessionEnd.TheVariants.{NoMemory,
 use Rattle.serving.specs.declared.port.Port as ports
 use Rattle.serving.specs.declared.worker.WorkerEnd.{WorkerEnd}
 use Rattle.serving.specs.Serving.{Log, log_calls, AreOfWorkers}
-use Rattle.serving.specs.Works.{Counts, RoseBy}
+use Rattle.serving.specs.Works.{Balances, RoseBy}
 use Rattle.office_program.specs.Lines.{session_exit, fault_exit, workers_exit, clock_note, end_note, fault_note, workers_note}
 
 -- the journal of the program has at most 2^30 bytes
@@ -115,10 +116,12 @@ module _ {D C W : Type 0} (d : disks.Ghosts D) (k : clocks.Ghosts C) (w : sinks.
 
   -- ---- both
 
-  -- The office was not opened: nothing was said or told, and each image is one that there was.
+  -- The office was not opened: nothing was said or told, and each image is one that there was. Where the disk failed
+  -- that is told, and nothing else.
   pub record FailsToOpen (old new : Surroundings D C W) (status : ℕ) : Type 0 where
     pub fault : OpenFault
     pub why : IsTrue d.honest → OpenFails fault (d.state old.disk).journal.seen
+    pub quiet : (fault ≡ StoreFault → ⊥) → d.fault_count new.disk ≡ d.fault_count old.disk
     pub any_moment : IsTrue d.honest → KeepsTo d old.disk new.disk (Narrower (d.state old.disk))
     pub clock : new.clock ≡ old.clock
     pub silent : IsSilent w old.out new.out
@@ -161,7 +164,7 @@ module _ {P Source Replies : Type 0} (p : ports.Ghosts P Source Replies) where
   pub record Connects (address : List ℕ) (workers connections : ℕ) (old new : P) (end : WorkerEnd) (log : Log)
       : Type 0 where
     pub listens : p.listens new address ⊎ (p.given new ≡ p.given old)
-    pub counts : Counts (workers * connections) end (p.given old) (p.given new) (p.ended old) (p.ended new)
+    pub counts : Balances (workers * connections) end (p.given old) (p.given new) (p.ended old) (p.ended new)
     pub divided : AreOfWorkers workers log (p.connections old) (p.connections new)
 
   -- it is as it was, or was given back as many connections, ended, as it gave

@@ -1,4 +1,4 @@
-use Rattle.std.proofs.Common.{◌≡◌, ◌⊎◌, inl, inr, ⊎_elim, ℕ, None, rules, arith, refl, subst}
+use Rattle.std.proofs.Common.{◌≡◌, ◌⊎◌, inl, inr, ⊎_elim, ℕ, None, rules, arith, refl, ◌∙◌, subst}
 use Rattle.disk_core.specs.declared.disk.FileNo.TheVariants.{Journal}
 use Rattle.disk_core.proofs.Time.{started, untouched_then}
 use Rattle.meter_journal.specs.declared.fault.OpenFault.TheVariants.{NoMemory, Damaged}
@@ -13,6 +13,7 @@ reading-init g c = record {
   read = none_read g.D.Disk c.args.journal.now.disk c.args.journal.now.gate c.args.office.now c.requires.first c.requires.empty;
   limit = refl;
   later = omega arith;
+  quiet = refl;
 }
 
 pub reading-preserved : goal.reading-preserved
@@ -28,6 +29,7 @@ reading-preserved g c =
           c.in-Some.is c.in-Ok.ensures.exact c.in-Ok.ensures.advances (search rules) c.in-Ok-take.ensures.ok;
       limit = search rules;
       later = omega (arith, c.reading.invariant.later, c.next.ensures.cause.later);
+      quiet = c.in-Ok.ensures.cause.quiet (λ is. absurd cc) ∙ c.reading.invariant.quiet;
     }
 
 pub returns-in-None-clause-read : goal.returns-in-None-clause-read

@@ -10,6 +10,7 @@ invariant-reading g l = record {
   read : HasRead g.D.Disk l.initial.journal.disk l.journal.gate l.office;
   limit : l.journal.limit ≡ l.initial.journal.limit;
   later : g.D.Disk.fault_count l.initial.journal.disk ≤ g.D.Disk.fault_count l.journal.disk;
+  quiet : g.D.Disk.fault_count l.journal.disk ≡ g.D.Disk.fault_count l.initial.journal.disk;
 }
 
 abbrev pub decreases-reading : goal.decreases-reading

@@ -4,6 +4,8 @@ use Rattle.disk_core.specs.Files.{put}
 use Rattle.disk_core.specs.Fronts.{IsButOne}
 use Rattle.disk_core.proofs.Time.{started, goes_on}
 use Rattle.disk_core.proofs.Crash.{but_one_start, but_one_wrote, but_one_after_sync, synced_bytes}
+use Rattle.meter_journal.specs.History.{IsNoLonger}
+use Rattle.meter_journal.proofs.Room.{wrote_within, synced_within}
 use Rattle.meter_journal.proofs.gate.open_gate.Goals as goal
 
 pub returns-in_err-write_at-clause-any_moment : goal.returns-in_err-write_at-clause-any_moment
@@ -32,3 +34,17 @@ returns-clause-done g c told =
     let state = g.D.Disk.state in
     synced_bytes c.sync.result (state c.write_at.new.self) (state c.sync.new.self)
     (put c.args.gate (0xA5 ∷ []) (state c.args.disk.now).journal.seen) (c.sync.ensures.done told) (c.in_ok-write_at.ensures.done told)
+
+pub returns-in_err-write_at-clause-room : goal.returns-in_err-write_at-clause-room
+returns-in_err-write_at-clause-room g c told n le room =
+    let d = g.D.Disk in
+    wrote_within (started d c.args.disk.now (IsNoLonger n) (g.met.D.Disk.only_now c.args.disk.now) room) c.write_at.ensures.time
+    (g.met.D.Disk.reads_image told c.args.disk.now Journal) c.args.gate 1 le (c.write_at.ensures.state told)
+
+pub returns-clause-room : goal.returns-clause-room
+returns-clause-room g c told n le room =
+    let d = g.D.Disk in
+    let wrote = wrote_within (started d c.args.disk.now (IsNoLonger n) (g.met.D.Disk.only_now c.args.disk.now) room) c.write_at.ensures.time
+    (g.met.D.Disk.reads_image told c.args.disk.now Journal) c.args.gate 1 le (c.write_at.ensures.state told) in
+    synced_within wrote c.sync.ensures.time (g.met.D.Disk.reads_image told c.write_at.new.self Journal) c.sync.result
+    (c.sync.ensures.done told) (c.sync.ensures.state told)

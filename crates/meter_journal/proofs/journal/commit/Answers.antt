@@ -1,9 +1,10 @@
-use Rattle.std.proofs.Common.{◌≡◌, ◌+◌, ◌∷◌, [], ◌∙◌, ap, subst, replicate, List, ℕ}
+use Rattle.std.proofs.Common.{length, arith, ◌≡◌, ◌+◌, ◌∷◌, [], ◌∙◌, ap, subst, replicate, List, ℕ}
 use Rattle.std.specs.Prelude.{OnOk}
 use Rattle.disk_core.specs.Files.{File, put, synced_file}
 use Rattle.disk_core.proofs.Time.{joined, weakened}
-use Rattle.meter_journal.specs.History.{BeforeOrAfter}
+use Rattle.meter_journal.specs.History.{IsNoLonger, BeforeOrAfter}
 use Rattle.meter_journal.proofs.History.{with_frame, longer, keeps_start, seen_is, before, after, done}
+use Rattle.meter_journal.proofs.Room.{ends_within}
 use Rattle.meter_journal.proofs.journal.commit.Goals as goal
 
 pub returns-in_err-write_frame-clause-any_moment : goal.returns-in_err-write_frame-clause-any_moment
@@ -32,3 +33,9 @@ returns-clause-acknowledged g c told head entries e fits is rest =
     done rest c.args.entry.now fill e fits is c.requires.fits c.open_gate.result new
     (subst (λ (l : List ℕ). OnOk c.open_gate.result (new.journal ≡ synced_file (put c.args.gate (0xA5 ∷ []) l)))
     (ap (λ (f : File). f.seen) on_disk) (c.open_gate.ensures.done told))
+
+pub returns-clause-room : goal.returns-clause-room
+returns-clause-room g c told n fits le room =
+    let one = c.write_frame.ensures.room told n fits le room in
+    let end = ends_within c.args.gate (length c.args.entry.now) c.args.limit n fits le in
+    joined (IsNoLonger n) one (c.open_gate.ensures.room told n (omega (arith, end)) one.now) (λ s p. p) (λ s p. p)

@@ -1,4 +1,4 @@
-use Rattle.std.proofs.Common.{◌∙◌, [], sym, subst, List}
+use Rattle.std.proofs.Common.{◌≡◌, ◌∙◌, [], sym, subst, List}
 use Rattle.disk_core.specs.Fronts.{Narrower}
 use Rattle.disk_core.specs.Moments.{KeepsTo}
 use Rattle.office_types.specs.declared.command.Entry.{Entry}
@@ -22,6 +22,7 @@ returns-clause-tells g c disk clock opens =
       history = read.0;
       read = λ tells. subst (λ (h : List Entry). HasAcceptedHistory h (d.state disk).journal.seen) (sym read.1) (opens.read tells);
       any_moment = λ tells. subst (λ (x : g.row.D.Denot). KeepsTo d disk x (Narrower (d.state disk))) (sym c.finish-disk.ensures.disk) (opens.any_moment tells);
+      quiet = subst (λ (x : g.row.D.Denot). d.fault_count x ≡ d.fault_count disk) (sym c.finish-disk.ensures.disk) opens.quiet;
       clock = c.finish-disk.ensures.clock ∙ opens.clock_is;
       plain = read.2.plain;
       is_run = read.2.is_run;

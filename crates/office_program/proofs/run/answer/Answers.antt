@@ -1,8 +1,7 @@
 use Rattle.std.proofs.Common.{◌≤◌, ◌∙◌, ℕ, List, sym, ap, subst, arith}
 use Rattle.std.specs.Prelude.{IsTrue}
 use Rattle.office_base.specs.Faults.{Rose}
-use Rattle.disk_core.specs.Files.{IsImage}
-use Rattle.disk_core.specs.declared.disk.FileNo.TheVariants.{Journal}
+use Rattle.disk_core.proofs.Laws.{laws_of}
 use Rattle.desk_core.proofs.Following.{disk_later}
 use Rattle.http_front.specs.Counts.{reading}
 use Rattle.http_front.specs.Exchanges.{calls_of}
@@ -15,15 +14,13 @@ returns-clause-answers g c disk clock opens =
     let d = g.D.Disk in
     let w = g.W.Replies in
     let k = g.C.Clock in
-    let m = g.met.D.Disk in
-    let own : IsTrue d.honest → (x : g.row.D.Denot) → IsImage (d.state x).journal (d.state x).journal.seen = λ tells x. m.reads_image tells x Journal in
     let end = c.session-end.result in
     let mid = c.session-end.new.out in
     let new = c.note_line.new.out in
     let desk = c.session-end.new.teller in
     let read = reading (g.S.Source.left c.args.input.now) (g.S.Source.left c.session-end.new.source) in
     let note = subst (λ (t : List ℕ). IsNoted w mid new t) c.end_line.ensures c.note_line.ensures.noted in
-    let answers = stream_answered d k w m.counts_now m.only_now own disk clock c.args.desk desk c.args.out.now mid new read end c.store_failed-store.result c.run_exit.result
+    let answers = stream_answered (laws_of g.met.D.Disk) k w disk clock c.args.desk desk c.args.out.now mid new read end c.store_failed-store.result c.run_exit.result
     opens c.session-end.ensures.session c.session-end.ensures.taken c.note_line.ensures.silent c.session-end.ensures.only_says.texts c.session-end.ensures.only_says.noted
     c.session-end.ensures.only_says.fault note (c.store_failed-store.ensures c.finish-disk.ensures.saved ∙ c.stale-stale.ensures) c.run_exit.ensures in
     subst (λ (x : g.row.D.Denot). AnswersStream d k w read (around disk clock c.args.out.now) (around x c.finish-disk.result.1 new) c.run_exit.result) (sym c.finish-disk.ensures.disk)

@@ -1,37 +1,38 @@
 use Rattle.std.proofs.Common.{◌≡◌, Bool, false, IsTrue, ◌∷◌, [], ◌++◌, Err, inr, sym, ◌∙◌, subst}
 use Rattle.disk_core.specs.declared.disk.FileNo.TheVariants.{Journal}
+use Rattle.disk_core.proofs.Laws.{laws_of}
 use Rattle.desk_core.specs.Answers.{Call}
 use Rattle.desk_core.specs.Submitting.{IsOffice, HasCauses}
-use Rattle.desk_core.specs.Desk.{DeskView, IsReady, StandsFor, GoesOn, stale_after}
+use Rattle.desk_core.specs.Desk.{DeskView, IsReady, StandsFor, GoesOn, TellsFault, stale_after}
 use Rattle.desk_core.specs.Histories.{IsSound}
 use Rattle.desk_core.proofs.Reopened.{unopened_call, asked_call, sound_unbroken}
 use Rattle.desk_core.proofs.Standing.{marked_holds, still_true}
-use Rattle.desk_core.proofs.Submitted.{fresh_after, marked_causes, narrower_sound}
+use Rattle.desk_core.proofs.Submitted.{fresh_after, marked_causes, narrower_sound, asked_told, unopened_told}
 use Rattle.desk_core.proofs.desk.Desk.answer_current.Goals as goal
 
 pub returns-in-Err-clause-stands : goal.returns-in-Err-clause-stands
 returns-in-Err-clause-stands g c opened calls stands =
     let d = g.D.Disk in
-    let m = g.met.D.Disk in
+    let laws = laws_of g.met.D.Disk in
     let S : Type 0 = DeskView g.row.D.Denot g.row.C.Denot in
     let new = c.refresh.new.self in
     let call : Call = record { ask = c.args.ask.now; said = Err c.in-Err.fault } in
     let s = subst (λ (x : S). StandsFor d opened calls x) (sym c.self.view_is) stands in
     subst (λ (x : S). GoesOn d opened (calls ++ call ∷ []) x.disk new) c.self.view_is
-    (unopened_call d m.counts_now m.only_now m.since_earlier (λ tells disk. m.reads_image tells disk Journal) c.self.inside.engine
+    (unopened_call laws c.self.inside.engine
     opened calls s c.args.ask.now new c.in-Err.fault c.refresh.ensures.stale c.in-Err.ensures.unopened)
 
 pub returns-clause-stands : goal.returns-clause-stands
 returns-clause-stands g c opened calls stands =
     let d = g.D.Disk in
-    let m = g.met.D.Disk in
+    let laws = laws_of g.met.D.Disk in
     let S : Type 0 = DeskView g.row.D.Denot g.row.C.Denot in
     let desk = c.self.inside.engine in
     let new = c.answer_now-said.new.self in
     let said = c.answer_now-said.result in
     let call : Call = record { ask = c.args.ask.now; said = said } in
     let s = subst (λ (x : S). StandsFor d opened calls x) (sym c.self.view_is) stands in
-    let goes = asked_call d m.counts_now m.only_now m.since_earlier (λ tells disk. m.reads_image tells disk Journal) desk opened calls s c.args.ask.now c.refresh.new.self new
+    let goes = asked_call laws desk opened calls s c.args.ask.now c.refresh.new.self new
     (g.C.Clock.last new.clock) said c.in_default.ensures.office c.answer_now-said.ensures.limit c.answer_now-said.ensures.disk_later c.answer_now-said.ensures.asks in
     let marked = subst (λ (b : Bool). GoesOn d opened (calls ++ call ∷ []) desk.disk (record new { stale = stale_after b said })) (sym c.stale-was_stale.ensures) goes in
     subst (λ (x : S). GoesOn d opened (calls ++ call ∷ []) x.disk c.mark.new.self) c.self.view_is
@@ -57,6 +58,25 @@ returns-in-Err-clause-not_broken g c tells fault is =
     let d = g.D.Disk in
     sound_unbroken d c.self.inside.engine c.refresh.new.self c.in-Err.fault fault (g.met.D.Disk.reads_image tells c.self.inside.engine.disk Journal) c.in-Err.ensures.unopened tells
     (c.self.invariant.1 tells) is
+
+pub returns-in-Err-clause-cause : goal.returns-in-Err-clause-cause
+returns-in-Err-clause-cause g c =
+    let d = g.D.Disk in
+    let S : Type 0 = DeskView g.row.D.Denot g.row.C.Denot in
+    let new = c.refresh.new.self in
+    subst (λ (x : S). TellsFault (Err c.in-Err.fault) (d.fault_count x.disk) (d.fault_count new.disk)) c.self.view_is
+    (unopened_told d c.self.inside.engine.disk new.disk (Err c.in-Err.fault) c.in-Err.ensures.unopened.why)
+
+pub returns-clause-cause : goal.returns-clause-cause
+returns-clause-cause g c =
+    let d = g.D.Disk in
+    let S : Type 0 = DeskView g.row.D.Denot g.row.C.Denot in
+    let office = c.refresh.new.self in
+    let new = c.answer_now-said.new.self in
+    let said = c.answer_now-said.result in
+    let told = asked_told d c.self.inside.engine office c.args.ask.now said (d.fault_count new.disk) c.in_default.ensures.office c.answer_now-said.ensures.tells.reason in
+    subst (λ (x : S). TellsFault said (d.fault_count x.disk) (d.fault_count c.mark.new.self.disk)) c.self.view_is
+    (subst (λ (x : S). TellsFault said (d.fault_count c.self.inside.engine.disk) (d.fault_count x.disk)) (sym c.mark.ensures) told)
 
 pub invariant_of-self : goal.invariant_of-self
 invariant_of-self g c =

@@ -1,5 +1,5 @@
 use Rattle.std.proofs.Common.{ℕ, ◌∙◌, subst}
-use Rattle.disk_core.specs.declared.disk.FileNo.TheVariants.{Journal}
+use Rattle.disk_core.proofs.Laws.{laws_of}
 use Rattle.desk_core.specs.Damage.{OpenFails}
 use Rattle.desk_core.specs.Opening.{Opens}
 use Rattle.desk_core.proofs.Damage.{opens}
@@ -10,10 +10,9 @@ use Rattle.desk_core.proofs.desk.Desk.open.Goals as goal
 pub returns-in-Ok-clause-opens : goal.returns-in-Ok-clause-opens
 returns-in-Ok-clause-opens g c =
     let d = g.D.Disk in
-    let m = g.met.D.Disk in
     let over = c.over-engine.result in
     let engine = c.open.new.self in
-    let opens_over = opened d m.only_now m.counts_now m.since_earlier (λ tells disk. m.reads_image tells disk Journal) over engine (c.open.ensures.stale ∙ c.over-engine.ensures.fresh)
+    let opens_over = opened (laws_of g.met.D.Disk) over engine (c.open.ensures.stale ∙ c.over-engine.ensures.fresh)
     c.in-Ok.ensures.opens in
     let on_disk = subst (λ (x : g.row.D.Denot). Opens d x over.clock over.limit engine) c.over-engine.ensures.disk opens_over in
     let on_clock = subst (λ (x : g.row.C.Denot). Opens d c.args.disk x over.limit engine) c.over-engine.ensures.clock on_disk in

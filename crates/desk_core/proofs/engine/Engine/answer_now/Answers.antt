@@ -1,5 +1,6 @@
 use Rattle.std.proofs.Common.{◌≡◌, ◌⊎◌, ℕ, ◌+◌, ◌<◌, ◌-◌, ◌^◌, min, List, [], ◌∷◌, Option, Err, refl, sym, ap, ◌∙◌, subst}
 use Rattle.std.specs.Io.KnownBytes.{Appends}
+use Rattle.disk_core.proofs.Laws.{laws_of}
 use Rattle.office_types.specs.declared.command.Entry.{Entry}
 use Rattle.desk_core.specs.declared.fault.DeskFault.TheVariants.{JournalFull, NoMemory}
 use Rattle.desk_core.specs.Submitting.{PassesLimit}
@@ -66,7 +67,7 @@ returns-clause-tells g c =
     → (c.answer_at.result ≡ Err JournalFull) ⊎ (c.answer_at.result ≡ Err NoMemory)) c.self.view_is
     c.answer_at.ensures.full in
     tells_by (returns-clause-asks g c) c.requires.ready
-    k g.met.D.Disk.only_now refl once (subst (λ (t : ℕ).
+    k (laws_of g.met.D.Disk) refl once (subst (λ (t : ℕ).
     PassesLimit t c.args.self.now.gate c.args.self.now.limit c.args.ask.now
     → (c.answer_at.result ≡ Err JournalFull) ⊎ (c.answer_at.result ≡ Err NoMemory)) now_is full)
 

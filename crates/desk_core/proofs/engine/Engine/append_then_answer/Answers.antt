@@ -24,4 +24,6 @@ returns-in-Ok-clause-adds g c before e fits spelled end rest =
         subst (λ (s : DeskView g.row.D.Denot g.row.C.Denot). KeepsTo d s.disk c.append.new.self.disk (BeforeOrAfter header before e (d.state s.disk))) c.self.view_is
             (c.in-Ok.ensures.any_moment tells header before e fits spelled (inner tells)),
       ),
+      subst (λ (s : DeskView g.row.D.Denot g.row.C.Denot). d.fault_count c.append.new.self.disk ≡ d.fault_count s.disk) c.self.view_is
+          (c.in-Ok.ensures.quiet (λ is. absurd cc)),
     )
