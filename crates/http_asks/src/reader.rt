@@ -1,11 +1,11 @@
 // The reader of the messages of a stream.
 ghost use Rattle.std.specs.Prelude.{◌≡◌, ◌≤◌, ◌<◌, ◌+◌, length, [], IfOk, IfSome, IsErrOf, Ok};
 ghost use Rattle.std.specs.Io.KnownBytes.{IsAtEnd, prepend_known};
-ghost use Rattle.office_base.specs.Faults.{Rose};
 ghost use Rattle.httparse.specs.Spans.{IsRequestWithin, span_bytes};
 ghost use Rattle.http_wire.specs.Answers.{Gave, TakesFew};
 ghost use Rattle.http_wire.specs.Held.{head_room, take_limit};
 ghost use Rattle.http_wire.specs.Messages.{IsUnsettled};
+ghost use Rattle.http_wire.specs.Sources.{OnlyReads};
 ghost use Rattle.http_asks.specs.Counts.{Given, AreEnough};
 ghost use Rattle.http_wire.specs.Parts.{body_of};
 ghost use Rattle.http_asks.specs.Faults.{refused_of};
@@ -147,9 +147,8 @@ impl Reader {
             → Gave self.old self.new (R.left source.old) (R.left source.new) WantsMemory }
         // A message whose bytes are held is heard without a read.
         ensures settled { (IsUnsettled self.old.bytes → ⊥) → source.new ≡ source.old }
-        ensures stream { R.stream source.new ≡ R.stream source.old }
-        ensures later { R.faults source.old ≤ R.faults source.new }
-        ensures fault { IsErrOf result MessageStop.ReadFault → Rose (R.faults source.old) (R.faults source.new) }
+        // The source failed exactly where this is told.
+        ensures only_reads { OnlyReads R.Source source.old source.new (IsErrOf result MessageStop.ReadFault) }
     {
         match read_message(alloc, source, &mut self.buffer) {
             Ok(Next::Request(message)) => {

@@ -34,7 +34,8 @@ use Rattle.http_front.specs.Exchanges.{Exchange, answered, refused, exchange_mea
 use Rattle.desk_core.specs.Turns.{Moves}
 use Rattle.http_front.specs.Session.{EndsWithExchange, IsCut, IsLong, IsUnsaid, IsWritten, NoneLacks, LastLacks, LacksBy, Session}
 use Rattle.http_front.specs.declared.replies.Replies as sinks
-use Rattle.http_front.specs.Saying.{OnlyReads, OnlySays, Says, SaysFront}
+use Rattle.http_wire.specs.Sources.{OnlyReads}
+use Rattle.http_front.specs.Saying.{OnlySays, Says, SaysFront}
 use Rattle.http_front.specs.Talk.{SaysNoMemory, IsRefusedBy, Sides, sides, AnswersOne, Talked, Closed, Went}
 use Rattle.http_front.specs.Texts.{exchange_text, text_of, bad_text, texts, not_built_text, no_memory_text}
 
@@ -309,28 +310,34 @@ under_limit a b (Some xs) (Some ys) given few end = omega (arith, few, given.cou
 
 -- ---- what stays
 
+-- the end that was told
+pub same_err : {X E : Type 0} (result : Result X E) (a b : E) → result ≡ Err a → result ≡ Err b → a ≡ b
+same_err result a b is other = cc
+
 module _ {W : Type 0} (w : sinks.Ghosts W) where
   pub says_nothing : (at : W) → OnlySays w at at ⊥
-  says_nothing at = record { texts = refl; noted = refl; later = omega arith; fault = λ no. absurd no }
+  says_nothing at = record { texts = refl; noted = refl; later = omega arith; fault = λ no. absurd no; quiet = λ _. refl }
 
   -- behind calls of which none failed
-  pub says_on : {Failed_so Fails : Type 0} (a b c : W) → OnlySays w a b ⊥ → OnlySays w b c Failed_so → (Fails → Failed_so) → OnlySays w a c Fails
-  says_on a b c x y why = record {
+  pub says_on : {Failed_so Fails : Type 0} (a b c : W) → OnlySays w a b ⊥ → OnlySays w b c Failed_so → (Fails → Failed_so) → (Failed_so → Fails) → OnlySays w a c Fails
+  says_on a b c x y why so = record {
     texts = y.texts ∙ x.texts;
     noted = y.noted ∙ x.noted;
     later = omega (arith, x.later, y.later);
     fault = λ is. rose_later (w.faults a) (w.faults b) (w.faults c) x.later (y.fault (why is));
+    quiet = λ not. y.quiet (λ is. not (so is)) ∙ x.quiet (λ no. no);
   }
 
 module _ {R : Type 0} (r : sources.Ghosts R) where
   pub reads_nothing : (at : R) → OnlyReads r at at ⊥
-  reads_nothing at = record { stream = refl; later = omega arith; fault = λ no. absurd no }
+  reads_nothing at = record { stream = refl; later = omega arith; fault = λ no. absurd no; quiet = λ _. refl }
 
-  pub reads_on : {Failed_so Fails : Type 0} (a b c : R) → OnlyReads r a b ⊥ → OnlyReads r b c Failed_so → (Fails → Failed_so) → OnlyReads r a c Fails
-  reads_on a b c x y why = record {
+  pub reads_on : {Failed_so Fails : Type 0} (a b c : R) → OnlyReads r a b ⊥ → OnlyReads r b c Failed_so → (Fails → Failed_so) → (Failed_so → Fails) → OnlyReads r a c Fails
+  reads_on a b c x y why so = record {
     stream = y.stream ∙ x.stream;
     later = omega (arith, x.later, y.later);
     fault = λ is. rose_later (r.faults a) (r.faults b) (r.faults c) x.later (y.fault (why is));
+    quiet = λ not. y.quiet (λ is. not (so is)) ∙ x.quiet (λ no. no);
   }
 
 -- ---- tellers

@@ -2,15 +2,15 @@
 ghost use Rattle.std.specs.Prelude.{◌≡◌, ◌≤◌, ◌<◌, ◌+◌, ℕ, List, Option, length};
 ghost use Rattle.std.specs.Prelude.{true, false, OnOk, IfErr, IfSome, IsErrOf, IsOk, Ok, Err};
 ghost use Rattle.std.specs.Io.KnownBytes.{prepend_known};
-ghost use Rattle.std.specs.Result.{IsErr};
 ghost use Rattle.desk_core.specs.declared.fault.DeskFault.{DeskFault};
 ghost use Rattle.http_wire.specs.Held.{take_limit};
+ghost use Rattle.http_wire.specs.Sources.{OnlyReads};
 ghost use Rattle.http_text.specs.Shorts.{IsShort};
 ghost use Rattle.http_asks.specs.Counts.{Given};
 ghost use Rattle.http_asks.specs.Faults.{refused_of};
 ghost use Rattle.http_asks.specs.Tells.{TellsHeard, OnItem};
 ghost use Rattle.http_front.specs.Counts.{IsUnder, IsUnspent, IsHeldBack, IsTakenAhead, reading, total_of};
-ghost use Rattle.http_front.specs.Saying.{OnlyReads, OnlySays, Says, SaysFront};
+ghost use Rattle.http_front.specs.Saying.{OnlySays, Says, SaysFront};
 ghost use Rattle.http_front.specs.Talk.{SaysNoMemory, IsSaid, IsRefusedBy, sides, AnswersOne, Talked, Closed, Went};
 ghost use Rattle.http_front.specs.Texts.{bad_text_of};
 
@@ -47,7 +47,7 @@ fn say<W: Replies>(out: &mut W, bad: &Bad, bytes: &[u8]) -> Result<(), SessionEn
     requires { bytes.now ≡ bad_text_of bad.now }
     ensures ok { OnOk result (Says W.Replies out.old out.new bytes.now) }
     ensures err { IfErr result (λ e. (e ≡ SessionEnd.WriteFault) × SaysFront W.Replies out.old out.new bytes.now) }
-    ensures only_says { OnlySays W.Replies out.old out.new (IsErr result) }
+    ensures only_says { OnlySays W.Replies out.old out.new (IsErrOf result SessionEnd.WriteFault) }
 {
     match out.say_bad(bad, bytes) {
         Ok(()) => Ok(()),
@@ -71,8 +71,9 @@ fn say_short<W: Replies>(out: &mut W, room: &mut [u8], acked: &Acked) -> Result<
     requires room { 16384 ≤ length room.old }
     requires short { IsShort acked.now.reply }
     ensures said { IsSaid W.Replies out.old out.new (Ok acked.now) result }
+    ensures err { IfErr result (λ e. e ≡ SessionEnd.WriteFault) }
     ensures room { 16384 ≤ length room.new }
-    ensures only_says { OnlySays W.Replies out.old out.new (IsErr result) }
+    ensures only_says { OnlySays W.Replies out.old out.new (IsErrOf result SessionEnd.WriteFault) }
 {
     match print_reply(room, acked) {
         Ok(size) => match out.say(acked, &room[..size]) {

@@ -39,7 +39,8 @@ pub trait Replies {
         ensures unsaid { OnErr result (moments self.new ≡ moments self.old) }
         ensures texts { texts self.new ≡ texts self.old }
         ensures noted { noted self.new ≡ noted self.old }
-        ensures cause { HasCause (faults self.old) (faults self.new) result };
+        ensures cause { HasCause (faults self.old) (faults self.new) result }
+        ensures quiet { OnOk result (faults self.new ≡ faults self.old) };
 
     /// Says the reply to a message that has no answer of the office, with its text.
     ///
@@ -52,7 +53,8 @@ pub trait Replies {
         ensures moments { moments self.new ≡ moments self.old }
         ensures texts { texts self.new ≡ texts self.old }
         ensures noted { noted self.new ≡ noted self.old }
-        ensures cause { HasCause (faults self.old) (faults self.new) result };
+        ensures cause { HasCause (faults self.old) (faults self.new) result }
+        ensures quiet { OnOk result (faults self.new ≡ faults self.old) };
 
     /// Puts out a text that is no reply.
     ///
@@ -64,7 +66,8 @@ pub trait Replies {
         ensures said { said self.new ≡ said self.old }
         ensures moments { moments self.new ≡ moments self.old }
         ensures noted { noted self.new ≡ noted self.old }
-        ensures cause { HasCause (faults self.old) (faults self.new) result };
+        ensures cause { HasCause (faults self.old) (faults self.new) result }
+        ensures quiet { OnOk result (faults self.new ≡ faults self.old) };
 
     /// Notes a text. One that is lost raises the count of faults.
     fn note(&mut self, bytes: &[u8])

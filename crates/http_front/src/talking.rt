@@ -2,9 +2,10 @@
 ghost use Rattle.std.specs.Prelude.{◌≡◌, ◌≤◌, ℕ, List, Option, length};
 ghost use Rattle.std.specs.Io.KnownBytes.{prepend_known};
 ghost use Rattle.http_wire.specs.Held.{take_limit};
+ghost use Rattle.http_wire.specs.Sources.{OnlyReads};
 ghost use Rattle.http_asks.specs.Counts.{Given};
 ghost use Rattle.http_front.specs.Counts.{GaveBytes, reading, total_of};
-ghost use Rattle.http_front.specs.Saying.{OnlyReads, OnlySays};
+ghost use Rattle.http_front.specs.Saying.{OnlySays};
 ghost use Rattle.http_front.specs.Session.{Session};
 ghost use Rattle.http_front.specs.Talk.{sides, Closed};
 

@@ -47,6 +47,8 @@ impl<W: Write + Drop, N: Write + Drop> WriterReplies<W, N> {
             ≡ ⟦<WriterReplies<W, N> as Replies>⟧.noted self.old }
         ensures cause { HasCause (⟦<WriterReplies<W, N> as Replies>⟧.faults self.old)
             (⟦<WriterReplies<W, N> as Replies>⟧.faults self.new) result }
+        ensures quiet { OnOk result (⟦<WriterReplies<W, N> as Replies>⟧.faults self.new
+            ≡ ⟦<WriterReplies<W, N> as Replies>⟧.faults self.old) }
     {
         match put_all(&mut self.out, bytes) {
             Ok(()) => Ok(()),
@@ -124,6 +126,8 @@ impl<W: Write + Drop, N: Write + Drop> Replies for WriterReplies<W, N> {
             ≡ ⟦<WriterReplies<W, N> as Replies>⟧.noted self.old }
         ensures cause { HasCause (⟦<WriterReplies<W, N> as Replies>⟧.faults self.old)
             (⟦<WriterReplies<W, N> as Replies>⟧.faults self.new) result }
+        ensures quiet { OnOk result (⟦<WriterReplies<W, N> as Replies>⟧.faults self.new
+            ≡ ⟦<WriterReplies<W, N> as Replies>⟧.faults self.old) }
     {
         self.put(bytes)
     }

@@ -6,3 +6,4 @@ pub mod Headings
 pub mod Messages
 pub mod Parts
 pub mod Read
+pub mod Sources

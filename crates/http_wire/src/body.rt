@@ -2,8 +2,8 @@
 ghost use Rattle.std.specs.Prelude.{◌≡◌, ◌<◌, ◌≤◌, ◌+◌, ◌++◌, ℕ, List, Option, length, take, drop, OnOk, OnErr};
 ghost use Rattle.std.specs.Prelude.{IsErrOf};
 ghost use Rattle.std.specs.Io.KnownBytes.{Consumes, IsAtEnd};
-ghost use Rattle.office_base.specs.Faults.{Rose};
 ghost use Rattle.http_wire.specs.Held.{Took, TookPast, take_limit};
+ghost use Rattle.http_wire.specs.Sources.{OnlyReads};
 
 use crate::buffer::Buffer;
 use crate::message::MessageStop;
@@ -34,10 +34,8 @@ pub(crate) fn fill_to<R: Source>(
     ensures spent { IsErrOf result (Gap.Stopped MessageStop.Spent) → buffer.new.taken ≡ take_limit }
     ensures enough { IsErrOf result (Gap.Stopped MessageStop.NoMemory) → ⊥ }
     ensures settled { count ≤ length buffer.old.bytes → source.new ≡ source.old }
-    ensures stream { R.stream source.new ≡ R.stream source.old }
-    ensures later { R.faults source.old ≤ R.faults source.new }
-    ensures fault { IsErrOf result (Gap.Stopped MessageStop.ReadFault)
-        → Rose (R.faults source.old) (R.faults source.new) }
+    ensures only_reads { OnlyReads R.Source source.old source.new
+        (IsErrOf result (Gap.Stopped MessageStop.ReadFault)) }
 {
     'filling: while buffer.held().len() < count {
         if buffer.is_spent() {
@@ -67,10 +65,8 @@ fn fill_rest<R: Source>(
     ensures end { IsErrOf result Gap.Ended → IsAtEnd (R.left source.new) × (buffer.new.taken < take_limit) }
     ensures spent { IsErrOf result (Gap.Stopped MessageStop.Spent) → buffer.new.taken ≡ take_limit }
     ensures enough { IsErrOf result (Gap.Stopped MessageStop.NoMemory) → ⊥ }
-    ensures stream { R.stream source.new ≡ R.stream source.old }
-    ensures later { R.faults source.old ≤ R.faults source.new }
-    ensures fault { IsErrOf result (Gap.Stopped MessageStop.ReadFault)
-        → Rose (R.faults source.old) (R.faults source.new) }
+    ensures only_reads { OnlyReads R.Source source.old source.new
+        (IsErrOf result (Gap.Stopped MessageStop.ReadFault)) }
 {
     let mut at = from;
     'filling: while at < body.len() {
@@ -103,10 +99,8 @@ pub(crate) fn fill_body<R: Source>(
     ensures end { IsErrOf result Gap.Ended → IsAtEnd (R.left source.new) × (buffer.new.taken < take_limit) }
     ensures spent { IsErrOf result (Gap.Stopped MessageStop.Spent) → buffer.new.taken ≡ take_limit }
     ensures enough { IsErrOf result (Gap.Stopped MessageStop.NoMemory) → ⊥ }
-    ensures stream { R.stream source.new ≡ R.stream source.old }
-    ensures later { R.faults source.old ≤ R.faults source.new }
-    ensures fault { IsErrOf result (Gap.Stopped MessageStop.ReadFault)
-        → Rose (R.faults source.old) (R.faults source.new) }
+    ensures only_reads { OnlyReads R.Source source.old source.new
+        (IsErrOf result (Gap.Stopped MessageStop.ReadFault)) }
 {
     let held = buffer.held();
     let front = held.len() - start;

@@ -2,10 +2,11 @@
 ghost use Rattle.std.specs.Prelude.{◌≡◌, ◌<◌, ◌≤◌, ◌+◌, ◌-◌, ◌^◌, ◌++◌, ℕ, List, Option, [], length, take, drop};
 ghost use Rattle.std.specs.Prelude.{IfOk, OnOk, IfErr, IsTrue, IsFalse, Ok};
 ghost use Rattle.std.specs.Io.KnownBytes.{Consumes, IsAtEnd, Keeps};
-ghost use Rattle.office_base.specs.Faults.{HasCause};
+ghost use Rattle.std.specs.Result.{IsErr};
 ghost use Rattle.httparse.specs.Spans.{IsRequestOf, IsRequestWithin};
 ghost use Rattle.http_wire.specs.Heads.{IsHopeless, IsOpen, OnWhole};
 ghost use Rattle.http_wire.specs.Held.{Took, TookPast, take_limit};
+ghost use Rattle.http_wire.specs.Sources.{OnlyReads};
 
 use crate::head::{Front, front_of};
 use crate::source::Source;
@@ -126,8 +127,7 @@ impl Buffer {
         ensures count { IfOk result (λ count. length self.new.bytes ≡ length self.old.bytes + count) }
         ensures end { result ≡ Ok 0 → IsAtEnd (R.left source.new) }
         ensures err { IfErr result (λ _. (self.new ≡ self.old) × Keeps (R.left source.old) (R.left source.new)) }
-        ensures stream { R.stream source.new ≡ R.stream source.old }
-        ensures cause { HasCause (R.faults source.old) (R.faults source.new) result }
+        ensures only_reads { OnlyReads R.Source source.old source.new (IsErr result) }
         ensures spans { self.new.spans ≡ self.old.spans }
         ensures short { length self.new.bytes ≤ 8192 }
         ensures limit { self.new.taken ≤ take_limit }
@@ -158,8 +158,7 @@ impl Buffer {
         ensures end { result ≡ Ok 0 → IsAtEnd (R.left source.new) }
         ensures err { IfErr result (λ _. (self.new ≡ self.old) × (take at room.new ≡ take at room.old)
             × Keeps (R.left source.old) (R.left source.new)) }
-        ensures stream { R.stream source.new ≡ R.stream source.old }
-        ensures cause { HasCause (R.faults source.old) (R.faults source.new) result }
+        ensures only_reads { OnlyReads R.Source source.old source.new (IsErr result) }
         ensures limit { self.new.taken ≤ take_limit }
     {
         let most = askable(room.len() - at, self.taken);
@@ -228,8 +227,7 @@ fn read_on<R: Source>(
     ensures end { result ≡ Ok 0 → IsAtEnd (R.left source.new) }
     ensures err { IfErr result
         (λ _. (take len room.new ≡ take len room.old) × Keeps (R.left source.old) (R.left source.new)) }
-    ensures stream { R.stream source.new ≡ R.stream source.old }
-    ensures cause { HasCause (R.faults source.old) (R.faults source.new) result }
+    ensures only_reads { OnlyReads R.Source source.old source.new (IsErr result) }
 {
     source.read(&mut room[len..len + most])
 }

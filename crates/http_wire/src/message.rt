@@ -1,13 +1,13 @@
 // The message at the front of a stream.
 ghost use Rattle.std.specs.Prelude.{◌≡◌, ◌<◌, ◌≤◌, ◌+◌, ◌⊎◌, ℕ, List, Option, [], length, drop, IsErrOf, Ok, Err, ⊤};
 ghost use Rattle.std.specs.Io.KnownBytes.{IsAtEnd};
-ghost use Rattle.office_base.specs.Faults.{Rose};
 ghost use Rattle.httparse.specs.Spans.{IsRequestOf, IsRequestWithin};
 ghost use Rattle.http_wire.specs.Framing.{HasFrame};
 ghost use Rattle.http_wire.specs.Headings.{HasHeading};
 ghost use Rattle.http_wire.specs.Held.{take_limit};
 ghost use Rattle.http_wire.specs.Messages.{IsUnsettled};
 ghost use Rattle.http_wire.specs.Parts.{body_of};
+ghost use Rattle.http_wire.specs.Sources.{OnlyReads};
 ghost use Rattle.http_wire.specs.Answers.{Gave, HasRequest, Refuses, AwaitsLongBody, OnRequest, OnRefused, Tells};
 ghost use Rattle.http_wire.specs.Answers.{TakesFew};
 
@@ -129,9 +129,7 @@ fn read_held<R: Source>(
     ensures ahead { TakesFew buffer.old buffer.new }
     ensures limit { buffer.new.taken ≤ take_limit }
     ensures settled { (IsUnsettled buffer.old.bytes → ⊥) → source.new ≡ source.old }
-    ensures stream { R.stream source.new ≡ R.stream source.old }
-    ensures later { R.faults source.old ≤ R.faults source.new }
-    ensures fault { IsErrOf result MessageStop.ReadFault → Rose (R.faults source.old) (R.faults source.new) }
+    ensures only_reads { OnlyReads R.Source source.old source.new (IsErrOf result MessageStop.ReadFault) }
 {
     let used = head.len + size;
     match fill_to(source, buffer, used) {
@@ -161,9 +159,7 @@ fn read_apart<R: Source>(
     ensures ahead { TakesFew buffer.old buffer.new }
     ensures limit { buffer.new.taken ≤ take_limit }
     ensures settled { (IsUnsettled buffer.old.bytes → ⊥) → source.new ≡ source.old }
-    ensures stream { R.stream source.new ≡ R.stream source.old }
-    ensures later { R.faults source.old ≤ R.faults source.new }
-    ensures fault { IsErrOf result MessageStop.ReadFault → Rose (R.faults source.old) (R.faults source.new) }
+    ensures only_reads { OnlyReads R.Source source.old source.new (IsErrOf result MessageStop.ReadFault) }
 {
     let used = buffer.held().len();
     let Ok(mut body) = vec![in alloc; 0u8; size] else {
@@ -194,9 +190,7 @@ fn read_body<R: Source>(
     ensures ahead { TakesFew buffer.old buffer.new }
     ensures limit { buffer.new.taken ≤ take_limit }
     ensures settled { (IsUnsettled buffer.old.bytes → ⊥) → source.new ≡ source.old }
-    ensures stream { R.stream source.new ≡ R.stream source.old }
-    ensures later { R.faults source.old ≤ R.faults source.new }
-    ensures fault { IsErrOf result MessageStop.ReadFault → Rose (R.faults source.old) (R.faults source.new) }
+    ensures only_reads { OnlyReads R.Source source.old source.new (IsErrOf result MessageStop.ReadFault) }
 {
     let fields = &buffer.spans()[..head.headers];
     let size = match body_size(buffer.held(), fields) {
@@ -224,9 +218,7 @@ fn next_of<R: Source>(
     ensures ahead { TakesFew buffer.old buffer.new }
     ensures limit { buffer.new.taken ≤ take_limit }
     ensures settled { (IsUnsettled buffer.old.bytes → ⊥) → source.new ≡ source.old }
-    ensures stream { R.stream source.new ≡ R.stream source.old }
-    ensures later { R.faults source.old ≤ R.faults source.new }
-    ensures fault { IsErrOf result MessageStop.ReadFault → Rose (R.faults source.old) (R.faults source.new) }
+    ensures only_reads { OnlyReads R.Source source.old source.new (IsErrOf result MessageStop.ReadFault) }
 {
     match heading {
         Heading::Whole(head) => read_body(alloc, source, buffer, head),
@@ -277,9 +269,7 @@ pub fn read_message<R: Source>(
         (λ m. buffer.old.taken + length (drop m.used buffer.new.bytes) < buffer.new.taken + length buffer.old.bytes) }
     // A message whose bytes are held is answered without a read.
     ensures settled { (IsUnsettled buffer.old.bytes → ⊥) → source.new ≡ source.old }
-    ensures stream { R.stream source.new ≡ R.stream source.old }
-    ensures later { R.faults source.old ≤ R.faults source.new }
-    ensures fault { IsErrOf result MessageStop.ReadFault → Rose (R.faults source.old) (R.faults source.new) }
+    ensures only_reads { OnlyReads R.Source source.old source.new (IsErrOf result MessageStop.ReadFault) }
 {
     let heading = read_head(source, buffer)?;
     next_of(alloc, source, buffer, heading)

@@ -1,11 +1,11 @@
 // The head at the front of a stream.
 ghost use Rattle.std.specs.Prelude.{◌≡◌, ◌<◌, ◌≤◌, ◌+◌, ◌⊎◌, ℕ, List, Option, [], length, IsErrOf, Ok};
 ghost use Rattle.std.specs.Io.KnownBytes.{IsAtEnd};
-ghost use Rattle.office_base.specs.Faults.{Rose};
 ghost use Rattle.httparse.specs.Spans.{IsRequestOf, IsRequestWithin};
 ghost use Rattle.http_wire.specs.Heads.{IsHopeless, IsOpen};
 ghost use Rattle.http_wire.specs.Headings.{OnHead};
 ghost use Rattle.http_wire.specs.Held.{Took, head_room, take_limit};
+ghost use Rattle.http_wire.specs.Sources.{OnlyReads};
 
 use crate::buffer::{Buffer, ROOM};
 use crate::head::Front;
@@ -59,9 +59,7 @@ pub(crate) fn read_head<R: Source>(
     // The source is read only where the bytes that are held settle nothing.
     ensures settled { (IsOpen buffer.old.bytes → ⊥) → source.new ≡ source.old }
     ensures full { head_room ≤ length buffer.old.bytes → source.new ≡ source.old }
-    ensures stream { R.stream source.new ≡ R.stream source.old }
-    ensures later { R.faults source.old ≤ R.faults source.new }
-    ensures fault { IsErrOf result MessageStop.ReadFault → Rose (R.faults source.old) (R.faults source.new) }
+    ensures only_reads { OnlyReads R.Source source.old source.new (IsErrOf result MessageStop.ReadFault) }
 {
     'reading: loop {
         match buffer.look() {

@@ -1,5 +1,5 @@
 // Where bytes come from.
-ghost use Rattle.std.specs.Prelude.{◌≡◌, ◌≤◌, ℕ, List, Option, None, length};
+ghost use Rattle.std.specs.Prelude.{◌≡◌, ◌≤◌, ℕ, List, Option, None, OnOk, length};
 ghost use Rattle.std.specs.Io.{ReadsAtMost};
 ghost use Rattle.std.specs.Io.KnownBytes.{ReadConsumes};
 ghost use Rattle.office_base.specs.Faults.{HasCause};
@@ -19,6 +19,7 @@ pub trait Source {
     ghost faults: { Self → ℕ };
 
     /// Fills the front of the room, and answers how many bytes it wrote. For a room that is not empty 0 is the end.
+    /// The count of faults stands still.
     ///
     /// # Errors
     ///
@@ -27,7 +28,8 @@ pub trait Source {
         ensures bound { ReadsAtMost result room.new }
         ensures bytes { ReadConsumes (left self.old) (left self.new) result room.new }
         ensures stream { stream self.new ≡ stream self.old }
-        ensures cause { HasCause (faults self.old) (faults self.new) result };
+        ensures cause { HasCause (faults self.old) (faults self.new) result }
+        ensures quiet { OnOk result (faults self.new ≡ faults self.old) };
 }
 
 /// A reader of std, whose faults are counted.

@@ -1,7 +1,8 @@
 use Rattle.std.proofs.Common.{◌∙◌, ap, Err}
 use Rattle.std.specs.Io.KnownBytes.{prepend_known}
 use Rattle.http_front.specs.Talk.{sides}
-use Rattle.http_front.proofs.TalkLemmas.{talked_none, talked_then, closed_then, given_none, given_then, says_nothing, says_on, reads_nothing, reads_on}
+use Rattle.http_front.proofs.TalkLemmas.{talked_none, talked_then, closed_then, given_none, given_then, says_nothing, says_on, reads_nothing, reads_on, same_err}
+use Rattle.http_front.specs.declared.answering.SessionEnd.TheVariants.{ReadFault, WriteFault}
 use Rattle.http_front.proofs.talking.go_on.Goals as goal
 
 pub talking-init : goal.talking-init
@@ -27,8 +28,8 @@ talking-preserved g c =
       given = given_then c.args.reader.now.taken c.talking.reader.taken c.answer_one.new.reader.taken (left c.args.source.now) (left c.talking.source) (left c.answer_one.new.source)
           c.talking.invariant.given c.answer_one.ensures.given;
       limit = c.answer_one.ensures.limit;
-      only_says = says_on g.W.Replies c.args.out.now c.talking.out c.answer_one.new.out c.talking.invariant.only_says c.answer_one.ensures.only_says (λ no. absurd no);
-      only_reads = reads_on g.R.Source c.args.source.now c.talking.source c.answer_one.new.source c.talking.invariant.only_reads c.answer_one.ensures.only_reads (λ no. absurd no);
+      only_says = says_on g.W.Replies c.args.out.now c.talking.out c.answer_one.new.out c.talking.invariant.only_says c.in-Ok.ensures.only_says (λ no. absurd no) (λ is. absurd cc);
+      only_reads = reads_on g.R.Source c.args.source.now c.talking.source c.answer_one.new.source c.talking.invariant.only_reads c.in-Ok.ensures.only_reads (λ no. absurd no) (λ is. absurd cc);
     }
 
 pub returns-in-Err-clause-closed : goal.returns-in-Err-clause-closed
@@ -48,7 +49,9 @@ returns-in-Err-clause-given g c =
 pub returns-in-Err-clause-only_says : goal.returns-in-Err-clause-only_says
 returns-in-Err-clause-only_says g c =
     says_on g.W.Replies c.args.out.now c.talking.out c.answer_one.new.out c.talking.invariant.only_says c.answer_one.ensures.only_says (λ is. c.in-Err.is ∙ ap Err is)
+    (same_err c.answer_one.result c.in-Err.end WriteFault c.in-Err.is)
 
 pub returns-in-Err-clause-only_reads : goal.returns-in-Err-clause-only_reads
 returns-in-Err-clause-only_reads g c =
     reads_on g.R.Source c.args.source.now c.talking.source c.answer_one.new.source c.talking.invariant.only_reads c.answer_one.ensures.only_reads (λ is. c.in-Err.is ∙ ap Err is)
+    (same_err c.answer_one.result c.in-Err.end ReadFault c.in-Err.is)

@@ -1,8 +1,9 @@
 use Rattle.std.proofs.Common.{◌≤◌, ◌+◌, ◌-◌, ◌^◌, length}
 use Rattle.std.specs.Io.KnownBytes.{prepend_known}
 use Rattle.http_wire.specs.Held.{take_limit}
+use Rattle.http_wire.specs.Sources.{OnlyReads}
 use Rattle.http_asks.specs.Counts.{Given}
-use Rattle.http_front.specs.Saying.{OnlyReads, OnlySays}
+use Rattle.http_front.specs.Saying.{OnlySays}
 use Rattle.http_front.specs.Talk.{sides, Talked}
 use Rattle.http_front.proofs.talking.go_on.Given as goal
 

@@ -9,7 +9,7 @@ invariant-filling g l = record {
   limit : l.buffer.taken ≤ take_limit;
   inside : l.at ≤ length l.body;
   stream : g.R.Source.stream l.source ≡ g.R.Source.stream l.fn.source;
-  faults : g.R.Source.faults l.fn.source ≤ g.R.Source.faults l.source;
+  faults : g.R.Source.faults l.source ≡ g.R.Source.faults l.fn.source;
 }
 
 abbrev pub decreases-filling : goal.decreases-filling

@@ -8,7 +8,7 @@ invariant-filling g l = record {
   spans : l.buffer.spans ≡ l.fn.buffer.spans;
   unread : l.count ≤ length l.fn.buffer.bytes → (l.source ≡ l.fn.source) × (l.buffer.bytes ≡ l.fn.buffer.bytes);
   stream : g.R.Source.stream l.source ≡ g.R.Source.stream l.fn.source;
-  faults : g.R.Source.faults l.fn.source ≤ g.R.Source.faults l.source;
+  faults : g.R.Source.faults l.source ≡ g.R.Source.faults l.fn.source;
 }
 
 abbrev pub decreases-filling : goal.decreases-filling

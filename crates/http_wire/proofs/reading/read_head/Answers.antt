@@ -19,6 +19,6 @@ reading-preserved g c =
         ap length c.look.ensures.bytes,
         ap length c.held.ensures.value,
       ));
-      stream = c.fill.ensures.stream ∙ c.reading.invariant.stream;
-      faults = omega (arith, c.reading.invariant.faults, c.fill.ensures.cause.later);
+      stream = c.fill.ensures.only_reads.stream ∙ c.reading.invariant.stream;
+      faults = c.in-Ok.ensures.only_reads.quiet (λ no. absurd cc) ∙ c.reading.invariant.faults;
     }

@@ -9,7 +9,7 @@ invariant-reading g l = record {
   unread : (IsOpen l.fn.buffer.bytes → ⊥) → (l.source ≡ l.fn.source) × (l.buffer.bytes ≡ l.fn.buffer.bytes);
   full : head_room ≤ length l.fn.buffer.bytes → l.source ≡ l.fn.source;
   stream : g.R.Source.stream l.source ≡ g.R.Source.stream l.fn.source;
-  faults : g.R.Source.faults l.fn.source ≤ g.R.Source.faults l.source;
+  faults : g.R.Source.faults l.source ≡ g.R.Source.faults l.fn.source;
 }
 
 abbrev pub decreases-reading : goal.decreases-reading
