@@ -101,8 +101,8 @@ module _ {D C : Type 0} (d : disks.Ghosts D) (k : clocks.Ghosts C) where
       (λ before. absurd (still_true old.stale before fresh)) (λ rose. rose)
       (stale_rose d k old new calls path (sym stale_new ∙ two_stale end stale status is two))
 
-pub zero_done : (end : WorkerEnd) (stale : Bool) (status : ℕ) → status ≡ workers_exit end stale → status ≡ 0 → end ≡ workers.Done
-zero_done workers.Done stale status is zero = refl
-zero_done workers.PortFault stale status is zero = absurd (omega (arith, is, zero))
-zero_done workers.NoMemory true status is zero = absurd (omega (arith, is, zero))
-zero_done workers.NoMemory false status is zero = absurd (omega (arith, is, zero))
+-- a port that failed is told before all else
+pub port_seven : (end : WorkerEnd) (stale : Bool) (status : ℕ) → status ≡ workers_exit end stale → end ≡ workers.PortFault → status ≡ 7
+port_seven workers.PortFault stale status is port = is
+port_seven workers.NoMemory stale status is port = absurd cc
+port_seven workers.Done stale status is port = absurd cc

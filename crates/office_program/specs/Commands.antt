@@ -66,8 +66,8 @@ NoneFailed old new =
     (Rose old.disk new.disk → ⊥) × (Rose old.input new.input → ⊥) × (Rose old.output new.output → ⊥)
     × (Rose old.port new.port → ⊥)
 
--- Each status has its cause. The bytes of a journal that is not opened tell why (`Refuses`); `init` refuses a foreign
--- one alone.
+-- Each status has its cause. The bytes of a journal that is not opened tell why (`OpenFails`, by `FailsToOpen`);
+-- `init` refuses a foreign one alone.
 pub record IsCaused (line : Option Line) (old new : FaultCounts) (foreign spent : Type 0) (status : ℕ) : Type 0 where
   pub known : (status ≡ 1) ⊎ ((status ≡ 8) ⊎ (IsReportExit status ⊎ IsServeExit status))
   pub usage : status ≡ 1 → line ≡ None
@@ -76,7 +76,7 @@ pub record IsCaused (line : Option Line) (old new : FaultCounts) (foreign spent 
   pub write_fault : status ≡ 4 → Rose old.output new.output
   pub foreign_file : line ≡ Some init → status ≡ 5 → foreign
   pub port_fault : status ≡ 7 → Rose old.port new.port
-  pub port_done : status ≡ 0 → new.port ≤ old.port
+  pub port_done : (status ≡ 7 → ⊥) → new.port ≤ old.port
   pub clock_end : status ≡ 8 → line ≡ Some init → ⊥
   pub input_spent : status ≡ 9 → spent
   pub no_tariff : status ≡ 10 → IsReport line

@@ -159,11 +159,12 @@ module _ {D C W : Type 0} (d : disks.Ghosts D) (k : clocks.Ghosts C) (w : sinks.
   ServesPort left_alone connected = Starts left_alone (λ first. AnswersWorkers connected)
 
 module _ {P Source Replies : Type 0} (p : ports.Ghosts P Source Replies) where
-  -- The port listens at the address, or gave no connection. It gave and ended as many as the workers served, all where
-  -- all was done; and where it tells them they are those for which the calls of the list were made.
+  -- The port listens at the address, and the workers' ports with it, where it had given no connection before; or it
+  -- gave none. It gave and ended as many as the workers served, all where all was done; and where it tells them they
+  -- are those for which the calls of the list were made.
   pub record Connects (address : List ℕ) (workers connections : ℕ) (old new : P) (end : WorkerEnd) (log : Log)
       : Type 0 where
-    pub listens : p.listens new address ⊎ (p.given new ≡ p.given old)
+    pub listens : (p.given old ≡ 0 → p.listens new address) ⊎ (p.given new ≡ p.given old)
     pub counts : Balances (workers * connections) end (p.given old) (p.given new) (p.ended old) (p.ended new)
     pub divided : AreOfWorkers workers log (p.connections old) (p.connections new)
 

@@ -154,9 +154,8 @@ where
         (GaveBytes (S.left input.old) (S.left input.new) take_limit) result.status }
 
     // A disk each of whose images has a history is opened, and has such images at every moment.
-    ensures opened { IsTrue D.honest → IsSound (D.state disk) → result.status ≡ 5 → ⊥ }
     ensures sound { IsTrue D.honest → IsSound (D.state disk)
-        → KeepsTo D.Disk disk result.disk IsSound }
+        → (result.status ≡ 5 → ⊥) × KeepsTo D.Disk disk result.disk IsSound }
 
     // A command line is done, on such a disk or for init on one that is not foreign, where nothing outside fails
     // and the clock is not at its end.

@@ -72,7 +72,7 @@ where
     ensures statuses { IsWorkersExit result.status }
     ensures disk_fault { result.status ≡ 2 → Rose (D.fault_count desk.disk) (D.fault_count result.disk) }
     ensures port_fault { result.status ≡ 7 → Rose (P.faults port.old) (P.faults port.new) }
-    ensures port_done { result.status ≡ 0 → P.faults port.new ≤ P.faults port.old }
+    ensures port_done { (result.status ≡ 7 → ⊥) → P.faults port.new ≤ P.faults port.old }
     ensures balanced { IsBalanced P.Port port.old port.new }
     ensures unnoted { result.status ≡ 0 → W.noted out.new ≡ W.noted out.old }
 {
@@ -116,7 +116,7 @@ where
     ensures statuses { IsServeExit result.status }
     ensures disk_fault { result.status ≡ 2 → Rose (D.fault_count disk) (D.fault_count result.disk) }
     ensures port_fault { result.status ≡ 7 → Rose (P.faults port.old) (P.faults port.new) }
-    ensures port_done { result.status ≡ 0 → P.faults port.new ≤ P.faults port.old }
+    ensures port_done { (result.status ≡ 7 → ⊥) → P.faults port.new ≤ P.faults port.old }
     ensures balanced { IsBalanced P.Port port.old port.new }
     ensures unnoted { result.status ≡ 0 → W.noted out.new ≡ W.noted out.old }
 {
@@ -170,7 +170,7 @@ where
     ensures statuses { (result.status ≡ 8) ⊎ IsServeExit result.status }
     ensures disk_fault { result.status ≡ 2 → Rose (D.fault_count disk) (D.fault_count result.disk) }
     ensures port_fault { result.status ≡ 7 → Rose (P.faults port.old) (P.faults port.new) }
-    ensures port_done { result.status ≡ 0 → P.faults port.new ≤ P.faults port.old }
+    ensures port_done { (result.status ≡ 7 → ⊥) → P.faults port.new ≤ P.faults port.old }
     ensures balanced { IsBalanced P.Port port.old port.new }
     ensures unnoted { result.status ≡ 0 → W.noted out.new ≡ W.noted out.old }
 {

@@ -19,15 +19,12 @@ pub serve-requires-clause-few : goal.serve-requires-clause-few
 serve-requires-clause-few g c κs within = serve_in_range _ c.in-Ok-Serve.workers c.in-Ok-Serve.connections (map string_bytes c.args.words.now)
     (c.in-Ok-Serve.ensures.read ∙ ap (λ (l : CommandLine). Some (line_of l)) c.in-Ok-Serve.field-0-is)
 
-pub returns-in-Ok-Init-clause-opened : goal.returns-in-Ok-Init-clause-opened
-returns-in-Ok-Init-clause-opened g c tells sound five =
-    let has = c.sound_now.ensures.reads tells sound in
-    not_foreign_there (g.D.Disk.state c.args.disk).journal.seen has.0 has.1 (c.init-status.ensures.foreign tells five)
-
 pub returns-in-Ok-Init-clause-sound : goal.returns-in-Ok-Init-clause-sound
 returns-in-Ok-Init-clause-sound g c tells sound =
-    let has = c.sound_now.ensures.reads tells sound in
-    init_sound g.D.Disk g.W.Replies tells c.init-status.result c.args.disk c.init-status.new.disk c.args.out.now c.init-status.new.out has.0 sound has.1 c.init-status.ensures.inits
+    let has = c.sound_now.ensures.reads tells sound in (
+      λ five. not_foreign_there (g.D.Disk.state c.args.disk).journal.seen has.0 has.1 (c.init-status.ensures.foreign tells five),
+      init_sound g.D.Disk g.W.Replies tells c.init-status.result c.args.disk c.init-status.new.disk c.args.out.now c.init-status.new.out has.0 sound has.1 c.init-status.ensures.inits,
+    )
 
 pub returns-in-Ok-Init-clause-complete : goal.returns-in-Ok-Init-clause-complete
 returns-in-Ok-Init-clause-complete g c tells some good none eight =
@@ -44,9 +41,12 @@ returns-in-Ok-Run-clause-sound g c tells sound =
     let d = g.D.Disk in
     let k = g.C.Clock in
     let w = g.W.Replies in
-    starts_sound d k w tells (c.run.new.input ≡ c.args.input.now) (λ first. AnswersStream d k w (reading (g.S.Source.left c.args.input.now) (g.S.Source.left c.run.new.input)))
-    (λ first old new status sound a. calls_sound d k w tells journal_limit (under old) (under new) (calls_of a.talk.exchanges) sound a.answers)
-    (around c.args.disk c.args.clock c.args.out.now) (around c.run.result.disk c.run.result.clock c.run.new.out) c.run.result.status sound (c.sound_now.ensures.still tells sound) c.run.ensures.runs
+    let has = c.sound_now.ensures.reads tells sound in (
+      c.run.ensures.sound tells has.0 has.1,
+      starts_sound d k w tells (c.run.new.input ≡ c.args.input.now) (λ first. AnswersStream d k w (reading (g.S.Source.left c.args.input.now) (g.S.Source.left c.run.new.input)))
+      (λ first old new status sound a. calls_sound d k w tells journal_limit (under old) (under new) (calls_of a.talk.exchanges) sound a.answers)
+      (around c.args.disk c.args.clock c.args.out.now) (around c.run.result.disk c.run.result.clock c.run.new.out) c.run.result.status sound (c.sound_now.ensures.still tells sound) c.run.ensures.runs,
+    )
 
 pub returns-in-Ok-Run-clause-complete : goal.returns-in-Ok-Run-clause-complete
 returns-in-Ok-Run-clause-complete g c tells some good none eight =
@@ -62,11 +62,14 @@ returns-in-Ok-Serve-clause-sound g c tells sound =
     let d = g.D.Disk in
     let k = g.C.Clock in
     let w = g.W.Replies in
-    starts_sound d k w tells (c.serve.new.port ≡ c.args.port.now) (λ first. AnswersWorkers d k w
-    (Connects g.P.Port c.as_str.result.now c.in-Ok-Serve.workers c.in-Ok-Serve.connections c.args.port.now c.serve.new.port))
-    (λ first old new status sound a. calls_sound d k w tells journal_limit (under old) (under new) (log_calls a.log) sound a.answers)
-    (around c.args.disk c.args.clock c.args.out.now) (around c.serve.result.disk c.serve.result.clock c.serve.new.out)
-    c.serve.result.status sound (c.sound_now.ensures.still tells sound) c.serve.ensures.serves
+    let has = c.sound_now.ensures.reads tells sound in (
+      c.serve.ensures.sound tells has.0 has.1,
+      starts_sound d k w tells (c.serve.new.port ≡ c.args.port.now) (λ first. AnswersWorkers d k w
+      (Connects g.P.Port c.as_str.result.now c.in-Ok-Serve.workers c.in-Ok-Serve.connections c.args.port.now c.serve.new.port))
+      (λ first old new status sound a. calls_sound d k w tells journal_limit (under old) (under new) (log_calls a.log) sound a.answers)
+      (around c.args.disk c.args.clock c.args.out.now) (around c.serve.result.disk c.serve.result.clock c.serve.new.out)
+      c.serve.result.status sound (c.sound_now.ensures.still tells sound) c.serve.ensures.serves,
+    )
 
 pub returns-in-Ok-Serve-clause-complete : goal.returns-in-Ok-Serve-clause-complete
 returns-in-Ok-Serve-clause-complete g c tells some good none eight =
@@ -84,10 +87,13 @@ returns-in-Ok-Report-clause-sound g c tells sound =
     let w = g.W.Replies in
     let month = c.in-Ok-Report.asked.month in
     let as_text = c.in-Ok-Report.asked.as_text in
-    starts_sound d k w tells (Unit {0}) (TellsMonth d k w month as_text) (reported_sound d k w tells month as_text)
-    (around c.args.disk c.args.clock c.args.out.now)
-    (around c.report.result.disk c.report.result.clock c.report.new.out) c.report.result.status sound
-    (c.sound_now.ensures.still tells sound) c.report.ensures.reports
+    let has = c.sound_now.ensures.reads tells sound in (
+      c.report.ensures.sound tells has.0 has.1,
+      starts_sound d k w tells (Unit {0}) (TellsMonth d k w month as_text) (reported_sound d k w tells month as_text)
+      (around c.args.disk c.args.clock c.args.out.now)
+      (around c.report.result.disk c.report.result.clock c.report.new.out) c.report.result.status sound
+      (c.sound_now.ensures.still tells sound) c.report.ensures.reports,
+    )
 
 pub returns-in-Ok-Report-clause-complete : goal.returns-in-Ok-Report-clause-complete
 returns-in-Ok-Report-clause-complete g c tells some good none eight =
@@ -100,8 +106,22 @@ returns-in-Ok-Report-clause-complete g c tells some good none eight =
 
 pub returns-in-Ok-Explain-clause-sound : goal.returns-in-Ok-Explain-clause-sound
 returns-in-Ok-Explain-clause-sound g c tells sound =
-    explained_sound g.D.Disk g.C.Clock g.W.Replies tells
-    (around c.args.disk c.args.clock c.args.out.now) (around c.stays.result.disk c.stays.result.clock c.stays.new.out) c.stays.result.status sound c.stays.ensures.explains
+    let has = c.sound_now.ensures.reads tells sound in (
+      c.stays.ensures.sound tells has.0 has.1,
+      explained_sound g.D.Disk g.C.Clock g.W.Replies tells
+          (around c.args.disk c.args.clock c.args.out.now) (around c.stays.result.disk c.stays.result.clock c.stays.new.out) c.stays.result.status sound c.stays.ensures.explains,
+    )
+
+pub returns-in-Ok-Gen-clause-sound : goal.returns-in-Ok-Gen-clause-sound
+returns-in-Ok-Gen-clause-sound g c tells sound =
+    (said_none _ 5 refl c.load-status.ensures.statuses, c.sound_now.ensures.still tells sound)
+
+pub returns-in-Err-clause-sound : goal.returns-in-Err-clause-sound
+returns-in-Err-clause-sound g c tells sound =
+    let r = c.refuse_line-status.ensures in (
+      refusal_none c.in-Err.fault c.refuse_line-status.result (λ is. (r.usage is).0) (λ is. (r.memory is).0) 5 refl,
+      c.sound_now.ensures.still tells sound,
+    )
 
 pub returns-in-Ok-Explain-clause-complete : goal.returns-in-Ok-Explain-clause-complete
 returns-in-Ok-Explain-clause-complete g c tells some good none eight =

@@ -3,7 +3,7 @@ use Rattle.desk_core.specs.Runs.{AnswersCalls, outside}
 use Rattle.serving.specs.Serving.{log_calls}
 use Rattle.office_program.specs.Lines.{workers_exit, workers_note}
 use Rattle.office_program.specs.Running.{journal_limit, IsNoted}
-use Rattle.office_program.proofs.Answering.{zero_done}
+use Rattle.office_program.proofs.Answering.{port_seven}
 use Rattle.office_program.proofs.serve.answer.Goals as goal
 
 pub returns-clause-answers : goal.returns-clause-answers
@@ -32,6 +32,6 @@ returns-clause-balanced g c =
     inr (counts.count, counts.given, counts.ended)
 
 pub returns-clause-port_done : goal.returns-clause-port_done
-returns-clause-port_done g c zero =
+returns-clause-port_done g c not =
     let closed = c.serve_office-closed in
-    closed.ensures.quiet (zero_done closed.result.end closed.result.stale c.close.result.status c.close.ensures.status zero)
+    closed.ensures.quiet (λ is. not (port_seven closed.result.end closed.result.stale c.close.result.status c.close.ensures.status is))

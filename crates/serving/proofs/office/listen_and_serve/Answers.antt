@@ -1,8 +1,9 @@
-use Rattle.std.proofs.Common.{inl, inr, refl, sym, subst, arith, List, Option}
+use Rattle.std.proofs.Common.{inl, inr, refl, sym, ap, subst, arith, List, Option, Err}
 use Rattle.desk_core.specs.Submitting.{Submits}
 use Rattle.serving.specs.Connections.{Connection}
 use Rattle.serving.specs.Serving.{Serves}
 use Rattle.serving.proofs.Divided.{none_serve}
+use Rattle.serving.proofs.Served.{is_memory}
 use Rattle.serving.proofs.office.listen_and_serve.Goals as goal
 
 pub returns-in-Err-clause-serves : goal.returns-in-Err-clause-serves
@@ -14,7 +15,7 @@ returns-in-Err-clause-serves g c =
     (none_serve (Submits d k) c.args.workers c.args.desk c.args.desk told refl)
 
 pub returns-in-Ok-clause-listens : goal.returns-in-Ok-clause-listens
-returns-in-Ok-clause-listens g c = inl (c.serve.ensures.listens c.args.address.now c.in-Ok.ensures.listens)
+returns-in-Ok-clause-listens g c = inl (λ none. c.serve.ensures.listens c.args.address.now (c.in-Ok.ensures.listens none))
 
 pub returns-in-Err-clause-listens : goal.returns-in-Err-clause-listens
 returns-in-Err-clause-listens g c = inr c.listen.ensures.given
@@ -27,3 +28,14 @@ returns-in-Err-clause-counts g c = record {
   within = omega arith;
   done = λ is. absurd (c.end_of.ensures.ended is);
 }
+
+pub returns-in-Ok-clause-quiet : goal.returns-in-Ok-clause-quiet
+returns-in-Ok-clause-quiet g c not =
+    let less = c.serve.ensures.quiet not in
+    let same = c.in-Ok.ensures.quiet in
+    omega (arith, less, same)
+
+pub returns-in-Err-clause-quiet : goal.returns-in-Err-clause-quiet
+returns-in-Err-clause-quiet g c not =
+    let same = c.in-Err.ensures.memory (ap Err (is_memory _ _ c.end_of.ensures.failed not)) in
+    omega (arith, same)
