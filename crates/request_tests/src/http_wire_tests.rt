@@ -1,6 +1,6 @@
 ghost use Rattle.std.specs.Prelude.{◌≤◌, length};
 
-use http_wire::{Buffer, FramingRefusal, Front, MemorySource, Message, MessageStop, Next, front_of, read_message};
+use http_wire::{Buffer, FramingRefusal, Front, MemorySource, Message, MessageStop, Next, Source, front_of, read_message};
 use httparse::spans::EMPTY_HEADER_SPAN;
 use std::alloc::Global;
 use std::test::Fail;

@@ -1,4 +1,4 @@
-use http_front::{Bad, MemoryReplies, MemorySource, ReaderSource, SessionEnd, Teller, WriterReplies, print_bad, print_fault, print_query, print_reply, session};
+use http_front::{Bad, MemoryReplies, MemorySource, ReaderSource, Replies, SessionEnd, Teller, WriterReplies, print_bad, print_fault, print_query, print_reply, session};
 use class_rules::Class;
 use desk_core::{Acked, Desk, DeskFault, ListClock};
 use disk_core::{Disk, FileNo, MemoryDisk};
