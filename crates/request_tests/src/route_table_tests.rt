@@ -11,7 +11,7 @@ const ROWS: [(&[Shape], u32); 5] = [
 ];
 
 // Paths, with the value and the parts that they have.
-const PATHS: [(&str, Option<(u32, &str, &str)>); 17] = [
+const PATHS: &[(&str, Option<(u32, &str, &str)>)] = &[
     ("", Some((1, "", ""))),
     ("/a", Some((2, "", ""))),
     ("/a/x", Some((3, "x", ""))),
@@ -35,12 +35,12 @@ const PATHS: [(&str, Option<(u32, &str, &str)>); 17] = [
 fn paths(rt: HostRuntime) -> Result<(), Fail> {
     let table = Table::new(rt.alloc(), &ROWS)?;
     for (path, has) in PATHS {
-        let found = table.find(path).map(|found| (
+        let found = table.find(*path).map(|found| (
             *found.value,
             found.parts.at(0),
             found.parts.at(1),
         ));
-        assert_eq!(rt; found, has, "{path}");
+        assert_eq!(rt; found, *has, "{path}");
     }
     Ok(())
 }
