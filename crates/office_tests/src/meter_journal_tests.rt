@@ -3,9 +3,11 @@ ghost use Rattle.entry_codec.specs.Spelling.{IsEntry};
 ghost use Rattle.office_types.specs.declared.command.Entry.{Entry};
 ghost use Rattle.meter_journal.specs.History.{IsAtRest};
 
-use meter_journal::{AppendFault, Journal, Made, OpenFault, Opening, create, frame, made, read_all};
 use disk_core::{Disk, FileNo, MemoryDisk};
 use entry_codec::encode;
+use meter_journal::{
+    AppendFault, Journal, Made, OpenFault, Opening, create, frame, made, read_all,
+};
 use moments::Moment;
 use office_base::BucketName;
 use office_types::{Command, Entry};
