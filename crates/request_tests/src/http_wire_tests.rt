@@ -55,20 +55,35 @@ fn heads_are_read_by_their_grammar(rt: HostRuntime) {
     }
 }
 
+// Whether one read into a room of so many bytes, at most eight, gives these, or fails where there are none.
+fn gives(source: &mut MemorySource, size: usize, wanted: Option<&[u8]>) -> bool {
+    let mut room = [0u8; 8];
+    let room = &mut room[..size.min(8)];
+    match source.read(room) {
+        Ok(count) => wanted.is_some() && room.get(..count) == wanted,
+        Err(_) => wanted.is_none(),
+    }
+}
+
+// The sizes of rooms, and what is read into them one after another, in pieces of 4 bytes where the second read fails.
+const PIECES: &[(usize, Option<&[u8]>)] = &[
+    (8, Some(b"abcd")),
+    (8, None),
+    (1, Some(b"e")),
+    (8, Some(b"f")),
+    (8, Some(b"")),
+];
+
 #[test]
 fn bytes_come_in_pieces_and_fail_where_chosen(rt: HostRuntime) -> Result<(), Fail> {
     let alloc = rt.alloc();
     let mut source = MemorySource::new(b"abcdef".to_vec(alloc)?, 4, [2].to_vec(alloc)?);
-    let mut room = [0u8; 8];
-    assert!(rt; source.read(&mut room) == Ok(4));
-    assert!(rt; room.starts_with(b"abcd"));
-    assert!(rt; source.read(&mut room).is_err());
-    assert!(rt; source.read(&mut room[..1]) == Ok(1));
-    assert!(rt; room.starts_with(b"e"));
-    assert!(rt; source.read(&mut room) == Ok(1));
-    assert!(rt; source.read(&mut room) == Ok(0));
+    for (size, wanted) in PIECES {
+        assert!(rt; gives(&mut source, *size, *wanted), "{wanted:?}");
+    }
+    // A piece has one byte at least.
     let mut slow = MemorySource::new(b"ab".to_vec(alloc)?, 0, Vec::new(alloc));
-    assert!(rt; slow.read(&mut room) == Ok(1));
+    assert!(rt; gives(&mut slow, 8, Some(b"a")));
     Ok(())
 }
 
@@ -329,17 +344,22 @@ const LONG: &[(&[u8], usize)] = &[
     ),
 ];
 
+// A body of so many bytes.
+fn body_of(alloc: Global, length: usize) -> Result<Vec<u8>, Fail> {
+    let mut body = Vec::new(alloc);
+    for n in 0..length {
+        body.push((n % 251) as u8)?;
+    }
+    Ok(body)
+}
+
 #[test]
 fn long_bodies_leave_what_follows(rt: HostRuntime) -> Result<(), Fail> {
     let alloc = rt.alloc();
     for (head, length) in LONG {
-        let mut body = Vec::new(alloc);
-        for n in 0..*length {
-            body.push((n % 251) as u8)?;
-        }
-        let mut stream = head.to_vec(alloc)?;
-        stream.extend_from_slice(&body)?;
-        stream.extend_from_slice(b"PUT /b HTTP/1.1\r\nContent-Length: 2\r\n\r\nde")?;
+        let body = body_of(alloc, *length)?;
+        let next: &[u8] = b"PUT /b HTTP/1.1\r\nContent-Length: 2\r\n\r\nde";
+        let stream = [*head, &body, next].concat(alloc)?;
         let wanted = [
             Seen::Message {
                 body: &body,
