@@ -353,13 +353,20 @@ fn body_of(alloc: Global, length: usize) -> Result<Vec<u8>, Fail> {
     Ok(body)
 }
 
+// A message with this head and body, and another behind it.
+fn stream_of(alloc: Global, head: &[u8], body: &[u8]) -> Result<Vec<u8>, Fail> {
+    let mut stream = head.to_vec(alloc)?;
+    stream.extend_from_slice(body)?;
+    stream.extend_from_slice(b"PUT /b HTTP/1.1\r\nContent-Length: 2\r\n\r\nde")?;
+    Ok(stream)
+}
+
 #[test]
 fn long_bodies_leave_what_follows(rt: HostRuntime) -> Result<(), Fail> {
     let alloc = rt.alloc();
     for (head, length) in LONG {
         let body = body_of(alloc, *length)?;
-        let next: &[u8] = b"PUT /b HTTP/1.1\r\nContent-Length: 2\r\n\r\nde";
-        let stream = [*head, &body, next].concat(alloc)?;
+        let stream = stream_of(alloc, *head, &body)?;
         let wanted = [
             Seen::Message {
                 body: &body,
