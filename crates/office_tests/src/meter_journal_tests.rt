@@ -170,7 +170,7 @@ fn an_entry_is_added_within_the_limit_and_the_file_grows_by_blocks(
 ) -> Result<(), Fail> {
     let alloc = rt.alloc();
     for (block, limit, answer, file) in ADDED {
-        let (found, kept) = added(alloc, block.min(4_096), limit.min(1 << 45))?;
+        let (found, kept) = added(alloc, (*block).min(4_096), (*limit).min(1 << 45))?;
         assert_eq!(rt; found, *answer, "block {block}, limit {limit}");
         assert!(rt; kept.as_slice() == *file, "block {block}, limit {limit}");
     }
