@@ -168,7 +168,7 @@ fn meant_by_query(query: &Query) -> Meaning<'_> {
                 [Word::Bucket(bucket), Word::Month(*month), NO, NO, NO],
             )
         }
-        Query::Tariff => ("Tariff", [NO; 5]),
+        Query::Tariff => ("Tariff", [NO, NO, NO, NO, NO]),
         Query::Report(month) => ("Report", [Word::Month(*month), NO, NO, NO, NO]),
     }
 }
@@ -176,21 +176,21 @@ fn meant_by_query(query: &Query) -> Meaning<'_> {
 fn meant_by_body(fault: &BodyFault) -> Meaning<'_> {
     match fault {
         BodyFault::BadBody { field } => ("BadBody", [Word::Text(field), NO, NO, NO, NO]),
-        BodyFault::BadSize => ("BadSize", [NO; 5]),
+        BodyFault::BadSize => ("BadSize", [NO, NO, NO, NO, NO]),
         BodyFault::UnsupportedClass { name } => (
             "UnsupportedClass",
             [Word::Text(name), NO, NO, NO, NO],
         ),
-        BodyFault::BadTags => ("BadTags", [NO; 5]),
-        BodyFault::NoMemory => ("NoMemory", [NO; 5]),
+        BodyFault::BadTags => ("BadTags", [NO, NO, NO, NO, NO]),
+        BodyFault::NoMemory => ("NoMemory", [NO, NO, NO, NO, NO]),
     }
 }
 
 fn meant_by_rules(fault: &RulesFault) -> Meaning<'_> {
     match fault {
-        RulesFault::NotADate => ("NotADate", [NO; 5]),
-        RulesFault::NotMidnight => ("NotMidnight", [NO; 5]),
-        RulesFault::NotJson => ("NotJson", [NO; 5]),
+        RulesFault::NotADate => ("NotADate", [NO, NO, NO, NO, NO]),
+        RulesFault::NotMidnight => ("NotMidnight", [NO, NO, NO, NO, NO]),
+        RulesFault::NotJson => ("NotJson", [NO, NO, NO, NO, NO]),
         RulesFault::UnknownField { name } => (
             "UnknownField",
             [Word::Text(name.as_str()), NO, NO, NO, NO],
@@ -217,13 +217,13 @@ fn meant_by_rules(fault: &RulesFault) -> Meaning<'_> {
                 ],
             )
         }
-        RulesFault::NoMemory => ("NoMemory", [NO; 5]),
+        RulesFault::NoMemory => ("NoMemory", [NO, NO, NO, NO, NO]),
     }
 }
 
 fn meant_by_tariff(fault: &TariffFault) -> Meaning<'_> {
     match fault {
-        TariffFault::NotToml => ("NotToml", [NO; 5]),
+        TariffFault::NotToml => ("NotToml", [NO, NO, NO, NO, NO]),
         TariffFault::MissingClass { table, class } => (
             "MissingClass",
             [
@@ -245,52 +245,60 @@ fn meant_by_tariff(fault: &TariffFault) -> Meaning<'_> {
             ],
         ),
         TariffFault::UnknownField { name } => ("TariffField", [Word::Text(name), NO, NO, NO, NO]),
-        TariffFault::NoMemory => ("NoMemory", [NO; 5]),
+        TariffFault::NoMemory => ("NoMemory", [NO, NO, NO, NO, NO]),
     }
 }
 
 // The name of a refusal, and what it holds.
 fn meant_by_bad(bad: &Bad) -> Meaning<'_> {
     match bad {
-        Bad::NotAMonth => ("NotAMonth", [NO; 5]),
-        Bad::BadBucketName => ("BadBucketName", [NO; 5]),
-        Bad::BadKey => ("BadKey", [NO; 5]),
-        Bad::NoSuchVersion => ("NoSuchVersion", [NO; 5]),
-        Bad::NoSuchUpload => ("NoSuchUpload", [NO; 5]),
-        Bad::BadPart => ("BadPart", [NO; 5]),
+        Bad::NotAMonth => ("NotAMonth", [NO, NO, NO, NO, NO]),
+        Bad::BadBucketName => ("BadBucketName", [NO, NO, NO, NO, NO]),
+        Bad::BadKey => ("BadKey", [NO, NO, NO, NO, NO]),
+        Bad::NoSuchVersion => ("NoSuchVersion", [NO, NO, NO, NO, NO]),
+        Bad::NoSuchUpload => ("NoSuchUpload", [NO, NO, NO, NO, NO]),
+        Bad::BadPart => ("BadPart", [NO, NO, NO, NO, NO]),
         Bad::Body(fault) => meant_by_body(fault),
         Bad::Rules(fault) => meant_by_rules(fault),
         Bad::Tariff(fault) => meant_by_tariff(fault),
-        Bad::NotBuilt => ("NotBuilt", [NO; 5]),
+        Bad::NotBuilt => ("NotBuilt", [NO, NO, NO, NO, NO]),
+    }
+}
+
+fn key_text(key: &Key) -> &str {
+    match str::from_utf8(key.bytes()) {
+        Ok(text) => text,
+        Err(_) => "no text",
     }
 }
 
 // The text of a word that is one.
-fn text_of<'a>(word: &Word<'a>) -> Option<&'a str> {
+fn text_of<'a>(word: Word<'a>) -> Option<&'a str> {
     match word {
-        Word::Text(text) => Some(*text),
+        Word::Text(text) => Some(text),
         Word::Bucket(bucket) => Some(bucket.text()),
-        Word::Key(key) => Some(str::from_utf8(key.bytes()).unwrap_or("no text")),
+        Word::Key(key) => Some(key_text(key)),
         Word::Class(class) => Some(class.name()),
         Word::Table(table) => Some(table.name()),
-        Word::Flag(flag) => Some(if *flag { "true" } else { "false" }),
+        Word::Flag(true) => Some("true"),
+        Word::Flag(false) => Some("false"),
         Word::Id(VersionId::Null) => Some("null"),
         _ => None,
     }
 }
 
 // The number of a word that is one.
-fn number_of(word: &Word<'_>) -> Option<u64> {
+fn number_of(word: Word<'_>) -> Option<u64> {
     match word {
         Word::Id(VersionId::Number(number)) => Some(number.get()),
-        Word::Number(number) => Some(*number),
+        Word::Number(number) => Some(number),
         Word::Size(size) => Some(size.bytes()),
         Word::Rules(rules) => Some(rules.rules().len() as u64),
         _ => None,
     }
 }
 
-fn put_word(text: &mut String, word: &Word<'_>) -> Result<(), Fail> {
+fn put_word(text: &mut String, word: Word<'_>) -> Result<(), Fail> {
     if let Some(word) = text_of(word) {
         write!(text, " {word}")?;
     }
@@ -320,7 +328,7 @@ fn put(text: &mut String, meaning: &Meaning<'_>) -> Result<(), Fail> {
     let (name, words) = meaning;
     text.push_str(*name)?;
     for word in words {
-        put_word(text, word)?;
+        put_word(text, *word)?;
     }
     Ok(())
 }
@@ -347,9 +355,9 @@ fn hear(
             },
         ) => (meant_by_query(query), after(*last), *last),
         Ok(Heard::Bad { bad, last }) => (meant_by_bad(bad), after(*last), *last),
-        Ok(Heard::End) => (("End", [NO; 5]), "", true),
-        Err(MessageStop::ReadFault) => (("ReadFault", [NO; 5]), "", true),
-        Err(_) => (("Stop", [NO; 5]), "", true),
+        Ok(Heard::End) => (("End", [NO, NO, NO, NO, NO]), "", true),
+        Err(MessageStop::ReadFault) => (("ReadFault", [NO, NO, NO, NO, NO]), "", true),
+        Err(_) => (("Stop", [NO, NO, NO, NO, NO]), "", true),
     };
     put(text, &meaning)?;
     text.push_str(ending)?;
