@@ -273,9 +273,9 @@ fn key_text(key: &Key) -> &str {
 }
 
 // The text of a word that is one.
-fn text_of<'a>(word: Word<'a>) -> Option<&'a str> {
+fn text_of<'a>(word: &Word<'a>) -> Option<&'a str> {
     match word {
-        Word::Text(text) => Some(text),
+        Word::Text(text) => Some(*text),
         Word::Bucket(bucket) => Some(bucket.text()),
         Word::Key(key) => Some(key_text(key)),
         Word::Class(class) => Some(class.name()),
@@ -288,17 +288,17 @@ fn text_of<'a>(word: Word<'a>) -> Option<&'a str> {
 }
 
 // The number of a word that is one.
-fn number_of(word: Word<'_>) -> Option<u64> {
+fn number_of(word: &Word<'_>) -> Option<u64> {
     match word {
         Word::Id(VersionId::Number(number)) => Some(number.get()),
-        Word::Number(number) => Some(number),
+        Word::Number(number) => Some(*number),
         Word::Size(size) => Some(size.bytes()),
         Word::Rules(rules) => Some(rules.rules().len() as u64),
         _ => None,
     }
 }
 
-fn put_word(text: &mut String, word: Word<'_>) -> Result<(), Fail> {
+fn put_word(text: &mut String, word: &Word<'_>) -> Result<(), Fail> {
     if let Some(word) = text_of(word) {
         write!(text, " {word}")?;
     }
@@ -328,7 +328,7 @@ fn put(text: &mut String, meaning: &Meaning<'_>) -> Result<(), Fail> {
     let (name, words) = meaning;
     text.push_str(*name)?;
     for word in words {
-        put_word(text, *word)?;
+        put_word(text, word)?;
     }
     Ok(())
 }
