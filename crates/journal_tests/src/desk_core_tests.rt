@@ -1,5 +1,5 @@
-use desk_core::{Clock, Desk, DeskFault, ListClock, SystemClock};
 use class_rules::Class;
+use desk_core::{Clock, Desk, DeskFault, ListClock, SystemClock};
 use disk_core::{Disk, FileNo, MemoryDisk};
 use meter_journal::{OpenFault, read_all};
 use moments::Month;
@@ -19,29 +19,29 @@ const END: u64 = 4_102_444_800_000;
 
 const DAY: u64 = 86_400_000;
 
-const EMPTY: [u8; 11] = [
+const EMPTY: &[u8] = &[
     0xA5, 0x4D, 0x45, 0x54, 0x45, 0x52, 0x4A, 0x52, 0x4E, 0x31, 0,
 ];
 
 // The bucket logs, made at J0.
-const LOGS: [u8; 31] = [
+const LOGS: &[u8] = &[
     0xA5, 0x4D, 0x45, 0x54, 0x45, 0x52, 0x4A, 0x52, 0x4E, 0x31, 0xA5, 0, 0, 0, 15, 0, 0, 0x01,
     0x8C, 0xC2, 0x51, 0xF4, 0x00, 0x01, 0, 4, 0x6C, 0x6F, 0x67, 0x73, 0,
 ];
 
 // The bucket logs, made one millisecond before 2100-01-01 00:00 UTC.
-const LATE: [u8; 31] = [
+const LATE: &[u8] = &[
     0xA5, 0x4D, 0x45, 0x54, 0x45, 0x52, 0x4A, 0x52, 0x4E, 0x31, 0xA5, 0, 0, 0, 15, 0, 0, 0x03,
     0xBB, 0x2C, 0xC3, 0xD7, 0xFF, 0x01, 0, 4, 0x6C, 0x6F, 0x67, 0x73, 0,
 ];
 
 // The frame of the bucket data, made at J0, behind its gate, with the next gate.
-const DATA_FRAME: [u8; 20] = [
+const DATA_FRAME: &[u8] = &[
     0, 0, 0, 15, 0, 0, 0x01, 0x8C, 0xC2, 0x51, 0xF4, 0x00, 0x01, 0, 4, 0x64, 0x61, 0x74, 0x61, 0,
 ];
 
 // The same, made one millisecond before J0.
-const BEFORE_FRAME: [u8; 20] = [
+const BEFORE_FRAME: &[u8] = &[
     0, 0, 0, 15, 0, 0, 0x01, 0x8C, 0xC2, 0x51, 0xF3, 0xFF, 0x01, 0, 4, 0x64, 0x61, 0x74, 0x61, 0,
 ];
 
@@ -51,6 +51,16 @@ fn disk_with(alloc: Global, bytes: &[u8], failing: &[u64]) -> Result<MemoryDisk,
     disk.write_at(FileNo::Journal, 0, bytes)?;
     Ok(disk)
 }
+
+// The first of these without its last byte.
+const CUT_FRAME: &[u8] = &[
+    0, 0, 0, 15, 0, 0, 0x01, 0x8C, 0xC2, 0x51, 0xF4, 0x00, 0x01, 0, 4, 0x64, 0x61, 0x74, 0x61,
+];
+
+// The frame of the bucket logs, made at J0, behind its gate, with the next gate.
+const LOGS_FRAME: &[u8] = &[
+    0, 0, 0, 15, 0, 0, 0x01, 0x8C, 0xC2, 0x51, 0xF4, 0x00, 0x01, 0, 4, 0x6C, 0x6F, 0x67, 0x73, 0,
+];
 
 // The bytes of the bucket logs, with a further frame behind them.
 fn logs_and(alloc: Global, frame: &[u8]) -> Result<Vec<u8>, Fail> {
@@ -71,27 +81,29 @@ enum Wish {
     January(&'static str),
 }
 
+fn put(alloc: Global, bucket: BucketName, size: u64) -> Result<Ask, Fail> {
+    let size = Size::of(size)?;
+    let tags = Tags::read(alloc, Vec::new(alloc))?;
+    let key = Key::read(alloc, b"a")?;
+    Ok(Ask::Command(Command::Put {
+        bucket,
+        key,
+        size,
+        class: Class::Standard,
+        tags,
+    }))
+}
+
 fn asked(alloc: Global, wish: Wish) -> Result<Ask, Fail> {
     let (Wish::Make(name) | Wish::Show(name) | Wish::Put(name, _) | Wish::January(name)) = wish;
+    let month = Month::of(2024, 1).ok_or("no month")?;
     let bucket = BucketName::read(alloc, name)?;
-    let ask = match wish {
-        Wish::Make(_) => Ask::Command(Command::CreateBucket { bucket }),
-        Wish::Show(_) => Ask::Query(Query::Bucket(bucket)),
-        Wish::Put(_, size) => Ask::Command(Command::Put {
-            bucket,
-            key: Key::read(alloc, b"a")?,
-            size: Size::of(size)?,
-            class: Class::Standard,
-            tags: Tags::read(alloc, Vec::new(alloc))?,
-        }),
-        Wish::January(_) => {
-            let Some(month) = Month::of(2024, 1) else {
-                return Err(Fail::new("no month"));
-            };
-            Ask::Query(Query::Meters(bucket, month))
-        }
-    };
-    Ok(ask)
+    match wish {
+        Wish::Make(_) => Ok(Ask::Command(Command::CreateBucket { bucket })),
+        Wish::Show(_) => Ok(Ask::Query(Query::Bucket(bucket))),
+        Wish::Put(_, size) => put(alloc, bucket, size),
+        Wish::January(_) => Ok(Ask::Query(Query::Meters(bucket, month))),
+    }
 }
 
 // What was answered, without the names.
@@ -170,6 +182,19 @@ fn take_turns(
     }
 }
 
+// The same, and the bytes of the journal file then.
+fn kept_after(
+    rt: &impl Abort,
+    alloc: Global,
+    disk: MemoryDisk,
+    numbers: &[u64],
+    limit: u64,
+    turns: &[Turn],
+) -> Result<(Option<OpenFault>, Vec<u8>), Fail> {
+    let (fault, mut disk) = take_turns(rt, alloc, disk, numbers, limit, turns)?;
+    Ok((fault, read_all(alloc, &mut disk)?))
+}
+
 const MAKE: Wish = Wish::Make("logs");
 
 const SHOW: Wish = Wish::Show("logs");
@@ -187,71 +212,85 @@ const LOST: Said = Err(DeskFault::StoreFault {
     faults: 1,
 });
 
+const ENDED_AT_ONCE: Said = Ok((ENDED, 10));
+
+const PAST: Said = Ok((Heard::Ended(u64::MAX), 10));
+
+const FULL: Said = Err(DeskFault::JournalFull);
+
+// The clock's number, the limit, what is told twice, and the bytes of the file then.
+const MAKINGS: &[(u64, u64, Said, Said, &[u8])] = &[
+    (J0, 30, FULL, FULL, EMPTY),
+    (J0, 31, MADE, FULL, LOGS),
+    (J0, 50, MADE, FULL, LOGS),
+    (J0, 51, MADE, THERE, LOGS),
+    (END - 1, 51, MADE, THERE, LATE),
+    // At the end of time nothing is done, and the limit is not looked at.
+    (END, 30, ENDED_AT_ONCE, ENDED_AT_ONCE, EMPTY),
+    (u64::MAX, 51, PAST, PAST, EMPTY),
+];
+
 #[test]
 fn a_bucket_is_made_once_and_within_the_limit(rt: HostRuntime) -> Result<(), Fail> {
-    let alloc = rt.alloc();
-    let full: Said = Err(DeskFault::JournalFull);
-    let ended: Said = Ok((ENDED, 10));
-    let past: Said = Ok((Heard::Ended(u64::MAX), 10));
-    // The clock's number, the limit, what is told twice, and the bytes of the file then.
-    for (number, limit, first, second, file) in [
-        (J0, 30, full, full, &EMPTY[..]),
-        (J0, 31, MADE, full, &LOGS[..]),
-        (J0, 50, MADE, full, &LOGS[..]),
-        (J0, 51, MADE, THERE, &LOGS[..]),
-        (END - 1, 51, MADE, THERE, &LATE[..]),
-        // At the end of time nothing is done, and the limit is not looked at.
-        (END, 30, ended, ended, &EMPTY[..]),
-        (u64::MAX, 51, past, past, &EMPTY[..]),
-    ] {
-        let disk = disk_with(alloc, &EMPTY, &[])?;
-        let turns = [(MAKE, first, false), (MAKE, second, false)];
-        let (fault, mut disk) = take_turns(&rt, alloc, disk, &[number], limit, &turns)?;
+    for (number, limit, first, second, file) in MAKINGS {
+        let turns = [(MAKE, *first, false), (MAKE, *second, false)];
+        let disk = disk_with(rt.alloc(), EMPTY, &[])?;
+        let (fault, kept) = kept_after(&rt, rt.alloc(), disk, &[*number], *limit, &turns)?;
         assert_eq!(rt; fault, None, "limit {limit}");
-        assert!(rt;
-            read_all(alloc, &mut disk)?.as_slice() == file,
-            "limit {limit}"
-        );
+        assert!(rt; kept.as_slice() == *file, "limit {limit}");
     }
     Ok(())
+}
+
+const DAMAGED: Option<OpenFault> = Some(OpenFault::Damaged { offset: 30 });
+
+// What a journal file holds: other bytes than an entry, or the bucket logs and a further frame.
+#[derive(Clone, Copy, Debug)]
+enum Holding {
+    Bytes(&'static [u8]),
+    LogsAnd(&'static [u8]),
+}
+
+// The fault where the journal is not opened, and what making the bucket data answers.
+const OPENINGS: &[(Holding, Option<OpenFault>, Heard)] = &[
+    (Holding::Bytes(&[]), Some(OpenFault::NotMade), Heard::There),
+    (
+        Holding::Bytes(b"METERJRN1 is its mark"),
+        Some(OpenFault::Foreign),
+        Heard::There,
+    ),
+    (Holding::LogsAnd(LOGS_FRAME), DAMAGED, Heard::There),
+    (Holding::LogsAnd(BEFORE_FRAME), DAMAGED, Heard::There),
+    (Holding::LogsAnd(CUT_FRAME), DAMAGED, Heard::There),
+    (Holding::LogsAnd(DATA_FRAME), None, Heard::There),
+    (Holding::Bytes(LOGS), None, Heard::Made),
+];
+
+// The bytes of a file.
+fn bytes_of(alloc: Global, holding: &Holding) -> Result<Vec<u8>, Fail> {
+    match holding {
+        Holding::Bytes(bytes) => Ok(bytes.to_vec(alloc)?),
+        Holding::LogsAnd(frame) => logs_and(alloc, *frame),
+    }
 }
 
 #[test]
 fn a_journal_is_opened_where_the_office_accepts_it(rt: HostRuntime) -> Result<(), Fail> {
     let alloc = rt.alloc();
-    let twice = logs_and(alloc, &LOGS[11..])?;
-    let back = logs_and(alloc, &BEFORE_FRAME)?;
-    let cut = logs_and(alloc, &DATA_FRAME[..19])?;
-    let both = logs_and(alloc, &DATA_FRAME)?;
-    let damaged = Some(OpenFault::Damaged { offset: 30 });
-    let there = Heard::There;
-    for (file, fault, data) in [
-        (&[][..], Some(OpenFault::NotMade), there),
-        (b"METERJRN1 is its mark", Some(OpenFault::Foreign), there),
-        (twice.as_slice(), damaged, there),
-        (back.as_slice(), damaged, there),
-        (cut.as_slice(), damaged, there),
-        (both.as_slice(), None, there),
-        (&LOGS[..], None, Heard::Made),
-    ] {
-        let disk = disk_with(alloc, file, &[])?;
+    let both = logs_and(alloc, DATA_FRAME)?;
+    for (holding, fault, data) in OPENINGS {
+        let file = bytes_of(alloc, holding)?;
         let end = (file.len() as u64).saturating_sub(1);
         // The clock tells 0, and the entry has the moment of the one before.
         let turns = [
-            (MAKE, Ok((there, end)), false),
-            (Wish::Make("data"), Ok((data, 50)), false),
+            (MAKE, Ok((Heard::There, end)), false),
+            (Wish::Make("data"), Ok((*data, 50)), false),
         ];
-        let (found, mut disk) = take_turns(&rt, alloc, disk, &[], 1 << 45, &turns)?;
-        assert_eq!(rt; found, fault, "a file that ends at {end}");
-        let left = if fault.is_none() {
-            both.as_slice()
-        } else {
-            file
-        };
-        assert!(rt;
-            read_all(alloc, &mut disk)?.as_slice() == left,
-            "a file that ends at {end}"
-        );
+        let disk = disk_with(alloc, &file, &[])?;
+        let (found, kept) = kept_after(&rt, alloc, disk, &[], 1 << 45, &turns)?;
+        assert_eq!(rt; found, *fault, "{holding:?}");
+        let left = if fault.is_none() { &both } else { &file };
+        assert!(rt; kept.as_slice() == left.as_slice(), "{holding:?}");
     }
     Ok(())
 }
@@ -262,20 +301,18 @@ fn a_fault_of_the_store_is_told(rt: HostRuntime) -> Result<(), Fail> {
     // Calls 2 to 5 open the journal: a sync, the length, the head, the first gate. Calls 6 to 11 add the entry: three
     // writes, a sync, the gate, a sync.
     for call in 2..12 {
-        let disk = disk_with(alloc, &EMPTY, &[call])?;
-        let turns = [(MAKE, LOST, true)];
-        let (fault, mut disk) = take_turns(&rt, alloc, disk, &[J0], 100, &turns)?;
+        let disk = disk_with(alloc, EMPTY, &[call])?;
+        let (fault, mut disk) = take_turns(&rt, alloc, disk, &[J0], 100, &[(MAKE, LOST, true)])?;
         let want = if call < 6 {
             Some(OpenFault::StoreFault)
         } else {
             None
         };
-        assert_eq!(rt; fault, want, "call {call}");
-        assert_eq!(rt; disk.faults(), 1, "call {call}");
+        assert_eq!(rt; (fault, disk.faults()), (want, 1), "call {call}");
         // Opened again, the office has the bucket exactly where the gate of its entry is open.
         let is_open = read_all(alloc, &mut disk)?.get(10) == Some(&0xA5);
-        let turns = [(MAKE, if is_open { THERE } else { MADE }, false)];
-        let (fault, _) = take_turns(&rt, alloc, disk, &[J0], 100, &turns)?;
+        let said = if is_open { THERE } else { MADE };
+        let (fault, _) = take_turns(&rt, alloc, disk, &[J0], 100, &[(MAKE, said, false)])?;
         assert_eq!(rt; fault, None, "call {call}");
     }
     Ok(())
@@ -304,7 +341,7 @@ const EMPTY_SHOWN: Turn = (SHOW, Ok((Heard::Shown(0), 30)), false);
 const PUT: Wish = Wish::Put("logs", 1_000);
 
 // Call 9 syncs the frame of the first command, call 11 its gate, and call 12 the journal that is opened again.
-const STALE: [Row; 4] = [
+const STALE: &[Row] = &[
     (&[9], &[J0], &[ADDING, NEW, OLD]),
     (&[11], &[J0], &[ADDING, OLD, OLD]),
     (&[9, 12], &[J0], &[ADDING, OPENING, NEW]),
@@ -312,7 +349,7 @@ const STALE: [Row; 4] = [
 ];
 
 // An entry of a put ends 33 bytes behind the one before it.
-const CLOCKS: [Row; 3] = [
+const CLOCKS: &[Row] = &[
     (
         &[],
         &[J0, J0, END, J0],
@@ -341,7 +378,7 @@ const CLOCKS: [Row; 3] = [
 ];
 
 // Call 12 would be the first one behind the entry of the bucket, and it fails.
-const QUERIES: [Row; 1] = [(
+const QUERIES: &[Row] = &[(
     &[12],
     &[J0],
     &[
@@ -354,32 +391,25 @@ const QUERIES: [Row; 1] = [(
 
 fn assert_rows(rt: &impl Abort, alloc: Global, rows: &[Row]) -> Result<(), Fail> {
     for (failing, numbers, turns) in rows {
-        let disk = disk_with(alloc, &EMPTY, *failing)?;
+        let disk = disk_with(alloc, EMPTY, *failing)?;
         let (fault, _) = take_turns(rt, alloc, disk, *numbers, 1 << 20, *turns)?;
-        assert_eq!(rt; fault, None);
+        assert_eq!(rt; fault, None, "{failing:?}, {numbers:?}");
     }
     Ok(())
 }
 
 #[test]
-fn a_stale_desk_opens_its_journal_again(rt: HostRuntime) -> Result<(), Fail> {
-    assert_rows(&rt, rt.alloc(), &STALE)
-}
-
-#[test]
-fn the_clock_ends_and_does_not_go_back(rt: HostRuntime) -> Result<(), Fail> {
-    assert_rows(&rt, rt.alloc(), &CLOCKS)
-}
-
-#[test]
-fn a_query_makes_no_call_of_the_disk(rt: HostRuntime) -> Result<(), Fail> {
-    assert_rows(&rt, rt.alloc(), &QUERIES)
+fn stale_desks_clocks_and_queries(rt: HostRuntime) -> Result<(), Fail> {
+    for rows in &[STALE, CLOCKS, QUERIES] {
+        assert_rows(&rt, rt.alloc(), *rows)?;
+    }
+    Ok(())
 }
 
 #[test]
 fn meters_are_the_same_after_an_opening(rt: HostRuntime) -> Result<(), Fail> {
     let alloc = rt.alloc();
-    let disk = disk_with(alloc, &EMPTY, &[])?;
+    let disk = disk_with(alloc, EMPTY, &[])?;
     // 1,000 bytes for a day, and 2,000 bytes for another.
     let used = (
         Wish::January("logs"),
@@ -427,17 +457,20 @@ fn tell<C: Clock>(clock: &mut C) -> u64 {
     clock.now()
 }
 
+// The numbers of a list, and what its clock tells.
+const LISTS: &[(&[u64], [u64; 5])] = &[
+    (&[5, 3, 9], [5, 3, 9, 9, 9]),
+    (&[7], [7; 5]),
+    (&[], [0; 5]),
+];
+
 #[test]
 fn clocks_tell_milliseconds(rt: HostRuntime) -> Result<(), Fail> {
     let alloc = rt.alloc();
-    for (moments, told) in [
-        (&[5, 3, 9][..], [5, 3, 9, 9, 9]),
-        (&[7][..], [7, 7, 7, 7, 7]),
-        (&[][..], [0, 0, 0, 0, 0]),
-    ] {
+    for (moments, told) in LISTS {
         let mut clock = ListClock::new(moments.to_vec(alloc)?);
         for number in told {
-            assert_eq!(rt; tell(&mut clock), number);
+            assert_eq!(rt; tell(&mut clock), *number, "{moments:?}");
         }
     }
     // 2024-01-01 00:00 UTC and 5,999,999 nanoseconds.

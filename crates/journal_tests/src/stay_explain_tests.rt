@@ -1,6 +1,5 @@
 ghost use Rattle.std.specs.Prelude.{◌≤◌};
 
-use stay_explain::explain;
 use class_rules::Class;
 use entry_codec::encode;
 use meter_journal::OpenFault;
@@ -9,6 +8,7 @@ use office_base::{BucketName, Key, Nth, Size, Tags, VersionId};
 use office_types::{Command, Entry};
 use rules_core::RuleSet;
 use rules_json::read_rules;
+use stay_explain::explain;
 use std::alloc::Global;
 use std::process::Abort;
 use std::test::Fail;
@@ -179,21 +179,6 @@ fn journal(alloc: Global, wishes: &[(u64, Wish<'_>)]) -> Result<Vec<u8>, Fail> {
     Ok(bytes)
 }
 
-// So many workers print this table of a journal.
-fn print(
-    rt: &(impl Abort + Threads + Sync),
-    alloc: Global,
-    bytes: &[u8],
-    workers: u32,
-    wanted: &str,
-) -> Result<(), Fail>
-    requires { (1 ≤ workers) × (workers ≤ 64) }
-{
-    let found = explain(rt, alloc, bytes, workers)?;
-    assert_eq!(rt; found.as_slice(), wanted.as_bytes());
-    Ok(())
-}
-
 // The table of the journal of these commands is the header and this text, for any number of workers.
 fn is_table(
     rt: &(impl Abort + Threads + Sync),
@@ -203,30 +188,41 @@ fn is_table(
 ) -> Result<(), Fail> {
     let bytes = journal(alloc, wishes)?;
     let wanted = format!(in alloc; "{HEADER}{text}")?;
-    print(rt, alloc, &bytes, 1, &wanted)?;
-    print(rt, alloc, &bytes, 2, &wanted)?;
-    print(rt, alloc, &bytes, 4, &wanted)?;
-    print(rt, alloc, &bytes, 64, &wanted)?;
+    for workers in &[1u32, 2, 4, 64] {
+        let found = explained(rt, alloc, &bytes, *workers)?;
+        assert_eq!(rt;
+            found.as_slice(),
+            wanted.as_bytes(),
+            "{wishes:?} by {workers} workers"
+        );
+    }
     Ok(())
 }
 
-#[test]
-fn tables(rt: HostRuntime) -> Result<(), Fail> {
-    let alloc = rt.alloc();
-    is_table(&rt, alloc, &[], "")?;
-    is_table(
-        &rt,
-        alloc,
+// The table of a journal by so many workers, from 1 to 64.
+fn explained(
+    rt: &(impl Threads + Sync),
+    alloc: Global,
+    bytes: &[u8],
+    workers: u32,
+) -> Result<Vec<u8>, OpenFault> {
+    explain(rt, alloc, bytes, workers.clamp(1, 64))
+}
+
+// Commands, each so many milliseconds after the new year, and the lines of the table.
+type Row = (&'static [(u64, Wish<'static>)], &'static str);
+
+const TABLES: &[Row] = &[
+    (&[], ""),
+    (
         &[
             (0, Wish::Make("logs")),
             (0, Wish::Put("a", 1, Class::Standard)),
         ],
         "logs,a,v:null,STANDARD,1,2024-01-01T00:00:00.000Z,open\n",
-    )?;
+    ),
     // A null version is replaced at the moment at which it came.
-    is_table(
-        &rt,
-        alloc,
+    (
         &[
             (0, Wish::Make("logs")),
             (5, Wish::Put("a,b", 1, Class::Glacier)),
@@ -236,11 +232,9 @@ fn tables(rt: HostRuntime) -> Result<(), Fail> {
          logs,\"a,b\",v:null,STANDARD,8192,2024-01-01T00:00:00.005Z,2024-01-01T00:00:00.005Z\n\
          logs,\"a,b\",v:null,GLACIER,32769,2024-01-01T00:00:00.005Z,open\n\
          logs,\"a,b\",v:null,STANDARD,8192,2024-01-01T00:00:00.005Z,open\n",
-    )?;
+    ),
     // Versions and markers; buckets in the order of their names.
-    is_table(
-        &rt,
-        alloc,
+    (
         &[
             (0, Wish::Make("logs")),
             (0, Wish::Make("barn")),
@@ -258,16 +252,9 @@ fn tables(rt: HostRuntime) -> Result<(), Fail> {
          logs,a,v:1,STANDARD,8,2024-01-01T00:00:00.002Z,2024-01-01T00:00:00.004Z\n\
          logs,a,v:2,STANDARD,1,2024-01-01T00:00:00.003Z,open\n\
          logs,a,v:null,STANDARD,1,2024-01-01T00:00:00.006Z,open\n",
-    )?;
-    Ok(())
-}
-
-// Six buckets, of which one has half of the stays and one has none.
-#[test]
-fn many_buckets(rt: HostRuntime) -> Result<(), Fail> {
-    is_table(
-        &rt,
-        rt.alloc(),
+    ),
+    // Six buckets, of which one has half of the stays and one has none.
+    (
         &[
             (0, Wish::Make("pond")),
             (0, Wish::Make("barn")),
@@ -292,16 +279,9 @@ fn many_buckets(rt: HostRuntime) -> Result<(), Fail> {
          lake,k,v:null,STANDARD,1,2024-01-01T00:00:00.006Z,open\n\
          pond,k,v:null,STANDARD,1,2024-01-01T00:00:00.001Z,open\n\
          yard,k,v:null,STANDARD,1,2024-01-01T00:00:00.000Z,open\n",
-    )
-}
-
-#[test]
-fn parts_and_actions(rt: HostRuntime) -> Result<(), Fail> {
-    let alloc = rt.alloc();
+    ),
     // A part is put twice, and the upload is completed; another one is aborted, and a third one by a rule.
-    is_table(
-        &rt,
-        alloc,
+    (
         &[
             (0, Wish::Make("logs")),
             (0, Wish::Start("u", Class::Glacier)),
@@ -324,11 +304,9 @@ fn parts_and_actions(rt: HostRuntime) -> Result<(), Fail> {
          logs,u,v:null,STANDARD,8192,2024-01-01T00:00:00.004Z,open\n\
          logs,w,u:2/3,STANDARD,9,2024-01-01T00:00:00.006Z,2024-01-01T00:00:00.007Z\n\
          logs,w,u:3/3,STANDARD,9,2024-01-01T00:00:00.009Z,2024-01-09T00:00:00.000Z\n",
-    )?;
+    ),
     // A transition that is done late stands at its moment, and its stay at the place of the act.
-    is_table(
-        &rt,
-        alloc,
+    (
         &[
             (0, Wish::Make("logs")),
             (0, Wish::Rules),
@@ -341,38 +319,39 @@ fn parts_and_actions(rt: HostRuntime) -> Result<(), Fail> {
          logs,b,v:null,STANDARD,1,2024-02-20T00:00:00.000Z,open\n\
          logs,a,v:null,GLACIER,232768,2024-01-31T00:00:00.000Z,2024-02-21T00:00:00.000Z\n\
          logs,a,v:null,STANDARD,8192,2024-01-31T00:00:00.000Z,2024-02-21T00:00:00.000Z\n",
-    )?;
-    Ok(())
-}
+    ),
+];
 
-fn is_fault(
-    rt: &(impl Abort + Threads + Sync),
-    alloc: Global,
-    bytes: &[u8],
-    fault: OpenFault,
-) -> Result<(), Fail> {
-    match explain(rt, alloc, bytes, 4) {
-        Ok(_) => return Err(Fail::new("explained")),
-        Err(found) => assert_eq!(rt; found, fault),
+#[test]
+fn tables(rt: HostRuntime) -> Result<(), Fail> {
+    for (wishes, text) in TABLES {
+        is_table(&rt, rt.alloc(), *wishes, *text)?;
     }
     Ok(())
 }
 
+// The fault of a journal.
+fn fault_of(rt: &(impl Threads + Sync), alloc: Global, bytes: &[u8]) -> Option<OpenFault> {
+    explained(rt, alloc, bytes, 4).err()
+}
+
+// Two commands of which the office does not accept the second.
+const REFUSED: &[[(u64, Wish<'static>); 2]] = &[
+    [(0, Wish::Make("logs")), (0, Wish::Make("logs"))],
+    [(1, Wish::Make("logs")), (0, Wish::Make("barn"))],
+    [(1, Wish::Make("logs")), (1, Wish::Act)],
+];
+
 #[test]
 fn faults(rt: HostRuntime) -> Result<(), Fail> {
     let alloc = rt.alloc();
-    is_fault(&rt, alloc, &[], OpenFault::NotMade)?;
-    is_fault(
-        &rt,
-        alloc,
-        b"another file of another kind",
-        OpenFault::Foreign,
-    )?;
-    let twice = journal(alloc, &[(0, Wish::Make("logs")), (0, Wish::Make("logs"))])?;
-    is_fault(&rt, alloc, &twice, OpenFault::Damaged { offset: 30 })?;
-    let back = journal(alloc, &[(1, Wish::Make("logs")), (0, Wish::Make("barn"))])?;
-    is_fault(&rt, alloc, &back, OpenFault::Damaged { offset: 30 })?;
-    let idle = journal(alloc, &[(1, Wish::Make("logs")), (1, Wish::Act)])?;
-    is_fault(&rt, alloc, &idle, OpenFault::Damaged { offset: 30 })?;
+    assert_eq!(rt; fault_of(&rt, alloc, &[]), Some(OpenFault::NotMade));
+    let other = b"another file of another kind";
+    assert_eq!(rt; fault_of(&rt, alloc, other), Some(OpenFault::Foreign));
+    for wishes in REFUSED {
+        let bytes = journal(alloc, wishes)?;
+        let damaged = Some(OpenFault::Damaged { offset: 30 });
+        assert_eq!(rt; fault_of(&rt, alloc, &bytes), damaged, "{wishes:?}");
+    }
     Ok(())
 }

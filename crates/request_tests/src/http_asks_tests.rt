@@ -1,77 +1,90 @@
+use class_rules::Class;
 use http_asks::{Bad, Heard, Reader};
 use http_bodies::BodyFault;
 use http_wire::{MemorySource, MessageStop};
-use office_base::{Key, Tags, VersionId};
+use moments::Month;
+use office_base::{BucketName, Key, Size, Tags, VersionId};
 use office_types::{Ask, Command, Query};
+use rules_core::{RuleFlaw, RuleSet};
 use rules_json::RulesFault;
 use std::alloc::Global;
 use std::process::Abort;
 use std::test::Fail;
-use tariff::TariffFault;
+use tariff::{Tariff, TariffFault, TariffTable};
 
 const NEXT: &str = "GET /buckets/next HTTP/1.1\r\n\r\n";
 
-fn put_key(text: &mut String, key: &Key) -> Result<(), Fail> {
-    match str::from_utf8(key.bytes()) {
-        Ok(key) => text.push_str(key)?,
-        Err(_) => text.push_str("no text")?,
-    }
-    Ok(())
+// A word of what a message means.
+#[derive(Clone, Copy)]
+enum Word<'a> {
+    Text(&'a str),
+    Bucket(&'a BucketName),
+    Key(&'a Key),
+    Class(Class),
+    Table(TariffTable),
+    Flag(bool),
+    Id(VersionId),
+    Number(u64),
+    Size(Size),
+    // How many rules.
+    Rules(&'a RuleSet),
+    Tags(&'a Tags),
+    Prices(&'a Tariff),
+    Month(Month),
+    Flaw(RuleFlaw),
+    Nothing,
 }
 
-fn put_id(text: &mut String, id: VersionId) -> Result<(), Fail> {
-    match id {
-        VersionId::Null => text.push_str(" null")?,
-        VersionId::Number(number) => write!(text, " {}", number.get())?,
-    }
-    Ok(())
-}
+// What a message means: a name, and the words behind it.
+type Meaning<'a> = (&'static str, [Word<'a>; 5]);
 
-fn put_tags(text: &mut String, tags: &Tags) -> Result<(), Fail> {
-    for (key, value) in tags.pairs() {
-        write!(text, " {key}={value}")?;
-    }
-    Ok(())
-}
+const NO: Word<'static> = Word::Nothing;
 
-fn put_bucket_command(text: &mut String, command: &Command) -> Result<(), Fail> {
+fn meant_by_command(command: &Command) -> Meaning<'_> {
     match command {
-        Command::CreateBucket { bucket } => write!(text, "CreateBucket {}", bucket.text())?,
+        Command::CreateBucket { bucket } => (
+            "CreateBucket",
+            [Word::Bucket(bucket), NO, NO, NO, NO],
+        ),
         Command::SetVersioning { bucket, enabled } => {
-            write!(text, "SetVersioning {} {enabled}", bucket.text())?;
+            (
+                "SetVersioning",
+                [Word::Bucket(bucket), Word::Flag(*enabled), NO, NO, NO],
+            )
         }
         Command::SetRules { bucket, rules } => {
-            write!(text, "SetRules {} {}", bucket.text(), rules.rules().len())?;
+            (
+                "SetRules",
+                [Word::Bucket(bucket), Word::Rules(rules), NO, NO, NO],
+            )
         }
-        Command::DropRules { bucket } => write!(text, "DropRules {}", bucket.text())?,
-        Command::Act { bucket } => write!(text, "Act {}", bucket.text())?,
-        _ => {}
-    }
-    Ok(())
-}
-
-fn put_object_command(text: &mut String, command: &Command) -> Result<(), Fail> {
-    match command {
+        Command::DropRules { bucket } => ("DropRules", [Word::Bucket(bucket), NO, NO, NO, NO]),
+        Command::Act { bucket } => ("Act", [Word::Bucket(bucket), NO, NO, NO, NO]),
         Command::Put {
             bucket,
             key,
             size,
             class,
             tags,
-        } => {
-            write!(text, "Put {} ", bucket.text())?;
-            put_key(text, key)?;
-            write!(text, " {} {}", size.bytes(), class.name())?;
-            put_tags(text, tags)?;
-        }
-        Command::Delete { bucket, key } => {
-            write!(text, "Delete {} ", bucket.text())?;
-            put_key(text, key)?;
-        }
+        } => (
+            "Put",
+            [
+                Word::Bucket(bucket),
+                Word::Key(key),
+                Word::Size(*size),
+                Word::Class(*class),
+                Word::Tags(tags),
+            ],
+        ),
+        Command::Delete { bucket, key } => (
+            "Delete",
+            [Word::Bucket(bucket), Word::Key(key), NO, NO, NO],
+        ),
         Command::DeleteVersion { bucket, key, id } => {
-            write!(text, "DeleteVersion {} ", bucket.text())?;
-            put_key(text, key)?;
-            put_id(text, *id)?;
+            (
+                "DeleteVersion",
+                [Word::Bucket(bucket), Word::Key(key), Word::Id(*id), NO, NO],
+            )
         }
         Command::SetTags {
             bucket,
@@ -79,155 +92,243 @@ fn put_object_command(text: &mut String, command: &Command) -> Result<(), Fail> 
             id,
             tags,
         } => {
-            write!(text, "SetTags {} ", bucket.text())?;
-            put_key(text, key)?;
-            put_id(text, *id)?;
-            put_tags(text, tags)?;
+            (
+                "SetTags",
+                [
+                    Word::Bucket(bucket),
+                    Word::Key(key),
+                    Word::Id(*id),
+                    Word::Tags(tags),
+                    NO,
+                ],
+            )
         }
-        _ => {}
-    }
-    Ok(())
-}
-
-fn put_upload_command(text: &mut String, command: &Command) -> Result<(), Fail> {
-    match command {
         Command::StartUpload {
             bucket,
             key,
             class,
             tags,
-        } => {
-            write!(text, "StartUpload {} ", bucket.text())?;
-            put_key(text, key)?;
-            write!(text, " {}", class.name())?;
-            put_tags(text, tags)?;
-        }
+        } => (
+            "StartUpload",
+            [
+                Word::Bucket(bucket),
+                Word::Key(key),
+                Word::Class(*class),
+                Word::Tags(tags),
+                NO,
+            ],
+        ),
         Command::PutPart {
             bucket,
             upload,
             part,
             size,
-        } => write!(text, "PutPart {} {upload} {part} {size}", bucket.text())?,
+        } => (
+            "PutPart",
+            [
+                Word::Bucket(bucket),
+                Word::Number(*upload),
+                Word::Number(u64::from(*part)),
+                Word::Number(*size),
+                NO,
+            ],
+        ),
         Command::Complete { bucket, upload } => {
-            write!(text, "Complete {} {upload}", bucket.text())?;
+            (
+                "Complete",
+                [Word::Bucket(bucket), Word::Number(*upload), NO, NO, NO],
+            )
         }
-        Command::Abort { bucket, upload } => write!(text, "Abort {} {upload}", bucket.text())?,
-        _ => {}
+        Command::Abort { bucket, upload } => {
+            (
+                "Abort",
+                [Word::Bucket(bucket), Word::Number(*upload), NO, NO, NO],
+            )
+        }
+        Command::SetTariff { tariff } => ("SetTariff", [Word::Prices(tariff), NO, NO, NO, NO]),
+        Command::Close { month } => ("Close", [Word::Month(*month), NO, NO, NO, NO]),
     }
-    Ok(())
 }
 
-fn put_office_command(text: &mut String, command: &Command) -> Result<(), Fail> {
-    match command {
-        Command::SetTariff { tariff } => {
-            text.push_str("SetTariff")?;
-            for price in &tariff.storage {
-                write!(text, " {price}")?;
-            }
-            for price in &tariff.transition {
-                write!(text, " {price}")?;
-            }
-        }
-        Command::Close { month } => write!(text, "Close {}/{}", month.year(), month.month())?,
-        _ => {}
-    }
-    Ok(())
-}
-
-fn put_query(text: &mut String, query: &Query) -> Result<(), Fail> {
+fn meant_by_query(query: &Query) -> Meaning<'_> {
     match query {
-        Query::Bucket(bucket) => write!(text, "Bucket {}", bucket.text())?,
-        Query::Rules(bucket) => write!(text, "Rules {}", bucket.text())?,
-        Query::Stack(bucket, key) => {
-            write!(text, "Stack {} ", bucket.text())?;
-            put_key(text, key)?;
+        Query::Bucket(bucket) => ("Bucket", [Word::Bucket(bucket), NO, NO, NO, NO]),
+        Query::Rules(bucket) => ("Rules", [Word::Bucket(bucket), NO, NO, NO, NO]),
+        Query::Stack(bucket, key) => ("Stack", [Word::Bucket(bucket), Word::Key(key), NO, NO, NO]),
+        Query::Upload(bucket, upload) => {
+            (
+                "Upload",
+                [Word::Bucket(bucket), Word::Number(*upload), NO, NO, NO],
+            )
         }
-        Query::Upload(bucket, upload) => write!(text, "Upload {} {upload}", bucket.text())?,
-        Query::Due(bucket) => write!(text, "Due {}", bucket.text())?,
+        Query::Due(bucket) => ("Due", [Word::Bucket(bucket), NO, NO, NO, NO]),
         Query::Meters(bucket, month) => {
-            write!(
-                text,
-                "Meters {} {}/{}",
-                bucket.text(),
-                month.year(),
-                month.month()
-            )?;
+            (
+                "Meters",
+                [Word::Bucket(bucket), Word::Month(*month), NO, NO, NO],
+            )
         }
-        Query::Tariff => text.push_str("Tariff")?,
-        Query::Report(month) => write!(text, "Report {}/{}", month.year(), month.month())?,
+        Query::Tariff => ("Tariff", [NO, NO, NO, NO, NO]),
+        Query::Report(month) => ("Report", [Word::Month(*month), NO, NO, NO, NO]),
     }
-    Ok(())
 }
 
-// Writes what is asked; each of the four writes the commands of its own.
-fn put_ask(text: &mut String, ask: &Ask) -> Result<(), Fail> {
-    match ask {
-        Ask::Command(command) => {
-            put_bucket_command(text, command)?;
-            put_object_command(text, command)?;
-            put_upload_command(text, command)?;
-            put_office_command(text, command)?;
-        }
-        Ask::Query(query) => put_query(text, query)?,
-    }
-    Ok(())
-}
-
-fn put_body_fault(text: &mut String, fault: &BodyFault) -> Result<(), Fail> {
+fn meant_by_body(fault: &BodyFault) -> Meaning<'_> {
     match fault {
-        BodyFault::BadBody { field } => write!(text, "BadBody {field}")?,
-        BodyFault::BadSize => text.push_str("BadSize")?,
-        BodyFault::UnsupportedClass { name } => write!(text, "UnsupportedClass {name}")?,
-        BodyFault::BadTags => text.push_str("BadTags")?,
-        BodyFault::NoMemory => text.push_str("NoMemory")?,
+        BodyFault::BadBody { field } => ("BadBody", [Word::Text(field), NO, NO, NO, NO]),
+        BodyFault::BadSize => ("BadSize", [NO, NO, NO, NO, NO]),
+        BodyFault::UnsupportedClass { name } => (
+            "UnsupportedClass",
+            [Word::Text(name), NO, NO, NO, NO],
+        ),
+        BodyFault::BadTags => ("BadTags", [NO, NO, NO, NO, NO]),
+        BodyFault::NoMemory => ("NoMemory", [NO, NO, NO, NO, NO]),
     }
-    Ok(())
 }
 
-fn put_rules_fault(text: &mut String, fault: &RulesFault) -> Result<(), Fail> {
+fn meant_by_rules(fault: &RulesFault) -> Meaning<'_> {
     match fault {
-        RulesFault::NotADate => text.push_str("NotADate")?,
-        RulesFault::NotMidnight => text.push_str("NotMidnight")?,
-        RulesFault::NotJson => text.push_str("NotJson")?,
-        RulesFault::UnknownField { name } => write!(text, "UnknownField {}", name.as_str())?,
-        RulesFault::WrongShape { field } => write!(text, "WrongShape {}", field.as_str())?,
+        RulesFault::NotADate => ("NotADate", [NO, NO, NO, NO, NO]),
+        RulesFault::NotMidnight => ("NotMidnight", [NO, NO, NO, NO, NO]),
+        RulesFault::NotJson => ("NotJson", [NO, NO, NO, NO, NO]),
+        RulesFault::UnknownField { name } => (
+            "UnknownField",
+            [Word::Text(name.as_str()), NO, NO, NO, NO],
+        ),
+        RulesFault::WrongShape { field } => (
+            "WrongShape",
+            [Word::Text(field.as_str()), NO, NO, NO, NO],
+        ),
         RulesFault::UnsupportedClass { name } => {
-            write!(text, "UnsupportedClass {}", name.as_str())?;
+            (
+                "UnsupportedClass",
+                [Word::Text(name.as_str()), NO, NO, NO, NO],
+            )
         }
-        RulesFault::Flaw { flaw, rule } => write!(text, "Flaw {flaw:?} {rule}")?,
-        RulesFault::NoMemory => text.push_str("NoMemory")?,
+        RulesFault::Flaw { flaw, rule } => {
+            (
+                "Flaw",
+                [
+                    Word::Flaw(*flaw),
+                    Word::Number(u64::from(*rule)),
+                    NO,
+                    NO,
+                    NO,
+                ],
+            )
+        }
+        RulesFault::NoMemory => ("NoMemory", [NO, NO, NO, NO, NO]),
     }
-    Ok(())
 }
 
-fn put_tariff_fault(text: &mut String, fault: &TariffFault) -> Result<(), Fail> {
+fn meant_by_tariff(fault: &TariffFault) -> Meaning<'_> {
     match fault {
-        TariffFault::NotToml => text.push_str("NotToml")?,
-        TariffFault::MissingClass { table, class } => {
-            write!(text, "MissingClass {} in {}", class.name(), table.name())?;
-        }
-        TariffFault::BadPrice { table, class } => {
-            write!(text, "BadPrice {} in {}", class.name(), table.name())?;
-        }
-        TariffFault::UnknownField { name } => write!(text, "TariffField {name}")?,
-        TariffFault::NoMemory => text.push_str("NoMemory")?,
+        TariffFault::NotToml => ("NotToml", [NO, NO, NO, NO, NO]),
+        TariffFault::MissingClass { table, class } => (
+            "MissingClass",
+            [
+                Word::Class(*class),
+                Word::Text("in"),
+                Word::Table(*table),
+                NO,
+                NO,
+            ],
+        ),
+        TariffFault::BadPrice { table, class } => (
+            "BadPrice",
+            [
+                Word::Class(*class),
+                Word::Text("in"),
+                Word::Table(*table),
+                NO,
+                NO,
+            ],
+        ),
+        TariffFault::UnknownField { name } => ("TariffField", [Word::Text(name), NO, NO, NO, NO]),
+        TariffFault::NoMemory => ("NoMemory", [NO, NO, NO, NO, NO]),
     }
-    Ok(())
 }
 
 // The name of a refusal, and what it holds.
-fn put_bad(text: &mut String, bad: &Bad) -> Result<(), Fail> {
+fn meant_by_bad(bad: &Bad) -> Meaning<'_> {
     match bad {
-        Bad::NotAMonth => text.push_str("NotAMonth")?,
-        Bad::BadBucketName => text.push_str("BadBucketName")?,
-        Bad::BadKey => text.push_str("BadKey")?,
-        Bad::NoSuchVersion => text.push_str("NoSuchVersion")?,
-        Bad::NoSuchUpload => text.push_str("NoSuchUpload")?,
-        Bad::BadPart => text.push_str("BadPart")?,
-        Bad::Body(fault) => put_body_fault(text, fault)?,
-        Bad::Rules(fault) => put_rules_fault(text, fault)?,
-        Bad::Tariff(fault) => put_tariff_fault(text, fault)?,
-        Bad::NotBuilt => text.push_str("NotBuilt")?,
+        Bad::NotAMonth => ("NotAMonth", [NO, NO, NO, NO, NO]),
+        Bad::BadBucketName => ("BadBucketName", [NO, NO, NO, NO, NO]),
+        Bad::BadKey => ("BadKey", [NO, NO, NO, NO, NO]),
+        Bad::NoSuchVersion => ("NoSuchVersion", [NO, NO, NO, NO, NO]),
+        Bad::NoSuchUpload => ("NoSuchUpload", [NO, NO, NO, NO, NO]),
+        Bad::BadPart => ("BadPart", [NO, NO, NO, NO, NO]),
+        Bad::Body(fault) => meant_by_body(fault),
+        Bad::Rules(fault) => meant_by_rules(fault),
+        Bad::Tariff(fault) => meant_by_tariff(fault),
+        Bad::NotBuilt => ("NotBuilt", [NO, NO, NO, NO, NO]),
+    }
+}
+
+fn key_text(key: &Key) -> &str {
+    match str::from_utf8(key.bytes()) {
+        Ok(text) => text,
+        Err(_) => "no text",
+    }
+}
+
+// The text of a word that is one.
+fn text_of<'a>(word: &Word<'a>) -> Option<&'a str> {
+    match word {
+        Word::Text(text) => Some(*text),
+        Word::Bucket(bucket) => Some(bucket.text()),
+        Word::Key(key) => Some(key_text(key)),
+        Word::Class(class) => Some(class.name()),
+        Word::Table(table) => Some(table.name()),
+        Word::Flag(true) => Some("true"),
+        Word::Flag(false) => Some("false"),
+        Word::Id(VersionId::Null) => Some("null"),
+        _ => None,
+    }
+}
+
+// The number of a word that is one.
+fn number_of(word: &Word<'_>) -> Option<u64> {
+    match word {
+        Word::Id(VersionId::Number(number)) => Some(number.get()),
+        Word::Number(number) => Some(*number),
+        Word::Size(size) => Some(size.bytes()),
+        Word::Rules(rules) => Some(rules.rules().len() as u64),
+        _ => None,
+    }
+}
+
+fn put_word(text: &mut String, word: &Word<'_>) -> Result<(), Fail> {
+    if let Some(word) = text_of(word) {
+        write!(text, " {word}")?;
+    }
+    if let Some(number) = number_of(word) {
+        write!(text, " {number}")?;
+    }
+    match word {
+        Word::Tags(tags) => {
+            for (key, value) in tags.pairs() {
+                write!(text, " {key}={value}")?;
+            }
+        }
+        Word::Prices(tariff) => {
+            for price in tariff.storage.iter().chain(&tariff.transition) {
+                write!(text, " {price}")?;
+            }
+        }
+        Word::Month(month) => write!(text, " {}/{}", month.year(), month.month())?,
+        Word::Flaw(flaw) => write!(text, " {flaw:?}")?,
+        _ => {}
+    }
+    Ok(())
+}
+
+// Writes what a message means.
+fn put(text: &mut String, meaning: &Meaning<'_>) -> Result<(), Fail> {
+    let (name, words) = meaning;
+    text.push_str(*name)?;
+    for word in words {
+        put_word(text, word)?;
     }
     Ok(())
 }
@@ -239,21 +340,33 @@ fn hear(
     source: &mut MemorySource,
     text: &mut String,
 ) -> Result<bool, Fail> {
-    let (ending, is_last) = match reader.next(alloc, source) {
-        Ok(Heard::Asked { ask, last }) => {
-            put_ask(text, &ask)?;
-            (if last { " last" } else { "; " }, last)
-        }
-        Ok(Heard::Bad { bad, last }) => {
-            put_bad(text, &bad)?;
-            (if last { " last" } else { "; " }, last)
-        }
-        Ok(Heard::End) => ("End", true),
-        Err(MessageStop::ReadFault) => ("ReadFault", true),
-        Err(_) => ("Stop", true),
+    let heard = reader.next(alloc, source);
+    let (meaning, ending, is_last) = match &heard {
+        Ok(
+            Heard::Asked {
+                ask: Ask::Command(command),
+                last,
+            },
+        ) => (meant_by_command(command), after(*last), *last),
+        Ok(
+            Heard::Asked {
+                ask: Ask::Query(query),
+                last,
+            },
+        ) => (meant_by_query(query), after(*last), *last),
+        Ok(Heard::Bad { bad, last }) => (meant_by_bad(bad), after(*last), *last),
+        Ok(Heard::End) => (("End", [NO, NO, NO, NO, NO]), "", true),
+        Err(MessageStop::ReadFault) => (("ReadFault", [NO, NO, NO, NO, NO]), "", true),
+        Err(_) => (("Stop", [NO, NO, NO, NO, NO]), "", true),
     };
+    put(text, &meaning)?;
     text.push_str(ending)?;
     Ok(is_last)
+}
+
+// What is written behind the meaning of a message.
+fn after(is_last: bool) -> &'static str {
+    if is_last { " last" } else { "; " }
 }
 
 // What is heard, one message after another, up to the end or the last message of the session.
@@ -263,59 +376,53 @@ fn heard(alloc: Global, bytes: &[u8], cut: usize) -> Result<String, Fail> {
     let mut text = String::new(alloc);
     for _ in 0..4 {
         if hear(alloc, &mut reader, &mut source, &mut text)? {
-            return Ok(text);
+            break;
         }
     }
     Ok(text)
 }
 
-// What is heard of a stream, read by single bytes and at once.
-fn assert_heard(rt: &impl Abort, alloc: Global, stream: &str, wanted: &str) -> Result<(), Fail> {
-    for cut in [1, 65_536] {
-        let text = heard(alloc, stream.as_bytes(), cut)?;
-        assert_eq!(rt; text.as_str(), wanted, "{stream}");
+// What is heard of a stream, in reads of each of these lengths.
+fn assert_heard(
+    rt: &impl Abort,
+    alloc: Global,
+    stream: &str,
+    cuts: &[usize],
+    wanted: &str,
+) -> Result<(), Fail> {
+    for cut in cuts {
+        let text = heard(alloc, stream.as_bytes(), *cut)?;
+        assert_eq!(rt; text.as_str(), wanted, "{stream} in reads of {cut}");
     }
     Ok(())
 }
 
-// What is heard where the next message stands behind one with this meaning.
-fn with_next(alloc: Global, meaning: &str) -> Result<String, Fail> {
-    let mut text = String::from_str(alloc, meaning)?;
-    if meaning == "NotBuilt" {
-        text.push_str(" last")?;
-    } else {
-        text.push_str("; Bucket next; End")?;
-    }
-    Ok(text)
-}
-
-fn assert_request(
-    rt: &impl Abort,
-    alloc: Global,
-    start: &str,
-    body: &str,
-    meaning: &str,
-) -> Result<(), Fail> {
-    let stream = format!(in alloc;
-        "{start} HTTP/1.1\r\nContent-Length: {}\r\n\r\n{body}{NEXT}",
-        body.len()
-    )?;
-    let wanted = with_next(alloc, meaning)?;
-    assert_heard(rt, alloc, &stream, &wanted)
-}
+// By single bytes, and at once.
+const CUTS: &[usize] = &[1, 65_536];
 
 // The first line of a request, its body, and what it means. RFC 9112 for the messages, RFC 8259 for the bodies, the S3
 // User Guide for names, keys, sizes, classes and tags.
 type Row = (&'static str, &'static str, &'static str);
 
+// What is heard of the request of a row, with the next one behind it.
 fn assert_requests(rt: &impl Abort, alloc: Global, rows: &[Row]) -> Result<(), Fail> {
     for (start, body, meaning) in rows {
-        assert_request(rt, alloc, *start, *body, *meaning)?;
+        let stream = format!(in alloc;
+            "{start} HTTP/1.1\r\nContent-Length: {}\r\n\r\n{body}{NEXT}",
+            body.len()
+        )?;
+        let ending = if *meaning == "NotBuilt" {
+            " last"
+        } else {
+            "; Bucket next; End"
+        };
+        let wanted = format!(in alloc; "{meaning}{ending}")?;
+        assert_heard(rt, alloc, &stream, CUTS, &wanted)?;
     }
     Ok(())
 }
 
-const BUCKETS: [Row; 17] = [
+const BUCKETS: &[Row] = &[
     ("PUT /buckets/logs", "", "CreateBucket logs"),
     ("GET /buckets/logs", "", "Bucket logs"),
     ("PUT /buckets/my.log-2", "", "CreateBucket my.log-2"),
@@ -349,12 +456,7 @@ const BUCKETS: [Row; 17] = [
     ("GET /buckets/lo/due", "", "BadBucketName"),
 ];
 
-#[test]
-fn requests_for_buckets(rt: HostRuntime) -> Result<(), Fail> {
-    assert_requests(&rt, rt.alloc(), &BUCKETS)
-}
-
-const LIFECYCLES: [Row; 15] = [
+const LIFECYCLES: &[Row] = &[
     (
         "PUT /buckets/logs/lifecycle",
         "{\"Rules\":[{\"Status\":\"Enabled\",\"Expiration\":{\"Days\":365}}]}",
@@ -405,12 +507,7 @@ const LIFECYCLES: [Row; 15] = [
     ),
 ];
 
-#[test]
-fn requests_for_lifecycle_configurations(rt: HostRuntime) -> Result<(), Fail> {
-    assert_requests(&rt, rt.alloc(), &LIFECYCLES)
-}
-
-const OBJECTS: [Row; 23] = [
+const OBJECTS: &[Row] = &[
     (
         "PUT /buckets/logs/objects/a",
         "{\"size\":5}",
@@ -485,12 +582,7 @@ const OBJECTS: [Row; 23] = [
     ("DELETE /buckets/logs/objects/%ff", "", "BadKey"),
 ];
 
-#[test]
-fn requests_for_objects(rt: HostRuntime) -> Result<(), Fail> {
-    assert_requests(&rt, rt.alloc(), &OBJECTS)
-}
-
-const VERSIONS: [Row; 16] = [
+const VERSIONS: &[Row] = &[
     (
         "DELETE /buckets/logs/versions/null/a%20b",
         "",
@@ -530,12 +622,7 @@ const VERSIONS: [Row; 16] = [
     ("PUT /buckets/logs/tags/3/a", "[]", "BadBody "),
 ];
 
-#[test]
-fn requests_for_versions(rt: HostRuntime) -> Result<(), Fail> {
-    assert_requests(&rt, rt.alloc(), &VERSIONS)
-}
-
-const UPLOADS: [Row; 23] = [
+const UPLOADS: &[Row] = &[
     (
         "POST /buckets/logs/uploads/a/b",
         "{\"class\":\"GLACIER\",\"tags\":{\"k\":\"v\"}}",
@@ -598,12 +685,7 @@ const UPLOADS: [Row; 23] = [
     ("PUT /buckets/logs/parts/7/1", "[]", "BadBody "),
 ];
 
-#[test]
-fn requests_for_uploads(rt: HostRuntime) -> Result<(), Fail> {
-    assert_requests(&rt, rt.alloc(), &UPLOADS)
-}
-
-const METERS: [Row; 8] = [
+const METERS: &[Row] = &[
     ("GET /buckets/logs/meters/2024-01", "", "Meters logs 2024/1"),
     (
         "GET /buckets/logs/meters/2099-12",
@@ -622,17 +704,12 @@ const METERS: [Row; 8] = [
     ("GET /buckets/lo/meters/2024-13", "", "BadBucketName"),
 ];
 
-#[test]
-fn queries_of_meters(rt: HostRuntime) -> Result<(), Fail> {
-    assert_requests(&rt, rt.alloc(), &METERS)
-}
-
 const PRICES: &str =
     "[storage]\nSTANDARD = 6\nSTANDARD_IA = 5\nONEZONE_IA = 4\nGLACIER_IR = 3\nGLACIER = 2\n\
 DEEP_ARCHIVE = 1\n[transition]\nSTANDARD_IA = 0\nONEZONE_IA = 7\nGLACIER_IR = 8\nGLACIER = 9\nDEEP_ARCHIVE = 10\n";
 
 // TOML v1.1.0 for the bodies.
-const MONTHS: [Row; 14] = [
+const MONTHS: &[Row] = &[
     ("PUT /tariff", PRICES, "SetTariff 6 5 4 3 2 1 0 7 8 9 10"),
     ("GET /tariff", "", "Tariff"),
     ("GET /tariff", "[", "Tariff"),
@@ -658,12 +735,7 @@ const MONTHS: [Row; 14] = [
     ("GET /months/2024-1/report", "", "NotAMonth"),
 ];
 
-#[test]
-fn requests_for_prices_and_months(rt: HostRuntime) -> Result<(), Fail> {
-    assert_requests(&rt, rt.alloc(), &MONTHS)
-}
-
-const NOT_SERVED: [Row; 22] = [
+const NOT_SERVED: &[Row] = &[
     // Neither a route nor a method that is served.
     ("put /buckets/logs", "", "NotBuilt"),
     ("Get /buckets/logs", "", "NotBuilt"),
@@ -690,12 +762,17 @@ const NOT_SERVED: [Row; 22] = [
 ];
 
 #[test]
-fn requests_that_are_not_served(rt: HostRuntime) -> Result<(), Fail> {
-    assert_requests(&rt, rt.alloc(), &NOT_SERVED)
+fn requests(rt: HostRuntime) -> Result<(), Fail> {
+    for rows in &[
+        BUCKETS, LIFECYCLES, OBJECTS, VERSIONS, UPLOADS, METERS, MONTHS, NOT_SERVED,
+    ] {
+        assert_requests(&rt, rt.alloc(), *rows)?;
+    }
+    Ok(())
 }
 
 // A stream, and what is heard of it.
-const ENDINGS: [(&str, &str); 10] = [
+const ENDINGS: &[(&str, &str)] = &[
     ("", "End"),
     (
         "PUT /buckets/logs HTTP/1.1\r\nConnection: close\r\n\r\nGET /",
@@ -736,7 +813,7 @@ const ENDINGS: [(&str, &str); 10] = [
 #[test]
 fn the_last_messages_of_a_session(rt: HostRuntime) -> Result<(), Fail> {
     for (stream, wanted) in ENDINGS {
-        assert_heard(&rt, rt.alloc(), stream, wanted)?;
+        assert_heard(&rt, rt.alloc(), *stream, CUTS, *wanted)?;
     }
     Ok(())
 }
@@ -751,11 +828,13 @@ fn a_body_longer_than_the_buffer(rt: HostRuntime) -> Result<(), Fail> {
     }
     stream.push_str("{\"size\":7}")?;
     stream.push_str(NEXT)?;
-    for cut in [1_000, 65_536] {
-        let text = heard(alloc, stream.as_bytes(), cut)?;
-        assert_eq!(rt; text.as_str(), "Put logs a 7 STANDARD; Bucket next; End");
-    }
-    Ok(())
+    assert_heard(
+        &rt,
+        alloc,
+        &stream,
+        &[1_000, 65_536],
+        "Put logs a 7 STANDARD; Bucket next; End",
+    )
 }
 
 #[test]
@@ -764,8 +843,9 @@ fn a_read_that_fails_changes_no_message(rt: HostRuntime) -> Result<(), Fail> {
     let mut source = MemorySource::new(NEXT.as_bytes().to_vec(alloc)?, 16, [2].to_vec(alloc)?);
     let mut reader = Reader::new(alloc)?;
     let mut text = String::new(alloc);
-    assert!(rt; hear(alloc, &mut reader, &mut source, &mut text)?);
-    assert!(rt; !hear(alloc, &mut reader, &mut source, &mut text)?);
+    for is_last in &[true, false] {
+        assert_eq!(rt; hear(alloc, &mut reader, &mut source, &mut text)?, *is_last);
+    }
     assert_eq!(rt; text.as_str(), "ReadFaultBucket next; ");
     Ok(())
 }

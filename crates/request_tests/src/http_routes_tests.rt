@@ -3,7 +3,7 @@ use office_base::NameRefusal;
 use std::test::Fail;
 
 // Targets, and where they lead.
-const TARGETS: [(&[u8], Option<Route<'static>>); 76] = [
+const TARGETS: &[(&[u8], Option<Route<'static>>)] = &[
     (b"/buckets/logs", Some(Route::Bucket { bucket: "logs" })),
     (b"/buckets/a%2Fb", Some(Route::Bucket { bucket: "a%2Fb" })),
     (
@@ -208,27 +208,30 @@ const TARGETS: [(&[u8], Option<Route<'static>>); 76] = [
 fn targets(rt: HostRuntime) -> Result<(), Fail> {
     let routes = Routes::new(rt.alloc())?;
     for (target, route) in TARGETS {
-        assert_eq!(rt; routes.find(target), route, "{target:?}");
+        assert_eq!(rt; routes.find(*target), *route, "{target:?}");
     }
     Ok(())
 }
 
+// Parts of targets, and the keys that they are.
+const KEYS: &[(&str, &str)] = &[
+    ("a", "a"),
+    ("b%2Fc", "b/c"),
+    ("b%2fc", "b/c"),
+    ("/a//b/", "/a//b/"),
+    ("%zz", "%zz"),
+    ("a%", "a%"),
+    ("a%4", "a%4"),
+    ("a+b", "a+b"),
+    ("%2541", "%41"),
+    ("100%25", "100%"),
+    ("%C3%BC", "ü"),
+    ("%3F", "?"),
+];
+
 #[test]
 fn keys(rt: HostRuntime) -> Result<(), Fail> {
-    for (part, bytes) in [
-        ("a", "a"),
-        ("b%2Fc", "b/c"),
-        ("b%2fc", "b/c"),
-        ("/a//b/", "/a//b/"),
-        ("%zz", "%zz"),
-        ("a%", "a%"),
-        ("a%4", "a%4"),
-        ("a+b", "a+b"),
-        ("%2541", "%41"),
-        ("100%25", "100%"),
-        ("%C3%BC", "ü"),
-        ("%3F", "?"),
-    ] {
+    for (part, bytes) in KEYS {
         let key = read_key(rt.alloc(), part.as_bytes())?;
         assert_eq!(rt; key.bytes(), bytes.as_bytes(), "{part}");
     }
@@ -244,11 +247,13 @@ fn keys_of_any_length(rt: HostRuntime) -> Result<(), Fail> {
     let key = read_key(rt.alloc(), &part)?;
     assert_eq!(rt; key.bytes().len(), 1_024);
     part.push(b'a')?;
-    for bytes in [part.as_slice(), b"", b"%ff", b"a%C3", b"\xff"] {
-        match read_key(rt.alloc(), bytes) {
-            Ok(_) => panic!(rt; "a key of {} bytes", bytes.len()),
-            Err(refusal) => assert_eq!(rt; refusal, NameRefusal::BadKey),
-        }
+    for bytes in &[part.as_slice(), b"", b"%ff", b"a%C3", b"\xff"] {
+        assert_eq!(rt;
+            read_key(rt.alloc(), *bytes).err(),
+            Some(NameRefusal::BadKey),
+            "a key of {} bytes",
+            bytes.len()
+        );
     }
     Ok(())
 }

@@ -1,8 +1,12 @@
 ghost use Rattle.std.specs.Prelude.{◌≤◌, length};
 
-use http_wire::{Buffer, FramingRefusal, Front, MemorySource, Message, MessageStop, Next, front_of, read_message};
+use http_wire::{
+    Buffer, FramingRefusal, Front, MemorySource, Message, MessageStop, Next, Source, front_of,
+    read_message,
+};
 use httparse::spans::EMPTY_HEADER_SPAN;
 use std::alloc::Global;
+use std::process::Abort;
 use std::test::Fail;
 
 const WHOLE: u8 = 1;
@@ -23,47 +27,63 @@ fn kind(bytes: &[u8]) -> u8 {
     }
 }
 
+const HEADS: &[(&[u8], u8)] = &[
+    (b"", OPEN),
+    (b"GET / HTTP/1.1\r\n\r\n", WHOLE),
+    (b"\r\n\n\r\nGET / HTTP/1.1\n\n", WHOLE),
+    (b"\rG", HOPELESS),
+    (b" GET / HTTP/1.1\r\n\r\n", HOPELESS),
+    (b"GET  / HTTP/1.1\r\n\r\n", HOPELESS),
+    (b"GET / HTTP/1.1 \r\n", HOPELESS),
+    (b"GET / HTTP/1.2\r\n", HOPELESS),
+    (b"GET / HTTP/1.1\r\nA: b\r\n c\r\n\r\n", HOPELESS),
+    (b"GET / HTTP/1.1\r\nA : b\r\n\r\n", HOPELESS),
+    (b"GET / HTTP/1.1\r\nA:\r\n\r\n", WHOLE),
+    (b"GET / HTTP/1.1\r\nA: b\r\nB:c\n\r\n", WHOLE),
+    (b"GET /\xff", OPEN),
+    (b"GET /\xff HTTP", HOPELESS),
+    (b"PUT /buckets\x01", HOPELESS),
+    (b"GET /a?b#c{} HTTP/1.0\n\n", WHOLE),
+    (b"GET /\xc3\xa9 HTTP/1.0\n\n", WHOLE),
+    (b"G(T", HOPELESS),
+];
+
 #[test]
 fn heads_are_read_by_their_grammar(rt: HostRuntime) {
-    let rows: [(&[u8], u8); 18] = [
-        (b"", OPEN),
-        (b"GET / HTTP/1.1\r\n\r\n", WHOLE),
-        (b"\r\n\n\r\nGET / HTTP/1.1\n\n", WHOLE),
-        (b"\rG", HOPELESS),
-        (b" GET / HTTP/1.1\r\n\r\n", HOPELESS),
-        (b"GET  / HTTP/1.1\r\n\r\n", HOPELESS),
-        (b"GET / HTTP/1.1 \r\n", HOPELESS),
-        (b"GET / HTTP/1.2\r\n", HOPELESS),
-        (b"GET / HTTP/1.1\r\nA: b\r\n c\r\n\r\n", HOPELESS),
-        (b"GET / HTTP/1.1\r\nA : b\r\n\r\n", HOPELESS),
-        (b"GET / HTTP/1.1\r\nA:\r\n\r\n", WHOLE),
-        (b"GET / HTTP/1.1\r\nA: b\r\nB:c\n\r\n", WHOLE),
-        (b"GET /\xff", OPEN),
-        (b"GET /\xff HTTP", HOPELESS),
-        (b"PUT /buckets\x01", HOPELESS),
-        (b"GET /a?b#c{} HTTP/1.0\n\n", WHOLE),
-        (b"GET /\xc3\xa9 HTTP/1.0\n\n", WHOLE),
-        (b"G(T", HOPELESS),
-    ];
-    for (bytes, wanted) in rows {
-        assert_eq!(rt; kind(bytes), wanted);
+    for (bytes, wanted) in HEADS {
+        assert_eq!(rt; kind(*bytes), *wanted, "{bytes:?}");
     }
 }
+
+// Whether one read into a room of so many bytes, at most eight, gives these, or fails where there are none.
+fn gives(source: &mut MemorySource, size: usize, wanted: Option<&[u8]>) -> bool {
+    let mut room = [0u8; 8];
+    let room = &mut room[..size.min(8)];
+    match source.read(room) {
+        Ok(count) => wanted.is_some() && room.get(..count) == wanted,
+        Err(_) => wanted.is_none(),
+    }
+}
+
+// The sizes of rooms, and what is read into them one after another, in pieces of 4 bytes where the second read fails.
+const PIECES: &[(usize, Option<&[u8]>)] = &[
+    (8, Some(b"abcd")),
+    (8, None),
+    (1, Some(b"e")),
+    (8, Some(b"f")),
+    (8, Some(b"")),
+];
 
 #[test]
 fn bytes_come_in_pieces_and_fail_where_chosen(rt: HostRuntime) -> Result<(), Fail> {
     let alloc = rt.alloc();
     let mut source = MemorySource::new(b"abcdef".to_vec(alloc)?, 4, [2].to_vec(alloc)?);
-    let mut room = [0u8; 8];
-    assert!(rt; source.read(&mut room) == Ok(4));
-    assert!(rt; room.starts_with(b"abcd"));
-    assert!(rt; source.read(&mut room).is_err());
-    assert!(rt; source.read(&mut room[..1]) == Ok(1));
-    assert!(rt; room.starts_with(b"e"));
-    assert!(rt; source.read(&mut room) == Ok(1));
-    assert!(rt; source.read(&mut room) == Ok(0));
+    for (size, wanted) in PIECES {
+        assert!(rt; gives(&mut source, *size, *wanted), "{wanted:?}");
+    }
+    // A piece has one byte at least.
     let mut slow = MemorySource::new(b"ab".to_vec(alloc)?, 0, Vec::new(alloc));
-    assert!(rt; slow.read(&mut room) == Ok(1));
+    assert!(rt; gives(&mut slow, 8, Some(b"a")));
     Ok(())
 }
 
@@ -72,6 +92,7 @@ enum Seen<'a> {
     Message { body: &'a [u8], last: bool },
     Refused(FramingRefusal),
     End,
+    ReadFault,
 }
 
 /// Whether the message is the one that is wanted.
@@ -99,179 +120,194 @@ fn reads_one(
         }
         Ok(Next::Refused(bad)) => matches!(wanted, Seen::Refused(refusal) if bad == *refusal),
         Ok(Next::End) => matches!(wanted, Seen::End),
+        Err(MessageStop::ReadFault) => matches!(wanted, Seen::ReadFault),
         Err(_) => false,
     }
 }
 
-/// Whether these are the next messages, for pieces of each length.
-fn reads(rt: HostRuntime, bytes: &[u8], wanted: &[Seen<'_>]) -> Result<bool, Fail> {
-    let alloc = rt.alloc();
-    for cut in [1, 7, 1_000_000] {
-        let mut source = MemorySource::new(bytes.to_vec(alloc)?, cut, Vec::new(alloc));
-        let mut buffer = Buffer::new(alloc)?;
-        for seen in wanted {
-            if !reads_one(alloc, &mut source, &mut buffer, seen) {
-                return Ok(false);
-            }
+/// Whether these are the next messages of a source.
+fn reads_all(alloc: Global, source: &mut MemorySource, wanted: &[Seen<'_>]) -> Result<bool, Fail> {
+    let mut buffer = Buffer::new(alloc)?;
+    for seen in wanted {
+        if !reads_one(alloc, source, &mut buffer, seen) {
+            return Ok(false);
         }
     }
     Ok(true)
 }
 
+/// Reads these messages, in pieces of each length.
+fn assert_reads(
+    rt: &impl Abort,
+    alloc: Global,
+    bytes: &[u8],
+    wanted: &[Seen<'_>],
+) -> Result<(), Fail> {
+    for cut in &[1, 7, 1_000_000] {
+        let mut source = MemorySource::new(bytes.to_vec(alloc)?, *cut, Vec::new(alloc));
+        assert!(rt;
+            reads_all(alloc, &mut source, wanted)?,
+            "{bytes:?} in pieces of {cut}"
+        );
+    }
+    Ok(())
+}
+
+const FRONTS: &[(&[u8], Seen<'static>)] = &[
+    (b"", Seen::End),
+    (
+        b"GET / HTTP/1.1\r\n\r\n",
+        Seen::Message {
+            body: b"",
+            last: false,
+        },
+    ),
+    (
+        b"PUT / HTTP/1.1\r\nContent-Length: 3\r\n\r\nabcd",
+        Seen::Message {
+            body: b"abc",
+            last: false,
+        },
+    ),
+    (
+        b"PUT / HTTP/1.1\r\nCONTENT-length:\t02 \t\r\n\r\nabcd",
+        Seen::Message {
+            body: b"ab",
+            last: false,
+        },
+    ),
+    (
+        b"PUT / HTTP/1.1\nContent-Length: 0010\n\n0123456789",
+        Seen::Message {
+            body: b"0123456789",
+            last: false,
+        },
+    ),
+    (
+        b"PUT / HTTP/1.1\r\nContent-Length: 000000000000000000000000000000000000000000000000000000000001\r\n\r\n\
+abcd",
+        Seen::Message {
+            body: b"a",
+            last: false,
+        },
+    ),
+    (
+        b"PUT / HTTP/1.1\r\nContent-Length: 0\r\n\r\n",
+        Seen::Message {
+            body: b"",
+            last: false,
+        },
+    ),
+    (
+        b"GET / HTTP/1.0\r\n\r\n",
+        Seen::Message {
+            body: b"",
+            last: true,
+        },
+    ),
+    (
+        b"GET / HTTP/1.0\r\nConnection: keep-alive\r\n\r\n",
+        Seen::Message {
+            body: b"",
+            last: true,
+        },
+    ),
+    (
+        b"GET / HTTP/1.1\r\nConnection: close\r\n\r\n",
+        Seen::Message {
+            body: b"",
+            last: true,
+        },
+    ),
+    (
+        b"GET / HTTP/1.1\r\ncONNECTION:  CLose\r\n\r\n",
+        Seen::Message {
+            body: b"",
+            last: true,
+        },
+    ),
+    (
+        b"GET / HTTP/1.1\r\nConnection: a\r\nConnection: close\r\n\r\n",
+        Seen::Message {
+            body: b"",
+            last: true,
+        },
+    ),
+    (
+        b"GET / HTTP/1.1\r\nConnection: close, a\r\n\r\n",
+        Seen::Message {
+            body: b"",
+            last: false,
+        },
+    ),
+    (
+        b"GET / HTTP/1.1\r\nKeep: close\r\n\r\n",
+        Seen::Message {
+            body: b"",
+            last: false,
+        },
+    ),
+    (b"G(T", Seen::Refused(FramingRefusal::BadHead)),
+    (
+        b"PUT / HTTP/1.1\r\nContent-Length: +5\r\n\r\nabcde",
+        Seen::Refused(FramingRefusal::BadHead),
+    ),
+    (
+        b"PUT / HTTP/1.1\r\nContent-Length:\r\n\r\n",
+        Seen::Refused(FramingRefusal::BadHead),
+    ),
+    (
+        b"PUT / HTTP/1.1\r\nContent-Length: 5 5\r\n\r\nabcde",
+        Seen::Refused(FramingRefusal::BadHead),
+    ),
+    (
+        b"PUT / HTTP/1.1\r\nContent-Length: 0x5\r\n\r\nabcde",
+        Seen::Refused(FramingRefusal::BadHead),
+    ),
+    (
+        b"PUT / HTTP/1.1\r\nContent-Length: 5\r\ncontent-length: 5\r\n\r\nabcde",
+        Seen::Refused(FramingRefusal::BadHead),
+    ),
+    (
+        b"PUT / HTTP/1.1\r\nContent-Length: 1048577\r\n\r\n",
+        Seen::Refused(FramingRefusal::BodyTooLarge),
+    ),
+    (
+        b"PUT / HTTP/1.1\r\nContent-Length: 9999999999999999999999999999999999999999\r\n\r\n",
+        Seen::Refused(FramingRefusal::BodyTooLarge),
+    ),
+    (
+        b"PUT / HTTP/1.1\r\nTransfer-Encoding: gzip\r\n\r\n",
+        Seen::Refused(FramingRefusal::ChunkedBody),
+    ),
+    (
+        b"PUT / HTTP/1.1\r\nContent-Length: 5\r\nContent-Length: 5\r\ntransfer-encoding:\r\n\r\n",
+        Seen::Refused(FramingRefusal::ChunkedBody),
+    ),
+    (
+        b"PUT / HTTP/1.1\r\nContent-Length: 1048577\r\nContent-Length: 1048577\r\n\r\n",
+        Seen::Refused(FramingRefusal::BadHead),
+    ),
+    (b"GET / HT", Seen::Refused(FramingRefusal::CutShort)),
+    (b"\r\n", Seen::Refused(FramingRefusal::CutShort)),
+    (
+        b"PUT / HTTP/1.1\r\nContent-Length: 5\r\n\r\nabcd",
+        Seen::Refused(FramingRefusal::CutShort),
+    ),
+    (
+        b"PUT / HTTP/1.1\r\nContent-Length: 1048576\r\n\r\nabcd",
+        Seen::Refused(FramingRefusal::CutShort),
+    ),
+    (
+        b"PUT / HTTP/1.1\r\nContent-Length: 1\r\n\r\n",
+        Seen::Refused(FramingRefusal::CutShort),
+    ),
+];
+
 #[test]
 fn one_thing_stands_at_the_front(rt: HostRuntime) -> Result<(), Fail> {
-    let rows: [(&[u8], Seen<'_>); 30] = [
-        (b"", Seen::End),
-        (
-            b"GET / HTTP/1.1\r\n\r\n",
-            Seen::Message {
-                body: b"",
-                last: false,
-            },
-        ),
-        (
-            b"PUT / HTTP/1.1\r\nContent-Length: 3\r\n\r\nabcd",
-            Seen::Message {
-                body: b"abc",
-                last: false,
-            },
-        ),
-        (
-            b"PUT / HTTP/1.1\r\nCONTENT-length:\t02 \t\r\n\r\nabcd",
-            Seen::Message {
-                body: b"ab",
-                last: false,
-            },
-        ),
-        (
-            b"PUT / HTTP/1.1\nContent-Length: 0010\n\n0123456789",
-            Seen::Message {
-                body: b"0123456789",
-                last: false,
-            },
-        ),
-        (
-            b"PUT / HTTP/1.1\r\nContent-Length: 000000000000000000000000000000000000000000000000000000000001\r\n\r\n\
-abcd",
-            Seen::Message {
-                body: b"a",
-                last: false,
-            },
-        ),
-        (
-            b"PUT / HTTP/1.1\r\nContent-Length: 0\r\n\r\n",
-            Seen::Message {
-                body: b"",
-                last: false,
-            },
-        ),
-        (
-            b"GET / HTTP/1.0\r\n\r\n",
-            Seen::Message {
-                body: b"",
-                last: true,
-            },
-        ),
-        (
-            b"GET / HTTP/1.0\r\nConnection: keep-alive\r\n\r\n",
-            Seen::Message {
-                body: b"",
-                last: true,
-            },
-        ),
-        (
-            b"GET / HTTP/1.1\r\nConnection: close\r\n\r\n",
-            Seen::Message {
-                body: b"",
-                last: true,
-            },
-        ),
-        (
-            b"GET / HTTP/1.1\r\ncONNECTION:  CLose\r\n\r\n",
-            Seen::Message {
-                body: b"",
-                last: true,
-            },
-        ),
-        (
-            b"GET / HTTP/1.1\r\nConnection: a\r\nConnection: close\r\n\r\n",
-            Seen::Message {
-                body: b"",
-                last: true,
-            },
-        ),
-        (
-            b"GET / HTTP/1.1\r\nConnection: close, a\r\n\r\n",
-            Seen::Message {
-                body: b"",
-                last: false,
-            },
-        ),
-        (
-            b"GET / HTTP/1.1\r\nKeep: close\r\n\r\n",
-            Seen::Message {
-                body: b"",
-                last: false,
-            },
-        ),
-        (b"G(T", Seen::Refused(FramingRefusal::BadHead)),
-        (
-            b"PUT / HTTP/1.1\r\nContent-Length: +5\r\n\r\nabcde",
-            Seen::Refused(FramingRefusal::BadHead),
-        ),
-        (
-            b"PUT / HTTP/1.1\r\nContent-Length:\r\n\r\n",
-            Seen::Refused(FramingRefusal::BadHead),
-        ),
-        (
-            b"PUT / HTTP/1.1\r\nContent-Length: 5 5\r\n\r\nabcde",
-            Seen::Refused(FramingRefusal::BadHead),
-        ),
-        (
-            b"PUT / HTTP/1.1\r\nContent-Length: 0x5\r\n\r\nabcde",
-            Seen::Refused(FramingRefusal::BadHead),
-        ),
-        (
-            b"PUT / HTTP/1.1\r\nContent-Length: 5\r\ncontent-length: 5\r\n\r\nabcde",
-            Seen::Refused(FramingRefusal::BadHead),
-        ),
-        (
-            b"PUT / HTTP/1.1\r\nContent-Length: 1048577\r\n\r\n",
-            Seen::Refused(FramingRefusal::BodyTooLarge),
-        ),
-        (
-            b"PUT / HTTP/1.1\r\nContent-Length: 9999999999999999999999999999999999999999\r\n\r\n",
-            Seen::Refused(FramingRefusal::BodyTooLarge),
-        ),
-        (
-            b"PUT / HTTP/1.1\r\nTransfer-Encoding: gzip\r\n\r\n",
-            Seen::Refused(FramingRefusal::ChunkedBody),
-        ),
-        (
-            b"PUT / HTTP/1.1\r\nContent-Length: 5\r\nContent-Length: 5\r\ntransfer-encoding:\r\n\r\n",
-            Seen::Refused(FramingRefusal::ChunkedBody),
-        ),
-        (
-            b"PUT / HTTP/1.1\r\nContent-Length: 1048577\r\nContent-Length: 1048577\r\n\r\n",
-            Seen::Refused(FramingRefusal::BadHead),
-        ),
-        (b"GET / HT", Seen::Refused(FramingRefusal::CutShort)),
-        (b"\r\n", Seen::Refused(FramingRefusal::CutShort)),
-        (
-            b"PUT / HTTP/1.1\r\nContent-Length: 5\r\n\r\nabcd",
-            Seen::Refused(FramingRefusal::CutShort),
-        ),
-        (
-            b"PUT / HTTP/1.1\r\nContent-Length: 1048576\r\n\r\nabcd",
-            Seen::Refused(FramingRefusal::CutShort),
-        ),
-        (
-            b"PUT / HTTP/1.1\r\nContent-Length: 1\r\n\r\n",
-            Seen::Refused(FramingRefusal::CutShort),
-        ),
-    ];
-    for row in rows {
-        assert!(rt; reads(rt, row.0, &[row.1])?);
+    for (bytes, wanted) in FRONTS {
+        assert_reads(&rt, rt.alloc(), *bytes, &[*wanted])?;
     }
     Ok(())
 }
@@ -296,29 +332,41 @@ HTTP/1.0\r\n\r\nG";
         },
         Seen::Refused(FramingRefusal::CutShort),
     ];
-    assert!(rt; reads(rt, stream, &wanted)?);
-    Ok(())
+    assert_reads(&rt, rt.alloc(), stream, &wanted)
+}
+
+const LONG: &[(&[u8], usize)] = &[
+    (b"PUT /a HTTP/1.1\r\nContent-Length: 8000\r\n\r\n", 8_000),
+    (b"PUT /a HTTP/1.1\r\nContent-Length: 8192\r\n\r\n", 8_192),
+    (
+        b"PUT /a HTTP/1.1\r\nContent-Length: 100000\r\n\r\n",
+        100_000,
+    ),
+];
+
+// A body of so many bytes.
+fn body_of(alloc: Global, length: usize) -> Result<Vec<u8>, Fail> {
+    let mut body = Vec::new(alloc);
+    for n in 0..length {
+        body.push((n % 251) as u8)?;
+    }
+    Ok(body)
+}
+
+// A message with this head and body, and another behind it.
+fn stream_of(alloc: Global, head: &[u8], body: &[u8]) -> Result<Vec<u8>, Fail> {
+    let mut stream = head.to_vec(alloc)?;
+    stream.extend_from_slice(body)?;
+    stream.extend_from_slice(b"PUT /b HTTP/1.1\r\nContent-Length: 2\r\n\r\nde")?;
+    Ok(stream)
 }
 
 #[test]
 fn long_bodies_leave_what_follows(rt: HostRuntime) -> Result<(), Fail> {
     let alloc = rt.alloc();
-    let rows: [(&[u8], usize); 3] = [
-        (b"PUT /a HTTP/1.1\r\nContent-Length: 8000\r\n\r\n", 8_000),
-        (b"PUT /a HTTP/1.1\r\nContent-Length: 8192\r\n\r\n", 8_192),
-        (
-            b"PUT /a HTTP/1.1\r\nContent-Length: 100000\r\n\r\n",
-            100_000,
-        ),
-    ];
-    for row in rows {
-        let mut body = Vec::new(alloc);
-        for n in 0..row.1 {
-            body.push((n % 251) as u8)?;
-        }
-        let mut stream = row.0.to_vec(alloc)?;
-        stream.extend_from_slice(&body)?;
-        stream.extend_from_slice(b"PUT /b HTTP/1.1\r\nContent-Length: 2\r\n\r\nde")?;
+    for (head, length) in LONG {
+        let body = body_of(alloc, *length)?;
+        let stream = stream_of(alloc, *head, &body)?;
         let wanted = [
             Seen::Message {
                 body: &body,
@@ -330,7 +378,7 @@ fn long_bodies_leave_what_follows(rt: HostRuntime) -> Result<(), Fail> {
             },
             Seen::End,
         ];
-        assert!(rt; reads(rt, &stream, &wanted)?);
+        assert_reads(&rt, alloc, &stream, &wanted)?;
     }
     Ok(())
 }
@@ -343,38 +391,48 @@ fn a_head_is_whole_within_8192_bytes(rt: HostRuntime) -> Result<(), Fail> {
         head.push(b'a')?;
     }
     head.extend_from_slice(b"\r\n\r")?;
-    assert!(rt; reads(rt, &head, &[Seen::Refused(FramingRefusal::CutShort)])?);
+    assert_reads(
+        &rt,
+        alloc,
+        &head,
+        &[Seen::Refused(FramingRefusal::CutShort)],
+    )?;
     head.push(b'\n')?;
-    assert!(rt;
-        reads(
-            rt,
-            &head,
-            &[Seen::Message {
-                body: b"",
-                last: false
-            }]
-        )?
-    );
+    assert_reads(
+        &rt,
+        alloc,
+        &head,
+        &[Seen::Message {
+            body: b"",
+            last: false,
+        }],
+    )?;
     head.truncate(8_191);
     head.push(b'\r')?;
-    assert!(rt; reads(rt, &head, &[Seen::Refused(FramingRefusal::BadHead)])?);
+    assert_reads(&rt, alloc, &head, &[Seen::Refused(FramingRefusal::BadHead)])?;
     let long = vec![in alloc; b'A'; 8_192]?;
-    assert!(rt; reads(rt, &long, &[Seen::Refused(FramingRefusal::HeadTooLarge)])?);
-    Ok(())
+    assert_reads(
+        &rt,
+        alloc,
+        &long,
+        &[Seen::Refused(FramingRefusal::HeadTooLarge)],
+    )
 }
+
+const CUT_BODIES: &[&[u8]] = &[
+    b"PUT / HTTP/1.1\r\nContent-Length: 300\r\n\r\nabc",
+    b"PUT / HTTP/1.1\r\nContent-Length: 30000\r\n\r\nabc",
+];
 
 #[test]
 fn a_source_fails_in_a_body(rt: HostRuntime) -> Result<(), Fail> {
     let alloc = rt.alloc();
-    let rows: [&[u8]; 2] = [
-        b"PUT / HTTP/1.1\r\nContent-Length: 300\r\n\r\nabc",
-        b"PUT / HTTP/1.1\r\nContent-Length: 30000\r\n\r\nabc",
-    ];
-    for row in rows {
-        let mut source = MemorySource::new(row.to_vec(alloc)?, 64, [2].to_vec(alloc)?);
-        let mut buffer = Buffer::new(alloc)?;
-        let read = read_message(alloc, &mut source, &mut buffer);
-        assert!(rt; matches!(read, Err(MessageStop::ReadFault)));
+    for bytes in CUT_BODIES {
+        let mut source = MemorySource::new(bytes.to_vec(alloc)?, 64, [2].to_vec(alloc)?);
+        assert!(rt;
+            reads_all(alloc, &mut source, &[Seen::ReadFault])?,
+            "{bytes:?}"
+        );
     }
     Ok(())
 }

@@ -11,7 +11,7 @@ const ROWS: [(&[Shape], u32); 5] = [
 ];
 
 // Paths, with the value and the parts that they have.
-const PATHS: [(&str, Option<(u32, &str, &str)>); 17] = [
+const PATHS: &[(&str, Option<(u32, &str, &str)>)] = &[
     ("", Some((1, "", ""))),
     ("/a", Some((2, "", ""))),
     ("/a/x", Some((3, "x", ""))),
@@ -31,16 +31,17 @@ const PATHS: [(&str, Option<(u32, &str, &str)>); 17] = [
     ("/d", None),
 ];
 
+// The value and the two parts that a path has.
+fn found_at<'a>(table: &'a Table<u32>, path: &'a str) -> Option<(u32, &'a str, &'a str)> {
+    let found = table.find(path)?;
+    Some((*found.value, found.parts.at(0), found.parts.at(1)))
+}
+
 #[test]
 fn paths(rt: HostRuntime) -> Result<(), Fail> {
     let table = Table::new(rt.alloc(), &ROWS)?;
     for (path, has) in PATHS {
-        let found = table.find(path).map(|found| (
-            *found.value,
-            found.parts.at(0),
-            found.parts.at(1),
-        ));
-        assert_eq!(rt; found, has, "{path}");
+        assert_eq!(rt; found_at(&table, *path), *has, "{path}");
     }
     Ok(())
 }

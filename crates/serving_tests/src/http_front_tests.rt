@@ -1,8 +1,11 @@
-use http_front::{Bad, MemoryReplies, MemorySource, ReaderSource, SessionEnd, Teller, WriterReplies, print_bad, print_fault, print_query, print_reply, session};
 use class_rules::Class;
 use desk_core::{Acked, Desk, DeskFault, ListClock};
 use disk_core::{Disk, FileNo, MemoryDisk};
 use http_bodies::BodyFault;
+use http_front::{
+    Bad, MemoryReplies, MemorySource, ReaderSource, Replies, SessionEnd, Source, Teller,
+    WriterReplies, print_bad, print_fault, print_query, print_reply, session,
+};
 use http_text::is_short;
 use meter_journal::OpenFault;
 use office_base::BucketName;
@@ -71,7 +74,7 @@ struct Failing {
     memory: u64,
 }
 
-const NOTHING: Failing = Failing {
+const NOTHING: &Failing = &Failing {
     reads: &[],
     texts: &[],
     store: 0,
@@ -86,6 +89,16 @@ fn joined(alloc: Global, pieces: &[&[u8]]) -> Result<Vec<u8>, Fail> {
     Ok(all)
 }
 
+/// Has one session. It is the one place at which `session` is called.
+fn talk<S: Source, W: Replies, T: Teller>(
+    alloc: Global,
+    source: &mut S,
+    out: &mut W,
+    teller: &mut T,
+) -> SessionEnd {
+    session(alloc, source, out, teller)
+}
+
 /// Has one session over a stream, given in pieces, that is read in cuts of so many bytes, and looks at its end and
 /// at the replies, given in pieces.
 fn assert_session(
@@ -93,7 +106,7 @@ fn assert_session(
     alloc: Global,
     stream: &[&[u8]],
     cut: usize,
-    failing: Failing,
+    failing: &Failing,
     wanted: (SessionEnd, &[&[u8]]),
 ) -> Result<(), Fail> {
     let bytes = joined(alloc, stream)?;
@@ -105,9 +118,12 @@ fn assert_session(
         store_fails: failing.store,
         lacks: failing.memory,
     };
-    let end = session(alloc, &mut source, &mut out, &mut teller);
-    assert!(rt; end == wanted.0);
-    assert!(rt; out.said() == replies.as_slice());
+    let end = talk(alloc, &mut source, &mut out, &mut teller);
+    assert_eq!(rt; end, wanted.0, "{stream:?} in cuts of {cut}");
+    assert!(rt;
+        out.said() == replies.as_slice(),
+        "{stream:?} in cuts of {cut}"
+    );
     Ok(())
 }
 
@@ -128,7 +144,7 @@ const LOST: &[u8] = b"{\"error\":\"StoreFault\",\"number\":114}";
 const LACK: &[u8] = b"{\"error\":\"NoMemory\",\"number\":115}";
 
 // The status, and the size and the text of the body. RFC 9110, "Status Codes"; RFC 4918, "507 Insufficient Storage".
-const FAULTS: [(DeskFault, &[u8], &[u8], &[u8]); 8] = [
+const FAULTS: &[(DeskFault, &[u8], &[u8], &[u8])] = &[
     (
         DeskFault::StoreFault {
             told: Some(5),
@@ -172,101 +188,145 @@ const FAULTS: [(DeskFault, &[u8], &[u8], &[u8]); 8] = [
     (DeskFault::NoMemory, ERROR, b"33", LACK),
 ];
 
-fn assert_printed(rt: &impl Abort, alloc: Global, bad: &Bad, reply: &[u8]) {
+// A reply with this status, and this size and text of its body.
+fn reply_of(alloc: Global, status: &[u8], size: &[u8], body: &[u8]) -> Result<Vec<u8>, Fail> {
+    joined(
+        alloc,
+        &[
+            b"HTTP/1.1 ",
+            status,
+            b"\r\ncontent-type: application/json\r\ncontent-length: ",
+            size,
+            GAP,
+            body,
+        ],
+    )
+}
+
+// Whether the call's reply is printed into a room so.
+fn is_printed_into(room: &mut [u8], fault: &DeskFault, reply: &[u8]) -> bool {
+    print_fault(room, fault) == Ok(reply.len()) && room.starts_with(reply)
+}
+
+// Whether the reply is printed so.
+fn is_printed(alloc: Global, bad: &Bad, reply: &[u8]) -> bool {
     match print_bad(alloc, bad) {
-        Ok(text) => assert!(rt; text.as_slice() == reply),
-        Err(_) => panic!(rt; "no memory"),
+        Ok(text) => text.as_slice() == reply,
+        Err(_) => false,
     }
 }
 
 #[test]
-fn faults_and_refusals_are_printed_exactly(rt: HostRuntime) -> Result<(), Fail> {
+fn faults_are_printed_exactly(rt: HostRuntime) -> Result<(), Fail> {
     let alloc = rt.alloc();
-    let kind: &[u8] = b"\r\ncontent-type: application/json\r\ncontent-length: ";
     for (fault, status, size, body) in FAULTS {
-        let reply = joined(alloc, &[b"HTTP/1.1 ", status, kind, size, GAP, body])?;
+        let reply = reply_of(alloc, *status, *size, *body)?;
         let mut room = [0u8; 200];
-        assert!(rt; print_fault(&mut room, &fault) == Ok(reply.len()));
-        assert!(rt; room.starts_with(&reply));
-        assert_printed(&rt, alloc, &Bad::Desk(fault), &reply);
+        assert!(rt; is_printed_into(&mut room, fault, &reply), "{fault:?}");
+        assert!(rt; is_printed(alloc, &Bad::Desk(*fault), &reply), "{fault:?}");
     }
     let mut short = [0u8; 124];
     assert!(rt; print_fault(&mut short, &DeskFault::JournalFull).is_err());
-    let body: &[u8] = b"{\"error\":\"UnsupportedClass\",\"name\":\"FOO\",\"number\":43}";
-    let reply = joined(alloc, &[BAD, b"53", GAP, body])?;
-    let name = String::from_str(alloc, "FOO")?;
-    let bad = Bad::Message(http_asks::Bad::Body(BodyFault::UnsupportedClass { name }));
-    assert_printed(&rt, alloc, &bad, &reply);
     Ok(())
 }
 
-// Refusals that tell no text of the message. RFC 9110, "Status Codes".
-const REFUSALS: [(http_asks::Bad, &[u8], &[u8], &[u8]); 10] = [
+// A refusal that tells no text of the message.
+#[derive(Clone, Copy, Debug)]
+enum Refused {
+    NotADate,
+    NotMidnight,
+    MarkerRule,
+    NotJson,
+    NoSuchVersion,
+    NoSuchUpload,
+    BadPart,
+    NotToml,
+    MissingClass,
+    BadPrice,
+}
+
+fn bad_of(refused: Refused) -> Bad {
+    Bad::Message(match refused {
+        Refused::NotADate => http_asks::Bad::Rules(RulesFault::NotADate),
+        Refused::NotMidnight => http_asks::Bad::Rules(RulesFault::NotMidnight),
+        Refused::MarkerRule => http_asks::Bad::Rules(RulesFault::Flaw {
+            flaw: RuleFlaw::MarkerRule,
+            rule: 1,
+        }),
+        Refused::NotJson => http_asks::Bad::Rules(RulesFault::NotJson),
+        Refused::NoSuchVersion => http_asks::Bad::NoSuchVersion,
+        Refused::NoSuchUpload => http_asks::Bad::NoSuchUpload,
+        Refused::BadPart => http_asks::Bad::BadPart,
+        Refused::NotToml => http_asks::Bad::Tariff(TariffFault::NotToml),
+        Refused::MissingClass => http_asks::Bad::Tariff(TariffFault::MissingClass {
+            table: TariffTable::Storage,
+            class: Class::Glacier,
+        }),
+        Refused::BadPrice => http_asks::Bad::Tariff(TariffFault::BadPrice {
+            table: TariffTable::Transition,
+            class: Class::StandardIa,
+        }),
+    })
+}
+
+// RFC 9110, "Status Codes".
+const REFUSALS: &[(Refused, &[u8], &[u8], &[u8])] = &[
     (
-        http_asks::Bad::Rules(RulesFault::NotADate),
+        Refused::NotADate,
         b"400 Bad Request",
         b"31",
         b"{\"error\":\"NotADate\",\"number\":2}",
     ),
     (
-        http_asks::Bad::Rules(RulesFault::NotMidnight),
+        Refused::NotMidnight,
         b"400 Bad Request",
         b"34",
         b"{\"error\":\"NotMidnight\",\"number\":3}",
     ),
     (
-        http_asks::Bad::Rules(RulesFault::Flaw {
-            flaw: RuleFlaw::MarkerRule,
-            rule: 1,
-        }),
+        Refused::MarkerRule,
         b"400 Bad Request",
         b"43",
         b"{\"error\":\"MarkerRule\",\"number\":32,\"rule\":1}",
     ),
     (
-        http_asks::Bad::Rules(RulesFault::NotJson),
+        Refused::NotJson,
         b"400 Bad Request",
         b"31",
         b"{\"error\":\"NotJson\",\"number\":40}",
     ),
     (
-        http_asks::Bad::NoSuchVersion,
+        Refused::NoSuchVersion,
         b"404 Not Found",
         b"37",
         b"{\"error\":\"NoSuchVersion\",\"number\":51}",
     ),
     (
-        http_asks::Bad::NoSuchUpload,
+        Refused::NoSuchUpload,
         b"404 Not Found",
         b"36",
         b"{\"error\":\"NoSuchUpload\",\"number\":60}",
     ),
     (
-        http_asks::Bad::BadPart,
+        Refused::BadPart,
         b"409 Conflict",
         b"31",
         b"{\"error\":\"BadPart\",\"number\":61}",
     ),
     (
-        http_asks::Bad::Tariff(TariffFault::NotToml),
+        Refused::NotToml,
         b"400 Bad Request",
         b"31",
         b"{\"error\":\"NotToml\",\"number\":70}",
     ),
     (
-        http_asks::Bad::Tariff(TariffFault::MissingClass {
-            table: TariffTable::Storage,
-            class: Class::Glacier,
-        }),
+        Refused::MissingClass,
         b"400 Bad Request",
         b"72",
         b"{\"class\":\"GLACIER\",\"error\":\"MissingClass\",\"number\":71,\"table\":\"storage\"}",
     ),
     (
-        http_asks::Bad::Tariff(TariffFault::BadPrice {
-            table: TariffTable::Transition,
-            class: Class::StandardIa,
-        }),
+        Refused::BadPrice,
         b"400 Bad Request",
         b"75",
         b"{\"class\":\"STANDARD_IA\",\"error\":\"BadPrice\",\"number\":72,\"table\":\"transition\"}",
@@ -276,16 +336,20 @@ const REFUSALS: [(http_asks::Bad, &[u8], &[u8], &[u8]); 10] = [
 #[test]
 fn refusals_are_printed_exactly(rt: HostRuntime) -> Result<(), Fail> {
     let alloc = rt.alloc();
-    let kind: &[u8] = b"\r\ncontent-type: application/json\r\ncontent-length: ";
-    for (bad, status, size, body) in REFUSALS {
-        let reply = joined(alloc, &[b"HTTP/1.1 ", status, kind, size, GAP, body])?;
-        assert_printed(&rt, alloc, &Bad::Message(bad), &reply);
+    for (refused, status, size, body) in REFUSALS {
+        let reply = reply_of(alloc, *status, *size, *body)?;
+        assert!(rt; is_printed(alloc, &bad_of(*refused), &reply), "{refused:?}");
     }
+    let body = b"{\"error\":\"UnsupportedClass\",\"name\":\"FOO\",\"number\":43}";
+    let reply = reply_of(alloc, b"400 Bad Request", b"53", body)?;
+    let name = String::from_str(alloc, "FOO")?;
+    let bad = Bad::Message(http_asks::Bad::Body(BodyFault::UnsupportedClass { name }));
+    assert!(rt; is_printed(alloc, &bad, &reply));
     Ok(())
 }
 
 // How often the same bucket is asked for, the cut, what fails, and how the session ends.
-const FAILURES: [(&[&[u8]], usize, Failing, SessionEnd, &[&[u8]]); 5] = [
+const FAILURES: &[(&[&[u8]], usize, Failing, SessionEnd, &[&[u8]])] = &[
     (
         &[PUT, PUT],
         7,
@@ -363,12 +427,12 @@ fn each_message_is_answered_once(rt: HostRuntime) -> Result<(), Fail> {
         )?;
     }
     for (stream, cut, failing, end, said) in FAILURES {
-        assert_session(&rt, alloc, stream, cut, failing, (end, said))?;
+        assert_session(&rt, alloc, *stream, *cut, failing, (*end, *said))?;
     }
     Ok(())
 }
 
-const NOT_SERVED: [&[u8]; 7] = [
+const NOT_SERVED: &[&[u8]] = &[
     b"GET / HTTP/1.1\r\n\r\n",
     b"DELETE /buckets/logs HTTP/1.1\r\n\r\n",
     b"PUT /bucket/logs HTTP/1.1\r\n\r\n",
@@ -402,7 +466,7 @@ fn assert_last(rt: &impl Abort, alloc: Global, message: &[u8]) -> Result<(), Fai
 fn what_is_not_served_is_the_last(rt: HostRuntime) -> Result<(), Fail> {
     let alloc = rt.alloc();
     for message in NOT_SERVED {
-        assert_last(&rt, alloc, message)?;
+        assert_last(&rt, alloc, *message)?;
     }
     let letters = letters(alloc, 8188)?;
     let long = joined(alloc, &[b"GET /", &letters])?;
@@ -410,7 +474,7 @@ fn what_is_not_served_is_the_last(rt: HostRuntime) -> Result<(), Fail> {
 }
 
 // A message that is refused, and the size and the text of the reply's body.
-const REFUSED: [(&[u8], &[u8], &[u8]); 10] = [
+const REFUSED: &[(&[u8], &[u8], &[u8])] = &[
     (
         b"GET /buckets/logs/meters/2024-13 HTTP/1.1\r\n\r\n",
         b"32",
@@ -461,8 +525,8 @@ const BAD_NAME: &[u8] = b"{\"error\":\"BadBucketName\",\"number\":10}";
 fn a_session_goes_on_after_a_refusal(rt: HostRuntime) -> Result<(), Fail> {
     let alloc = rt.alloc();
     for (message, size, body) in REFUSED {
-        let wanted = &[BAD, size, GAP, body, FULL];
-        assert_session(&rt, alloc, &[message, PUT], 17, NOTHING, (ENDED, wanted))?;
+        let wanted = &[BAD, *size, GAP, *body, FULL];
+        assert_session(&rt, alloc, &[*message, PUT], 17, NOTHING, (ENDED, wanted))?;
     }
     let key = letters(alloc, 1025)?;
     let stream = &[
@@ -482,7 +546,7 @@ fn a_session_goes_on_after_a_refusal(rt: HostRuntime) -> Result<(), Fail> {
 }
 
 // The last message of a session, and its reply.
-const LAST: [(&[u8], &[&[u8]]); 4] = [
+const LAST: &[(&[u8], &[&[u8]])] = &[
     (
         b"PUT /buckets/logs HTTP/1.1\r\nConnection: close\r\n\r\n",
         &[FULL],
@@ -501,18 +565,17 @@ const LAST: [(&[u8], &[&[u8]]); 4] = [
 #[test]
 fn a_last_message_ends_the_session(rt: HostRuntime) -> Result<(), Fail> {
     for (message, said) in LAST {
-        assert_session(&rt, rt.alloc(), &[message, PUT], 17, NOTHING, (ENDED, said))?;
+        assert_session(
+            &rt,
+            rt.alloc(),
+            &[*message, PUT],
+            17,
+            NOTHING,
+            (ENDED, *said),
+        )?;
     }
     Ok(())
 }
-
-const STORED: &[u8] =
-    b"HTTP/1.1 201 Created\r\ncontent-type: application/json\r\ncontent-length: 54\r\n\r\n\
-{\"moment\":\"2024-01-01T00:00:00.000Z\",\"version\":\"null\"}";
-
-const SHOWN: &[u8] =
-    b"HTTP/1.1 200 OK\r\ncontent-type: application/json\r\ncontent-length: 79\r\n\r\n{\"bucket\":\"logs\",\"rules\":0,\
-\"uploads\":0,\"versioning\":\"Unversioned\",\"versions\":1}";
 
 /// A desk over an empty journal in memory.
 fn open_desk(alloc: Global) -> Result<Desk<MemoryDisk, ListClock>, Fail> {
@@ -523,34 +586,6 @@ fn open_desk(alloc: Global) -> Result<Desk<MemoryDisk, ListClock>, Fail> {
         Ok(desk) => Ok(desk),
         Err((fault, _, _)) => Err(Fail::from(fault)),
     }
-}
-
-/// Has one session over this stream with such a desk.
-fn talk_to_desk(
-    alloc: Global,
-    stream: &[&[u8]],
-    out: &mut MemoryReplies,
-) -> Result<SessionEnd, Fail> {
-    let mut desk = open_desk(alloc)?;
-    let mut source = MemorySource::new(joined(alloc, stream)?, 50, Vec::new(alloc));
-    Ok(session(alloc, &mut source, out, &mut desk))
-}
-
-// S3 User Guide, "How S3 Versioning works": an object of a bucket without versioning has the null version.
-#[test]
-fn a_desk_answers_a_session(rt: HostRuntime) -> Result<(), Fail> {
-    let alloc = rt.alloc();
-    let stream: [&[u8]; 3] = [
-        PUT,
-        b"PUT /buckets/logs/objects/a/b HTTP/1.1\r\nContent-Length: 13\r\n\r\n{\"size\":1000}",
-        b"GET /buckets/logs HTTP/1.1\r\n\r\n",
-    ];
-    let replies = joined(alloc, &[MADE, STORED, SHOWN])?;
-    let mut out = MemoryReplies::new(alloc, Vec::new(alloc));
-    let end = talk_to_desk(alloc, &stream, &mut out)?;
-    assert!(rt; end == ENDED);
-    assert!(rt; out.said() == replies.as_slice());
-    Ok(())
 }
 
 #[test]
@@ -567,8 +602,8 @@ fn a_session_runs_over_readers_and_writers_of_std(rt: HostRuntime) -> Result<(),
         store_fails: 0,
         lacks: 0,
     };
-    let end = session(alloc, &mut source, &mut out, &mut teller);
-    assert!(rt; end == ENDED);
+    let end = talk(alloc, &mut source, &mut out, &mut teller);
+    assert_eq!(rt; end, ENDED);
     assert!(rt; said.as_slice() == replies.as_slice());
     assert!(rt; noted.is_empty());
     Ok(())
@@ -579,8 +614,11 @@ fn failing_replies_are_counted_together(rt: HostRuntime) -> Result<(), Fail> {
     let alloc = rt.alloc();
     let mut out = MemoryReplies::new(alloc, [1, 3].to_vec(alloc)?);
     assert!(rt; out.text(b"office\n").is_err());
-    let end = talk_to_desk(alloc, &[PUT, b"PUT /buckets/lo HTTP/1.1\r\n\r\n"], &mut out)?;
-    assert!(rt; end == SessionEnd::WriteFault);
+    let stream = joined(alloc, &[PUT, b"PUT /buckets/lo HTTP/1.1\r\n\r\n"])?;
+    let mut source = MemorySource::new(stream, 50, Vec::new(alloc));
+    let mut desk = open_desk(alloc)?;
+    let end = talk(alloc, &mut source, &mut out, &mut desk);
+    assert_eq!(rt; end, SessionEnd::WriteFault);
     assert!(rt; out.said() == MADE);
     assert!(rt; out.text(b"office\n").is_ok());
     assert!(rt; out.texts() == b"office\n".as_slice());

@@ -1,12 +1,12 @@
 // The program with workers side by side, over a port and a gate of the tests' own.
 ghost use Rattle.std.specs.Prelude.{Some, ⊤};
 
-use office_program::{End, office};
 use desk_core::{Acked, ListClock};
 use disk_core::{Disk, FileNo, MemoryDisk};
 use http_front::{Bad, MemoryReplies, Replies, SessionEnd};
 use http_wire::MemorySource;
 use office_base::{Failed, NoMemory};
+use office_program::{End, office};
 use serving::{Gate, MemoryPort, Port, PortFault};
 use std::alloc::Global;
 use std::sync::Wait;

@@ -1,7 +1,7 @@
 // Workers on an office in memory, over a port of the network.
-use serving::{OpenGate, Port, PortFault, TcpPort, WorkerEnd, serve};
 use desk_core::{Desk, ListClock};
 use disk_core::{Disk, FileNo, MemoryDisk};
+use serving::{OpenGate, Port, PortFault, TcpPort, WorkerEnd, serve};
 use std::alloc::Global;
 use std::io::{Read, Write};
 use std::net::{Net, Shutdown, TcpListener, TcpStream};

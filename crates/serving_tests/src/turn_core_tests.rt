@@ -5,12 +5,12 @@ ghost use Rattle.turn_core.specs.Calls.{calls_under};
 ghost use Rattle.turn_core.specs.Passes.{IsPassOf, view};
 ghost use Rattle.turn_core.specs.Views.{newcomer};
 
-use turn_core::{Pass, Turned, Turns};
 use std::alloc::{AllocError, Global};
 use std::hint::spin_loop;
 use std::sync::Wait;
 use std::test::Fail;
 use std::thread::{Threads, join};
+use turn_core::{Pass, Turned, Turns};
 
 /// Says how many calls there were.
 #[derive(Drop)]

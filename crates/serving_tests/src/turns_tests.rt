@@ -5,12 +5,12 @@ ghost use Rattle.turn_core.specs.Views.{left, right};
 ghost use Rattle.serving.specs.Askers.{AsksOnce};
 ghost use Rattle.serving.specs.Seats.{IsPassAt, turns_id};
 
-use serving::{Gate, Seated};
 use desk_core::{Acked, Clock, Desk, DeskFault, ListClock};
 use disk_core::{Disk, FileNo, MemoryDisk};
 use http_front::Teller;
 use office_base::BucketName;
 use office_types::{Ask, Command, Query, Refusal, Reply};
+use serving::{Gate, Seated};
 use std::alloc::Global;
 use std::sync::Wait;
 use std::sync::atomic::{AtomicU64, Ordering};

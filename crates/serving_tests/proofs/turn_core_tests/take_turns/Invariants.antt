@@ -1,6 +1,6 @@
 use Rattle.std.proofs.Common.{◌≡◌}
 use Rattle.turn_core.specs.Passes.{IsPassOf, view}
-use Rattle.turn_core.proofs.tests.take_turns.Given as goal
+use Rattle.serving_tests.proofs.turn_core_tests.take_turns.Given as goal
 
 -- the pass stays one of these turns, and keeps its share
 abbrev pub invariant-loop-number : goal.invariant-loop-number

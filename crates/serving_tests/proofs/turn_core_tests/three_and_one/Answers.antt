@@ -3,7 +3,7 @@ use Rattle.std.proofs.lemmas.Grind.{common_steps}
 use Rattle.turn_core.specs.Calls.{calls_under}
 use Rattle.turn_core.specs.Passes.{view}
 use Rattle.turn_core.proofs.Tallies.{three_and_one}
-use Rattle.turn_core.proofs.tests.three_and_one.Goals as goal
+use Rattle.serving_tests.proofs.turn_core_tests.three_and_one.Goals as goal
 
 pub returns-clause-all : goal.returns-clause-all
 returns-clause-all g c =

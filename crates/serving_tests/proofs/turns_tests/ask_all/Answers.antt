@@ -20,10 +20,10 @@ use Rattle.desk_core.specs.contracts.acked.Acked.TheInside as AckedInside
 use Rattle.desk_core.specs.contracts.fault.DeskFault as DeskFault
 use Rattle.desk_core.proofs.fault.DeskFault.TheSendSync as fault
 use Rattle.serving.specs.contracts.seated.Seated as Seated
-use Rattle.serving.specs.contracts.turns_tests.Asker as Asker
-use Rattle.serving.specs.contracts.turns_tests.HoldingGate as Gate
+use Rattle.serving_tests.specs.contracts.turns_tests.Asker as Asker
+use Rattle.serving_tests.specs.contracts.turns_tests.HoldingGate as Gate
 use Rattle.serving.proofs.Crossing.{seated_send}
-use Rattle.serving.proofs.turns_tests.ask_all.Goals as goal
+use Rattle.serving_tests.proofs.turns_tests.ask_all.Goals as goal
 
 gate_sync : IsSync Gate.the_row
 gate_sync = search (crosses, sendable) depth 60 fits 20000

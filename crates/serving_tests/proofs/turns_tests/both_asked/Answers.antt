@@ -8,10 +8,10 @@ use Rattle.desk_core.specs.Turns.{Reaches, LegalSince}
 use Rattle.desk_core.specs.declared.fault.DeskFault.{DeskFault}
 use Rattle.serving.specs.Askers.{AsksOnce}
 use Rattle.serving.specs.Seats.{Seat, DeskPass}
-use Rattle.serving.specs.declared.turns_tests.Asker.{Asker}
+use Rattle.serving_tests.specs.declared.turns_tests.Asker.{Asker}
 use Rattle.serving.proofs.TwoCalls.{either_way, called_so, each_took}
-use Rattle.serving.proofs.turns_tests.both_asked.Given as given
-use Rattle.serving.proofs.turns_tests.both_asked.Goals as goal
+use Rattle.serving_tests.proofs.turns_tests.both_asked.Given as given
+use Rattle.serving_tests.proofs.turns_tests.both_asked.Goals as goal
 
 abbrev One : given.Over → Type 0
 One g = Asker g.row.D.Denot g.row.C.Denot g.row.R.Denot

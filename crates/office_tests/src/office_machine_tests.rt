@@ -1,11 +1,11 @@
 ghost use Rattle.std.specs.Prelude.{◌≡◌};
 ghost use Rattle.plain_office.specs.Run.{is_not_before};
 
-use office_machine::Office;
 use class_rules::Class;
 use moments::{Moment, Month};
 use office_base::{BucketName, Key, Size, Tags, VersionId};
-use office_types::{ClassMeters, Command, Query, Refusal, Reply, What};
+use office_machine::Office;
+use office_types::{Ask, ClassMeters, Command, Query, Refusal, Reply, What};
 use std::alloc::Global;
 use std::marker::Model;
 use std::process::Abort;
@@ -20,10 +20,8 @@ const DAY: u64 = 86_400_000;
 #[derive(Clone, Copy, Debug)]
 enum Wish<'a> {
     Make(&'a str),
-    // A put under this key, of this many bytes.
-    Put(&'a str, &'a str, u64, Class),
-    // A put of one byte under this key, with this many tags.
-    Tagged(&'a str, &'a str, u64),
+    // A put under this key, of this many bytes, with this many tags.
+    Put(&'a str, &'a str, u64, Class, u64),
     Show(&'a str),
     // The meters of this month of a year.
     Meters(&'a str, u16, u8),
@@ -81,9 +79,39 @@ impl Model for Tried {
 fn tags(alloc: Global, number: u64) -> Result<Tags, Fail> {
     let mut pairs = Vec::new(alloc);
     for n in 0..number {
-        pairs.push((format!(in alloc; "key-{n}")?, format!(in alloc; "value")?))?;
+        pairs.push((
+            format!(in alloc; "key-{n}")?,
+            String::from_str(alloc, "value")?,
+        ))?;
     }
     Ok(Tags::read(alloc, pairs)?)
+}
+
+// What is asked by a wish.
+fn asked(alloc: Global, wish: Wish<'_>) -> Result<Ask, Fail> {
+    match wish {
+        Wish::Make(name) => Ok(Ask::Command(Command::CreateBucket {
+            bucket: BucketName::read(alloc, name)?,
+        })),
+        Wish::Put(name, key, size, class, number) => {
+            let size = Size::of(size)?;
+            let tags = tags(alloc, number)?;
+            let key = Key::read(alloc, key.as_bytes())?;
+            let bucket = BucketName::read(alloc, name)?;
+            Ok(Ask::Command(Command::Put {
+                bucket,
+                key,
+                size,
+                class,
+                tags,
+            }))
+        }
+        Wish::Show(name) => Ok(Ask::Query(Query::Bucket(BucketName::read(alloc, name)?))),
+        Wish::Meters(name, year, number) => {
+            let month = month_of(year, number)?;
+            Ok(Ask::Query(Query::Meters(BucketName::read(alloc, name)?, month)))
+        }
+    }
 }
 
 impl Tried {
@@ -102,39 +130,10 @@ impl Tried {
         ms: u64,
         wish: Wish<'_>,
     ) -> Result<Heard, Fail> {
-        let (Wish::Make(name)
-        | Wish::Put(name, ..)
-        | Wish::Tagged(name, ..)
-        | Wish::Show(name)
-        | Wish::Meters(name, ..)) = wish;
-        let bucket = BucketName::read(alloc, name)?;
         let moment = Moment::of(ms)?;
-        let said = match wish {
-            Wish::Make(_) => self.ask(rt, moment, &Command::CreateBucket { bucket }),
-            Wish::Put(_, key, size, class) => {
-                let command = Command::Put {
-                    bucket,
-                    key: Key::read(alloc, key.as_bytes())?,
-                    size: Size::of(size)?,
-                    class,
-                    tags: tags(alloc, 0)?,
-                };
-                self.ask(rt, moment, &command)
-            }
-            Wish::Tagged(_, key, number) => {
-                let command = Command::Put {
-                    bucket,
-                    key: Key::read(alloc, key.as_bytes())?,
-                    size: Size::of(1)?,
-                    class: Class::Standard,
-                    tags: tags(alloc, number)?,
-                };
-                self.ask(rt, moment, &command)
-            }
-            Wish::Show(_) => self.show(rt, moment, &Query::Bucket(bucket)),
-            Wish::Meters(_, year, number) => {
-                self.show(rt, moment, &Query::Meters(bucket, month_of(year, number)?))
-            }
+        let said = match asked(alloc, wish)? {
+            Ask::Command(command) => self.ask(rt, moment, &command),
+            Ask::Query(query) => self.show(rt, moment, &query),
         };
         Ok(answer_of(&said, ms, wish))
     }
@@ -181,7 +180,7 @@ fn answer_of(said: &Result<Reply, Refusal>, ms: u64, wish: Wish<'_>) -> Heard {
     };
     let (what, is_so) = match (reply, wish) {
         (Reply::BucketMade { bucket }, Wish::Make(name)) => (Heard::Made, bucket.text() == name),
-        (Reply::Stored { moment, version }, Wish::Put(..) | Wish::Tagged(..)) => {
+        (Reply::Stored { moment, version }, Wish::Put(..)) => {
             (
                 Heard::Stored,
                 moment.ms() == ms && *version == VersionId::Null,
@@ -233,20 +232,19 @@ fn metered(meters: &[ClassMeters; 6]) -> Heard {
         infrequent: meters[1].byte_ms,
         early: meters[1].early_byte_ms,
     };
-    let classes = [
-        Class::Standard,
-        Class::StandardIa,
-        Class::OnezoneIa,
-        Class::GlacierIr,
-        Class::Glacier,
-        Class::DeepArchive,
+    let wanted = [
+        used.of(Class::Standard),
+        used.of(Class::StandardIa),
+        used.of(Class::OnezoneIa),
+        used.of(Class::GlacierIr),
+        used.of(Class::Glacier),
+        used.of(Class::DeepArchive),
     ];
-    for (meters, class) in meters.iter().zip(classes) {
-        if *meters != used.of(class) {
-            return Heard::Other;
-        }
+    if *meters == wanted {
+        Heard::Metered(used)
+    } else {
+        Heard::Other
     }
-    Heard::Metered(used)
 }
 
 impl Used {
@@ -272,12 +270,8 @@ fn assert_rows(rt: &impl Abort, alloc: Global, rows: &[Row]) -> Result<(), Fail>
     let mut tried = Tried::new(alloc);
     assert_eq!(rt; tried.last_ms(), None);
     for (ms, wish, answer, last) in rows {
-        assert_eq!(rt;
-            tried.turn(rt, alloc, *ms, *wish)?,
-            *answer,
-            "{wish:?} at {ms}"
-        );
-        assert_eq!(rt; tried.last_ms(), Some(*last), "after {wish:?} at {ms}");
+        let found = (tried.turn(rt, alloc, *ms, *wish)?, tried.last_ms());
+        assert_eq!(rt; found, (*answer, Some(*last)), "{wish:?} at {ms}");
     }
     Ok(())
 }
@@ -294,7 +288,7 @@ const LOGS: Wish<'static> = Wish::Show("logs");
 
 const DATA: Wish<'static> = Wish::Show("data");
 
-const NAMES: [Row; 8] = [
+const NAMES: &[Row] = &[
     (5, Wish::Make("logs"), MADE, 5),
     (5, Wish::Make("data"), MADE, 5),
     (6, Wish::Make("logs"), EXISTS, 5),
@@ -305,54 +299,49 @@ const NAMES: [Row; 8] = [
     (10, Wish::Make("logs"), EXISTS, 9),
 ];
 
-#[test]
-fn a_name_is_taken_once(rt: HostRuntime) -> Result<(), Fail> {
-    assert_rows(&rt, rt.alloc(), &NAMES)
-}
-
-const PUTS: [Row; 24] = [
+const PUTS: &[Row] = &[
     (5, Wish::Make("logs"), MADE, 5),
     (5, Wish::Make("data"), MADE, 5),
-    (6, Wish::Put("logs", "a", 1, STANDARD), Heard::Stored, 6),
+    (6, Wish::Put("logs", "a", 1, STANDARD, 0), Heard::Stored, 6),
     (6, LOGS, Heard::Shown(1), 6),
     (6, DATA, Heard::Shown(0), 6),
-    (6, Wish::Put("logs", "b", 1, STANDARD), Heard::Stored, 6),
+    (6, Wish::Put("logs", "b", 1, STANDARD, 0), Heard::Stored, 6),
     (6, LOGS, Heard::Shown(2), 6),
     (6, DATA, Heard::Shown(0), 6),
-    (7, Wish::Put("logs", "a", 1, STANDARD), Heard::Stored, 7),
+    (7, Wish::Put("logs", "a", 1, STANDARD, 0), Heard::Stored, 7),
     (7, LOGS, Heard::Shown(2), 7),
     (7, DATA, Heard::Shown(0), 7),
-    (8, Wish::Put("zoo", "a", 1, STANDARD), MISSING, 7),
+    (8, Wish::Put("zoo", "a", 1, STANDARD, 0), MISSING, 7),
     (8, LOGS, Heard::Shown(2), 7),
     (8, DATA, Heard::Shown(0), 7),
-    (9, Wish::Put("data", "a", 1, STANDARD), Heard::Stored, 9),
+    (9, Wish::Put("data", "a", 1, STANDARD, 0), Heard::Stored, 9),
     (9, LOGS, Heard::Shown(2), 9),
     (9, DATA, Heard::Shown(1), 9),
-    (9, Wish::Put("log", "a", 1, STANDARD), MISSING, 9),
+    (9, Wish::Put("log", "a", 1, STANDARD, 0), MISSING, 9),
     (9, LOGS, Heard::Shown(2), 9),
     (9, DATA, Heard::Shown(1), 9),
-    (10, Wish::Put("logs", "a/b", 1, STANDARD), Heard::Stored, 10),
+    (
+        10,
+        Wish::Put("logs", "a/b", 1, STANDARD, 0),
+        Heard::Stored,
+        10,
+    ),
     (10, LOGS, Heard::Shown(3), 10),
     (10, DATA, Heard::Shown(1), 10),
     (11, Wish::Show("zoo"), MISSING, 10),
 ];
 
-#[test]
-fn versions_and_refusals(rt: HostRuntime) -> Result<(), Fail> {
-    assert_rows(&rt, rt.alloc(), &PUTS)
-}
-
-const TWO_PUTS: [Row; 8] = [
+const TWO_PUTS: &[Row] = &[
     (NEW_YEAR, Wish::Make("logs"), MADE, NEW_YEAR),
     (
         NEW_YEAR,
-        Wish::Put("logs", "a", 1_000, STANDARD),
+        Wish::Put("logs", "a", 1_000, STANDARD, 0),
         Heard::Stored,
         NEW_YEAR,
     ),
     (
         NEW_YEAR + DAY,
-        Wish::Put("logs", "a", 2_000, STANDARD),
+        Wish::Put("logs", "a", 2_000, STANDARD, 0),
         Heard::Stored,
         NEW_YEAR + DAY,
     ),
@@ -408,22 +397,17 @@ const TWO_PUTS: [Row; 8] = [
     ),
 ];
 
-#[test]
-fn two_puts_a_day_apart(rt: HostRuntime) -> Result<(), Fail> {
-    assert_rows(&rt, rt.alloc(), &TWO_PUTS)
-}
-
-const REPLACED: [Row; 6] = [
+const REPLACED: &[Row] = &[
     (NEW_YEAR, Wish::Make("logs"), MADE, NEW_YEAR),
     (
         NEW_YEAR,
-        Wish::Put("logs", "a", 200_000, Class::StandardIa),
+        Wish::Put("logs", "a", 200_000, Class::StandardIa, 0),
         Heard::Stored,
         NEW_YEAR,
     ),
     (
         NEW_YEAR + 10 * DAY,
-        Wish::Put("logs", "a", 0, STANDARD),
+        Wish::Put("logs", "a", 0, STANDARD, 0),
         Heard::Stored,
         NEW_YEAR + 10 * DAY,
     ),
@@ -459,23 +443,18 @@ const REPLACED: [Row; 6] = [
     ),
 ];
 
-#[test]
-fn replaced_before_the_least_duration(rt: HostRuntime) -> Result<(), Fail> {
-    assert_rows(&rt, rt.alloc(), &REPLACED)
-}
-
 // 100 bytes in STANDARD_IA are billed as 131,072.
-const LEFT_EARLY: [Row; 4] = [
+const LEFT_EARLY: &[Row] = &[
     (NEW_YEAR, Wish::Make("logs"), MADE, NEW_YEAR),
     (
         NEW_YEAR,
-        Wish::Put("logs", "a", 100, Class::StandardIa),
+        Wish::Put("logs", "a", 100, Class::StandardIa, 0),
         Heard::Stored,
         NEW_YEAR,
     ),
     (
         NEW_YEAR + 10 * DAY,
-        Wish::Put("logs", "a", 0, STANDARD),
+        Wish::Put("logs", "a", 0, STANDARD, 0),
         Heard::Stored,
         NEW_YEAR + 10 * DAY,
     ),
@@ -491,17 +470,17 @@ const LEFT_EARLY: [Row; 4] = [
     ),
 ];
 
-const LEFT_AT_THE_LEAST_DURATION: [Row; 4] = [
+const LEFT_AT_THE_LEAST_DURATION: &[Row] = &[
     (NEW_YEAR, Wish::Make("logs"), MADE, NEW_YEAR),
     (
         NEW_YEAR,
-        Wish::Put("logs", "a", 100, Class::StandardIa),
+        Wish::Put("logs", "a", 100, Class::StandardIa, 0),
         Heard::Stored,
         NEW_YEAR,
     ),
     (
         NEW_YEAR + 30 * DAY,
-        Wish::Put("logs", "a", 0, STANDARD),
+        Wish::Put("logs", "a", 0, STANDARD, 0),
         Heard::Stored,
         NEW_YEAR + 30 * DAY,
     ),
@@ -517,23 +496,29 @@ const LEFT_AT_THE_LEAST_DURATION: [Row; 4] = [
     ),
 ];
 
-#[test]
-fn replaced_at_the_least_size(rt: HostRuntime) -> Result<(), Fail> {
-    assert_rows(&rt, rt.alloc(), &LEFT_EARLY)?;
-    assert_rows(&rt, rt.alloc(), &LEFT_AT_THE_LEAST_DURATION)
-}
-
-const TAGGED: [Row; 5] = [
+const TAGGED: &[Row] = &[
     (5, Wish::Make("logs"), MADE, 5),
-    (6, Wish::Tagged("logs", "a", 10), Heard::Stored, 6),
-    (7, Wish::Tagged("logs", "a", 1), Heard::Stored, 7),
-    (8, Wish::Tagged("logs", "b", 2), Heard::Stored, 8),
+    (6, Wish::Put("logs", "a", 1, STANDARD, 10), Heard::Stored, 6),
+    (7, Wish::Put("logs", "a", 1, STANDARD, 1), Heard::Stored, 7),
+    (8, Wish::Put("logs", "b", 1, STANDARD, 2), Heard::Stored, 8),
     (9, LOGS, Heard::Shown(2), 8),
 ];
 
 #[test]
-fn puts_with_tags(rt: HostRuntime) -> Result<(), Fail> {
-    assert_rows(&rt, rt.alloc(), &TAGGED)
+fn commands_and_queries(rt: HostRuntime) -> Result<(), Fail> {
+    let offices: &[&[Row]] = &[
+        NAMES,
+        PUTS,
+        TWO_PUTS,
+        REPLACED,
+        LEFT_EARLY,
+        LEFT_AT_THE_LEAST_DURATION,
+        TAGGED,
+    ];
+    for rows in offices {
+        assert_rows(&rt, rt.alloc(), *rows)?;
+    }
+    Ok(())
 }
 
 #[test]

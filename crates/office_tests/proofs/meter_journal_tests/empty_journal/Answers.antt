@@ -1,7 +1,7 @@
 use Rattle.std.proofs.Common.{[], take, refl, arith}
 use Rattle.std.proofs.lemmas.List.{length-take}
 use Rattle.meter_journal.proofs.Prefix.{prefix_start, read_end}
-use Rattle.meter_journal.proofs.tests.empty_journal.Goals as goal
+use Rattle.office_tests.proofs.meter_journal_tests.empty_journal.Goals as goal
 
 pub returns-in-None : goal.returns-in-None
 returns-in-None g c told =

@@ -4,7 +4,7 @@ use Rattle.plain_office.specs.Step.{is_accepted}
 use Rattle.office_types.specs.declared.reply.Reply.{Reply}
 use Rattle.office_types.specs.declared.refusal.Refusal.{Refusal}
 use Rattle.office_machine.specs.Standing.{accepted_after}
-use Rattle.office_machine.proofs.tests.Tried.ask.Goals as goal
+use Rattle.office_tests.proofs.office_machine_tests.Tried.ask.Goals as goal
 
 one_most : (b : Bool) (n : ℕ) → cond b (n + 1) n ≤ n + 1
 one_most true n = omega arith

@@ -2,7 +2,7 @@ use Rattle.std.proofs.Common.{[], ◌∷◌, take, refl, arith}
 use Rattle.std.proofs.lemmas.List.{length-take}
 use Rattle.disk_core.specs.declared.disk.FileNo.TheVariants.{Journal}
 use Rattle.meter_journal.proofs.Prefix.{prefix_start, read_more, read_end}
-use Rattle.meter_journal.proofs.tests.read_again.Goals as goal
+use Rattle.office_tests.proofs.meter_journal_tests.read_again.Goals as goal
 
 pub returns-in_default : goal.returns-in_default
 returns-in_default g c told =

@@ -3,49 +3,60 @@ ghost use Rattle.entry_codec.specs.Spelling.{IsEntry};
 ghost use Rattle.office_types.specs.declared.command.Entry.{Entry};
 ghost use Rattle.meter_journal.specs.History.{IsAtRest};
 
-use meter_journal::{AppendFault, Journal, Made, OpenFault, Opening, create, frame, made, read_all};
 use disk_core::{Disk, FileNo, MemoryDisk};
 use entry_codec::encode;
+use meter_journal::{
+    AppendFault, Journal, Made, OpenFault, Opening, create, frame, made, read_all,
+};
 use moments::Moment;
 use office_base::BucketName;
 use office_types::{Command, Entry};
 use std::alloc::Global;
 use std::test::Fail;
 
-const EMPTY: [u8; 11] = [
+const EMPTY: &[u8] = &[
     0xA5, 0x4D, 0x45, 0x54, 0x45, 0x52, 0x4A, 0x52, 0x4E, 0x31, 0,
 ];
 
+// The same without its gate.
+const NO_GATE: &[u8] = &[0xA5, 0x4D, 0x45, 0x54, 0x45, 0x52, 0x4A, 0x52, 0x4E, 0x31];
+
 // The bucket logs, made at 2024-01-01 00:00 UTC.
-const ONE: [u8; 31] = [
+const ONE: &[u8] = &[
     0xA5, 0x4D, 0x45, 0x54, 0x45, 0x52, 0x4A, 0x52, 0x4E, 0x31, 0xA5, 0, 0, 0, 15, 0, 0, 0x01,
     0x8C, 0xC2, 0x51, 0xF4, 0x00, 0x01, 0, 4, 0x6C, 0x6F, 0x67, 0x73, 0,
 ];
 
+// The same in blocks of 20 bytes.
+const GROWN: &[u8] = &[
+    0xA5, 0x4D, 0x45, 0x54, 0x45, 0x52, 0x4A, 0x52, 0x4E, 0x31, 0xA5, 0, 0, 0, 15, 0, 0, 0x01,
+    0x8C, 0xC2, 0x51, 0xF4, 0x00, 0x01, 0, 4, 0x6C, 0x6F, 0x67, 0x73, 0, 0, 0, 0, 0, 0, 0, 0, 0, 0,
+];
+
 // The same entry twice.
-const TWO: [u8; 51] = [
+const TWO: &[u8] = &[
     0xA5, 0x4D, 0x45, 0x54, 0x45, 0x52, 0x4A, 0x52, 0x4E, 0x31, 0xA5, 0, 0, 0, 15, 0, 0, 0x01,
     0x8C, 0xC2, 0x51, 0xF4, 0x00, 0x01, 0, 4, 0x6C, 0x6F, 0x67, 0x73, 0xA5, 0, 0, 0, 15, 0, 0,
     0x01, 0x8C, 0xC2, 0x51, 0xF4, 0x00, 0x01, 0, 4, 0x6C, 0x6F, 0x67, 0x73, 0,
 ];
 
 // The length says one byte more than there is.
-const LONG: [u8; 31] = [
+const LONG: &[u8] = &[
     0xA5, 0x4D, 0x45, 0x54, 0x45, 0x52, 0x4A, 0x52, 0x4E, 0x31, 0xA5, 0, 0, 0, 16, 0, 0, 0x01,
     0x8C, 0xC2, 0x51, 0xF4, 0x00, 0x01, 0, 4, 0x6C, 0x6F, 0x67, 0x73, 0,
 ];
 
 // The length says 3,000,000,000 bytes.
-const HUGE: [u8; 31] = [
+const HUGE: &[u8] = &[
     0xA5, 0x4D, 0x45, 0x54, 0x45, 0x52, 0x4A, 0x52, 0x4E, 0x31, 0xA5, 0xB2, 0xD0, 0x5E, 0, 0, 0,
     0x01, 0x8C, 0xC2, 0x51, 0xF4, 0x00, 0x01, 0, 4, 0x6C, 0x6F, 0x67, 0x73, 0,
 ];
 
-const CLOSED: [u8; 11] = [
+const CLOSED: &[u8] = &[
     0x37, 0x4D, 0x45, 0x54, 0x45, 0x52, 0x4A, 0x52, 0x4E, 0x31, 0,
 ];
 
-const FOREIGN: [u8; 12] = [
+const FOREIGN: &[u8] = &[
     0x37, 0x4D, 0x45, 0x54, 0x45, 0x52, 0x4A, 0x52, 0x4E, 0x31, 0, 0,
 ];
 
@@ -143,33 +154,29 @@ fn added(alloc: Global, block: u64, limit: u64) -> Result<(Result<u64, AppendFau
     Ok((answer, kept))
 }
 
-#[test]
-fn an_entry_is_added_within_the_limit(rt: HostRuntime) -> Result<(), Fail> {
-    let alloc = rt.alloc();
-    let (answer, file) = added(alloc, 0, 30)?;
-    assert_eq!(rt; answer, Err(AppendFault::JournalFull));
-    assert!(rt; file.as_slice() == &EMPTY[..]);
-    let (answer, file) = added(alloc, 0, 31)?;
-    assert_eq!(rt; answer, Ok(30));
-    assert!(rt; file.as_slice() == &ONE[..]);
-    Ok(())
-}
+// The block and the limit, the answer, and the file then.
+const ADDED: &[(u64, u64, Result<u64, AppendFault>, &[u8])] = &[
+    (0, 30, Err(AppendFault::JournalFull), EMPTY),
+    (0, 31, Ok(30), ONE),
+    (20, 40, Ok(30), GROWN),
+    // The first gate and the next one stand in one block; the file would be longer than the limit.
+    (31, 40, Ok(30), ONE),
+    (20, 39, Ok(30), ONE),
+];
 
 #[test]
-fn a_file_grows_by_blocks(rt: HostRuntime) -> Result<(), Fail> {
+fn an_entry_is_added_within_the_limit_and_the_file_grows_by_blocks(
+    rt: HostRuntime,
+) -> Result<(), Fail> {
     let alloc = rt.alloc();
-    let (answer, file) = added(alloc, 20, 40)?;
-    assert_eq!(rt; answer, Ok(30));
-    assert!(rt; file.starts_with(&ONE));
-    assert!(rt; file[ONE.len()..] == [0; 9]);
-    let mut journal = Journal::over(file_of(alloc, &file)?, 40);
+    for (block, limit, answer, file) in ADDED {
+        let (found, kept) = added(alloc, (*block).min(4_096), (*limit).min(1 << 45))?;
+        assert_eq!(rt; found, *answer, "block {block}, limit {limit}");
+        assert!(rt; kept.as_slice() == *file, "block {block}, limit {limit}");
+    }
+    let mut journal = Journal::over(file_of(alloc, GROWN)?, 40);
     assert_eq!(rt; has_entry(alloc, &mut journal), Ok(true));
     assert_eq!(rt; journal.end(), 30);
-    // The first gate and the next one stand in one block; the file would be longer than the limit.
-    let (_, file) = added(alloc, 31, 40)?;
-    assert!(rt; file.as_slice() == &ONE[..]);
-    let (_, file) = added(alloc, 20, 39)?;
-    assert!(rt; file.as_slice() == &ONE[..]);
     Ok(())
 }
 
@@ -193,18 +200,20 @@ fn added_again(
     Ok((found, answer, kept))
 }
 
+// The call that fails, whether the entry is there then, the answer to the second, and the file. Of the calls of the
+// disk, 18 is the first sync of the entry and 20 the second, with the gate open between them.
+const FAILED: &[(u64, bool, Result<u64, AppendFault>, &[u8])] = &[
+    (18, false, Ok(30), ONE),
+    (20, true, Ok(50), TWO),
+];
+
 #[test]
 fn a_journal_is_opened_again_after_a_fault(rt: HostRuntime) -> Result<(), Fail> {
-    let alloc = rt.alloc();
-    // Of the calls of the disk, 18 is the first sync of the entry and 20 the second, with the gate open between them.
-    let (found, answer, file) = added_again(alloc, 18)?;
-    assert_eq!(rt; found, false);
-    assert_eq!(rt; answer, Ok(30));
-    assert!(rt; file.as_slice() == &ONE[..]);
-    let (found, answer, file) = added_again(alloc, 20)?;
-    assert_eq!(rt; found, true);
-    assert_eq!(rt; answer, Ok(50));
-    assert!(rt; file.as_slice() == &TWO[..]);
+    for (failing, is_there, answer, file) in FAILED {
+        let (found, second, kept) = added_again(rt.alloc(), *failing)?;
+        assert_eq!(rt; (found, second), (*is_there, *answer), "call {failing}");
+        assert!(rt; kept.as_slice() == *file, "call {failing}");
+    }
     Ok(())
 }
 
@@ -225,43 +234,61 @@ fn told_at(alloc: Global, file: &[u8], gate: u64) -> Result<Option<(u64, bool, u
     }
 }
 
+// A file, and whether it is a journal.
+const HEADS: &[(&[u8], Result<(), OpenFault>)] = &[
+    (EMPTY, Ok(())),
+    (NO_GATE, Err(OpenFault::NotMade)),
+    (CLOSED, Err(OpenFault::NotMade)),
+    (FOREIGN, Err(OpenFault::Foreign)),
+];
+
+const DAMAGED: OpenFault = OpenFault::Damaged { offset: 10 };
+
+// A file, a gate, and what the frame there says.
+const FRAMES: &[(&[u8], u64, Result<Option<(u64, bool, u64)>, OpenFault>)] = &[
+    (ONE, 10, Ok(Some((1_704_067_200_000, true, 30)))),
+    (ONE, 30, Ok(None)),
+    (LONG, 10, Err(DAMAGED)),
+    (HUGE, 10, Err(DAMAGED)),
+];
+
 #[test]
 fn a_file_is_what_its_bytes_say(rt: HostRuntime) -> Result<(), Fail> {
     let alloc = rt.alloc();
-    for (file, head) in [
-        (&EMPTY[..], Ok(())),
-        (&EMPTY[..10], Err(OpenFault::NotMade)),
-        (&CLOSED[..], Err(OpenFault::NotMade)),
-        (&FOREIGN[..], Err(OpenFault::Foreign)),
-    ] {
-        assert_eq!(rt; made(file), head);
+    for (file, head) in HEADS {
+        assert_eq!(rt; made(*file), *head, "{file:?}");
     }
-    assert_eq!(rt;
-        told_at(alloc, &ONE, 10),
-        Ok(Some((1_704_067_200_000, true, 30)))
-    );
-    assert_eq!(rt; told_at(alloc, &ONE, 30), Ok(None));
-    for file in [&LONG[..], &HUGE[..]] {
-        let damaged = OpenFault::Damaged { offset: 10 };
-        assert_eq!(rt; told_at(alloc, file, 10), Err(damaged));
-        let disk = file_of(alloc, file)?;
-        assert_eq!(rt; empty_journal(alloc, disk, 51).err(), Some(damaged));
+    for (file, gate, frame) in FRAMES {
+        assert_eq!(rt; told_at(alloc, *file, *gate), *frame, "{file:?} at {gate}");
+    }
+    for file in &[LONG, HUGE] {
+        let disk = file_of(alloc, *file)?;
+        assert_eq!(rt;
+            empty_journal(alloc, disk, 51).err(),
+            Some(DAMAGED),
+            "{file:?}"
+        );
     }
     Ok(())
 }
 
+// A file, what making it answers, and the file then.
+const MADE: &[(&[u8], Result<Made, OpenFault>, &[u8])] = &[
+    (CLOSED, Ok(Made::Now), EMPTY),
+    (ONE, Ok(Made::Before), ONE),
+    (FOREIGN, Err(OpenFault::Foreign), FOREIGN),
+];
+
 #[test]
 fn a_file_is_made_once(rt: HostRuntime) -> Result<(), Fail> {
     let alloc = rt.alloc();
-    for (file, answer, after) in [
-        (&CLOSED[..], Ok(Made::Now), &EMPTY[..]),
-        (&ONE[..], Ok(Made::Before), &ONE[..]),
-        (&FOREIGN[..], Err(OpenFault::Foreign), &FOREIGN[..]),
-    ] {
-        let mut disk = file_of(alloc, file)?;
-        assert_eq!(rt; create(&mut disk), answer);
-        let kept = read_all(alloc, &mut disk)?;
-        assert!(rt; kept.as_slice() == after);
+    for (file, answer, after) in MADE {
+        let mut disk = file_of(alloc, *file)?;
+        assert_eq!(rt; create(&mut disk), *answer, "{file:?}");
+        assert!(rt;
+            read_all(alloc, &mut disk)?.as_slice() == *after,
+            "{file:?}"
+        );
     }
     let mut disk = MemoryDisk::new(alloc, vec![in alloc; 1]?);
     assert_eq!(rt; create(&mut disk), Err(OpenFault::StoreFault));
