@@ -180,7 +180,7 @@ fn put_first(
 
 /// Puts a version under a key of these stacks, and gives the counts after it.
 ///
-/// Cost: one search of the stacks, and what `Stack::put` takes.
+/// Cost: one search of the stacks, two for a new key, and what `Stack::put` takes.
 ///
 /// # Errors
 ///

@@ -48,19 +48,15 @@ fn put_kept(
     }
 }
 
-/// Tells why a part is not put where there would be too many: its own range is tested first, on a copy of the upload.
+/// Tells why a part is not put where there would be too many: its own range is tested first.
 fn refused(upload: &Upload, number: u32, size: u64, at: Moment, full: Refusal) -> Refusal
-    requires later { upload.now.changed ≤ at }
-    ensures { (result ≡ Refusal.NoMemory)
-        ⊎ ((result ≡ Refusal.BadPart) × (admits_part number (new_part size at) upload.now.parts ≡ false))
+    ensures { ((result ≡ Refusal.BadPart) × (admits_part number (new_part size at) upload.now.parts ≡ false))
         ⊎ ((result ≡ full) × (admits_part number (new_part size at) upload.now.parts ≡ true)) }
 {
-    let Ok(mut copy) = upload.copy() else {
-        return Refusal::NoMemory;
-    };
-    match put_kept(&mut copy, number, size, at) {
-        Ok(_) => full,
-        Err(refusal) => refusal,
+    if upload.admits(number, size, at) {
+        full
+    } else {
+        Refusal::BadPart
     }
 }
 

@@ -124,7 +124,7 @@ module _ (t : ℕ) (name : List ℕ) (p : Office) where
       let none = choice_none account.bucket t in
       ((λ e. none.0 (told.0 (sym (act_told account is) ∙ e))), (λ e. act_told account is ∙ told.1 (none.1 e)))
 
-  shown_nothing : (account : Account) (o : Option Action) → choice account.bucket t ≡ o → (due_shown t account ≡ NothingDue) ↔ (o ≡ None)
+  shown_nothing : (account : Account) (o : Option Action) → choice account.bucket t ≡ o → (due_shown t account.bucket ≡ NothingDue) ↔ (o ≡ None)
   shown_nothing account None is = ((λ e. refl), (λ e. rw is refl))
   shown_nothing account (Some action) is = ((λ e. let shown = rw is at e in absurd cc), (λ e. absurd cc))
 

@@ -15,7 +15,7 @@ use Rattle.plain_office.specs.Counts.{count_of, limit_of, version_count}
 use Rattle.plain_office.specs.Orderly.{IsOrderly, SizeFits}
 use Rattle.plain_office.specs.Run.{is_not_before}
 use Rattle.plain_office.specs.Step.{Change, close, step, accepted, is_accepted, new_account}
-use Rattle.plain_office.specs.Answers.{answer, class_meters, rule_count}
+use Rattle.plain_office.specs.Answers.{answer, class_meters, rule_count, rules_told, stack_told, upload_told, due_told, prices_told}
 use Rattle.office_types.specs.declared.command.Command.{Command}
 use Rattle.office_types.specs.declared.command.Command.TheVariants as command
 use Rattle.office_types.specs.declared.command.Query.TheVariants as query
@@ -41,8 +41,8 @@ use Rattle.office_types.specs.Fits.{RefusalFits}
 use Rattle.office_machine.proofs.Accounts.{StandsForOption, stand_length, stand_at, stand_with, stand_set, stand_one}
 use Rattle.office_machine.proofs.Rows.{closed_is}
 use Rattle.office_machine.proofs.Sums.{AreCountsOf, full_is, moved_is, added_is, counts_over, same_counts}
-use Rattle.office_machine.specs.AnswerParts.{rules_told, stack_told, upload_told, due_told, prices_told, kept_prices, closed_at, entry_lines, IsBookedIn}
-use Rattle.plain_office.specs.Charges.{tariff_for, report_lines}
+use Rattle.plain_office.specs.Charges.{kept_prices, tariff_for, report_lines}
+use Rattle.office_machine.specs.AnswerParts.{closed_at, entry_lines, IsBookedIn}
 use Rattle.office_machine.specs.Closing.{closing_with, first_due, due_refusal}
 use Rattle.office_machine.proofs.Months.{closed_office, close_refused, close_due, close_done, due_same, due_of, none_due}
 use Rattle.plain_office.proofs.Runs.{Answer}

@@ -14,12 +14,12 @@ use Rattle.accrual.specs.Totals.{AreTotalsOf}
 use Rattle.office_base.specs.Maps.{at_number}
 use Rattle.tariff.specs.Prices.{Prices}
 use Rattle.plain_office.specs.Office.{Account, book_of}
-use Rattle.plain_office.specs.Charges.{class_lines}
+use Rattle.plain_office.specs.Charges.{class_lines, metered_lines}
 use Rattle.plain_office.specs.Answers.{class_meters}
 use Rattle.office_types.specs.declared.reply.ClassMeters.{ClassMeters}
 use Rattle.office_types.specs.declared.reply.ReportLine.{ReportLine}
 use Rattle.bucket_account.specs.Counting.{AccountRecord}
-use Rattle.office_machine.specs.AnswerParts.{closed_at, metered_lines, entry_lines, IsBookedIn}
+use Rattle.office_machine.specs.AnswerParts.{closed_at, entry_lines, IsBookedIn}
 use Rattle.office_machine.specs.Standing.{StandForAccounts}
 
 -- ---- one turn of a loop over a slice

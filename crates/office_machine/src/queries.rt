@@ -5,12 +5,12 @@ ghost use Rattle.accrual.specs.Totals.{AreTotalsOf};
 ghost use Rattle.class_rules.specs.Classes.{all_classes};
 ghost use Rattle.office_base.specs.Tags.{char_count};
 ghost use Rattle.plain_office.specs.Office as plain;
-ghost use Rattle.plain_office.specs.Answers.{answer, class_meters};
+ghost use Rattle.plain_office.specs.Answers.{answer, class_meters, rules_told, stack_told, upload_told, due_told};
 ghost use Rattle.plain_office.specs.Run.{is_not_before};
 ghost use Rattle.plain_office.specs.Step.{rule_id};
 ghost use Rattle.office_types.specs.Fits.{AnswerFits};
 ghost use Rattle.office_types.specs.declared.command.Query.TheVariants as query;
-ghost use Rattle.office_machine.specs.AnswerParts.{IsAnswer, rules_told, stack_told, upload_told, due_told};
+ghost use Rattle.office_machine.specs.AnswerParts.{IsAnswer};
 ghost use Rattle.office_machine.specs.Standing.{StandsForOffice};
 
 use crate::closing::choice_of;

@@ -3,7 +3,7 @@ ghost use Rattle.std.specs.Prelude.{◌≡◌, ◌+◌, ◌*◌, ◌^◌, ◌≤
 ghost use Rattle.std.specs.Prelude.{List, [], ◌∷◌, ◌++◌, length, filter, flat_map};
 ghost use Rattle.plain_office.specs.Office as plain;
 ghost use Rattle.plain_office.specs.Answers.{answer};
-ghost use Rattle.plain_office.specs.Charges.{tariff_for};
+ghost use Rattle.plain_office.specs.Charges.{tariff_for, metered_lines, has_quantity};
 ghost use Rattle.plain_office.specs.Run.{is_not_before};
 ghost use Rattle.std.specs.List.{AllByRecursion};
 ghost use Rattle.tariff.specs.Charges.{charge_of, move_charge_of};
@@ -11,7 +11,7 @@ ghost use Rattle.office_types.specs.Fits.{AnswerFits};
 ghost use Rattle.office_types.specs.declared.command.Query.TheVariants as query;
 ghost use Rattle.office_types.specs.Reports.{charges};
 ghost use Rattle.office_machine.specs.AnswerParts.{IsAnswer, IsBookedIn, closed_at};
-ghost use Rattle.office_machine.specs.AnswerParts.{entry_lines, metered_lines, has_quantity};
+ghost use Rattle.office_machine.specs.AnswerParts.{entry_lines};
 ghost use Rattle.office_machine.specs.Lines.{report_line};
 ghost use Rattle.office_machine.specs.Standing.{StandsForOffice, StandForAccounts};
 

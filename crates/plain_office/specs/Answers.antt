@@ -2,51 +2,67 @@
 use Rattle.std.specs.Prelude.{ℕ, List, map, length, Option, Some, None, Result, Ok}
 use Rattle.std.specs.Option.{ok_or}
 use Rattle.class_rules.specs.Classes.{all_classes}
-use Rattle.class_rules.specs.declared.class.Class.{Class}
+use Rattle.office_base.specs.Maps.{at_name, at_number}
 use Rattle.office_base.specs.Results.{◌>>=◌}
 use Rattle.rules_core.specs.Configurations.{Configuration}
+use Rattle.tariff.specs.Prices.{Prices}
+use Rattle.due_core.specs.Buckets.{BucketRecord}
 use Rattle.due_core.specs.Choice.{choice}
 use Rattle.due_core.specs.declared.action.Action.{Action}
-use Rattle.accrual.specs.Books.{Book}
-use Rattle.accrual.specs.Meters.{meter, early_quantity, move_count}
 use Rattle.office_types.specs.declared.command.Query.{Query}
 use Rattle.office_types.specs.declared.command.Query.TheVariants as query
-use Rattle.office_types.specs.declared.reply.ClassMeters.{ClassMeters}
 use Rattle.office_types.specs.declared.reply.Reply.{Reply}
 use Rattle.office_types.specs.declared.reply.Reply.TheVariants.{NothingDue, BucketShown, RulesShown, StackShown, UploadShown, MetersShown}
 use Rattle.office_types.specs.declared.reply.Reply.TheVariants.{TariffShown, Report}
 use Rattle.office_types.specs.declared.refusal.Refusal.{Refusal}
-use Rattle.office_types.specs.declared.refusal.Refusal.TheVariants.{NoRules, NoTariff}
+use Rattle.office_types.specs.declared.refusal.Refusal.TheVariants.{NoRules, NoSuchKey, NoSuchUpload, NoTariff}
 use Rattle.plain_office.specs.Office.{Office, Account, book_of}
 use Rattle.plain_office.specs.Counts.{version_count}
 use Rattle.plain_office.specs.Charges.{tariff_for, report_lines}
-use Rattle.plain_office.specs.Step.{account_at, stack_in, upload_in, shown_action}
+pub use Rattle.plain_office.specs.Charges.{class_meters}
+use Rattle.plain_office.specs.Step.{account_at, shown_action}
 
+-- ---- what a bucket tells of itself
+
+-- how many rules it has
 abbrev pub rule_count : Option Configuration → ℕ
 rule_count None = 0
 rule_count (Some rules) = length rules.rules
 
+-- what stands in a bucket, by numbers
 abbrev pub bucket_shown : List ℕ → Account → Reply
 bucket_shown name account =
     let bucket = account.bucket in
     BucketShown name (rule_count bucket.rules) (length bucket.uploads) bucket.versioning (version_count bucket)
 
+-- its lifecycle configuration
+abbrev pub rules_told : BucketRecord → Result Reply Refusal
+rules_told bucket = ok_or bucket.rules NoRules >>= λ rules. Ok (RulesShown rules)
+
+-- the versions of a key
+abbrev pub stack_told : List ℕ → BucketRecord → Result Reply Refusal
+stack_told key bucket = ok_or (at_name key bucket.stacks) NoSuchKey >>= λ stack. Ok (StackShown key stack)
+
+-- an upload and its parts
+abbrev pub upload_told : ℕ → BucketRecord → Result Reply Refusal
+upload_told number bucket =
+    ok_or (at_number number bucket.uploads) NoSuchUpload >>= λ upload. Ok (UploadShown number upload)
+
 -- the action that an act at the moment would do
-abbrev pub due_shown : ℕ → Account → Reply
-due_shown t account = shown (choice account.bucket t) where
+abbrev pub due_shown : ℕ → BucketRecord → Reply
+due_shown t bucket = shown (choice bucket t) where
   shown : Option Action → Reply
   shown None = NothingDue
-  shown (Some action) = shown_action action None account.bucket
+  shown (Some action) = shown_action action None bucket
 
--- what was used of one class, as seen at the moment (S3 User Guide, "Understanding your AWS billing and usage reports
--- for Amazon S3")
-abbrev pub class_meters : ℕ → ℕ → Book → Class → ClassMeters
-class_meters month t book class = record {
-  class = class;
-  byte_ms = meter month class t book;
-  early_byte_ms = early_quantity month class book;
-  moves = move_count month class book;
-}
+abbrev pub due_told : ℕ → BucketRecord → Result Reply Refusal
+due_told t bucket = Ok (due_shown t bucket)
+
+-- ---- what the office tells
+
+-- the prices of now
+abbrev pub prices_told : Option Prices → Result Reply Refusal
+prices_told tariff = ok_or tariff NoTariff >>= λ prices. Ok (TariffShown prices)
 
 -- the reply to a query at this moment, for a moment that is not before the last one
 unfoldable pub answer : ℕ → Query → Office → Result Reply Refusal
@@ -55,25 +71,20 @@ answer t (query.Bucket name) office = do
   Ok (bucket_shown name account)
 answer t (query.Rules name) office = do
   account ← account_at name office
-  rules ← ok_or account.bucket.rules NoRules
-  Ok (RulesShown rules)
+  rules_told account.bucket
 answer t (query.Stack name key) office = do
   account ← account_at name office
-  stack ← stack_in key account
-  Ok (StackShown key stack)
+  stack_told key account.bucket
 answer t (query.Upload name number) office = do
   account ← account_at name office
-  upload ← upload_in number account
-  Ok (UploadShown number upload)
+  upload_told number account.bucket
 answer t (query.Due name) office = do
   account ← account_at name office
-  Ok (due_shown t account)
+  due_told t account.bucket
 answer t (query.Meters name month) office = do
   account ← account_at name office
   Ok (MetersShown name month (map (class_meters month t (book_of account.books)) all_classes))
-answer t query.Tariff office = do
-  tariff ← ok_or office.tariff NoTariff
-  Ok (TariffShown tariff)
+answer t query.Tariff office = prices_told office.tariff
 answer t (query.Report month) office = do
   tariff ← ok_or (tariff_for month office) NoTariff
   Ok (Report (report_lines tariff month t office))

@@ -1,5 +1,5 @@
 -- What a month costs, line by line.
-use Rattle.std.specs.Prelude.{ℕ, not, ◌==◌, List, [], ◌∷◌, filter, flat_map, Option, Some, None}
+use Rattle.std.specs.Prelude.{ℕ, Bool, not, ◌==◌, List, [], ◌∷◌, filter, flat_map, Option, Some, None}
 use Rattle.class_rules.specs.Classes.{all_classes}
 use Rattle.class_rules.specs.declared.class.Class.{Class}
 use Rattle.office_base.specs.Maps.{at_number}
@@ -7,6 +7,7 @@ use Rattle.tariff.specs.Prices.{Prices, storage_price, move_price}
 use Rattle.tariff.specs.Charges.{charge_of, move_charge_of}
 use Rattle.accrual.specs.Books.{Book}
 use Rattle.accrual.specs.Meters.{meter, early_quantity, move_count}
+use Rattle.office_types.specs.declared.reply.ClassMeters.{ClassMeters}
 use Rattle.office_types.specs.declared.reply.LineKind.{LineKind}
 use Rattle.office_types.specs.declared.reply.LineKind.TheVariants.{Storage, Early, Transitions}
 use Rattle.office_types.specs.declared.reply.ReportLine.{ReportLine}
@@ -36,21 +37,39 @@ transition_line tariff name class moves = let price = move_price tariff class in
   charge = move_charge_of moves price;
 }
 
--- the lines of a bucket and a class: those whose quantity is not 0 (own)
-abbrev pub class_lines : Prices → ℕ → ℕ → List ℕ → Book → Class → List ReportLine
-class_lines tariff month t name book class =
-    filter (λ line. not (line.quantity == 0)) (
-    storage_line Storage tariff month name class (meter month class t book)
-    ∷ storage_line Early tariff month name class (early_quantity month class book)
-    ∷ transition_line tariff name class (move_count month class book)
+-- what was used of one class, as seen at the moment (S3 User Guide, "Understanding your AWS billing and usage reports
+-- for Amazon S3")
+abbrev pub class_meters : ℕ → ℕ → Book → Class → ClassMeters
+class_meters month t book class = record {
+  class = class;
+  byte_ms = meter month class t book;
+  early_byte_ms = early_quantity month class book;
+  moves = move_count month class book;
+}
+
+abbrev pub has_quantity : ReportLine → Bool
+has_quantity line = not (line.quantity == 0)
+
+-- the lines of what a bucket used of a class: those whose quantity is not 0 (own)
+abbrev pub metered_lines : Prices → ℕ → List ℕ → ClassMeters → List ReportLine
+metered_lines tariff month name used = filter has_quantity (
+    storage_line Storage tariff month name used.class used.byte_ms
+    ∷ storage_line Early tariff month name used.class used.early_byte_ms
+    ∷ transition_line tariff name used.class used.moves
     ∷ [])
+
+-- the lines of a bucket and a class, as seen at the moment
+abbrev pub class_lines : Prices → ℕ → ℕ → List ℕ → Book → Class → List ReportLine
+class_lines tariff month t name book class = metered_lines tariff month name (class_meters month t book class)
+
+-- the prices of a closing, or else those of now
+abbrev pub kept_prices : Option Prices → Option Prices → Option Prices
+kept_prices None tariff = tariff
+kept_prices (Some prices) tariff = Some prices
 
 -- a closed month keeps the prices of its closing (own)
 abbrev pub tariff_for : ℕ → Office → Option Prices
-tariff_for month office = kept_or (at_number month office.closed) where
-  kept_or : Option Prices → Option Prices
-  kept_or None = office.tariff
-  kept_or (Some tariff) = Some tariff
+tariff_for month office = kept_prices (at_number month office.closed) office.tariff
 
 -- the lines of a month's report, as seen at the moment: buckets in the byte order of their names, classes from the
 -- warmest (own order)

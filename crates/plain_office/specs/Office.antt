@@ -16,6 +16,7 @@ pub record Label : Type 0 where
   pub key : List ℕ
   pub item : Item
 
+-- a stay, with whose it is
 abbrev pub Booked : Type 0
 Booked = Label × Stay
 

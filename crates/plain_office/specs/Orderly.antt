@@ -55,6 +55,7 @@ abbrev pub size_of : Kind → ℕ
 size_of (Object size class tags entered) = size
 size_of Marker = 0
 
+-- as a bucket keeps it whose last accepted moment is `last` and whose next version has the number `next`
 pub record IsOrderlyStack (versioning : Versioning) (next last : ℕ) (stack : StackRecord) : Type 0 where
   pub some : 0 < length stack.versions
   pub ids_and_moments : IsStack stack
@@ -65,6 +66,7 @@ pub record IsOrderlyStack (versioning : Versioning) (next last : ℕ) (stack : S
 
 -- ---- an upload
 
+-- as a bucket keeps it whose last accepted moment is `last`
 pub record IsOrderlyUpload (last : ℕ) (upload : UploadRecord) : Type 0 where
   pub ranges_and_moments : IsUpload upload
   pub parts : Rises nat_cmp upload.parts
@@ -72,6 +74,7 @@ pub record IsOrderlyUpload (last : ℕ) (upload : UploadRecord) : Type 0 where
 
 -- ---- a bucket
 
+-- as an office keeps it whose last accepted moment is `last`
 pub record IsOrderlyBucket (last : ℕ) (bucket : BucketRecord) : Type 0 where
   pub next_version : 0 < bucket.next_version
   pub next_upload : 0 < bucket.next_upload

@@ -67,6 +67,7 @@ of_stack (Err stack.IsMarker) = Err IsMarker
 
 -- ---- the commands on one bucket
 
+-- the account after a command and the reply, or the refusal
 abbrev pub Change : Type 0
 Change = Result (Account × Reply) Refusal
 
@@ -179,6 +180,7 @@ act t account = done (choice account.bucket t) where
 
 -- ---- the commands on the whole office
 
+-- the office after a command and the reply, or the refusal
 abbrev pub Outcome : Type 0
 Outcome = Result (Office × Reply) Refusal
 

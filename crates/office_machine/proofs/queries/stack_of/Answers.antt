@@ -5,7 +5,7 @@ use Rattle.stacks.specs.Stacks.{StackRecord}
 use Rattle.due_core.specs.Buckets.{BucketRecord}
 use Rattle.office_types.specs.declared.reply.Reply.TheVariants.{StackShown}
 use Rattle.office_types.specs.declared.refusal.Refusal.TheVariants.{NoSuchKey}
-use Rattle.office_machine.specs.AnswerParts.{stack_told}
+use Rattle.plain_office.specs.Answers.{stack_told}
 use Rattle.office_machine.proofs.queries.stack_of.Goals as goal
 
 told_none : (key : List ℕ) (bucket : BucketRecord) → at_name key bucket.stacks ≡ None → stack_told key bucket ≡ Err NoSuchKey

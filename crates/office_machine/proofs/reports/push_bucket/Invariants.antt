@@ -1,6 +1,6 @@
 use Rattle.std.proofs.Common.{◌≡◌, ◌+◌, ◌*◌, ◌^◌, ◌≤◌, ◌++◌, drop, flat_map}
 use Rattle.office_types.specs.Reports.{charges}
-use Rattle.office_machine.specs.AnswerParts.{metered_lines}
+use Rattle.plain_office.specs.Charges.{metered_lines}
 use Rattle.office_machine.proofs.reports.push_bucket.Given as goal
 
 -- the lines of the classes that are left come after those that stand there

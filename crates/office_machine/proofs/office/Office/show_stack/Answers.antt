@@ -3,7 +3,8 @@ use Rattle.std.specs.Prelude.{Result}
 use Rattle.due_core.specs.Buckets.{BucketRecord}
 use Rattle.office_types.specs.declared.reply.Reply.{Reply}
 use Rattle.office_types.specs.declared.refusal.Refusal.{Refusal}
-use Rattle.office_machine.specs.AnswerParts.{IsAnswer, stack_told}
+use Rattle.plain_office.specs.Answers.{stack_told}
+use Rattle.office_machine.specs.AnswerParts.{IsAnswer}
 use Rattle.office_machine.proofs.Offices.{stack_none, shows_stack}
 use Rattle.office_machine.proofs.Seen.{seen_stands}
 use Rattle.office_machine.proofs.office.Office.show_stack.Goals as goal

@@ -1,5 +1,5 @@
 use Rattle.std.proofs.Common.{inl, ap, sym, ◌∙◌}
-use Rattle.office_machine.specs.AnswerParts.{prices_told}
+use Rattle.plain_office.specs.Answers.{prices_told}
 use Rattle.office_machine.proofs.Offices.{shows_tariff}
 use Rattle.office_machine.proofs.Seen.{seen_stands}
 use Rattle.office_machine.proofs.office.Office.show_tariff.Goals as goal

@@ -3,7 +3,8 @@ use Rattle.std.specs.Prelude.{Result}
 use Rattle.due_core.specs.Buckets.{BucketRecord}
 use Rattle.office_types.specs.declared.reply.Reply.{Reply}
 use Rattle.office_types.specs.declared.refusal.Refusal.{Refusal}
-use Rattle.office_machine.specs.AnswerParts.{IsAnswer, upload_told}
+use Rattle.plain_office.specs.Answers.{upload_told}
+use Rattle.office_machine.specs.AnswerParts.{IsAnswer}
 use Rattle.office_machine.proofs.Offices.{upload_none, shows_upload}
 use Rattle.office_machine.proofs.Seen.{seen_stands}
 use Rattle.office_machine.proofs.office.Office.show_upload.Goals as goal

@@ -1,7 +1,8 @@
 use Rattle.std.proofs.Common.{ap, ◌∙◌, sym}
 use Rattle.std.specs.Prelude.{Option}
 use Rattle.tariff.specs.Prices.{Prices}
-use Rattle.office_machine.specs.AnswerParts.{kept_prices, closed_at}
+use Rattle.plain_office.specs.Charges.{kept_prices}
+use Rattle.office_machine.specs.AnswerParts.{closed_at}
 use Rattle.office_machine.proofs.Offices.{shows_prices}
 use Rattle.office_machine.proofs.Seen.{seen_stands}
 use Rattle.office_machine.proofs.office.Office.tariff_for.Goals as goal
