@@ -250,11 +250,12 @@ fn ended(rt: &impl Abort, number: u8, ended: [u128; 6]) -> MonthSums {
 type Ended = (u8, [u128; 6]);
 
 fn are_ended(rt: &impl Abort, sums: &[MonthSums], wanted: &[Ended]) -> bool {
-    let mut are = sums.len() == wanted.len();
     for (month, (number, months)) in sums.iter().zip(wanted) {
-        are = are && *month == ended(rt, *number, *months);
+        if *month != ended(rt, *number, *months) {
+            return false;
+        }
     }
-    are
+    sums.len() == wanted.len()
 }
 
 const NOTHING: Stay = (Class::Standard, 0, NEW_YEAR, None);

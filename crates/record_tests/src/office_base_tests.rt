@@ -145,9 +145,12 @@ fn version_ids(rt: HostRuntime) {
 
 // Whether these pairs are given, in their order.
 fn are(given: &[(String, String)], wanted: &[Pair]) -> bool {
+    for ((key, value), wanted) in given.iter().zip(wanted) {
+        if key.as_str() != wanted.0 || value.as_str() != wanted.1 {
+            return false;
+        }
+    }
     given.len() == wanted.len()
-        && given.iter().zip(wanted).all(|(pair, wanted)| pair.0.as_str() == wanted.0
-            && pair.1.as_str() == wanted.1)
 }
 
 const TEN: [Pair; 10] = [

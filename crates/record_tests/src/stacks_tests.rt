@@ -167,11 +167,12 @@ fn step(
 }
 
 fn are(versions: &[Version], rows: &[Row]) -> bool {
+    for (version, wanted) in versions.iter().zip(rows) {
+        if row(version) != *wanted {
+            return false;
+        }
+    }
     versions.len() == rows.len()
-        && versions
-            .iter()
-            .zip(rows)
-            .all(|(version, wanted)| row(version) == *wanted)
 }
 
 // Does the steps day by day, and gives what the last one takes out.
@@ -281,26 +282,42 @@ fn of_marker(rt: &impl Abort, alloc: Global) -> Stack {
     stack
 }
 
+// A change that is refused.
+#[derive(Clone, Copy)]
+enum Refused {
+    Remove(u64),
+    Tags(u64),
+    Move(u64),
+}
+
+fn refusal(
+    rt: &impl Abort,
+    alloc: Global,
+    stack: &mut Stack,
+    change: Refused,
+    at: Moment,
+) -> Option<StackRefusal> {
+    match change {
+        Refused::Remove(number) => remove(rt, stack, id(number), at).err(),
+        Refused::Tags(number) => set_tags(rt, stack, id(number), tags(rt, alloc, &[]), at).err(),
+        Refused::Move(number) => move_class(rt, stack, id(number), Class::Glacier, at).err(),
+    }
+}
+
+const REFUSED: [(Refused, StackRefusal); 4] = [
+    (Refused::Remove(0), StackRefusal::NoSuchVersion),
+    (Refused::Tags(0), StackRefusal::NoSuchVersion),
+    (Refused::Tags(1), StackRefusal::IsMarker),
+    (Refused::Move(1), StackRefusal::IsMarker),
+];
+
 #[test]
 fn refused_changes(rt: HostRuntime) {
-    let (alloc, at) = (rt.alloc(), day(&rt, 2));
-    let mut stack = of_marker(&rt, alloc);
-    assert_eq!(rt;
-        remove(&rt, &mut stack, id(0), at).err(),
-        Some(StackRefusal::NoSuchVersion)
-    );
-    assert_eq!(rt;
-        set_tags(&rt, &mut stack, id(0), tags(&rt, alloc, &[]), at),
-        Err(StackRefusal::NoSuchVersion)
-    );
-    assert_eq!(rt;
-        set_tags(&rt, &mut stack, id(1), tags(&rt, alloc, &[]), at),
-        Err(StackRefusal::IsMarker)
-    );
-    assert_eq!(rt;
-        move_class(&rt, &mut stack, id(1), Class::Glacier, at),
-        Err(StackRefusal::IsMarker)
-    );
+    let mut stack = of_marker(&rt, rt.alloc());
+    for (index, (change, wanted)) in REFUSED.iter().enumerate() {
+        let refusal = refusal(&rt, rt.alloc(), &mut stack, *change, day(&rt, 2));
+        assert_eq!(rt; refusal, Some(*wanted), "{index}");
+    }
     assert_eq!(rt; stack.changed(), day(&rt, 1));
 }
 
@@ -333,28 +350,43 @@ const CHANGED: [(usize, Class, u64); 3] = [
     (0, Class::Glacier, NEW_YEAR + 9 * DAY),
 ];
 
+fn are_told(versions: &[Version], wanted: &[(usize, Class, u64)]) -> bool {
+    for (version, wanted) in versions.iter().zip(wanted) {
+        if told(version) != Some(*wanted) {
+            return false;
+        }
+    }
+    versions.len() == wanted.len()
+}
+
+// Three versions, of which one gets a tag on day 9 and another one another class.
+fn with_changes(rt: &impl Abort, alloc: Global) -> Stack {
+    let mut stack = of_days(rt, alloc, 3);
+    let one = tags(rt, alloc, &[("kind", "raw")]);
+    let before = set_tags(rt, &mut stack, id(2), one, day(rt, 9));
+    assert_eq!(rt; before, Ok(0));
+    let before = move_class(rt, &mut stack, id(1), Class::Glacier, day(rt, 9));
+    assert_eq!(rt; before, Ok(Class::StandardIa));
+    stack
+}
+
 #[test]
 fn tags_and_classes(rt: HostRuntime) {
-    let (alloc, at) = (rt.alloc(), day(&rt, 9));
-    let mut stack = of_days(&rt, alloc, 3);
-    assert_eq!(rt;
-        set_tags(
-            &rt,
-            &mut stack,
-            id(2),
-            tags(&rt, alloc, &[("kind", "raw")]),
-            at
-        ),
-        Ok(0)
-    );
-    assert_eq!(rt;
-        move_class(&rt, &mut stack, id(1), Class::Glacier, at),
-        Ok(Class::StandardIa)
-    );
-    assert_eq!(rt; (stack.changed(), stack.versions().len()), (at, 3));
-    for (version, wanted) in stack.versions().iter().zip(&CHANGED) {
-        assert_eq!(rt; told(version), Some(*wanted));
+    let stack = with_changes(&rt, rt.alloc());
+    assert_eq!(rt; stack.changed(), day(&rt, 9));
+    assert!(rt; are_told(stack.versions(), &CHANGED));
+}
+
+// Whether the numbers of versions fall by one from this one on.
+fn are_falling(versions: &[Version], from: u64) -> bool {
+    let mut wanted = from;
+    for version in versions {
+        if number(version.id) != wanted {
+            return false;
+        }
+        wanted = wanted.saturating_sub(1);
     }
+    true
 }
 
 #[test]
@@ -362,9 +394,7 @@ fn many_versions(rt: HostRuntime) {
     let stack = of_days(&rt, rt.alloc(), 300);
     let copy = stack.copy().expect(&rt, "memory");
     assert_eq!(rt; (stack.versions().len(), copy.versions().len()), (300, 300));
-    for (version, wanted) in stack.versions().iter().zip((1..301).rev()) {
-        assert_eq!(rt; number(version.id), wanted);
-    }
+    assert!(rt; are_falling(stack.versions(), 300));
 }
 
 #[test]

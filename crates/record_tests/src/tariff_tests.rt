@@ -1,6 +1,6 @@
-use crate::given::month;
+use crate::given::{month, text};
 use class_rules::Class;
-use std::alloc::{AllocError, Global};
+use std::alloc::Global;
 use std::process::Abort;
 use tariff::{Tariff, TariffFault, charge, move_charge};
 
@@ -76,32 +76,45 @@ fn charges_of_moves(rt: HostRuntime) {
     }
 }
 
+fn named(rt: &impl Abort, alloc: Global, kind: &str, table: &str, class: &str) -> String {
+    format!(in alloc; "{kind} {table} {class}").expect(rt, "memory")
+}
+
 // An answer as one line: the prices, or the fault.
-fn told(alloc: Global, bytes: &[u8]) -> Result<String, AllocError> {
+fn told(rt: &impl Abort, alloc: Global, bytes: &[u8]) -> String {
     match Tariff::read(alloc, bytes) {
-        Ok(tariff) => told_prices(alloc, &tariff),
-        Err(TariffFault::NotToml) => String::from_str(alloc, "NotToml"),
-        Err(TariffFault::MissingClass { table, class }) => {
-            format!(in alloc; "MissingClass {} {}", table.name(), class.name())
-        }
-        Err(TariffFault::BadPrice { table, class }) => {
-            format!(in alloc; "BadPrice {} {}", table.name(), class.name())
-        }
-        Err(TariffFault::UnknownField { name }) => format!(in alloc; "UnknownField {name}"),
-        Err(TariffFault::NoMemory) => String::from_str(alloc, "NoMemory"),
+        Ok(tariff) => told_prices(rt, alloc, &tariff),
+        Err(fault) => told_fault(rt, alloc, &fault),
     }
 }
 
-fn told_prices(alloc: Global, tariff: &Tariff) -> Result<String, AllocError> {
+fn told_fault(rt: &impl Abort, alloc: Global, fault: &TariffFault) -> String {
+    match fault {
+        TariffFault::NotToml => text(rt, alloc, "NotToml"),
+        TariffFault::MissingClass { table, class } => {
+            named(rt, alloc, "MissingClass", table.name(), class.name())
+        }
+        TariffFault::BadPrice { table, class } => {
+            named(rt, alloc, "BadPrice", table.name(), class.name())
+        }
+        TariffFault::UnknownField { name } => joined(rt, alloc, "UnknownField ", name),
+        TariffFault::NoMemory => text(rt, alloc, "NoMemory"),
+    }
+}
+
+// Prices, each behind a space.
+fn listed(rt: &impl Abort, alloc: Global, prices: &[u32]) -> String {
     let mut text = String::new(alloc);
-    for price in &tariff.storage {
-        text.push_str(format!(in alloc; "{price} ")?.as_str())?;
+    for price in prices {
+        let word = format!(in alloc; " {price}").expect(rt, "memory");
+        text.push_str(word.as_str()).expect(rt, "memory");
     }
-    text.push('/')?;
-    for price in &tariff.transition {
-        text.push_str(format!(in alloc; " {price}")?.as_str())?;
-    }
-    Ok(text)
+    text
+}
+
+fn told_prices(rt: &impl Abort, alloc: Global, tariff: &Tariff) -> String {
+    let storage = listed(rt, alloc, &tariff.storage);
+    joined(rt, alloc, &storage, &listed(rt, alloc, &tariff.transition))
 }
 
 const STORAGE_TABLE: &str = "[storage]\nSTANDARD = 0\nSTANDARD_IA = 1_048_576\nONEZONE_IA = 10000\n\
@@ -110,7 +123,7 @@ GLACIER_IR = +4000\nGLACIER = 0xe10\nDEEP_ARCHIVE = 990 # in units\n";
 const TRANSITION_TABLE: &str = "[transition]\nDEEP_ARCHIVE = 50\nGLACIER = 30\nGLACIER_IR = 20\n\
 ONEZONE_IA = 11\n\"STANDARD_IA\" = 10\n";
 
-const PRICES: &str = "0 1048576 10000 4000 3600 990 / 10 11 20 30 50";
+const PRICES: &str = " 0 1048576 10000 4000 3600 990 10 11 20 30 50";
 
 // Two texts that stand one behind the other, and what is told of them: TOML v1.1.0 for the texts, the S3 User Guide for
 // the classes.
@@ -197,7 +210,7 @@ const TARIFFS: [(&str, &str, &str); 26] = [
 
 // Whether a text is told like this.
 fn is_told(rt: &impl Abort, alloc: Global, bytes: &[u8], answer: &str) -> bool {
-    told(alloc, bytes).expect(rt, "memory").as_str() == answer
+    told(rt, alloc, bytes).as_str() == answer
 }
 
 fn joined(rt: &impl Abort, alloc: Global, front: &str, back: &str) -> String {

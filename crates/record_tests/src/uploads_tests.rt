@@ -1,4 +1,4 @@
-use crate::given::{day, key, size, tags};
+use crate::given::{day, key, tags};
 use class_rules::Class;
 use std::alloc::Global;
 use std::collections::BTreeMap;
@@ -49,16 +49,31 @@ const CASES: [Case; 8] = [
     (10_000, 7, 8, Ok(Some(5_368_709_120)), 1_008),
 ];
 
+fn whole(upload: &Upload) -> Result<u64, UploadRefusal> {
+    match upload.whole() {
+        Ok(size) => Ok(size.bytes()),
+        Err(refusal) => Err(refusal),
+    }
+}
+
+fn put_all(rt: &impl Abort, upload: &mut Upload, cases: &[Case]) {
+    for (number, size, today, wanted, sum) in cases {
+        let told = (put(rt, upload, *number, *size, *today), whole(upload));
+        assert_eq!(rt; told, (*wanted, Ok(*sum)), "{today}");
+    }
+}
+
 #[test]
 fn parts_in_turn(rt: HostRuntime) {
     let mut upload = start(&rt, rt.alloc());
-    assert_eq!(rt; upload.whole(), Err(UploadRefusal::NoParts));
-    for (number, size_of_part, day, wanted, whole) in &CASES {
-        let before = put(&rt, &mut upload, *number, *size_of_part, *day);
-        assert_eq!(rt; before, *wanted, "{day}");
-        assert_eq!(rt; upload.whole(), Ok(size(&rt, *whole)), "{day}");
-    }
+    put_all(&rt, &mut upload, &CASES);
     assert_eq!(rt; upload.parts().len(), 3);
+}
+
+#[test]
+fn no_parts(rt: HostRuntime) {
+    let upload = start(&rt, rt.alloc());
+    assert_eq!(rt; whole(&upload), Err(UploadRefusal::NoParts));
 }
 
 #[test]
@@ -70,14 +85,8 @@ fn what_an_upload_tells(rt: HostRuntime) {
         (copy.changed(), copy.started(), copy.class()),
         (day(&rt, 8), day(&rt, 0), Class::Glacier)
     );
-    assert_eq!(rt;
-        (
-            copy.key().bytes(),
-            copy.tags().pairs().len(),
-            copy.parts().len()
-        ),
-        (b"big".as_slice(), 0, 1)
-    );
+    assert_eq!(rt; copy.key().bytes(), b"big".as_slice());
+    assert_eq!(rt; (copy.tags().pairs().len(), copy.parts().len()), (0, 1));
 }
 
 // An upload of 1,024 parts of 5 GiB.
@@ -93,23 +102,19 @@ fn largest(rt: &impl Abort, alloc: Global) -> Upload {
     upload
 }
 
-// Parts that are put then, in turn: number, size and day, and the size of the replaced part or the refusal.
-const MORE: [(u32, u64, u64, Result<Option<u64>, UploadRefusal>); 4] = [
-    (1_025, 1, 2, Err(UploadRefusal::BadPart)),
-    (1_025, 0, 2, Ok(None)),
-    (1, 5 * GIB - 1, 3, Ok(Some(5 * GIB))),
-    (1_025, 1, 4, Ok(Some(0))),
+// What is put then.
+const MORE: [Case; 4] = [
+    (1_025, 1, 2, Err(UploadRefusal::BadPart), 5_120 * GIB),
+    (1_025, 0, 2, Ok(None), 5_120 * GIB),
+    (1, 5 * GIB - 1, 3, Ok(Some(5 * GIB)), 5_120 * GIB - 1),
+    (1_025, 1, 4, Ok(Some(0)), 5_120 * GIB),
 ];
 
 #[test]
 fn parts_up_to_the_largest_object(rt: HostRuntime) {
     let mut upload = largest(&rt, rt.alloc());
-    assert_eq!(rt; upload.whole(), Ok(size(&rt, 5_120 * GIB)));
-    for (number, bytes, day, wanted) in &MORE {
-        let before = put(&rt, &mut upload, *number, *bytes, *day);
-        assert_eq!(rt; before, *wanted, "{number} {day}");
-    }
-    assert_eq!(rt; upload.whole(), Ok(size(&rt, 5_120 * GIB)));
+    assert_eq!(rt; whole(&upload), Ok(5_120 * GIB));
+    put_all(&rt, &mut upload, &MORE);
 }
 
 // A part: its number and size, the days of the upload's start, of the part and of the last change; and whether they are
