@@ -3,27 +3,15 @@ ghost use Rattle.accrual.specs.Books.{Book};
 ghost use Rattle.accrual.specs.Sums.{HasAllEnded, IsSmallMonth};
 ghost use Rattle.accrual.specs.Totals.{AreTotalsOf, IsBilled};
 
+use crate::given::{DAY, NEW_YEAR, day, moment, month};
 use accrual::{Meters, MonthSums};
 use class_rules::{Class, Lines, billed};
 use moments::{Moment, Month, month_of};
 use std::alloc::Global;
 use std::process::Abort;
 
-// 2024-01-01 00:00 UTC, and the milliseconds of a day.
-const NEW_YEAR: u64 = 1_704_067_200_000;
-
-const DAY: u64 = 86_400_000;
-
 // What is booked of an object: its class and size, when its stay began, and when it ended.
 type Stay = (Class, u64, u64, Option<u64>);
-
-fn moment(rt: &impl Abort, ms: u64) -> Moment {
-    Moment::of(ms).expect(rt, "a moment")
-}
-
-fn month(rt: &impl Abort, year: u16, number: u8) -> Month {
-    Month::of(year, number).expect(rt, "a month")
-}
 
 fn lines(rt: &impl Abort, class: Class, size: u64) -> Lines
     ensures { IsBilled result }
@@ -94,9 +82,8 @@ type Reading = ((Stay, Stay), u64, (u16, u8), Class, u128);
 fn read_all(rt: &impl Abort, alloc: Global, readings: &[Reading]) {
     for (index, reading) in readings.iter().enumerate() {
         let ((first, second), days, (year, number), class, wanted) = *reading;
-        assert!(rt; days < 1_000);
         let meters = after(rt, alloc, first, second);
-        let t = moment(rt, NEW_YEAR + days * DAY);
+        let t = day(rt, days);
         let read = meters.reading(month(rt, year, number), class, t);
         assert_eq!(rt; read, wanted, "{index}");
     }
@@ -163,29 +150,46 @@ fn a_transition(rt: HostRuntime) {
     );
 }
 
+// The bytes, the days in the class, and what is owed.
+const EARLY: [(u64, u64, u128); 3] = [
+    (131_072, 10, 226_492_416_000_000),
+    (131_072, 30, 0),
+    (200_000, 10, 345_600_000_000_000),
+];
+
+// Meters of bytes that left STANDARD_IA so many days after New Year.
+fn left_early(rt: &impl Abort, alloc: Global, bytes: u64, days: u64) -> Meters {
+    assert!(rt; bytes <= 1_000_000);
+    let mut meters = Meters::new(alloc);
+    let (entered, at) = (day(rt, 0), day(rt, days));
+    assert!(rt; entered.ms() <= at.ms());
+    meters
+        .reserve(month_of(at), month_of(at))
+        .expect(rt, "memory");
+    meters.early(Class::StandardIa, bytes, entered, at);
+    meters
+}
+
 #[test]
 fn early_quantities(rt: HostRuntime) {
-    let warm = Class::StandardIa;
-    // The bytes, the days in the class, and what is owed.
-    let cases = [
-        (131_072, 10, 226_492_416_000_000),
-        (131_072, 30, 0),
-        (200_000, 10, 345_600_000_000_000),
-    ];
     let january = month(&rt, 2024, 1);
-    for (bytes, days, wanted) in cases {
-        let mut meters = Meters::new(rt.alloc());
-        let entered = moment(&rt, NEW_YEAR);
-        let at = moment(&rt, NEW_YEAR + days * DAY);
-        assert!(rt; entered.ms() <= at.ms() && bytes <= 1_000_000);
-        meters
-            .reserve(month_of(at), month_of(at))
-            .expect(&rt, "memory");
-        meters.early(warm, bytes, entered, at);
-        assert_eq!(rt; meters.early_of(january, warm), wanted, "{days}");
-        assert_eq!(rt; meters.early_of(january, Class::Standard), 0);
+    for (bytes, days, wanted) in &EARLY {
+        let meters = left_early(&rt, rt.alloc(), *bytes, *days);
+        assert_eq!(rt;
+            meters.early_of(january, Class::StandardIa),
+            *wanted,
+            "{days}"
+        );
+        assert_eq!(rt; meters.early_of(january, Class::Standard), 0, "{days}");
     }
 }
+
+// A year, a month and a class, and how many objects moved into the class in it.
+const MOVES: [(u16, u8, Class, u64); 3] = [
+    (2024, 1, Class::StandardIa, 1),
+    (2024, 1, Class::Standard, 0),
+    (2023, 12, Class::StandardIa, 0),
+];
 
 #[test]
 fn moves(rt: HostRuntime) {
@@ -195,9 +199,10 @@ fn moves(rt: HostRuntime) {
         .reserve(month_of(at), month_of(at))
         .expect(&rt, "memory");
     meters.moved(Class::StandardIa, at);
-    assert_eq!(rt; meters.moves_of(month(&rt, 2024, 1), Class::StandardIa), 1);
-    assert_eq!(rt; meters.moves_of(month(&rt, 2024, 1), Class::Standard), 0);
-    assert_eq!(rt; meters.moves_of(month(&rt, 2023, 12), Class::StandardIa), 0);
+    for (year, number, class, wanted) in &MOVES {
+        let moves = meters.moves_of(month(&rt, *year, *number), *class);
+        assert_eq!(rt; moves, *wanted, "{year} {number} {class:?}");
+    }
 }
 
 // Whether meters can go on from the sums of this month.
@@ -241,74 +246,115 @@ fn ended(rt: &impl Abort, number: u8, ended: [u128; 6]) -> MonthSums {
     }
 }
 
+// A month of 2024, and the byte-milliseconds of the stays that ended, by class.
+type Ended = (u8, [u128; 6]);
+
+fn are_ended(rt: &impl Abort, sums: &[MonthSums], wanted: &[Ended]) -> bool {
+    for (month, (number, months)) in sums.iter().zip(wanted) {
+        if *month != ended(rt, *number, *months) {
+            return false;
+        }
+    }
+    sums.len() == wanted.len()
+}
+
+const NOTHING: Stay = (Class::Standard, 0, NEW_YEAR, None);
+
+const OPEN: Stay = (Class::Standard, 1_000, NEW_YEAR, None);
+
+// From 2024-01-31 to 2024-03-02, over the leap February.
+const OVER: Stay = (
+    Class::Standard,
+    1,
+    NEW_YEAR + 30 * DAY,
+    Some(NEW_YEAR + 61 * DAY),
+);
+
+const OF_MARCH: Stay = (
+    Class::Glacier,
+    6_144,
+    NEW_YEAR + 60 * DAY,
+    Some(NEW_YEAR + 61 * DAY),
+);
+
+const NO_TIME: Stay = (Class::Standard, 7, NEW_YEAR, Some(NEW_YEAR));
+
+// What is booked, and the months listed of it.
+const SUMS: [(Stay, Stay, &[Ended]); 4] = [
+    (OPEN, NOTHING, &[]),
+    (
+        OVER,
+        OPEN,
+        &[
+            (1, [86_400_000, 0, 0, 0, 0, 0]),
+            (2, [2_505_600_000, 0, 0, 0, 0, 0]),
+            (3, [86_400_000, 0, 0, 0, 0, 0]),
+        ],
+    ),
+    (
+        OPEN,
+        OF_MARCH,
+        &[(3, [8_192 * 86_400_000, 0, 0, 0, 38_912 * 86_400_000, 0])],
+    ),
+    (NO_TIME, NOTHING, &[]),
+];
+
 #[test]
 fn sums_of_stays(rt: HostRuntime) {
-    let standard = Class::Standard;
-    let nothing = (standard, 0, NEW_YEAR, None);
-    let open = (standard, 1_000, NEW_YEAR, None);
-    // From 2024-01-31 to 2024-03-02, over the leap February.
-    let over = (standard, 1, NEW_YEAR + 30 * DAY, Some(NEW_YEAR + 61 * DAY));
-    let march = (
-        Class::Glacier,
-        6_144,
-        NEW_YEAR + 60 * DAY,
-        Some(NEW_YEAR + 61 * DAY),
-    );
-    let months = [
-        ended(&rt, 1, [86_400_000, 0, 0, 0, 0, 0]),
-        ended(&rt, 2, [2_505_600_000, 0, 0, 0, 0, 0]),
-        ended(&rt, 3, [86_400_000, 0, 0, 0, 0, 0]),
-    ];
-    let archived = [ended(
-        &rt,
-        3,
-        [8_192 * 86_400_000, 0, 0, 0, 38_912 * 86_400_000, 0],
-    )];
-    // What is booked, and the months listed of it.
-    let cases: [((Stay, Stay), &[MonthSums]); 4] = [
-        ((open, nothing), &[]),
-        ((over, open), &months),
-        ((open, march), &archived),
-        (((standard, 7, NEW_YEAR, Some(NEW_YEAR)), nothing), &[]),
-    ];
-    for ((first, second), wanted) in cases {
-        let meters = after(&rt, rt.alloc(), first, second);
+    for (index, (first, second, wanted)) in SUMS.iter().enumerate() {
+        let meters = after(&rt, rt.alloc(), *first, *second);
         let sums = meters.sums().expect(&rt, "memory");
-        assert_eq!(rt; sums.as_slice(), wanted);
+        assert!(rt; are_ended(&rt, &sums, wanted), "{index}");
     }
+}
+
+// Meters of a stay of STANDARD_IA over February 2024 and one of STANDARD after it, and of bytes that left STANDARD_IA
+// ten days early on 2024-03-02 and of one that moved there then; and the meters that go on from them.
+fn of_february(rt: &impl Abort, alloc: Global) -> Meters {
+    let (from, to) = (NEW_YEAR + 30 * DAY, NEW_YEAR + 61 * DAY);
+    let warm = (Class::StandardIa, 131_072, from, Some(to));
+    let cold = (Class::Standard, 7, to, Some(to + DAY));
+    let mut meters = after(rt, alloc, warm, cold);
+    let (entered, at) = (day(rt, 51), day(rt, 61));
+    meters
+        .reserve(month_of(at), month_of(at))
+        .expect(rt, "memory");
+    assert!(rt; meters.booked() < 1_000 && entered.ms() <= at.ms());
+    meters.early(Class::StandardIa, 131_072, entered, at);
+    meters.moved(Class::StandardIa, at);
+    gone_on(rt, alloc, &meters)
+}
+
+// The month, the class, its byte-milliseconds, what was owed, and the moves.
+const GONE_ON: [(u8, Class, u128, u128, u64); 5] = [
+    (1, Class::StandardIa, 131_072 * 86_400_000, 0, 0),
+    (2, Class::StandardIa, 131_072 * 2_505_600_000, 0, 0),
+    (
+        3,
+        Class::StandardIa,
+        131_072 * 86_400_000,
+        226_492_416_000_000,
+        1,
+    ),
+    (3, Class::Standard, 7 * 86_400_000, 0, 0),
+    (4, Class::StandardIa, 0, 0, 0),
+];
+
+fn told(meters: &Meters, month: Month, class: Class, t: Moment) -> (u128, u128, u64) {
+    (
+        meters.reading(month, class, t),
+        meters.early_of(month, class),
+        meters.moves_of(month, class),
+    )
 }
 
 #[test]
 fn meters_that_go_on(rt: HostRuntime) {
-    let warm = Class::StandardIa;
-    let (from, to) = (NEW_YEAR + 30 * DAY, NEW_YEAR + 61 * DAY);
-    let stays = (
-        (warm, 131_072, from, Some(to)),
-        (Class::Standard, 7, to, Some(to + DAY)),
-    );
-    let mut meters = after(&rt, rt.alloc(), stays.0, stays.1);
-    let (entered, at) = (moment(&rt, to - 10 * DAY), moment(&rt, to));
-    meters
-        .reserve(month_of(at), month_of(at))
-        .expect(&rt, "memory");
-    assert!(rt; meters.booked() < 1_000 && entered.ms() <= at.ms());
-    meters.early(warm, 131_072, entered, at);
-    meters.moved(warm, at);
-    let again = gone_on(&rt, rt.alloc(), &meters);
+    let again = of_february(&rt, rt.alloc());
     assert_eq!(rt; again.booked(), 0);
-    // The month, the class, its byte-milliseconds, what was owed, and the moves.
-    let cases = [
-        (1, warm, 131_072 * 86_400_000, 0, 0),
-        (2, warm, 131_072 * 2_505_600_000, 0, 0),
-        (3, warm, 131_072 * 86_400_000, 226_492_416_000_000, 1),
-        (3, Class::Standard, 7 * 86_400_000, 0, 0),
-        (4, warm, 0, 0, 0),
-    ];
-    let t = moment(&rt, to + 40 * DAY);
-    for (number, class, used, owed, moves) in cases {
-        let month = month(&rt, 2024, number);
-        assert_eq!(rt; again.reading(month, class, t), used);
-        assert_eq!(rt; again.early_of(month, class), owed);
-        assert_eq!(rt; again.moves_of(month, class), moves);
+    let t = day(&rt, 101);
+    for (number, class, used, owed, moves) in &GONE_ON {
+        let told = told(&again, month(&rt, 2024, *number), *class, t);
+        assert_eq!(rt; told, (*used, *owed, *moves), "{number} {class:?}");
     }
 }

@@ -11,70 +11,83 @@ const CLASSES: [(Class, &str, u8, u64); 6] = [
 
 #[test]
 fn classes_by_name(rt: HostRuntime) {
-    for (class, name, place, least_ms) in CLASSES {
-        assert_eq!(rt; class.name(), name);
-        assert_eq!(rt; Class::named(name), Some(class));
+    for (class, name, place, least_ms) in &CLASSES {
+        assert_eq!(rt; (class.name(), Class::named(name)), (*name, Some(*class)));
         assert_eq!(rt;
-            (rank(class), least_duration(class)),
-            (place, least_ms),
+            (rank(*class), least_duration(*class)),
+            (*place, *least_ms),
             "{name}"
         );
     }
-    for text in [
-        "",
-        "standard",
-        "STANDARD ",
-        "REDUCED_REDUNDANCY",
-        "INTELLIGENT_TIERING",
-    ] {
+}
+
+const NO_CLASSES: [&str; 5] = [
+    "",
+    "standard",
+    "STANDARD ",
+    "REDUCED_REDUNDANCY",
+    "INTELLIGENT_TIERING",
+];
+
+#[test]
+fn names_of_no_class(rt: HostRuntime) {
+    for text in &NO_CLASSES {
         assert_eq!(rt; Class::named(text), None, "{text}");
     }
-    assert_eq!(rt; may_go(Class::OnezoneIa, Class::GlacierIr), false);
-    assert_eq!(rt; may_go(Class::OnezoneIa, Class::Glacier), true);
-    assert_eq!(rt; may_go(Class::Glacier, Class::GlacierIr), false);
+}
+
+// Whether an object may go from the first class to the second.
+const MOVES: [(Class, Class, bool); 3] = [
+    (Class::OnezoneIa, Class::GlacierIr, false),
+    (Class::OnezoneIa, Class::Glacier, true),
+    (Class::Glacier, Class::GlacierIr, false),
+];
+
+#[test]
+fn moves_between_classes(rt: HostRuntime) {
+    for (from, to, may) in &MOVES {
+        assert_eq!(rt; may_go(*from, *to), *may, "{from:?} {to:?}");
+    }
+}
+
+// A class and a size, and the bytes that are billed in the class and in STANDARD.
+const BILLED: [(Class, u64, u64, u64); 7] = [
+    (Class::Standard, 0, 0, 0),
+    (Class::StandardIa, 0, 131_072, 0),
+    (Class::StandardIa, 131_073, 131_073, 0),
+    (Class::OnezoneIa, 131_071, 131_072, 0),
+    (Class::GlacierIr, 1, 131_072, 0),
+    (Class::Glacier, 6_144, 38_912, 8_192),
+    (
+        Class::DeepArchive,
+        5_497_558_138_880,
+        5_497_558_171_648,
+        8_192,
+    ),
+];
+
+fn lines(class: Class, bytes: u64, standard: u64) -> Lines {
+    Lines {
+        class,
+        bytes,
+        standard,
+    }
 }
 
 #[test]
 fn lines_by_class(rt: HostRuntime) {
-    let cases = [
-        (Class::Standard, 0, 0, 0),
-        (Class::StandardIa, 0, 131_072, 0),
-        (Class::StandardIa, 131_073, 131_073, 0),
-        (Class::OnezoneIa, 131_071, 131_072, 0),
-        (Class::GlacierIr, 1, 131_072, 0),
-        (Class::Glacier, 6_144, 38_912, 8_192),
-        (
-            Class::DeepArchive,
-            5_497_558_138_880,
-            5_497_558_171_648,
-            8_192,
-        ),
-    ];
-    for (class, size, bytes, standard) in cases {
-        assert_eq!(rt;
-            billed(class, size),
-            Lines {
-                class,
-                bytes,
-                standard
-            }
-        );
+    for (class, size, bytes, standard) in &BILLED {
+        assert!(rt; *size <= 5_497_558_138_880);
+        let wanted = lines(*class, *bytes, *standard);
+        assert_eq!(rt; billed(*class, *size), wanted, "{class:?} {size}");
     }
-    let standard = Class::Standard;
-    assert_eq!(rt;
-        marker_lines(7),
-        Lines {
-            class: standard,
-            bytes: 7,
-            standard: 0
-        }
-    );
+}
+
+#[test]
+fn lines_of_markers_and_parts(rt: HostRuntime) {
+    assert_eq!(rt; marker_lines(7), lines(Class::Standard, 7, 0));
     assert_eq!(rt;
         part_lines(Class::Glacier, 1_000),
-        Lines {
-            class: standard,
-            bytes: 1_000,
-            standard: 0
-        }
+        lines(Class::Standard, 1_000, 0)
     );
 }

@@ -1,17 +1,18 @@
-ghost use Rattle.std.specs.Prelude.{◌≡◌, true, IfOk};
+ghost use Rattle.std.specs.Prelude.{◌≡◌, true};
 ghost use Rattle.std.specs.List.{list_all};
 ghost use Rattle.rules_core.specs.Configurations.{has_midnights};
 
-use due_core::{ActionKind, Bucket, Target, candidates, chosen};
+use crate::given::{id, key, moment, size, tags};
 use Asked::{Clear, Expire, Move, Purge};
 use class_rules::Class;
+use due_core::{ActionKind, Bucket, Target, candidates, chosen};
 use moments::Moment;
-use office_base::{Items, Key, Nth, Size, TagList, Tags, Text, VersionId};
+use office_base::{Items, Key, TagList, Text};
 use rules_core::{Expiration, Filter, Noncurrent, Rule, RuleSet, SizeMode, Transition, When};
 use stacks::{Kind, Stack, Version, Versioning};
-use std::alloc::{AllocError, Global};
+use std::alloc::Global;
 use std::collections::BTreeMap;
-use std::test::Fail;
+use std::process::Abort;
 
 // 2023-12-10 09:00 UTC, and the midnight 30 days later, rounded up.
 const PUT: u64 = 1_702_198_800_000;
@@ -41,43 +42,36 @@ struct Row {
     chosen: Option<(ActionKind, u64, u32, u64)>,
 }
 
-fn id(number: u64) -> VersionId {
-    match Nth::of(number) {
-        Some(number) => VersionId::Number(number),
-        None => VersionId::Null,
+fn kind(rt: &impl Abort, alloc: Global, bytes: Option<u64>, put: Moment) -> Kind {
+    match bytes {
+        Some(bytes) => Kind::Object {
+            size: size(rt, bytes),
+            class: Class::Standard,
+            tags: tags(rt, alloc, &[]),
+            entered: put,
+        },
+        None => Kind::Marker,
     }
 }
 
-fn no_tags(alloc: Global) -> Result<Tags, Fail> {
-    Ok(Tags::read(alloc, Vec::new(alloc))?)
-}
-
-fn stack(alloc: Global, row: &Row, put: Moment) -> Result<Stack, Fail> {
+fn stack(rt: &impl Abort, alloc: Global, row: &Row, put: Moment) -> Stack {
     let mut versions = Vec::new(alloc);
     for number in row.numbers {
-        let kind = match row.bytes {
-            Some(bytes) => Kind::Object {
-                size: Size::of(bytes)?,
-                class: Class::Standard,
-                tags: no_tags(alloc)?,
-                entered: put,
-            },
-            None => Kind::Marker,
-        };
-        versions.push(Version {
+        let version = Version {
             id: id(*number),
-            kind,
+            kind: kind(rt, alloc, row.bytes, put),
             created: put,
             ceased: put,
-        })?;
+        };
+        versions.push(version).expect(rt, "memory");
     }
-    Ok(Stack::of(put, versions).ok_or("no stack")?)
+    Stack::of(put, versions).expect(rt, "a stack")
 }
 
 // A rule that asks for this alone.
 #[tactic(auto, unfolding(rules_core::specs::Configurations::has_midnights))]
-fn rule(alloc: Global, asked: Asked) -> Result<Rule, AllocError>
-    ensures { IfOk result (λ rule. has_midnights rule ≡ true) }
+fn rule(rt: &impl Abort, alloc: Global, asked: Asked) -> Rule
+    ensures { has_midnights result ≡ true }
 {
     let (days, clears) = match asked {
         Expire(days) => (Some(days), false),
@@ -85,12 +79,13 @@ fn rule(alloc: Global, asked: Asked) -> Result<Rule, AllocError>
     };
     let mut moves = Vec::new(alloc);
     if let Move(to, days) = asked {
-        moves.push(Transition {
+        let step = Transition {
             when: When::Days(days),
             to,
-        })?;
+        };
+        moves.push(step).expect(rt, "memory");
     }
-    Ok(Rule {
+    Rule {
         id: Text::of(String::new(alloc)),
         enabled: true,
         filter: Filter {
@@ -117,33 +112,43 @@ fn rule(alloc: Global, asked: Asked) -> Result<Rule, AllocError>
         },
         noncurrent_moves: Items::of(Vec::new(alloc)),
         abort_days: None,
-    })
+    }
 }
 
-fn rules(alloc: Global, asked: &[Asked]) -> Result<Vec<Rule>, AllocError>
-    ensures { IfOk result (λ rules. list_all has_midnights rules.items ≡ true) }
+fn rules(rt: &impl Abort, alloc: Global, asked: &[Asked]) -> Vec<Rule>
+    ensures { list_all has_midnights result.items ≡ true }
 {
     let mut rules = Vec::new(alloc);
     for asked in asked {
-        rules.push(rule(alloc, *asked)?)?;
+        let rule = rule(rt, alloc, *asked);
+        rules.push(rule).expect(rt, "memory");
     }
-    Ok(rules)
+    rules
 }
 
-fn bucket(alloc: Global, row: &Row) -> Result<Bucket, Fail> {
-    let put = Moment::of(row.put)?;
+fn rule_set(rt: &impl Abort, alloc: Global, asked: &[Asked]) -> RuleSet {
+    let rules = rules(rt, alloc, asked);
+    RuleSet::check(alloc, rules, SizeMode::All128K).expect(rt, "rules")
+}
+
+fn stacks(rt: &impl Abort, alloc: Global, row: &Row) -> BTreeMap<Key, Stack> {
     let mut stacks = BTreeMap::new(alloc);
-    stacks.insert(Key::read(alloc, b"a")?, stack(alloc, row, put)?)?;
-    let rules = rules(alloc, row.rules)?;
-    Ok(Bucket {
+    let stack = stack(rt, alloc, row, moment(rt, row.put));
+    let before: Result<_, _> = stacks.insert(key(rt, alloc, b"a"), stack);
+    assert!(rt; before.is_ok());
+    stacks
+}
+
+fn bucket(rt: &impl Abort, alloc: Global, row: &Row) -> Bucket {
+    Bucket {
         versioning: row.versioning,
-        rules: Some(RuleSet::check(alloc, rules, SizeMode::All128K)?),
-        rules_since: Moment::of(0)?,
-        stacks,
+        rules: Some(rule_set(rt, alloc, row.rules)),
+        rules_since: moment(rt, 0),
+        stacks: stacks(rt, alloc, row),
         uploads: BTreeMap::new(alloc),
         next_version: 9,
         next_upload: 1,
-    })
+    }
 }
 
 const ROWS: [Row; 10] = [
@@ -253,37 +258,47 @@ fn wanted(row: &Row) -> Option<(ActionKind, Target, u32, u64)> {
     }
 }
 
+// The action that is chosen.
+fn shown(rt: &impl Abort, alloc: Global, row: &Row) -> Option<(ActionKind, Target, u32, u64)> {
+    let bucket = bucket(rt, alloc, row);
+    match chosen(&bucket, moment(rt, row.t)).expect(rt, "memory") {
+        Some(action) => Some((action.kind, action.target, action.rule, action.since.ms())),
+        None => None,
+    }
+}
+
 // The S3 User Guide, "Examples of S3 Lifecycle configurations", and rows that were reckoned by hand.
 #[test]
-fn what_is_chosen(rt: HostRuntime) -> Result<(), Fail> {
-    let alloc = rt.alloc();
-    for row in &ROWS {
-        let bucket = bucket(alloc, row)?;
-        let shown = match chosen(&bucket, Moment::of(row.t)?)? {
-            Some(action) => Some((action.kind, action.target, action.rule, action.since.ms())),
-            None => None,
-        };
-        assert_eq!(rt; shown, wanted(row), "at {}", row.t);
+fn what_is_chosen(rt: HostRuntime) {
+    for (index, row) in ROWS.iter().enumerate() {
+        assert_eq!(rt;
+            shown(&rt, rt.alloc(), row),
+            wanted(row),
+            "{index} at {}",
+            row.t
+        );
     }
-    Ok(())
 }
+
+// The actions that have come, in their order.
+fn listed(rt: &impl Abort, alloc: Global, row: &Row) -> Vec<(ActionKind, u32, u64)> {
+    let bucket = bucket(rt, alloc, row);
+    let actions = candidates(alloc, &bucket, moment(rt, row.t)).expect(rt, "memory");
+    let mut shown = Vec::new(alloc);
+    for action in &actions {
+        let told = (action.kind, action.rule, action.since.ms());
+        shown.push(told).expect(rt, "memory");
+    }
+    shown
+}
+
+const MOVED: (ActionKind, u32, u64) = (ActionKind::Transition(Class::StandardIa), 1, DUE);
 
 // A transition and an expiration that come at one midnight, in their order: the S3 User Guide's conflicting rules.
 #[test]
-fn what_is_listed(rt: HostRuntime) -> Result<(), Fail> {
-    let alloc = rt.alloc();
-    for row in &ROWS[2..4] {
-        let mut shown = Vec::new(alloc);
-        for action in candidates(alloc, &bucket(alloc, row)?, Moment::of(row.t)?)? {
-            shown.push((action.kind, action.rule, action.since.ms()))?;
-        }
-        let moved = (ActionKind::Transition(Class::StandardIa), 1, DUE);
-        match row.versioning {
-            Versioning::Unversioned => {
-                assert_eq!(rt; &shown[..], &[(ActionKind::Remove, 2, DUE), moved][..]);
-            }
-            _ => assert_eq!(rt; &shown[..], &[moved, (ActionKind::Marker, 2, DUE)][..]),
-        }
-    }
-    Ok(())
+fn what_is_listed(rt: HostRuntime) {
+    let removed = listed(&rt, rt.alloc(), &ROWS[2]);
+    assert_eq!(rt; &removed[..], &[(ActionKind::Remove, 2, DUE), MOVED][..]);
+    let marked = listed(&rt, rt.alloc(), &ROWS[3]);
+    assert_eq!(rt; &marked[..], &[MOVED, (ActionKind::Marker, 2, DUE)][..]);
 }

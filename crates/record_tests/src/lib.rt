@@ -8,6 +8,8 @@ mod class_rules_tests;
 #[cfg(test)]
 mod due_core_tests;
 #[cfg(test)]
+mod given;
+#[cfg(test)]
 mod moments_tests;
 #[cfg(test)]
 mod office_base_tests;

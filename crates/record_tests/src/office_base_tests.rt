@@ -1,207 +1,277 @@
+use crate::given::{Pair, id, key, pairs, tags, text};
 use office_base::{BucketName, Items, Key, NameRefusal, Nth, Size, TagList, Tags, Text, VersionId};
-use std::alloc::{AllocError, Global};
+use std::alloc::Global;
 use std::cmp::Ordering;
-use std::test::Fail;
+use std::process::Abort;
 
 const SIXTY_THREE: &str = "abcdefghijklmnopqrstuvwxyz-0123456789.abcdefghijklmnopqrstuvwxy";
 
-#[test]
-fn names_in_range(rt: HostRuntime) -> Result<(), Fail> {
-    let alloc = rt.alloc();
-    for text in [
-        "abc",
-        "0-9",
-        "a.b",
-        "logs",
-        "my-bucket.2024",
-        "a..b",
-        "192.168.5.4",
-        SIXTY_THREE,
-    ] {
-        let name = BucketName::read(alloc, text)?;
-        assert_eq!(rt; name.text(), text);
-        assert_eq!(rt; name.copy()?.text(), text);
-    }
-    Ok(())
+const SIXTY_FOUR: &str = "abcdefghijklmnopqrstuvwxyz-0123456789.abcdefghijklmnopqrstuvwxyz";
+
+const NAMES: [&str; 8] = [
+    "abc",
+    "0-9",
+    "a.b",
+    "logs",
+    "my-bucket.2024",
+    "a..b",
+    "192.168.5.4",
+    SIXTY_THREE,
+];
+
+fn name(rt: &impl Abort, alloc: Global, text: &str) -> BucketName {
+    BucketName::read(alloc, text).expect(rt, "a name")
 }
 
 #[test]
-fn names_out_of_range(rt: HostRuntime) -> Result<(), Fail> {
-    let alloc = rt.alloc();
-    assert_eq!(rt; SIXTY_THREE.len(), 63);
-    let mut longer = String::from_str(alloc, SIXTY_THREE)?;
-    longer.push('z')?;
-    let texts = [
-        "",
-        "ab",
-        "Logs",
-        "logs_2",
-        "lo gs",
-        "-logs",
-        "logs-",
-        ".logs",
-        "logs.",
-        "lo/gs",
-        "lögs",
-        longer.as_str(),
-    ];
-    for text in texts {
-        match BucketName::read(alloc, text) {
-            Ok(_) => panic!(rt; "{text} is a name"),
-            Err(refusal) => assert_eq!(rt; refusal, NameRefusal::BadBucketName, "{text}"),
-        }
+fn names_in_range(rt: HostRuntime) {
+    for text in &NAMES {
+        let name = name(&rt, rt.alloc(), text);
+        assert_eq!(rt; name.text(), *text);
+        let copy = name.copy().expect(&rt, "memory");
+        assert_eq!(rt; copy.text(), *text);
     }
-    Ok(())
+}
+
+const NO_NAMES: [&str; 12] = [
+    "", "ab", "Logs", "logs_2", "lo gs", "-logs", "logs-", ".logs", "logs.", "lo/gs", "lögs",
+    SIXTY_FOUR,
+];
+
+fn name_refusal(alloc: Global, text: &str) -> Option<NameRefusal> {
+    match BucketName::read(alloc, text) {
+        Ok(_) => None,
+        Err(refusal) => Some(refusal),
+    }
 }
 
 #[test]
-fn names_in_the_order_of_their_bytes(rt: HostRuntime) -> Result<(), Fail> {
-    let alloc = rt.alloc();
-    let texts = ["0bc", "a-c", "a.c", "a0c", "abc", "abc-d", "abcd", "abd"];
-    for (i, left) in texts.iter().enumerate() {
-        for (j, right) in texts.iter().enumerate() {
-            let order = BucketName::read(alloc, left)?.cmp(&BucketName::read(alloc, right)?);
-            let wanted = if i < j {
-                Ordering::Less
-            } else if i > j {
-                Ordering::Greater
-            } else {
-                Ordering::Equal
-            };
-            assert_eq!(rt; order, wanted, "{left} and {right}");
-        }
+fn names_out_of_range(rt: HostRuntime) {
+    assert_eq!(rt; (SIXTY_THREE.len(), SIXTY_FOUR.len()), (63, 64));
+    for text in &NO_NAMES {
+        let refusal = name_refusal(rt.alloc(), text);
+        assert_eq!(rt; refusal, Some(NameRefusal::BadBucketName), "{text}");
     }
-    Ok(())
+}
+
+// Names in the order of their bytes.
+const ORDERED: [&str; 8] = ["0bc", "a-c", "a.c", "a0c", "abc", "abc-d", "abcd", "abd"];
+
+fn order(rt: &impl Abort, alloc: Global, left: &str, right: &str) -> Ordering {
+    name(rt, alloc, left).cmp(&name(rt, alloc, right))
 }
 
 #[test]
-fn keys_sizes_and_version_ids(rt: HostRuntime) -> Result<(), Fail> {
-    let alloc = rt.alloc();
-    let most = [b'k'; 1_024];
-    let keys = [b"/".as_slice(), b"logs/2024.txt", "grün".as_bytes(), &most];
-    for bytes in keys {
-        let key = Key::read(alloc, bytes)?;
-        assert_eq!(rt; key.bytes(), bytes);
-        assert!(rt; key.copy()? == key);
-    }
-    let more = [b'k'; 1_025];
-    for bytes in [b"".as_slice(), b"\xff", b"gr\xc3", &more] {
-        match Key::read(alloc, bytes) {
-            Ok(_) => panic!(rt; "a key of {} bytes", bytes.len()),
-            Err(refusal) => assert_eq!(rt; refusal, NameRefusal::BadKey),
+fn names_in_the_order_of_their_bytes(rt: HostRuntime) {
+    for (i, left) in ORDERED.iter().enumerate() {
+        for (j, right) in ORDERED.iter().enumerate() {
+            assert_eq!(rt;
+                order(&rt, rt.alloc(), left, right),
+                i.cmp(&j),
+                "{left} and {right}"
+            );
         }
     }
-    assert_eq!(rt; Size::of(5_497_558_138_880)?.bytes(), 5_497_558_138_880);
-    assert_eq!(rt; Size::of(5_497_558_138_881), Err(NameRefusal::BadSize));
+}
+
+const KEYS: [&[u8]; 4] = [b"/", b"logs/2024.txt", b"gr\xc3\xbcn", &[b'k'; 1_024]];
+
+#[test]
+fn keys_in_range(rt: HostRuntime) {
+    for bytes in &KEYS {
+        let key = key(&rt, rt.alloc(), bytes);
+        assert_eq!(rt; key.bytes(), *bytes);
+        let copy = key.copy().expect(&rt, "memory");
+        assert!(rt; copy == key, "a key of {} bytes", bytes.len());
+    }
+}
+
+const NO_KEYS: [&[u8]; 4] = [b"", b"\xff", b"gr\xc3", &[b'k'; 1_025]];
+
+fn key_refusal(alloc: Global, bytes: &[u8]) -> Option<NameRefusal> {
+    match Key::read(alloc, bytes) {
+        Ok(_) => None,
+        Err(refusal) => Some(refusal),
+    }
+}
+
+#[test]
+fn keys_out_of_range(rt: HostRuntime) {
+    for bytes in &NO_KEYS {
+        let refusal = key_refusal(rt.alloc(), bytes);
+        assert_eq!(rt; refusal, Some(NameRefusal::BadKey), "{} bytes", bytes.len());
+    }
+}
+
+fn size(bytes: u64) -> Result<u64, NameRefusal> {
+    match Size::of(bytes) {
+        Ok(size) => Ok(size.bytes()),
+        Err(refusal) => Err(refusal),
+    }
+}
+
+#[test]
+fn sizes(rt: HostRuntime) {
+    assert_eq!(rt; size(5_497_558_138_880), Ok(5_497_558_138_880));
+    assert_eq!(rt; size(5_497_558_138_881), Err(NameRefusal::BadSize));
+}
+
+// Texts, and the numbers of the versions that they name; 0 is the null version.
+const IDS: [(&str, Option<u64>); 11] = [
+    ("null", Some(0)),
+    ("1", Some(1)),
+    ("18446744073709551615", Some(u64::MAX)),
+    ("18446744073709551616", None),
+    ("0", None),
+    ("01", None),
+    ("+1", None),
+    ("-1", None),
+    ("1 ", None),
+    ("Null", None),
+    ("", None),
+];
+
+#[test]
+fn version_ids(rt: HostRuntime) {
     assert_eq!(rt; Nth::of(0), None);
-    let ids = [
-        ("null", Some(VersionId::Null)),
-        ("1", Nth::of(1).map(VersionId::Number)),
-        (
-            "18446744073709551615",
-            Nth::of(u64::MAX).map(VersionId::Number),
-        ),
-        ("18446744073709551616", None),
-        ("0", None),
-        ("01", None),
-        ("+1", None),
-        ("-1", None),
-        ("1 ", None),
-        ("Null", None),
-        ("", None),
-    ];
-    for (text, id) in ids {
-        assert_eq!(rt; VersionId::read(text), id, "{text}");
+    for (text, number) in &IDS {
+        let wanted = match number {
+            Some(number) => Some(id(*number)),
+            None => None,
+        };
+        assert_eq!(rt; VersionId::read(text), wanted, "{text}");
     }
-    Ok(())
 }
 
-fn pairs_of(alloc: Global, pairs: &[(&str, &str)]) -> Result<Vec<(String, String)>, AllocError> {
-    let mut texts = Vec::new(alloc);
-    for (key, value) in pairs {
-        texts.push((
-            String::from_str(alloc, key)?,
-            String::from_str(alloc, value)?,
-        ))?;
-    }
-    Ok(texts)
-}
-
-#[test]
-fn tags_in_the_order_of_their_keys(rt: HostRuntime) -> Result<(), Fail> {
-    let alloc = rt.alloc();
-    let given = [("kind", "raw"), ("Keep", "no"), ("ä", ""), ("a", "x")];
-    let kept = [("Keep", "no"), ("a", "x"), ("kind", "raw"), ("ä", "")];
-    let tags = Tags::read(alloc, pairs_of(alloc, &given)?)?;
-    assert_eq!(rt; tags.pairs().len(), 4);
-    let copy = tags.copy()?;
-    for (tag, wanted) in copy.pairs().iter().zip(kept) {
-        assert_eq!(rt; (tag.0.as_str(), tag.1.as_str()), wanted);
-    }
-    let key = "ä".repeat(alloc, 128)?;
-    let value = "ß".repeat(alloc, 256)?;
-    assert_eq!(rt;
-        Tags::read(alloc, pairs_of(alloc, &[(&key, &value)])?)?
-            .pairs()
-            .len(),
-        1
-    );
-    let long_key = "k".repeat(alloc, 129)?;
-    let long_value = "v".repeat(alloc, 257)?;
-    let ten = [
-        ("a", ""),
-        ("b", ""),
-        ("c", ""),
-        ("d", ""),
-        ("e", ""),
-        ("f", ""),
-        ("g", ""),
-        ("h", ""),
-        ("i", ""),
-        ("j", ""),
-    ];
-    assert_eq!(rt;
-        Tags::read(alloc, pairs_of(alloc, &ten)?)?.pairs().len(),
-        10
-    );
-    let mut eleven = pairs_of(alloc, &ten)?;
-    eleven.push((String::from_str(alloc, "k")?, String::new(alloc)))?;
-    let bad = [
-        eleven,
-        pairs_of(alloc, &[("", "x")])?,
-        pairs_of(alloc, &[(&long_key, "x")])?,
-        pairs_of(alloc, &[("k", &long_value)])?,
-        pairs_of(alloc, &[("k", "x"), ("l", "x"), ("k", "y")])?,
-    ];
-    for pairs in bad {
-        match Tags::read(alloc, pairs) {
-            Ok(_) => panic!(rt; "tags out of range"),
-            Err(refusal) => assert_eq!(rt; refusal, NameRefusal::BadTags),
+// Whether these pairs are given, in their order.
+fn are(given: &[(String, String)], wanted: &[Pair]) -> bool {
+    for ((key, value), wanted) in given.iter().zip(wanted) {
+        if key.as_str() != wanted.0 || value.as_str() != wanted.1 {
+            return false;
         }
     }
-    Ok(())
+    given.len() == wanted.len()
+}
+
+const TEN: [Pair; 10] = [
+    ("a", ""),
+    ("b", ""),
+    ("c", ""),
+    ("d", ""),
+    ("e", ""),
+    ("f", ""),
+    ("g", ""),
+    ("h", ""),
+    ("i", ""),
+    ("j", ""),
+];
+
+const ELEVEN: [Pair; 11] = [
+    ("a", ""),
+    ("b", ""),
+    ("c", ""),
+    ("d", ""),
+    ("e", ""),
+    ("f", ""),
+    ("g", ""),
+    ("h", ""),
+    ("i", ""),
+    ("j", ""),
+    ("k", ""),
+];
+
+const GIVEN: [Pair; 4] = [("kind", "raw"), ("Keep", "no"), ("ä", ""), ("a", "x")];
+
+const KEPT: [Pair; 4] = [("Keep", "no"), ("a", "x"), ("kind", "raw"), ("ä", "")];
+
+// Pairs, and how many tags they are.
+const TAGS: [(&[Pair], Result<usize, NameRefusal>); 5] = [
+    (&GIVEN, Ok(4)),
+    (&TEN, Ok(10)),
+    (&ELEVEN, Err(NameRefusal::BadTags)),
+    (&[("", "x")], Err(NameRefusal::BadTags)),
+    (
+        &[("k", "x"), ("l", "x"), ("k", "y")],
+        Err(NameRefusal::BadTags),
+    ),
+];
+
+fn tag_count(alloc: Global, pairs: Vec<(String, String)>) -> Result<usize, NameRefusal> {
+    match Tags::read(alloc, pairs) {
+        Ok(tags) => Ok(tags.pairs().len()),
+        Err(refusal) => Err(refusal),
+    }
 }
 
 #[test]
-fn texts_and_lists_as_they_were_given(rt: HostRuntime) -> Result<(), Fail> {
-    let alloc = rt.alloc();
-    let text = Text::of(String::from_str(alloc, "logs/ä")?);
-    assert_eq!(rt; text.copy()?.as_str(), "logs/ä");
-    assert_eq!(rt; text.char_count(), 6);
-    let list = TagList::of(pairs_of(alloc, &[("kind", "raw"), ("a", "x")])?);
-    for (pair, wanted) in list
-        .copy()?
-        .pairs()
-        .iter()
-        .zip([("kind", "raw"), ("a", "x")])
-    {
-        assert_eq!(rt; (pair.0.as_str(), pair.1.as_str()), wanted);
+fn tags_by_their_pairs(rt: HostRuntime) {
+    for (index, (given, wanted)) in TAGS.iter().enumerate() {
+        let count = tag_count(rt.alloc(), pairs(&rt, rt.alloc(), given));
+        assert_eq!(rt; count, *wanted, "{index}");
     }
+}
+
+#[test]
+fn tags_in_the_order_of_their_keys(rt: HostRuntime) {
+    let tags = tags(&rt, rt.alloc(), &GIVEN);
+    let copy = tags.copy().expect(&rt, "memory");
+    assert!(rt; are(copy.pairs(), &KEPT));
+}
+
+// One tag, whose key and value repeat a text so often, and whether it is one.
+const LONG_TAGS: [(&str, usize, &str, usize, Result<usize, NameRefusal>); 3] = [
+    ("ä", 128, "ß", 256, Ok(1)),
+    ("k", 129, "x", 1, Err(NameRefusal::BadTags)),
+    ("k", 1, "v", 257, Err(NameRefusal::BadTags)),
+];
+
+fn repeated(rt: &impl Abort, alloc: Global, text: &str, times: usize) -> String {
+    assert!(rt; text.len() < 8 && times < 1_000);
+    text.repeat(alloc, times).expect(rt, "memory")
+}
+
+#[test]
+fn lengths_of_tags(rt: HostRuntime) {
+    for (key, long, value, wide, wanted) in &LONG_TAGS {
+        let alloc = rt.alloc();
+        let pair = (
+            repeated(&rt, alloc, key, *long),
+            repeated(&rt, alloc, value, *wide),
+        );
+        let mut pairs = Vec::new(alloc);
+        pairs.push(pair).expect(&rt, "memory");
+        assert_eq!(rt; tag_count(alloc, pairs), *wanted, "{long} and {wide}");
+    }
+}
+
+#[test]
+fn texts_as_they_were_given(rt: HostRuntime) {
+    let text = Text::of(text(&rt, rt.alloc(), "logs/ä"));
+    let copy = text.copy().expect(&rt, "memory");
+    assert_eq!(rt; (copy.as_str(), text.char_count()), ("logs/ä", 6));
+}
+
+fn list(rt: &impl Abort, alloc: Global, given: &[Pair]) -> TagList {
+    TagList::of(pairs(rt, alloc, given))
+}
+
+#[test]
+fn lists_of_tags(rt: HostRuntime) {
+    let wanted = [("kind", "raw"), ("a", "x")];
+    let list = list(&rt, rt.alloc(), &wanted);
+    let copy = list.copy().expect(&rt, "memory");
+    assert!(rt; are(copy.pairs(), &wanted));
     assert_eq!(rt; list.are_tags(), true);
-    let repeated = TagList::of(pairs_of(alloc, &[("a", "x"), ("a", "y")])?);
-    assert_eq!(rt; repeated.are_tags(), false);
-    assert_eq!(rt; repeated.is_empty(), false);
-    let items = Items::of(vec![in alloc; 3u32, 1, 2]?);
+}
+
+#[test]
+fn lists_that_are_no_tags(rt: HostRuntime) {
+    let repeated = list(&rt, rt.alloc(), &[("a", "x"), ("a", "y")]);
+    assert_eq!(rt; (repeated.are_tags(), repeated.is_empty()), (false, false));
+}
+
+#[test]
+fn items_as_they_were_given(rt: HostRuntime) {
+    let items = Items::of(vec![in rt.alloc(); 3u32, 1, 2].expect(&rt, "memory"));
     assert_eq!(rt; items.as_slice(), [3u32, 1, 2].as_slice());
-    Ok(())
 }

@@ -1,20 +1,15 @@
 ghost use Rattle.std.specs.Prelude.{◌≡◌, true};
 ghost use Rattle.stacks.specs.Stacks.{IsFreeNumber};
 
-use stacks::{Kind, Stack, StackRefusal, Version, Versioning};
+use crate::given::{DAY, NEW_YEAR, day, id, size, tags};
 use Change::{Mark, Put, Remove};
 use Versioning::{Enabled, Suspended, Unversioned};
 use class_rules::Class;
 use moments::Moment;
-use office_base::{Nth, Size, Tags, VersionId};
+use office_base::{Nth, Tags, VersionId};
+use stacks::{Kind, Stack, StackRefusal, Version, Versioning};
 use std::alloc::Global;
 use std::process::Abort;
-use std::test::Fail;
-
-// 2024-01-01 00:00 UTC, and the milliseconds of a day.
-const NEW_YEAR: u64 = 1_704_067_200_000;
-
-const DAY: u64 = 86_400_000;
 
 // What is done to a stack; 0 is the null version.
 #[derive(Clone, Copy)]
@@ -27,18 +22,6 @@ enum Change {
 // A version as a table shows it: its number, whether it is a marker, and the days on which it was created and ceased.
 type Row = (u64, bool, u64, u64);
 
-fn moment(rt: &impl Abort, day: u64) -> Moment {
-    assert!(rt; day < 10_000);
-    Moment::of(NEW_YEAR + day * DAY).expect(rt, "a moment")
-}
-
-fn id(number: u64) -> VersionId {
-    match Nth::of(number) {
-        Some(number) => VersionId::Number(number),
-        None => VersionId::Null,
-    }
-}
-
 fn number(id: VersionId) -> u64 {
     match id {
         VersionId::Null => 0,
@@ -46,7 +29,7 @@ fn number(id: VersionId) -> u64 {
     }
 }
 
-fn day(moment: Moment) -> u64 {
+fn day_of(moment: Moment) -> u64 {
     moment.ms().saturating_sub(NEW_YEAR) / DAY
 }
 
@@ -58,8 +41,8 @@ fn row(version: &Version) -> Row {
     (
         number(version.id),
         is_marker,
-        day(version.created),
-        day(version.ceased),
+        day_of(version.created),
+        day_of(version.ceased),
     )
 }
 
@@ -76,23 +59,26 @@ fn is_free(versioning: Versioning, number: u64, versions: &[Version]) -> bool
     }
 }
 
-fn no_tags(alloc: Global) -> Result<Tags, Fail> {
-    Ok(Tags::read(alloc, Vec::new(alloc))?)
-}
-
 fn put(
     rt: &impl Abort,
-    alloc: Global,
     stack: &mut Stack,
     versioning: Versioning,
     number: u64,
+    tags: Tags,
     at: Moment,
-) -> Result<Option<Version>, Fail> {
+) -> Option<Version> {
     assert!(rt; stack.changed().ms() <= at.ms());
     assert!(rt; is_free(versioning, number, stack.versions()));
-    let size = Size::of(200_000)?;
-    let class = Class::StandardIa;
-    Ok(stack.put(versioning, number, size, class, no_tags(alloc)?, at)?)
+    stack
+        .put(
+            versioning,
+            number,
+            size(rt, 200_000),
+            Class::StandardIa,
+            tags,
+            at,
+        )
+        .expect(rt, "memory")
 }
 
 fn mark(
@@ -101,24 +87,66 @@ fn mark(
     versioning: Versioning,
     number: u64,
     at: Moment,
-) -> Result<Option<Version>, Fail> {
+) -> Option<Version> {
+    assert!(rt; versioning != Versioning::Unversioned);
     assert!(rt; stack.changed().ms() <= at.ms());
     assert!(rt; is_free(versioning, number, stack.versions()));
-    match versioning {
-        Versioning::Unversioned => panic!(rt; "no marker in a bucket without versions"),
-        Versioning::Enabled => Ok(stack.put_marker(Versioning::Enabled, number, at)?),
-        Versioning::Suspended => Ok(stack.put_marker(Versioning::Suspended, number, at)?),
-    }
+    stack
+        .put_marker(versioning, number, at)
+        .expect(rt, "memory")
 }
 
 fn remove(
     rt: &impl Abort,
     stack: &mut Stack,
-    number: u64,
+    id: VersionId,
     at: Moment,
-) -> Result<Option<Version>, Fail> {
+) -> Result<Version, StackRefusal> {
     assert!(rt; stack.changed().ms() <= at.ms());
-    Ok(Some(stack.remove(id(number), at)?))
+    stack.remove(id, at)
+}
+
+// Sets tags, and gives how many there were.
+fn set_tags(
+    rt: &impl Abort,
+    stack: &mut Stack,
+    id: VersionId,
+    tags: Tags,
+    at: Moment,
+) -> Result<usize, StackRefusal> {
+    assert!(rt; stack.changed().ms() <= at.ms());
+    match stack.set_tags(id, tags, at) {
+        Ok(before) => Ok(before.pairs().len()),
+        Err(refusal) => Err(refusal),
+    }
+}
+
+fn move_class(
+    rt: &impl Abort,
+    stack: &mut Stack,
+    id: VersionId,
+    to: Class,
+    at: Moment,
+) -> Result<Class, StackRefusal> {
+    assert!(rt; stack.changed().ms() <= at.ms());
+    stack.move_class(id, to, at)
+}
+
+// Does a change on a day, and gives the version that went.
+fn done(
+    rt: &impl Abort,
+    alloc: Global,
+    stack: &mut Stack,
+    change: Change,
+    at: Moment,
+) -> Option<Version> {
+    match change {
+        Change::Put(versioning, number) => {
+            put(rt, stack, versioning, number, tags(rt, alloc, &[]), at)
+        }
+        Change::Mark(versioning, number) => mark(rt, stack, versioning, number, at),
+        Change::Remove(number) => Some(remove(rt, stack, id(number), at).expect(rt, "a version")),
+    }
 }
 
 // Does a step on a day, and gives the row of the version that went.
@@ -127,43 +155,33 @@ fn step(
     alloc: Global,
     stack: &mut Stack,
     change: Change,
-    day: u64,
-) -> Result<Option<Row>, Fail> {
-    let at = moment(rt, day);
-    let gone = match change {
-        Change::Put(versioning, number) => put(rt, alloc, stack, versioning, number, at)?,
-        Change::Mark(versioning, number) => mark(rt, stack, versioning, number, at)?,
-        Change::Remove(number) => remove(rt, stack, number, at)?,
-    };
+    today: u64,
+) -> Option<Row> {
+    let at = day(rt, today);
+    let gone = done(rt, alloc, stack, change, at);
     assert_eq!(rt; stack.changed(), at);
     match gone {
-        Some(version) => Ok(Some(row(&version))),
-        None => Ok(None),
+        Some(version) => Some(row(&version)),
+        None => None,
     }
 }
 
-// Does the steps day by day; the last one takes out `gone`, and leaves the rows.
-fn leads_to(
-    rt: &impl Abort,
-    alloc: Global,
-    steps: &[Change],
-    gone: Option<Row>,
-    rows: &[Row],
-) -> Result<(), Fail> {
-    let mut stack = Stack::new(alloc, moment(rt, 0));
+fn are(versions: &[Version], rows: &[Row]) -> bool {
+    for (version, wanted) in versions.iter().zip(rows) {
+        if row(version) != *wanted {
+            return false;
+        }
+    }
+    versions.len() == rows.len()
+}
+
+// Does the steps day by day, and gives what the last one takes out.
+fn done_daily(rt: &impl Abort, alloc: Global, stack: &mut Stack, steps: &[Change]) -> Option<Row> {
     let mut last = None;
-    let mut today = 0;
-    for next in steps {
-        assert!(rt; today < 1_000);
-        last = step(rt, alloc, &mut stack, *next, today)?;
-        today += 1;
+    for (today, next) in steps.iter().enumerate() {
+        last = step(rt, alloc, stack, *next, today as u64);
     }
-    assert_eq!(rt; last, gone);
-    assert_eq!(rt; stack.versions().len(), rows.len());
-    for (version, wanted) in stack.versions().iter().zip(rows) {
-        assert_eq!(rt; row(version), *wanted);
-    }
-    Ok(())
+    last
 }
 
 // Steps, the version that the last one takes out, and the versions that are left.
@@ -248,106 +266,145 @@ const CASES: [Case; 12] = [
 ];
 
 #[test]
-fn stacks_after_steps(rt: HostRuntime) -> Result<(), Fail> {
-    for case in CASES {
-        leads_to(&rt, rt.alloc(), case.steps, case.gone, case.rows)?;
+fn stacks_after_steps(rt: HostRuntime) {
+    for (index, case) in CASES.iter().enumerate() {
+        let mut stack = Stack::new(rt.alloc(), day(&rt, 0));
+        let gone = done_daily(&rt, rt.alloc(), &mut stack, case.steps);
+        assert_eq!(rt; gone, case.gone, "{index}");
+        assert!(rt; are(stack.versions(), case.rows), "{index}");
     }
-    Ok(())
 }
+
+// A stack of one delete marker, version 1, of day 1.
+fn of_marker(rt: &impl Abort, alloc: Global) -> Stack {
+    let mut stack = Stack::new(alloc, day(rt, 0));
+    let _ = step(rt, alloc, &mut stack, Mark(Enabled, 1), 1);
+    stack
+}
+
+// A change that is refused.
+#[derive(Clone, Copy)]
+enum Refused {
+    Remove(u64),
+    Tags(u64),
+    Move(u64),
+}
+
+fn refusal(
+    rt: &impl Abort,
+    alloc: Global,
+    stack: &mut Stack,
+    change: Refused,
+    at: Moment,
+) -> Option<StackRefusal> {
+    match change {
+        Refused::Remove(number) => remove(rt, stack, id(number), at).err(),
+        Refused::Tags(number) => set_tags(rt, stack, id(number), tags(rt, alloc, &[]), at).err(),
+        Refused::Move(number) => move_class(rt, stack, id(number), Class::Glacier, at).err(),
+    }
+}
+
+const REFUSED: [(Refused, StackRefusal); 4] = [
+    (Refused::Remove(0), StackRefusal::NoSuchVersion),
+    (Refused::Tags(0), StackRefusal::NoSuchVersion),
+    (Refused::Tags(1), StackRefusal::IsMarker),
+    (Refused::Move(1), StackRefusal::IsMarker),
+];
 
 #[test]
-fn refused_changes(rt: HostRuntime) -> Result<(), Fail> {
-    let alloc = rt.alloc();
-    let at = moment(&rt, 2);
-    let mut stack = Stack::new(alloc, moment(&rt, 0));
-    let _ = step(&rt, alloc, &mut stack, Mark(Enabled, 1), 1)?;
-    assert!(rt; stack.changed().ms() <= at.ms());
-    match stack.remove(VersionId::Null, at) {
-        Ok(_) => panic!(rt; "a version that is not there"),
-        Err(refusal) => assert_eq!(rt; refusal, StackRefusal::NoSuchVersion),
+fn refused_changes(rt: HostRuntime) {
+    let mut stack = of_marker(&rt, rt.alloc());
+    for (index, (change, wanted)) in REFUSED.iter().enumerate() {
+        let refusal = refusal(&rt, rt.alloc(), &mut stack, *change, day(&rt, 2));
+        assert_eq!(rt; refusal, Some(*wanted), "{index}");
     }
-    match stack.set_tags(VersionId::Null, no_tags(alloc)?, at) {
-        Ok(_) => panic!(rt; "a version that is not there"),
-        Err(refusal) => assert_eq!(rt; refusal, StackRefusal::NoSuchVersion),
-    }
-    match stack.set_tags(id(1), no_tags(alloc)?, at) {
-        Ok(_) => panic!(rt; "a marker with tags"),
-        Err(refusal) => assert_eq!(rt; refusal, StackRefusal::IsMarker),
-    }
-    let moved = stack.move_class(id(1), Class::Glacier, at);
-    assert_eq!(rt; moved, Err(StackRefusal::IsMarker));
-    assert_eq!(rt; stack.changed(), moment(&rt, 1));
-    Ok(())
+    assert_eq!(rt; stack.changed(), day(&rt, 1));
 }
 
-fn is_in(version: &Version, wanted: Class, since: Moment) -> bool {
+// How many tags a version has, its class, and the moment at which it went into that; none of a marker.
+fn told(version: &Version) -> Option<(usize, Class, u64)> {
     match &version.kind {
-        Kind::Object { class, entered, .. } => *class == wanted && *entered == since,
-        Kind::Marker => false,
+        Kind::Object {
+            class,
+            tags,
+            entered,
+            ..
+        } => { Some((tags.pairs().len(), *class, entered.ms())) }
+        Kind::Marker => None,
     }
 }
 
-fn tag_count(version: &Version) -> usize {
-    match &version.kind {
-        Kind::Object { tags, .. } => tags.pairs().len(),
-        Kind::Marker => 0,
+// Versions that were put one a day, from version 1 on day 1 on.
+fn of_days(rt: &impl Abort, alloc: Global, days: u64) -> Stack {
+    let mut stack = Stack::new(alloc, day(rt, 0));
+    for before in 0..days {
+        let number = before + 1;
+        let _ = step(rt, alloc, &mut stack, Put(Enabled, number), number);
     }
+    stack
 }
 
-#[test]
-fn tags_and_classes(rt: HostRuntime) -> Result<(), Fail> {
-    let alloc = rt.alloc();
-    let mut stack = Stack::new(alloc, moment(&rt, 0));
-    for number in 1..4 {
-        let _ = step(&rt, alloc, &mut stack, Put(Enabled, number), number)?;
+const CHANGED: [(usize, Class, u64); 3] = [
+    (0, Class::StandardIa, NEW_YEAR + 3 * DAY),
+    (1, Class::StandardIa, NEW_YEAR + 2 * DAY),
+    (0, Class::Glacier, NEW_YEAR + 9 * DAY),
+];
+
+fn are_told(versions: &[Version], wanted: &[(usize, Class, u64)]) -> bool {
+    for (version, wanted) in versions.iter().zip(wanted) {
+        if told(version) != Some(*wanted) {
+            return false;
+        }
     }
-    let pair = (
-        String::from_str(alloc, "kind")?,
-        String::from_str(alloc, "raw")?,
-    );
-    let tags = Tags::read(alloc, vec![in alloc; pair]?)?;
-    let at = moment(&rt, 9);
-    assert!(rt; stack.changed().ms() <= at.ms());
-    match stack.set_tags(id(2), tags, at) {
-        Ok(before) => assert_eq!(rt; before.pairs().len(), 0),
-        Err(_) => panic!(rt; "an object without tags"),
-    }
-    assert!(rt; stack.changed().ms() <= at.ms());
-    let before = stack.move_class(id(1), Class::Glacier, at);
+    versions.len() == wanted.len()
+}
+
+// Three versions, of which one gets a tag on day 9 and another one another class.
+fn with_changes(rt: &impl Abort, alloc: Global) -> Stack {
+    let mut stack = of_days(rt, alloc, 3);
+    let one = tags(rt, alloc, &[("kind", "raw")]);
+    let before = set_tags(rt, &mut stack, id(2), one, day(rt, 9));
+    assert_eq!(rt; before, Ok(0));
+    let before = move_class(rt, &mut stack, id(1), Class::Glacier, day(rt, 9));
     assert_eq!(rt; before, Ok(Class::StandardIa));
-    assert_eq!(rt; stack.changed(), at);
-    let wanted = [
-        (0, Class::StandardIa, 3),
-        (1, Class::StandardIa, 2),
-        (0, Class::Glacier, 9),
-    ];
-    assert_eq!(rt; stack.versions().len(), 3);
-    for (version, (tags, class, entered)) in stack.versions().iter().zip(wanted) {
-        assert_eq!(rt; tag_count(version), tags);
-        assert!(rt; is_in(version, class, moment(&rt, entered)));
-    }
-    Ok(())
+    stack
 }
 
 #[test]
-fn many_versions(rt: HostRuntime) -> Result<(), Fail> {
-    let alloc = rt.alloc();
-    let mut stack = Stack::new(alloc, moment(&rt, 0));
-    for number in 1..301 {
-        let _ = step(&rt, alloc, &mut stack, Put(Enabled, number), number)?;
+fn tags_and_classes(rt: HostRuntime) {
+    let stack = with_changes(&rt, rt.alloc());
+    assert_eq!(rt; stack.changed(), day(&rt, 9));
+    assert!(rt; are_told(stack.versions(), &CHANGED));
+}
+
+// Whether the numbers of versions fall by one from this one on.
+fn are_falling(versions: &[Version], from: u64) -> bool {
+    let mut wanted = from;
+    for version in versions {
+        if number(version.id) != wanted {
+            return false;
+        }
+        wanted = wanted.saturating_sub(1);
     }
-    assert_eq!(rt; stack.versions().len(), 300);
-    assert_eq!(rt; stack.copy()?.versions().len(), 300);
-    let numbers = (1..301).rev();
-    for (version, wanted) in stack.versions().iter().zip(numbers) {
-        assert_eq!(rt; number(version.id), wanted);
-    }
+    true
+}
+
+#[test]
+fn many_versions(rt: HostRuntime) {
+    let stack = of_days(&rt, rt.alloc(), 300);
+    let copy = stack.copy().expect(&rt, "memory");
+    assert_eq!(rt; (stack.versions().len(), copy.versions().len()), (300, 300));
+    assert!(rt; are_falling(stack.versions(), 300));
+}
+
+#[test]
+fn many_removals(rt: HostRuntime) {
+    let mut stack = of_days(&rt, rt.alloc(), 300);
     for oldest in 1..300 {
-        let gone = step(&rt, alloc, &mut stack, Remove(oldest), 400)?;
+        let gone = step(&rt, rt.alloc(), &mut stack, Remove(oldest), 400);
         assert_eq!(rt; gone, Some((oldest, false, oldest, oldest + 1)));
     }
     assert_eq!(rt; stack.versions().len(), 1);
-    Ok(())
 }
 
 fn marker(number: u64, created: Moment, ceased: Moment) -> Version {
@@ -359,38 +416,56 @@ fn marker(number: u64, created: Moment, ceased: Moment) -> Version {
     }
 }
 
-#[test]
-fn stacks_of_versions(rt: HostRuntime) -> Result<(), Fail> {
-    let alloc = rt.alloc();
-    let day = moment(&rt, 1);
-    let later = moment(&rt, 2);
-    let cases = [
-        ([4, 0, 2], true),
-        ([2, 4, 3], true),
-        ([0, 4, 0], false),
-        ([4, 2, 4], false),
-        ([5, 5, 1], false),
-    ];
-    for (numbers, is_some) in cases {
-        let mut versions = Vec::new(alloc);
-        for number in numbers {
-            versions.push(marker(number, day, day))?;
-        }
-        assert_eq!(rt; Stack::of(day, versions).is_some(), is_some);
+fn markers(rt: &impl Abort, alloc: Global, numbers: &[u64]) -> Vec<Version> {
+    let mut versions = Vec::new(alloc);
+    for number in numbers {
+        let marker = marker(*number, day(rt, 1), day(rt, 1));
+        versions.push(marker).expect(rt, "memory");
     }
-    let mut moments = vec![in alloc; marker(1, day, later)]?;
-    assert_eq!(rt; Stack::of(later, moments).is_some(), true);
-    moments = vec![in alloc; marker(1, day, later)]?;
-    assert_eq!(rt; Stack::of(day, moments).is_some(), false);
-    moments = vec![in alloc; marker(1, later, day)]?;
-    assert_eq!(rt; Stack::of(day, moments).is_some(), false);
+    versions
+}
+
+// The numbers of markers of one day, and whether they are a stack.
+const NUMBERS: [([u64; 3], bool); 5] = [
+    ([4, 0, 2], true),
+    ([2, 4, 3], true),
+    ([0, 4, 0], false),
+    ([4, 2, 4], false),
+    ([5, 5, 1], false),
+];
+
+#[test]
+fn stacks_of_markers(rt: HostRuntime) {
+    for (numbers, is_some) in &NUMBERS {
+        let stack = Stack::of(day(&rt, 1), markers(&rt, rt.alloc(), numbers));
+        assert_eq!(rt; stack.is_some(), *is_some, "{numbers:?}");
+    }
+}
+
+// The days on which a marker was created and ceased, the day of the stack's last change, and whether it is a stack.
+const DAYS: [(u64, u64, u64, bool); 3] = [(1, 2, 2, true), (1, 2, 1, false), (2, 1, 1, false)];
+
+#[test]
+fn stacks_of_a_marker(rt: HostRuntime) {
+    for (created, ceased, changed, is_some) in &DAYS {
+        let marker = marker(1, day(&rt, *created), day(&rt, *ceased));
+        let versions = vec![in rt.alloc(); marker].expect(&rt, "memory");
+        let stack = Stack::of(day(&rt, *changed), versions);
+        assert_eq!(rt; stack.is_some(), *is_some, "{created} {ceased} {changed}");
+    }
+}
+
+// An object that entered its class the day before it was created.
+#[test]
+fn no_stack_of_an_early_object(rt: HostRuntime) {
+    let later = day(&rt, 2);
     let mut early = marker(1, later, later);
     early.kind = Kind::Object {
-        size: Size::of(1)?,
+        size: size(&rt, 1),
         class: Class::Standard,
-        tags: no_tags(alloc)?,
-        entered: day,
+        tags: tags(&rt, rt.alloc(), &[]),
+        entered: day(&rt, 1),
     };
-    assert_eq!(rt; Stack::of(later, vec![in alloc; early]?).is_some(), false);
-    Ok(())
+    let versions = vec![in rt.alloc(); early].expect(&rt, "memory");
+    assert!(rt; Stack::of(later, versions).is_none());
 }

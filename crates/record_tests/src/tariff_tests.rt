@@ -1,89 +1,120 @@
-use tariff::{Tariff, TariffFault, charge, move_charge};
+use crate::given::{month, text};
 use class_rules::Class;
-use moments::Month;
-use std::alloc::{AllocError, Global};
-use std::test::Fail;
+use std::alloc::Global;
+use std::process::Abort;
+use tariff::{Tariff, TariffFault, charge, move_charge};
 
 const STORAGE: [u32; 6] = [23_000, 12_500, 10_000, 4_000, 3_600, 990];
 
 const TRANSITION: [u32; 5] = [10, 11, 20, 30, 50];
 
+// A class, and its prices of storage and of a move into it.
+const OF_CLASSES: [(Class, u32, u32); 3] = [
+    (Class::Standard, 23_000, 0),
+    (Class::StandardIa, 12_500, 10),
+    (Class::DeepArchive, 990, 50),
+];
+
 #[test]
 fn prices_by_class(rt: HostRuntime) {
-    let tariff = match Tariff::of(STORAGE, TRANSITION) {
-        Some(tariff) => tariff,
-        None => panic!(rt; "all prices are small"),
-    };
-    assert_eq!(rt; tariff.storage_price(Class::Standard), 23_000);
-    assert_eq!(rt; tariff.storage_price(Class::DeepArchive), 990);
-    assert_eq!(rt; tariff.move_price(Class::Standard), 0);
-    assert_eq!(rt; tariff.move_price(Class::StandardIa), 10);
-    assert_eq!(rt; tariff.move_price(Class::DeepArchive), 50);
-    assert!(rt; Tariff::of([1_048_576; 6], [1_048_576; 5]).is_some());
-    assert!(rt; Tariff::of([0, 0, 0, 0, 0, 1_048_577], TRANSITION).is_none());
-    assert!(rt; Tariff::of(STORAGE, [1_048_577, 0, 0, 0, 0]).is_none());
+    let tariff = Tariff::of(STORAGE, TRANSITION).expect(&rt, "a tariff");
+    for (class, storage, transition) in &OF_CLASSES {
+        let prices = (tariff.storage_price(*class), tariff.move_price(*class));
+        assert_eq!(rt; prices, (*storage, *transition), "{class:?}");
+    }
 }
+
+// Prices, and whether they are a tariff.
+const LARGEST: [([u32; 6], [u32; 5], bool); 3] = [
+    ([1_048_576; 6], [1_048_576; 5], true),
+    ([0, 0, 0, 0, 0, 1_048_577], TRANSITION, false),
+    (STORAGE, [1_048_577, 0, 0, 0, 0], false),
+];
+
+#[test]
+fn the_largest_prices(rt: HostRuntime) {
+    for (index, (storage, transition, is_some)) in LARGEST.iter().enumerate() {
+        let tariff = Tariff::of(*storage, *transition);
+        assert_eq!(rt; tariff.is_some(), *is_some, "{index}");
+    }
+}
+
+// Byte-milliseconds of January 2024, a price, and the charge: a GiB for the whole month, one byte less, and one byte;
+// nothing; and 2^121 - 1 byte-milliseconds at the largest price, where the product has 141 bits.
+const CHARGES: [(u128, u32, u128); 5] = [
+    (2_875_910_101_401_600_000, 23_000, 23_000),
+    (2_875_910_098_723_200_000, 23_000, 22_999),
+    (2_678_400_000, 23_000, 0),
+    (0, 1_048_576, 0),
+    (
+        2_658_455_991_569_831_745_807_614_120_560_689_151,
+        1_048_576,
+        969_290_781_536_519_494_573_345,
+    ),
+];
 
 #[test]
 fn charges_of_a_month(rt: HostRuntime) {
-    let month = match Month::of(2024, 1) {
-        Some(month) => month,
-        None => panic!(rt; "January 2024 is a month"),
-    };
-    // A GiB for the whole of January 2024, one byte less, and one byte.
-    assert_eq!(rt; charge(2_875_910_101_401_600_000, 23_000, month), 23_000);
-    assert_eq!(rt; charge(2_875_910_098_723_200_000, 23_000, month), 22_999);
-    assert_eq!(rt; charge(2_678_400_000, 23_000, month), 0);
-    assert_eq!(rt; charge(0, 1_048_576, month), 0);
-    // 2^121 - 1 byte-milliseconds at the largest price: the product has 141 bits.
-    assert_eq!(rt;
-        charge(
-            2_658_455_991_569_831_745_807_614_120_560_689_151,
-            1_048_576,
-            month
-        ),
-        969_290_781_536_519_494_573_345
-    );
-    assert_eq!(rt;
-        (
-            move_charge(999, 1),
-            move_charge(1_000, 1),
-            move_charge(1_999, 3)
-        ),
-        (0, 1, 5)
-    );
-    assert_eq!(rt;
-        move_charge(u64::MAX, u32::MAX),
-        79_228_162_495_817_593_515_539_431
-    );
+    let january = month(&rt, 2024, 1);
+    for (used, price, wanted) in &CHARGES {
+        assert_eq!(rt; charge(*used, *price, january), *wanted, "{used} {price}");
+    }
+}
+
+// Moves, a price of a thousand, and the charge.
+const MOVES: [(u64, u32, u128); 4] = [
+    (999, 1, 0),
+    (1_000, 1, 1),
+    (1_999, 3, 5),
+    (u64::MAX, u32::MAX, 79_228_162_495_817_593_515_539_431),
+];
+
+#[test]
+fn charges_of_moves(rt: HostRuntime) {
+    for (moves, price, wanted) in &MOVES {
+        assert_eq!(rt; move_charge(*moves, *price), *wanted, "{moves} {price}");
+    }
+}
+
+fn named(rt: &impl Abort, alloc: Global, kind: &str, table: &str, class: &str) -> String {
+    format!(in alloc; "{kind} {table} {class}").expect(rt, "memory")
 }
 
 // An answer as one line: the prices, or the fault.
-fn told(alloc: Global, bytes: &[u8]) -> Result<String, AllocError> {
+fn told(rt: &impl Abort, alloc: Global, bytes: &[u8]) -> String {
     match Tariff::read(alloc, bytes) {
-        Ok(tariff) => told_prices(alloc, &tariff),
-        Err(TariffFault::NotToml) => String::from_str(alloc, "NotToml"),
-        Err(TariffFault::MissingClass { table, class }) => {
-            format!(in alloc; "MissingClass {} {}", table.name(), class.name())
-        }
-        Err(TariffFault::BadPrice { table, class }) => {
-            format!(in alloc; "BadPrice {} {}", table.name(), class.name())
-        }
-        Err(TariffFault::UnknownField { name }) => format!(in alloc; "UnknownField {name}"),
-        Err(TariffFault::NoMemory) => String::from_str(alloc, "NoMemory"),
+        Ok(tariff) => told_prices(rt, alloc, &tariff),
+        Err(fault) => told_fault(rt, alloc, &fault),
     }
 }
 
-fn told_prices(alloc: Global, tariff: &Tariff) -> Result<String, AllocError> {
+fn told_fault(rt: &impl Abort, alloc: Global, fault: &TariffFault) -> String {
+    match fault {
+        TariffFault::NotToml => text(rt, alloc, "NotToml"),
+        TariffFault::MissingClass { table, class } => {
+            named(rt, alloc, "MissingClass", table.name(), class.name())
+        }
+        TariffFault::BadPrice { table, class } => {
+            named(rt, alloc, "BadPrice", table.name(), class.name())
+        }
+        TariffFault::UnknownField { name } => joined(rt, alloc, "UnknownField ", name),
+        TariffFault::NoMemory => text(rt, alloc, "NoMemory"),
+    }
+}
+
+// Prices, each behind a space.
+fn listed(rt: &impl Abort, alloc: Global, prices: &[u32]) -> String {
     let mut text = String::new(alloc);
-    for price in &tariff.storage {
-        text.push_str(format!(in alloc; "{price} ")?.as_str())?;
+    for price in prices {
+        let word = format!(in alloc; " {price}").expect(rt, "memory");
+        text.push_str(word.as_str()).expect(rt, "memory");
     }
-    text.push('/')?;
-    for price in &tariff.transition {
-        text.push_str(format!(in alloc; " {price}")?.as_str())?;
-    }
-    Ok(text)
+    text
+}
+
+fn told_prices(rt: &impl Abort, alloc: Global, tariff: &Tariff) -> String {
+    let storage = listed(rt, alloc, &tariff.storage);
+    joined(rt, alloc, &storage, &listed(rt, alloc, &tariff.transition))
 }
 
 const STORAGE_TABLE: &str = "[storage]\nSTANDARD = 0\nSTANDARD_IA = 1_048_576\nONEZONE_IA = 10000\n\
@@ -92,114 +123,126 @@ GLACIER_IR = +4000\nGLACIER = 0xe10\nDEEP_ARCHIVE = 990 # in units\n";
 const TRANSITION_TABLE: &str = "[transition]\nDEEP_ARCHIVE = 50\nGLACIER = 30\nGLACIER_IR = 20\n\
 ONEZONE_IA = 11\n\"STANDARD_IA\" = 10\n";
 
-const PRICES: &str = "0 1048576 10000 4000 3600 990 / 10 11 20 30 50";
+const PRICES: &str = " 0 1048576 10000 4000 3600 990 10 11 20 30 50";
 
-// TOML v1.1.0 for the texts, the S3 User Guide for the classes.
+// Two texts that stand one behind the other, and what is told of them: TOML v1.1.0 for the texts, the S3 User Guide for
+// the classes.
+const TARIFFS: [(&str, &str, &str); 26] = [
+    (STORAGE_TABLE, TRANSITION_TABLE, PRICES),
+    (TRANSITION_TABLE, STORAGE_TABLE, PRICES),
+    // No document.
+    ("storage", "", "NotToml"),
+    (STORAGE_TABLE, "[storage]\n", "NotToml"),
+    ("[storage]\nSTANDARD = 9223372036854775808\n", "", "NotToml"),
+    ("[storage]\nSTANDARD = 01\n", "", "NotToml"),
+    // A field that is none of the two tables, the first by its bytes, before the names in the tables.
+    ("b = 1\na = 1\n", STORAGE_TABLE, "UnknownField a"),
+    ("zone = 1\n", "[storage]\nB = 1\n", "UnknownField zone"),
+    ("[Storage]\n", "", "UnknownField Storage"),
+    ("transition = 7\n", "storage = 7\n", "UnknownField storage"),
+    (
+        "transition = []\n",
+        STORAGE_TABLE,
+        "UnknownField transition",
+    ),
+    ("[[storage]]\n", "", "UnknownField storage"),
+    // A name that is no class of the table, before missing classes.
+    (
+        "[storage]\nstandard = 1\nGOLD = 1\n",
+        "",
+        "UnknownField GOLD",
+    ),
+    (
+        "[transition]\nA = 1\n",
+        "[storage]\nB = 1\n",
+        "UnknownField B",
+    ),
+    (
+        "[storage]\n",
+        "[transition]\nSTANDARD = 1\n",
+        "UnknownField STANDARD",
+    ),
+    // A class without a price, and a price that is none.
+    ("", "", "MissingClass storage STANDARD"),
+    ("", TRANSITION_TABLE, "MissingClass storage STANDARD"),
+    (
+        STORAGE_TABLE,
+        "[transition]\nONEZONE_IA = 1\n",
+        "MissingClass transition STANDARD_IA",
+    ),
+    (STORAGE_TABLE, "", "MissingClass transition STANDARD_IA"),
+    (
+        "[storage]\n",
+        "STANDARD_IA = -1\n",
+        "MissingClass storage STANDARD",
+    ),
+    (
+        "[storage]\nSTANDARD = 1\n",
+        "STANDARD_IA = -1\n",
+        "BadPrice storage STANDARD_IA",
+    ),
+    (
+        "[storage]\n",
+        "STANDARD = 1048577\n",
+        "BadPrice storage STANDARD",
+    ),
+    (
+        "[storage]\n",
+        "STANDARD = 1.0\n",
+        "BadPrice storage STANDARD",
+    ),
+    (
+        "[storage]\n",
+        "STANDARD = 2024-01-01\n",
+        "BadPrice storage STANDARD",
+    ),
+    (
+        "[storage]\n",
+        "STANDARD = \"1\"\n",
+        "BadPrice storage STANDARD",
+    ),
+    (
+        STORAGE_TABLE,
+        "[transition]\nSTANDARD_IA = true\n",
+        "BadPrice transition STANDARD_IA",
+    ),
+];
+
+// Whether a text is told like this.
+fn is_told(rt: &impl Abort, alloc: Global, bytes: &[u8], answer: &str) -> bool {
+    told(rt, alloc, bytes).as_str() == answer
+}
+
+fn joined(rt: &impl Abort, alloc: Global, front: &str, back: &str) -> String {
+    format!(in alloc; "{front}{back}").expect(rt, "memory")
+}
+
 #[test]
-fn tariffs_from_texts(rt: HostRuntime) -> Result<(), Fail> {
-    let alloc = rt.alloc();
-    let cases = [
-        (STORAGE_TABLE, TRANSITION_TABLE, PRICES),
-        (TRANSITION_TABLE, STORAGE_TABLE, PRICES),
-        // No document.
-        ("storage", "", "NotToml"),
-        (STORAGE_TABLE, "[storage]\n", "NotToml"),
-        ("[storage]\nSTANDARD = 9223372036854775808\n", "", "NotToml"),
-        ("[storage]\nSTANDARD = 01\n", "", "NotToml"),
-        // A field that is none of the two tables, the first by its bytes, before the names in the tables.
-        ("b = 1\na = 1\n", STORAGE_TABLE, "UnknownField a"),
-        ("zone = 1\n", "[storage]\nB = 1\n", "UnknownField zone"),
-        ("[Storage]\n", "", "UnknownField Storage"),
-        ("transition = 7\n", "storage = 7\n", "UnknownField storage"),
-        (
-            "transition = []\n",
-            STORAGE_TABLE,
-            "UnknownField transition",
-        ),
-        ("[[storage]]\n", "", "UnknownField storage"),
-        // A name that is no class of the table, before missing classes.
-        (
-            "[storage]\nstandard = 1\nGOLD = 1\n",
-            "",
-            "UnknownField GOLD",
-        ),
-        (
-            "[transition]\nA = 1\n",
-            "[storage]\nB = 1\n",
-            "UnknownField B",
-        ),
-        (
-            "[storage]\n",
-            "[transition]\nSTANDARD = 1\n",
-            "UnknownField STANDARD",
-        ),
-        // A class without a price, and a price that is none.
-        ("", "", "MissingClass storage STANDARD"),
-        ("", TRANSITION_TABLE, "MissingClass storage STANDARD"),
-        (
-            STORAGE_TABLE,
-            "[transition]\nONEZONE_IA = 1\n",
-            "MissingClass transition STANDARD_IA",
-        ),
-        (STORAGE_TABLE, "", "MissingClass transition STANDARD_IA"),
-        (
-            "[storage]\n",
-            "STANDARD_IA = -1\n",
-            "MissingClass storage STANDARD",
-        ),
-        (
-            "[storage]\nSTANDARD = 1\n",
-            "STANDARD_IA = -1\n",
-            "BadPrice storage STANDARD_IA",
-        ),
-        (
-            "[storage]\n",
-            "STANDARD = 1048577\n",
-            "BadPrice storage STANDARD",
-        ),
-        (
-            "[storage]\n",
-            "STANDARD = 1.0\n",
-            "BadPrice storage STANDARD",
-        ),
-        (
-            "[storage]\n",
-            "STANDARD = 2024-01-01\n",
-            "BadPrice storage STANDARD",
-        ),
-        (
-            "[storage]\n",
-            "STANDARD = \"1\"\n",
-            "BadPrice storage STANDARD",
-        ),
-        (
-            STORAGE_TABLE,
-            "[transition]\nSTANDARD_IA = true\n",
-            "BadPrice transition STANDARD_IA",
-        ),
-    ];
-    for (front, back, answer) in cases {
-        let text = format!(in alloc; "{front}{back}")?;
-        assert_eq!(rt; told(alloc, text.as_bytes())?.as_str(), answer, "{text}");
+fn tariffs_from_texts(rt: HostRuntime) {
+    for (front, back, answer) in &TARIFFS {
+        let text = joined(&rt, rt.alloc(), front, back);
+        assert!(rt; is_told(&rt, rt.alloc(), text.as_bytes(), answer), "{text}");
     }
-    assert_eq!(rt; told(alloc, b"# \xff")?.as_str(), "NotToml");
-    Ok(())
+    assert!(rt; is_told(&rt, rt.alloc(), b"# \xff", "NotToml"));
 }
 
 // A field that nests this many arrays.
-fn nested(alloc: Global, depth: usize) -> Result<String, AllocError> {
-    let mut text = String::from_str(alloc, "a = ")?;
-    text.push_str("[".repeat(alloc, depth)?.as_str())?;
-    text.push_str("]".repeat(alloc, depth)?.as_str())?;
-    Ok(text)
+fn nested(rt: &impl Abort, alloc: Global, depth: usize) -> String {
+    assert!(rt; depth < 1_000);
+    let open = "[".repeat(alloc, depth).expect(rt, "memory");
+    let close = "]".repeat(alloc, depth).expect(rt, "memory");
+    format!(in alloc; "a = {open}{close}").expect(rt, "memory")
 }
 
+const DEPTHS: [(usize, &str); 2] = [(80, "UnknownField a"), (81, "NotToml")];
+
 #[test]
-fn the_bound_of_depth(rt: HostRuntime) -> Result<(), Fail> {
-    let alloc = rt.alloc();
-    for (depth, answer) in [(80, "UnknownField a"), (81, "NotToml")] {
-        let text = nested(alloc, depth)?;
-        assert_eq!(rt; told(alloc, text.as_bytes())?.as_str(), answer);
+fn the_bound_of_depth(rt: HostRuntime) {
+    for (depth, answer) in &DEPTHS {
+        let text = nested(&rt, rt.alloc(), *depth);
+        assert!(rt;
+            is_told(&rt, rt.alloc(), text.as_bytes(), answer),
+            "{depth}"
+        );
     }
-    Ok(())
 }

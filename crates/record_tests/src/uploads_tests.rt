@@ -1,41 +1,32 @@
-use uploads::{Part, Upload, UploadRefusal};
+use crate::given::{day, key, tags};
 use class_rules::Class;
-use moments::Moment;
-use office_base::{Key, Size, Tags};
 use std::alloc::Global;
 use std::collections::BTreeMap;
 use std::process::Abort;
-use std::test::Fail;
-
-// 2024-01-01 00:00 UTC, and the milliseconds of a day.
-const NEW_YEAR: u64 = 1_704_067_200_000;
-
-const DAY: u64 = 86_400_000;
+use uploads::{Part, Upload, UploadRefusal};
 
 const GIB: u64 = 1_073_741_824;
 
-fn moment(rt: &impl Abort, day: u64) -> Moment {
-    assert!(rt; day < 100_000);
-    assert!(rt; NEW_YEAR + day * DAY < moments::END);
-    Moment::of(NEW_YEAR + day * DAY).expect(rt, "a moment")
+fn start(rt: &impl Abort, alloc: Global) -> Upload {
+    let (key, tags) = (key(rt, alloc, b"big"), tags(rt, alloc, &[]));
+    Upload::start(alloc, key, Class::Glacier, tags, day(rt, 0))
 }
 
-fn start(rt: &impl Abort, alloc: Global) -> Result<Upload, Fail> {
-    let key = Key::read(alloc, b"big")?;
-    let tags = Tags::read(alloc, Vec::new(alloc))?;
-    Ok(Upload::start(alloc, key, Class::Glacier, tags, moment(rt, 0)))
-}
-
+// Puts a part on a day, and gives the size of the replaced part or the refusal.
 fn put(
     rt: &impl Abort,
     upload: &mut Upload,
     number: u32,
     size: u64,
-    day: u64,
-) -> Result<Option<Part>, UploadRefusal> {
-    let at = moment(rt, day);
+    today: u64,
+) -> Result<Option<u64>, UploadRefusal> {
+    let at = day(rt, today);
     assert!(rt; upload.changed().ms() <= at.ms());
-    upload.put_part(number, size, at)
+    match upload.put_part(number, size, at) {
+        Ok(Some(part)) => Ok(Some(part.size)),
+        Ok(None) => Ok(None),
+        Err(refusal) => Err(refusal),
+    }
 }
 
 // Parts in turn: number, size and day, the size of the replaced part or the refusal, and the sum of the parts then.
@@ -58,88 +49,115 @@ const CASES: [Case; 8] = [
     (10_000, 7, 8, Ok(Some(5_368_709_120)), 1_008),
 ];
 
-fn size_of(before: Result<Option<Part>, UploadRefusal>) -> Result<Option<u64>, UploadRefusal> {
-    match before {
-        Ok(Some(part)) => Ok(Some(part.size)),
-        Ok(None) => Ok(None),
+fn whole(upload: &Upload) -> Result<u64, UploadRefusal> {
+    match upload.whole() {
+        Ok(size) => Ok(size.bytes()),
         Err(refusal) => Err(refusal),
     }
 }
 
-#[test]
-fn parts_in_turn(rt: HostRuntime) -> Result<(), Fail> {
-    let mut upload = start(&rt, rt.alloc())?;
-    assert_eq!(rt; upload.whole(), Err(UploadRefusal::NoParts));
-    for (number, size, day, wanted, whole) in CASES {
-        let before = put(&rt, &mut upload, number, size, day);
-        assert_eq!(rt; size_of(before), wanted);
-        assert_eq!(rt; upload.whole(), Ok(Size::of(whole)?));
+fn put_all(rt: &impl Abort, upload: &mut Upload, cases: &[Case]) {
+    for (number, size, today, wanted, sum) in cases {
+        let told = (put(rt, upload, *number, *size, *today), whole(upload));
+        assert_eq!(rt; told, (*wanted, Ok(*sum)), "{today}");
     }
+}
+
+#[test]
+fn parts_in_turn(rt: HostRuntime) {
+    let mut upload = start(&rt, rt.alloc());
+    put_all(&rt, &mut upload, &CASES);
     assert_eq!(rt; upload.parts().len(), 3);
-    Ok(())
 }
 
 #[test]
-fn what_an_upload_tells(rt: HostRuntime) -> Result<(), Fail> {
-    let mut upload = start(&rt, rt.alloc())?;
+fn no_parts(rt: HostRuntime) {
+    let upload = start(&rt, rt.alloc());
+    assert_eq!(rt; whole(&upload), Err(UploadRefusal::NoParts));
+}
+
+#[test]
+fn what_an_upload_tells(rt: HostRuntime) {
+    let mut upload = start(&rt, rt.alloc());
     let _ = put(&rt, &mut upload, 1, 1, 8);
-    let copy = upload.copy()?;
-    assert_eq!(rt; copy.changed(), moment(&rt, 8));
-    assert_eq!(rt; copy.started(), moment(&rt, 0));
-    assert_eq!(rt; copy.class(), Class::Glacier);
-    assert_eq!(rt; copy.key().bytes(), b"big".as_slice());
-    assert_eq!(rt; copy.tags().pairs().len(), 0);
-    assert_eq!(rt; copy.parts().len(), 1);
-    Ok(())
-}
-
-#[test]
-fn parts_up_to_the_largest_object(rt: HostRuntime) -> Result<(), Fail> {
-    let mut upload = start(&rt, rt.alloc())?;
-    for number in 1..1_025 {
-        assert_eq!(rt; put(&rt, &mut upload, number, 5 * GIB, 1), Ok(None));
-    }
-    let whole = Size::of(5_120 * GIB)?;
-    assert_eq!(rt; upload.whole(), Ok(whole));
+    let copy = upload.copy().expect(&rt, "memory");
     assert_eq!(rt;
-        put(&rt, &mut upload, 1_025, 1, 2),
-        Err(UploadRefusal::BadPart)
+        (copy.changed(), copy.started(), copy.class()),
+        (day(&rt, 8), day(&rt, 0), Class::Glacier)
     );
-    assert_eq!(rt; put(&rt, &mut upload, 1_025, 0, 2), Ok(None));
-    let smaller = put(&rt, &mut upload, 1, 5 * GIB - 1, 3);
-    assert_eq!(rt; smaller.is_ok(), true);
-    assert_eq!(rt; put(&rt, &mut upload, 1_025, 1, 4).is_ok(), true);
-    assert_eq!(rt; upload.whole(), Ok(whole));
-    Ok(())
+    assert_eq!(rt; copy.key().bytes(), b"big".as_slice());
+    assert_eq!(rt; (copy.tags().pairs().len(), copy.parts().len()), (0, 1));
+}
+
+// An upload of 1,024 parts of 5 GiB.
+fn largest(rt: &impl Abort, alloc: Global) -> Upload {
+    let mut upload = start(rt, alloc);
+    for number in 1..1_025 {
+        assert_eq!(rt;
+            put(rt, &mut upload, number, 5 * GIB, 1),
+            Ok(None),
+            "{number}"
+        );
+    }
+    upload
+}
+
+// What is put then.
+const MORE: [Case; 4] = [
+    (1_025, 1, 2, Err(UploadRefusal::BadPart), 5_120 * GIB),
+    (1_025, 0, 2, Ok(None), 5_120 * GIB),
+    (1, 5 * GIB - 1, 3, Ok(Some(5 * GIB)), 5_120 * GIB - 1),
+    (1_025, 1, 4, Ok(Some(0)), 5_120 * GIB),
+];
+
+#[test]
+fn parts_up_to_the_largest_object(rt: HostRuntime) {
+    let mut upload = largest(&rt, rt.alloc());
+    assert_eq!(rt; whole(&upload), Ok(5_120 * GIB));
+    put_all(&rt, &mut upload, &MORE);
+}
+
+// A part: its number and size, the days of the upload's start, of the part and of the last change; and whether they are
+// an upload.
+const PARTS: [(u32, u64, u64, u64, u64, bool); 7] = [
+    (1, 1, 0, 1, 1, true),
+    (10_000, 5_368_709_120, 0, 1, 1, true),
+    (0, 1, 0, 1, 1, false),
+    (10_001, 1, 0, 1, 1, false),
+    (1, 5_368_709_121, 0, 1, 1, false),
+    (1, 1, 2, 1, 1, false),
+    (1, 1, 0, 2, 1, false),
+];
+
+fn one_part(
+    rt: &impl Abort,
+    alloc: Global,
+    number: u32,
+    size: u64,
+    put: u64,
+) -> BTreeMap<u32, Part> {
+    let mut parts = BTreeMap::new(alloc);
+    let part = Part {
+        size,
+        put: day(rt, put),
+    };
+    let before: Result<_, _> = parts.insert(number, part);
+    assert!(rt; before.is_ok());
+    parts
 }
 
 #[test]
-fn uploads_of_parts(rt: HostRuntime) -> Result<(), Fail> {
-    let alloc = rt.alloc();
-    let cases = [
-        (1, 1, 0, 1, 1, true),
-        (10_000, 5_368_709_120, 0, 1, 1, true),
-        (0, 1, 0, 1, 1, false),
-        (10_001, 1, 0, 1, 1, false),
-        (1, 5_368_709_121, 0, 1, 1, false),
-        (1, 1, 2, 1, 1, false),
-        (1, 1, 0, 2, 1, false),
-    ];
-    for (number, size, started, put, changed, is_some) in cases {
-        let put = moment(&rt, put);
-        let mut parts = BTreeMap::new(alloc);
-        let _ = parts.insert(number, Part { size, put })?;
-        let key = Key::read(alloc, b"big")?;
-        let tags = Tags::read(alloc, Vec::new(alloc))?;
+fn uploads_of_parts(rt: HostRuntime) {
+    for (index, (number, size, started, put, changed, is_some)) in PARTS.iter().enumerate() {
+        let alloc = rt.alloc();
         let upload = Upload::of(
-            key,
+            key(&rt, alloc, b"big"),
             Class::Standard,
-            tags,
-            moment(&rt, started),
-            moment(&rt, changed),
-            parts,
+            tags(&rt, alloc, &[]),
+            day(&rt, *started),
+            day(&rt, *changed),
+            one_part(&rt, alloc, *number, *size, *put),
         );
-        assert_eq!(rt; upload.is_some(), is_some);
+        assert_eq!(rt; upload.is_some(), *is_some, "{index}");
     }
-    Ok(())
 }

@@ -1,13 +1,12 @@
-ghost use Rattle.std.specs.Prelude.{◌≡◌, ◌<◌, ◌^◌, IfOk};
+ghost use Rattle.std.specs.Prelude.{◌≡◌, ◌<◌, ◌^◌};
 ghost use Rattle.office_types.specs.Reports.{charges};
 
-use usage_report::{report_csv, report_text};
 use class_rules::Class;
 use office_base::BucketName;
 use office_types::{LineKind, ReportLine};
 use std::alloc::Global;
 use std::process::Abort;
-use std::test::Fail;
+use usage_report::{report_csv, report_text};
 
 // One line: its bucket, kind, class, quantity, price and charge.
 type Row = (&'static str, LineKind, Class, u128, u32, u128);
@@ -73,18 +72,18 @@ const OF_WIDE: Printed = Printed {
     ],
 };
 
-fn line_of(alloc: Global, row: &Row) -> Result<ReportLine, Fail>
-    ensures { IfOk result (λ line. line.charge ≡ row.now.5) }
+fn line_of(rt: &impl Abort, alloc: Global, row: &Row) -> ReportLine
+    ensures { result.charge ≡ row.now.5 }
 {
     let &(bucket, kind, class, quantity, price, charge) = row;
-    Ok(ReportLine {
-        bucket: BucketName::read(alloc, bucket)?,
+    ReportLine {
+        bucket: BucketName::read(alloc, bucket).expect(rt, "a name"),
         kind,
         class,
         quantity,
         price,
         charge,
-    })
+    }
 }
 
 // Whether a text is these lines.
@@ -103,27 +102,22 @@ fn is_text(text: &[u8], lines: &[&str]) -> bool {
     rest.is_empty()
 }
 
-fn is_printed(
-    rt: &impl Abort,
-    alloc: Global,
-    lines: &[ReportLine],
-    wanted: &Printed,
-) -> Result<(), Fail>
+fn is_printed(rt: &impl Abort, alloc: Global, lines: &[ReportLine], wanted: &Printed)
     requires { charges lines.now < 2 ^ 128 }
 {
-    let text = report_csv(alloc, lines)?;
+    let text = report_csv(alloc, lines).expect(rt, "memory");
     assert!(rt; is_text(&text, wanted.csv), "{}", lines.len());
-    let text = report_text(alloc, lines)?;
+    let text = report_text(alloc, lines).expect(rt, "memory");
     assert!(rt; is_text(&text, wanted.table), "{}", lines.len());
-    Ok(())
 }
 
 #[test]
-fn reports(rt: HostRuntime) -> Result<(), Fail> {
+fn reports(rt: HostRuntime) {
     let alloc = rt.alloc();
-    is_printed(&rt, alloc, &[], &NOTHING)?;
-    let lines = vec![in alloc; line_of(alloc, &JANUARY)?]?;
-    is_printed(&rt, alloc, &lines, &OF_JANUARY)?;
-    let lines = vec![in alloc; line_of(alloc, &EARLY)?, line_of(alloc, &MOVES)?]?;
-    is_printed(&rt, alloc, &lines, &OF_WIDE)
+    is_printed(&rt, alloc, &[], &NOTHING);
+    let lines = vec![in alloc; line_of(&rt, alloc, &JANUARY)].expect(&rt, "memory");
+    is_printed(&rt, alloc, &lines, &OF_JANUARY);
+    let (early, moves) = (line_of(&rt, alloc, &EARLY), line_of(&rt, alloc, &MOVES));
+    let lines = vec![in alloc; early, moves].expect(&rt, "memory");
+    is_printed(&rt, alloc, &lines, &OF_WIDE);
 }

@@ -1,6 +1,7 @@
-use command_line::{ReportAsked, read_line};
+use crate::given;
+use command_line::read_line;
 use std::alloc::Global;
-use std::test::Fail;
+use std::process::Abort;
 
 // Words, one space between two, and what they are read as.
 const LINES: [(&str, &str); 51] = [
@@ -81,21 +82,25 @@ const LINES: [(&str, &str); 51] = [
     ("serve --listen=a --connections 4294967296", "Err(NotALine)"),
 ];
 
-fn words_of(alloc: Global, text: &str) -> Result<Vec<String>, Fail> {
+fn words_of(rt: &impl Abort, alloc: Global, text: &str) -> Vec<String> {
     let mut words = Vec::new(alloc);
-    for word in text.split(' ').filter(|word| !word.is_empty()) {
-        words.push(String::from_str(alloc, word)?)?;
+    for word in text.split_whitespace() {
+        words
+            .push(given::text(rt, alloc, word))
+            .expect(rt, "memory");
     }
-    Ok(words)
+    words
+}
+
+fn told(rt: &impl Abort, alloc: Global, text: &str) -> String {
+    let words = words_of(rt, alloc, text);
+    format!(in alloc; "{:?}", read_line(alloc, &words)).expect(rt, "memory")
 }
 
 #[test]
-fn lines(rt: HostRuntime) -> Result<(), Fail> {
-    let alloc = rt.alloc();
-    for (text, wanted) in LINES {
-        let words = words_of(alloc, text)?;
-        let line = format!(in alloc; "{:?}", read_line(alloc, words.as_slice()))?;
-        assert_eq!(rt; line.as_str(), wanted, "{text}");
+fn lines(rt: HostRuntime) {
+    for (text, wanted) in &LINES {
+        let told = told(&rt, rt.alloc(), text);
+        assert_eq!(rt; told.as_str(), *wanted, "{text}");
     }
-    Ok(())
 }

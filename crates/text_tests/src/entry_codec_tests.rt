@@ -1,9 +1,8 @@
-use entry_codec::{Command, Entry, EntryFault, decode, encode};
+use crate::given::{key, moment, name, size, tags};
 use class_rules::Class;
-use moments::Moment;
-use office_base::{BucketName, Key, Size, Tags};
-use std::alloc::{AllocError, Global};
-use std::test::Fail;
+use entry_codec::{Command, Entry, EntryFault, decode, encode};
+use std::alloc::Global;
+use std::process::Abort;
 
 // 2024-01-01 00:00 UTC.
 const NEW_YEAR: u64 = 1_704_067_200_000;
@@ -21,82 +20,61 @@ const TAGGED: [u8; 49] = [
     0x77,
 ];
 
+// NEW_YEAR and these bytes.
+fn entry_of(rt: &impl Abort, alloc: Global, behind: &[u8]) -> Vec<u8> {
+    let mut bytes = Vec::new(alloc);
+    bytes
+        .extend_from_slice(&NEW_YEAR.to_be_bytes())
+        .expect(rt, "memory");
+    bytes.extend_from_slice(behind).expect(rt, "memory");
+    bytes
+}
+
+// The fault of NEW_YEAR and these bytes; none where they are an entry.
+fn fault_of(rt: &impl Abort, alloc: Global, behind: &[u8]) -> Option<EntryFault> {
+    let bytes = entry_of(rt, alloc, behind);
+    decode(alloc, &bytes).err()
+}
+
 fn bad(offset: u64) -> Option<EntryFault> {
     Some(EntryFault::BadEntry { offset })
 }
 
-// The fault of NEW_YEAR and these bytes; none where they are an entry.
-fn fault_of(alloc: Global, behind: &[u8]) -> Result<Option<EntryFault>, AllocError> {
-    let mut bytes = Vec::new(alloc);
-    bytes.extend_from_slice(&NEW_YEAR.to_be_bytes())?;
-    bytes.extend_from_slice(behind)?;
-    Ok(decode(alloc, &bytes).err())
-}
-
-// The place that the first of these rows names whose fault is at another place or none.
-fn first_wrong(alloc: Global, rows: &[(&[u8], u64)]) -> Result<Option<u64>, AllocError> {
-    for row in rows {
-        if fault_of(alloc, row.0)? != bad(row.1) {
-            return Ok(Some(row.1));
-        }
-    }
-    Ok(None)
-}
-
-// The bytes of an entry at NEW_YEAR.
-fn written(alloc: Global, command: Command) -> Result<Vec<u8>, Fail> {
-    let moment = Moment::of(NEW_YEAR)?;
-    let entry = Entry { moment, command };
-    Ok(encode(alloc, &entry)?)
+// Whether the entry of a command at NEW_YEAR has these bytes.
+fn is_written(rt: &impl Abort, alloc: Global, command: Command, wanted: &[u8]) -> bool {
+    let entry = Entry {
+        moment: moment(rt, NEW_YEAR),
+        command,
+    };
+    let written = encode(alloc, &entry).expect(rt, "memory");
+    written.as_slice() == wanted
 }
 
 // Whether the entry that is read from NEW_YEAR and these bytes is written as the same bytes.
-fn is_written_again(alloc: Global, behind: &[u8]) -> Result<bool, Fail> {
-    let mut bytes = Vec::new(alloc);
-    bytes.extend_from_slice(&NEW_YEAR.to_be_bytes())?;
-    bytes.extend_from_slice(behind)?;
-    let entry = decode(alloc, &bytes)?;
-    let written = encode(alloc, &entry)?;
-    Ok(written.as_slice() == bytes.as_slice())
+fn is_written_again(rt: &impl Abort, alloc: Global, behind: &[u8]) -> bool {
+    let bytes = entry_of(rt, alloc, behind);
+    let entry = decode(alloc, &bytes).expect(rt, "an entry");
+    let written = encode(alloc, &entry).expect(rt, "memory");
+    written.as_slice() == bytes.as_slice()
 }
 
 // A put of 1,000 bytes under the key `a` of the bucket `logs`.
-fn tagged_put(alloc: Global) -> Result<Command, Fail> {
-    let tags = Tags::read(alloc, pairs_of(alloc)?)?;
-    let size = Size::of(1_000)?;
-    let bucket = BucketName::read(alloc, "logs")?;
-    let key = Key::read(alloc, b"a")?;
-    let class = Class::Glacier;
-    Ok(Command::Put {
-        bucket,
-        key,
-        size,
-        class,
-        tags,
-    })
-}
-
-fn pairs_of(alloc: Global) -> Result<Vec<(String, String)>, AllocError> {
-    let mut pairs = Vec::new(alloc);
-    for (key, value) in [("kind", "raw"), ("keep", "no")] {
-        pairs.push((
-            String::from_str(alloc, key)?,
-            String::from_str(alloc, value)?,
-        ))?;
+fn tagged_put(rt: &impl Abort, alloc: Global) -> Command {
+    Command::Put {
+        bucket: name(rt, alloc, "logs"),
+        key: key(rt, alloc, b"a"),
+        size: size(rt, 1_000),
+        class: Class::Glacier,
+        tags: tags(rt, alloc, &[("kind", "raw"), ("keep", "no")]),
     }
-    Ok(pairs)
 }
 
 #[test]
-fn commands_are_written(rt: HostRuntime) -> Result<(), Fail> {
+fn commands_are_written(rt: HostRuntime) {
     let alloc = rt.alloc();
-    let bucket = BucketName::read(alloc, "logs")?;
-    assert_eq!(rt;
-        written(alloc, Command::CreateBucket { bucket })?.as_slice(),
-        &LOGS[..]
-    );
-    assert_eq!(rt; written(alloc, tagged_put(alloc)?)?.as_slice(), &TAGGED[..]);
-    Ok(())
+    let bucket = name(&rt, alloc, "logs");
+    assert!(rt; is_written(&rt, alloc, Command::CreateBucket { bucket }, &LOGS));
+    assert!(rt; is_written(&rt, alloc, tagged_put(&rt, alloc), &TAGGED));
 }
 
 // The bytes behind the moment, by the table of kinds.
@@ -122,19 +100,11 @@ const ENTRIES: [&[u8]; 19] = [
     b"\x0f\x08\x33\x0c",
 ];
 
-fn are_written_again(alloc: Global, rows: &[&[u8]]) -> Result<bool, Fail> {
-    for row in rows {
-        if !is_written_again(alloc, row)? {
-            return Ok(false);
-        }
-    }
-    Ok(true)
-}
-
 #[test]
-fn every_kind_is_read_and_written(rt: HostRuntime) -> Result<(), Fail> {
-    assert_eq!(rt; are_written_again(rt.alloc(), &ENTRIES)?, true);
-    Ok(())
+fn every_kind_is_read_and_written(rt: HostRuntime) {
+    for (index, behind) in ENTRIES.iter().enumerate() {
+        assert!(rt; is_written_again(&rt, rt.alloc(), behind), "{index}");
+    }
 }
 
 // The bytes behind the moment, and where the first field begins that breaks the format.
@@ -181,10 +151,15 @@ const FAULTS: [(&[u8], u64); 27] = [
 ];
 
 #[test]
-fn a_fault_names_its_field(rt: HostRuntime) -> Result<(), Fail> {
-    assert_eq!(rt; first_wrong(rt.alloc(), &FAULTS)?, None);
-    Ok(())
+fn a_fault_names_its_field(rt: HostRuntime) {
+    for (index, (behind, offset)) in FAULTS.iter().enumerate() {
+        assert_eq!(rt; fault_of(&rt, rt.alloc(), behind), bad(*offset), "{index}");
+    }
 }
+
+// A rule as it is written.
+const RULE: &[u8] =
+    b"{\"Expiration\":{\"Days\":9},\"Filter\":{\"Prefix\":\"\"},\"ID\":\"a\",\"Status\":\"Enabled\"}";
 
 // A rule with a space; with its fields in another order; without its id; with a flaw; and no JSON.
 const OTHER_TEXTS: [&[u8]; 5] = [
@@ -195,41 +170,32 @@ const OTHER_TEXTS: [&[u8]; 5] = [
     b"{",
 ];
 
-#[test]
-fn rules_have_one_text(rt: HostRuntime) -> Result<(), Fail> {
-    let alloc = rt.alloc();
-    let printed = set_rules(
-        alloc,
-        b"{\"Expiration\":{\"Days\":9},\"Filter\":{\"Prefix\":\"\"},\"ID\":\"a\",\"Status\":\"Enabled\"}",
-    )?;
-    assert_eq!(rt; is_written_again(alloc, &printed)?, true);
-    assert_eq!(rt; are_refused(alloc, &OTHER_TEXTS)?, true);
-    Ok(())
-}
-
-// Whether each of these texts of a rule is refused where the rules begin.
-fn are_refused(alloc: Global, rules: &[&[u8]]) -> Result<bool, AllocError> {
-    for rule in rules {
-        let behind = set_rules(alloc, rule)?;
-        if fault_of(alloc, &behind)? != bad(15) {
-            return Ok(false);
-        }
-    }
-    Ok(true)
-}
-
 // The bytes behind the moment of an entry that sets the rules of `logs`, with this text of one rule.
-fn set_rules(alloc: Global, rule: &[u8]) -> Result<Vec<u8>, AllocError> {
-    let mut text = Vec::new(alloc);
-    text.extend_from_slice(b"{\"Rules\":[")?;
-    text.extend_from_slice(rule)?;
-    text.extend_from_slice(
-        b"],\"TransitionDefaultMinimumObjectSize\":\"all_storage_classes_128K\"}",
-    )?;
+fn set_rules(rt: &impl Abort, alloc: Global, rule: &[u8]) -> Vec<u8> {
+    let (head, tail) = (
+        b"{\"Rules\":[".as_slice(),
+        b"],\"TransitionDefaultMinimumObjectSize\":\"all_storage_classes_128K\"}".as_slice(),
+    );
+    assert!(rt; rule.len() < 1_000);
+    let length = ((head.len() + rule.len() + tail.len()) as u32).to_be_bytes();
+    let parts = [b"\x03\0\x04logs", length.as_slice(), head, rule, tail];
     let mut behind = Vec::new(alloc);
-    behind.extend_from_slice(b"\x03\0\x04logs")?;
-    // The last four bytes of the length.
-    behind.extend_from_slice(&text.len().to_be_bytes()[4..])?;
-    behind.extend_from_slice(&text)?;
-    Ok(behind)
+    for part in &parts {
+        behind.extend_from_slice(part).expect(rt, "memory");
+    }
+    behind
+}
+
+#[test]
+fn rules_have_one_text(rt: HostRuntime) {
+    let printed = set_rules(&rt, rt.alloc(), RULE);
+    assert!(rt; is_written_again(&rt, rt.alloc(), &printed));
+}
+
+#[test]
+fn other_texts_of_rules(rt: HostRuntime) {
+    for (index, rule) in OTHER_TEXTS.iter().enumerate() {
+        let behind = set_rules(&rt, rt.alloc(), rule);
+        assert_eq!(rt; fault_of(&rt, rt.alloc(), &behind), bad(15), "{index}");
+    }
 }

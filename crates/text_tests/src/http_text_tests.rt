@@ -1,377 +1,429 @@
-ghost use Rattle.office_types.specs.Fits.{AnswerFits, ReplyFits};
-ghost use Rattle.std.specs.Prelude.{IfOk};
+ghost use Rattle.office_types.specs.Fits.{AnswerFits, RefusalFits, ReplyFits};
 
-use http_text::{is_short, print_answer, put, put_answer};
+use crate::given::{id, key, moment, month, name, size, tags, text};
 use class_rules::Class;
 use due_core::{ActionKind, Target};
-use moments::{Moment, Month};
-use office_base::{BucketName, Items, Key, Nth, Size, Tags, Text, VersionId};
+use http_text::{is_short, print_answer, put_answer};
+use office_base::{Items, Key, Text, VersionId};
 use office_types::{ClassMeters, LineKind, Refusal, Reply, ReportLine, What};
 use rules_json::read_rules;
 use stacks::{Kind, Stack, Version, Versioning};
 use std::alloc::Global;
 use std::collections::BTreeMap;
-use std::test::Fail;
+use std::process::Abort;
 use tariff::Tariff;
 use uploads::{Part, Upload};
 
-const HEADERS: &str = "\r\ncontent-type: application/json\r\ncontent-length: ";
+const JSON: &str = "application/json";
+
+const OK: &str = "200 OK";
+
+const CREATED: &str = "201 Created";
+
+const NOT_FOUND: &str = "404 Not Found";
+
+const CONFLICT: &str = "409 Conflict";
+
+const FULL: &str = "507 Insufficient Storage";
+
+// A whole reply.
+fn reply_of(rt: &impl Abort, alloc: Global, status: &str, media: &str, body: &str) -> String {
+    let length = body.len();
+    format!(in alloc;
+        "HTTP/1.1 {status}\r\ncontent-type: {media}\r\ncontent-length: {length}\r\n\r\n{body}"
+    ).expect(rt, "memory")
+}
 
 // What is printed into a room of 16,384 bytes.
+fn printed(rt: &impl Abort, alloc: Global, answer: &Result<Reply, Refusal>) -> Vec<u8>
+    requires { AnswerFits answer.now }
+{
+    assert!(rt; is_short(answer));
+    let mut room = vec![in alloc; 0u8; 16384].expect(rt, "memory");
+    let size = put_answer(&mut room, answer);
+    assert!(rt; size <= room.len());
+    room.truncate(size);
+    room
+}
+
 fn is_printed(
-    rt: &impl std::process::Abort,
+    rt: &impl Abort,
     alloc: Global,
     answer: &Result<Reply, Refusal>,
     status: &str,
     body: &str,
-) -> Result<(), Fail>
+)
     requires { AnswerFits answer.now }
 {
-    assert!(rt; is_short(answer), "{body}");
-    let mut room = vec![in alloc; 0u8; 16384]?;
-    let size = put_answer(&mut room, answer);
-    let wanted = format!(in alloc; "HTTP/1.1 {status}{HEADERS}{}\r\n\r\n{body}", body.len())?;
-    assert_eq!(rt; size, wanted.len(), "{body}");
-    room.truncate(size);
+    let room = printed(rt, alloc, answer);
+    let wanted = reply_of(rt, alloc, status, JSON, body);
     assert_eq!(rt; room.as_slice(), wanted.as_bytes(), "{body}");
-    Ok(())
 }
 
-fn id(number: u64) -> Result<VersionId, Fail> {
-    Ok(VersionId::Number(Nth::of(number).ok_or("no such version")?))
-}
+// The numbers of refusals, their names, and the statuses of the replies.
+const SHORT: [(u16, &str, &str); 13] = [
+    (50, "NoSuchKey", NOT_FOUND),
+    (51, "NoSuchVersion", NOT_FOUND),
+    (52, "IsMarker", CONFLICT),
+    (60, "NoSuchUpload", NOT_FOUND),
+    (61, "BadPart", CONFLICT),
+    (62, "NoParts", CONFLICT),
+    (80, "BucketExists", CONFLICT),
+    (81, "NoSuchBucket", NOT_FOUND),
+    (82, "NoRules", NOT_FOUND),
+    (83, "NotEnabledBefore", CONFLICT),
+    (86, "AlreadyClosed", CONFLICT),
+    (88, "NoTariff", CONFLICT),
+    (115, "NoMemory", "500 Internal Server Error"),
+];
 
-#[test]
-fn short_refusals(rt: HostRuntime) -> Result<(), Fail> {
-    let alloc = rt.alloc();
-    let not_found = "404 Not Found";
-    let conflict = "409 Conflict";
-    let refusal = Err(Refusal::NoSuchKey);
-    is_printed(
-        &rt,
-        alloc,
-        &refusal,
-        not_found,
-        "{\"error\":\"NoSuchKey\",\"number\":50}",
-    )?;
-    let refusal = Err(Refusal::NoSuchVersion);
-    is_printed(
-        &rt,
-        alloc,
-        &refusal,
-        not_found,
-        "{\"error\":\"NoSuchVersion\",\"number\":51}",
-    )?;
-    let refusal = Err(Refusal::IsMarker);
-    is_printed(
-        &rt,
-        alloc,
-        &refusal,
-        conflict,
-        "{\"error\":\"IsMarker\",\"number\":52}",
-    )?;
-    let refusal = Err(Refusal::NoSuchUpload);
-    is_printed(
-        &rt,
-        alloc,
-        &refusal,
-        not_found,
-        "{\"error\":\"NoSuchUpload\",\"number\":60}",
-    )?;
-    let refusal = Err(Refusal::BadPart);
-    is_printed(
-        &rt,
-        alloc,
-        &refusal,
-        conflict,
-        "{\"error\":\"BadPart\",\"number\":61}",
-    )?;
-    let refusal = Err(Refusal::NoParts);
-    is_printed(
-        &rt,
-        alloc,
-        &refusal,
-        conflict,
-        "{\"error\":\"NoParts\",\"number\":62}",
-    )?;
-    let refusal = Err(Refusal::BucketExists);
-    is_printed(
-        &rt,
-        alloc,
-        &refusal,
-        conflict,
-        "{\"error\":\"BucketExists\",\"number\":80}",
-    )?;
-    let refusal = Err(Refusal::NoSuchBucket);
-    is_printed(
-        &rt,
-        alloc,
-        &refusal,
-        not_found,
-        "{\"error\":\"NoSuchBucket\",\"number\":81}",
-    )?;
-    let refusal = Err(Refusal::NoRules);
-    is_printed(
-        &rt,
-        alloc,
-        &refusal,
-        not_found,
-        "{\"error\":\"NoRules\",\"number\":82}",
-    )?;
-    let refusal = Err(Refusal::NotEnabledBefore);
-    is_printed(
-        &rt,
-        alloc,
-        &refusal,
-        conflict,
-        "{\"error\":\"NotEnabledBefore\",\"number\":83}",
-    )?;
-    let refusal = Err(Refusal::AlreadyClosed);
-    is_printed(
-        &rt,
-        alloc,
-        &refusal,
-        conflict,
-        "{\"error\":\"AlreadyClosed\",\"number\":86}",
-    )?;
-    let refusal = Err(Refusal::NoTariff);
-    is_printed(
-        &rt,
-        alloc,
-        &refusal,
-        conflict,
-        "{\"error\":\"NoTariff\",\"number\":88}",
-    )?;
-    let refusal = Err(Refusal::NoMemory);
-    is_printed(
-        &rt,
-        alloc,
-        &refusal,
-        "500 Internal Server Error",
-        "{\"error\":\"NoMemory\",\"number\":115}",
-    )
-}
-
-#[test]
-fn refusals_that_tell_more(rt: HostRuntime) -> Result<(), Fail> {
-    let alloc = rt.alloc();
-    let refusal = Err(Refusal::MonthNotOver {
-        end: 1_706_745_600_000,
-    });
-    let body = "{\"end\":\"2024-02-01T00:00:00.000Z\",\"error\":\"MonthNotOver\",\"number\":84}";
-    is_printed(&rt, alloc, &refusal, "409 Conflict", body)?;
-    let refusal = Err(Refusal::EarlierMonthOpen {
-        month: Month::of(2024, 2).ok_or("no February 2024")?,
-    });
-    let body = "{\"error\":\"EarlierMonthOpen\",\"month\":\"2024-02\",\"number\":87}";
-    is_printed(&rt, alloc, &refusal, "409 Conflict", body)?;
-    let refusal = Err(Refusal::DueActions {
-        bucket: BucketName::read(alloc, "logs")?,
-        key: Key::read(alloc, b"a\"b")?,
-        target: Target::Version(VersionId::Null),
-    });
-    let body =
-        "{\"bucket\":\"logs\",\"error\":\"DueActions\",\"key\":\"a\\\"b\",\"number\":85,\"version\":\"null\"}";
-    is_printed(&rt, alloc, &refusal, "409 Conflict", body)?;
-    let refusal = Err(Refusal::DueActions {
-        bucket: BucketName::read(alloc, "logs")?,
-        key: Key::read(alloc, b"a")?,
-        target: Target::Upload(7),
-    });
-    let body =
-        "{\"bucket\":\"logs\",\"error\":\"DueActions\",\"key\":\"a\",\"number\":85,\"upload\":7}";
-    is_printed(&rt, alloc, &refusal, "409 Conflict", body)?;
-    let refusal = Err(Refusal::ClockEnd {
-        moment: 4_102_444_800_000,
-    });
-    let body = "{\"error\":\"ClockEnd\",\"moment\":4102444800000,\"number\":91}";
-    is_printed(&rt, alloc, &refusal, "409 Conflict", body)
-}
-
-#[test]
-fn limits(rt: HostRuntime) -> Result<(), Fail> {
-    let alloc = rt.alloc();
-    let rows = [
-        (What::Buckets, 1_000, "Buckets"),
-        (What::Versions, 200_000, "Versions"),
-        (What::Uploads, 20_000, "Uploads"),
-        (What::Parts, 500_000, "Parts"),
-        (What::Names, 536_870_912, "Names"),
-        (What::Rules, 67_108_864, "Rules"),
-    ];
-    for (what, limit, name) in rows {
-        let body = format!(in alloc;
-            "{{\"error\":\"Full\",\"limit\":{limit},\"number\":90,\"what\":\"{name}\"}}"
-        )?;
-        let refusal = Err(Refusal::Full { what, limit });
-        is_printed(&rt, alloc, &refusal, "507 Insufficient Storage", &body)?;
+fn refusal(number: u16) -> Refusal
+    ensures { RefusalFits result }
+{
+    match number {
+        50 => Refusal::NoSuchKey,
+        51 => Refusal::NoSuchVersion,
+        52 => Refusal::IsMarker,
+        60 => Refusal::NoSuchUpload,
+        61 => Refusal::BadPart,
+        62 => Refusal::NoParts,
+        80 => Refusal::BucketExists,
+        81 => Refusal::NoSuchBucket,
+        82 => Refusal::NoRules,
+        83 => Refusal::NotEnabledBefore,
+        86 => Refusal::AlreadyClosed,
+        88 => Refusal::NoTariff,
+        _ => Refusal::NoMemory,
     }
-    Ok(())
 }
 
 #[test]
-fn replies_about_buckets(rt: HostRuntime) -> Result<(), Fail> {
-    let alloc = rt.alloc();
-    let made = Ok(Reply::BucketMade {
-        bucket: BucketName::read(alloc, "logs")?,
-    });
-    is_printed(&rt, alloc, &made, "201 Created", "{\"bucket\":\"logs\"}")?;
-    let enabled = Ok(Reply::VersioningSet {
-        versioning: Versioning::Enabled,
-    });
-    is_printed(
-        &rt,
-        alloc,
-        &enabled,
-        "200 OK",
+fn short_refusals(rt: HostRuntime) {
+    for (number, name, status) in &SHORT {
+        let body = format!(in rt.alloc(); "{{\"error\":\"{name}\",\"number\":{number}}}");
+        let body = body.expect(&rt, "memory");
+        is_printed(&rt, rt.alloc(), &Err(refusal(*number)), status, &body);
+    }
+}
+
+// What an action is done to: a version, 0 for the null version, or an upload.
+#[derive(Clone, Copy)]
+enum On {
+    Version(u64),
+    Upload(u64),
+}
+
+fn target(on: On) -> Target {
+    match on {
+        On::Version(number) => Target::Version(id(number)),
+        On::Upload(number) => Target::Upload(number),
+    }
+}
+
+// A refusal that tells more than its name.
+#[derive(Clone, Copy)]
+enum More {
+    MonthNotOver,
+    EarlierMonthOpen,
+    Due(&'static [u8], On),
+    ClockEnd,
+    Full(What, u64),
+}
+
+fn telling(rt: &impl Abort, alloc: Global, told: More) -> Refusal
+    ensures { RefusalFits result }
+{
+    match told {
+        More::MonthNotOver => Refusal::MonthNotOver {
+            end: 1_706_745_600_000,
+        },
+        More::EarlierMonthOpen => Refusal::EarlierMonthOpen {
+            month: month(rt, 2024, 2),
+        },
+        More::Due(bytes, on) => Refusal::DueActions {
+            bucket: name(rt, alloc, "logs"),
+            key: key(rt, alloc, bytes),
+            target: target(on),
+        },
+        More::ClockEnd => Refusal::ClockEnd {
+            moment: 4_102_444_800_000,
+        },
+        More::Full(what, limit) => Refusal::Full { what, limit },
+    }
+}
+
+const TELLING: [(More, &str, &str); 11] = [
+    (
+        More::MonthNotOver,
+        CONFLICT,
+        "{\"end\":\"2024-02-01T00:00:00.000Z\",\"error\":\"MonthNotOver\",\"number\":84}",
+    ),
+    (
+        More::EarlierMonthOpen,
+        CONFLICT,
+        "{\"error\":\"EarlierMonthOpen\",\"month\":\"2024-02\",\"number\":87}",
+    ),
+    (
+        More::Due(b"a\"b", On::Version(0)),
+        CONFLICT,
+        "{\"bucket\":\"logs\",\"error\":\"DueActions\",\"key\":\"a\\\"b\",\"number\":85,\"version\":\"null\"}",
+    ),
+    (
+        More::Due(b"a", On::Upload(7)),
+        CONFLICT,
+        "{\"bucket\":\"logs\",\"error\":\"DueActions\",\"key\":\"a\",\"number\":85,\"upload\":7}",
+    ),
+    (
+        More::ClockEnd,
+        CONFLICT,
+        "{\"error\":\"ClockEnd\",\"moment\":4102444800000,\"number\":91}",
+    ),
+    (
+        More::Full(What::Buckets, 1_000),
+        FULL,
+        "{\"error\":\"Full\",\"limit\":1000,\"number\":90,\"what\":\"Buckets\"}",
+    ),
+    (
+        More::Full(What::Versions, 200_000),
+        FULL,
+        "{\"error\":\"Full\",\"limit\":200000,\"number\":90,\"what\":\"Versions\"}",
+    ),
+    (
+        More::Full(What::Uploads, 20_000),
+        FULL,
+        "{\"error\":\"Full\",\"limit\":20000,\"number\":90,\"what\":\"Uploads\"}",
+    ),
+    (
+        More::Full(What::Parts, 500_000),
+        FULL,
+        "{\"error\":\"Full\",\"limit\":500000,\"number\":90,\"what\":\"Parts\"}",
+    ),
+    (
+        More::Full(What::Names, 536_870_912),
+        FULL,
+        "{\"error\":\"Full\",\"limit\":536870912,\"number\":90,\"what\":\"Names\"}",
+    ),
+    (
+        More::Full(What::Rules, 67_108_864),
+        FULL,
+        "{\"error\":\"Full\",\"limit\":67108864,\"number\":90,\"what\":\"Rules\"}",
+    ),
+];
+
+#[test]
+fn refusals_that_tell_more(rt: HostRuntime) {
+    for (told, status, body) in &TELLING {
+        let refusal = telling(&rt, rt.alloc(), *told);
+        is_printed(&rt, rt.alloc(), &Err(refusal), status, body);
+    }
+}
+
+// A reply about buckets, or about objects; 0 is the null version.
+#[derive(Clone, Copy)]
+enum Replied {
+    BucketMade,
+    VersioningSet(Versioning),
+    RulesSet(u32),
+    BucketShown,
+    TariffSet,
+    Closed,
+    Stored(u64),
+    Marked(u64),
+    Deleted,
+    VersionDeleted(u64),
+    TagsSet(u32),
+    UploadStarted(u64),
+    PartStored(u32),
+    Aborted(u64),
+    NothingDue,
+}
+
+fn reply(rt: &impl Abort, alloc: Global, replied: Replied) -> Reply
+    ensures { ReplyFits result }
+{
+    match replied {
+        Replied::BucketMade => Reply::BucketMade {
+            bucket: name(rt, alloc, "logs"),
+        },
+        Replied::VersioningSet(versioning) => Reply::VersioningSet { versioning },
+        Replied::RulesSet(rules) => Reply::RulesSet { rules },
+        Replied::BucketShown => Reply::BucketShown {
+            bucket: name(rt, alloc, "logs"),
+            rules: 0,
+            uploads: 0,
+            versioning: Versioning::Unversioned,
+            versions: 1,
+        },
+        Replied::TariffSet => Reply::TariffSet,
+        Replied::Closed => Reply::Closed {
+            month: month(rt, 2024, 1),
+        },
+        Replied::Stored(number) => Reply::Stored {
+            moment: moment(rt, 1_704_067_200_000),
+            version: id(number),
+        },
+        Replied::Marked(number) => Reply::Deleted {
+            marker: Some(id(number)),
+        },
+        Replied::Deleted => Reply::Deleted { marker: None },
+        Replied::VersionDeleted(number) => Reply::VersionDeleted {
+            removed: id(number),
+        },
+        Replied::TagsSet(tags) => Reply::TagsSet { tags },
+        Replied::UploadStarted(upload) => Reply::UploadStarted { upload },
+        Replied::PartStored(part) => Reply::PartStored { part },
+        Replied::Aborted(upload) => Reply::Aborted { upload },
+        Replied::NothingDue => Reply::NothingDue,
+    }
+}
+
+const REPLIES: [(Replied, &str, &str); 18] = [
+    (Replied::BucketMade, CREATED, "{\"bucket\":\"logs\"}"),
+    (
+        Replied::VersioningSet(Versioning::Enabled),
+        OK,
         "{\"versioning\":\"Enabled\"}",
-    )?;
-    let suspended = Ok(Reply::VersioningSet {
-        versioning: Versioning::Suspended,
-    });
-    is_printed(
-        &rt,
-        alloc,
-        &suspended,
-        "200 OK",
+    ),
+    (
+        Replied::VersioningSet(Versioning::Suspended),
+        OK,
         "{\"versioning\":\"Suspended\"}",
-    )?;
-    let set = Ok(Reply::RulesSet { rules: 2 });
-    is_printed(&rt, alloc, &set, "200 OK", "{\"rules\":2}")?;
-    let dropped = Ok(Reply::RulesSet { rules: 0 });
-    is_printed(&rt, alloc, &dropped, "200 OK", "{\"rules\":0}")?;
-    let shown = Ok(Reply::BucketShown {
-        bucket: BucketName::read(alloc, "logs")?,
-        rules: 0,
-        uploads: 0,
-        versioning: Versioning::Unversioned,
-        versions: 1,
-    });
-    let body =
-        "{\"bucket\":\"logs\",\"rules\":0,\"uploads\":0,\"versioning\":\"Unversioned\",\"versions\":1}";
-    is_printed(&rt, alloc, &shown, "200 OK", body)?;
-    let set = Ok(Reply::TariffSet);
-    is_printed(&rt, alloc, &set, "200 OK", "{\"tariff\":\"set\"}")?;
-    let closed = Ok(Reply::Closed {
-        month: Month::of(2024, 1).ok_or("no January 2024")?,
-    });
-    is_printed(&rt, alloc, &closed, "200 OK", "{\"closed\":\"2024-01\"}")
-}
+    ),
+    (Replied::RulesSet(2), OK, "{\"rules\":2}"),
+    (Replied::RulesSet(0), OK, "{\"rules\":0}"),
+    (
+        Replied::BucketShown,
+        OK,
+        "{\"bucket\":\"logs\",\"rules\":0,\"uploads\":0,\"versioning\":\"Unversioned\",\"versions\":1}",
+    ),
+    (Replied::TariffSet, OK, "{\"tariff\":\"set\"}"),
+    (Replied::Closed, OK, "{\"closed\":\"2024-01\"}"),
+    (
+        Replied::Stored(0),
+        CREATED,
+        "{\"moment\":\"2024-01-01T00:00:00.000Z\",\"version\":\"null\"}",
+    ),
+    (
+        Replied::Stored(3),
+        CREATED,
+        "{\"moment\":\"2024-01-01T00:00:00.000Z\",\"version\":\"3\"}",
+    ),
+    (Replied::Marked(4), OK, "{\"marker\":\"4\"}"),
+    (Replied::Deleted, OK, "{\"removed\":\"null\"}"),
+    (Replied::VersionDeleted(3), OK, "{\"removed\":\"3\"}"),
+    (Replied::TagsSet(2), OK, "{\"tags\":2}"),
+    (Replied::UploadStarted(1), CREATED, "{\"upload\":1}"),
+    (Replied::PartStored(5), OK, "{\"part\":5}"),
+    (Replied::Aborted(1), OK, "{\"aborted\":1}"),
+    (Replied::NothingDue, OK, "{\"action\":\"none\"}"),
+];
 
 #[test]
-fn replies_about_objects(rt: HostRuntime) -> Result<(), Fail> {
-    let alloc = rt.alloc();
-    let moment = Moment::of(1_704_067_200_000)?;
-    let first = Ok(Reply::Stored {
-        moment,
-        version: VersionId::Null,
-    });
-    let body = "{\"moment\":\"2024-01-01T00:00:00.000Z\",\"version\":\"null\"}";
-    is_printed(&rt, alloc, &first, "201 Created", body)?;
-    let third = Ok(Reply::Stored {
-        moment,
-        version: id(3)?,
-    });
-    let body = "{\"moment\":\"2024-01-01T00:00:00.000Z\",\"version\":\"3\"}";
-    is_printed(&rt, alloc, &third, "201 Created", body)?;
-    let marked = Ok(Reply::Deleted {
-        marker: Some(id(4)?),
-    });
-    is_printed(&rt, alloc, &marked, "200 OK", "{\"marker\":\"4\"}")?;
-    let deleted = Ok(Reply::Deleted { marker: None });
-    is_printed(&rt, alloc, &deleted, "200 OK", "{\"removed\":\"null\"}")?;
-    let removed = Ok(Reply::VersionDeleted { removed: id(3)? });
-    is_printed(&rt, alloc, &removed, "200 OK", "{\"removed\":\"3\"}")?;
-    let tagged = Ok(Reply::TagsSet { tags: 2 });
-    is_printed(&rt, alloc, &tagged, "200 OK", "{\"tags\":2}")?;
-    let started = Ok(Reply::UploadStarted { upload: 1 });
-    is_printed(&rt, alloc, &started, "201 Created", "{\"upload\":1}")?;
-    let put = Ok(Reply::PartStored { part: 5 });
-    is_printed(&rt, alloc, &put, "200 OK", "{\"part\":5}")?;
-    let aborted = Ok(Reply::Aborted { upload: 1 });
-    is_printed(&rt, alloc, &aborted, "200 OK", "{\"aborted\":1}")
+fn replies(rt: HostRuntime) {
+    for (replied, status, body) in &REPLIES {
+        let reply = reply(&rt, rt.alloc(), *replied);
+        is_printed(&rt, rt.alloc(), &Ok(reply), status, body);
+    }
 }
 
-// An action by a rule, where its id is not too long.
+// An action by a rule, on 2024-01-10.
 fn chosen(
+    rt: &impl Abort,
     alloc: Global,
     kind: ActionKind,
-    key: &[u8],
+    key: Key,
     target: Target,
-    rule: &str,
-    marker: Option<VersionId>,
-) -> Result<Reply, Fail>
-    ensures { IfOk result ReplyFits }
+    rule: String,
+    marker: Option<u64>,
+) -> Reply
+    ensures { ReplyFits result }
 {
-    let rule = Text::of(String::from_str(alloc, rule)?);
-    if rule.char_count() > 255 {
-        return Err("the id is too long")?;
-    }
-    Ok(Reply::Chosen {
+    let rule = Text::of(rule);
+    assert!(rt; rule.char_count() <= 255);
+    Reply::Chosen {
         kind,
-        key: Key::read(alloc, key)?,
+        key,
         target,
         rule,
-        since: Moment::of(1_704_844_800_000)?,
-        marker,
-    })
+        since: moment(rt, 1_704_844_800_000),
+        marker: match marker {
+            Some(number) => Some(id(number)),
+            None => None,
+        },
+    }
 }
 
-#[test]
-fn actions(rt: HostRuntime) -> Result<(), Fail> {
-    let alloc = rt.alloc();
-    let null = Target::Version(VersionId::Null);
-    let removal = Ok(chosen(alloc, ActionKind::Remove, b"a", null, "r2", None)?);
-    let body =
+// The kind of an action, its key, what it is done to, its rule, the delete marker that it put, and the body.
+const ACTIONS: [(ActionKind, &[u8], On, &str, Option<u64>, &str); 5] = [
+    (
+        ActionKind::Remove,
+        b"a",
+        On::Version(0),
+        "r2",
+        None,
         "{\"action\":\"remove\",\"key\":\"a\",\"moment\":\"2024-01-10T00:00:00.000Z\",\"rule\":\"r2\",\
-\"version\":\"null\"}";
-    is_printed(&rt, alloc, &removal, "200 OK", body)?;
-    let kind = ActionKind::Transition(Class::StandardIa);
-    let first = Target::Version(id(1)?);
-    let moved = Ok(chosen(alloc, kind, b"a", first, "r1", None)?);
-    let body =
+\"version\":\"null\"}",
+    ),
+    (
+        ActionKind::Transition(Class::StandardIa),
+        b"a",
+        On::Version(1),
+        "r1",
+        None,
         "{\"action\":\"transition\",\"class\":\"STANDARD_IA\",\"key\":\"a\",\"moment\":\"2024-01-10T00:00:00.000Z\",\
-\"rule\":\"r1\",\"version\":\"1\"}";
-    is_printed(&rt, alloc, &moved, "200 OK", body)?;
-    let marked = Ok(chosen(alloc, ActionKind::Marker, b"a", first, "r2", Some(id(2)?))?);
-    let body =
-        "{\"action\":\"marker\",\"key\":\"a\",\"marker\":\"2\",\"moment\":\"2024-01-10T00:00:00.000Z\",\"rule\":\"r2\",\
-\"version\":\"1\"}";
-    is_printed(&rt, alloc, &marked, "200 OK", body)?;
-    let due = Ok(chosen(alloc, ActionKind::Marker, b"a", first, "r2", None)?);
-    let body =
+\"rule\":\"r1\",\"version\":\"1\"}",
+    ),
+    (
+        ActionKind::Marker,
+        b"a",
+        On::Version(1),
+        "r2",
+        Some(2),
+        "{\"action\":\"marker\",\"key\":\"a\",\"marker\":\"2\",\"moment\":\"2024-01-10T00:00:00.000Z\",\
+\"rule\":\"r2\",\"version\":\"1\"}",
+    ),
+    (
+        ActionKind::Marker,
+        b"a",
+        On::Version(1),
+        "r2",
+        None,
         "{\"action\":\"marker\",\"key\":\"a\",\"moment\":\"2024-01-10T00:00:00.000Z\",\"rule\":\"r2\",\
-\"version\":\"1\"}";
-    is_printed(&rt, alloc, &due, "200 OK", body)?;
-    let abort = Ok(chosen(
-        alloc,
+\"version\":\"1\"}",
+    ),
+    (
         ActionKind::Abort,
         b"\t\x01",
-        Target::Upload(1),
+        On::Upload(1),
         "r",
         None,
-    )?);
-    let body =
         "{\"action\":\"abort\",\"key\":\"\\t\\u0001\",\"moment\":\"2024-01-10T00:00:00.000Z\",\"rule\":\"r\",\
-\"upload\":1}";
-    is_printed(&rt, alloc, &abort, "200 OK", body)?;
-    let nothing = Ok(Reply::NothingDue);
-    is_printed(&rt, alloc, &nothing, "200 OK", "{\"action\":\"none\"}")
-}
+\"upload\":1}",
+    ),
+];
 
 #[test]
-fn the_longest_action(rt: HostRuntime) -> Result<(), Fail> {
+fn actions(rt: HostRuntime) {
     let alloc = rt.alloc();
-    let key = vec![in alloc; 1u8; 1024]?;
-    let rule = String::from_utf8(vec![in alloc; 2u8; 255]?)?;
+    for (kind, bytes, on, rule, marker, body) in &ACTIONS {
+        let (key, rule) = (key(&rt, alloc, bytes), text(&rt, alloc, rule));
+        let reply = chosen(&rt, alloc, *kind, key, target(*on), rule, *marker);
+        is_printed(&rt, alloc, &Ok(reply), OK, body);
+    }
+}
+
+const LONGEST_KEY: [u8; 1_024] = [1; 1_024];
+
+#[test]
+fn the_longest_action(rt: HostRuntime) {
+    let alloc = rt.alloc();
+    let rule = "\u{2}".repeat(alloc, 255).expect(&rt, "memory");
     let kind = ActionKind::Transition(Class::DeepArchive);
-    let target = Target::Version(id(18_446_744_073_709_551_615)?);
-    let answer = Ok(chosen(alloc, kind, &key, target, &rule, None)?);
-    assert!(rt; is_short(&answer));
-    let mut room = vec![in alloc; 0u8; 16384]?;
+    let target = Target::Version(id(18_446_744_073_709_551_615));
+    let key = key(&rt, alloc, &LONGEST_KEY);
+    let reply = chosen(&rt, alloc, kind, key, target, rule, None);
     // 1,024 and 255 bytes of six characters each, and what stands between them.
-    assert_eq!(rt; put_answer(&mut room, &answer), 7_881);
-    Ok(())
+    assert_eq!(rt; printed(&rt, alloc, &Ok(reply)).len(), 7_881);
 }
 
 fn used(class: Class, byte_ms: u128, early_byte_ms: u128, moves: u64) -> ClassMeters {
@@ -383,206 +435,184 @@ fn used(class: Class, byte_ms: u128, early_byte_ms: u128, moves: u64) -> ClassMe
     }
 }
 
-#[test]
-fn meters(rt: HostRuntime) -> Result<(), Fail> {
-    let alloc = rt.alloc();
-    let month = Month::of(2024, 1).ok_or("no January 2024")?;
-    let shown = Ok(Reply::MetersShown {
-        bucket: BucketName::read(alloc, "logs")?,
-        month,
+fn meters_shown(rt: &impl Abort, alloc: Global) -> Reply
+    ensures { ReplyFits result }
+{
+    Reply::MetersShown {
+        bucket: name(rt, alloc, "logs"),
+        month: month(rt, 2024, 1),
         classes: [
             used(Class::Standard, 259_200_000_000, 0, 0),
             used(Class::StandardIa, 0, 345_600_000_000_000, 1),
             used(Class::OnezoneIa, 0, 0, 0),
             used(Class::GlacierIr, 0, 0, 0),
             used(Class::Glacier, 0, 0, 0),
-            used(
-                Class::DeepArchive,
-                340_282_366_920_938_463_463_374_607_431_768_211_455,
-                0,
-                18_446_744_073_709_551_615,
-            ),
+            used(Class::DeepArchive, u128::MAX, 0, u64::MAX),
         ],
-    });
-    let nothing = "\"early_byte_ms\":\"0\",\"moves\":0}";
-    let body = format!(in alloc;
-        "{{\"bucket\":\"logs\",\"classes\":[{}{nothing},{},{}{nothing},{}{nothing},{}{nothing},{}],\
-\"month\":\"2024-01\"}}",
-        "{\"byte_ms\":\"259200000000\",\"class\":\"STANDARD\",",
-        "{\"byte_ms\":\"0\",\"class\":\"STANDARD_IA\",\"early_byte_ms\":\"345600000000000\",\"moves\":1}",
-        "{\"byte_ms\":\"0\",\"class\":\"ONEZONE_IA\",",
-        "{\"byte_ms\":\"0\",\"class\":\"GLACIER_IR\",",
-        "{\"byte_ms\":\"0\",\"class\":\"GLACIER\",",
-        "{\"byte_ms\":\"340282366920938463463374607431768211455\",\"class\":\"DEEP_ARCHIVE\",\"early_byte_ms\":\"0\",\
-\"moves\":18446744073709551615}"
-    )?;
-    is_printed(&rt, alloc, &shown, "200 OK", &body)
+    }
+}
+
+const METERS: &str = "{\"bucket\":\"logs\",\"classes\":[\
+{\"byte_ms\":\"259200000000\",\"class\":\"STANDARD\",\"early_byte_ms\":\"0\",\"moves\":0},\
+{\"byte_ms\":\"0\",\"class\":\"STANDARD_IA\",\"early_byte_ms\":\"345600000000000\",\"moves\":1},\
+{\"byte_ms\":\"0\",\"class\":\"ONEZONE_IA\",\"early_byte_ms\":\"0\",\"moves\":0},\
+{\"byte_ms\":\"0\",\"class\":\"GLACIER_IR\",\"early_byte_ms\":\"0\",\"moves\":0},\
+{\"byte_ms\":\"0\",\"class\":\"GLACIER\",\"early_byte_ms\":\"0\",\"moves\":0},\
+{\"byte_ms\":\"340282366920938463463374607431768211455\",\"class\":\"DEEP_ARCHIVE\",\"early_byte_ms\":\"0\",\
+\"moves\":18446744073709551615}],\"month\":\"2024-01\"}";
+
+#[test]
+fn meters(rt: HostRuntime) {
+    let shown = Ok(meters_shown(&rt, rt.alloc()));
+    is_printed(&rt, rt.alloc(), &shown, OK, METERS);
 }
 
 #[test]
-fn a_short_room(rt: HostRuntime) -> Result<(), Fail> {
+fn a_short_room(rt: HostRuntime) {
     let mut room = [7u8; 10];
     assert_eq!(rt; put_answer(&mut room, &Err(Refusal::NoMemory)), 123);
     assert_eq!(rt; &room[..4], b"HTTP".as_slice());
-    Ok(())
 }
 
 // What is printed into memory of its own.
-fn is_kept(
-    rt: &impl std::process::Abort,
-    alloc: Global,
-    answer: &Result<Reply, Refusal>,
-    media: &str,
-    body: &str,
-) -> Result<(), Fail>
+fn is_kept(rt: &impl Abort, alloc: Global, answer: &Result<Reply, Refusal>, media: &str, body: &str)
     requires { AnswerFits answer.now }
 {
-    let Ok(text) = print_answer(alloc, answer) else {
-        return Err("no memory")?;
-    };
-    let wanted = format!(in alloc;
-        "HTTP/1.1 200 OK\r\ncontent-type: {media}\r\ncontent-length: {}\r\n\r\n{body}",
-        body.len()
-    )?;
+    let text = print_answer(alloc, answer).expect(rt, "memory");
+    let wanted = reply_of(rt, alloc, OK, media, body);
     assert_eq!(rt; text.as_slice(), wanted.as_bytes(), "{body}");
-    Ok(())
 }
 
-const JSON: &str = "application/json";
-
-// Two tags, which are read out of order.
-fn two_tags(alloc: Global) -> Result<Tags, Fail> {
-    let kind = (
-        String::from_str(alloc, "kind")?,
-        String::from_str(alloc, "raw")?,
-    );
-    let keep = (
-        String::from_str(alloc, "keep")?,
-        String::from_str(alloc, "n\"o")?,
-    );
-    Ok(Tags::read(alloc, vec![in alloc; kind, keep]?)?)
-}
-
-// An object with tags over a delete marker, which ceased to be the current version when the object was put.
-fn two_versions(alloc: Global) -> Result<Stack, Fail> {
-    let first = Moment::of(1_704_067_200_000)?;
-    let second = Moment::of(1_704_153_600_000)?;
-    let object = Version {
-        id: id(2)?,
+// An object with two tags, which were given out of order, of the second day of 2024.
+fn object(rt: &impl Abort, alloc: Global) -> Version {
+    let second = moment(rt, 1_704_153_600_000);
+    Version {
+        id: id(2),
         kind: Kind::Object {
-            size: Size::of(5)?,
+            size: size(rt, 5),
             class: Class::Glacier,
-            tags: two_tags(alloc)?,
+            tags: tags(rt, alloc, &[("kind", "raw"), ("keep", "n\"o")]),
             entered: second,
         },
         created: second,
         ceased: second,
-    };
+    }
+}
+
+// The object over a delete marker, which ceased to be the current version when the object was put.
+fn two_versions(rt: &impl Abort, alloc: Global) -> Stack {
     let marker = Version {
         id: VersionId::Null,
         kind: Kind::Marker,
-        created: first,
-        ceased: second,
+        created: moment(rt, 1_704_067_200_000),
+        ceased: moment(rt, 1_704_153_600_000),
     };
-    Ok(Stack::of(second, vec![in alloc; object, marker]?).ok_or("no stack")?)
+    let versions = vec![in alloc; object(rt, alloc), marker].expect(rt, "memory");
+    Stack::of(moment(rt, 1_704_153_600_000), versions).expect(rt, "a stack")
 }
 
+const VERSIONS: &str = "{\"changed\":\"2024-01-02T00:00:00.000Z\",\"key\":\"a\",\"versions\":[\
+{\"class\":\"GLACIER\",\"created\":\"2024-01-02T00:00:00.000Z\",\"entered\":\"2024-01-02T00:00:00.000Z\",\
+\"kind\":\"object\",\"size\":5,\"tags\":{\"keep\":\"n\\\"o\",\"kind\":\"raw\"},\"version\":\"2\"},\
+{\"created\":\"2024-01-01T00:00:00.000Z\",\"kind\":\"marker\",\"noncurrent_since\":\"2024-01-02T00:00:00.000Z\",\
+\"version\":\"null\"}]}";
+
 #[test]
-fn the_versions_of_a_key(rt: HostRuntime) -> Result<(), Fail> {
-    let alloc = rt.alloc();
+fn the_versions_of_a_key(rt: HostRuntime) {
     let shown = Ok(Reply::StackShown {
-        key: Key::read(alloc, b"a")?,
-        stack: two_versions(alloc)?,
+        key: key(&rt, rt.alloc(), b"a"),
+        stack: two_versions(&rt, rt.alloc()),
     });
-    let body =
-        "{\"changed\":\"2024-01-02T00:00:00.000Z\",\"key\":\"a\",\"versions\":[{\"class\":\"GLACIER\",\
-\"created\":\"2024-01-02T00:00:00.000Z\",\"entered\":\"2024-01-02T00:00:00.000Z\",\"kind\":\"object\",\"size\":5,\
-\"tags\":{\"keep\":\"n\\\"o\",\"kind\":\"raw\"},\"version\":\"2\"},{\"created\":\"2024-01-01T00:00:00.000Z\",\
-\"kind\":\"marker\",\"noncurrent_since\":\"2024-01-02T00:00:00.000Z\",\"version\":\"null\"}]}";
-    is_kept(&rt, alloc, &shown, JSON, body)
+    is_kept(&rt, rt.alloc(), &shown, JSON, VERSIONS);
 }
 
 // Parts 1 and 3, of which the later one was put first.
-fn upload_of_parts(alloc: Global) -> Result<Upload, Fail> {
-    let at = Moment::of(1_704_067_200_000)?;
-    let tags = Tags::read(alloc, Vec::new(alloc))?;
+fn two_parts(rt: &impl Abort, alloc: Global) -> BTreeMap<u32, Part> {
+    let put = moment(rt, 1_704_067_200_000);
     let mut parts = BTreeMap::new(alloc);
-    let _ = parts.insert(3, Part { size: 7, put: at })?;
-    let _ = parts.insert(1, Part { size: 5, put: at })?;
-    let key = Key::read(alloc, b"a")?;
-    Ok(Upload::of(key, Class::Glacier, tags, at, at, parts).ok_or("no upload")?)
+    for (number, size) in &[(3, 7), (1, 5)] {
+        let part = Part { size: *size, put };
+        let before: Result<_, _> = parts.insert(*number, part);
+        assert!(rt; before.is_ok());
+    }
+    parts
 }
 
+fn upload_of_parts(rt: &impl Abort, alloc: Global) -> Upload {
+    let at = moment(rt, 1_704_067_200_000);
+    let (key, tags) = (key(rt, alloc, b"a"), tags(rt, alloc, &[]));
+    let parts = two_parts(rt, alloc);
+    Upload::of(key, Class::Glacier, tags, at, at, parts).expect(rt, "an upload")
+}
+
+const UPLOAD: &str =
+    "{\"class\":\"GLACIER\",\"key\":\"a\",\"parts\":[{\"part\":1,\"size\":5},{\"part\":3,\"size\":7}],\
+\"started\":\"2024-01-01T00:00:00.000Z\",\"tags\":{},\"upload\":1}";
+
 #[test]
-fn an_upload(rt: HostRuntime) -> Result<(), Fail> {
-    let alloc = rt.alloc();
+fn an_upload(rt: HostRuntime) {
     let shown = Ok(Reply::UploadShown {
         number: 1,
-        upload: upload_of_parts(alloc)?,
+        upload: upload_of_parts(&rt, rt.alloc()),
     });
-    let body =
-        "{\"class\":\"GLACIER\",\"key\":\"a\",\"parts\":[{\"part\":1,\"size\":5},{\"part\":3,\"size\":7}],\
-\"started\":\"2024-01-01T00:00:00.000Z\",\"tags\":{},\"upload\":1}";
-    is_kept(&rt, alloc, &shown, JSON, body)
+    is_kept(&rt, rt.alloc(), &shown, JSON, UPLOAD);
 }
 
-#[test]
-fn the_prices(rt: HostRuntime) -> Result<(), Fail> {
-    let alloc = rt.alloc();
-    let tariff = Tariff::of(
-        [23_000, 12_500, 10_000, 4_000, 3_600, 990],
-        [10, 11, 20, 30, 50],
-    );
-    let shown = Ok(Reply::TariffShown {
-        tariff: tariff.ok_or("no tariff")?,
-    });
-    let body =
-        "{\"storage\":{\"DEEP_ARCHIVE\":990,\"GLACIER\":3600,\"GLACIER_IR\":4000,\"ONEZONE_IA\":10000,\
+const STORAGE: [u32; 6] = [23_000, 12_500, 10_000, 4_000, 3_600, 990];
+
+const TRANSITION: [u32; 5] = [10, 11, 20, 30, 50];
+
+const PRICES: &str =
+    "{\"storage\":{\"DEEP_ARCHIVE\":990,\"GLACIER\":3600,\"GLACIER_IR\":4000,\"ONEZONE_IA\":10000,\
 \"STANDARD\":23000,\"STANDARD_IA\":12500},\"transition\":{\"DEEP_ARCHIVE\":50,\"GLACIER\":30,\"GLACIER_IR\":20,\
 \"ONEZONE_IA\":11,\"STANDARD_IA\":10}}";
-    is_kept(&rt, alloc, &shown, JSON, body)
-}
 
 #[test]
-fn a_configuration(rt: HostRuntime) -> Result<(), Fail> {
-    let alloc = rt.alloc();
-    let read = read_rules(
-        alloc,
-        b"{\"Rules\": [{\"Status\": \"Enabled\", \"ID\": \"rest\", \"Expiration\": {\"Days\": 60}}]}",
-    );
-    let Ok(rules) = read else {
-        return Err("no configuration")?;
+fn the_prices(rt: HostRuntime) {
+    let shown = Ok(Reply::TariffShown {
+        tariff: Tariff::of(STORAGE, TRANSITION).expect(&rt, "a tariff"),
+    });
+    is_kept(&rt, rt.alloc(), &shown, JSON, PRICES);
+}
+
+const RULES: &[u8] =
+    b"{\"Rules\": [{\"Status\": \"Enabled\", \"ID\": \"rest\", \"Expiration\": {\"Days\": 60}}]}";
+
+const CONFIGURATION: &str =
+    "{\"Rules\":[{\"Expiration\":{\"Days\":60},\"Filter\":{\"Prefix\":\"\"},\"ID\":\"rest\",\
+\"Status\":\"Enabled\"}],\"TransitionDefaultMinimumObjectSize\":\"all_storage_classes_128K\"}";
+
+#[test]
+fn a_configuration(rt: HostRuntime) {
+    let Ok(rules) = read_rules(rt.alloc(), RULES) else {
+        panic!(rt; "no configuration")
     };
     let shown = Ok(Reply::RulesShown { rules });
-    let body =
-        "{\"Rules\":[{\"Expiration\":{\"Days\":60},\"Filter\":{\"Prefix\":\"\"},\"ID\":\"rest\",\
-\"Status\":\"Enabled\"}],\"TransitionDefaultMinimumObjectSize\":\"all_storage_classes_128K\"}";
-    is_kept(&rt, alloc, &shown, JSON, body)
+    is_kept(&rt, rt.alloc(), &shown, JSON, CONFIGURATION);
 }
 
 // A GiB for the whole of January 2024.
-fn january(alloc: Global) -> Result<Reply, Fail>
-    ensures { IfOk result (λ reply. ReplyFits reply) }
+fn january(rt: &impl Abort, alloc: Global) -> Reply
+    ensures { ReplyFits result }
 {
     let line = ReportLine {
-        bucket: BucketName::read(alloc, "logs")?,
+        bucket: name(rt, alloc, "logs"),
         kind: LineKind::Storage,
         class: Class::Standard,
         quantity: 2_875_910_101_401_600_000,
         price: 23_000,
         charge: 23_000,
     };
-    Ok(Reply::Report {
-        lines: Items::of(vec![in alloc; line]?),
-    })
+    Reply::Report {
+        lines: Items::of(vec![in alloc; line].expect(rt, "memory")),
+    }
 }
 
+const REPORT: &str =
+    "bucket,line,class,quantity,price,charge\nlogs,storage,STANDARD,2875910101401600000,23000,23000\n,total,,,,23000\n";
+
 #[test]
-fn a_report(rt: HostRuntime) -> Result<(), Fail> {
-    let alloc = rt.alloc();
-    let report = Ok(january(alloc)?);
-    let body =
-        "bucket,line,class,quantity,price,charge\nlogs,storage,STANDARD,2875910101401600000,23000,23000\n,total,,,,\
-23000\n";
-    is_kept(&rt, alloc, &report, "text/csv", body)
+fn a_report(rt: HostRuntime) {
+    let report = Ok(january(&rt, rt.alloc()));
+    is_kept(&rt, rt.alloc(), &report, "text/csv", REPORT);
 }

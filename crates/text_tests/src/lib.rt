@@ -10,6 +10,8 @@ mod fault_rows;
 #[cfg(test)]
 mod flaw_rows;
 #[cfg(test)]
+mod given;
+#[cfg(test)]
 mod http_bodies_tests;
 #[cfg(test)]
 mod http_text_tests;

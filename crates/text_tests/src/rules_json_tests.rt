@@ -1,128 +1,111 @@
-use rules_json::{RulesFault, print_rules, read_rules};
 use crate::fault_rows::{DATE_ROWS, FIELD_ROWS, JSON_ROWS};
 use crate::flaw_rows::{ORDER_ROWS, RANGE_ROWS, SPELLING_ROWS};
-use std::alloc::{AllocError, Global};
-use std::test::Fail;
+use crate::given::text;
+use rules_json::{RulesFault, print_rules, read_rules};
+use std::alloc::Global;
+use std::process::Abort;
 
 // An answer as one line: the printed configuration, or the fault.
-fn told(alloc: Global, bytes: &[u8]) -> Result<String, AllocError> {
+fn told(rt: &impl Abort, alloc: Global, bytes: &[u8]) -> String {
     match read_rules(alloc, bytes) {
-        Ok(rules) => match print_rules(alloc, &rules) {
-            Ok(text) => Ok(text),
-            Err(_) => String::from_str(alloc, "NoMemory"),
-        },
-        Err(fault) => told_fault(alloc, &fault),
+        Ok(rules) => print_rules(alloc, &rules).expect(rt, "memory"),
+        Err(fault) => told_fault(rt, alloc, &fault),
     }
 }
 
-fn told_fault(alloc: Global, fault: &RulesFault) -> Result<String, AllocError> {
+fn told_fault(rt: &impl Abort, alloc: Global, fault: &RulesFault) -> String {
     match fault {
-        RulesFault::NotADate => String::from_str(alloc, "NotADate"),
-        RulesFault::NotMidnight => String::from_str(alloc, "NotMidnight"),
-        RulesFault::NotJson => String::from_str(alloc, "NotJson"),
-        RulesFault::UnknownField { name } => named(alloc, "UnknownField ", name.as_str()),
-        RulesFault::WrongShape { field } => named(alloc, "WrongShape ", field.as_str()),
-        RulesFault::UnsupportedClass { name } => named(alloc, "UnsupportedClass ", name.as_str()),
-        RulesFault::Flaw { flaw, rule } => format!(in alloc; "{flaw:?} {rule}"),
-        RulesFault::NoMemory => String::from_str(alloc, "NoMemory"),
+        RulesFault::NotADate => text(rt, alloc, "NotADate"),
+        RulesFault::NotMidnight => text(rt, alloc, "NotMidnight"),
+        RulesFault::NotJson => text(rt, alloc, "NotJson"),
+        RulesFault::UnknownField { name } => named(rt, alloc, "UnknownField", name.as_str()),
+        RulesFault::WrongShape { field } => named(rt, alloc, "WrongShape", field.as_str()),
+        RulesFault::UnsupportedClass { name } => {
+            named(rt, alloc, "UnsupportedClass", name.as_str())
+        }
+        RulesFault::Flaw { flaw, rule } => {
+            format!(in alloc; "{flaw:?} {rule}").expect(rt, "memory")
+        }
+        RulesFault::NoMemory => text(rt, alloc, "NoMemory"),
     }
 }
 
-fn named(alloc: Global, kind: &str, name: &str) -> Result<String, AllocError> {
-    let mut text = String::from_str(alloc, kind)?;
-    text.push_str(name)?;
-    Ok(text)
+fn named(rt: &impl Abort, alloc: Global, kind: &str, name: &str) -> String {
+    format!(in alloc; "{kind} {name}").expect(rt, "memory")
 }
 
-// Adds a text in which ' stands for ".
-fn add(text: &mut String, quoted: &str) -> Result<(), AllocError> {
-    for c in quoted.chars() {
-        text.push(if c == '\'' { '"' } else { c })?;
-    }
-    Ok(())
-}
-
-// A text in a frame.
-fn framed(alloc: Global, head: &str, quoted: &str, tail: &str) -> Result<String, AllocError> {
+// A text in a frame; in all three ' stands for ".
+fn framed(rt: &impl Abort, alloc: Global, head: &str, quoted: &str, tail: &str) -> String {
     let mut text = String::new(alloc);
-    add(&mut text, head)?;
-    add(&mut text, quoted)?;
-    add(&mut text, tail)?;
-    Ok(text)
+    for part in &[head, quoted, tail] {
+        for c in part.chars() {
+            let c = if c == '\'' { '"' } else { c };
+            text.push(c).expect(rt, "memory");
+        }
+    }
+    text
 }
 
 // The document of a row: a text that begins with ' has the fields of a rule, one that begins with a comma has those
 // behind the status of an enabled rule.
-fn document(alloc: Global, row: &str) -> Result<String, AllocError> {
-    match row.as_bytes() {
-        [b'\'', ..] => framed(alloc, "{'Rules':[{", row, "}]}"),
-        [b',', ..] => framed(alloc, "{'Rules':[{'Status':'Enabled'", row, "}]}"),
-        _ => framed(alloc, "", row, ""),
-    }
+fn document(rt: &impl Abort, alloc: Global, row: &str) -> String {
+    let (head, tail) = match row.as_bytes() {
+        [b'\'', ..] => ("{'Rules':[{", "}]}"),
+        [b',', ..] => ("{'Rules':[{'Status':'Enabled'", "}]}"),
+        _ => ("", ""),
+    };
+    framed(rt, alloc, head, row, tail)
 }
 
 // The answer of a row: a text that begins with ' has the fields of a rule as they are printed.
-fn answer(alloc: Global, row: &str) -> Result<String, AllocError> {
-    match row.as_bytes() {
-        [b'\'', ..] => framed(
-            alloc,
+fn answer(rt: &impl Abort, alloc: Global, row: &str) -> String {
+    let (head, tail) = match row.as_bytes() {
+        [b'\'', ..] => (
             "{'Rules':[{",
-            row,
             "}],'TransitionDefaultMinimumObjectSize':'all_storage_classes_128K'}",
         ),
-        _ => framed(alloc, "", row, ""),
-    }
+        _ => ("", ""),
+    };
+    framed(rt, alloc, head, row, tail)
 }
 
-// The first row whose document is answered otherwise.
-fn first_wrong(
-    alloc: Global,
-    rows: &[(&'static str, &'static str)],
-) -> Result<Option<(&'static str, String)>, AllocError> {
+fn are_answered(rt: &impl Abort, alloc: Global, rows: &[(&str, &str)]) {
     for (row, wanted) in rows {
-        let text = document(alloc, row)?;
-        let said = told(alloc, text.as_bytes())?;
-        if said.as_str() != answer(alloc, wanted)?.as_str() {
-            return Ok(Some((*row, said)));
-        }
+        let document = document(rt, alloc, row);
+        let told = told(rt, alloc, document.as_bytes());
+        let wanted = answer(rt, alloc, wanted);
+        assert_eq!(rt; told.as_str(), wanted.as_str(), "{row}");
     }
-    Ok(None)
 }
 
 #[test]
-fn texts_and_their_names(rt: HostRuntime) -> Result<(), Fail> {
-    assert_eq!(rt; first_wrong(rt.alloc(), &JSON_ROWS)?, None);
-    Ok(())
+fn texts_and_their_names(rt: HostRuntime) {
+    are_answered(&rt, rt.alloc(), &JSON_ROWS);
 }
 
 #[test]
-fn fields_in_their_order(rt: HostRuntime) -> Result<(), Fail> {
-    assert_eq!(rt; first_wrong(rt.alloc(), &FIELD_ROWS)?, None);
-    Ok(())
+fn fields_in_their_order(rt: HostRuntime) {
+    are_answered(&rt, rt.alloc(), &FIELD_ROWS);
 }
 
 #[test]
-fn dates(rt: HostRuntime) -> Result<(), Fail> {
-    assert_eq!(rt; first_wrong(rt.alloc(), &DATE_ROWS)?, None);
-    Ok(())
+fn dates(rt: HostRuntime) {
+    are_answered(&rt, rt.alloc(), &DATE_ROWS);
 }
 
 #[test]
-fn ids_and_ranges(rt: HostRuntime) -> Result<(), Fail> {
-    assert_eq!(rt; first_wrong(rt.alloc(), &RANGE_ROWS)?, None);
-    Ok(())
+fn ids_and_ranges(rt: HostRuntime) {
+    are_answered(&rt, rt.alloc(), &RANGE_ROWS);
 }
 
 #[test]
-fn flaws_in_their_order(rt: HostRuntime) -> Result<(), Fail> {
-    assert_eq!(rt; first_wrong(rt.alloc(), &ORDER_ROWS)?, None);
-    Ok(())
+fn flaws_in_their_order(rt: HostRuntime) {
+    are_answered(&rt, rt.alloc(), &ORDER_ROWS);
 }
 
 #[test]
-fn spellings(rt: HostRuntime) -> Result<(), Fail> {
-    assert_eq!(rt; first_wrong(rt.alloc(), &SPELLING_ROWS)?, None);
-    Ok(())
+fn spellings(rt: HostRuntime) {
+    are_answered(&rt, rt.alloc(), &SPELLING_ROWS);
 }
 
 // A document with a part that stands so many times behind the head, and another so many times before the tail; and its
@@ -248,39 +231,36 @@ const LONG_ROWS: [(&str, &str, &str, usize, &str, &str); 22] = [
     ),
 ];
 
+fn repeated(rt: &impl Abort, alloc: Global, text: &str, times: usize) -> String {
+    assert!(rt; text.len() < 1_000 && times < 10_000);
+    text.repeat(alloc, times).expect(rt, "memory")
+}
+
 fn long_document(
+    rt: &impl Abort,
     alloc: Global,
     head: &str,
-    part: &str,
-    other: &str,
+    parts: (&str, &str),
     times: usize,
     tail: &str,
-) -> Result<String, AllocError> {
-    let mut row = String::from_str(alloc, head)?;
-    for _ in 0..times {
-        row.push_str(part)?;
-    }
-    for _ in 0..times {
-        row.push_str(other)?;
-    }
-    row.push_str(tail)?;
-    document(alloc, row.as_str())
+) -> String {
+    let front = repeated(rt, alloc, parts.0, times);
+    let back = repeated(rt, alloc, parts.1, times);
+    let row = format!(in alloc; "{head}{front}{back}{tail}").expect(rt, "memory");
+    document(rt, alloc, row.as_str())
 }
 
 #[test]
-fn long_documents_and_their_answers(rt: HostRuntime) -> Result<(), Fail> {
-    let alloc = rt.alloc();
-    assert_eq!(rt;
-        told(alloc, b"{\"Rules\":[{\"ID\":\"\xff\"}]}")?.as_str(),
-        "NotJson"
-    );
-    for (head, part, other, times, tail, wanted) in LONG_ROWS {
-        let text = long_document(alloc, head, part, other, times, tail)?;
-        assert_eq!(rt;
-            told(alloc, text.as_bytes())?.as_str(),
-            wanted,
-            "{head} {times}"
-        );
+fn long_documents_and_their_answers(rt: HostRuntime) {
+    for (head, part, other, times, tail, wanted) in &LONG_ROWS {
+        let text = long_document(&rt, rt.alloc(), head, (part, other), *times, tail);
+        let told = told(&rt, rt.alloc(), text.as_bytes());
+        assert_eq!(rt; told.as_str(), *wanted, "{head} {times}");
     }
-    Ok(())
+}
+
+#[test]
+fn a_document_that_is_no_text(rt: HostRuntime) {
+    let told = told(&rt, rt.alloc(), b"{\"Rules\":[{\"ID\":\"\xff\"}]}");
+    assert_eq!(rt; told.as_str(), "NotJson");
 }

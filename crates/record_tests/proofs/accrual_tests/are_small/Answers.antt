@@ -2,7 +2,7 @@ use Rattle.std.proofs.Common.{◌≡◌, All, true, rules, subst}
 use Rattle.std.proofs.lemmas.List.{take_all}
 use Rattle.std.proofs.lemmas.List.Elements.{All-more}
 use Rattle.accrual.specs.Sums.{IsSmallMonth}
-use Rattle.accrual.proofs.tests.are_small.Goals as goal
+use Rattle.record_tests.proofs.accrual_tests.are_small.Goals as goal
 
 pub loop-month-preserved : goal.loop-month-preserved
 loop-month-preserved c =

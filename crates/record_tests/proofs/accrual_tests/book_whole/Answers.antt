@@ -1,7 +1,7 @@
 use Rattle.std.proofs.Common.{[], ◌∷◌, ◌++◌, refl}
 use Rattle.class_rules.specs.Lines.{lines_of}
 use Rattle.accrual.specs.Books.{open_stay, ended_stay, book_with_stay}
-use Rattle.accrual.proofs.tests.book_whole.Goals as goal
+use Rattle.record_tests.proofs.accrual_tests.book_whole.Goals as goal
 
 pub returns : goal.returns
 returns g c =
