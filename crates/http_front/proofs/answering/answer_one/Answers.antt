@@ -1,8 +1,10 @@
-use Rattle.std.proofs.Common.{◌+◌, length, ap, Ok, Err}
+use Rattle.std.proofs.Common.{◌+◌, length, ap, refl, Ok, Err}
 use Rattle.std.specs.Io.KnownBytes.{prepend_known}
+use Rattle.http_wire.specs.declared.message.MessageStop.TheVariants as stops
 use Rattle.http_front.specs.Counts.{total_of}
 use Rattle.http_front.specs.Talk.{sides}
-use Rattle.http_front.proofs.TalkLemmas.{ahead_here, last_stop, under_limit, unspent_here, held_back, spent_here, begun_here, went_on, went_end}
+use Rattle.http_front.specs.declared.answering.SessionEnd.TheVariants as ends
+use Rattle.http_front.proofs.TalkLemmas.{ahead_here, last_stop, under_limit, unspent_here, held_back, spent_here, begun_here, went_on, went_end, reads_nothing, reads_on, same_err}
 use Rattle.http_front.proofs.answering.answer_one.Goals as goal
 
 pub returns-in-Ok-clause-goes_on : goal.returns-in-Ok-clause-goes_on
@@ -52,3 +54,10 @@ returns-in-Ok-clause-uses g c =
     let left = g.R.Source.left in
     c.answer_heard.ensures.item (prepend_known c.args.reader.now.bytes (left c.args.source.now)) (prepend_known c.next.new.self.bytes (left c.next.new.source))
     (c.args.reader.now.taken + length c.next.new.self.bytes) (c.next.new.self.taken + length c.args.reader.now.bytes) c.in-Ok.ensures.tells c.in-Ok.ensures.uses
+
+pub returns-in-Err-clause-only_reads : goal.returns-in-Err-clause-only_reads
+returns-in-Err-clause-only_reads g c =
+    let at = c.args.source.now in
+    reads_on g.R.Source at at c.next.new.source (reads_nothing g.R.Source at) c.in-Err.ensures.only_reads
+    (λ is. ap Err (c.say_stop.ensures.read_only (same_err (Err c.say_stop.result) c.say_stop.result ends.ReadFault refl is)))
+    (λ is. ap Err (c.say_stop.ensures.read_fault (same_err (Err c.in-Err.stop) c.in-Err.stop stops.ReadFault refl is)).0)
