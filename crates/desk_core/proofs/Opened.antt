@@ -3,7 +3,7 @@ use Rattle.std.proofs.Common.{◌≡◌, ℕ, ◌≤◌, ◌^◌, false, length,
 use Rattle.std.specs.Prelude.{IsTrue, OnOk, IfErr}
 use Rattle.disk_core.specs.declared.disk.Disk as disks
 use Rattle.disk_core.specs.declared.disk.FileNo.TheVariants.{Journal}
-use Rattle.disk_core.specs.Files.{State, File, IsImage, synced_file}
+use Rattle.disk_core.specs.Files.{State, File, synced_file}
 use Rattle.disk_core.specs.Fronts.{Narrower}
 use Rattle.disk_core.specs.Moments.{KeepsTo, Untouched}
 use Rattle.disk_core.proofs.Laws.{DiskLaws}

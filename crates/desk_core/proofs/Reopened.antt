@@ -4,7 +4,7 @@ use Rattle.std.specs.Prelude.{IsTrue, IsSome}
 use Rattle.office_base.specs.Faults.{Rose}
 use Rattle.disk_core.specs.declared.disk.Disk as disks
 use Rattle.disk_core.specs.declared.disk.FileNo.TheVariants.{Journal}
-use Rattle.disk_core.specs.Files.{State, IsImage}
+use Rattle.disk_core.specs.Files.{IsImage}
 use Rattle.disk_core.specs.Fronts.{Narrower}
 use Rattle.disk_core.specs.Moments.{KeepsTo}
 use Rattle.disk_core.proofs.Laws.{DiskLaws}

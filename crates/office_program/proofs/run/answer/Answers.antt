@@ -1,5 +1,4 @@
 use Rattle.std.proofs.Common.{◌≤◌, ◌∙◌, ℕ, List, sym, ap, subst, arith}
-use Rattle.std.specs.Prelude.{IsTrue}
 use Rattle.office_base.specs.Faults.{Rose}
 use Rattle.disk_core.proofs.Laws.{laws_of}
 use Rattle.desk_core.proofs.Following.{disk_later}
