@@ -289,8 +289,12 @@ fn a_journal_is_opened_where_the_office_accepts_it(rt: HostRuntime) -> Result<()
         let disk = disk_with(alloc, &file, &[])?;
         let (found, kept) = kept_after(&rt, alloc, disk, &[], 1 << 45, &turns)?;
         assert_eq!(rt; found, *fault, "{holding:?}");
-        let left = if fault.is_none() { &both } else { &file };
-        assert!(rt; kept.as_slice() == left.as_slice(), "{holding:?}");
+        let is_so = if fault.is_none() {
+            kept.as_slice() == both.as_slice()
+        } else {
+            kept.as_slice() == file.as_slice()
+        };
+        assert!(rt; is_so, "{holding:?}");
     }
     Ok(())
 }

@@ -188,8 +188,11 @@ const FAULTS: &[(DeskFault, &[u8], &[u8], &[u8])] = &[
     (DeskFault::NoMemory, ERROR, b"33", LACK),
 ];
 
+// A text of a row.
+type Text = &'static [u8];
+
 // A reply with this status, and this size and text of its body.
-fn reply_of(alloc: Global, status: &[u8], size: &[u8], body: &[u8]) -> Result<Vec<u8>, Fail> {
+fn reply_of(alloc: Global, status: Text, size: Text, body: Text) -> Result<Vec<u8>, Fail> {
     joined(
         alloc,
         &[
