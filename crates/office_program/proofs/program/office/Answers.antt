@@ -44,8 +44,8 @@ returns-in-Ok-Run-clause-sound g c tells sound =
     let has = c.sound_now.ensures.reads tells sound in (
       c.run.ensures.sound tells has.0 has.1,
       starts_sound d k w tells (c.run.new.input ≡ c.args.input.now) (λ first. AnswersStream d k w (reading (g.S.Source.left c.args.input.now) (g.S.Source.left c.run.new.input)))
-      (λ first old new status sound a. calls_sound d k w tells journal_limit (under old) (under new) (calls_of a.talk.exchanges) sound a.answers)
-      (around c.args.disk c.args.clock c.args.out.now) (around c.run.result.disk c.run.result.clock c.run.new.out) c.run.result.status sound (c.sound_now.ensures.still tells sound) c.run.ensures.runs,
+          (λ first old new status sound a. calls_sound d k w tells journal_limit (under old) (under new) (calls_of a.talk.exchanges) sound a.answers)
+          (around c.args.disk c.args.clock c.args.out.now) (around c.run.result.disk c.run.result.clock c.run.new.out) c.run.result.status sound (c.sound_now.ensures.still tells sound) c.run.ensures.runs,
     )
 
 pub returns-in-Ok-Run-clause-complete : goal.returns-in-Ok-Run-clause-complete
@@ -65,10 +65,10 @@ returns-in-Ok-Serve-clause-sound g c tells sound =
     let has = c.sound_now.ensures.reads tells sound in (
       c.serve.ensures.sound tells has.0 has.1,
       starts_sound d k w tells (c.serve.new.port ≡ c.args.port.now) (λ first. AnswersWorkers d k w
-      (Connects g.P.Port c.as_str.result.now c.in-Ok-Serve.workers c.in-Ok-Serve.connections c.args.port.now c.serve.new.port))
-      (λ first old new status sound a. calls_sound d k w tells journal_limit (under old) (under new) (log_calls a.log) sound a.answers)
-      (around c.args.disk c.args.clock c.args.out.now) (around c.serve.result.disk c.serve.result.clock c.serve.new.out)
-      c.serve.result.status sound (c.sound_now.ensures.still tells sound) c.serve.ensures.serves,
+          (Connects g.P.Port c.as_str.result.now c.in-Ok-Serve.workers c.in-Ok-Serve.connections c.args.port.now c.serve.new.port))
+          (λ first old new status sound a. calls_sound d k w tells journal_limit (under old) (under new) (log_calls a.log) sound a.answers)
+          (around c.args.disk c.args.clock c.args.out.now) (around c.serve.result.disk c.serve.result.clock c.serve.new.out)
+          c.serve.result.status sound (c.sound_now.ensures.still tells sound) c.serve.ensures.serves,
     )
 
 pub returns-in-Ok-Serve-clause-complete : goal.returns-in-Ok-Serve-clause-complete
@@ -90,9 +90,9 @@ returns-in-Ok-Report-clause-sound g c tells sound =
     let has = c.sound_now.ensures.reads tells sound in (
       c.report.ensures.sound tells has.0 has.1,
       starts_sound d k w tells (Unit {0}) (TellsMonth d k w month as_text) (reported_sound d k w tells month as_text)
-      (around c.args.disk c.args.clock c.args.out.now)
-      (around c.report.result.disk c.report.result.clock c.report.new.out) c.report.result.status sound
-      (c.sound_now.ensures.still tells sound) c.report.ensures.reports,
+          (around c.args.disk c.args.clock c.args.out.now)
+          (around c.report.result.disk c.report.result.clock c.report.new.out) c.report.result.status sound
+          (c.sound_now.ensures.still tells sound) c.report.ensures.reports,
     )
 
 pub returns-in-Ok-Report-clause-complete : goal.returns-in-Ok-Report-clause-complete
