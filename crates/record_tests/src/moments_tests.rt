@@ -3,6 +3,7 @@ use moments::{
     END, Moment, MomentRefusal, Month, due_after, month_of, month_window, print_moment, read_date,
     read_month,
 };
+use std::process::Abort;
 
 // 1970-01-01, 2024-01-01, 2099-12-31 23:59:59.999, 2100-01-01, and the greatest number of 64 bits; and whether each is
 // a moment.
@@ -77,16 +78,17 @@ fn months_of_moments(rt: HostRuntime) {
     }
 }
 
-fn is_printed(ms: u64, text: &str) -> bool {
+fn is_printed(rt: &impl Abort, ms: u64, text: &str) -> bool {
+    assert!(rt; ms <= END);
     print_moment(ms).as_slice() == text.as_bytes()
 }
 
 #[test]
 fn texts_of_moments(rt: HostRuntime) {
     for (ms, _, _, text) in &TEXTS {
-        assert!(rt; is_printed(*ms, text), "{text}");
+        assert!(rt; is_printed(&rt, *ms, text), "{text}");
     }
-    assert!(rt; is_printed(END, "2100-01-01T00:00:00.000Z"));
+    assert!(rt; is_printed(&rt, END, "2100-01-01T00:00:00.000Z"));
 }
 
 #[test]

@@ -46,13 +46,13 @@ fn row(version: &Version) -> Row {
     )
 }
 
-fn is_free(versioning: Versioning, number: u64, versions: &[Version]) -> bool
-    ensures { result ≡ true → IsFreeNumber versioning number versions.now }
+fn is_free(versioning: Versioning, number: u64, stack: &Stack) -> bool
+    ensures { result ≡ true → IsFreeNumber versioning number stack.now.versions }
 {
     match versioning {
         Versioning::Unversioned => true,
         Versioning::Enabled => match Nth::of(number) {
-            Some(number) => !versions.iter().any(|it| it.id == VersionId::Number(number)),
+            Some(number) => !stack.has(VersionId::Number(number)),
             None => false,
         },
         Versioning::Suspended => true,
@@ -68,7 +68,7 @@ fn put(
     at: Moment,
 ) -> Option<Version> {
     assert!(rt; stack.changed().ms() <= at.ms());
-    assert!(rt; is_free(versioning, number, stack.versions()));
+    assert!(rt; is_free(versioning, number, stack));
     stack
         .put(
             versioning,
@@ -90,7 +90,7 @@ fn mark(
 ) -> Option<Version> {
     assert!(rt; versioning != Versioning::Unversioned);
     assert!(rt; stack.changed().ms() <= at.ms());
-    assert!(rt; is_free(versioning, number, stack.versions()));
+    assert!(rt; is_free(versioning, number, stack));
     stack
         .put_marker(versioning, number, at)
         .expect(rt, "memory")
