@@ -402,9 +402,11 @@ fn assert_rows(rt: &impl Abort, alloc: Global, rows: &[Row]) -> Result<(), Fail>
     Ok(())
 }
 
+const DESKS: &[&[Row]] = &[STALE, CLOCKS, QUERIES];
+
 #[test]
 fn stale_desks_clocks_and_queries(rt: HostRuntime) -> Result<(), Fail> {
-    for rows in &[STALE, CLOCKS, QUERIES] {
+    for rows in DESKS {
         assert_rows(&rt, rt.alloc(), *rows)?;
     }
     Ok(())

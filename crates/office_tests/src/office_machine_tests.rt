@@ -504,18 +504,19 @@ const TAGGED: &[Row] = &[
     (9, LOGS, Heard::Shown(2), 8),
 ];
 
+const OFFICES: &[&[Row]] = &[
+    NAMES,
+    PUTS,
+    TWO_PUTS,
+    REPLACED,
+    LEFT_EARLY,
+    LEFT_AT_THE_LEAST_DURATION,
+    TAGGED,
+];
+
 #[test]
 fn commands_and_queries(rt: HostRuntime) -> Result<(), Fail> {
-    let offices: &[&[Row]] = &[
-        NAMES,
-        PUTS,
-        TWO_PUTS,
-        REPLACED,
-        LEFT_EARLY,
-        LEFT_AT_THE_LEAST_DURATION,
-        TAGGED,
-    ];
-    for rows in offices {
+    for rows in OFFICES {
         assert_rows(&rt, rt.alloc(), *rows)?;
     }
     Ok(())

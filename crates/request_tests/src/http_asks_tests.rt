@@ -356,7 +356,7 @@ fn hear(
         ) => (meant_by_query(query), after(*last), *last),
         Ok(Heard::Bad { bad, last }) => (meant_by_bad(bad), after(*last), *last),
         Ok(Heard::End) => (("End", [NO, NO, NO, NO, NO]), "", true),
-        Err(MessageStop::ReadFault) => (("ReadFault", [NO, NO, NO, NO, NO]), "", true),
+        Err(MessageStop::ReadFault) => (("ReadFault", [NO, NO, NO, NO, NO]), "; ", false),
         Err(_) => (("Stop", [NO, NO, NO, NO, NO]), "", true),
     };
     put(text, &meaning)?;
@@ -369,9 +369,10 @@ fn after(is_last: bool) -> &'static str {
     if is_last { " last" } else { "; " }
 }
 
-// What is heard, one message after another, up to the end or the last message of the session.
-fn heard(alloc: Global, bytes: &[u8], cut: usize) -> Result<String, Fail> {
-    let mut source = MemorySource::new(bytes.to_vec(alloc)?, cut, Vec::new(alloc));
+// What is heard of bytes in reads of at most so many, of which some fail: one message after another, up to the end or
+// the last message of the session, and four at most.
+fn heard(alloc: Global, bytes: &[u8], cut: usize, failing: &[u64]) -> Result<String, Fail> {
+    let mut source = MemorySource::new(bytes.to_vec(alloc)?, cut, failing.to_vec(alloc)?);
     let mut reader = Reader::new(alloc)?;
     let mut text = String::new(alloc);
     for _ in 0..4 {
@@ -391,7 +392,7 @@ fn assert_heard(
     wanted: &str,
 ) -> Result<(), Fail> {
     for cut in cuts {
-        let text = heard(alloc, stream.as_bytes(), *cut)?;
+        let text = heard(alloc, stream.as_bytes(), *cut, &[])?;
         assert_eq!(rt; text.as_str(), wanted, "{stream} in reads of {cut}");
     }
     Ok(())
@@ -405,21 +406,19 @@ const CUTS: &[usize] = &[1, 65_536];
 type Row = (&'static str, &'static str, &'static str);
 
 // What is heard of the request of a row, with the next one behind it.
-fn assert_requests(rt: &impl Abort, alloc: Global, rows: &[Row]) -> Result<(), Fail> {
-    for (start, body, meaning) in rows {
-        let stream = format!(in alloc;
-            "{start} HTTP/1.1\r\nContent-Length: {}\r\n\r\n{body}{NEXT}",
-            body.len()
-        )?;
-        let ending = if *meaning == "NotBuilt" {
-            " last"
-        } else {
-            "; Bucket next; End"
-        };
-        let wanted = format!(in alloc; "{meaning}{ending}")?;
-        assert_heard(rt, alloc, &stream, CUTS, &wanted)?;
-    }
-    Ok(())
+fn assert_request(rt: &impl Abort, alloc: Global, row: &Row) -> Result<(), Fail> {
+    let (start, body, meaning) = row;
+    let stream = format!(in alloc;
+        "{start} HTTP/1.1\r\nContent-Length: {}\r\n\r\n{body}{NEXT}",
+        body.len()
+    )?;
+    let ending = if *meaning == "NotBuilt" {
+        " last"
+    } else {
+        "; Bucket next; End"
+    };
+    let wanted = format!(in alloc; "{meaning}{ending}")?;
+    assert_heard(rt, alloc, &stream, CUTS, &wanted)
 }
 
 const BUCKETS: &[Row] = &[
@@ -761,12 +760,16 @@ const NOT_SERVED: &[Row] = &[
     ("PUT /months/2024-01/report", "", "NotBuilt"),
 ];
 
+const REQUESTS: &[&[Row]] = &[
+    BUCKETS, LIFECYCLES, OBJECTS, VERSIONS, UPLOADS, METERS, MONTHS, NOT_SERVED,
+];
+
 #[test]
 fn requests(rt: HostRuntime) -> Result<(), Fail> {
-    for rows in &[
-        BUCKETS, LIFECYCLES, OBJECTS, VERSIONS, UPLOADS, METERS, MONTHS, NOT_SERVED,
-    ] {
-        assert_requests(&rt, rt.alloc(), *rows)?;
+    for rows in REQUESTS {
+        for row in *rows {
+            assert_request(&rt, rt.alloc(), row)?;
+        }
     }
     Ok(())
 }
@@ -839,13 +842,7 @@ fn a_body_longer_than_the_buffer(rt: HostRuntime) -> Result<(), Fail> {
 
 #[test]
 fn a_read_that_fails_changes_no_message(rt: HostRuntime) -> Result<(), Fail> {
-    let alloc = rt.alloc();
-    let mut source = MemorySource::new(NEXT.as_bytes().to_vec(alloc)?, 16, [2].to_vec(alloc)?);
-    let mut reader = Reader::new(alloc)?;
-    let mut text = String::new(alloc);
-    for is_last in &[true, false] {
-        assert_eq!(rt; hear(alloc, &mut reader, &mut source, &mut text)?, *is_last);
-    }
-    assert_eq!(rt; text.as_str(), "ReadFaultBucket next; ");
+    let text = heard(rt.alloc(), NEXT.as_bytes(), 16, &[2])?;
+    assert_eq!(rt; text.as_str(), "ReadFault; Bucket next; End");
     Ok(())
 }

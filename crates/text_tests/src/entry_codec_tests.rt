@@ -176,7 +176,7 @@ fn set_rules(rt: &impl Abort, alloc: Global, rule: &[u8]) -> Vec<u8> {
         b"{\"Rules\":[".as_slice(),
         b"],\"TransitionDefaultMinimumObjectSize\":\"all_storage_classes_128K\"}".as_slice(),
     );
-    assert!(rt; rule.len() < 1_000);
+    assert!(rt; head.len() < 100 && rule.len() < 1_000 && tail.len() < 100);
     let length = ((head.len() + rule.len() + tail.len()) as u32).to_be_bytes();
     let parts = [b"\x03\0\x04logs", length.as_slice(), head, rule, tail];
     let mut behind = Vec::new(alloc);
