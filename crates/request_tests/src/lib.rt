@@ -8,4 +8,6 @@ mod http_routes_tests;
 #[cfg(test)]
 mod http_wire_tests;
 #[cfg(test)]
+mod meanings;
+#[cfg(test)]
 mod route_table_tests;
