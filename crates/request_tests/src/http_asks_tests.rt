@@ -80,20 +80,22 @@ const CUTS: &[usize] = &[1, 65_536];
 // User Guide for names, keys, sizes, classes and tags.
 type Row = (&'static str, &'static str, &'static str);
 
-// What is heard of the request of a row, with the next one behind it.
-fn assert_request(rt: &impl Abort, alloc: Global, row: &Row) -> Result<(), Fail> {
-    let (start, body, meaning) = row;
-    let stream = format!(in alloc;
-        "{start} HTTP/1.1\r\nContent-Length: {}\r\n\r\n{body}{NEXT}",
-        body.len()
-    )?;
-    let ending = if *meaning == "NotBuilt" {
-        " last"
-    } else {
-        "; Bucket next; End"
-    };
-    let wanted = format!(in alloc; "{meaning}{ending}")?;
-    assert_heard(rt, alloc, &stream, CUTS, &wanted)
+// What is heard of the request of each row, with the next one behind it.
+fn assert_requests(rt: &impl Abort, alloc: Global, rows: &[Row]) -> Result<(), Fail> {
+    for (start, body, meaning) in rows {
+        let stream = format!(in alloc;
+            "{start} HTTP/1.1\r\nContent-Length: {}\r\n\r\n{body}{NEXT}",
+            body.len()
+        )?;
+        let ending = if *meaning == "NotBuilt" {
+            " last"
+        } else {
+            "; Bucket next; End"
+        };
+        let wanted = format!(in alloc; "{meaning}{ending}")?;
+        assert_heard(rt, alloc, &stream, CUTS, &wanted)?;
+    }
+    Ok(())
 }
 
 const BUCKETS: &[Row] = &[
@@ -435,16 +437,12 @@ const NOT_SERVED: &[Row] = &[
     ("PUT /months/2024-01/report", "", "NotBuilt"),
 ];
 
-const REQUESTS: &[&[Row]] = &[
-    BUCKETS, LIFECYCLES, OBJECTS, VERSIONS, UPLOADS, METERS, MONTHS, NOT_SERVED,
-];
-
 #[test]
 fn requests(rt: HostRuntime) -> Result<(), Fail> {
-    for rows in REQUESTS {
-        for row in *rows {
-            assert_request(&rt, rt.alloc(), row)?;
-        }
+    for rows in &[
+        BUCKETS, LIFECYCLES, OBJECTS, VERSIONS, UPLOADS, METERS, MONTHS, NOT_SERVED,
+    ] {
+        assert_requests(&rt, rt.alloc(), *rows)?;
     }
     Ok(())
 }
