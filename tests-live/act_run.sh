@@ -11,16 +11,6 @@ root=$(CDPATH='' cd -- "$(dirname -- "$0")/.." && pwd) || exit 1
 . "$root/tests-live/common"
 cd "$work" || exit 1
 
-check() {
-    if [ "$2" = "$3" ]; then
-        passed=$((passed + 1))
-        echo "ok: $1"
-    else
-        failed=$((failed + 1))
-        echo "FAILED: $1: wanted '$2', found '$3'"
-    fi
-}
-
 act_all() {
     python3 -B "$root/tools/act-all" "$@" >said 2>noted
     status=$?

@@ -17,16 +17,6 @@ fi
 cd "$work" || exit 1
 backup=$root/tools/backup
 
-check() {
-    if [ "$2" = "$3" ]; then
-        passed=$((passed + 1))
-        echo "ok: $1"
-    else
-        failed=$((failed + 1))
-        echo "FAILED: $1: wanted '$2', found '$3'"
-    fi
-}
-
 # How many copies there are, and how many objects the program finds with a copy in the journal's place.
 copies() {
     find copies -name 'journal-*Z' | grep -c .

@@ -18,16 +18,6 @@ if ! strace -o probe true 2>/dev/null; then
     exit 0
 fi
 
-check() {
-    if [ "$2" = "$3" ]; then
-        passed=$((passed + 1))
-        echo "ok: $1: $3"
-    else
-        failed=$((failed + 1))
-        echo "FAILED: $1: $3; wanted: $2"
-    fi
-}
-
 # A request without a body, or with one.
 ask() {
     if [ $# -eq 1 ]; then

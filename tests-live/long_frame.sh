@@ -12,15 +12,6 @@ tools='cat truncate'
 . "$(dirname -- "$0")/common"
 cd "$work" || exit 1
 
-check() {
-    if [ "$2" = "$3" ]; then
-        passed=$((passed + 1))
-    else
-        failed=$((failed + 1))
-        echo "failed: $1: wanted $2, found $3"
-    fi
-}
-
 # Runs the program with at most 512 MiB of memory.
 limited() {
     (ulimit -v 524288 && exec "$program" "$@" </dev/null >out 2>notes)

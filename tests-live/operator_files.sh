@@ -13,16 +13,6 @@ root=$(CDPATH='' cd -- "$(dirname -- "$0")/.." && pwd) || exit 1
 . "$root/tests-live/common"
 cd "$work" || exit 1
 
-check() {
-    if [ "$2" = "$3" ]; then
-        passed=$((passed + 1))
-        echo "ok: $1"
-    else
-        failed=$((failed + 1))
-        echo "FAILED: $1: wanted '$2', found '$3'"
-    fi
-}
-
 has() {
     command -v "$1" >/dev/null 2>&1 && return
     echo "skipped: there is no command $1"

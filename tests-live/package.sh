@@ -13,16 +13,6 @@ root=$(CDPATH='' cd -- "$(dirname -- "$0")/.." && pwd) || exit 1
 cd "$work" || exit 1
 package=$root/tools/package
 
-check() {
-    if [ "$2" = "$3" ]; then
-        passed=$((passed + 1))
-        echo "ok: $1"
-    else
-        failed=$((failed + 1))
-        echo "FAILED: $1: wanted '$2', found '$3'"
-    fi
-}
-
 mkdir one two
 check 'a package, status' 0 "$("$package" --version 1.2 "$program" one >name 2>notes; echo $?)"
 deb=one/$(cat name)

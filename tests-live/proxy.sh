@@ -16,16 +16,6 @@ server=
 proxy=
 trap 'kill -9 $server 2>/dev/null; [ -z "$proxy" ] || kill "$proxy" 2>/dev/null; sleep 0.1; rm -rf "$work"' EXIT
 
-check() {
-    if [ "$2" = "$3" ]; then
-        passed=$((passed + 1))
-        echo "ok: $1: $3"
-    else
-        failed=$((failed + 1))
-        echo "FAILED: $1: wanted '$2', found '$3'"
-    fi
-}
-
 ports=$(python3 -B "$root/tests-live/free_port.py" 3)
 # shellcheck disable=SC2086
 set -- $ports

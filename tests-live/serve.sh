@@ -23,16 +23,6 @@ free_port() {
     python3 -B "$(dirname -- "$cases")/free_port.py"
 }
 
-check() {
-    if [ "$2" = "$3" ]; then
-        passed=$((passed + 1))
-        echo "ok: $1"
-    else
-        failed=$((failed + 1))
-        echo "FAILED: $1: wanted '$2', found '$3'"
-    fi
-}
-
 # Runs the program with these words, for at most five seconds, and checks its status.
 check_status() {
     wanted=$1

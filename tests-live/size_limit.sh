@@ -39,15 +39,6 @@ replies() {
     grep -a -o "HTTP/1.1 $1 " said | grep -c .
 }
 
-check() {
-    if [ "$2" = "$3" ]; then
-        passed=$((passed + 1))
-    else
-        failed=$((failed + 1))
-        echo "failed: $1: wanted $2, found $3"
-    fi
-}
-
 # Runs the script under a limit, in blocks of 512 bytes.
 limited() {
     (

@@ -31,15 +31,6 @@ replies() {
     grep -a -o "HTTP/1.1 $1 " "$2" | grep -c .
 }
 
-check() {
-    if [ "$2" = "$3" ]; then
-        passed=$((passed + 1))
-    else
-        failed=$((failed + 1))
-        echo "failed: $1: wanted $2, found $3"
-    fi
-}
-
 # Waits until this many replies were said.
 await() {
     tries=0

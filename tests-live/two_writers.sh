@@ -33,15 +33,6 @@ acked() {
     grep -a -o 'HTTP/1.1 201 ' "$1" | grep -c .
 }
 
-check() {
-    if [ "$2" = "$3" ]; then
-        passed=$((passed + 1))
-    else
-        failed=$((failed + 1))
-        echo "failed: $1: wanted $2, found $3"
-    fi
-}
-
 # Waits until this many puts of the run are acknowledged.
 await() {
     tries=0
