@@ -151,7 +151,8 @@ kept_preceded old new more month rank none first items =
     (λ before.
     let e : get_or new.rows.items (month - new.first) [] ≡ get_or more (month - new.first) [] =
     ap (λ (l : List (List Numbers)). get_or l (month - new.first) []) items ∙ get_or_append_left more old.rows.items [] (month - new.first) (omega (arith, from, before, first)) in
-    kept_row new month rank (from, omega (arith, before, first, size)) ∙ (ap (λ (l : List Numbers). get_or l rank nothing) e ∙ (none (month - new.first) rank ∙ sym (kept_before old month rank before))))
+    kept_row new month rank (from, omega (arith, before, first, size))
+    ∙ (ap (λ (l : List Numbers). get_or l rank nothing) e ∙ (none (month - new.first) rank ∙ sym (kept_before old month rank before))))
     (λ since. by_less month (old.first + length old.rows.items)
     (λ inside.
     let e : get_or new.rows.items (month - new.first) [] ≡ get_or old.rows.items (month - new.first - length more) [] =

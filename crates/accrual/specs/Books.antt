@@ -27,6 +27,7 @@ pub record Book : Type 0 where
   pub early : List Early
   pub moves : List Move
 
+-- the book of a bucket of which nothing was booked yet
 abbrev pub empty_book : Book
 empty_book = record { stays = []; early = []; moves = [] }
 
@@ -34,24 +35,30 @@ empty_book = record { stays = []; early = []; moves = [] }
 abbrev pub open_stay : List (Class × ℕ) → ℕ → Stay
 open_stay lines from = record { lines = lines; from = from; to = None }
 
+-- a stay from the one moment to the other, at which it ended
 abbrev pub ended_stay : List (Class × ℕ) → ℕ → ℕ → Stay
 ended_stay lines from at = record { lines = lines; from = from; to = Some at }
 
+-- the book with this stay, booked behind all others
 abbrev pub book_with_stay : Stay → Book → Book
 book_with_stay stay book = record book { stays = book.stays ++ stay ∷ [] }
 
+-- the book with this early quantity, booked behind all others
 abbrev pub book_with_early : Early → Book → Book
 book_with_early early book = record book { early = book.early ++ early ∷ [] }
 
+-- the book with this lifecycle transition, booked behind all others
 abbrev pub with_move : Move → Book → Book
 with_move move book = record book { moves = book.moves ++ move ∷ [] }
 
 -- ---- all that is booked has happened at a moment
 
+-- the end of a stay, where it has one, is not after the moment
 abbrev pub HasEndedBy : ℕ → Option ℕ → Type 0
 HasEndedBy t None = Unit {0}
 HasEndedBy t (Some to) = to ≤ t
 
+-- the stay began no later than the moment, and its end, where it has one, is not after it
 abbrev pub IsStayBy : ℕ → Stay → Type 0
 IsStayBy t stay = (stay.from ≤ t) × HasEndedBy t stay.to
 

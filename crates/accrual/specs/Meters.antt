@@ -7,6 +7,7 @@ use Rattle.class_rules.specs.Classes.{rank_of}
 use Rattle.class_rules.specs.declared.class.Class.{Class}
 use Rattle.accrual.specs.Books.{Stay, Early, Move, Book}
 
+-- two storage classes are the same: they have one rank
 abbrev pub same_class : Class → Class → Bool
 same_class a b = rank_of a == rank_of b
 
@@ -25,6 +26,7 @@ meter month class t book =
     sum_by (λ (stay : Stay). bytes_in_class class stay.lines * overlap t (month_start month) (month_end month) stay)
     book.stays
 
+-- the moment lies in the month: its first moment counts, and its end is in the next one
 abbrev pub is_in_month : ℕ → ℕ → Bool
 is_in_month month m = nat_le (month_start month) m && nat_lt m (month_end month)
 

@@ -9,6 +9,7 @@ use Rattle.accrual.specs.Meters.{bytes_in_class}
 use Rattle.accrual.specs.declared.rows.Numbers.{Numbers}
 use Rattle.accrual.specs.declared.rows.Rows.{Rows}
 
+-- what is kept of a class in a month of which nothing was booked
 abbrev pub nothing : Numbers
 nothing = record { ended = 0; running = 0; since = 0; early = 0; moves = 0 }
 
@@ -17,6 +18,7 @@ unfoldable pub kept_in : Rows → ℕ → ℕ → Numbers
 kept_in rows month rank =
     if nat_le rows.first month then get_or (get_or rows.rows.items (month - rows.first) []) rank nothing else nothing
 
+-- the month has a row: it is one of those from the first on, without a gap
 abbrev pub HasRowIn : Rows → ℕ → Type 0
 HasRowIn rows month = (rows.first ≤ month) × (month < rows.first + length rows.rows.items)
 
@@ -68,9 +70,11 @@ pub record IsWithin (less kept : Numbers) : Type 0 where
 abbrev pub in_month : ℕ → ℕ → ℕ → ℕ
 in_month month m n = if m == month then n else 0
 
+-- what a stay of so many bytes adds that begins so many milliseconds after the start of the month
 abbrev pub begun_numbers : ℕ → ℕ → Numbers
 begun_numbers bytes ms = record { ended = 0; running = bytes; since = bytes * ms; early = 0; moves = 0 }
 
+-- what a stay of so many bytes adds that has ended, and lasted so many milliseconds in the month
 abbrev pub ended_numbers : ℕ → ℕ → Numbers
 ended_numbers bytes ms = record { ended = bytes * ms; running = 0; since = 0; early = 0; moves = 0 }
 

@@ -30,6 +30,7 @@ HasAllEnded book = All (λ (stay : Stay). IsFalse (has_no_end stay.to)) book.sta
 abbrev pub HaveRisingMonths : List MonthSums → Type 0
 HaveRisingMonths sums = AllPairs (λ (a b : MonthSums). a.month < b.month) sums
 
+-- the number of a class in a month is 0
 abbrev pub is_zero : ℕ → Bool
 is_zero n = n == 0
 

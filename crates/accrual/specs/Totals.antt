@@ -17,6 +17,7 @@ pub record Totals : Type 0 where
   pub rows : Rows
   pub booked : ℕ
 
+-- what is kept of a class in a month, nothing where the month has no row
 abbrev pub kept : Totals → ℕ → Class → Numbers
 kept totals month class = kept_in totals.rows month (rank_of class)
 
@@ -31,6 +32,7 @@ most_bookings = 3 * 2 ^ 42 + 2 ^ 20
 
 -- ---- what is kept of one stay
 
+-- a stay with this end is open: it has none yet
 abbrev pub has_no_end : Option ℕ → Bool
 has_no_end None = true
 has_no_end (Some to) = false

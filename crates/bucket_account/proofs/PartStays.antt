@@ -1,5 +1,5 @@
 -- A part that is put, and the stay of the one that it replaces.
-use Rattle.std.proofs.Common.{◌≡◌, ℕ, ◌≤◌, List, [], ◌∷◌, map, refl, ap, sym, subst, Bool, true, false, cond, arith}
+use Rattle.std.proofs.Common.{◌≡◌, ℕ, ◌≤◌, List, [], refl, ap, sym, subst, arith}
 use Rattle.std.specs.Prelude.{Option, Some, None}
 use Rattle.accrual.specs.Totals.{Totals, AreTotalsOf, HasOpenStay}
 use Rattle.class_rules.specs.Lines.{part_line}
@@ -8,9 +8,10 @@ use Rattle.uploads.specs.Uploads.{UploadRecord, IsUpload, part_at}
 use Rattle.uploads.specs.declared.part.Part.{Part}
 use Rattle.office_base.specs.Sizes.{largest_size}
 use Rattle.plain_office.specs.Office.{Booked, Books, Item, book_of}
-use Rattle.plain_office.specs.Books.{is_open_stay, with_end}
+use Rattle.plain_office.specs.Books.{with_end}
 use Rattle.office_laws.proofs.Maps.{by_number, found_every}
-use Rattle.office_laws.proofs.Stays.{open_of, after_end}
+use Rattle.office_laws.proofs.OneStay.{none_open_kept}
+use Rattle.office_laws.proofs.Stays.{open_of}
 use Rattle.bucket_account.specs.Booking.{HasRowsFrom}
 use Rattle.bucket_account.specs.Uploading.{HasPartStay, MayEndAt, put_since}
 use Rattle.bucket_account.proofs.Ending.{Ends}
@@ -20,17 +21,8 @@ use Rattle.bucket_account.proofs.Parting.{item_open, item_ended, parts_small}
 -- ---- where no stay is open none ends
 
 module _ (key : List ℕ) (item : Item) (at : ℕ) where
-  kept_at : (stay : Booked) (stays : List Booked) (b : Bool) → is_open_stay key item stay ≡ b → cond b (stay ∷ open_of key item stays) (open_of key item stays) ≡ []
-      → (open_of key item stays ≡ [] → map (after_end key item at) stays ≡ stays) → after_end key item at stay ∷ map (after_end key item at) stays ≡ stay ∷ stays
-  kept_at stay stays true is h more = absurd cc
-  kept_at stay stays false is h more = rw is (ap (λ (l : List Booked). stay ∷ l) (more h))
-
-  all_kept : (stays : List Booked) → open_of key item stays ≡ [] → map (after_end key item at) stays ≡ stays
-  all_kept [] h = refl
-  all_kept (stay ∷ stays) h = kept_at stay stays (is_open_stay key item stay) refl h (all_kept stays)
-
   pub none_ended : (books : Books) → open_of key item books.stays ≡ [] → with_end key item at books ≡ books
-  none_ended books h = ap (λ (stays : List Booked). record books { stays = stays }) (all_kept books.stays h)
+  none_ended books h = ap (λ (stays : List Booked). record books { stays = stays }) (none_open_kept key item at books.stays h)
 
   -- ---- the part that goes
 

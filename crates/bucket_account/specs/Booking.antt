@@ -26,6 +26,7 @@ use Rattle.bucket_account.specs.declared.incoming.Leaving.{Leaving}
 
 -- ---- what is known before a version goes
 
+-- what is known of a version before it goes: since when it has its lines, and the bytes of its tags
 abbrev pub leaving_of : Version → Leaving
 leaving_of version = record { since = lines_since version; tag_bytes = tag_bytes_of version }
 
@@ -34,6 +35,7 @@ abbrev pub leaving_since : ℕ → Option Leaving → ℕ
 leaving_since at None = at
 leaving_since at (Some leaving) = leaving.since
 
+-- since when a version has its lines, or the moment where there is none
 abbrev pub since_option : ℕ → Option Version → ℕ
 since_option at None = at
 since_option at (Some version) = lines_since version
@@ -47,11 +49,12 @@ HasStay key version books =
 abbrev pub HasRowsFrom : ℕ → ℕ → Totals → Type 0
 HasRowsFrom from to meters = (month : ℕ) → month_at from ≤ month → month ≤ month_at to → HasRow meters month
 
--- the same of a version that may not be there
+-- the open stay of a version that may not be there is the one that its record asks for
 abbrev pub MayHaveStay : List ℕ → Option Version → Books → Type 0
 MayHaveStay key None books = Unit {0}
 MayHaveStay key (Some version) books = HasStay key version books
 
+-- rows for all months from when the version has its lines to the moment, where there is a version
 abbrev pub MayHaveRows : Option Version → ℕ → Totals → Type 0
 MayHaveRows None at meters = Unit {0}
 MayHaveRows (Some version) at meters = HasRowsFrom (lines_since version) at meters
@@ -69,6 +72,7 @@ abbrev pub MayCome : Versioning → ℕ → Kind → Type 0
 MayCome versioning at (Object size class tags entered) = entered ≡ at
 MayCome versioning at Marker = versioning ≡ Unversioned → ⊥
 
+-- the version as it comes: with the next number in an Enabled bucket, in another one the null version
 abbrev pub version_of : Incoming → Version
 version_of incoming = new_version (new_id incoming.versioning incoming.number) incoming.kind incoming.at
 
@@ -86,15 +90,17 @@ books_put key incoming gone books =
 abbrev pub bytes_of_kind : Kind → ℕ
 bytes_of_kind kind = tag_bytes_of (new_version Null kind 0)
 
--- the counts after it came with so many bytes of a new key and of tags
+-- how many versions go: 1, or 0 where none does
 abbrev pub gone_versions : Option Leaving → ℕ
 gone_versions None = 0
 gone_versions (Some leaving) = 1
 
+-- the bytes of the tags of the version that goes, 0 where none does
 abbrev pub gone_bytes : Option Leaving → ℕ
 gone_bytes None = 0
 gone_bytes (Some leaving) = leaving.tag_bytes
 
+-- the counts after it came with so many bytes of a new key and of tags, in the place of one that may have gone
 abbrev pub counts_put : ℕ → ℕ → Option Leaving → Counts → Counts
 counts_put key_bytes tag_bytes gone counts = record counts {
   versions = counts.versions + 1 - gone_versions gone;
@@ -107,6 +113,7 @@ counts_put key_bytes tag_bytes gone counts = record counts {
 abbrev pub stack_under : List ℕ → List (List ℕ × StackRecord) → StackRecord
 stack_under key stacks = unwrap_or (at_name key stacks) (new_stack 0)
 
+-- the version that goes where it comes: in a bucket that is not Enabled the null version, if the key has it
 abbrev pub gone_of : List ℕ → Incoming → List (List ℕ × StackRecord) → Option Version
 gone_of key incoming stacks = replaced incoming.versioning (stack_under key stacks).versions
 
@@ -114,6 +121,7 @@ gone_of key incoming stacks = replaced incoming.versioning (stack_under key stac
 abbrev pub new_bytes : List ℕ → List (List ℕ × StackRecord) → ℕ
 new_bytes key stacks = if is_some (at_name key stacks) then 0 else length key
 
+-- the counts after it came under the key, with the key's bytes where the key is new
 abbrev pub counts_after : List ℕ → Incoming → List (List ℕ × StackRecord) → Counts → Counts
 counts_after key incoming stacks counts =
     counts_put (new_bytes key stacks) (bytes_of_kind incoming.kind)
@@ -134,6 +142,7 @@ pub record AreMovable (counts : Counts) (bytes : ℕ) : Type 0 where
 
 -- ---- a version that goes from under a key of these stacks
 
+-- the version that is to go: the one with this id, if the key has it
 abbrev pub taken_of : List ℕ → VersionId → List (List ℕ × StackRecord) → Option Version
 taken_of key id stacks = version_at id (stack_under key stacks).versions
 
@@ -148,6 +157,7 @@ counts_taken key_bytes gone counts = record counts {
   names = counts.names - (key_bytes + gone_bytes gone);
 }
 
+-- the counts after the version with this id went from the stack, and the key with it where it was the only one
 abbrev pub counts_from : List ℕ → VersionId → StackRecord → Counts → Counts
 counts_from key id stack counts =
     counts_taken (lost_bytes key stack.versions) (option_map leaving_of (version_at id stack.versions)) counts
@@ -168,5 +178,6 @@ abbrev pub missing_from : VersionId → Option StackRecord → Option Refusal
 missing_from id None = Some NoSuchKey
 missing_from id (Some stack) = if is_some (version_at id stack.versions) then None else Some NoSuchVersion
 
+-- the same by the stacks of a bucket: no refusal where the version is under the key
 abbrev pub missing : List ℕ → VersionId → List (List ℕ × StackRecord) → Option Refusal
 missing key id stacks = missing_from id (at_name key stacks)

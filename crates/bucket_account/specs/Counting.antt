@@ -16,6 +16,7 @@ pub record AccountRecord : Type 0 where
   pub bucket : BucketRecord
   pub meters : Totals
 
+-- the account of these records and meters
 abbrev pub account_of : BucketRecord → Totals → AccountRecord
 account_of bucket meters = record { bucket = bucket; meters = meters }
 

@@ -35,6 +35,7 @@ CountsTags (Ok before) tags counts (Err refusal) =
 CountsTags (Err refused) tags counts (Ok after) = ⊥
 CountsTags (Err refused) tags counts (Err refusal) = of_stack {X = Counts} (Err refused) ≡ Err refusal
 
+-- the same of the version with this id under a key, refused where the key has no stack
 abbrev pub CountsTagsUnder : VersionId → Option StackRecord → List Tag → Counts → Result Counts Refusal → Type 0
 CountsTagsUnder id None tags counts result = result ≡ Err NoSuchKey
 CountsTagsUnder id (Some stack) tags counts result = CountsTags (tags_at id stack.versions) tags counts result

@@ -1,5 +1,5 @@
 // A bucket in memory: its records, its meters and its running count of versions.
-ghost use Rattle.std.specs.Prelude.{◌≡◌, ◌+◌, ◌*◌, ◌^◌, ◌<◌, ◌≤◌, ℕ, length, OnOk, OnErr, IfOk};
+ghost use Rattle.std.specs.Prelude.{◌≡◌, ◌+◌, ◌^◌, ◌<◌, ◌≤◌, ℕ, length, OnOk, OnErr, IfOk};
 ghost use Rattle.accrual.specs.Books.{Book, IsBookedBy};
 ghost use Rattle.accrual.specs.Totals.{AreTotalsOf};
 ghost use Rattle.plain_office.specs.Office as plain;
@@ -145,6 +145,7 @@ impl Account {
         self.bucket.uploads.len() as u32
     }
 
+    /// Tells whether versioning was never enabled, is enabled or is suspended.
     pub fn versioning(&self) -> Versioning
         ensures { result ≡ self.now.bucket.versioning }
     {

@@ -1,5 +1,5 @@
 // The first lifecycle action that is due is done.
-ghost use Rattle.std.specs.Prelude.{◌≡◌, ◌+◌, ◌<◌, ◌≤◌, ◌∷◌, [], ℕ, Some, Ok, OnOk, OnErr, IfOk};
+ghost use Rattle.std.specs.Prelude.{◌≡◌, ◌+◌, ◌<◌, ◌≤◌, [], ℕ, Some, Ok, OnOk, OnErr, IfOk};
 ghost use Rattle.office_base.specs.Tags.{char_count};
 ghost use Rattle.due_core.specs.Choice.{choice};
 ghost use Rattle.plain_office.specs.Office as plain;

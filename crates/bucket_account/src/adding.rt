@@ -1,5 +1,5 @@
 // A version comes: an object, or a delete marker.
-ghost use Rattle.std.specs.Prelude.{◌≡◌, ◌⊎◌, ◌+◌, ◌^◌, ◌<◌, ◌≤◌, List, [], ℕ, None, option_map, OnOk, OnErr, IfOk};
+ghost use Rattle.std.specs.Prelude.{◌≡◌, ◌⊎◌, ◌+◌, ◌^◌, ◌<◌, ◌≤◌, [], ℕ, None, option_map, OnOk, OnErr, IfOk};
 ghost use Rattle.std.specs.Prelude.{IfErr};
 ghost use Rattle.office_base.specs.Maps.{bytes_cmp, at_name, with_name, Rises};
 ghost use Rattle.stacks.specs.Stacks.{IsFreeNumber, new_stack, replaced};

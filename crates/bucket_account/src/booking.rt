@@ -1,7 +1,6 @@
 // How the coming and going of versions is booked.
 ghost use Rattle.std.specs.Prelude.{◌≡◌, ◌+◌, ◌<◌, ◌≤◌, ℕ, length, OnOk, IfErr};
 ghost use Rattle.class_rules.specs.Lines.{lines_of, object_lines, own_bytes, marker_line};
-ghost use Rattle.moments.specs.Months.{month_at};
 ghost use Rattle.accrual.specs.Books.{Book};
 ghost use Rattle.accrual.specs.Totals.{AreTotalsOf, HasRow, IsBilled, most_bookings};
 ghost use Rattle.plain_office.specs.Office.{Books, book_of};

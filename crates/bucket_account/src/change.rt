@@ -1,5 +1,5 @@
 // What a command does to its bucket.
-ghost use Rattle.std.specs.Prelude.{◌≡◌, ◌+◌, ◌<◌, ◌≤◌, ℕ, OnOk, OnErr, IfOk};
+ghost use Rattle.std.specs.Prelude.{◌≡◌, ◌<◌, ℕ, OnOk, OnErr, IfOk};
 ghost use Rattle.plain_office.specs.Office as plain;
 ghost use Rattle.office_types.specs.Fits.{ReplyFits};
 ghost use Rattle.office_types.specs.declared.reply.Reply.TheVariants.{NothingDue};

@@ -1,5 +1,5 @@
 // A key or a version is deleted.
-ghost use Rattle.std.specs.Prelude.{◌≡◌, ◌+◌, ◌<◌, ◌≤◌, ◌∷◌, [], ℕ, OnOk, OnErr, IfOk, Some, if◌then◌else◌};
+ghost use Rattle.std.specs.Prelude.{◌≡◌, ◌<◌, ◌∷◌, [], ℕ, OnOk, OnErr, IfOk, Some, if◌then◌else◌};
 ghost use Rattle.plain_office.specs.Office as plain;
 ghost use Rattle.plain_office.specs.Step.{is_unversioned, delete, delete_version};
 ghost use Rattle.stacks.specs.declared.version.Versioning.TheVariants.{Unversioned};

@@ -1,5 +1,5 @@
 // An object is put.
-ghost use Rattle.std.specs.Prelude.{◌+◌, ◌<◌, ◌≤◌, ◌∷◌, [], ℕ, OnOk, OnErr, IfOk};
+ghost use Rattle.std.specs.Prelude.{◌<◌, ◌∷◌, [], ℕ, OnOk, OnErr, IfOk};
 ghost use Rattle.plain_office.specs.Office as plain;
 ghost use Rattle.plain_office.specs.Step.{put_object};
 ghost use Rattle.office_types.specs.declared.refusal.What.TheVariants.{Versions, Names};

@@ -2,10 +2,10 @@
 ghost use Rattle.std.specs.Prelude.{◌≡◌, ◌+◌, ◌-◌, ◌<◌, ◌≤◌, ◌^◌, ◌∷◌, [], ℕ, length, None, Some, Ok, OnOk, OnErr};
 ghost use Rattle.std.specs.Prelude.{IfOk, IfErr, IsOk};
 ghost use Rattle.office_base.specs.Maps.{bytes_cmp, at_name, with_name, Rises};
-ghost use Rattle.stacks.specs.Stacks.{StackRecord, tags_of_kind, tags_at, after_tags};
+ghost use Rattle.stacks.specs.Stacks.{tags_of_kind, tags_at, after_tags};
 ghost use Rattle.plain_office.specs.Office as plain;
 ghost use Rattle.plain_office.specs.Counts.{tag_bytes};
-ghost use Rattle.plain_office.specs.Step.{of_stack, set_tags};
+ghost use Rattle.plain_office.specs.Step.{set_tags};
 ghost use Rattle.office_types.specs.declared.refusal.What.TheVariants.{Names};
 ghost use Rattle.office_types.specs.Fits.{ReplyFits};
 ghost use Rattle.bucket_account.specs.Booking.{stack_under};
@@ -13,7 +13,7 @@ ghost use Rattle.bucket_account.specs.Changing.{IsOrderlyAccount, DoesTold};
 ghost use Rattle.bucket_account.specs.Counting.{account_of, AreCountsOver, IsWithinBy, HasGrownBy, IsFewMore};
 ghost use Rattle.bucket_account.specs.Counting.{first_over, IsFullOf};
 ghost use Rattle.bucket_account.specs.Standing.{StandsForAccount, most_commands};
-ghost use Rattle.bucket_account.specs.Tagging.{tags_counted, counts_tagged, AreTaggable, CountsTags, CountsTagsUnder};
+ghost use Rattle.bucket_account.specs.Tagging.{tags_counted, AreTaggable, CountsTags, CountsTagsUnder};
 
 use crate::change::Done;
 use crate::counts::Counts;

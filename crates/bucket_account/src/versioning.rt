@@ -1,5 +1,5 @@
 // The versioning of a bucket is set.
-ghost use Rattle.std.specs.Prelude.{◌≡◌, ◌+◌, ◌<◌, ◌≤◌, ◌∷◌, [], ℕ, OnOk, OnErr, IfOk, if◌then◌else◌};
+ghost use Rattle.std.specs.Prelude.{◌≡◌, ◌<◌, [], ℕ, OnOk, OnErr, IfOk, if◌then◌else◌};
 ghost use Rattle.plain_office.specs.Office as plain;
 ghost use Rattle.plain_office.specs.Step.{is_unversioned, set_versioning};
 ghost use Rattle.office_types.specs.Fits.{ReplyFits};

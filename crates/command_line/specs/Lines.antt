@@ -41,6 +41,7 @@ number_between least most text =
     let n = digits_value 10 text in
     if bytes_eq text (decimal n) && (nat_le least n && nat_le n most) then Some n else None
 
+-- the same from 1 up to the most
 abbrev pub number_to : ℕ → List ℕ → Option ℕ
 number_to most text = number_between 1 most text
 
@@ -53,12 +54,15 @@ number_or default most (Some text) = number_to most text
 abbrev pub most_seed : ℕ
 most_seed = 2 ^ 64 - 1
 
+-- the most commands that a load has (own)
 abbrev pub most_generated : ℕ
 most_generated = 1_000_000
 
+-- the most workers that a server has, or that print stays (own)
 abbrev pub most_workers : ℕ
 most_workers = 64
 
+-- how many workers there are where the words name no number (own)
 abbrev pub default_workers : ℕ
 default_workers = 4
 
@@ -72,12 +76,15 @@ most_connections = 2 ^ 32 - 1
 abbrev pub given : List Row → List ℕ → Option (List ℕ)
 given rows name = first_of name rows
 
+-- how many workers are asked for, where the text is a number in range or the option was not given
 abbrev pub workers_of : List Row → Option ℕ
 workers_of rows = number_or default_workers most_workers (given rows (codes "workers"))
 
+-- after how many connections each worker ends, where the text is a number in range or the option was not given
 abbrev pub connections_of : List Row → Option ℕ
 connections_of rows = number_or most_connections most_connections (given rows (codes "connections"))
 
+-- the service that is asked for, where an address was given and both numbers are in range
 abbrev pub serve_of : List Row → Option Line
 serve_of rows =
     option_and_then (λ listen. option_and_then (λ workers. option_map (λ connections. serve listen workers connections)
@@ -92,14 +99,17 @@ abbrev pub is_set : Option (List ℕ) → Bool
 is_set None = false
 is_set (Some text) = bytes_eq text (codes "true")
 
+-- the report that is asked for, where the text names a month: as text where the flag was given, else as CSV
 abbrev pub report_of : List Row → Option Line
 report_of rows =
     option_map (λ month. report month (is_set (given rows (codes "text"))))
     (option_and_then month_of_text (given rows (codes "month")))
 
+-- the table of stays that is asked for, where the number of workers is in range
 abbrev pub explain_of : List Row → Option Line
 explain_of rows = option_map explain (workers_of rows)
 
+-- the load that is asked for, where both texts are numbers in range, from 0 on
 abbrev pub gen_of : List Row → Option Line
 gen_of rows =
     option_and_then (λ number. option_map (gen number)

@@ -12,6 +12,7 @@ use Rattle.clap.specs.declared.builder.action.ArgAction.TheVariants.{Set, SetTru
 abbrev pub option : Text → Rule
 option name = record (new_rule name) { long = Some name; action = Some Set }
 
+-- such an option that must be given
 abbrev pub needed_option : Text → Rule
 needed_option name = record (option name) { required = true }
 
@@ -27,22 +28,28 @@ flag name = record (new_rule name) { long = Some name; action = Some SetTrue }
 abbrev pub subcommand : Text → List Rule → Shape
 subcommand name rules = record (new_shape name) { rules = rules }
 
+-- the word `init`
 abbrev pub init_words : Shape
 init_words = subcommand (codes "init") []
 
+-- the word `run`
 abbrev pub run_words : Shape
 run_words = subcommand (codes "run") []
 
+-- the words `serve --listen A [--workers N] [--connections K]`
 abbrev pub serve_words : Shape
 serve_words = subcommand (codes "serve")
     (needed_option (codes "listen") ∷ option (codes "workers") ∷ option (codes "connections") ∷ [])
 
+-- the words `report MONTH [--text]`
 abbrev pub report_words : Shape
 report_words = subcommand (codes "report") (needed_word (codes "month") ∷ flag (codes "text") ∷ [])
 
+-- the words `explain [--workers N]`
 abbrev pub explain_words : Shape
 explain_words = subcommand (codes "explain") (option (codes "workers") ∷ [])
 
+-- the words `gen NUMBER COUNT`
 abbrev pub gen_words : Shape
 gen_words = subcommand (codes "gen") (needed_word (codes "number") ∷ needed_word (codes "count") ∷ [])
 

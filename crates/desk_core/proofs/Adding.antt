@@ -23,7 +23,7 @@ use Rattle.desk_core.specs.declared.fault.DeskFault.TheVariants as faults
 use Rattle.desk_core.specs.Answers.{Answer}
 use Rattle.desk_core.specs.Desk.{DeskView, HoldsHistory}
 use Rattle.desk_core.specs.Offices.{StandsAfter}
-use Rattle.desk_core.specs.Answering.{IsAnswerOf, Stays, AddsEntry, AnswersInTime}
+use Rattle.desk_core.specs.Answering.{call_time, IsAnswerOf, Stays, AddsEntry, AnswersInTime}
 use Rattle.desk_core.proofs.Offices.{answer_is, reply_is, taken, more_after, same_after}
 
 -- the end gate behind one entry more
@@ -39,7 +39,7 @@ module _ {D C : Type 0} (d : disks.Ghosts D) where
   abbrev made : ℕ → ℕ → Result Reply Refusal → DeskView D C → Answer
   made t number reply desk = record { moment = t; told = number; reply = reply; position = desk.gate; disk_moment = d.moment desk.disk }
 
-  is_made : (t m number : ℕ) (reply : Result Reply Refusal) (desk : DeskView D C) (said : Answer) → m ≡ t → said ≡ made m number reply desk → IsAnswerOf d.moment t number desk said
+  is_made : (t m number : ℕ) (reply : Result Reply Refusal) (desk : DeskView D C) (said : Answer) → m ≡ t → said ≡ made m number reply desk → IsAnswerOf d.moment (call_time t number) desk said
   is_made t m number reply desk said at same = record {
     moment = ap (λ (a : Answer). a.moment) same ∙ at;
     told = ap (λ (a : Answer). a.told) same;
@@ -51,12 +51,12 @@ module _ {D C : Type 0} (d : disks.Ghosts D) where
   pub seen_so : (t number : ℕ) (command : Command) (bytes : List ℕ) (before : List Entry) (new : DeskView D C) (said : Result Answer DeskFault)
       → {inside desk : DeskView D C} → inside ≡ desk → bytes ≡ spelling (entry_at t command)
       → ((hold : HoldsHistory d before inside) → inside.gate + 6 + length (spelling (entry_at t command)) ≤ inside.limit → IsTrue (is_not_before inside.office.last t)
-      → AnswersInTime d t number (ask.Command command) hold.office.plain before inside new said)
+      → AnswersInTime d (call_time t number) (ask.Command command) hold.office.plain before inside new said)
       → (hold : HoldsHistory d before desk) → desk.gate + 6 + length bytes ≤ desk.limit → IsTrue (is_not_before desk.office.last t)
-      → AnswersInTime d t number (ask.Command command) hold.office.plain before desk new said
+      → AnswersInTime d (call_time t number) (ask.Command command) hold.office.plain before desk new said
   seen_so t number command bytes before new said is spelled does = subst
       (λ (desk : DeskView D C). (hold : HoldsHistory d before desk) → desk.gate + 6 + length bytes ≤ desk.limit → IsTrue (is_not_before desk.office.last t)
-      → AnswersInTime d t number (ask.Command command) hold.office.plain before desk new said) is
+      → AnswersInTime d (call_time t number) (ask.Command command) hold.office.plain before desk new said) is
       (λ hold fits. does hold (omega (arith, fits, ap length spelled)))
 
   module _ (t number : ℕ) (before : List Entry) (old : DeskView D C) (hold : HoldsHistory d before old) where
@@ -76,7 +76,7 @@ module _ {D C : Type 0} (d : disks.Ghosts D) where
 
     module _ (command : Command) where
       abbrev Keeping : DeskView D C → Result Answer DeskFault → Type 0
-      Keeping new said = AnswersInTime d t number (ask.Command command) hold.office.plain before old new said
+      Keeping new said = AnswersInTime d (call_time t number) (ask.Command command) hold.office.plain before old new said
 
       abbrev entry : Entry
       entry = entry_at t command
@@ -92,7 +92,7 @@ module _ {D C : Type 0} (d : disks.Ghosts D) where
         pub added : (mid new : DeskView D C) (reply : Reply) (said : Result Answer DeskFault) → is_accepted (Ok reply) ≡ true → IsTrue (is_not_before old.office.last t)
             → ((p : Office) → StandsForOffice old.office p → Does (step t command p) p mid.office (Ok reply))
             → mid.office.accepted ≡ accepted_after (Ok reply) old.office.accepted → mid.disk ≡ old.disk → new.office ≡ mid.office → new.limit ≡ old.limit
-            → AddsEntry d t number (Ok reply) before entry mid new said → Keeping new said
+            → AddsEntry d (call_time t number) (Ok reply) before entry mid new said → Keeping new said
         added mid new reply (Ok said) accepts later all counted same office limit adds =
             let does = all hold.office.plain hold.office.stands in
             let replied : said.reply ≡ Ok reply = ap (λ (a : Answer). a.reply) adds.0 in

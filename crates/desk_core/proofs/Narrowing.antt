@@ -35,16 +35,13 @@ recoverable_more opened calls more s has image is =
     (front.0, front.1, front.2, most_more calls more front.1 front.3, legal_more opened calls more front.1 front.0 front.3 front.4)
 
 module _ {D : Type 0} {d : disks.Ghosts D} (laws : DiskLaws d) where
-  abbrev Serving : Opened → D → List Call → Type 0
-  Serving = DiskServes d
-
   pub run_more : (opened : Opened) (first disk : D) (calls more : List Call) → KeepsTo d first disk (Recoverable opened calls) → KeepsTo d first disk (Recoverable opened (calls ++ more))
   run_more opened first disk calls more run =
       weakened (Recoverable opened (calls ++ more)) run (recoverable_more opened calls more)
 
   -- ---- a disk with fewer images
 
-  module _ (opened : Opened) (old new : D) (calls : List Call) (serves : Serving opened old calls) (run : KeepsTo d old new (Narrower (d.state old))) where
+  module _ (opened : Opened) (old new : D) (calls : List Call) (serves : DiskServes d opened old calls) (run : KeepsTo d old new (Narrower (d.state old))) where
     old_now : (image : List ℕ) (t : ℕ) → opened.moment ≤ t → t ≤ d.moment old → IsImage (d.state old).journal image → Recovers opened calls t image
     old_now image t since le is = serves.left t (d.state old) image since le (laws.counts_now old t le) is
 
@@ -94,7 +91,7 @@ module _ {D : Type 0} {d : disks.Ghosts D} (laws : DiskLaws d) where
           (λ narrow. steady_old t (d.state old) image h since le (laws.counts_now old t le) (narrow.journal image is) stands image_now now is_now stands_now) (run.before t s le had)
     ]
 
-    pub narrowed : d.fault_count old ≤ d.fault_count new → Serving opened new calls
+    pub narrowed : d.fault_count old ≤ d.fault_count new → DiskServes d opened new calls
     narrowed counts = record {
       later = omega (arith, serves.later, run.later);
       left = λ t s image since le had is. left_narrower t s image since had is;
@@ -115,7 +112,7 @@ module _ {D : Type 0} {d : disks.Ghosts D} (laws : DiskLaws d) where
 
   -- ---- a call that changes nothing
 
-  module _ (opened : Opened) (disk : D) (calls : List Call) (call : Call) (serves : Serving opened disk calls) (no_answer : (answer : Answer) → call.said ≡ Ok answer → ⊥) where
+  module _ (opened : Opened) (disk : D) (calls : List Call) (call : Call) (serves : DiskServes d opened disk calls) (no_answer : (answer : Answer) → call.said ≡ Ok answer → ⊥) where
     before_it : (place : ℕ) (answer : Answer) → IsAckedAt (calls ++ call ∷ []) place answer → IsAckedAt calls place answer
     before_it place answer is = ⊎_elim (λ old_one. old_one) (λ this. absurd (no_answer answer this)) (acked_split calls call place answer is)
 
@@ -130,7 +127,7 @@ module _ {D : Type 0} {d : disks.Ghosts D} (laws : DiskLaws d) where
     }
 
     pub idle : ((history : List Entry) → HasImageOf (d.state disk) history → Legal true opened.limit (last_faults opened.faults calls) (call ∷ []) history history)
-        → IsToldBy (d.fault_count disk) call.said → Serving opened disk (calls ++ call ∷ [])
+        → IsToldBy (d.fault_count disk) call.said → DiskServes d opened disk (calls ++ call ∷ [])
     idle stays told = record {
       later = serves.later;
       left = λ t s image since le had is. recovers_idle t image (serves.left t s image since le had is);

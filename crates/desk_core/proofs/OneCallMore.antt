@@ -158,13 +158,10 @@ told_more [] call before now le all here = (here, tt)
 told_more (c ∷ calls) call before now le all here = (told_later c.said before now le all.0, told_more calls call before now le all.1 here)
 
 module _ {D : Type 0} {d : disks.Ghosts D} (laws : DiskLaws d) where
-  abbrev Serving : Opened → D → List Call → Type 0
-  Serving = DiskServes d
-
   abbrev Making : D → D → ℕ → ℕ → Call → Type 0
   Making = Makes d
 
-  module _ (opened : Opened) (old new : D) (calls : List Call) (call : Call) (serves : Serving opened old calls) (makes : Making old new opened.limit (last_faults opened.faults calls) call) where
+  module _ (opened : Opened) (old new : D) (calls : List Call) (call : Call) (serves : DiskServes d opened old calls) (makes : Making old new opened.limit (last_faults opened.faults calls) call) where
     abbrev all : List Call
     all = calls ++ call ∷ []
 
@@ -330,7 +327,7 @@ module _ {D : Type 0} {d : disks.Ghosts D} (laws : DiskLaws d) where
     pub recoverable : KeepsTo d old new (Recoverable opened all)
     recoverable = weakened (Recoverable opened all) makes.run recoverable_in
 
-    pub one_more : Serving opened new all
+    pub one_more : DiskServes d opened new all
     one_more = record {
       later = omega (arith, serves.later, makes.run.later);
       left = λ t s image since le had is. elim (cases_lt t (d.moment new)) [
@@ -350,7 +347,7 @@ module _ {D : Type 0} {d : disks.Ghosts D} (laws : DiskLaws d) where
   -- at the return of an opening whose disk has one history
   pub starts : (opened : Opened) (disk : D) → IsSound (d.state disk)
       → ((image : List ℕ) (history : List Entry) → IsImage (d.state disk).journal image → HasAcceptedHistory history image → history ≡ opened.history)
-      → opened.moment ≡ d.moment disk → opened.faults ≡ d.fault_count disk → Serving opened disk []
+      → opened.moment ≡ d.moment disk → opened.faults ≡ d.fault_count disk → DiskServes d opened disk []
   starts opened disk sound one at counts = record {
     later = omega (arith, at);
     left = λ t s image since le had is.

@@ -1,6 +1,7 @@
 -- A journal that was opened, and the desk over it.
 use Rattle.std.proofs.Common.{◌≡◌, ℕ, ◌≤◌, ◌^◌, false, length, Result, Ok, Err, refl, sym, ap, ◌∙◌, subst, arith}
 use Rattle.std.specs.Prelude.{IsTrue, OnOk, IfErr, IsErrOf}
+use Rattle.std.proofs.lemmas.Bool.{both_ways}
 use Rattle.disk_core.specs.declared.disk.Disk as disks
 use Rattle.disk_core.specs.declared.disk.FileNo.TheVariants.{Journal}
 use Rattle.disk_core.specs.Files.{State, File, synced_file}
@@ -20,7 +21,6 @@ use Rattle.desk_core.specs.Desk.{DeskView}
 use Rattle.desk_core.specs.Opening.{Opens, opened_with}
 use Rattle.desk_core.proofs.Serving.{rest_image, unique}
 use Rattle.desk_core.proofs.OneCallMore.{starts}
-use Rattle.desk_core.proofs.Standing.{still_true}
 
 pub on_done : {P Q : Type 0} (r : Result Unit OpenFault) → (P → Q) → OnOk r P → OnOk r Q
 on_done (Ok x) f p = f p
@@ -70,7 +70,7 @@ module _ {D C : Type 0} {d : disks.Ghosts D} (laws : DiskLaws d) where
       limit = refl;
       faults = (omega arith, tt);
       holds = λ _. (again.history, refl, again.holds);
-      lost = λ not is. absurd (still_true office.stale is fresh);
+      lost = λ not is. absurd (both_ways office.stale fresh is);
       serves = λ tells. starts laws (opened_with d again.history office) office.disk
           (λ image is. (again.history, rest_image (d.state office.disk) office.gate again.history again.holds.office.plain (again.holds.at_rest tells) again.holds.office.is_run image is))
           (λ image history is other. unique history again.history image other (each_image header (d.state office.disk) office.gate again.history (again.holds.at_rest tells) image is)) refl refl;

@@ -1,6 +1,7 @@
 -- A stale desk that opens its journal again stands for the calls that it stood for, and one that cannot for one call more.
 use Rattle.std.proofs.Common.{◌≡◌, ◌⊎◌, inl, inr, ℕ, ◌≤◌, Bool, true, false, List, [], ◌∷◌, ◌++◌, Some, None, Option, Result, Ok, Err, refl, sym, ◌∙◌, subst, arith}
 use Rattle.std.specs.Prelude.{IsTrue, IsSome}
+use Rattle.std.proofs.lemmas.Bool.{both_ways}
 use Rattle.office_base.specs.Faults.{Rose}
 use Rattle.disk_core.specs.declared.disk.Disk as disks
 use Rattle.disk_core.specs.declared.disk.FileNo.TheVariants.{Journal}
@@ -30,11 +31,11 @@ use Rattle.desk_core.proofs.Damage.{opens as never_fails}
 use Rattle.desk_core.proofs.Serving.{one_legal, rose_later, last_below, some_run}
 use Rattle.desk_core.proofs.Narrowing.{narrowed, narrowed_run, idle, recoverable_more, run_more, told_all}
 use Rattle.desk_core.proofs.OneCallMore.{last_faults, legal_append, told_more}
-use Rattle.desk_core.proofs.Standing.{StandsAt, still_true, submitted}
+use Rattle.desk_core.proofs.Standing.{StandsAt, submitted}
 
 run_some : {P : Type 0} (o : Option Office) → IsSome o → ((p : Office) → o ≡ Some p → P) → P
 run_some (Some p) is f = f p refl
-run_some None is f = absurd (still_true false is refl)
+run_some None is f = absurd (both_ways false refl is)
 
 -- the run of a history
 run_of : {P : Type 0} (history : List Entry) → IsSome (run history) → ((p : Office) → run history ≡ Some p → P) → P
@@ -122,7 +123,7 @@ module _ {D C : Type 0} {d : disks.Ghosts D} (laws : DiskLaws d) where
         stands = record {
           limit = goes.stands.limit;
           faults = goes.stands.faults;
-          holds = λ fine. absurd (still_true true refl fine);
+          holds = λ fine. absurd (both_ways true fine refl);
           lost = λ not is history some. legal_append d.honest opened.limit opened.faults calls (call_of faults.NoMemory ∷ []) opened.history history history (s.lost not stale history some)
               (kept_by d.honest (call_of faults.NoMemory) (λ p h. refl) history some);
           serves = goes.stands.serves;
@@ -150,7 +151,7 @@ module _ {D C : Type 0} {d : disks.Ghosts D} (laws : DiskLaws d) where
           stands = record {
             limit = same_limit ∙ s.limit;
             faults = (omega (arith, later, s.faults.0), told_more calls call (d.fault_count desk.disk) (d.fault_count new.disk) later s.faults.1 told);
-            holds = λ fine. absurd (still_true new.stale stays fine);
+            holds = λ fine. absurd (both_ways new.stale fine stays);
             lost = λ not is history some. legal_append d.honest opened.limit opened.faults calls (call ∷ []) opened.history history history
                 (s.lost not stale history some) (kept_by d.honest call legal history some);
             serves = λ tells. idle laws opened new.disk calls call

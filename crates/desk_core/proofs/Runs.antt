@@ -2,6 +2,7 @@
 use Rattle.std.proofs.Common.{◌≡◌, ℕ, Bool, true, false, List, [], take, refl, ap, ◌∙◌, subst, arith}
 use Rattle.std.specs.Prelude.{IsTrue}
 use Rattle.std.specs.Io.KnownBytes.{Appends}
+use Rattle.std.proofs.lemmas.Bool.{both_ways}
 use Rattle.disk_core.specs.declared.disk.Disk as disks
 use Rattle.disk_core.specs.declared.disk.FileNo.TheVariants.{Journal}
 use Rattle.disk_core.proofs.Laws.{DiskLaws}
@@ -23,7 +24,6 @@ use Rattle.desk_core.specs.TurnLaws.{by_honesty, honest_legal}
 use Rattle.desk_core.proofs.Following.{Path, Followed, follow, numbers_told, stale_is}
 use Rattle.desk_core.proofs.Serving.{rest_image, some_run}
 use Rattle.desk_core.proofs.OneCallMore.{calls_grow}
-use Rattle.desk_core.proofs.Standing.{still_true}
 
 module _ {D C : Type 0} {d : disks.Ghosts D} (laws : DiskLaws d) (k : clocks.Ghosts C) where
   -- a history to which the calls lead, and which the desk holds if it is not stale
@@ -40,9 +40,9 @@ module _ {D C : Type 0} {d : disks.Ghosts D} (laws : DiskLaws d) (k : clocks.Gho
         recovers.history,
         honest_legal d.honest opened.limit opened.faults calls opened.history recovers.history tells
             (serves.whole seen recovers.history own recovers.has),
-        λ fresh. absurd (still_true desk.stale stale fresh),
+        λ fresh. absurd (both_ways desk.stale fresh stale),
       ))
-      (λ not. ([], s.lost not stale [] (some_run [] empty_office run_none), λ fresh. absurd (still_true desk.stale stale fresh)))
+      (λ not. ([], s.lost not stale [] (some_run [] empty_office run_none), λ fresh. absurd (both_ways desk.stale fresh stale)))
 
   led : (opened : Opened) (calls : List Call) (desk : DeskView D C) → StandsFor d opened calls desk → Led opened calls desk
   led opened calls desk s = by_bool desk.stale (λ stale. led_stale opened calls desk s stale) (λ fresh. let h = s.holds fresh in (h.0, h.1, λ _. h.2))

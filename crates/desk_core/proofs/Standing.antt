@@ -1,6 +1,7 @@
 -- The list of calls that a desk stands for grows by each call.
 use Rattle.std.proofs.Common.{◌≡◌, inl, inr, ⊎_elim, ℕ, ◌+◌, ◌<◌, ◌≤◌, Bool, true, false, List, [], ◌∷◌, ◌++◌, length, Some, None, Option, Result, Ok, Err, refl, sym, ap, ◌∙◌, subst, arith}
 use Rattle.std.specs.Prelude.{IsTrue}
+use Rattle.std.proofs.lemmas.Bool.{both_ways}
 use Rattle.office_base.specs.Faults.{Rose}
 use Rattle.moments.specs.Time.{end_of_time}
 use Rattle.disk_core.specs.declared.disk.Disk as disks
@@ -28,7 +29,7 @@ use Rattle.desk_core.specs.Calls.{Legal, IsLegal, IsReply, IsFull, IsKeptAt, mom
 use Rattle.desk_core.specs.Serving.{Opened, IsToldBy, AreToldBy, KeepsSlots, DiskServes}
 use Rattle.desk_core.specs.Submitting.{PassesLimit}
 use Rattle.desk_core.specs.Desk.{DeskView, HoldsHistory, GoesOn, stale_after}
-use Rattle.desk_core.specs.Answering.{IsAnswerOf, Grows, StoreFails, IsDoneAt, HasFailed, AnswersInTime, AnswersEnded, AnswersAt, AnswersAsk}
+use Rattle.desk_core.specs.Answering.{call_time, IsAnswerOf, Grows, StoreFails, IsDoneAt, HasFailed, AnswersInTime, AnswersEnded, AnswersAt, AnswersAsk}
 use Rattle.desk_core.proofs.Serving.{one_legal, rose_later, last_below, unique, makes_still, makes_grown, makes_failed}
 use Rattle.desk_core.proofs.OneCallMore.{last_faults, IsKept, Makes, one_more, recoverable, legal_append, told_more}
 
@@ -38,13 +39,9 @@ full_at : (t gate limit : ℕ) (question : Ask) (before : List Entry) → gate �
 full_at t gate limit (ask.Command command) before is_end passes = λ fits. omega (arith, is_end, passes.1, same_length t 0 command, fits)
 full_at t gate limit (ask.Query query) before is_end passes = absurd passes
 
-pub still_true : (b : Bool) → b ≡ true → b ≡ false → ⊥
-still_true true is not = absurd cc
-still_true false is not = absurd cc
-
 module _ {D : Type 0} {C : Type 0} (d : disks.Ghosts D) where
   module _ (b : Bool) (limit counted t number : ℕ) (question : Ask) (office : Office) (said : Answer) (before after : List Entry) (new : DeskView D C)
-      (at : t ≡ moment_after number office.last) (made : IsAnswerOf d.moment t number new said) (end : new.gate ≡ end_gate header after) where
+      (at : t ≡ moment_after number office.last) (made : IsAnswerOf d.moment (call_time t number) new said) (end : new.gate ≡ end_gate header after) where
     at_moment : said.moment ≡ moment_after said.told office.last
     at_moment = made.moment ∙ at ∙ ap (λ (n : ℕ). moment_after n office.last) (sym made.told)
 
@@ -139,12 +136,12 @@ module _ {D C : Type 0} {d : disks.Ghosts D} (laws : DiskLaws d) where
         → (IsTrue d.honest → IsKept d new.disk call.said) → Next call
     still_by call fine same holds legal told kept =
         let rule : (b : Bool) → Legal b opened.limit last (call ∷ []) s.history s.history = λ b. one_legal b opened.limit last call s.history s.history plain held.office.is_run (legal b) in
-        grown_by call s.history rule (λ _. holds) (λ not is. absurd (still_true (stale_after false call.said) is fine)) told
+        grown_by call s.history rule (λ _. holds) (λ not is. absurd (both_ways (stale_after false call.said) fine is)) told
         (λ _. subst (λ (z : D). KeepsTo d old.disk z (KeepsSlots (d.state old.disk))) (sym same) (started d old.disk (KeepsSlots (d.state old.disk)) (laws.only_now old.disk) (refl, refl))) (λ tells.
         makes_still laws old.disk old.gate s.history plain (held.at_rest tells) held.office.is_run
         (laws.reads_image tells old.disk Journal) opened.limit last call new.disk same (rule true) (kept tells) told)
 
-    kept_at : (after : List Entry) (t number : ℕ) (said : Answer) → HoldsHistory d after new → IsAnswerOf d.moment t number new said
+    kept_at : (after : List Entry) (t number : ℕ) (said : Answer) → HoldsHistory d after new → IsAnswerOf d.moment (call_time t number) new said
         → IsTrue d.honest → IsKept d new.disk (Ok said)
     kept_at after t number said holds made tells = (
       made.disk_moment,
@@ -161,18 +158,18 @@ module _ {D C : Type 0} {d : disks.Ghosts D} (laws : DiskLaws d) where
       at_plain = at ∙ ap (λ (o : Option ℕ). moment_after number o) held.office.stands.last
 
       -- an answer with which nothing was written
-      answered_still : (question : Ask) (said : Answer) → IsAnswerOf d.moment t number new said → new.disk ≡ old.disk → HoldsHistory d s.history new
+      answered_still : (question : Ask) (said : Answer) → IsAnswerOf d.moment (call_time t number) new said → new.disk ≡ old.disk → HoldsHistory d s.history new
           → ((b : Bool) → IsLegal b opened.limit last question (Ok said) plain s.history s.history) → Next (asked question (Ok said))
       answered_still question said made disk holds legal = still_by (asked question (Ok said)) refl disk holds legal tt (kept_at s.history t number said holds made)
 
-      ended_call : (question : Ask) (said : Result Answer DeskFault) → end_of_time ≤ t → AnswersEnded d t number s.history old new said → Next (asked question said)
+      ended_call : (question : Ask) (said : Result Answer DeskFault) → end_of_time ≤ t → AnswersEnded d (call_time t number) s.history old new said → Next (asked question said)
       ended_call question (Ok said) past ended =
           answered_still question said ended.0 ended.2.disk ended.2.holds
           (λ b. past_end d b opened.limit last t number question plain said s.history s.history new at_plain ended.0 ended.2.holds.end past ended.1 refl)
       ended_call question (Err fault) past ended = absurd ended
 
       module _ (lt : t < end_of_time) where
-        abbrev legal_at : (question : Ask) (said : Answer) (after : List Entry) → IsAnswerOf d.moment t number new said → new.gate ≡ end_gate header after
+        abbrev legal_at : (question : Ask) (said : Answer) (after : List Entry) → IsAnswerOf d.moment (call_time t number) new said → new.gate ≡ end_gate header after
             → IsReply opened.limit t question plain said.reply s.history after → (b : Bool) → IsLegal b opened.limit last question (Ok said) plain s.history after
         legal_at question said after made end is b = answered d b opened.limit last t number question plain said s.history after new at_plain made end lt is
 
@@ -183,14 +180,14 @@ module _ {D C : Type 0} {d : disks.Ghosts D} (laws : DiskLaws d) where
           room : old.gate + 6 + length (spelling e) ≤ old.limit → end_gate header s.history + 6 + length (spelling e) ≤ opened.limit
           room fits = omega (arith, fits, held.end, s.limit)
 
-          grown : (said : Answer) → IsAnswerOf d.moment t number new said → said.reply ≡ (step t command plain).1 → old.gate + 6 + length (spelling e) ≤ old.limit → IsTrue (is_accepted said.reply)
-              → Grows d s.history e old new → Next (asked (ask.Command command) (Ok said))
+          grown : (said : Answer) → IsAnswerOf d.moment (call_time t number) new said → said.reply ≡ (step t command plain).1
+              → old.gate + 6 + length (spelling e) ≤ old.limit → IsTrue (is_accepted said.reply) → Grows d s.history e old new → Next (asked (ask.Command command) (Ok said))
           grown said made reply fits accepted grows =
               let call = asked (ask.Command command) (Ok said) in
               let after = s.history ++ e ∷ [] in
               let rule : (b : Bool) → Legal b opened.limit last (call ∷ []) s.history after = λ b. one_legal b opened.limit last call s.history after plain held.office.is_run
               (legal_at (ask.Command command) said after made grows.holds.end (reply, inl (accepted, refl), room fits) b) in
-              grown_by call after rule (λ _. grows.holds) (λ not is. absurd (still_true false is refl)) tt (λ tells. adding_keeps s.history e (grows.run tells)) (λ tells.
+              grown_by call after rule (λ _. grows.holds) (λ not is. absurd (both_ways false refl is)) tt (λ tells. adding_keeps s.history e (grows.run tells)) (λ tells.
               makes_grown laws old.disk old.gate s.history plain (held.at_rest tells) held.office.is_run (laws.reads_image tells old.disk Journal) opened.limit last call
               e grows.holds.office.plain grows.holds.office.is_run (rule true) new.disk new.gate (grows.run tells) (grows.holds.at_rest tells)
               (kept_at after t number said grows.holds made tells) (later, tt))
@@ -208,14 +205,14 @@ module _ {D C : Type 0} {d : disks.Ghosts D} (laws : DiskLaws d) where
               subst (λ (m : ℕ). (m < end_of_time) × IsTrue (is_accepted (step m command plain).1) × (s.history ++ e ∷ [] ≡ s.history ++ entry_at m command ∷ [])) at_plain (lt, accepted, refl) in
               let kept = one_legal true opened.limit last call s.history (s.history ++ e ∷ []) plain held.office.is_run (tt, rose, λ _. inr there) in
               let told : IsToldBy (d.fault_count new.disk) call.said = omega (arith, is) in
-              grown_by call s.history rule (λ not. absurd (still_true true refl not)) (λ not _ history.
+              grown_by call s.history rule (λ not. absurd (both_ways true not refl)) (λ not _ history.
               one_legal d.honest opened.limit last call s.history history plain held.office.is_run
               (tt, rose, λ tells. absurd (not tells))) told
               (λ tells. adding_keeps s.history e (fails.run tells)) (λ tells.
               makes_failed laws old.disk old.gate s.history plain (held.at_rest tells) held.office.is_run (laws.reads_image tells old.disk Journal) opened.limit last call
               e fails.next.0 (run_more s.history e plain fails.next.0 held.office.is_run fails.next.1) kept new.disk (rule true) (fails.run tells) tt (later, told))
 
-        done : (question : Ask) (said : Answer) → IsAnswerOf d.moment t number new said → IsDoneAt d t question plain s.history old new said.reply
+        done : (question : Ask) (said : Answer) → IsAnswerOf d.moment (call_time t number) new said → IsDoneAt d t question plain s.history old new said.reply
             → Next (asked question (Ok said))
         done (ask.Command command) said made is = ⊎_elim (λ grew. grown command said made is.0 is.1 grew.0 grew.1)
             (λ stayed. answered_still (ask.Command command) said made stayed.1.disk stayed.1.holds
@@ -228,7 +225,7 @@ module _ {D C : Type 0} {d : disks.Ghosts D} (laws : DiskLaws d) where
         failed_call (ask.Command command) count is fails = failed command count is fails
         failed_call (ask.Query query) count is fails = absurd fails
 
-        kept_call : (question : Ask) (said : Result Answer DeskFault) → AnswersInTime d t number question plain s.history old new said → Next (asked question said)
+        kept_call : (question : Ask) (said : Result Answer DeskFault) → AnswersInTime d (call_time t number) question plain s.history old new said → Next (asked question said)
         kept_call question (Ok said) keeps = done question said keeps.0 keeps.1
         kept_call question (Err (faults.StoreFault (Some told) count)) keeps =
             subst (λ (n : ℕ). Next (asked question (Err (faults.StoreFault (Some n) count)))) (sym keeps.0) (failed_call question count keeps.1 keeps.2)
@@ -239,7 +236,7 @@ module _ {D C : Type 0} {d : disks.Ghosts D} (laws : DiskLaws d) where
         kept_call question (Err (faults.Broken fault)) keeps = absurd keeps
         kept_call question (Err faults.NoMemory) keeps = still_by (asked question (Err faults.NoMemory)) refl keeps.disk keeps.holds (λ b. refl) tt (λ tells. tt)
 
-      pub answers_call : (question : Ask) (said : Result Answer DeskFault) → AnswersAt d t number question plain s.history old new said → Next (asked question said)
+      pub answers_call : (question : Ask) (said : Result Answer DeskFault) → AnswersAt d (call_time t number) question plain s.history old new said → Next (asked question said)
       answers_call question said (inl in_time) = kept_call in_time.0 question said in_time.1
       answers_call question said (inr past) = ended_call question said past.0 past.1
 

@@ -3,6 +3,7 @@ use Rattle.std.proofs.Common.{◌≡◌, ◌⊎◌, inl, inr, ⊎_elim, ℕ, ◌
 use Rattle.std.proofs.Common.{refl, sym, ap, ◌∙◌, subst, arith}
 use Rattle.std.specs.Prelude.{IsTrue}
 use Rattle.std.specs.Io.KnownBytes.{Appends}
+use Rattle.std.proofs.lemmas.Bool.{both_ways}
 use Rattle.office_base.specs.Faults.{Rose}
 use Rattle.moments.specs.Time.{end_of_time}
 use Rattle.disk_core.specs.declared.disk.Disk as disks
@@ -29,24 +30,23 @@ use Rattle.desk_core.specs.Answers.{Answer}
 use Rattle.desk_core.specs.Calls.{moment_after}
 use Rattle.desk_core.specs.Submitting.{LeavesDisk, HasStoreReason, IsAcceptedAt, PassesLimit, IsClockEnd, KeepsOrAdds, HasCauses, IsOffice, IsUnopened}
 use Rattle.desk_core.specs.Desk.{DeskView, HoldsHistory, IsReady, IsLast, IsStamped, TellsFault, stale_after}
-use Rattle.desk_core.specs.Answering.{IsDoneAt, HasFailed, AnswersInTime, AnswersAt, AnswersAsk}
+use Rattle.desk_core.specs.Answering.{call_time, IsDoneAt, HasFailed, AnswersInTime, AnswersAt, AnswersAsk}
 use Rattle.plain_office.proofs.Runs.{run_more}
 use Rattle.meter_journal.specs.History.{header, HasEntries, BeforeOrAfter}
 use Rattle.desk_core.specs.Histories.{IsSound}
 use Rattle.desk_core.specs.Numbers.{IsNumber}
 use Rattle.desk_core.proofs.Serving.{rest_image, some_run}
-use Rattle.desk_core.proofs.Standing.{still_true}
 
 accepted_not : (reply : Result Reply Refusal) → IsTrue (is_accepted reply) → is_accepted reply ≡ false → ⊥
-accepted_not reply is not = still_true (is_accepted reply) is not
+accepted_not reply is not = both_ways (is_accepted reply) not is
 
 module _ {D : Type 0} {C : Type 0} (d : disks.Ghosts D)
     (t number : ℕ) (question : Ask) (office : Office) (before : List Entry) (old new : DeskView D C) where
   abbrev Kept : Result Answer DeskFault → Type 0
-  Kept said = AnswersInTime d t number question office before old new said
+  Kept said = AnswersInTime d (call_time t number) question office before old new said
 
   abbrev Asked : Result Answer DeskFault → Type 0
-  Asked said = AnswersAt d t number question office before old new said
+  Asked said = AnswersAt d (call_time t number) question office before old new said
 
   -- ---- the answer's numbers
 
@@ -108,14 +108,14 @@ module _ {D : Type 0} {C : Type 0} (d : disks.Ghosts D)
   ended_leaves (ask.Command command) said same = λ not. same
   ended_leaves (ask.Query query) said same = same
 
-  kept_leaves : (question : Ask) (said : Result Answer DeskFault) → AnswersInTime d t number question office before old new said → LeavesDisk said question old.disk new.disk
+  kept_leaves : (question : Ask) (said : Result Answer DeskFault) → AnswersInTime d (call_time t number) question office before old new said → LeavesDisk said question old.disk new.disk
   kept_leaves question (Ok said) keeps = done_leaves question said keeps.1
   kept_leaves question (Err (faults.StoreFault told count)) keeps = tt
   kept_leaves question (Err faults.JournalFull) keeps = keeps.1.disk
   kept_leaves question (Err (faults.Broken fault)) keeps = absurd keeps
   kept_leaves question (Err faults.NoMemory) keeps = keeps.disk
 
-  pub leaves : (question : Ask) (said : Result Answer DeskFault) → AnswersAt d t number question office before old new said → LeavesDisk said question old.disk new.disk
+  pub leaves : (question : Ask) (said : Result Answer DeskFault) → AnswersAt d (call_time t number) question office before old new said → LeavesDisk said question old.disk new.disk
   leaves question said (inl in_time) = kept_leaves question said in_time.1
   leaves question (Ok said) (inr past) = ended_leaves question said past.1.2.disk
   leaves question (Err fault) (inr past) = absurd past.1
@@ -128,7 +128,7 @@ module _ {D : Type 0} {C : Type 0} (d : disks.Ghosts D)
   done_quiet (ask.Command command) said is = ⊎_elim (λ grew. grew.1.quiet) (λ stayed. same_count stayed.1.disk) is.2
   done_quiet (ask.Query query) said is = same_count is.1.disk
 
-  answered_quiet : (question : Ask) (said : Answer) → AnswersAt d t number question office before old new (Ok said) → d.fault_count new.disk ≡ d.fault_count old.disk
+  answered_quiet : (question : Ask) (said : Answer) → AnswersAt d (call_time t number) question office before old new (Ok said) → d.fault_count new.disk ≡ d.fault_count old.disk
   answered_quiet question said (inl in_time) = done_quiet question said in_time.1.1
   answered_quiet question said (inr past) = same_count past.1.2.disk
 
@@ -136,7 +136,7 @@ module _ {D : Type 0} {C : Type 0} (d : disks.Ghosts D)
   failed_reason (ask.Command command) lt fails = (fails.rose, (lt, fails.accepted))
   failed_reason (ask.Query query) lt fails = absurd fails
 
-  pub reason : (question : Ask) (said : Result Answer DeskFault) → t ≡ moment_after number old.office.last → AnswersAt d t number question office before old new said
+  pub reason : (question : Ask) (said : Result Answer DeskFault) → t ≡ moment_after number old.office.last → AnswersAt d (call_time t number) question office before old new said
       → HasStoreReason said question old.office (d.fault_count old.disk) (d.fault_count new.disk)
   reason question (Ok said) at answers = answered_quiet question said answers
   reason question (Err (faults.StoreFault (Some told) count)) at answers =
@@ -158,15 +158,15 @@ module _ {D : Type 0} {C : Type 0} (d : disks.Ghosts D)
   done_holds (ask.Command command) said is = ⊎_elim (λ grew. (before ++ entry_at t command ∷ [], grew.1.holds)) (λ stayed. (before, stayed.1.holds)) is.2
   done_holds (ask.Query query) said is = (before, is.1.holds)
 
-  kept_holds : (question : Ask) (said : Result Answer DeskFault) → stale_after false said ≡ false → AnswersInTime d t number question office before old new said
+  kept_holds : (question : Ask) (said : Result Answer DeskFault) → stale_after false said ≡ false → AnswersInTime d (call_time t number) question office before old new said
       → (history : List Entry) × HoldsHistory d history new
   kept_holds question (Ok said) fine keeps = done_holds question said keeps.1
-  kept_holds question (Err (faults.StoreFault told count)) fine keeps = absurd (still_true true refl fine)
+  kept_holds question (Err (faults.StoreFault told count)) fine keeps = absurd (both_ways true fine refl)
   kept_holds question (Err faults.JournalFull) fine keeps = (before, keeps.1.holds)
   kept_holds question (Err (faults.Broken fault)) fine keeps = absurd keeps
   kept_holds question (Err faults.NoMemory) fine keeps = (before, keeps.holds)
 
-  pub ready_on : (question : Ask) (said : Result Answer DeskFault) → stale_after false said ≡ false → AnswersAt d t number question office before old new said
+  pub ready_on : (question : Ask) (said : Result Answer DeskFault) → stale_after false said ≡ false → AnswersAt d (call_time t number) question office before old new said
       → (history : List Entry) × HoldsHistory d history new
   ready_on question said fine (inl in_time) = kept_holds question said fine in_time.1
   ready_on question (Ok said) fine (inr past) = (before, past.1.2.holds)
@@ -192,7 +192,7 @@ module _ {D : Type 0} {C : Type 0} (d : disks.Ghosts D)
       ((fails.run tells).now.journal image is)
   failed_sound (ask.Query query) fails tells = absurd fails
 
-  pub sound_on : (question : Ask) (said : Result Answer DeskFault) → AnswersAt d t number question hold.office.plain before old new said → IsTrue d.honest → IsSound (d.state new.disk)
+  pub sound_on : (question : Ask) (said : Result Answer DeskFault) → AnswersAt d (call_time t number) question hold.office.plain before old new said → IsTrue d.honest → IsSound (d.state new.disk)
   sound_on question (Ok said) answers tells =
       let on = ready_on d t number hold.office.plain before old new question (Ok said) refl answers in
       holds_sound d on.0 new on.1 tells
@@ -243,7 +243,7 @@ module _ {D C : Type 0} {d : disks.Ghosts D} (laws : DiskLaws d)
       adds_inside command fails.next.0 (run_more before (entry_at t command) hold.office.plain fails.next.0 hold.office.is_run fails.next.1) (fails.run tells)
   failed_inside (ask.Query query) fails = absurd fails
 
-  kept_inside : (question : Ask) (said : Result Answer DeskFault) → AnswersInTime d t number question hold.office.plain before old new said → Inside question
+  kept_inside : (question : Ask) (said : Result Answer DeskFault) → AnswersInTime d (call_time t number) question hold.office.plain before old new said → Inside question
   kept_inside question (Ok said) keeps = done_inside question said keeps.1
   kept_inside question (Err (faults.StoreFault (Some told) count)) keeps = failed_inside question keeps.2
   kept_inside question (Err (faults.StoreFault None count)) keeps = absurd keeps
@@ -251,7 +251,7 @@ module _ {D C : Type 0} {d : disks.Ghosts D} (laws : DiskLaws d)
   kept_inside question (Err (faults.Broken fault)) keeps = absurd keeps
   kept_inside question (Err faults.NoMemory) keeps = stays_inside question keeps.disk
 
-  pub inside_of : (question : Ask) (said : Result Answer DeskFault) → AnswersAt d t number question hold.office.plain before old new said → Inside question
+  pub inside_of : (question : Ask) (said : Result Answer DeskFault) → AnswersAt d (call_time t number) question hold.office.plain before old new said → Inside question
   inside_of question said (inl in_time) = kept_inside question said in_time.1
   inside_of question (Ok said) (inr past) = stays_inside question past.1.2.disk
   inside_of question (Err fault) (inr past) = absurd past.1
@@ -269,7 +269,7 @@ module _ {D C : Type 0} {d : disks.Ghosts D} {number : ℕ} {question : Ask} {ol
   abbrev hold : HoldsHistory d before told
   hold = record { office = ready.1.office; end = ready.1.end; limit = ready.1.limit; at_rest = ready.1.at_rest }
 
-  abbrev one : AnswersAt d asks.t number question hold.office.plain before told new said
+  abbrev one : AnswersAt d (call_time asks.t number) question hold.office.plain before told new said
   one = asks.answers before hold
 
   pub stamped_by : IsStamped said new.gate (d.moment new.disk)

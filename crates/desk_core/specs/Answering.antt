@@ -25,11 +25,20 @@ use Rattle.desk_core.specs.Submitting.{PassesLimit}
 use Rattle.desk_core.specs.declared.fault.DeskFault.{DeskFault}
 use Rattle.desk_core.specs.declared.fault.DeskFault.TheVariants as faults
 
--- the answer has this moment and number, and was given by this office, at its disk's moment
-pub record IsAnswerOf {D C : Type 0} (disk_time : D → ℕ) (t number : ℕ) (new : DeskView D C)
+-- when an ask is answered: at this moment, for which the clock told this number
+pub record CallTime : Type 0 where
+  pub moment : ℕ
+  pub told : ℕ
+
+-- this moment, by this number
+abbrev pub call_time : ℕ → ℕ → CallTime
+call_time moment told = record { moment = moment; told = told }
+
+-- the answer has this time, and was given by this office, at its disk's moment
+pub record IsAnswerOf {D C : Type 0} (disk_time : D → ℕ) (time : CallTime) (new : DeskView D C)
     (said : Answer) : Type 0 where
-  pub moment : said.moment ≡ t
-  pub told : said.told ≡ number
+  pub moment : said.moment ≡ time.moment
+  pub told : said.told ≡ time.told
   pub position : said.position ≡ new.gate
   pub disk_moment : said.disk_moment ≡ disk_time new.disk
 
@@ -56,21 +65,27 @@ module _ {D C : Type 0} (d : disks.Ghosts D) where
 
   -- what adding the entry of a command does, to which this is the reply: the entry is there and the disk did not fail,
   -- or the disk failed
-  abbrev pub AddsEntry : ℕ → ℕ → Result Reply Refusal → List Entry → Entry → DeskView D C → DeskView D C
+  abbrev pub AddsEntry : CallTime → Result Reply Refusal → List Entry → Entry → DeskView D C → DeskView D C
       → Result Answer DeskFault → Type 0
-  AddsEntry t number reply before entry old new (Ok said) =
-      (said ≡ record { moment = t; told = number; reply = reply; position = new.gate; disk_moment = d.moment new.disk })
+  AddsEntry time reply before entry old new (Ok said) =
+      (said ≡ record {
+        moment = time.moment;
+        told = time.told;
+        reply = reply;
+        position = new.gate;
+        disk_moment = d.moment new.disk;
+      })
       × (new.gate ≡ end_gate header (before ++ entry ∷ []))
       × (IsTrue d.honest → IsAtRest header (d.state new.disk) new.gate (before ++ entry ∷ [])
       × KeepsTo d old.disk new.disk (BeforeOrAfter header before entry (d.state old.disk)))
       × (d.fault_count new.disk ≡ d.fault_count old.disk)
-  AddsEntry t number reply before entry old new (Err (faults.StoreFault (Some told) count)) =
-      (told ≡ number) × (count ≡ d.fault_count new.disk) × Rose (d.fault_count old.disk) (d.fault_count new.disk)
+  AddsEntry time reply before entry old new (Err (faults.StoreFault (Some told) count)) =
+      (told ≡ time.told) × (count ≡ d.fault_count new.disk) × Rose (d.fault_count old.disk) (d.fault_count new.disk)
       × (IsTrue d.honest → KeepsTo d old.disk new.disk (BeforeOrAfter header before entry (d.state old.disk)))
-  AddsEntry t number reply before entry old new (Err (faults.StoreFault None count)) = ⊥
-  AddsEntry t number reply before entry old new (Err faults.JournalFull) = ⊥
-  AddsEntry t number reply before entry old new (Err (faults.Broken fault)) = ⊥
-  AddsEntry t number reply before entry old new (Err faults.NoMemory) = ⊥
+  AddsEntry time reply before entry old new (Err (faults.StoreFault None count)) = ⊥
+  AddsEntry time reply before entry old new (Err faults.JournalFull) = ⊥
+  AddsEntry time reply before entry old new (Err (faults.Broken fault)) = ⊥
+  AddsEntry time reply before entry old new (Err faults.NoMemory) = ⊥
 
   -- what an ask does that is answered before the end of time: by a command that is accepted the history grows, and by
   -- none else is anything written
@@ -87,30 +102,30 @@ module _ {D C : Type 0} (d : disks.Ghosts D) where
   HasFailed t (ask.Query query) office before old new = ⊥
 
   -- what an ask does before the end of time, on the plain office after this history
-  abbrev pub AnswersInTime : ℕ → ℕ → Ask → Office → List Entry → DeskView D C → DeskView D C
+  abbrev pub AnswersInTime : CallTime → Ask → Office → List Entry → DeskView D C → DeskView D C
       → Result Answer DeskFault → Type 0
-  AnswersInTime t number question office before old new (Ok said) =
-      IsAnswerOf d.moment t number new said × IsDoneAt t question office before old new said.reply
-  AnswersInTime t number question office before old new (Err (faults.StoreFault (Some told) count)) =
-      (told ≡ number) × (count ≡ d.fault_count new.disk) × HasFailed t question office before old new
-  AnswersInTime t number question office before old new (Err (faults.StoreFault None count)) = ⊥
-  AnswersInTime t number question office before old new (Err faults.JournalFull) =
-      PassesLimit t old.gate old.limit question × Stays before old new
-  AnswersInTime t number question office before old new (Err (faults.Broken fault)) = ⊥
-  AnswersInTime t number question office before old new (Err faults.NoMemory) = Stays before old new
+  AnswersInTime time question office before old new (Ok said) =
+      IsAnswerOf d.moment time new said × IsDoneAt time.moment question office before old new said.reply
+  AnswersInTime time question office before old new (Err (faults.StoreFault (Some told) count)) =
+      (told ≡ time.told) × (count ≡ d.fault_count new.disk) × HasFailed time.moment question office before old new
+  AnswersInTime time question office before old new (Err (faults.StoreFault None count)) = ⊥
+  AnswersInTime time question office before old new (Err faults.JournalFull) =
+      PassesLimit time.moment old.gate old.limit question × Stays before old new
+  AnswersInTime time question office before old new (Err (faults.Broken fault)) = ⊥
+  AnswersInTime time question office before old new (Err faults.NoMemory) = Stays before old new
 
   -- from the end of time on the ask is answered so, and nothing is written
-  abbrev pub AnswersEnded : ℕ → ℕ → List Entry → DeskView D C → DeskView D C → Result Answer DeskFault → Type 0
-  AnswersEnded t number before old new (Ok said) =
-      IsAnswerOf d.moment t number new said × (said.reply ≡ Err (ClockEnd t)) × Stays before old new
-  AnswersEnded t number before old new (Err fault) = ⊥
+  abbrev pub AnswersEnded : CallTime → List Entry → DeskView D C → DeskView D C → Result Answer DeskFault → Type 0
+  AnswersEnded time before old new (Ok said) =
+      IsAnswerOf d.moment time new said × (said.reply ≡ Err (ClockEnd time.moment)) × Stays before old new
+  AnswersEnded time before old new (Err fault) = ⊥
 
   -- what an ask does
-  abbrev pub AnswersAt : ℕ → ℕ → Ask → Office → List Entry → DeskView D C → DeskView D C → Result Answer DeskFault
+  abbrev pub AnswersAt : CallTime → Ask → Office → List Entry → DeskView D C → DeskView D C → Result Answer DeskFault
       → Type 0
-  AnswersAt t number question office before old new said =
-      ((t < end_of_time) × AnswersInTime t number question office before old new said)
-      ⊎ ((end_of_time ≤ t) × AnswersEnded t number before old new said)
+  AnswersAt time question office before old new said =
+      ((time.moment < end_of_time) × AnswersInTime time question office before old new said)
+      ⊎ ((end_of_time ≤ time.moment) × AnswersEnded time before old new said)
 
   -- an ask does so at the moment that this number of the clock gives it
   pub record AnswersAsk (number : ℕ) (question : Ask) (old new : DeskView D C)
@@ -119,4 +134,4 @@ module _ {D C : Type 0} (d : disks.Ghosts D) where
     pub at : t ≡ moment_after number old.office.last
     pub clock : C
     pub answers : (before : List Entry) (hold : HoldsHistory d before (record old { clock = clock }))
-        → AnswersAt t number question hold.office.plain before (record old { clock = clock }) new said
+        → AnswersAt (call_time t number) question hold.office.plain before (record old { clock = clock }) new said

@@ -49,6 +49,7 @@ pub record IsAnswered (limit : ℕ) (question : Ask) (office : Office) (said : A
   pub ended : end_of_time ≤ said.moment → (said.reply ≡ Err (ClockEnd said.moment)) × (after ≡ before)
   pub position : said.position ≡ end_gate header after
 
+-- the ask is a command, and no query
 abbrev pub IsCommand : Ask → Type 0
 IsCommand (ask.Command command) = Unit {0}
 IsCommand (ask.Query query) = ⊥

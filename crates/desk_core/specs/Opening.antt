@@ -13,8 +13,8 @@ abbrev pub opened_with : {D C : Type 0} → disks.Ghosts D → List Entry → De
 opened_with d history desk =
     record { history = history; limit = desk.limit; faults = d.fault_count desk.disk; moment = d.moment desk.disk }
 
--- A desk that was opened on this disk, which did not fail: it stands for no call yet, from a history on. Of an honest disk that is the
--- history of the bytes that its journal file reads, and every image since is one that it had.
+-- A desk that was opened on this disk, which did not fail: it stands for no call yet, from a history on. Of an honest
+-- disk that is the history of the bytes that its journal file reads, and every image since is one that it had.
 pub record Opens {D C : Type 0} (d : disks.Ghosts D)
     (disk : D) (clock : C) (limit : ℕ) (desk : DeskView D C) : Type 0 where
   pub history : List Entry

@@ -62,6 +62,7 @@ pub record Outside (D C : Type 0) : Type 0 where
   pub disk : D
   pub clock : C
 
+-- this disk with this clock
 abbrev pub outside : {D C : Type 0} → D → C → Outside D C
 outside disk clock = record { disk = disk; clock = clock }
 

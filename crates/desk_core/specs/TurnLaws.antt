@@ -23,6 +23,7 @@ pub by_honesty : {P : Type 0} (honest : Bool) → (IsTrue honest → P) → ((Is
 by_honesty true tells silent = tells refl
 by_honesty false tells silent = silent (λ is. absurd cc)
 
+-- calls that are legal over an honest disk are legal over this one, which is honest
 pub honest_legal : (honest : Bool) (limit counted : ℕ) (calls : List Call) (before after : List Entry) → IsTrue honest
     → Legal true limit counted calls before after → Legal honest limit counted calls before after
 honest_legal honest limit counted calls before after tells rule =
@@ -36,6 +37,7 @@ module _ {D C : Type 0} (d : disks.Ghosts D) (k : clocks.Ghosts C) where
   abbrev Step : DeskView D C → Ask → Result Answer DeskFault → DeskView D C → Type 0
   Step = Submits d k
 
+  -- a desk that stands for some calls stands, after more of them, for all
   pub stands_on : (opened : Opened) (done calls : List Call) (old new : DeskView D C) → StandsFor d opened done old
       → Moves Step old calls new
       → StandsFor d opened (done ++ calls) new
@@ -74,6 +76,7 @@ module _ {D C : Type 0} (d : disks.Ghosts D) (k : clocks.Ghosts C) where
       legal : Leads
       legal = by_staleness desk.stale refl
 
+    -- the calls that lead from one desk to another are legal, whatever the first one stood for
     pub legal_since : (first desk : DeskView D C) (pairs : List (Ask × Result Answer DeskFault))
         → Reaches d k first desk pairs
         → LegalSince d first pairs

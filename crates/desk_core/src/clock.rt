@@ -1,7 +1,7 @@
 // What time it is.
 ghost use Rattle.std.specs.Prelude.{◌≡◌, ◌+◌, ◌-◌, ◌^◌, ◌<◌, ◌≤◌, min, ◌∷◌, [], ℕ, List, Option, Some, None};
 ghost use Rattle.std.specs.Io.KnownBytes.{Appends};
-ghost use Rattle.desk_core.specs.Clocks.{number_at, numbers_told, ListNumbers};
+ghost use Rattle.desk_core.specs.Clocks.{number_at, numbers_told};
 
 use std::time::{Clock as SystemTimes, SystemTime, UNIX_EPOCH};
 

@@ -1,7 +1,6 @@
 // An office over its journal.
-ghost use Rattle.std.specs.Prelude.{min, ◌≡◌, ◌⊎◌, ◌+◌, ◌-◌, ◌<◌, ◌≤◌, ◌^◌, ◌++◌, ◌∷◌, [], ℕ};
-ghost use Rattle.std.specs.Prelude.{List, length, true, false, IsTrue, Some, None, Ok, Err, IfOk, IfErr, OnOk, IsErrOf};
-ghost use Rattle.office_base.specs.Faults.{Rose};
+ghost use Rattle.std.specs.Prelude.{◌≡◌, ◌⊎◌, ◌+◌, ◌-◌, ◌<◌, ◌≤◌, ◌^◌};
+ghost use Rattle.std.specs.Prelude.{List, length, true, false, IsTrue, Some, None, Ok, Err};
 ghost use Rattle.moments.specs.Time.{end_of_time};
 ghost use Rattle.office_types.specs.declared.command.Entry.{Entry};
 ghost use Rattle.office_types.specs.declared.command.Ask.TheVariants as ask_of;
@@ -18,7 +17,7 @@ ghost use Rattle.desk_core.specs.Histories.{IsSound};
 ghost use Rattle.desk_core.specs.Looking.{IsRead};
 ghost use Rattle.desk_core.specs.Numbers.{IsNumber};
 ghost use Rattle.desk_core.specs.Offices.{StandsAfter};
-ghost use Rattle.desk_core.specs.Answering.{AddsEntry, AnswersInTime, AnswersAt, AnswersAsk};
+ghost use Rattle.desk_core.specs.Answering.{call_time, AddsEntry, AnswersInTime, AnswersAt, AnswersAsk};
 
 use crate::acked::Acked;
 use crate::clock::Clock;
@@ -154,7 +153,7 @@ impl<D: Disk + Drop, C: Clock + Drop> Engine<D, C> {
         ensures adds { (before : List Entry) (e : Entry) → EntryFits e → bytes.now ≡ spelling e
             → self.old.gate ≡ end_gate header before
             → (IsTrue D.honest → IsAtRest header (D.state self.old.disk) self.old.gate before)
-            → AddsEntry D.Disk moment told (Ok reply) before e self.old self.new result }
+            → AddsEntry D.Disk (call_time moment told) (Ok reply) before e self.old self.new result }
         ensures office { self.new.office ≡ self.old.office }
         ensures clock { self.new.clock ≡ self.old.clock }
         ensures limit { self.new.limit ≡ self.old.limit }
@@ -187,7 +186,7 @@ impl<D: Disk + Drop, C: Clock + Drop> Engine<D, C> {
         requires ready { IsReady D.Disk self.old }
 
         ensures keeps { (before : List Entry) (hold : HoldsHistory D.Disk before self.old)
-            → AnswersInTime D.Disk moment told
+            → AnswersInTime D.Disk (call_time moment told)
             (ask_of.Command command.now) hold.office.plain before self.old self.new result }
         ensures clock { self.new.clock ≡ self.old.clock }
         ensures limit { self.new.limit ≡ self.old.limit }
@@ -216,7 +215,7 @@ impl<D: Disk + Drop, C: Clock + Drop> Engine<D, C> {
         requires ready { IsReady D.Disk self.old }
 
         ensures keeps { (before : List Entry) (hold : HoldsHistory D.Disk before self.old)
-            → AnswersInTime D.Disk moment told
+            → AnswersInTime D.Disk (call_time moment told)
             (ask_of.Command command.now) hold.office.plain before self.old self.new result }
         ensures full { PassesLimit moment self.old.gate self.old.limit (ask_of.Command command.now)
             → (result ≡ Err DeskFault.JournalFull) ⊎ (result ≡ Err DeskFault.NoMemory) }
@@ -239,7 +238,7 @@ impl<D: Disk + Drop, C: Clock + Drop> Engine<D, C> {
         requires ready { IsReady D.Disk self.now }
 
         ensures keeps { (before : List Entry) (hold : HoldsHistory D.Disk before self.now)
-            → AnswersInTime D.Disk moment told
+            → AnswersInTime D.Disk (call_time moment told)
             (ask_of.Query query.now) hold.office.plain before self.now self.now result }
     {
         match self.office.answer(moment, query) {
@@ -271,7 +270,7 @@ impl<D: Disk + Drop, C: Clock + Drop> Engine<D, C> {
         requires ready { IsReady D.Disk self.old }
 
         ensures answers { (before : List Entry) (hold : HoldsHistory D.Disk before self.old)
-            → AnswersAt D.Disk moment told ask.now hold.office.plain before self.old self.new result }
+            → AnswersAt D.Disk (call_time moment told) ask.now hold.office.plain before self.old self.new result }
         ensures full { PassesLimit moment self.old.gate self.old.limit ask.now → (result ≡ Err DeskFault.JournalFull)
             ⊎ (result ≡ Err DeskFault.NoMemory) }
         ensures clock { self.new.clock ≡ self.old.clock }

@@ -1,7 +1,6 @@
 // Opening a journal again.
-ghost use Rattle.std.specs.Prelude.{◌≡◌, ◌+◌, ◌<◌, ◌≤◌, ◌^◌, ◌++◌, ◌∷◌, [], ℕ, List};
-ghost use Rattle.std.specs.Prelude.{length, true, IsTrue, Some, None, Ok, Err, IfErr, IfOk, OnOk, IsErrOf};
-ghost use Rattle.office_base.specs.Faults.{Rose};
+ghost use Rattle.std.specs.Prelude.{◌≡◌, ◌+◌, ◌<◌, ◌++◌, ◌∷◌, [], ℕ, List};
+ghost use Rattle.std.specs.Prelude.{length, IsTrue, Some, None, Ok, Err, IfErr, OnOk};
 ghost use Rattle.disk_core.specs.Files.{synced_file};
 ghost use Rattle.disk_core.specs.Fronts.{Narrower};
 ghost use Rattle.disk_core.specs.Moments.{KeepsTo, Untouched};

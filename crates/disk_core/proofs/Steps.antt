@@ -1,7 +1,7 @@
 -- One of several ranges, and a run of calls that goes on.
 use Rattle.std.proofs.Common.{◌≡◌, inl, inr, ℕ, suc, zero, ◌+◌, ◌<◌, ◌≤◌, List, [], ◌∷◌, length, get_or, take, refl, sym, ◌∙◌, ap, arith}
 use Rattle.std.proofs.lemmas.List.{take_more}
-use Rattle.disk_core.specs.declared.memory.Call.{Call}
+use Rattle.disk_core.specs.declared.memory.DiskCall.{DiskCall}
 use Rattle.disk_core.specs.declared.disk.FileNo.{FileNo}
 use Rattle.disk_core.specs.declared.disk.FileNo.TheVariants.{Journal, Slot0, Slot1}
 use Rattle.disk_core.specs.Files.{File, Covers, file_in, synced_file}
@@ -16,16 +16,16 @@ covers_at (range ∷ ranges) zero i d lt from to = inl (from, to)
 covers_at (range ∷ ranges) (suc k) i d lt from to = inr (covers_at ranges k i d (omega (arith, lt)) from to)
 
 -- no call yet: the file is empty
-pub step_none : (file : FileNo) (calls : List Call) → synced_file [] ≡ file_in file (after (take 0 calls))
+pub step_none : (file : FileNo) (calls : List DiskCall) → synced_file [] ≡ file_in file (after (take 0 calls))
 unfolding after replay
 step_none Journal calls = refl
 step_none Slot0 calls = refl
 step_none Slot1 calls = refl
 
 -- one call more
-pub step_more : (f : File) (file : FileNo) (calls : List Call) (k : ℕ) (call : Call) → k < length calls → call ≡ get_or calls k call
+pub step_more : (f : File) (file : FileNo) (calls : List DiskCall) (k : ℕ) (call : DiskCall) → k < length calls → call ≡ get_or calls k call
     → f ≡ file_in file (after_call call (after (take k calls))) → f ≡ file_in file (after (take (k + 1) calls))
 step_more f file calls k call lt at is =
     is
-    ∙ ap (λ (c : Call). file_in file (after_call c (after (take k calls)))) at
+    ∙ ap (λ (c : DiskCall). file_in file (after_call c (after (take k calls)))) at
     ∙ ap (file_in file) (sym (after_push (take k calls) (take (k + 1) calls) (get_or calls k call) (take_more calls k call lt)))

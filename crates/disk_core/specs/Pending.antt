@@ -5,6 +5,7 @@ use Rattle.std.specs.List.{All}
 use Rattle.disk_core.specs.declared.pending.Pending.{Pending}
 use Rattle.disk_core.specs.Files.{File, IsImage}
 
+-- the file that is held: what a read gives, what the last sync left, and the lengths and writes since then
 abbrev pub file_of : Pending → File
 file_of p = record {
   seen = p.seen.items;

@@ -37,6 +37,7 @@ fn are_small(bytes: &[u8])
 }
 
 impl Contents {
+    // Makes three empty files. They take memory from this allocator.
     pub fn new(alloc: Global) -> Self
         ensures { bytes_of result ≡ record { journal = []; slot0 = []; slot1 = [] } }
     {
@@ -56,6 +57,7 @@ impl Contents {
         are_small(&self.slot1);
     }
 
+    // Gives all bytes of a file.
     pub fn file(&self, file: FileNo) -> &[u8]
         ensures { result.now ≡ bytes_in file (bytes_of self.now) }
     {
@@ -66,6 +68,8 @@ impl Contents {
         }
     }
 
+    // Writes from a byte place on, which is within the file or at its end. `AllocError`: memory ran out, and nothing
+    // changed.
     pub fn write(&mut self, file: FileNo, at: usize, bytes: &[u8]) -> Result<(), AllocError>
         requires { at ≤ length (bytes_in file (bytes_of self.old)) }
         ensures ok { OnOk result (bytes_of self.new
@@ -79,6 +83,7 @@ impl Contents {
         }
     }
 
+    // Cuts a file to so many bytes; a shorter one stays as it is.
     pub fn cut(&mut self, file: FileNo, to: usize)
         ensures { bytes_of self.new
             ≡ with_bytes file (take to (bytes_in file (bytes_of self.old))) (bytes_of self.old) }

@@ -1,5 +1,5 @@
 // Three real files. Nothing is told of what they hold.
-ghost use Rattle.std.specs.Prelude.{◌≡◌, ◌≤◌, false, refl, IfOk, OnOk};
+ghost use Rattle.std.specs.Prelude.{◌≡◌, false, refl, OnOk};
 ghost use Rattle.office_base.specs.Faults.{HasCause};
 ghost use Rattle.disk_core.specs.Files.{empty_disk};
 ghost use Rattle.disk_core.specs.Untold.{untold_image, untold_bytes, file_faults};

@@ -1,10 +1,10 @@
 // A disk in memory, which keeps each call.
-ghost use Rattle.std.specs.Prelude.{◌≡◌, ◌≤◌, ◌++◌, [], ◌∷◌, ℕ, true, length, IfOk, OnOk, OnErr};
+ghost use Rattle.std.specs.Prelude.{◌≡◌, ◌≤◌, ◌++◌, [], ◌∷◌, true, length, IfOk, OnOk, OnErr};
 ghost use Rattle.disk_core.specs.Files.{file_in, seen_in};
 ghost use Rattle.disk_core.specs.Contents.{AreBytes, bytes_of, seens};
 ghost use Rattle.disk_core.specs.Pending.{AreImages};
 ghost use Rattle.office_base.specs.Faults.{Rose, HasCause};
-ghost use Rattle.disk_core.specs.declared.memory.Call.TheVariants.{Other, Cut, Sync};
+ghost use Rattle.disk_core.specs.declared.memory.DiskCall.TheVariants.{Other, Cut, Sync};
 ghost use Rattle.disk_core.specs.Replay.{IsUntold, KeepsWrite, after, HadSince, counts_now, only_now, since_earlier};
 ghost use Rattle.disk_core.specs.SeenImages.{own, own_image, bytes_told};
 
@@ -15,8 +15,9 @@ use office_base::{Failed, NoMemory};
 use std::alloc::{AllocError, AllocFailed, Global};
 use std::snapshot::Snapshot;
 
+// A call that a disk in memory has kept; places and lengths are in bytes.
 #[derive(Drop)]
-pub enum Call {
+pub enum DiskCall {
     // One that changed nothing.
     Other,
     Write {
@@ -38,7 +39,7 @@ pub enum Call {
 pub struct MemoryDisk {
     alloc: Global,
     contents: Contents,
-    calls: Vec<Call>,
+    calls: Vec<DiskCall>,
     failing: Vec<u64>,
     faults: u64,
     block: u64,
@@ -47,7 +48,7 @@ pub struct MemoryDisk {
     ghost small: { AreBytes (bytes_of contents) },
 }
 
-fn find_images(calls: &[Call], file: FileNo, alloc: Global) -> Result<Vec<Vec<u8>>, AllocError>
+fn find_images(calls: &[DiskCall], file: FileNo, alloc: Global) -> Result<Vec<Vec<u8>>, AllocError>
     ensures { IfOk result (λ images. AreImages (file_in file (after calls.now)) images.items) }
 {
     let pending = Pending::of(calls, file, alloc)?;
@@ -153,7 +154,7 @@ impl MemoryDisk {
         self.calls.reserve(1)?;
         self.contents.write(file, at as usize, bytes)?;
         self.contents.small();
-        self.calls.push_reserved(Call::Write {
+        self.calls.push_reserved(DiskCall::Write {
             file,
             at,
             bytes: copy,
@@ -168,7 +169,7 @@ impl MemoryDisk {
         ensures faults { self.new.faults ≡ self.old.faults }
     {
         self.calls.reserve(1)?;
-        self.calls.push_reserved(Call::Other);
+        self.calls.push_reserved(DiskCall::Other);
         Ok(())
     }
 
@@ -179,7 +180,7 @@ impl MemoryDisk {
         ensures faults { self.new.faults ≡ self.old.faults }
     {
         self.calls.reserve(1)?;
-        self.calls.push_reserved(Call::Sync { file });
+        self.calls.push_reserved(DiskCall::Sync { file });
         Ok(())
     }
 
@@ -193,7 +194,7 @@ impl MemoryDisk {
         self.calls.reserve(1)?;
         self.contents.cut(file, to as usize);
         self.contents.small();
-        self.calls.push_reserved(Call::Cut { file, to });
+        self.calls.push_reserved(DiskCall::Cut { file, to });
         Ok(())
     }
 }

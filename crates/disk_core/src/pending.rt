@@ -1,5 +1,5 @@
 // What a crash may leave of one file of a disk in memory.
-ghost use Rattle.std.specs.Prelude.{◌≡◌, ◌<◌, ◌≤◌, ℕ, [], take, length, get_or, true, false, IfOk, OnOk};
+ghost use Rattle.std.specs.Prelude.{◌≡◌, ◌<◌, [], length, get_or, true, false, IfOk, OnOk};
 ghost use Rattle.std.specs.List.{Contains};
 ghost use Rattle.disk_core.specs.Files.{State, Covers, IsImage, file_in, shortened, synced_file};
 ghost use Rattle.disk_core.specs.Replay.{after_call, after, written_in};
@@ -7,7 +7,7 @@ ghost use Rattle.disk_core.specs.Pending.{file_of, AreImages};
 
 use crate::FileNo;
 use crate::contents::overwrite;
-use crate::memory::Call;
+use crate::memory::DiskCall;
 use std::alloc::{AllocError, Global};
 
 // What a byte holds that may hold anything.
@@ -93,24 +93,24 @@ impl Pending {
     }
 
     // Goes on by one call of the disk.
-    fn go_on(&mut self, file: FileNo, call: &Call) -> Result<(), AllocError>
+    fn go_on(&mut self, file: FileNo, call: &DiskCall) -> Result<(), AllocError>
         ensures { (s : State) → file_of self.old ≡ file_in file s
             → OnOk result (file_of self.new ≡ file_in file (after_call call.now s)) }
     {
         match call {
-            Call::Write {
+            DiskCall::Write {
                 file: of,
                 at,
                 bytes,
             } if *of == file => self.write(*at as usize, bytes),
-            Call::Cut { file: of, to } if *of == file => self.cut(*to as usize),
-            Call::Sync { file: of } if *of == file => self.settle(),
+            DiskCall::Cut { file: of, to } if *of == file => self.cut(*to as usize),
+            DiskCall::Sync { file: of } if *of == file => self.settle(),
             _ => Ok(()),
         }
     }
 
     // Finds what these calls leave of the file.
-    pub fn of(calls: &[Call], file: FileNo, alloc: Global) -> Result<Self, AllocError>
+    pub fn of(calls: &[DiskCall], file: FileNo, alloc: Global) -> Result<Self, AllocError>
         ensures { IfOk result (λ pending. file_of pending ≡ file_in file (after calls.now)) }
     {
         let mut pending = Pending::empty(alloc)?;

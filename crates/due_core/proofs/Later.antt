@@ -12,6 +12,7 @@ use Rattle.due_core.specs.declared.action.Action.{Action}
 use Rattle.due_core.specs.Buckets.{BucketRecord}
 use Rattle.due_core.specs.Candidates.{eligible, candidates}
 use Rattle.due_core.specs.Choice.{least, comes_before, choice}
+use Rattle.due_core.proofs.Pass.{has_come}
 
 module _ {X : Type 0} (before : X → X → Bool) where
   -- the least so far, with one element more
@@ -84,11 +85,7 @@ module _ {X : Type 0} (before : X → X → Bool) where
 
 -- ---- the candidates
 
-has_come : ℕ → Candidate → Bool
-has_come t candidate = nat_le candidate.action.since t
-
 comes_later : (t u : ℕ) → t ≤ u → (x : Candidate) → has_come t x ≡ true → has_come u x ≡ true
-unfolding has_come
 comes_later t u le x h = grind (arith, nat_tests)
 
 below : (t a b : ℕ) → nat_le a t ≡ true → nat_le b t ≡ false → a < b
@@ -101,7 +98,6 @@ first_greater : (o rest : Ordering) → o ≡ Greater → is_lt (ordering_then o
 first_greater o rest is = rw is refl
 
 are_apart : (t : ℕ) (x y : Candidate) → has_come t x ≡ true → has_come t y ≡ false → (comes_before x y ≡ true) × (comes_before y x ≡ false)
-unfolding has_come
 are_apart t x y hx hy =
     let lt : x.action.since < y.action.since = below t x.action.since y.action.since hx hy in (
       first_less (nat_cmp x.action.since y.action.since) _ (sym (nat_cmp_is x.action.since y.action.since Less lt)),
@@ -114,6 +110,6 @@ chosen_stays None q a stays is = absurd (cc)
 chosen_stays (Some c) q a stays is = ap (λ (z : Option Candidate). option_map (λ (c : Candidate). c.action) z) (stays c refl) ∙ is
 
 pub choice_stays : (bucket : BucketRecord) (t u : ℕ) (a : Action) → t ≤ u → choice bucket t ≡ Some a → choice bucket u ≡ Some a
-unfolding choice candidates has_come
+unfolding choice candidates
 choice_stays bucket t u a le is = chosen_stays _ _ a
     (least_stays comes_before (has_come t) (has_come u) (comes_later t u le) (are_apart t) (eligible bucket)) is

@@ -66,7 +66,7 @@ is_eligible bucket rules t start versions all own is-versions is-all =
 
 -- ---- the first of those that have come
 
-abbrev has_come : ℕ → Candidate → Bool
+abbrev pub has_come : ℕ → Candidate → Bool
 has_come t candidate = nat_le candidate.action.since t
 
 abbrev one : Option Candidate → Findings

@@ -46,6 +46,7 @@ upload_candidates bucket rules (number, upload) = flat_map
     (upload_actions numbered.1 upload))
     (filter (λ numbered. matches_upload numbered.1.filter upload.key) (enabled_rules rules))
 
+-- the eligible actions in a bucket under this configuration, and none without one
 abbrev pub eligible_by : BucketRecord → Option Configuration → List Candidate
 eligible_by bucket None = []
 eligible_by bucket (Some rules) =

@@ -37,6 +37,7 @@ precedence a b =
     (ordering_then (nat_cmp (coldness b.action.kind) (coldness a.action.kind))
     (nat_cmp a.action.rule b.action.rule)))))
 
+-- the first stands strictly before the second by this order
 abbrev pub comes_before : Candidate → Candidate → Bool
 comes_before a b = is_lt (precedence a b)
 

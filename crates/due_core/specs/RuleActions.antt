@@ -33,6 +33,7 @@ abbrev pub expirations : ℕ → Expiration → List ℕ
 expirations created expiration =
     option_to_list (option_map (due created) expiration.days) ++ option_to_list expiration.date
 
+-- the due moment of a transition: by days from the version's creation, or at a date
 abbrev pub due_when : ℕ → When → ℕ
 due_when created (Days days) = due created days
 due_when created (Date date) = date
@@ -44,6 +45,7 @@ expiring Unversioned = Remove
 expiring Enabled = Marker
 expiring Suspended = Marker
 
+-- the expirations that a rule asks of a current object, each at its due moment
 abbrev pub expiration_actions : Versioning → Rule → ℕ → List DueAction
 expiration_actions versioning rule created =
     map (λ at. (expiring versioning, at)) (flat_map (expirations created) (option_to_list rule.expiration))
@@ -80,6 +82,7 @@ lone_marker_removals rule changed =
     map (λ _. (Remove, next_midnight changed))
     (filter (λ expiration. expiration.lone_marker) (option_to_list rule.expiration))
 
+-- all that a rule asks of a delete marker that is the only version of its key
 abbrev pub lone_marker_actions : Rule → ℕ → ℕ → List DueAction
 lone_marker_actions rule created changed = marker_expirations rule created ++ lone_marker_removals rule changed
 
@@ -113,6 +116,7 @@ pub record Placed : Type 0 where
   pub newer : ℕ
   pub older : ℕ
 
+-- versions, newest first, each in its stack, where so many newer ones of the key come before them
 abbrev pub placed_from : ℕ → List Version → List Placed
 placed_from newer [] = []
 placed_from newer (version ∷ versions) =

@@ -37,6 +37,7 @@ nothing_found = record { first = None; all = None }
 abbrev pub none_of_all : Findings
 none_of_all = record { first = None; all = Some [] }
 
+-- what is kept with one more: all and it behind them where all are wanted, else the earlier one of it and the first
 abbrev pub took_by : Option Candidate → Option (List Candidate) → Candidate → Findings
 took_by first None next = record { first = Some (sooner first next); all = None }
 took_by first (Some all) next = record { first = first; all = Some (all ++ next ∷ []) }
@@ -62,6 +63,7 @@ pub record Aim : Type 0 where
   pub not_before : ℕ
   pub t : ℕ
 
+-- the candidate that an action makes: it stands at its due moment, but not before the moment that the aim names
 abbrev pub aimed : Aim → DueAction → Candidate
 aimed aim due = record {
   action = record {
@@ -108,10 +110,12 @@ asked_of_version setting key changed placed numbered =
     )
     else []
 
+-- what the enabled rules ask of a version, rule by rule
 abbrev pub version_candidates : Setting → List Rule → List ℕ → ℕ → Placed → List Candidate
 version_candidates setting rules key changed placed =
     flat_map (asked_of_version setting key changed placed) (enumerate_from 1 rules)
 
+-- what the enabled rules ask of the versions of a key, from the newest on
 abbrev pub key_candidates : Setting → List Rule → List ℕ × StackRecord → List Candidate
 key_candidates setting rules (key, stack) =
     flat_map (version_candidates setting rules key stack.changed) (placed_from 0 stack.versions)
@@ -127,6 +131,7 @@ asked_of_upload setting number upload numbered =
     )
     else []
 
+-- what the enabled rules ask of an upload, rule by rule
 abbrev pub number_candidates : Setting → List Rule → ℕ × UploadRecord → List Candidate
 number_candidates setting rules (number, upload) =
     flat_map (asked_of_upload setting number upload) (enumerate_from 1 rules)

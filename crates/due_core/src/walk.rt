@@ -1,9 +1,8 @@
 // What the rules of a bucket ask of its versions and uploads.
 ghost use Rattle.std.specs.Prelude.{◌≡◌, ◌≤◌, length, max, flat_map, None, Some, IfOk, IsOk};
-ghost use Rattle.std.specs.List.{enumerate_from};
 ghost use Rattle.due_core.specs.Candidates.{eligible, candidates};
 ghost use Rattle.due_core.specs.Choice.{choice, IsQueue};
-ghost use Rattle.due_core.specs.RuleActions.{matches_version, placed_from};
+ghost use Rattle.due_core.specs.RuleActions.{matches_version};
 ghost use Rattle.due_core.specs.Search.{with_each, setting_of, asked_of_version, asked_of_upload, version_candidates};
 ghost use Rattle.due_core.specs.Search.{key_candidates, number_candidates};
 

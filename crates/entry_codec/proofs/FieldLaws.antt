@@ -167,7 +167,7 @@ rank-IsFormat : IsFormat (format Rank)
 unfolding format
 rank-IsFormat = coded-IsFormat (number w8) ranks (number-IsFormat w8 wide8) ranks-IsCode
 
-abbrev few : Format ℕ
+abbrev pub few : Format ℕ
 few = number w8 such_that λ n. nat_le n 10
 
 utf8-IsFormat : IsFormat utf8_text

@@ -1,5 +1,5 @@
 -- Values in range are values of their fields, and commands of such values fit.
-use Rattle.std.proofs.Common.{◌≡◌, nat_le, ℕ, ◌^◌, ◌<◌, ◌≤◌, Bool, true, false, List, [], ◌∷◌, length, refl, ap, arith}
+use Rattle.std.proofs.Common.{◌≡◌, ℕ, ◌^◌, ◌<◌, ◌≤◌, Bool, true, false, List, [], ◌∷◌, length, refl, ap, arith}
 use Rattle.std.specs.List.{list_all}
 use Rattle.std.proofs.lemmas.Bool.{lt-ltb, le-leb, and_parts, and_from}
 use Rattle.std.proofs.lemmas.Bool.Decides.{nat_tests}
@@ -14,14 +14,10 @@ use Rattle.office_base.specs.declared.version_id.VersionId.{VersionId}
 use Rattle.moments.specs.Months.{months, year_of, month_of_year, month_number}
 use Rattle.rules_core.specs.Configurations.{Configuration}
 use Rattle.office_types.specs.declared.command.Command.TheVariants as command
-use Rattle.std.specs.Int.{w8}
-use Rattle.entry_codec.specs.Formats.{Format, number, ◌such_that◌}
 use Rattle.entry_codec.specs.Fields.{Name, Key, Size, Rank, Tags, Rules, Status, Id, Number4, Number8, Year, Month, format, id_code, is_id, utf8_text, tag_format}
 use Rattle.entry_codec.specs.Spelling.{CommandFits}
+use Rattle.entry_codec.proofs.FieldLaws.{few}
 use Rattle.entry_codec.proofs.Sizes.{tag_parts_small}
-
-abbrev few : Format ℕ
-few = number w8 such_that λ n. nat_le n 10
 
 pub name_has : (t : List ℕ) → IsBucketName t → (format Name).has t ≡ true
 unfolding format

@@ -14,8 +14,12 @@ use Rattle.entry_codec.specs.declared.kinds.Kind.TheVariants as kind
 use Rattle.entry_codec.specs.Fields.{Field, Price, format}
 use Rattle.entry_codec.specs.Kinds.{Values, kind_format, fields_of, command_of}
 use Rattle.entry_codec.specs.Spelling.{written_values, are_values, command_spelling, CommandFits}
-use Rattle.entry_codec.specs.Reading.{IsFaultOf, value_at, values_at, items_at, kind_at}
+use Rattle.entry_codec.specs.Reading.{EntryGives, value_at, values_at, items_at, kind_at}
 use Rattle.entry_codec.proofs.Laws.{fits_of}
+
+-- the fault is that of reading, unless memory ran out
+abbrev IsFaultOf : {Y : Type 0} → EntryFault → Result Y ℕ → Type 0
+IsFaultOf {Y} e read = EntryGives (λ (y : Y). y) (Err e) read
 
 -- ---- lists of so many prices
 

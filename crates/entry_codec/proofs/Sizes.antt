@@ -11,13 +11,13 @@ use Rattle.office_types.specs.declared.command.Entry.{Entry}
 use Rattle.office_types.specs.Entries.{entry_at}
 use Rattle.rules_json.proofs.ShortTexts.{printed_most, long_text}
 use Rattle.std.specs.Int.{w8}
-use Rattle.entry_codec.specs.Formats.{Format, number, ◌such_that◌}
+use Rattle.entry_codec.specs.Formats.{number}
 use Rattle.entry_codec.specs.Fields.{Field, Name, Key, Size, Rank, Tags, Rules, Status, Id, Number4, Number8, Price, Year, Month, ValueOf, format, moment_format, tag_format, utf8_text}
 use Rattle.entry_codec.specs.declared.kinds.Kind.{Kind}
 use Rattle.entry_codec.specs.Kinds.{Values, kind_format, fields_of, parts_of}
 use Rattle.entry_codec.specs.declared.kinds.Kind.TheVariants as kind
 use Rattle.entry_codec.specs.Spelling.{written_values, are_values, command_spelling, CommandFits, IsEntry, EntryFits, entry_limit, spelling}
-use Rattle.entry_codec.proofs.FieldLaws.{kept}
+use Rattle.entry_codec.proofs.FieldLaws.{few, kept}
 
 -- ---- fields
 
@@ -39,9 +39,6 @@ all_small [] all = omega arith
 all_small (t ∷ tags) all =
     let parts = and_parts (is_tag t) (list_all is_tag tags) all in
     omega (arith, length-append (tag_format.written t) (flat_map tag_format.written tags), tag_small t parts.0, all_small tags parts.1)
-
-abbrev few : Format ℕ
-few = number w8 such_that λ n. nat_le n 10
 
 -- the most bytes that each field has
 abbrev most : Field → ℕ

@@ -36,9 +36,11 @@ abbrev pub status_code : Bool → ℕ
 status_code true = 1
 status_code false = 2
 
+-- what such a number sets, and nothing for any other number
 abbrev pub status_value : ℕ → Option Bool
 status_value status = if status == 1 then Some true else if status == 2 then Some false else None
 
+-- the setting of versioning, written as such a number
 abbrev pub statuses : Code ℕ Bool
 statuses = record { code = status_code; has = λ enabled. true; value = status_value }
 
@@ -47,13 +49,16 @@ abbrev pub id_code : VersionId → ℕ
 id_code version.Null = 0
 id_code (version.Number n) = n
 
+-- an id that is written so: the null version, or a number from 1 on
 abbrev pub is_id : VersionId → Bool
 is_id version.Null = true
 is_id (version.Number n) = nat_lt 0 n
 
+-- the id that such a number is: the null version for 0
 abbrev pub id_value : ℕ → Option VersionId
 id_value n = Some (if n == 0 then version.Null else version.Number n)
 
+-- the ids of versions, written as such numbers
 abbrev pub ids : Code ℕ VersionId
 ids = record { code = id_code; has = is_id; value = id_value }
 

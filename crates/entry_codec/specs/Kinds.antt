@@ -39,6 +39,7 @@ row Close = (0x0F, Year ∷ Month ∷ [])
 abbrev pub kind_number : Kind → ℕ
 kind_number kind = (row kind).0
 
+-- the fields of a kind, in the order in which they stand in an entry
 abbrev pub fields_of : Kind → List Field
 fields_of kind = (row kind).1
 

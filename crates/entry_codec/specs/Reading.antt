@@ -1,9 +1,9 @@
 -- Reading bytes from left to right, by the fields of the kind. A fault is the place at which the first field begins
 -- that breaks the format, in bytes from the first byte of the entry; bytes behind the last field break it where they
 -- begin (own).
-use Rattle.std.specs.Prelude.{◌≡◌, ℕ, zero, suc, ◌-◌, List, [], ◌∷◌, length, Option, option_map, Result, Ok, Err, ok_or, ◌==◌}
+use Rattle.std.specs.Prelude.{◌≡◌, ℕ, zero, suc, ◌-◌, List, [], ◌∷◌, length, Option, Some, None, option_map, Result, Ok, Err, ok_or, ◌==◌}
 use Rattle.std.specs.Prelude.{if◌then◌else◌}
-use Rattle.office_base.specs.Results.{◌>>=◌}
+use Rattle.office_base.specs.Results.{◌>>=◌, GivesBy}
 use Rattle.office_types.specs.declared.command.Command.{Command}
 use Rattle.office_types.specs.declared.command.Entry.{Entry}
 use Rattle.entry_codec.specs.declared.fault.EntryFault.{EntryFault}
@@ -13,15 +13,14 @@ use Rattle.entry_codec.specs.Fields.{Field, format, moment_format}
 use Rattle.entry_codec.specs.declared.kinds.Kind.{Kind}
 use Rattle.entry_codec.specs.Kinds.{kind_format, fields_of, Values, command_of}
 
--- the fault that a function answers is that of reading; with memory wanting, nothing is said
-abbrev pub IsFaultOf : {Y : Type 0} → EntryFault → Result Y ℕ → Type 0
-IsFaultOf faults.NoMemory read = Unit {0}
-IsFaultOf (faults.BadEntry at) read = read ≡ Err at
+-- the place that a fault tells of; none where memory ran out
+abbrev pub fault_place : EntryFault → Option ℕ
+fault_place (faults.BadEntry at) = Some at
+fault_place faults.NoMemory = None
 
--- what a function answers, seen by view, is what reading gives, unless memory is wanting
+-- an answer, seen by view, is what reading gives, unless memory ran out
 abbrev pub EntryGives : {X Y : Type 0} → (X → Y) → Result X EntryFault → Result Y ℕ → Type 0
-EntryGives view (Ok x) read = read ≡ Ok (view x)
-EntryGives view (Err e) read = IsFaultOf e read
+EntryGives view answer read = GivesBy fault_place view answer read
 
 -- what a function finds, seen by view, is what stands at the front, unless memory is wanting
 abbrev pub Finds : {X Y E : Type 0} → (X → Y) → Result (Option X) E → Option Y → Type 0

@@ -1,6 +1,5 @@
 // Reading commands, a function for each kind. Each takes the fields of its kind from the front of the bytes that are
 // left of an entry of `total` bytes, and gives what is left then.
-ghost use Rattle.std.specs.Prelude.{◌≡◌};
 ghost use Rattle.entry_codec.specs.Reading.{EntryGives, kind_at};
 
 use crate::fault::EntryFault;

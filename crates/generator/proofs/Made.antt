@@ -33,7 +33,7 @@ use Rattle.generator.specs.Clocks.{moments_told}
 use Rattle.generator.specs.Generated.{Progress, noted, after_entry, progress, tally}
 use Rattle.generator.specs.Working.{IsDeskAfter, AreAnswers, AreKept, IsCounted, counted_in, upload_count, counts_of, shown_in}
 use Rattle.generator.specs.declared.clock.PlaceClock.{PlaceClock}
-use Rattle.generator.specs.declared.work.Answers.{Answers}
+use Rattle.generator.specs.declared.work.AnswerCounts.{AnswerCounts}
 use Rattle.generator.specs.declared.work.Kept.{Kept}
 use Rattle.generator.specs.declared.tally.Tally.{Tally}
 use Rattle.generator.proofs.PlaceLemmas.{within_after}
@@ -113,29 +113,29 @@ one_more number n limit said command after told is some =
     (replied, grown p e after grows ∙ ap (λ (x : Progress). x.accepted) (sym (progress_next number n)))
 
 -- and how it is counted
-noted_by : (answers new : Answers) (p : Progress) (e : Entry) (office : Office) (reply : Result Reply Refusal)
+noted_by : (answers new : AnswerCounts) (p : Progress) (e : Entry) (office : Office) (reply : Result Reply Refusal)
     → AreAnswers answers p → IsCounted answers reply new → AreAnswers new (noted p e office reply)
 noted_by answers new p e office (Err refusal) are is = record {
-  accepted = ap (λ (a : Answers). a.accepted) is ∙ are.accepted;
-  refused = ap (λ (a : Answers). a.refused) is ∙ ap (λ (n : ℕ). n + 1) are.refused;
-  nothing = ap (λ (a : Answers). a.nothing) is ∙ are.nothing;
+  accepted = ap (λ (a : AnswerCounts). a.accepted) is ∙ are.accepted;
+  refused = ap (λ (a : AnswerCounts). a.refused) is ∙ ap (λ (n : ℕ). n + 1) are.refused;
+  nothing = ap (λ (a : AnswerCounts). a.nothing) is ∙ are.nothing;
 }
 noted_by answers new p e office (Ok NothingDue) are is = record {
-  accepted = ap (λ (a : Answers). a.accepted) is ∙ are.accepted;
-  refused = ap (λ (a : Answers). a.refused) is ∙ are.refused;
-  nothing = ap (λ (a : Answers). a.nothing) is ∙ ap (λ (n : ℕ). n + 1) are.nothing;
+  accepted = ap (λ (a : AnswerCounts). a.accepted) is ∙ are.accepted;
+  refused = ap (λ (a : AnswerCounts). a.refused) is ∙ are.refused;
+  nothing = ap (λ (a : AnswerCounts). a.nothing) is ∙ ap (λ (n : ℕ). n + 1) are.nothing;
 }
 noted_by answers new p e office (Ok reply) are is = record {
-  accepted = ap (λ (a : Answers). a.accepted) is ∙ ap (λ (n : ℕ). n + 1) are.accepted ∙ sym (length-append p.accepted (e ∷ []));
-  refused = ap (λ (a : Answers). a.refused) is ∙ are.refused;
-  nothing = ap (λ (a : Answers). a.nothing) is ∙ are.nothing;
+  accepted = ap (λ (a : AnswerCounts). a.accepted) is ∙ ap (λ (n : ℕ). n + 1) are.accepted ∙ sym (length-append p.accepted (e ∷ []));
+  refused = ap (λ (a : AnswerCounts). a.refused) is ∙ are.refused;
+  nothing = ap (λ (a : AnswerCounts). a.nothing) is ∙ are.nothing;
 }
 
-noted_next : (answers new : Answers) (p : Progress) (e : Entry) → AreAnswers answers p → IsCounted answers (step e.moment e.command p.office).1 new → AreAnswers new (after_entry p e)
+noted_next : (answers new : AnswerCounts) (p : Progress) (e : Entry) → AreAnswers answers p → IsCounted answers (step e.moment e.command p.office).1 new → AreAnswers new (after_entry p e)
 unfolding after_entry
 noted_next answers new p e are is = noted_by answers new p e (step e.moment e.command p.office).0 (step e.moment e.command p.office).1 are is
 
-pub noted_more : (number n : ℕ) (answers new : Answers) (reply : Result Reply Refusal) → reply ≡ reply_at number n → AreAnswers answers (progress number n) → IsCounted answers reply new
+pub noted_more : (number n : ℕ) (answers new : AnswerCounts) (reply : Result Reply Refusal) → reply ≡ reply_at number n → AreAnswers answers (progress number n) → IsCounted answers reply new
     → AreAnswers new (progress number (suc n))
 noted_more number n answers new reply replied are is =
     subst (λ (p : Progress). AreAnswers new p) (sym (progress_next number n))
@@ -216,7 +216,7 @@ abbrev counts_as : Tally → Tally
 counts_as counts = counts
 
 -- the counts of the commands that were made
-pub counted_all : (number made : ℕ) (answers : Answers) (kept : Kept) → AreAnswers answers (progress number made) → AreKept 4 (progress number made) kept
+pub counted_all : (number made : ℕ) (answers : AnswerCounts) (kept : Kept) → AreAnswers answers (progress number made) → AreKept 4 (progress number made) kept
     → counts_as (record {
       made = made;
       accepted = answers.accepted;

@@ -1,6 +1,7 @@
 -- A desk that holds a history answers one call.
 use Rattle.std.proofs.Common.{◌≡◌, ℕ, ◌+◌, ◌-◌, ◌^◌, min, false, List, [], ◌∷◌, ◌++◌, Ok, refl, sym, ap, ◌∙◌, subst, arith, inl, inr, ⊎_elim}
 use Rattle.std.specs.Prelude.{◌⊎◌, IsTrue, IsSomeAnd}
+use Rattle.std.proofs.lemmas.Bool.{both_ways}
 use Rattle.disk_core.specs.declared.disk.Disk as disks
 use Rattle.disk_core.specs.declared.disk.FileNo.TheVariants.{Journal}
 use Rattle.disk_core.proofs.Laws.{DiskLaws}
@@ -18,7 +19,6 @@ use Rattle.desk_core.specs.Opening.{Opens, opened_with}
 use Rattle.desk_core.specs.Serving.{Opened}
 use Rattle.desk_core.proofs.Serving.{rest_image, unique}
 use Rattle.desk_core.proofs.OneCallMore.{starts}
-use Rattle.desk_core.proofs.Standing.{still_true}
 
 module _ {D C : Type 0} {d : disks.Ghosts D} (laws : DiskLaws d) where
   -- it stands for no call since now
@@ -28,7 +28,7 @@ module _ {D C : Type 0} {d : disks.Ghosts D} (laws : DiskLaws d) where
     limit = refl;
     faults = (omega arith, tt);
     holds = λ _. (history, refl, holds);
-    lost = λ not is. absurd (still_true desk.stale is fresh);
+    lost = λ not is. absurd (both_ways desk.stale fresh is);
     serves = λ tells. starts laws (opened_with d history desk) desk.disk
         (λ image is. (history, rest_image (d.state desk.disk) desk.gate history holds.office.plain (holds.at_rest tells) holds.office.is_run image is))
         (λ image other is has. unique other history image has (each_image header (d.state desk.disk) desk.gate history (holds.at_rest tells) image is)) refl refl;
@@ -50,11 +50,11 @@ module _ {D C : Type 0} {d : disks.Ghosts D} (laws : DiskLaws d) where
       → Unopened d desk new (Ok said)
       ⊎ ((office : DeskView D C) × IsOffice d desk office × HasCauses d k office question (Ok said) new)
       → k.count new.clock ≡ min (k.count desk.clock + 1) (2 ^ 64 - 1)
-  asked_once k desk new question said fresh (inl unopened) = absurd (still_true desk.stale unopened.is_stale fresh)
+  asked_once k desk new question said fresh (inl unopened) = absurd (both_ways desk.stale fresh unopened.is_stale)
   asked_once k desk new question said fresh (inr (office, is, causes)) =
       ⊎_elim
       (λ own. causes.once ∙ ap (λ (parts : DeskView D C). min (k.count parts.clock + 1) (2 ^ 64 - 1)) own.1)
-      (λ again. absurd (still_true desk.stale again.0 fresh)) is
+      (λ again. absurd (both_ways desk.stale fresh again.0)) is
 
   -- a desk that was opened over a journal without entries holds none
   pub opened_empty : (disk : D) (clock : C) (limit : ℕ) (desk : DeskView D C) → IsTrue d.honest → IsAtRest header (d.state disk) 10 []

@@ -12,7 +12,7 @@ use Rattle.generator.specs.Places.{place_before, draft_at, next_place, place_aft
 use Rattle.generator.specs.Generated.{Progress, progress}
 use Rattle.generator.specs.Working.{IsDeskAfter, AreAnswers, IsCounted, IsWork}
 use Rattle.generator.specs.declared.place.Place.{Place}
-use Rattle.generator.specs.declared.work.Answers.{Answers}
+use Rattle.generator.specs.declared.work.AnswerCounts.{AnswerCounts}
 use Rattle.generator.specs.declared.work.Work.{Work}
 use Rattle.generator.proofs.PlaceLemmas.{made_next, after_next, first_after}
 use Rattle.generator.proofs.Progress.{counted, progress_none, entry_at_place}
@@ -35,9 +35,9 @@ begun w number is place answers holds fresh clock made =
       is_work w number 0 is none (subst (λ (m : ℕ). w.place ≡ place_after number m) none (first_after number w.place place))
           (subst (λ (p : Progress). IsDeskAfter number 0 p.accepted w.desk) (sym (progress_none number)) (record { holds = holds; fresh = fresh; number_is = clock; told_is = made }))
           (subst (λ (p : Progress). AreAnswers w.answers p) (sym (progress_none number)) (record {
-            accepted = ap (λ (a : Answers). a.accepted) answers;
-            refused = ap (λ (a : Answers). a.refused) answers;
-            nothing = ap (λ (a : Answers). a.nothing) answers;
+            accepted = ap (λ (a : AnswerCounts). a.accepted) answers;
+            refused = ap (λ (a : AnswerCounts). a.refused) answers;
+            nothing = ap (λ (a : AnswerCounts). a.nothing) answers;
           })),
       is,
       none,

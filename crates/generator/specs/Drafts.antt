@@ -46,9 +46,11 @@ rule_named name = record {
   abort_days = None;
 }
 
+-- the configuration that a load sets: this rule alone, which moves no object below 128 KiB
 abbrev pub rules_set : Configuration
 rules_set = record { rules = rule_named (codes "rule-1") ∷ []; mode = All128K }
 
+-- the command of a draft: nothing that it puts has tags, and every upload is in STANDARD
 abbrev pub draft_command : Draft → Command
 draft_command (draft.CreateBucket bucket) = command.CreateBucket (name_of bucket)
 draft_command (draft.Enable bucket) = command.SetVersioning (name_of bucket) true

@@ -33,6 +33,7 @@ pub record Progress : Type 0 where
   pub refused : ℕ
   pub nothing : ℕ
 
+-- before the first command: the empty office, and nothing accepted or refused
 abbrev pub at_first : Progress
 at_first = record { office = empty_office; accepted = []; refused = 0; nothing = 0 }
 
@@ -43,10 +44,12 @@ noted progress entry office (Ok NothingDue) = record progress { office = office;
 noted progress entry office (Ok reply) =
     record progress { office = office; accepted = progress.accepted ++ entry ∷ [] }
 
+-- what comes of one more command, which the plain office answers at its moment
 unfoldable pub after_entry : Progress → Entry → Progress
 after_entry progress entry =
     let done = step entry.moment entry.command progress.office in noted progress entry done.0 done.1
 
+-- what comes of these commands, one after another
 unfoldable pub after_entries : Progress → List Entry → Progress
 after_entries progress [] = progress
 after_entries progress (entry ∷ entries) = after_entries (after_entry progress entry) entries
@@ -69,5 +72,6 @@ counts made end = record {
 abbrev pub progress : ℕ → ℕ → Progress
 progress number count = after_entries at_first (generated number count)
 
+-- the counts of a load: of as many commands of a number
 abbrev pub tally : ℕ → ℕ → Tally
 tally number count = counts count (progress number count)

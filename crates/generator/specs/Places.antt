@@ -49,11 +49,13 @@ draws_of kind =
 abbrev pub kind_drawn : ℕ → ℕ
 kind_drawn x = draw 2 x % 16
 
+-- the command whose draws begin at the state x: in one of 4 buckets, under one of 500 keys
 abbrev pub drawn : ℕ → Draft
 drawn x = draft_of (kind_drawn x) (draw 1 x % 4) (draw 3 x % 500) (state_after 4 x)
 
 -- ---- from place to place
 
+-- the command behind a place: one of the first eight, or one that is drawn
 abbrev pub draft_at : Place → Draft
 draft_at place = if nat_lt place.made 8 then first_draft place.made else drawn place.state
 

@@ -16,7 +16,7 @@ use Rattle.generator.specs.Drafts.{name_of}
 use Rattle.generator.specs.Places.{place_after}
 use Rattle.generator.specs.Generated.{Progress, progress}
 use Rattle.generator.specs.declared.clock.PlaceClock.{PlaceClock}
-use Rattle.generator.specs.declared.work.Answers.{Answers}
+use Rattle.generator.specs.declared.work.AnswerCounts.{AnswerCounts}
 use Rattle.generator.specs.declared.work.Kept.{Kept}
 use Rattle.generator.specs.declared.work.Work.{Work}
 
@@ -28,13 +28,13 @@ pub record IsDeskAfter (number told : ℕ) (history : List Entry) (desk : DeskVi
   pub told_is : desk.clock.place.made ≡ told
 
 -- the commands were answered so
-pub record AreAnswers (answers : Answers) (progress : Progress) : Type 0 where
+pub record AreAnswers (answers : AnswerCounts) (progress : Progress) : Type 0 where
   pub accepted : answers.accepted ≡ length progress.accepted
   pub refused : answers.refused ≡ progress.refused
   pub nothing : answers.nothing ≡ progress.nothing
 
 -- one more was answered so
-abbrev pub IsCounted : Answers → Result Reply Refusal → Answers → Type 0
+abbrev pub IsCounted : AnswerCounts → Result Reply Refusal → AnswerCounts → Type 0
 IsCounted old (Err refusal) new = new ≡ record old { refused = old.refused + 1 }
 IsCounted old (Ok NothingDue) new = new ≡ record old { nothing = old.nothing + 1 }
 IsCounted old (Ok reply) new = new ≡ record old { accepted = old.accepted + 1 }
@@ -61,6 +61,7 @@ abbrev pub counted_in_first : (BucketRecord → ℕ) → ℕ → Office → ℕ
 counted_in_first count zero office = 0
 counted_in_first count (suc n) office = counted_in_first count n office + counted_in count n office
 
+-- of the unfinished uploads of a bucket, how many there are
 abbrev pub upload_count : BucketRecord → ℕ
 upload_count bucket = length bucket.uploads
 

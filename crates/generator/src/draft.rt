@@ -1,7 +1,5 @@
 // Commands in numbers, whose names and keys are not written out yet.
 ghost use Rattle.std.specs.Prelude.{◌≡◌, [], ◌∷◌, true, IfOk};
-ghost use Rattle.std.specs.List.{list_all};
-ghost use Rattle.rules_core.specs.Configurations.{has_midnights};
 ghost use Rattle.generator.specs.Drafts.{name_of, key_named, drafted_id, prices, rule_named, rules_set, draft_command};
 
 use class_rules::Class;

@@ -26,17 +26,17 @@ const JOURNAL_LIMIT: u64 = 1_073_741_824;
 
 // How the commands were answered.
 #[derive(Clone, Copy)]
-pub(crate) struct Answers {
+pub(crate) struct AnswerCounts {
     pub(crate) accepted: u64,
     pub(crate) refused: u64,
     pub(crate) nothing: u64,
 }
 
-impl Answers {
-    fn none() -> Answers
+impl AnswerCounts {
+    fn none() -> AnswerCounts
         ensures { result ≡ record { accepted = 0; refused = 0; nothing = 0 } }
     {
-        Answers {
+        AnswerCounts {
             accepted: 0,
             refused: 0,
             nothing: 0,
@@ -69,7 +69,7 @@ pub(crate) struct Work {
     number: u64,
     desk: Desk<MemoryDisk, PlaceClock>,
     place: Place,
-    answers: Answers,
+    answers: AnswerCounts,
 }
 
 // Asks a desk that is not stale. One over a disk that does not fail lacks nothing but memory.
@@ -187,7 +187,7 @@ impl Work {
             number,
             desk,
             place: Place::before(number),
-            answers: Answers::none(),
+            answers: AnswerCounts::none(),
         })
     }
 

@@ -54,12 +54,15 @@ pub data Meant : Type 0 where
 abbrev pub is_get : List ℕ → Bool
 is_get method = bytes_eq method (codes "GET")
 
+-- PUT: something is made, put or set
 abbrev pub is_put : List ℕ → Bool
 is_put method = bytes_eq method (codes "PUT")
 
+-- POST: something is started, completed, done or closed
 abbrev pub is_post : List ℕ → Bool
 is_post method = bytes_eq method (codes "POST")
 
+-- DELETE: something is removed, dropped or aborted
 abbrev pub is_delete : List ℕ → Bool
 is_delete method = bytes_eq method (codes "DELETE")
 
@@ -147,9 +150,11 @@ start_meant name part body =
 abbrev pub shown_meant : List ℕ → List ℕ → Meant
 shown_meant name id = if_name name (by_upload id (λ upload. asks (Query (Upload name upload))))
 
+-- an upload is completed
 abbrev pub complete_meant : List ℕ → List ℕ → Meant
 complete_meant name id = if_name name (by_upload id (λ upload. asks (Command (Complete name upload))))
 
+-- an upload is aborted
 abbrev pub abort_meant : List ℕ → List ℕ → Meant
 abort_meant name id = if_name name (by_upload id (λ upload. asks (Command (Abort name upload))))
 
@@ -276,6 +281,7 @@ Means target method body meant =
     ((resource : Resource) × HasRoute target resource × (meant ≡ meant_of resource method body))
     ⊎ (((resource : Resource) → ¬ (HasRoute target resource)) × (meant ≡ refuses not_built))
 
+-- the same of a request that stands in a stream
 abbrev pub IsMeant : Request → Meant → Type 0
 IsMeant r meant = Means r.head.target r.head.method r.body meant
 

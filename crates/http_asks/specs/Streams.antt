@@ -28,6 +28,7 @@ StandsItem None meant last after = ⊤
 StandsItem (Some stream) meant last None = ⊥
 StandsItem (Some stream) meant last (Some rest) = IsItem stream meant last rest
 
+-- something else stands there, of a stream that may not be told
 abbrev pub StandsUnbuilt : Option (List ℕ) → Type 0
 StandsUnbuilt None = ⊤
 StandsUnbuilt (Some stream) = IsUnbuilt stream

@@ -21,9 +21,11 @@ text_members no_members = Some []
 text_members (member name value ms) =
     option_and_then (λ text. option_map (λ pairs. (name, text) ∷ pairs) (text_members ms)) (as_str value)
 
+-- the same of a JSON value, where it is an object
 abbrev pub text_pairs : Data → Option (List Tag)
 text_pairs value = option_and_then text_members (as_object value)
 
+-- what a value holds that may be missing: none where it is missing, and nothing where it is of another kind
 abbrev pub if_there : {T : Type 0} → (Data → Option T) → Option Data → Option (Option T)
 if_there kind None = Some None
 if_there kind (Some value) = option_map Some (kind value)

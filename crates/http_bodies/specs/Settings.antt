@@ -17,6 +17,7 @@ status_named word =
     else if bytes_eq word (codes "Suspended") then Some false
     else None
 
+-- the same of a JSON value, where it is a text
 abbrev pub versioning_status : Data → Option Bool
 versioning_status value = option_and_then status_named (as_str value)
 

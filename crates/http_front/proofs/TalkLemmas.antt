@@ -29,14 +29,14 @@ use Rattle.http_wire.specs.declared.message.MessageStop.{MessageStop}
 use Rattle.http_wire.specs.declared.message.MessageStop.TheVariants as stops
 use Rattle.http_front.specs.declared.answering.SessionEnd.{SessionEnd}
 use Rattle.http_front.specs.declared.answering.SessionEnd.TheVariants as ends
-use Rattle.http_front.specs.Counts.{GaveBytes, total_of, IsUnder, IsSpent, IsUnspent, reading, IsHeldBack, IsTakenAhead, SettlesNothing}
+use Rattle.http_front.specs.Counts.{GaveBytes, total_of, IsUnder, IsSpent, IsUnspent, stream_ends, IsHeldBack, IsTakenAhead, SettlesNothing}
 use Rattle.http_front.specs.Exchanges.{Exchange, answered, refused, exchange_meant, calls_of, exchange_moment, moments_of, Goes, Hears}
 use Rattle.desk_core.specs.Turns.{Moves}
-use Rattle.http_front.specs.Session.{EndsWithExchange, IsCut, IsLong, IsUnsaid, IsWritten, NoneLacks, LastLacks, LacksBy, Session}
+use Rattle.http_front.specs.Session.{Spoken, IsSaidWhole, AddsText, StopsUnbuilt, CutsLast, IsUnsaid, IsLong, IsWritten, EndsWithExchange, NoneLacks, LastLacks, LacksBy, Sides, sides, Session}
 use Rattle.http_front.specs.declared.replies.Replies as sinks
 use Rattle.http_wire.specs.Sources.{OnlyReads}
 use Rattle.http_front.specs.Saying.{OnlySays, Says, SaysFront}
-use Rattle.http_front.specs.Talk.{SaysNoMemory, IsRefusedBy, Sides, sides, AnswersOne, Talked, Closed, Went}
+use Rattle.http_front.specs.Talk.{SaysNoMemory, IsRefusedBy, AnswersOne, Talked, Went}
 use Rattle.http_front.specs.Texts.{exchange_text, text_of, bad_text, texts, not_built_text, no_memory_text}
 
 -- ---- what was heard
@@ -89,20 +89,59 @@ behind first second more w is = ap (λ (t : List ℕ). texts first ++ t) is ∙ 
 all_behind : (first second : List Exchange) (w : List ℕ) → w ≡ texts second → texts first ++ w ≡ texts (first ++ second)
 all_behind first second w is = ap (λ (t : List ℕ). texts first ++ t) is ∙ sym (texts-append first second)
 
-cut_then : (first second whole : List Exchange) (w : List ℕ) → IsCut second whole w → IsCut (first ++ second) (first ++ whole) (texts first ++ w)
-cut_then first second whole w cut = record {
-  last = cut.last;
-  n = cut.n;
-  are = ap (λ (t : List Exchange). first ++ t) cut.are ∙ sym (append_assoc first whole (cut.last ∷ []));
-  is = behind first whole (take cut.n (exchange_text cut.last)) w cut.is;
+-- what was spoken, with these exchanges before it that were said whole
+abbrev spoken_after : List Exchange → Spoken → Spoken
+spoken_after first spoken = record {
+  exchanges = first ++ spoken.exchanges;
+  rest = spoken.rest;
+  closed = spoken.closed;
+  whole = first ++ spoken.whole;
+  written = texts first ++ spoken.written;
 }
 
-unsaid_then : (first second whole : List Exchange) (w instead : List ℕ) → IsUnsaid second whole w instead → IsUnsaid (first ++ second) (first ++ whole) (texts first ++ w) instead
-unsaid_then first second whole w instead x = record {
+-- one exchange
+abbrev spoken_one : Exchange → Option (List ℕ) → Bool → List Exchange → List ℕ → Spoken
+spoken_one exchange rest last whole written = record { exchanges = exchange ∷ []; rest = rest; closed = last; whole = whole; written = written }
+
+-- no exchange
+abbrev pub spoken_none : Option (List ℕ) → List ℕ → Spoken
+spoken_none rest written = record { exchanges = []; rest = rest; closed = false; whole = []; written = written }
+
+-- a text is said behind no exchange
+adds_none : (rest : Option (List ℕ)) (text : List ℕ) → AddsText (spoken_none rest text) text
+adds_none rest text = record { whole = refl; unclosed = refl; written = refl }
+
+-- all were said whole
+all_then : (first second whole : List Exchange) → whole ≡ second → first ++ whole ≡ first ++ second
+all_then first second whole all = ap (λ (t : List Exchange). first ++ t) all
+
+whole_then : (first : List Exchange) (spoken : Spoken) → IsSaidWhole spoken → IsSaidWhole (spoken_after first spoken)
+whole_then first spoken x = record {
+  whole = all_then first spoken.exchanges spoken.whole x.whole;
+  written = all_behind first spoken.exchanges spoken.written x.written;
+}
+
+adds_then : (first : List Exchange) (spoken : Spoken) (text : List ℕ) → AddsText spoken text → AddsText (spoken_after first spoken) text
+adds_then first spoken text x = record {
+  whole = all_then first spoken.exchanges spoken.whole x.whole;
+  unclosed = x.unclosed;
+  written = behind first spoken.exchanges text spoken.written x.written;
+}
+
+cut_then : (first : List Exchange) (spoken : Spoken) → CutsLast spoken → CutsLast (spoken_after first spoken)
+cut_then first spoken cut = record {
+  last = cut.last;
+  n = cut.n;
+  are = ap (λ (t : List Exchange). first ++ t) cut.are ∙ sym (append_assoc first spoken.whole (cut.last ∷ []));
+  is = behind first spoken.whole (take cut.n (exchange_text cut.last)) spoken.written cut.is;
+}
+
+unsaid_then : (first : List Exchange) (spoken : Spoken) (instead : List ℕ) → IsUnsaid spoken instead → IsUnsaid (spoken_after first spoken) instead
+unsaid_then first spoken instead x = record {
   last = x.last;
-  are = ap (λ (t : List Exchange). first ++ t) x.are ∙ sym (append_assoc first whole (answered x.last ∷ []));
+  are = ap (λ (t : List Exchange). first ++ t) x.are ∙ sym (append_assoc first spoken.whole (answered x.last ∷ []));
   long = x.long;
-  is = behind first whole instead w x.is;
+  is = behind first spoken.whole instead spoken.written x.is;
 }
 
 moments-append : (first second : List Exchange) → moments_of (first ++ second) ≡ moments_of first ++ moments_of second
@@ -159,31 +198,26 @@ record Totals (whole later : Option ℕ) : Type 0 where
   spent : (rest : Option (List ℕ)) → IsSpent later rest → IsSpent whole rest
   unspent : (rest : Option (List ℕ)) → IsUnspent later rest → IsUnspent whole rest
 
--- all were said whole
-all_then : (first second whole : List Exchange) → whole ≡ second → first ++ whole ≡ first ++ second
-all_then first second whole all = ap (λ (t : List Exchange). first ++ t) all
+unbuilt_then : (total later : Option ℕ) → Totals total later → (first : List Exchange) (spoken : Spoken) (text : List ℕ)
+    → StopsUnbuilt later spoken text → StopsUnbuilt total (spoken_after first spoken) text
+unbuilt_then total later totals first spoken text x = (x.0, totals.unspent spoken.rest x.1, adds_then first spoken text x.2)
 
-written_then : (total later : Option ℕ) → Totals total later → (end : SessionEnd) (first second whole : List Exchange) (rest : Option (List ℕ)) (closed : Bool) (w : List ℕ)
-    → NoneLacks (calls_of first) → IsWritten later end second whole rest closed w → IsWritten total end (first ++ second) (first ++ whole) rest closed (texts first ++ w)
-written_then total later totals ends.Ended first second whole rest closed w enough (all, inl x) = (all_then first second whole all, inl (x.0, all_behind first second w x.1))
-written_then total later totals ends.Ended first second whole rest closed w enough (all, inr (going, inl x)) =
-    (all_then first second whole all, inr (going, inl (x.0, totals.under x.1, all_behind first second w x.2)))
-written_then total later totals ends.Ended first second whole rest closed w enough (all, inr (going, inr x)) =
-    (all_then first second whole all, inr (going, inr (x.0, totals.unspent rest x.1, behind first second not_built_text w x.2)))
-written_then total later totals ends.ReadFault first second whole rest closed w enough x = (all_then first second whole x.0, x.1, all_behind first second w x.2)
-written_then total later totals ends.Spent first second whole rest closed w enough x = (all_then first second whole x.0, x.1, totals.spent rest x.2, all_behind first second w x.3)
-written_then total later totals ends.WriteFault first second whole rest closed w enough (inl x) = inl (cut_then first second whole w x)
-written_then total later totals ends.WriteFault first second whole rest closed w enough (inr (inl x)) =
-    inr (inl (x.0, unsaid_then first second whole w (take x.0 no_memory_text) x.1))
-written_then total later totals ends.WriteFault first second whole rest closed w enough (inr (inr (all, going, inl x))) =
-    inr (inr (all_then first second whole all, going, inl (x.0, x.1, totals.unspent rest x.2, behind first second (take x.0 not_built_text) w x.3)))
-written_then total later totals ends.WriteFault first second whole rest closed w enough (inr (inr (all, going, inr x))) =
-    inr (inr (all_then first second whole all, going, inr (x.0, behind first second (take x.0 no_memory_text) w x.1)))
-written_then total later totals ends.NoMemory first second whole rest closed w enough (inl x) = inl (unsaid_then first second whole w no_memory_text x)
-written_then total later totals ends.NoMemory first second whole rest closed w enough (inr (all, inl x)) =
-    inr (all_then first second whole all, inl (lacks_then first second enough x.0, all_behind first second w x.1))
-written_then total later totals ends.NoMemory first second whole rest closed w enough (inr (all, inr x)) =
-    inr (all_then first second whole all, inr (x.0, enough_then first second enough x.1, behind first second no_memory_text w x.2))
+written_then : (total later : Option ℕ) → Totals total later → (end : SessionEnd) (first : List Exchange) (spoken : Spoken)
+    → NoneLacks (calls_of first) → IsWritten later end spoken → IsWritten total end (spoken_after first spoken)
+written_then total later totals ends.Ended first spoken enough (inl x) = inl (x.0, whole_then first spoken x.1)
+written_then total later totals ends.Ended first spoken enough (inr (inl x)) = inr (inl (x.0, x.1, totals.under x.2, whole_then first spoken x.3))
+written_then total later totals ends.Ended first spoken enough (inr (inr x)) = inr (inr (unbuilt_then total later totals first spoken not_built_text x))
+written_then total later totals ends.ReadFault first spoken enough x = (x.0, whole_then first spoken x.1)
+written_then total later totals ends.Spent first spoken enough x = (x.0, totals.spent spoken.rest x.1, whole_then first spoken x.2)
+written_then total later totals ends.WriteFault first spoken enough (inl x) = inl (cut_then first spoken x)
+written_then total later totals ends.WriteFault first spoken enough (inr (inl x)) = inr (inl (x.0, unsaid_then first spoken (take x.0 no_memory_text) x.1))
+written_then total later totals ends.WriteFault first spoken enough (inr (inr (inl x))) =
+    inr (inr (inl (x.0, unbuilt_then total later totals first spoken (take x.0 not_built_text) x.1)))
+written_then total later totals ends.WriteFault first spoken enough (inr (inr (inr x))) = inr (inr (inr (x.0, adds_then first spoken (take x.0 no_memory_text) x.1)))
+written_then total later totals ends.NoMemory first spoken enough (inl x) = inl (unsaid_then first spoken no_memory_text x)
+written_then total later totals ends.NoMemory first spoken enough (inr (inl x)) = inr (inl (lacks_then first spoken.exchanges enough x.0, whole_then first spoken x.1))
+written_then total later totals ends.NoMemory first spoken enough (inr (inr x)) =
+    inr (inr (enough_then first spoken.exchanges enough x.0, adds_then first spoken no_memory_text x.1))
 
 -- ---- counts
 
@@ -209,17 +243,16 @@ gave_all a b la lb given none all = (given.given, omega (arith, given.counted, n
 -- ---- the exchange with which a session ends
 
 -- it is the last of the second part
-ends_later : (first second whole : List Exchange) (closed : Bool) → NoneLacks (calls_of first) → EndsWithExchange (first ++ second) (first ++ whole) closed
-    → EndsWithExchange second whole closed
-ends_later first second whole closed enough (inl is) = inl is
-ends_later first second whole closed enough (inr (inl not)) = inr (inl (λ all. not (all_then first second whole all)))
-ends_later first second whole closed enough (inr (inr lacks)) = inr (inr (λ none. lacks (enough_then first second enough none)))
+ends_later : (first : List Exchange) (spoken : Spoken) → NoneLacks (calls_of first) → EndsWithExchange (spoken_after first spoken) → EndsWithExchange spoken
+ends_later first spoken enough (inl is) = inl is
+ends_later first spoken enough (inr (inl not)) = inr (inl (λ all. not (all_then first spoken.exchanges spoken.whole all)))
+ends_later first spoken enough (inr (inr lacks)) = inr (inr (λ none. lacks (enough_then first spoken.exchanges enough none)))
 
 -- there is none
-none_ends : EndsWithExchange [] [] false → ⊥
-none_ends (inl is) = absurd cc
-none_ends (inr (inl not)) = not refl
-none_ends (inr (inr lacks)) = lacks (All-nil IsNoLack)
+none_ends : (rest : Option (List ℕ)) (written : List ℕ) → EndsWithExchange (spoken_none rest written) → ⊥
+none_ends rest written (inl is) = absurd cc
+none_ends rest written (inr (inl not)) = not refl
+none_ends rest written (inr (inr lacks)) = lacks (All-nil IsNoLack)
 
 no_totals : (later : Option ℕ) → Totals None later
 no_totals later = record { under = λ x. tt; spent = λ rest x. tt; unspent = λ rest x. tt }
@@ -379,52 +412,39 @@ module _ {T W : Type 0} (moves : T → Ask → Result Answer DeskFault → T →
   says_none at = record { said = Appends-nil (w.said at); moments = refl }
 
   module _ (remains : Option (List ℕ)) where
-    closed_on : (total later : Option ℕ) → Totals total later → (old mid new : Sides T W) (a b : Option (List ℕ)) (end : SessionEnd)
-        → Talked moves w old mid a b → Closed moves w mid new (reading b remains) later end → Closed moves w old new (reading a remains) total end
-    closed_on total later totals old mid new a b end first second =
+    session_on : (total later : Option ℕ) → Totals total later → (old mid new : Sides T W) (a b : Option (List ℕ)) (end : SessionEnd)
+        → Talked moves w old mid a b → Session moves w mid new (stream_ends b remains) later end → Session moves w old new (stream_ends a remains) total end
+    session_on total later totals old mid new a b end first second =
         let x = first.exchanges in
         let y = second.talk in
+        let z = second.talk.spoken in
         record {
           talk = record {
-            exchanges = x ++ y.exchanges;
-            rest = y.rest;
-            closed = y.closed;
-            heard = hears_then x y.exchanges a b y.rest y.closed first.heard y.heard;
-            whole = x ++ y.whole;
-            written = texts x ++ y.written;
-            is_written = written_then total later totals end x y.exchanges y.whole y.rest y.closed y.written first.enough y.is_written;
-            lacked = lacked_then end x y.exchanges first.enough y.lacked;
+            spoken = spoken_after x z;
+            heard = hears_then x z.exchanges a b z.rest z.closed first.heard y.heard;
+            is_written = written_then total later totals end x z first.enough y.is_written;
+            lacked = lacked_then end x z.exchanges first.enough y.lacked;
             ahead = y.ahead;
-            behind = λ is. y.behind (ends_later x y.exchanges y.whole y.closed first.enough is);
+            behind = λ is. y.behind (ends_later x z first.enough is);
             begun = y.begun;
           };
-          moved = moved_then moves x y.exchanges old.teller mid.teller new.teller first.moved second.moved;
-          said = Appends-trans (w.said old.out) (w.said mid.out) (w.said new.out) (texts x) y.written first.said second.said;
-          stamped = stamped_then (w.moments old.out) (w.moments mid.out) (w.moments new.out) x y.whole first.stamped second.stamped;
+          moved = moved_then moves x z.exchanges old.teller mid.teller new.teller first.moved second.moved;
+          said = Appends-trans (w.said old.out) (w.said mid.out) (w.said new.out) (texts x) z.written first.said second.said;
+          stamped = stamped_then (w.moments old.out) (w.moments mid.out) (w.moments new.out) x z.whole first.stamped second.stamped;
         }
 
-    pub closed_then : (ta tb : ℕ) (la lb : Option (List ℕ)) → Given ta tb la lb → (old mid new : Sides T W) (a b : Option (List ℕ)) (end : SessionEnd)
-        → Talked moves w old mid a b → Closed moves w mid new (reading b remains) (total_of tb lb) end → Closed moves w old new (reading a remains) (total_of ta la) end
-    closed_then ta tb la lb given old mid new a b end first second =
-        closed_on (total_of ta la) (total_of tb lb) (totals ta tb la lb given) old mid new a b end first second
-
-    -- the end of a session from its beginning
-    whole_session : (old new : T) (out_old out_new : W) (left : Option (List ℕ)) (end : SessionEnd)
-        → Closed moves w (sides old out_old) (sides new out_new) (reading left remains) (option_map length left) end
-        → Session moves w old new out_old out_new (reading left remains) end
-    whole_session old new out_old out_new left end all = record { talk = all.talk; moved = all.moved; said = all.said; stamped = all.stamped }
+    pub session_then : (ta tb : ℕ) (la lb : Option (List ℕ)) → Given ta tb la lb → (old mid new : Sides T W) (a b : Option (List ℕ)) (end : SessionEnd)
+        → Talked moves w old mid a b → Session moves w mid new (stream_ends b remains) (total_of tb lb) end → Session moves w old new (stream_ends a remains) (total_of ta la) end
+    session_then ta tb la lb given old mid new a b end first second =
+        session_on (total_of ta la) (total_of tb lb) (totals ta tb la lb given) old mid new a b end first second
 
     -- a session that began with nothing taken
-    pub session_of : (taken : ℕ) (held : List ℕ) (old new : T) (out_old out_new : W) (left : Option (List ℕ)) (end : SessionEnd) → taken ≡ 0 → held ≡ []
-        → Closed moves w (sides old out_old) (sides new out_new) (reading (prepend_known held left) remains) (total_of taken left) end
-        → Session moves w old new out_old out_new (reading left remains) end
-    session_of taken held old new out_old out_new left end none empty closed =
-        let before = sides old out_old in
-        let after = sides new out_new in
-        whole_session old new out_old out_new left end (
-        closed_on (option_map length left) (total_of taken left) (total_from taken left none) before before after left left end (talked_none before left)
-        (subst (λ (s : Option (List ℕ)). Closed moves w before after (reading s remains) (total_of taken left) end) (from_start held left empty) closed)
-        )
+    pub session_of : (taken : ℕ) (held : List ℕ) (old new : Sides T W) (left : Option (List ℕ)) (end : SessionEnd) → taken ≡ 0 → held ≡ []
+        → Session moves w old new (stream_ends (prepend_known held left) remains) (total_of taken left) end
+        → Session moves w old new (stream_ends left remains) (option_map length left) end
+    session_of taken held old new left end none empty later =
+        session_on (option_map length left) (total_of taken left) (total_from taken left none) old old new left left end (talked_none old left)
+        (subst (λ (s : Option (List ℕ)). Session moves w old new (stream_ends s remains) (total_of taken left) end) (from_start held left empty) later)
 
     -- ---- one message that was asked
 
@@ -460,19 +480,15 @@ module _ {T W : Type 0} (moves : T → Ask → Result Answer DeskFault → T →
     lack_moment a b ask told same is =
         subst (λ (t : Result Answer DeskFault). Appends (w.moments a) (w.moments b) (moments_of (one_call ask t))) (sym is) (no_moment a b same)
 
-    closed_one : (old new : Sides T W) (a b : Option (List ℕ)) (total : Option ℕ) (ask : Ask) (last : Bool) (said : Result Answer DeskFault) (end : SessionEnd)
+    session_asked : (old new : Sides T W) (a b : Option (List ℕ)) (total : Option ℕ) (ask : Ask) (last : Bool) (said : Result Answer DeskFault) (end : SessionEnd)
         (whole : List Exchange) (written : List ℕ)
         → moves old.teller ask said new.teller → StandsItem a (asks ask) last b → IsHeldBack b remains → Appends (w.said old.out) (w.said new.out) written
-        → Appends (w.moments old.out) (w.moments new.out) (moments_of whole) → IsWritten total end (one_call ask said) whole b last written
-        → LacksBy end (one_call ask said) → (end ≡ ends.ReadFault → ⊥) → Closed moves w old new (reading a remains) total end
-    closed_one old new a b total ask last said end whole written moved heard held wrote stamped is lacked other = record {
+        → Appends (w.moments old.out) (w.moments new.out) (moments_of whole) → IsWritten total end (spoken_one (answered (record { ask = ask; said = said })) b last whole written)
+        → LacksBy end (one_call ask said) → (end ≡ ends.ReadFault → ⊥) → Session moves w old new (stream_ends a remains) total end
+    session_asked old new a b total ask last said end whole written moved heard held wrote stamped is lacked other = record {
       talk = record {
-        exchanges = one_call ask said;
-        rest = b;
-        closed = last;
+        spoken = spoken_one (answered (record { ask = ask; said = said })) b last whole written;
         heard = hears_one a b (answered (record { ask = ask; said = said })) last heard;
-        whole = whole;
-        written = written;
         is_written = is;
         lacked = lacked;
         ahead = held_ahead b remains held;
@@ -487,14 +503,14 @@ module _ {T W : Type 0} (moves : T → Ask → Result Answer DeskFault → T →
     -- it was answered, and the session goes on unless it was the last
     pub asked_on : (old new : Sides T W) (a b : Option (List ℕ)) (total : Option ℕ) (ask : Ask) (last : Bool) (done result : Result Unit SessionEnd) → IsOk done
         → AnswersOne moves w old new ask done → StandsItem a (asks ask) last b → IsHeldBack b remains → (last ≡ false → IsOk result) → (last ≡ true → result ≡ Err ends.Ended)
-        → Went moves w old new (reading a remains) b total result
+        → Went moves w old new (stream_ends a remains) b total result
     asked_on old new a b total ask last (Err e) result ok told heard held goes stops = absurd cc
     asked_on old new a b total ask true (Ok x) result ok told heard held goes stops =
         let exchange = answered (record { ask = ask; said = told.told }) in
-        subst (Went moves w old new (reading a remains) b total) (sym (stops refl))
-        (closed_one old new a b total ask true told.told ends.Ended (one_call ask told.told) (texts (one_call ask told.told)) told.moved heard held
+        subst (Went moves w old new (stream_ends a remains) b total) (sym (stops refl))
+        (session_asked old new a b total ask true told.told ends.Ended (one_call ask told.told) (texts (one_call ask told.told)) told.moved heard held
         (one_text old.out new.out exchange told.said.0)
-        (one_moment old.out new.out exchange told.said.1) (refl, inl (refl, refl)) (one_enough ask told.told told.said.2) (λ is. absurd cc))
+        (one_moment old.out new.out exchange told.said.1) (inl (refl, record { whole = refl; written = refl })) (one_enough ask told.told told.said.2) (λ is. absurd cc))
     asked_on old new a b total ask false (Ok x) (Err e) ok told heard held goes stops = absurd (let e = goes refl in cc)
     asked_on old new a b total ask false (Ok x) (Ok y) ok told heard held goes stops =
         let exchange = answered (record { ask = ask; said = told.told }) in
@@ -510,30 +526,30 @@ module _ {T W : Type 0} (moves : T → Ask → Result Answer DeskFault → T →
     -- its text was cut, or that of want of memory in its place
     asked_cut : (old new : Sides T W) (a b : Option (List ℕ)) (total : Option ℕ) (ask : Ask) (last : Bool) (told : Result Answer DeskFault) → moves old.teller ask told new.teller
         → StandsItem a (asks ask) last b → IsHeldBack b remains → SaysFront w old.out new.out (text_of told) ⊎ (IsLong told × SaysFront w old.out new.out no_memory_text)
-        → Closed moves w old new (reading a remains) total ends.WriteFault
+        → Session moves w old new (stream_ends a remains) total ends.WriteFault
     asked_cut old new a b total ask last told moved heard held (inl x) =
-        closed_one old new a b total ask last told ends.WriteFault [] (take x.0 (text_of told)) moved heard held x.1.said (no_moment old.out new.out x.1.moments)
+        session_asked old new a b total ask last told ends.WriteFault [] (take x.0 (text_of told)) moved heard held x.1.said (no_moment old.out new.out x.1.moments)
         (inl (record { last = answered (record { ask = ask; said = told }); n = x.0; are = refl; is = refl })) (one_either ask told) (λ is. absurd cc)
     asked_cut old new a b total ask last told moved heard held (inr (long, x)) =
-        closed_one old new a b total ask last told ends.WriteFault [] (take x.0 no_memory_text) moved heard held x.1.said (no_moment old.out new.out x.1.moments)
+        session_asked old new a b total ask last told ends.WriteFault [] (take x.0 no_memory_text) moved heard held x.1.said (no_moment old.out new.out x.1.moments)
         (inr (inl (x.0, record { last = record { ask = ask; said = told }; are = refl; long = long; is = refl }))) (one_either ask told) (λ is. absurd cc)
 
     -- memory ran out, in the call or for its text
     asked_lack : (old new : Sides T W) (a b : Option (List ℕ)) (total : Option ℕ) (ask : Ask) (last : Bool) (told : Result Answer DeskFault) → moves old.teller ask told new.teller
         → StandsItem a (asks ask) last b → IsHeldBack b remains
         → ((told ≡ Err faults.NoMemory) × Says w old.out new.out (text_of told)) ⊎ (IsLong told × Says w old.out new.out no_memory_text)
-        → Closed moves w old new (reading a remains) total ends.NoMemory
+        → Session moves w old new (stream_ends a remains) total ends.NoMemory
     asked_lack old new a b total ask last told moved heard held (inl (is, x)) =
-        closed_one old new a b total ask last told ends.NoMemory (one_call ask told) (texts (one_call ask told)) moved heard held
+        session_asked old new a b total ask last told ends.NoMemory (one_call ask told) (texts (one_call ask told)) moved heard held
         (one_text old.out new.out (answered (record { ask = ask; said = told })) x.said) (lack_moment old.out new.out ask told x.moments is)
-        (inr (refl, inl (one_lacks ask told is, refl))) (inr (one_lacks ask told is)) (λ is. absurd cc)
+        (inr (inl (one_lacks ask told is, record { whole = refl; written = refl }))) (inr (one_lacks ask told is)) (λ is. absurd cc)
     asked_lack old new a b total ask last told moved heard held (inr (long, x)) =
-        closed_one old new a b total ask last told ends.NoMemory [] no_memory_text moved heard held x.said (no_moment old.out new.out x.moments)
+        session_asked old new a b total ask last told ends.NoMemory [] no_memory_text moved heard held x.said (no_moment old.out new.out x.moments)
         (inl (record { last = record { ask = ask; said = told }; are = refl; long = long; is = refl })) (one_either ask told) (λ is. absurd cc)
 
     -- it was answered, or not in full, and this ended the session
     pub asked_end : (old new : Sides T W) (a b : Option (List ℕ)) (total : Option ℕ) (ask : Ask) (last : Bool) (end : SessionEnd) → AnswersOne moves w old new ask (Err end)
-        → StandsItem a (asks ask) last b → IsHeldBack b remains → Closed moves w old new (reading a remains) total end
+        → StandsItem a (asks ask) last b → IsHeldBack b remains → Session moves w old new (stream_ends a remains) total end
     asked_end old new a b total ask last ends.WriteFault done heard held = asked_cut old new a b total ask last done.told done.moved heard held done.said
     asked_end old new a b total ask last ends.NoMemory done heard held = asked_lack old new a b total ask last done.told done.moved heard held done.said
     asked_end old new a b total ask last ends.Ended done heard held = absurd done.said
@@ -545,18 +561,14 @@ module _ {T W : Type 0} (moves : T → Ask → Result Answer DeskFault → T →
     abbrev one_refusal : Refused → List Exchange
     one_refusal broken = refused broken ∷ []
 
-    closed_refusal : (at : T) (oa ob : W) (a b : Option (List ℕ)) (total : Option ℕ) (broken : Refused) (last : Bool) (end : SessionEnd) (whole : List Exchange) (written : List ℕ)
+    session_refused : (at : T) (oa ob : W) (a b : Option (List ℕ)) (total : Option ℕ) (broken : Refused) (last : Bool) (end : SessionEnd) (whole : List Exchange) (written : List ℕ)
         → StandsItem a (refuses broken) last b → IsHeldBack b remains → Says w oa ob written → moments_of whole ≡ []
-        → IsWritten total end (one_refusal broken) whole b last written → LacksBy end (one_refusal broken)
-        → (end ≡ ends.ReadFault → ⊥) → Closed moves w (sides at oa) (sides at ob) (reading a remains) total end
-    closed_refusal at oa ob a b total broken last end whole written heard held says none is lacked other = record {
+        → IsWritten total end (spoken_one (refused broken) b last whole written) → LacksBy end (one_refusal broken)
+        → (end ≡ ends.ReadFault → ⊥) → Session moves w (sides at oa) (sides at ob) (stream_ends a remains) total end
+    session_refused at oa ob a b total broken last end whole written heard held says none is lacked other = record {
       talk = record {
-        exchanges = one_refusal broken;
-        rest = b;
-        closed = last;
+        spoken = spoken_one (refused broken) b last whole written;
         heard = hears_one a b (refused broken) last heard;
-        whole = whole;
-        written = written;
         is_written = is;
         lacked = lacked;
         ahead = held_ahead b remains held;
@@ -575,12 +587,12 @@ module _ {T W : Type 0} (moves : T → Ask → Result Answer DeskFault → T →
     -- it was answered, and the session goes on unless it was the last
     refused_on : (at : T) (oa ob : W) (a b : Option (List ℕ)) (total : Option ℕ) (broken : Refused) (last : Bool) (done result : Result Unit SessionEnd) → IsOk done → IsRefusedBy w oa ob broken done
         → StandsItem a (refuses broken) last b → IsHeldBack b remains → (last ≡ false → IsOk result)
-        → (last ≡ true → result ≡ Err ends.Ended) → Went moves w (sides at oa) (sides at ob) (reading a remains) b total result
+        → (last ≡ true → result ≡ Err ends.Ended) → Went moves w (sides at oa) (sides at ob) (stream_ends a remains) b total result
     refused_on at oa ob a b total broken last (Err e) result ok told heard held goes stops = absurd cc
     refused_on at oa ob a b total broken true (Ok x) result ok told heard held goes stops =
-        subst (Went moves w (sides at oa) (sides at ob) (reading a remains) b total) (sym (stops refl))
-        (closed_refusal at oa ob a b total broken true ends.Ended (one_refusal broken) (texts (one_refusal broken)) heard held (refusal_says oa ob broken told) refl
-        (refl, inl (refl, refl)) (All-nil IsNoLack) (λ is. absurd cc))
+        subst (Went moves w (sides at oa) (sides at ob) (stream_ends a remains) b total) (sym (stops refl))
+        (session_refused at oa ob a b total broken true ends.Ended (one_refusal broken) (texts (one_refusal broken)) heard held (refusal_says oa ob broken told) refl
+        (inl (refl, record { whole = refl; written = refl })) (All-nil IsNoLack) (λ is. absurd cc))
     refused_on at oa ob a b total broken false (Ok x) (Err e) ok told heard held goes stops = absurd (let e = goes refl in cc)
     refused_on at oa ob a b total broken false (Ok x) (Ok y) ok told heard held goes stops = record {
       exchanges = one_refusal broken;
@@ -592,20 +604,16 @@ module _ {T W : Type 0} (moves : T → Ask → Result Answer DeskFault → T →
     }
 
     -- nothing was answered
-    pub closed_here : (at : T) (oa ob : W) (a : Option (List ℕ)) (total : Option ℕ) (end : SessionEnd) (written : List ℕ) → Says w oa ob written → IsWritten total end [] [] a false written
-        → LacksBy end [] → IsTakenAhead a remains → (end ≡ ends.ReadFault → SettlesNothing a remains) → Closed moves w (sides at oa) (sides at ob) (reading a remains) total end
-    closed_here at oa ob a total end written says is lacked ahead begun = record {
+    pub session_here : (at : T) (oa ob : W) (a : Option (List ℕ)) (total : Option ℕ) (end : SessionEnd) (written : List ℕ) → Says w oa ob written → IsWritten total end (spoken_none a written)
+        → LacksBy end [] → IsTakenAhead a remains → (end ≡ ends.ReadFault → SettlesNothing a remains) → Session moves w (sides at oa) (sides at ob) (stream_ends a remains) total end
+    session_here at oa ob a total end written says is lacked ahead begun = record {
       talk = record {
-        exchanges = [];
-        rest = a;
-        closed = false;
+        spoken = spoken_none a written;
         heard = hears_none a;
-        whole = [];
-        written = written;
         is_written = is;
         lacked = lacked;
         ahead = ahead;
-        behind = λ is. absurd (none_ends is);
+        behind = λ is. absurd (none_ends a written is);
         begun = begun;
       };
       moved = refl;
@@ -614,21 +622,21 @@ module _ {T W : Type 0} (moves : T → Ask → Result Answer DeskFault → T →
     }
 
     -- it was said that memory ran out, and no message was answered
-    last_words : (at : T) (oa ob : W) (a : Option (List ℕ)) (total : Option ℕ) (end : SessionEnd) → SaysNoMemory w oa ob end → IsTakenAhead a remains
-        → Closed moves w (sides at oa) (sides at ob) (reading a remains) total end
+    pub last_words : (at : T) (oa ob : W) (a : Option (List ℕ)) (total : Option ℕ) (end : SessionEnd) → SaysNoMemory w oa ob end → IsTakenAhead a remains
+        → Session moves w (sides at oa) (sides at ob) (stream_ends a remains) total end
     last_words at oa ob a total ends.NoMemory says ahead =
-        closed_here at oa ob a total ends.NoMemory no_memory_text says (inr (refl, inr (refl, All-nil IsNoLack, refl))) (inl (All-nil IsNoLack)) ahead (λ is. absurd cc)
+        session_here at oa ob a total ends.NoMemory no_memory_text says (inr (inr (All-nil IsNoLack, adds_none a no_memory_text))) (inl (All-nil IsNoLack)) ahead (λ is. absurd cc)
     last_words at oa ob a total ends.WriteFault (n, says) ahead =
-        closed_here at oa ob a total ends.WriteFault (take n no_memory_text) says (inr (inr (refl, refl, inr (n, refl)))) (inl (All-nil IsNoLack)) ahead (λ is. absurd cc)
+        session_here at oa ob a total ends.WriteFault (take n no_memory_text) says (inr (inr (inr (n, adds_none a (take n no_memory_text))))) (inl (All-nil IsNoLack)) ahead (λ is. absurd cc)
     last_words at oa ob a total ends.Ended says ahead = absurd says
     last_words at oa ob a total ends.ReadFault says ahead = absurd says
     last_words at oa ob a total ends.Spent says ahead = absurd says
 
     -- its text was cut, or there was no memory for it
     refused_end : (at : T) (oa ob : W) (a b : Option (List ℕ)) (total : Option ℕ) (broken : Refused) (last : Bool) (end : SessionEnd) → IsRefusedBy w oa ob broken (Err end)
-        → StandsItem a (refuses broken) last b → IsTakenAhead a remains → IsHeldBack b remains → Closed moves w (sides at oa) (sides at ob) (reading a remains) total end
+        → StandsItem a (refuses broken) last b → IsTakenAhead a remains → IsHeldBack b remains → Session moves w (sides at oa) (sides at ob) (stream_ends a remains) total end
     refused_end at oa ob a b total broken last ends.WriteFault (inl x) heard ahead held =
-        closed_refusal at oa ob a b total broken last ends.WriteFault [] (take x.0 (bad_text broken)) heard held x.1 refl
+        session_refused at oa ob a b total broken last ends.WriteFault [] (take x.0 (bad_text broken)) heard held x.1 refl
         (inl (record { last = refused broken; n = x.0; are = refl; is = refl })) (inl (All-nil IsNoLack)) (λ is. absurd cc)
     refused_end at oa ob a b total broken last ends.WriteFault (inr x) heard ahead held = last_words at oa ob a total ends.WriteFault x ahead
     refused_end at oa ob a b total broken last ends.NoMemory says heard ahead held = last_words at oa ob a total ends.NoMemory says ahead
@@ -641,17 +649,18 @@ module _ {T W : Type 0} (moves : T → Ask → Result Answer DeskFault → T →
     -- what stands there is not served, and it was answered
     unbuilt_on : (at : T) (oa ob : W) (a b : Option (List ℕ)) (total : Option ℕ) (last : Bool) (done result : Result Unit SessionEnd) → IsOk done → IsRefusedBy w oa ob not_built done
         → StandsUnbuilt a × (last ≡ true) → IsUnspent total a → IsTakenAhead a remains → (last ≡ true → result ≡ Err ends.Ended)
-        → Went moves w (sides at oa) (sides at ob) (reading a remains) b total result
+        → Went moves w (sides at oa) (sides at ob) (stream_ends a remains) b total result
     unbuilt_on at oa ob a b total last (Err e) result ok says stands within ahead stops = absurd cc
     unbuilt_on at oa ob a b total last (Ok x) result ok says stands within ahead stops =
-        subst (Went moves w (sides at oa) (sides at ob) (reading a remains) b total) (sym (stops stands.1))
-        (closed_here at oa ob a total ends.Ended not_built_text says (refl, inr (refl, inr (stands.0, within, refl))) (All-nil IsNoLack) ahead (λ is. absurd cc))
+        subst (Went moves w (sides at oa) (sides at ob) (stream_ends a remains) b total) (sym (stops stands.1))
+        (session_here at oa ob a total ends.Ended not_built_text says (inr (inr (stands.0, within, adds_none a not_built_text))) (All-nil IsNoLack) ahead (λ is. absurd cc))
 
     unbuilt_end : (at : T) (oa ob : W) (a : Option (List ℕ)) (total : Option ℕ) (end : SessionEnd)
         → IsRefusedBy w oa ob not_built (Err end) → StandsUnbuilt a → IsUnspent total a → IsTakenAhead a remains
-        → Closed moves w (sides at oa) (sides at ob) (reading a remains) total end
+        → Session moves w (sides at oa) (sides at ob) (stream_ends a remains) total end
     unbuilt_end at oa ob a total ends.WriteFault (inl x) stands within ahead =
-        closed_here at oa ob a total ends.WriteFault (take x.0 not_built_text) x.1 (inr (inr (refl, refl, inl (x.0, stands, within, refl)))) (inl (All-nil IsNoLack)) ahead (λ is. absurd cc)
+        session_here at oa ob a total ends.WriteFault (take x.0 not_built_text) x.1 (inr (inr (inl (x.0, (stands, within, adds_none a (take x.0 not_built_text))))))
+        (inl (All-nil IsNoLack)) ahead (λ is. absurd cc)
     unbuilt_end at oa ob a total ends.WriteFault (inr x) stands within ahead = last_words at oa ob a total ends.WriteFault x ahead
     unbuilt_end at oa ob a total ends.NoMemory says stands within ahead = last_words at oa ob a total ends.NoMemory says ahead
     unbuilt_end at oa ob a total ends.Ended says stands within ahead = absurd says
@@ -662,46 +671,43 @@ module _ {T W : Type 0} (moves : T → Ask → Result Answer DeskFault → T →
     pub bad_on : (at : T) (oa ob : W) (a b : Option (List ℕ)) (total : Option ℕ) (broken : Refused) (last : Bool) (done result : Result Unit SessionEnd) → IsOk done → IsRefusedBy w oa ob broken done
         → TellsRefused a broken last b → IsUnspent total a → IsTakenAhead a remains → IfServed broken (IsHeldBack b remains)
         → (last ≡ false → IsOk result) → (last ≡ true → result ≡ Err ends.Ended)
-        → Went moves w (sides at oa) (sides at ob) (reading a remains) b total result
+        → Went moves w (sides at oa) (sides at ob) (stream_ends a remains) b total result
     bad_on at oa ob a b total not_built last done result ok says tells within ahead held goes stops = unbuilt_on at oa ob a b total last done result ok says tells within ahead stops
     bad_on at oa ob a b total broken last done result ok says tells within ahead held goes stops = refused_on at oa ob a b total broken last done result ok says tells held goes stops
 
     pub bad_end : (at : T) (oa ob : W) (a b : Option (List ℕ)) (total : Option ℕ) (broken : Refused) (last : Bool) (end : SessionEnd) → IsRefusedBy w oa ob broken (Err end)
-        → TellsRefused a broken last b → IsUnspent total a → IsTakenAhead a remains → IfServed broken (IsHeldBack b remains) → Closed moves w (sides at oa) (sides at ob) (reading a remains) total end
+        → TellsRefused a broken last b → IsUnspent total a → IsTakenAhead a remains → IfServed broken (IsHeldBack b remains)
+        → Session moves w (sides at oa) (sides at ob) (stream_ends a remains) total end
     bad_end at oa ob a b total not_built last end says tells within ahead held = unbuilt_end at oa ob a total end says tells.0 within ahead
     bad_end at oa ob a b total broken last end says tells within ahead held = refused_end at oa ob a b total broken last end says tells ahead held
 
     -- nothing was said
-    silent : (at : T) (oa ob : W) (a : Option (List ℕ)) (total : Option ℕ) (end kind : SessionEnd) → (end ≡ kind) × (ob ≡ oa) → IsWritten total kind [] [] a false [] → LacksBy kind []
-        → IsTakenAhead a remains → (kind ≡ ends.ReadFault → SettlesNothing a remains) → Closed moves w (sides at oa) (sides at ob) (reading a remains) total end
+    silent : (at : T) (oa ob : W) (a : Option (List ℕ)) (total : Option ℕ) (end kind : SessionEnd) → (end ≡ kind) × (ob ≡ oa) → IsWritten total kind (spoken_none a []) → LacksBy kind []
+        → IsTakenAhead a remains → (kind ≡ ends.ReadFault → SettlesNothing a remains) → Session moves w (sides at oa) (sides at ob) (stream_ends a remains) total end
     silent at oa ob a total end kind x is lacked ahead begun =
-        subst (λ (e : SessionEnd). Closed moves w (sides at oa) (sides at ob) (reading a remains) total e) (sym x.0)
-        (subst (λ (o : W). Closed moves w (sides at oa) (sides at o) (reading a remains) total kind) (sym x.1)
-        (closed_here at oa oa a total kind [] (says_none oa) is lacked ahead begun))
+        subst (λ (e : SessionEnd). Session moves w (sides at oa) (sides at ob) (stream_ends a remains) total e) (sym x.0)
+        (subst (λ (o : W). Session moves w (sides at oa) (sides at o) (stream_ends a remains) total kind) (sym x.1)
+        (session_here at oa oa a total kind [] (says_none oa) is lacked ahead begun))
 
     pub last_stop : (at : T) (oa ob : W) (a : Option (List ℕ)) (total : Option ℕ) (stop : MessageStop) (end : SessionEnd) → IsTakenAhead a remains
         → (stop ≡ stops.NoMemory → SaysNoMemory w oa ob end)
         → (stop ≡ stops.ReadFault → (end ≡ ends.ReadFault) × (ob ≡ oa)) → (stop ≡ stops.Spent → (end ≡ ends.Spent) × (ob ≡ oa)) → (stop ≡ stops.Spent → IsSpent total a)
-        → (stop ≡ stops.ReadFault → SettlesNothing a remains) → Closed moves w (sides at oa) (sides at ob) (reading a remains) total end
+        → (stop ≡ stops.ReadFault → SettlesNothing a remains) → Session moves w (sides at oa) (sides at ob) (stream_ends a remains) total end
     last_stop at oa ob a total stops.NoMemory end ahead says read spent unsettled begun = last_words at oa ob a total end (says refl) ahead
     last_stop at oa ob a total stops.ReadFault end ahead says read spent unsettled begun =
-        silent at oa ob a total end ends.ReadFault (read refl) (refl, refl, refl) (All-nil IsNoLack) ahead (λ is. begun refl)
+        silent at oa ob a total end ends.ReadFault (read refl) (refl, record { whole = refl; written = refl }) (All-nil IsNoLack) ahead (λ is. begun refl)
     last_stop at oa ob a total stops.Spent end ahead says read spent unsettled begun =
-        silent at oa ob a total end ends.Spent (spent refl) (refl, refl, unsettled refl, refl) (All-nil IsNoLack) ahead (λ is. absurd cc)
-
-    -- a session that had no memory to begin with
-    pub session_lacks : (at : T) (oa ob : W) (left : Option (List ℕ)) (end : SessionEnd) → SaysNoMemory w oa ob end → IsTakenAhead left remains → Session moves w at at oa ob (reading left remains) end
-    session_lacks at oa ob left end says ahead = whole_session at at oa ob left end (last_words at oa ob left (option_map length left) end says ahead)
+        silent at oa ob a total end ends.Spent (spent refl) (refl, unsettled refl, record { whole = refl; written = refl }) (All-nil IsNoLack) ahead (λ is. absurd cc)
 
     -- ---- how a message went
 
-    pub went_on : (old new : Sides T W) (a b : Option (List ℕ)) (total : Option ℕ) (result : Result Unit SessionEnd) → Went moves w old new (reading a remains) b total result
+    pub went_on : (old new : Sides T W) (a b : Option (List ℕ)) (total : Option ℕ) (result : Result Unit SessionEnd) → Went moves w old new (stream_ends a remains) b total result
         → OnOk result (Talked moves w old new a b)
     went_on old new a b total (Ok x) went = went
     went_on old new a b total (Err end) went = tt
 
-    pub went_end : (old new : Sides T W) (a b : Option (List ℕ)) (total : Option ℕ) (result : Result Unit SessionEnd) → Went moves w old new (reading a remains) b total result
-        → IfErr result (λ end. Closed moves w old new (reading a remains) total end)
+    pub went_end : (old new : Sides T W) (a b : Option (List ℕ)) (total : Option ℕ) (result : Result Unit SessionEnd) → Went moves w old new (stream_ends a remains) b total result
+        → IfErr result (λ end. Session moves w old new (stream_ends a remains) total end)
     went_end old new a b total (Ok x) went = tt
     went_end old new a b total (Err end) went = went
 

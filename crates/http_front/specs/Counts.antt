@@ -45,8 +45,9 @@ pub record StreamEnds : Type 0 where
   pub stream : Option (List ℕ)
   pub left : Option (List ℕ)
 
-abbrev pub reading : Option (List ℕ) → Option (List ℕ) → StreamEnds
-reading stream left = record { stream = stream; left = left }
+-- the first left at the start, the second at the end
+abbrev pub stream_ends : Option (List ℕ) → Option (List ℕ) → StreamEnds
+stream_ends stream left = record { stream = stream; left = left }
 
 -- of this rest of a stream no more than a head's room was taken
 abbrev pub IsHeldBack : Option (List ℕ) → Option (List ℕ) → Type 0

@@ -27,6 +27,7 @@ abbrev pub moment_of : Result Answer DeskFault → List ℕ
 moment_of (Ok answer) = answer.disk_moment ∷ []
 moment_of (Err fault) = []
 
+-- the moment of an exchange, where it has one
 abbrev pub exchange_moment : Exchange → List ℕ
 exchange_moment (answered call) = moment_of call.said
 exchange_moment (refused broken) = []

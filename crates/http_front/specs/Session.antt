@@ -1,5 +1,5 @@
 -- What a session does: its exchanges are the messages of the stream in order, and what was said are their texts.
-use Rattle.std.specs.Prelude.{◌≡◌, ◌⊎◌, ℕ, Bool, true, false, List, [], ◌∷◌, ◌++◌, take, length, All, option_map}
+use Rattle.std.specs.Prelude.{◌≡◌, ◌⊎◌, ℕ, Bool, true, false, List, [], ◌∷◌, ◌++◌, take, All}
 use Rattle.std.specs.Prelude.{Option, Result, Ok, Err}
 use Rattle.std.specs.Io.KnownBytes.{Appends, IsAtEnd}
 use Rattle.office_types.specs.declared.command.Ask.{Ask}
@@ -38,88 +38,141 @@ LacksBy ends.Ended exchanges = NoneLacks (calls_of exchanges)
 LacksBy ends.ReadFault exchanges = NoneLacks (calls_of exchanges)
 LacksBy ends.Spent exchanges = NoneLacks (calls_of exchanges)
 
--- ---- what was said
+-- ---- what was heard and said
 
--- these were said whole, and the text of the last exchange is missing its rest
-pub record IsCut (exchanges whole : List Exchange) (written : List ℕ) : Type 0 where
-  pub last : Exchange
-  pub n : ℕ
-  pub are : exchanges ≡ whole ++ last ∷ []
-  pub is : written ≡ texts whole ++ take n (exchange_text last)
+-- What a session heard and said: the messages that it heard, each with what was answered or as a refusal; what is left
+-- of the stream behind them; whether the last of them closed the session; those whose texts were written whole; and all
+-- that was written.
+pub record Spoken : Type 0 where
+  pub exchanges : List Exchange
+  pub rest : Option (List ℕ)
+  pub closed : Bool
+  pub whole : List Exchange
+  pub written : List ℕ
+
+-- the texts of all exchanges were said whole, and nothing else
+pub record IsSaidWhole (spoken : Spoken) : Type 0 where
+  pub whole : spoken.whole ≡ spoken.exchanges
+  pub written : spoken.written ≡ texts spoken.exchanges
+
+-- none of the exchanges closed the session; their texts were said whole, and this text behind them
+pub record AddsText (spoken : Spoken) (text : List ℕ) : Type 0 where
+  pub whole : spoken.whole ≡ spoken.exchanges
+  pub unclosed : spoken.closed ≡ false
+  pub written : spoken.written ≡ texts spoken.exchanges ++ text
 
 -- an answer whose text takes memory
 abbrev pub IsLong : Result Answer DeskFault → Type 0
 IsLong (Ok answer) = IsShort answer.reply → ⊥
 IsLong (Err fault) = ⊥
 
--- these were said whole, and this in place of the last exchange, an answer for whose text there was no memory
-pub record IsUnsaid (exchanges whole : List Exchange) (written instead : List ℕ) : Type 0 where
-  pub last : Call
-  pub are : exchanges ≡ whole ++ answered last ∷ []
-  pub long : IsLong last.said
-  pub is : written ≡ texts whole ++ instead
+-- ---- the ways in which a session ends
 
--- What was said at the end of a session, where rest is left of the stream and the source has so many bytes in all: all
--- exchanges are said whole, but a last one that is cut or lacks memory for its text. Where it is closed, nothing is
--- heard or said behind its last exchange.
-abbrev pub IsWritten : Option ℕ → SessionEnd → List Exchange → List Exchange → Option (List ℕ) → Bool → List ℕ → Type 0
-IsWritten total ends.Ended exchanges whole rest closed written =
-    (whole ≡ exchanges) × (
-    ((closed ≡ true) × (written ≡ texts exchanges))
-    ⊎ ((closed ≡ false) × ((IsAtEnd rest × IsUnder total × (written ≡ texts exchanges))
-    ⊎ (StandsUnbuilt rest × IsUnspent total rest × (written ≡ texts exchanges ++ not_built_text))))
-    )
-IsWritten total ends.ReadFault exchanges whole rest closed written =
-    (whole ≡ exchanges) × (closed ≡ false) × (written ≡ texts exchanges)
-IsWritten total ends.Spent exchanges whole rest closed written =
-    (whole ≡ exchanges) × (closed ≡ false) × IsSpent total rest × (written ≡ texts exchanges)
-IsWritten total ends.WriteFault exchanges whole rest closed written =
-    IsCut exchanges whole written
-    ⊎ (((n : ℕ) × IsUnsaid exchanges whole written (take n no_memory_text))
-    ⊎ ((whole ≡ exchanges) × (closed ≡ false) × (
-    ((n : ℕ) × StandsUnbuilt rest × IsUnspent total rest × (written ≡ texts exchanges ++ take n not_built_text))
-    ⊎ ((n : ℕ) × (written ≡ texts exchanges ++ take n no_memory_text))
-    )))
-IsWritten total ends.NoMemory exchanges whole rest closed written =
-    IsUnsaid exchanges whole written no_memory_text
-    ⊎ ((whole ≡ exchanges) × (
-    (LastLacks exchanges × (written ≡ texts exchanges))
-    ⊎ ((closed ≡ false) × NoneLacks (calls_of exchanges) × (written ≡ texts exchanges ++ no_memory_text))
-    ))
+-- the last exchange closed the session
+abbrev pub EndsClosed : Spoken → Type 0
+EndsClosed spoken = (spoken.closed ≡ true) × IsSaidWhole spoken
+
+-- the stream ended behind the exchanges, before as many bytes as the limit were taken
+abbrev pub EndsWithStream : Option ℕ → Spoken → Type 0
+EndsWithStream total spoken = (spoken.closed ≡ false) × IsAtEnd spoken.rest × IsUnder total × IsSaidWhole spoken
+
+-- a message that is not served stands behind the exchanges, and this text was said of it
+abbrev pub StopsUnbuilt : Option ℕ → Spoken → List ℕ → Type 0
+StopsUnbuilt total spoken text = StandsUnbuilt spoken.rest × IsUnspent total spoken.rest × AddsText spoken text
+
+-- a further message was sought and not read, and nothing was said of it
+abbrev pub StopsUnread : Spoken → Type 0
+StopsUnread spoken = (spoken.closed ≡ false) × IsSaidWhole spoken
+
+-- as many bytes as the limit were taken, and what is left of them behind the exchanges settles nothing
+abbrev pub StopsSpent : Option ℕ → Spoken → Type 0
+StopsSpent total spoken = (spoken.closed ≡ false) × IsSpent total spoken.rest × IsSaidWhole spoken
+
+-- the exchanges before the last one were said whole, and the text of the last one is missing its rest
+pub record CutsLast (spoken : Spoken) : Type 0 where
+  pub last : Exchange
+  pub n : ℕ
+  pub are : spoken.exchanges ≡ spoken.whole ++ last ∷ []
+  pub is : spoken.written ≡ texts spoken.whole ++ take n (exchange_text last)
+
+-- the exchanges before the last one were said whole, and this in place of the last one, an answer for whose text there
+-- was no memory
+pub record IsUnsaid (spoken : Spoken) (instead : List ℕ) : Type 0 where
+  pub last : Call
+  pub are : spoken.exchanges ≡ spoken.whole ++ answered last ∷ []
+  pub long : IsLong last.said
+  pub is : spoken.written ≡ texts spoken.whole ++ instead
+
+-- a front of the text of want of memory was said in place of the last exchange, an answer
+abbrev pub CutsUnsaid : Spoken → Type 0
+CutsUnsaid spoken = (n : ℕ) × IsUnsaid spoken (take n no_memory_text)
+
+-- a message that is not served stands behind the exchanges, and a front of its text was said
+abbrev pub CutsUnbuilt : Option ℕ → Spoken → Type 0
+CutsUnbuilt total spoken = (n : ℕ) × StopsUnbuilt total spoken (take n not_built_text)
+
+-- memory ran out for a further message, and a front of the text that says so was said
+abbrev pub CutsLack : Spoken → Type 0
+CutsLack spoken = (n : ℕ) × AddsText spoken (take n no_memory_text)
+
+-- the last exchange is the one call that was told that memory ran out, and its text says so
+abbrev pub LacksAtAnswer : Spoken → Type 0
+LacksAtAnswer spoken = LastLacks spoken.exchanges × IsSaidWhole spoken
+
+-- no call was told that memory ran out: it did for a further message, and this was said
+abbrev pub LacksAtMessage : Spoken → Type 0
+LacksAtMessage spoken = NoneLacks (calls_of spoken.exchanges) × AddsText spoken no_memory_text
+
+-- What was said at the end of a session, whose source has so many bytes in all: the texts of all exchanges are said
+-- whole, but for a last one that is cut or lacks memory for its text. Where it is closed, nothing is heard or said
+-- behind its last exchange.
+abbrev pub IsWritten : Option ℕ → SessionEnd → Spoken → Type 0
+IsWritten total ends.Ended spoken =
+    EndsClosed spoken ⊎ (EndsWithStream total spoken ⊎ StopsUnbuilt total spoken not_built_text)
+IsWritten total ends.ReadFault spoken = StopsUnread spoken
+IsWritten total ends.Spent spoken = StopsSpent total spoken
+IsWritten total ends.WriteFault spoken =
+    CutsLast spoken ⊎ (CutsUnsaid spoken ⊎ (CutsUnbuilt total spoken ⊎ CutsLack spoken))
+IsWritten total ends.NoMemory spoken =
+    IsUnsaid spoken no_memory_text ⊎ (LacksAtAnswer spoken ⊎ LacksAtMessage spoken)
 
 -- ---- a session
 
 -- The session ends with its last exchange: that closes it, or not all exchanges were said whole, or memory ran out for
 -- an answer. Else it ends where a further message is sought.
-abbrev pub EndsWithExchange : List Exchange → List Exchange → Bool → Type 0
-EndsWithExchange exchanges whole closed =
-    (closed ≡ true) ⊎ ((whole ≡ exchanges → ⊥) ⊎ (NoneLacks (calls_of exchanges) → ⊥))
+abbrev pub EndsWithExchange : Spoken → Type 0
+EndsWithExchange spoken =
+    (spoken.closed ≡ true) ⊎ ((spoken.whole ≡ spoken.exchanges → ⊥) ⊎ (NoneLacks (calls_of spoken.exchanges) → ⊥))
 
--- The transcript of a session over what was read, of a source with so many bytes in all: the messages that it heard,
--- each with what was answered or as a refusal, what is left behind them, whether the last one closed it, and what was
--- written.
+-- The transcript of a session over what was read, of a source with so many bytes in all: what was spoken, and that it
+-- was heard in the stream and written.
 pub record Transcript (total : Option ℕ) (read : StreamEnds) (end : SessionEnd) : Type 0 where
-  pub exchanges : List Exchange
-  pub rest : Option (List ℕ)
-  pub closed : Bool
-  pub heard : Hears read.stream exchanges rest closed
-  -- the exchanges whose texts were written whole, and all that was written
-  pub whole : List Exchange
-  pub written : List ℕ
-  pub is_written : IsWritten total end exchanges whole rest closed written
-  pub lacked : LacksBy end exchanges
+  pub spoken : Spoken
+  pub heard : Hears read.stream spoken.exchanges spoken.rest spoken.closed
+  pub is_written : IsWritten total end spoken
+  pub lacked : LacksBy end spoken.exchanges
   -- behind the last exchange at most one message is read, with what is held behind it
-  pub ahead : IsTakenAhead rest read.left
+  pub ahead : IsTakenAhead spoken.rest read.left
   -- behind an exchange with which it ends nothing is read but what was held with it
-  pub behind : EndsWithExchange exchanges whole closed → IsHeldBack rest read.left
+  pub behind : EndsWithExchange spoken → IsHeldBack spoken.rest read.left
   -- where the source failed, each message that had come whole is an exchange
-  pub begun : end ≡ ends.ReadFault → SettlesNothing rest read.left
+  pub begun : end ≡ ends.ReadFault → SettlesNothing spoken.rest read.left
+
+-- the two sides of a session beside its source: who answers, and where the replies go
+pub record Sides (T W : Type 0) : Type 0 where
+  pub teller : T
+  pub out : W
+
+-- the sides that this teller and this sink are
+abbrev pub sides : {T W : Type 0} → T → W → Sides T W
+sides teller out = record { teller = teller; out = out }
 
 module _ {T W : Type 0} (moves : T → Ask → Result Answer DeskFault → T → Type 0) (w : sinks.Ghosts W) where
-  -- A session: the teller moved by the calls of its transcript, in order, and what was written was said, with the
-  -- disk's moments of the answers that were said whole.
-  pub record Session (old new : T) (out_old out_new : W) (read : StreamEnds) (end : SessionEnd) : Type 0 where
-    pub talk : Transcript (option_map length read.stream) read end
-    pub moved : Moves moves old (calls_of talk.exchanges) new
-    pub said : Appends (w.said out_old) (w.said out_new) talk.written
-    pub stamped : Appends (w.moments out_old) (w.moments out_new) (moments_of talk.whole)
+  -- A session from some message on up to its end, over what was read of a source with so many bytes in all: the teller
+  -- moved by the calls of its transcript, in order, and what was written was said, with the disk's moments of the
+  -- answers that were said whole.
+  pub record Session (old new : Sides T W) (read : StreamEnds) (total : Option ℕ) (end : SessionEnd) : Type 0 where
+    pub talk : Transcript total read end
+    pub moved : Moves moves old.teller (calls_of talk.spoken.exchanges) new.teller
+    pub said : Appends (w.said old.out) (w.said new.out) talk.spoken.written
+    pub stamped : Appends (w.moments old.out) (w.moments new.out) (moments_of talk.spoken.whole)

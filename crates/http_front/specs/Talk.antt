@@ -1,4 +1,4 @@
--- Parts of a session: messages that were answered, and the end of a session that may have begun before.
+-- Parts of a session: what was said of a message, and messages that were answered one after another.
 use Rattle.std.specs.Prelude.{◌≡◌, ◌⊎◌, ℕ, false, List, Option, Result, Ok, Err}
 use Rattle.std.specs.Io.KnownBytes.{Appends}
 use Rattle.office_types.specs.declared.command.Ask.{Ask}
@@ -13,7 +13,7 @@ use Rattle.http_front.specs.declared.replies.Replies as sinks
 use Rattle.http_front.specs.Counts.{StreamEnds}
 use Rattle.http_front.specs.Exchanges.{Exchange, calls_of, moment_of, moments_of, Hears}
 use Rattle.http_front.specs.Saying.{Says, SaysFront}
-use Rattle.http_front.specs.Session.{IsLong, NoneLacks, Transcript}
+use Rattle.http_front.specs.Session.{IsLong, NoneLacks, Sides, Session}
 use Rattle.http_front.specs.Texts.{text_of, bad_text, no_memory_text, texts}
 
 module _ {W : Type 0} (w : sinks.Ghosts W) where
@@ -51,14 +51,6 @@ module _ {W : Type 0} (w : sinks.Ghosts W) where
   IsRefusedBy old new broken (Err ends.ReadFault) = ⊥
   IsRefusedBy old new broken (Err ends.Spent) = ⊥
 
--- the two sides of a session beside its source: who answers, and where the replies go
-pub record Sides (T W : Type 0) : Type 0 where
-  pub teller : T
-  pub out : W
-
-abbrev pub sides : {T W : Type 0} → T → W → Sides T W
-sides teller out = record { teller = teller; out = out }
-
 module _ {T W : Type 0} (moves : T → Ask → Result Answer DeskFault → T → Type 0) (w : sinks.Ghosts W) where
   -- One ask was answered.
   pub record AnswersOne (old new : Sides T W) (ask : Ask) (result : Result Unit SessionEnd) : Type 0 where
@@ -75,14 +67,7 @@ module _ {T W : Type 0} (moves : T → Ask → Result Answer DeskFault → T →
     pub stamped : Appends (w.moments old.out) (w.moments new.out) (moments_of exchanges)
     pub enough : NoneLacks (calls_of exchanges)
 
-  -- The same up to the end of the session, whose source has so many bytes in all.
-  pub record Closed (old new : Sides T W) (read : StreamEnds) (total : Option ℕ) (end : SessionEnd) : Type 0 where
-    pub talk : Transcript total read end
-    pub moved : Moves moves old.teller (calls_of talk.exchanges) new.teller
-    pub said : Appends (w.said old.out) (w.said new.out) talk.written
-    pub stamped : Appends (w.moments old.out) (w.moments new.out) (moments_of talk.whole)
-
   -- how a message went: the session goes on, or it ends
   abbrev pub Went : Sides T W → Sides T W → StreamEnds → Option (List ℕ) → Option ℕ → Result Unit SessionEnd → Type 0
   Went old new read rest total (Ok x) = Talked old new read.stream rest
-  Went old new read rest total (Err end) = Closed old new read total end
+  Went old new read rest total (Err end) = Session moves w old new read total end

@@ -31,30 +31,35 @@ use Rattle.http_front.specs.Exchanges.{Exchange, answered, refused}
 abbrev pub error_reply : ℕ → List ℕ → ℕ → List ℕ
 error_reply status name number = reply_with status (error_text name number)
 
+-- the text of want of memory
 abbrev pub no_memory_text : List ℕ
 no_memory_text = error_reply 500 (codes "NoMemory") 115
 
+-- the text of a message that is not served
 abbrev pub not_built_text : List ℕ
 not_built_text = error_reply 501 (codes "NotBuilt") 119
 
 -- ---- a message that is refused
 
--- the body tells a name, the field that is wrong, the place of a rule, or a class and the table of a tariff
+-- the body of a refusal that tells a name
 unfoldable pub named_text : List ℕ → ℕ → List ℕ → List ℕ
 named_text error number name = compact_text (error_data error number ((codes "name", string name) ∷ []))
 
+-- the body of a refusal that tells the field that is wrong
 unfoldable pub field_text : List ℕ → ℕ → List ℕ → List ℕ
 field_text error number field = compact_text (error_data error number ((codes "field", string field) ∷ []))
 
+-- the body of a refusal that tells the place of a rule
 unfoldable pub rule_text : List ℕ → ℕ → ℕ → List ℕ
 rule_text error number rule = compact_text (error_data error number ((codes "rule", whole_data rule) ∷ []))
 
+-- the body of a refusal that tells a class and the table of a tariff
 unfoldable pub price_text : List ℕ → ℕ → TariffTable → Class → List ℕ
 price_text error number table class =
     compact_text (error_data error number
     ((codes "class", string (class_name class)) ∷ (codes "table", string (table_name table)) ∷ []))
 
--- the conditions of rules, by name and by number
+-- the name of a condition of rules
 abbrev pub flaw_name : RuleFlaw → List ℕ
 flaw_name flaws.TooManyRules = codes "TooManyRules"
 flaw_name flaws.LongId = codes "LongId"
@@ -72,6 +77,7 @@ flaw_name flaws.MarkerRule = codes "MarkerRule"
 flaw_name flaws.AbortFilter = codes "AbortFilter"
 flaw_name flaws.BadExpiration = codes "BadExpiration"
 
+-- the number of a condition of rules
 abbrev pub flaw_number : RuleFlaw → ℕ
 flaw_number flaws.TooManyRules = 20
 flaw_number flaws.LongId = 21
@@ -89,12 +95,14 @@ flaw_number flaws.MarkerRule = 32
 flaw_number flaws.AbortFilter = 33
 flaw_number flaws.BadExpiration = 34
 
+-- the body of the refusal of a message whose body has a flaw
 abbrev pub flaw_body : BodyFlaw → List ℕ
 flaw_body bad_tags = error_text (codes "BadTags") 12
 flaw_body bad_size = error_text (codes "BadSize") 13
 flaw_body (unsupported_class name) = named_text (codes "UnsupportedClass") 43 name
 flaw_body (bad_body field) = field_text (codes "BadBody") 123 field
 
+-- the body of the refusal of a lifecycle configuration
 abbrev pub rules_fault_body : RulesFault → List ℕ
 rules_fault_body rules.NotADate = error_text (codes "NotADate") 2
 rules_fault_body rules.NotMidnight = error_text (codes "NotMidnight") 3
@@ -105,12 +113,14 @@ rules_fault_body (rules.UnsupportedClass name) = named_text (codes "UnsupportedC
 rules_fault_body (rules.Flaw flaw rule) = rule_text (flaw_name flaw) (flaw_number flaw) rule
 rules_fault_body rules.NoMemory = error_text (codes "NoMemory") 115
 
+-- the body of the refusal of a tariff
 abbrev pub tariff_flaw_body : TariffFlaw → List ℕ
 tariff_flaw_body tariffs.not_toml = error_text (codes "NotToml") 70
 tariff_flaw_body (tariffs.missing_class table class) = price_text (codes "MissingClass") 71 table class
 tariff_flaw_body (tariffs.bad_price table class) = price_text (codes "BadPrice") 72 table class
 tariff_flaw_body (tariffs.unknown_field name) = named_text (codes "UnknownField") 73 name
 
+-- the body of any refusal
 abbrev pub refused_body : Refused → List ℕ
 refused_body not_a_month = error_text (codes "NotAMonth") 4
 refused_body bad_bucket_name = error_text (codes "BadBucketName") 10
@@ -131,6 +141,7 @@ refused_status bad_part = 409
 refused_status not_built = 501
 refused_status other = 400
 
+-- the text of a refusal
 abbrev pub bad_text : Refused → List ℕ
 bad_text broken = reply_with (refused_status broken) (refused_body broken)
 
@@ -139,10 +150,12 @@ abbrev pub told_body : Option Refused → List ℕ
 told_body None = error_text (codes "NoMemory") 115
 told_body (Some broken) = refused_body broken
 
+-- the status of what is told of a refusal
 abbrev pub told_status : Option Refused → ℕ
 told_status None = 500
 told_status (Some broken) = refused_status broken
 
+-- the text of what is told of a refusal, with that status and that body
 abbrev pub told_text : Option Refused → List ℕ
 told_text told = reply_with (told_status told) (told_body told)
 
@@ -160,6 +173,7 @@ open_body (opening.Damaged offset) = damaged_text offset
 open_body opening.StoreFault = error_text (codes "StoreFault") 114
 open_body opening.NoMemory = error_text (codes "NoMemory") 115
 
+-- the body of the text of a call without an answer of the office
 abbrev pub fault_body : DeskFault → List ℕ
 fault_body (faults.StoreFault told count) = error_text (codes "StoreFault") 114
 fault_body faults.JournalFull = error_text (codes "JournalFull") 113
@@ -197,6 +211,7 @@ bad_text_of (Desk fault) = fault_text fault
 
 -- ---- a session
 
+-- the text of an exchange: that of what its call was told, or of its refusal
 abbrev pub exchange_text : Exchange → List ℕ
 exchange_text (answered call) = text_of call.said
 exchange_text (refused broken) = bad_text broken

@@ -9,9 +9,10 @@ ghost use Rattle.http_text.specs.Shorts.{IsShort};
 ghost use Rattle.http_asks.specs.Counts.{Given};
 ghost use Rattle.http_asks.specs.Faults.{refused_of};
 ghost use Rattle.http_asks.specs.Tells.{TellsHeard, OnItem};
-ghost use Rattle.http_front.specs.Counts.{IsUnder, IsUnspent, IsHeldBack, IsTakenAhead, reading, total_of};
+ghost use Rattle.http_front.specs.Counts.{IsUnder, IsUnspent, IsHeldBack, IsTakenAhead, stream_ends, total_of};
 ghost use Rattle.http_front.specs.Saying.{OnlySays, Says, SaysFront};
-ghost use Rattle.http_front.specs.Talk.{SaysNoMemory, IsSaid, IsRefusedBy, sides, AnswersOne, Talked, Closed, Went};
+ghost use Rattle.http_front.specs.Session.{sides, Session};
+ghost use Rattle.http_front.specs.Talk.{SaysNoMemory, IsSaid, IsRefusedBy, AnswersOne, Talked, Went};
 ghost use Rattle.http_front.specs.Texts.{bad_text_of};
 
 use crate::bad::Bad;
@@ -212,8 +213,8 @@ fn answer_heard<W: Replies, T: Teller>(
     ensures went { (stream rest left : Option (List ℕ)) (total : Option ℕ) → TellsHeard stream heard rest
         → (heard ≡ Heard.End → IsUnder total) → IsUnspent total stream
         → IsTakenAhead stream left → OnItem {E = MessageStop} (Ok heard) (IsHeldBack rest left)
-        → Went T.moves W.Replies (sides teller.old out.old) (sides teller.new out.new) (reading stream left) rest total
-        result }
+        → Went T.moves W.Replies (sides teller.old out.old) (sides teller.new out.new)
+        (stream_ends stream left) rest total result }
     ensures item { (stream rest : Option (List ℕ)) (few many : ℕ) → TellsHeard stream heard rest
         → OnItem {E = MessageStop} (Ok heard) (few < many) → OnOk result (few < many) }
     ensures room { 16384 ≤ length room.new }
@@ -246,8 +247,8 @@ pub(crate) fn answer_one<R: Source, W: Replies, T: Teller>(
     requires room { 16384 ≤ length room.old }
     ensures goes_on { OnOk result (Talked T.moves W.Replies (sides teller.old out.old) (sides teller.new out.new)
         (prepend_known reader.old.bytes (R.left source.old)) (prepend_known reader.new.bytes (R.left source.new))) }
-    ensures closed { IfErr result (Closed T.moves W.Replies (sides teller.old out.old) (sides teller.new out.new)
-        (reading (prepend_known reader.old.bytes (R.left source.old)) (R.left source.new))
+    ensures session { IfErr result (Session T.moves W.Replies (sides teller.old out.old) (sides teller.new out.new)
+        (stream_ends (prepend_known reader.old.bytes (R.left source.old)) (R.left source.new))
         (total_of reader.old.taken (R.left source.old))) }
     ensures room { 16384 ≤ length room.new }
     ensures given { Given reader.old.taken reader.new.taken (R.left source.old) (R.left source.new) }

@@ -1,13 +1,12 @@
 // A session: each message in order has its answer.
-ghost use Rattle.std.specs.Prelude.{◌≡◌, ◌≤◌, ℕ, List, Option, length};
+ghost use Rattle.std.specs.Prelude.{◌≡◌, ◌≤◌, ℕ, length, option_map};
 ghost use Rattle.std.specs.Io.KnownBytes.{prepend_known};
 ghost use Rattle.http_wire.specs.Held.{take_limit};
 ghost use Rattle.http_wire.specs.Sources.{OnlyReads};
 ghost use Rattle.http_asks.specs.Counts.{Given};
-ghost use Rattle.http_front.specs.Counts.{GaveBytes, reading, total_of};
+ghost use Rattle.http_front.specs.Counts.{GaveBytes, stream_ends, total_of};
 ghost use Rattle.http_front.specs.Saying.{OnlySays};
-ghost use Rattle.http_front.specs.Session.{Session};
-ghost use Rattle.http_front.specs.Talk.{sides, Closed};
+ghost use Rattle.http_front.specs.Session.{sides, Session};
 
 use crate::answering::{SessionEnd, answer_one, say_no_memory};
 use crate::replies::Replies;
@@ -29,8 +28,8 @@ fn go_on<R: Source, W: Replies, T: Teller>(
 ) -> SessionEnd
     requires room { 16384 ≤ length room.old }
     requires limit { reader.old.taken ≤ take_limit }
-    ensures closed { Closed T.moves W.Replies (sides teller.old out.old) (sides teller.new out.new)
-        (reading (prepend_known reader.old.bytes (R.left source.old)) (R.left source.new))
+    ensures session { Session T.moves W.Replies (sides teller.old out.old) (sides teller.new out.new)
+        (stream_ends (prepend_known reader.old.bytes (R.left source.old)) (R.left source.new))
         (total_of reader.old.taken (R.left source.old)) result }
     ensures given { Given reader.old.taken reader.new.taken (R.left source.old) (R.left source.new) }
     ensures limit { reader.new.taken ≤ take_limit }
@@ -58,8 +57,8 @@ pub fn session<R: Source, W: Replies, T: Teller>(
     out: &mut W,
     teller: &mut T,
 ) -> SessionEnd
-    ensures session { Session T.moves W.Replies teller.old teller.new out.old out.new
-        (reading (R.left source.old) (R.left source.new)) result }
+    ensures session { Session T.moves W.Replies (sides teller.old out.old) (sides teller.new out.new)
+        (stream_ends (R.left source.old) (R.left source.new)) (option_map length (R.left source.old)) result }
     ensures taken { (n : ℕ) × (n ≤ take_limit) × GaveBytes (R.left source.old) (R.left source.new) n }
     ensures only_says { OnlySays W.Replies out.old out.new (result ≡ SessionEnd.WriteFault) }
     ensures only_reads { OnlyReads R.Source source.old source.new (result ≡ SessionEnd.ReadFault) }

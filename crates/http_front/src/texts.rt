@@ -1,5 +1,5 @@
 // The text that is said where memory runs out.
-ghost use Rattle.std.specs.Prelude.{◌≡◌, codes};
+ghost use Rattle.std.specs.Prelude.{◌≡◌};
 ghost use Rattle.http_front.specs.Texts.{no_memory_text};
 
 #[tactic(auto, using(crate::proofs::PrintLemmas::no_memory_is))]

@@ -11,9 +11,11 @@ use Rattle.http_routes.specs.declared.routes.Kind.TheVariants.{Act, Due, Meters,
 abbrev pub first_part : List (List ℕ) → List ℕ
 first_part parts = get_or parts 0 []
 
+-- the second part, an empty one where there are fewer
 abbrev pub second_part : List (List ℕ) → List ℕ
 second_part parts = get_or parts 1 []
 
+-- the third part, an empty one where there are fewer
 abbrev pub third_part : List (List ℕ) → List ℕ
 third_part parts = get_or parts 2 []
 

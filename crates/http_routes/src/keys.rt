@@ -1,5 +1,5 @@
 // The key that a part of a path spells.
-ghost use Rattle.std.specs.Prelude.{◌≡◌, ◌⊎◌, ◌↔◌, false, IfOk, IfErr, IsErrOf};
+ghost use Rattle.std.specs.Prelude.{◌≡◌, ◌⊎◌, false, IfOk, IfErr, IsErrOf};
 ghost use Rattle.office_base.specs.Keys.{IsKey, is_key};
 ghost use Rattle.http_routes.specs.Spelled.{key_of};
 

@@ -44,18 +44,21 @@ abbrev pub marker_fields : Option VersionId → List (List ℕ × Data)
 marker_fields None = []
 marker_fields (Some id) = (codes "marker", id_data id) ∷ []
 
+-- what an action is done to: a version by its id, or an upload by its number
 abbrev pub target_field : Target → List ℕ × Data
 target_field (target.Version id) = (codes "version", id_data id)
 target_field (target.Upload number) = (codes "upload", whole_data number)
 
 -- ---- versions, newest first: the first is the current one (S3 User Guide, "How S3 Versioning works")
 
+-- a delete marker, or an object with its bytes, its class, its tags and when it entered the class
 abbrev pub kind_fields : Kind → List (List ℕ × Data)
 kind_fields Marker = (codes "kind", string (codes "marker")) ∷ []
 kind_fields (Object size class tags entered) =
     (codes "kind", string (codes "object")) ∷ (codes "size", whole_data size) ∷ (codes "class", class_data class)
     ∷ (codes "tags", tags_data tags) ∷ (codes "entered", moment_data entered) ∷ []
 
+-- the id of a version, when it was created, and what it is
 abbrev pub version_fields : Version → List (List ℕ × Data)
 version_fields version =
     (codes "version", id_data version.id) ∷ (codes "created", moment_data version.created) ∷ kind_fields version.kind
@@ -66,15 +69,18 @@ dated_version None version = json_object (version_fields version)
 dated_version (Some since) version =
     json_object ((codes "noncurrent_since", moment_data since) ∷ version_fields version)
 
+-- one that is noncurrent since it ceased to be the current one
 abbrev pub noncurrent_version : Version → Data
 noncurrent_version version = dated_version (Some version.ceased) version
 
+-- the versions of a stack, where all but the current one tell since when they are noncurrent
 abbrev pub versions_data : List Version → List Data
 versions_data [] = []
 versions_data (current ∷ noncurrent) = dated_version None current ∷ map noncurrent_version noncurrent
 
 -- ---- uploads, meters, prices
 
+-- a part of an upload: its number, and its size in bytes
 abbrev pub part_data : ℕ × Part → Data
 part_data part = json_object ((codes "part", whole_data part.0) ∷ (codes "size", whole_data part.1.size) ∷ [])
 
@@ -85,6 +91,7 @@ meters_data meters = json_object (
     (codes "class", class_data meters.class) ∷ (codes "byte_ms", digits_of meters.byte_ms)
     ∷ (codes "early_byte_ms", digits_of meters.early_byte_ms) ∷ (codes "moves", whole_data meters.moves) ∷ [])
 
+-- the price of each of these classes, under the name of the class
 abbrev pub price_fields : (Class → ℕ) → List Class → List (List ℕ × Data)
 price_fields price classes = map (λ class. (class_name class, whole_data (price class))) classes
 
@@ -92,37 +99,47 @@ price_fields price classes = map (λ class. (class_name class, whole_data (price
 abbrev pub storage_data : Prices → Data
 storage_data tariff = json_object (price_fields (storage_price tariff) all_classes)
 
+-- the prices of moves: none goes to STANDARD
 abbrev pub moves_data : Prices → Data
 moves_data tariff = json_object (price_fields (move_price tariff) (drop 1 all_classes))
 
 -- ---- these as they are written
 
+-- what was used of a class
 unfoldable pub meters_text : ClassMeters → List ℕ
 meters_text meters = compact_text (meters_data meters)
 
+-- what was used of some classes, as a list
 unfoldable pub classes_text : List ClassMeters → List ℕ
 classes_text classes = compact_text (array_of (map meters_data classes))
 
+-- a version, with since when it is noncurrent where it is
 unfoldable pub version_text : Option ℕ → Version → List ℕ
 version_text since version = compact_text (dated_version since version)
 
+-- the versions of a stack, as a list
 unfoldable pub versions_text : List Version → List ℕ
 versions_text versions = compact_text (array_of (versions_data versions))
 
+-- the tags of an object or of an upload
 unfoldable pub tags_text : List Tag → List ℕ
 tags_text tags = compact_text (tags_data tags)
 
+-- the parts of an upload, as a list
 unfoldable pub parts_text : List (ℕ × Part) → List ℕ
 parts_text parts = compact_text (array_of (map part_data parts))
 
+-- the prices of storage
 unfoldable pub storage_text : Prices → List ℕ
 storage_text tariff = compact_text (storage_data tariff)
 
+-- the prices of moves
 unfoldable pub moves_text : Prices → List ℕ
 moves_text tariff = compact_text (moves_data tariff)
 
 -- ---- the bodies
 
+-- what each reply holds: the report of a month is CSV, all others are JSON
 abbrev pub reply_body : Reply → Body
 reply_body (BucketMade bucket) = json (json_object ((codes "bucket", string bucket) ∷ []))
 reply_body (VersioningSet versioning) =

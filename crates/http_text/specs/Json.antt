@@ -14,9 +14,11 @@ abbrev pub members : List (List ℕ × Data) → Members
 members [] = no_members
 members ((name, value) ∷ rest) = put name value (members rest)
 
+-- an object with these members, as a value
 abbrev pub json_object : List (List ℕ × Data) → Data
 json_object fields = object (members fields)
 
+-- a list of these values, in their order
 abbrev pub array_of : List Data → Data
 array_of values = array (items_of values)
 
@@ -39,13 +41,16 @@ abbrev pub tag_members : List Tag → List (List ℕ × Data)
 tag_members [] = []
 tag_members (tag ∷ tags) = (tag.0, string tag.1) ∷ tag_members tags
 
+-- the tags of an object or of an upload, as one object
 abbrev pub tags_data : List Tag → Data
 tags_data tags = json_object (tag_members tags)
 
 -- ---- objects with one member
 
+-- one text under a name, as it is written
 unfoldable pub text_object : List ℕ → List ℕ → List ℕ
 text_object name text = compact_text (json_object ((name, string text) ∷ []))
 
+-- one number under a name, as it is written
 unfoldable pub number_object : List ℕ → ℕ → List ℕ
 number_object name n = compact_text (json_object ((name, whole_data n) ∷ []))

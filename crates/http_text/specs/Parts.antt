@@ -14,18 +14,22 @@ use Rattle.due_core.specs.declared.action.Target.{Target}
 use Rattle.due_core.specs.declared.action.Target.TheVariants.{Version, Upload}
 use Rattle.http_text.specs.Bodies.{part_data}
 
+-- the class that an object moves to; other actions have none
 abbrev pub class_part : ActionKind → List ℕ
 class_part (Transition class) = codes ",\"class\":" ++ quoted (class_name class)
 class_part other = []
 
+-- the delete marker that was made, where one was
 abbrev pub marker_part : Option VersionId → List ℕ
 marker_part None = []
 marker_part (Some id) = codes ",\"marker\":" ++ quoted (id_text id)
 
+-- what an action is done to: a version by its id, or an upload by its number
 abbrev pub target_part : Target → List ℕ
 target_part (Version id) = codes ",\"version\":" ++ quoted (id_text id)
 target_part (Upload number) = codes ",\"upload\":" ++ decimal number
 
+-- since when a version is noncurrent; the current one has no such moment
 abbrev pub since_part : Option ℕ → List ℕ
 since_part None = []
 since_part (Some since) = codes ",\"noncurrent_since\":" ++ quoted (moment_text since)

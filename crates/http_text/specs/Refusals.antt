@@ -12,6 +12,7 @@ use Rattle.http_text.specs.Bodies.{target_field}
 use Rattle.http_text.specs.Json.{json_object, whole_data, moment_data}
 use Rattle.http_text.specs.Names.{month_text, what_name}
 
+-- a body with the name and the number of what is refused, and with more where there is more to tell
 abbrev pub error_data : List ℕ → ℕ → List (List ℕ × Data) → Data
 error_data name n more = json_object ((codes "error", string name) ∷ (codes "number", whole_data n) ∷ more)
 
@@ -19,6 +20,7 @@ error_data name n more = json_object ((codes "error", string name) ∷ (codes "n
 unfoldable pub error_text : List ℕ → ℕ → List ℕ
 error_text name n = compact_text (error_data name n [])
 
+-- what each refusal tells, with the month, the moment, the limit or the due action that it names
 abbrev pub refusal_data : Refusal → Data
 refusal_data BucketExists = error_data (codes "BucketExists") 80 []
 refusal_data NoSuchBucket = error_data (codes "NoSuchBucket") 81 []

@@ -45,12 +45,14 @@ refusal_status (Full what limit) = 507
 refusal_status (ClockEnd moment) = 409
 refusal_status NoMemory = 500
 
+-- the status of an answer: that of its reply, or of its refusal
 abbrev pub status_of : Result Reply Refusal → ℕ
 status_of (Ok reply) = reply_status reply
 status_of (Err refusal) = refusal_status refusal
 
 -- ---- bodies
 
+-- what an answer holds; a refusal is told in JSON
 abbrev pub answer_body : Result Reply Refusal → Body
 answer_body (Ok reply) = reply_body reply
 answer_body (Err refusal) = json (refusal_data refusal)
@@ -60,11 +62,13 @@ abbrev pub text_of_body : Body → List ℕ
 text_of_body (json value) = compact_text value
 text_of_body (csv text) = text
 
+-- the body of an answer, as it is written
 unfoldable pub body_text : Result Reply Refusal → List ℕ
 body_text answer = text_of_body (answer_body answer)
 
 -- ---- replies (RFC 9112, "Message Format")
 
+-- the end of a line in a head: a carriage return and a line feed
 abbrev pub crlf : List ℕ
 crlf = 13 ∷ 10 ∷ []
 
@@ -75,6 +79,7 @@ head_with media status size =
     ++ (codes "content-type: " ++ (media ++ (crlf
     ++ (codes "content-length: " ++ (decimal size ++ (crlf ++ crlf))))))))))
 
+-- the head of a reply with so many bytes of JSON
 unfoldable pub head_text : ℕ → ℕ → List ℕ
 head_text status size = head_with (codes "application/json") status size
 
@@ -82,9 +87,11 @@ head_text status size = head_with (codes "application/json") status size
 unfoldable pub reply_with : ℕ → List ℕ → List ℕ
 reply_with status body = head_text status (length body) ++ body
 
+-- a reply with this status and body, whose head names the kind of the body
 abbrev pub reply_of : ℕ → Body → List ℕ
 reply_of status (json value) = reply_with status (compact_text value)
 reply_of status (csv text) = head_with (codes "text/csv") status (length text) ++ text
 
+-- the whole reply that tells an answer
 abbrev pub answer_text : Result Reply Refusal → List ℕ
 answer_text answer = reply_of (status_of answer) (answer_body answer)

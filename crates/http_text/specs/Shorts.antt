@@ -25,6 +25,7 @@ IsInPartsReply (RulesShown rules) = ⊥
 IsInPartsReply (Report lines) = ⊥
 IsInPartsReply other = Unit {0}
 
+-- the same of an answer; every refusal is written so
 abbrev pub IsInParts : Result Reply Refusal → Type 0
 IsInParts (Ok reply) = IsInPartsReply reply
 IsInParts (Err refusal) = Unit {0}

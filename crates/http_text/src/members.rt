@@ -1,5 +1,5 @@
 // Members of JSON objects.
-ghost use Rattle.std.specs.Prelude.{◌≡◌, ◌≤◌, ◌+◌, ◌++◌, length, decimal, codes};
+ghost use Rattle.std.specs.Prelude.{◌≡◌, ◌≤◌, ◌+◌, ◌++◌, length, decimal};
 ghost use Rattle.json.specs.Print.{quoted};
 ghost use Rattle.moments.specs.Texts.{moment_text, two_digits};
 ghost use Rattle.moments.specs.Time.{end_of_time};

@@ -359,10 +359,6 @@ module _ (a b : Held) (la lb : Option (List ℕ)) where
   end_part result gave is =
       let told = subst Told is gave in (weaker a b la lb _ (λ (bytes : List ℕ). bytes ≡ []) (λ bytes x. x.0) told, told.so.1)
 
-  pub at_end_part : (result : Result Next MessageStop) → Told result → (result ≡ Ok (next.Refused CutShort)) ⊎ (result ≡ Ok next.End) → b.taken < take_limit
-  at_end_part result gave (inl is) = let told = subst Told is gave in told.so.1 refl
-  at_end_part result gave (inr is) = let told = subst Told is gave in told.so.2
-
   pub spent_part : (result : Result Next MessageStop) → Told result → IsErrOf result Spent → (b.taken ≡ take_limit) × Gave a b la lb IsUnsettled
   spent_part (Ok x) gave is = absurd (cc (is))
   spent_part (Err e) gave is = let told = subst Told is gave in (told.so.1, weaker a b la lb _ IsUnsettled (λ bytes x. x.0) told)
@@ -370,10 +366,6 @@ module _ (a b : Held) (la lb : Option (List ℕ)) where
   pub failed_part : (result : Result Next MessageStop) → Told result → IsErrOf result ReadFault → Gave a b la lb IsUnsettled
   failed_part (Ok x) gave is = absurd (cc (is))
   failed_part (Err e) gave is = subst Told is gave
-
-  pub no_memory_part : (result : Result Next MessageStop) → Told result → IsErrOf result NoMemory → Gave a b la lb AwaitsLongBody
-  no_memory_part (Ok x) gave is = absurd (cc (is))
-  no_memory_part (Err e) gave is = subst Told is gave
 
   pub given_part : (result : Result Next MessageStop) → Told result → Gave a b la lb (λ bytes. ⊤)
   given_part result gave = weaker a b la lb _ (λ bytes. ⊤) (λ bytes x. tt) gave

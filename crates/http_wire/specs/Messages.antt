@@ -56,6 +56,7 @@ after_length h bytes (Some n) found rest =
     ⊎ ((n ≤ body_room) × (n ≤ length bytes) × (rest ≡ drop n bytes)
     × (found ≡ request (record { head = h; body = take n bytes; last = is_last h })))
 
+-- the same by the fields that name a transfer coding: a message with any of them is refused
 abbrev pub after_coding : RequestHead → List ℕ → List Field → Framed → List ℕ → Type 0
 after_coding h bytes [] found rest =
     after_length h bytes (body_length (fields_named (codes "Content-Length") h.fields)) found rest

@@ -1,7 +1,7 @@
 // The bytes of a body.
-ghost use Rattle.std.specs.Prelude.{◌≡◌, ◌<◌, ◌≤◌, ◌+◌, ◌++◌, ℕ, List, Option, length, take, drop, OnOk, OnErr};
+ghost use Rattle.std.specs.Prelude.{◌≡◌, ◌<◌, ◌≤◌, ◌+◌, ◌++◌, length, take, drop, OnOk, OnErr};
 ghost use Rattle.std.specs.Prelude.{IsErrOf};
-ghost use Rattle.std.specs.Io.KnownBytes.{Consumes, IsAtEnd};
+ghost use Rattle.std.specs.Io.KnownBytes.{IsAtEnd};
 ghost use Rattle.http_wire.specs.Held.{Took, TookPast, take_limit};
 ghost use Rattle.http_wire.specs.Sources.{OnlyReads};
 

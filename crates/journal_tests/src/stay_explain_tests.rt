@@ -1,5 +1,3 @@
-ghost use Rattle.std.specs.Prelude.{◌≤◌};
-
 use class_rules::Class;
 use entry_codec::encode;
 use meter_journal::OpenFault;

@@ -11,11 +11,11 @@ use Rattle.disk_core.specs.Moments.{KeepsTo}
 use Rattle.disk_core.proofs.Time.{goes_on}
 use Rattle.meter_journal.specs.History.{IsNoLonger}
 
-one_length_more : (m new : ℕ) (lengths : List ℕ) → new ≤ m → ((n : ℕ) → Contains lengths n → n ≤ m) → (n : ℕ) → Contains (new ∷ lengths) n → n ≤ m
+pub one_length_more : (m new : ℕ) (lengths : List ℕ) → new ≤ m → ((n : ℕ) → Contains lengths n → n ≤ m) → (n : ℕ) → Contains (new ∷ lengths) n → n ≤ m
 one_length_more m new lengths le old n (zero, lt, is) = subst (λ (k : ℕ). k ≤ m) is le
 one_length_more m new lengths le old n (suc k, lt, is) = old n (k, omega (arith, lt), is)
 
-no_length : (m n : ℕ) → Contains [] n → n ≤ m
+pub no_length : (m n : ℕ) → Contains [] n → n ≤ m
 no_length m n (k, lt, is) = absurd (omega (arith, lt))
 
 module _ (n : ℕ) (old new : State) (own : IsImage old.journal old.journal.seen) (room : IsNoLonger n old) where

@@ -51,6 +51,7 @@ pub data Frame : Type 0 where
   Whole : Entry → ℕ → Frame
   Broken : Frame
 
+-- a frame by what its bytes are read as, with the place of the next gate: damaged where they are no entry
 abbrev pub entry_frame : ℕ → Result Entry ℕ → Frame
 entry_frame next (Ok e) = Whole e next
 entry_frame next (Err at) = Broken

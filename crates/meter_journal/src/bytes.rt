@@ -1,6 +1,5 @@
 // Reading a journal file that is in memory.
-ghost use Rattle.std.specs.Prelude.{◌≡◌, ◌+◌, ◌<◌, ◌≤◌, ◌^◌, length, take, drop, IsErrOf, IfOk};
-ghost use Rattle.std.specs.Int.{w32};
+ghost use Rattle.std.specs.Prelude.{◌≡◌, ◌+◌, ◌<◌, ◌≤◌, ◌^◌, length, IsErrOf, IfOk};
 ghost use Rattle.entry_codec.specs.Reading.{entry_of};
 ghost use Rattle.entry_codec.specs.Spelling.{EntryFits, spelling};
 ghost use Rattle.meter_journal.specs.Reading.{HeadGives, BodyGives, FrameGives, entry_frame, body_at, frame_at};

@@ -1,5 +1,5 @@
 // Reading a journal entry by entry.
-ghost use Rattle.std.specs.Prelude.{◌≡◌, ◌+◌, ◌<◌, ◌≤◌, ◌^◌, ℕ, IsTrue, IsErrOf, length, IfOk, IfErr, IfSome, Err};
+ghost use Rattle.std.specs.Prelude.{◌≡◌, ◌<◌, ◌≤◌, ◌^◌, ℕ, IsTrue, IsErrOf, length, IfOk, IfErr, IfSome, Err};
 ghost use Rattle.office_base.specs.Faults.{Rose};
 ghost use Rattle.entry_codec.specs.Spelling.{entry_limit};
 ghost use Rattle.disk_core.specs.Files.{synced_file};

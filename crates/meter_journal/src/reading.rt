@@ -1,6 +1,5 @@
 // Reading a frame of a journal file that is on a disk.
 ghost use Rattle.std.specs.Prelude.{◌≡◌, ◌+◌, ◌<◌, ◌≤◌, ◌^◌, IsTrue, IsErrOf, length, get_or, IfOk, IfSome, OnOk};
-ghost use Rattle.std.specs.Int.{w32};
 ghost use Rattle.office_base.specs.Faults.{HasCause};
 ghost use Rattle.entry_codec.specs.Spelling.{EntryFits, entry_limit, spelling};
 ghost use Rattle.disk_core.specs.Moments.{Untouched};

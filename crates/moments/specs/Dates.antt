@@ -4,6 +4,7 @@ use Rattle.std.specs.Prelude.{slice_index, take_while, bytes_eq, codes, if◌the
 use Rattle.std.specs.List.{list_all}
 use Rattle.moments.specs.Months.{month_number, has_month, has_day, midnight_in}
 
+-- an ASCII digit
 abbrev pub is_digit : ℕ → Bool
 is_digit c = nat_le 48 c && nat_le c 57
 
@@ -11,6 +12,7 @@ is_digit c = nat_le 48 c && nat_le c 57
 abbrev pub has_two_at : List ℕ → ℕ → Bool
 has_two_at text at = is_digit (slice_index text at) && is_digit (slice_index text (at + 1))
 
+-- the number that two digits at this place are, from 0 to 99
 abbrev pub two_at : List ℕ → ℕ → ℕ
 two_at text at = (slice_index text at - 48) * 10 + (slice_index text (at + 1) - 48)
 
@@ -23,6 +25,7 @@ begins_with_month text =
 abbrev pub year_in : List ℕ → ℕ
 year_in text = two_at text 0 * 100 + two_at text 2
 
+-- the month of the year, from 1 for January
 abbrev pub month_in : List ℕ → ℕ
 month_in text = two_at text 5
 
@@ -35,6 +38,7 @@ unfoldable pub begins_with_date : List ℕ → Bool
 begins_with_date text =
     begins_with_month text && nat_le 10 (length text) && (slice_index text 7 == 45) && has_two_at text 8
 
+-- the day of the month, from 1
 abbrev pub day_in : List ℕ → ℕ
 day_in text = two_at text 8
 

@@ -6,6 +6,7 @@ use Rattle.moments.specs.Time.{day}
 abbrev pub months : ℕ
 months = 1560
 
+-- the year in which the month lies
 abbrev pub year_of : ℕ → ℕ
 year_of month = 1970 + month / 12
 
@@ -49,9 +50,11 @@ first_day month = days_before_year (year_of month) - days_before_year 1970 + day
 abbrev pub month_start : ℕ → ℕ
 month_start month = first_day month * day
 
+-- the first moment that is after the month
 abbrev pub month_end : ℕ → ℕ
 month_end month = month_start (month + 1)
 
+-- the milliseconds of the month
 abbrev pub month_length : ℕ → ℕ
 month_length month = month_end month - month_start month
 

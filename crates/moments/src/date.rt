@@ -1,11 +1,11 @@
 // How dates and months are read.
 ghost use Rattle.std.specs.Prelude.{◌≡◌, ◌≤◌, ◌<◌, ◌%◌, ℕ, ◌+◌, ◌==◌, ◌||◌, ◌↔◌, ◌&&◌, length, drop, true, false, IsOk};
-ghost use Rattle.std.specs.Prelude.{IfOk, IfErr, IsErrOf, IfSome, IfNone, OnSome, nat_le};
+ghost use Rattle.std.specs.Prelude.{IfOk, IfErr, IsErrOf, IfSome, IfNone, OnSome};
 ghost use Rattle.std.specs.List.{list_all};
 ghost use Rattle.moments.specs.Time.{day, end_of_time};
-ghost use Rattle.moments.specs.Months.{has_month, month_number};
+ghost use Rattle.moments.specs.Months.{month_number};
 ghost use Rattle.moments.specs.Dates.{begins_with_month, year_in, month_in, is_month, begins_with_date, day_in, is_day};
-ghost use Rattle.moments.specs.Dates.{has_two_at, two_at, is_utc, digit_count, is_clock_end, has_part_at};
+ghost use Rattle.moments.specs.Dates.{is_utc, digit_count, is_clock_end, has_part_at};
 ghost use Rattle.moments.specs.Dates.{begins_with_clock, is_time, is_zero_digit, is_date, is_at_midnight, midnight_of};
 ghost use Rattle.moments.specs.Dates.{IsReadAs};
 ghost use Rattle.moments.specs.Texts.{moment_text};

@@ -1,7 +1,7 @@
 // Two decimal digits.
 ghost use Rattle.std.specs.Prelude.{◌≡◌, ◌<◌, ◌≤◌, ◌+◌, length, true};
 ghost use Rattle.moments.specs.Texts.{two_digits};
-ghost use Rattle.moments.specs.Dates.{is_digit, has_two_at, two_at};
+ghost use Rattle.moments.specs.Dates.{has_two_at, two_at};
 
 // The last two digits of a number.
 pub(crate) fn digits_of(number: u64) -> [u8; 2]

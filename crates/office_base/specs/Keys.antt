@@ -6,5 +6,6 @@ use Rattle.std.specs.Str.{is_utf8}
 unfoldable pub is_key : List ℕ → Bool
 is_key bytes = nat_le 1 (length bytes) && nat_le (length bytes) 1_024 && is_utf8 bytes
 
+-- an object may have this key
 abbrev pub IsKey : List ℕ → Type 0
 IsKey bytes = IsTrue (is_key bytes)

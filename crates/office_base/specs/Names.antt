@@ -18,5 +18,6 @@ is_bucket_name text =
     nat_le 3 (length text) && nat_le (length text) 63 && list_all is_name_char text && is_name_end (get_or text 0 0)
     && is_name_end (get_or text (length text - 1) 0)
 
+-- a bucket may have this name
 abbrev pub IsBucketName : List ℕ → Type 0
 IsBucketName text = IsTrue (is_bucket_name text)

@@ -8,6 +8,7 @@ use Rattle.std.specs.Str.{is_utf8, bytes_eq}
 use Rattle.std.specs.Ordering.{nat_cmp, is_lt}
 use Rattle.std.specs.Cmp.Lexicographic.{slice_cmp}
 
+-- a key and a value, each a text as its bytes
 abbrev pub Tag : Type 0
 Tag = List ℕ × List ℕ
 
@@ -62,5 +63,6 @@ pub record AreTags (tags : List Tag) : Type 0 where
 abbrev pub tag_of : String Global × String Global → Tag
 tag_of pair = (string_bytes pair.0, string_bytes pair.1)
 
+-- the same of some pairs, in their order
 abbrev pub tags_of : List (String Global × String Global) → List Tag
 tags_of pairs = map tag_of pairs

@@ -1,5 +1,5 @@
 // The name of a bucket.
-ghost use Rattle.std.specs.Prelude.{◌≡◌, ◌≤◌, ◌↔◌, ◌⊎◌, true, false, length, IfOk, IfErr, IsErrOf, string_bytes, Some};
+ghost use Rattle.std.specs.Prelude.{◌≡◌, ◌≤◌, ◌↔◌, ◌⊎◌, false, length, IfOk, IfErr, IsErrOf, string_bytes, Some};
 ghost use Rattle.std.specs.Prelude.{refl};
 ghost use Rattle.std.specs.List.{list_all};
 ghost use Rattle.std.specs.Ordering.{nat_cmp};

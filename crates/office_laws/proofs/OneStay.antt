@@ -55,9 +55,9 @@ module _ (key : List ℕ) (item : Item) (at : ℕ) where
   kept_at stay stays false is h more = ap (λ (l : List Booked). stay ∷ l) (more h)
 
   -- where none is open none ends
-  kept : (stays : List Booked) → open_of key item stays ≡ [] → map (after_end key item at) stays ≡ stays
-  kept [] h = refl
-  kept (stay ∷ stays) h = kept_at stay stays (is_open_stay key item stay) refl h (kept stays)
+  pub none_open_kept : (stays : List Booked) → open_of key item stays ≡ [] → map (after_end key item at) stays ≡ stays
+  none_open_kept [] h = refl
+  none_open_kept (stay ∷ stays) h = kept_at stay stays (is_open_stay key item stay) refl h (none_open_kept stays)
 
   -- one stay stands there, and what becomes of it
   abbrev pub StandsOnce : Booked → List Booked → Type 0
@@ -66,8 +66,8 @@ module _ (key : List ℕ) (item : Item) (at : ℕ) where
   pub one_stay : (stay : Booked) (stays : List Booked) → open_of key item stays ≡ stay ∷ [] → StandsOnce stay stays
   one_stay stay stays h =
       let a = alone (is_open_stay key item) stay stays h in
-      let before = kept a.front a.none_before in
-      let after = kept a.back a.none_after in
+      let before = none_open_kept a.front a.none_before in
+      let after = none_open_kept a.back a.none_after in
       let passes = a.passes in
       (a.front, a.back, a.is, ap (map (after_end key item at)) a.is ∙ map-append (after_end key item at) a.front (stay ∷ a.back) ∙ rw (before, after, passes) refl)
 

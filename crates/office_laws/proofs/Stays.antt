@@ -2,7 +2,7 @@
 use Rattle.std.proofs.Common.{◌≡◌, ℕ, ◌+◌, List, [], ◌∷◌, ◌++◌, map, refl, ap, sym, ◌∙◌, Bool, true, false, ◌&&◌, cond, filter, ◌==◌, arith}
 use Rattle.std.specs.Prelude.{Some, is_none, nat_lt}
 use Rattle.std.specs.Str.{bytes_eq}
-use Rattle.std.proofs.lemmas.Bool.{and_parts, and_from}
+use Rattle.std.proofs.lemmas.Bool.{and_parts, and_from, both_ways}
 use Rattle.std.proofs.lemmas.Bool.Decides.{nat_tests}
 use Rattle.std.proofs.lemmas.List.{append-nil}
 use Rattle.std.proofs.lemmas.List.Elements.{filter-append}
@@ -93,13 +93,10 @@ one_item k i key item stay h other =
     let items : i ≡ item = b_item ∙ sym a_item in
     rw (keys, items) (of_itself key item)
 
-not_both : (b : Bool) → b ≡ true → b ≡ false → ⊥
-not_both b h k = absurd cc
-
 open_not : (k : List ℕ) (i : Item) (key : List ℕ) (item : Item) (stay : Booked) → is_of k i key item ≡ false → is_open_stay key item stay ≡ true → is_open_stay k i stay ≡ false
 open_not k i key item stay differs h = by (is_open_stay k i stay) refl where
   by : (b : Bool) → is_open_stay k i stay ≡ b → b ≡ false
-  by true is = absurd (not_both (is_of k i key item) (one_item k i key item stay h is) differs)
+  by true is = absurd (both_ways (is_of k i key item) differs (one_item k i key item stay h is))
   by false is = refl
 
 pub open_kept : (k : List ℕ) (i : Item) (key : List ℕ) (item : Item) → is_of k i key item ≡ false → (at : ℕ) (stays : List Booked)

@@ -25,6 +25,7 @@ use Rattle.office_laws.proofs.Sweeps.{acted, act_found, act_nothing, act_swept}
 use Rattle.office_machine.specs.Standing.{Records, StandsForOffice, Does}
 use Rattle.office_machine.specs.Lateness.{SweepEndsIn, LeavesLaterSweeps, HasEmptySweep, LeavesOthers, AsksClosedMonth, KeepsClosedMonths}
 use Rattle.plain_office.proofs.Runs.{Answer}
+use Rattle.office_machine.proofs.Offices.{later_plain}
 use Rattle.office_machine.proofs.Steps.{step_missing}
 
 -- ---- later sweeps
@@ -118,7 +119,7 @@ module _ (t : ℕ) (asked : Command) (p : Office) (before after : Records) (resu
     pub late_next : is_not_before before.last t ≡ true → (q : Office) × StandsForOffice after q × LeavesLaterSweeps name t p q
     late_next later =
         stands_by (step t (command.Act name) p) p after result acts (LeavesLaterSweeps name t p)
-        (act_leaves t name p stands.orderly (subst (λ (last : Option ℕ). is_not_before last t ≡ true) stands.last later))
+        (act_leaves t name p stands.orderly (later_plain before p stands t later))
         (λ u end le. ((λ h. h), (λ h. h)))
 
     pub nothing_next : result ≡ Ok NothingDue → StandsForOffice after p × HasEmptySweep name t p
@@ -132,13 +133,10 @@ module _ (t : ℕ) (asked : Command) (p : Office) (before after : Records) (resu
       stands_by (step t asked p) p after result does_it (LeavesOthers asked p) (λ name elsewhere. step_leaves name p t asked elsewhere) (λ name elsewhere. refl)
 
   module _ (fits : SizeFits asked) (later : is_not_before before.last t ≡ true) where
-    later_plainly : is_not_before p.last t ≡ true
-    later_plainly = subst (λ (last : Option ℕ). is_not_before last t ≡ true) stands.last later
-
     pub closed_next : (q : Office) × StandsForOffice after q × KeepsClosedMonths p q
     closed_next =
         stands_by (step t asked p) p after result does_it (KeepsClosedMonths p)
-        (months_kept p (step t asked p).0 (step_keeps t asked p fits stands.orderly later_plainly).closed) (months_stay p)
+        (months_kept p (step t asked p).0 (step_keeps t asked p fits stands.orderly (later_plain before p stands t later)).closed) (months_stay p)
 
   pub orderly_next : (q : Office) × StandsForOffice after q × IsOrderly q
   orderly_next = by does_it where

@@ -1,13 +1,11 @@
 -- The lines of a report, in the steps of its loops.
-use Rattle.std.proofs.Common.{◌≡◌, ◌⊎◌, inl, inr, ℕ, eqb, true, false, arith, map, ◌<◌, ◌≤◌, List, [], ◌∷◌, ◌++◌, length, drop, refl, sym, ap, ◌∙◌, Bool, flat_map, append_assoc}
-use Rattle.std.proofs.Common.{append-nil}
+use Rattle.std.proofs.Common.{◌≡◌, ◌⊎◌, inl, inr, ℕ, eqb, true, false, arith, map, ◌<◌, ◌≤◌, List, [], ◌∷◌, ◌++◌, refl, sym, ap, ◌∙◌, Bool, flat_map, append_assoc}
 use Rattle.std.specs.List.{AllByRecursion}
 use Rattle.std.specs.Ordering.{is_eq, nat_cmp}
 use Rattle.std.specs.Cmp.{nat_cmp_is}
 use Rattle.std.specs.declared.cmp.Ordering.TheVariants.{Less, Equal, Greater}
 use Rattle.std.proofs.lemmas.Bool.{cases_lt}
 use Rattle.std.proofs.lemmas.Bool.Decides.{eqb_tells}
-use Rattle.std.proofs.lemmas.List.{at_drop_all}
 use Rattle.class_rules.specs.Classes.{all_classes}
 use Rattle.accrual.specs.Books.{Book, IsBookedBy}
 use Rattle.accrual.specs.Totals.{AreTotalsOf}
@@ -21,13 +19,6 @@ use Rattle.office_types.specs.declared.reply.ReportLine.{ReportLine}
 use Rattle.bucket_account.specs.Counting.{AccountRecord}
 use Rattle.office_machine.specs.AnswerParts.{closed_at, entry_lines, IsBookedIn}
 use Rattle.office_machine.specs.Standing.{StandForAccounts}
-
--- ---- one turn of a loop over a slice
-
-module _ {X Y : Type 0} (f : X → List Y) where
-  pub end : (old base : List Y) (xs : List X) (i : ℕ) → length xs ≤ i → old ++ flat_map f (drop i xs) ≡ base → old ≡ base
-  end old base xs i over so_far =
-      sym (append-nil old) ∙ ap (λ (l : List Y). old ++ l) (sym (at_drop_all (λ (l : List X). flat_map f l) xs i over)) ∙ so_far
 
 -- ---- the prices of a closed month
 

@@ -31,6 +31,7 @@ pub record StandsForEntry (records : List ℕ × AccountRecord) (entry : List �
   pub name : records.0 ≡ entry.0
   pub account : StandsForAccount records.1 entry.1
 
+-- bucket by bucket: as many, and in the same order
 abbrev pub StandForAccounts : List (List ℕ × AccountRecord) → List (List ℕ × Account) → Type 0
 StandForAccounts [] [] = Unit {0}
 StandForAccounts [] (account ∷ accounts) = ⊥

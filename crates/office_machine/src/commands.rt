@@ -1,5 +1,5 @@
 // The commands that make a bucket, change one, or set the prices.
-ghost use Rattle.std.specs.Prelude.{◌≡◌, ◌<◌, ℕ, unwrap_or, Ok, IfOk, IfErr, IsTrue};
+ghost use Rattle.std.specs.Prelude.{◌≡◌, ◌<◌, unwrap_or, Ok, IfOk, IfErr, IsTrue};
 ghost use Rattle.plain_office.specs.Office as plain;
 ghost use Rattle.plain_office.specs.Step.{step, is_accepted};
 ghost use Rattle.plain_office.specs.Orderly.{SizeFits};

@@ -1,20 +1,18 @@
--- What the office answers to the query for a report, and what is said of it.
-use Rattle.std.proofs.Common.{◌≡◌, ◌⊎◌, inl, inr, ⊎_elim, refl, sym, subst, ℕ, Bool, List, Option, Some, None, Result, Ok, Err}
+-- What the office answers to the query for a report.
+use Rattle.std.proofs.Common.{◌≡◌, ◌⊎◌, inl, inr, ⊎_elim, refl, sym, subst, ℕ, List, Option, Some, None, Result, Ok, Err}
 use Rattle.tariff.specs.Prices.{Prices}
 use Rattle.office_types.specs.declared.command.Entry.{Entry}
 use Rattle.office_types.specs.declared.command.Query.TheVariants as query
 use Rattle.office_types.specs.declared.reply.Reply.{Reply}
 use Rattle.office_types.specs.declared.reply.Reply.TheVariants as reply
 use Rattle.office_types.specs.declared.refusal.Refusal.{Refusal}
-use Rattle.office_types.specs.declared.refusal.Refusal.TheVariants.{NoTariff, NoMemory}
+use Rattle.office_types.specs.declared.refusal.Refusal.TheVariants.{NoTariff}
 use Rattle.plain_office.specs.Answers.{answer}
 use Rattle.plain_office.specs.Charges.{tariff_for, report_lines}
 use Rattle.plain_office.specs.Office.{Office}
 use Rattle.desk_core.specs.Looking.{IsRead}
 use Rattle.desk_core.specs.Calls.{moment_after}
-use Rattle.http_front.specs.declared.replies.Replies as sinks
-use Rattle.office_program.specs.Reporting.{IsReportReply, TellsReport}
-use Rattle.office_program.specs.Running.{RunsOut}
+use Rattle.office_program.specs.Reporting.{IsReportReply}
 
 no_prices : (t month : ℕ) (p : Office) → tariff_for month p ≡ None → answer t (query.Report month) p ≡ Err NoTariff
 unfolding answer
@@ -33,15 +31,3 @@ pub report_reply : (told month : ℕ) (history : List Entry) (r : Result Reply R
 report_reply told month history r read = ⊎_elim
     (λ is. subst IsReportReply (sym is) (by_prices (moment_after told read.plain.last) month read.plain (tariff_for month read.plain) refl))
     (λ lacks. inr (inr lacks)) read.answered
-
-module _ {W : Type 0} (w : sinks.Ghosts W) where
-  lacking : (as_text : Bool) (old new : W) (status : ℕ) → TellsReport w as_text (Err NoMemory) old new status → ⊥
-  lacking as_text old new status told = told
-
-  -- what was said of it was said of the plain office's answer, or memory ran out
-  pub told_plainly : (as_text : Bool) (r answered : Result Reply Refusal) (old new : W) (status : ℕ) → (r ≡ answered) ⊎ (r ≡ Err NoMemory)
-      → TellsReport w as_text r old new status ⊎ RunsOut w old new status → TellsReport w as_text answered old new status ⊎ RunsOut w old new status
-  told_plainly as_text r answered old new status (inl is) told = subst (λ (x : Result Reply Refusal). TellsReport w as_text x old new status ⊎ RunsOut w old new status) is told
-  told_plainly as_text r answered old new status (inr lacks) told = ⊎_elim
-      (λ tells. absurd (lacking as_text old new status (subst (λ (x : Result Reply Refusal). TellsReport w as_text x old new status) lacks tells)))
-      (λ out. inr out) told

@@ -3,6 +3,7 @@ use Rattle.std.proofs.Common.{◌≡◌, ◌∙◌, ⊎_elim, sym, ℕ, List, Op
 use Rattle.command_line.specs.Lines.{Line, init, run, serve}
 use Rattle.http_front.specs.declared.replies.Replies as sinks
 use Rattle.office_program.specs.Commands.{IsServe, TouchesOwn}
+use Rattle.office_program.specs.Running.{SaysNoReply, NotesNothing}
 
 -- ---- what a line is not
 
@@ -23,8 +24,8 @@ module _ (line : Option Line) (asked : Line) (is : line ≡ Some asked) where
 
 module _ {W : Type 0} (w : sinks.Ghosts W) (line : Option Line) (input_stays port_stays : Type 0) (old new : W) (status : ℕ) where
   -- it prints texts, and leaves input and port
-  pub prints : (line ≡ Some run → ⊥) → (IsServe line → ⊥) → (w.said new ≡ w.said old) × (w.moments new ≡ w.moments old)
-      → (status ≡ 0 → w.noted new ≡ w.noted old) → input_stays → port_stays
+  pub prints : (line ≡ Some run → ⊥) → (IsServe line → ⊥) → SaysNoReply w old new
+      → (status ≡ 0 → NotesNothing w old new) → input_stays → port_stays
       → TouchesOwn w line input_stays port_stays old new status
   prints no_run no_serve unsaid unnoted input port = record {
     unsaid = λ _. unsaid;

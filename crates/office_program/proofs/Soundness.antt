@@ -40,7 +40,7 @@ module _ {D C W : Type 0} (d : disks.Ghosts D) (k : clocks.Ghosts C) (w : sinks.
   refused_sound old new status sound r =
       weakened IsSound (r.any_moment tells) (λ s narrow. narrower_sound (d.state old.disk) s sound narrow)
 
-  pub reported_sound : (month : ℕ) (as_text : Bool) (first : ℕ) (old new : Surroundings D C W) (status : ℕ) → IsSound (d.state old.disk) → TellsMonth d k w month as_text first old new status
+  pub reported_sound : (month : ℕ) (as_text : Bool) (first : ℕ) (old new : Surroundings D C W) (status : ℕ) → IsSound (d.state old.disk) → TellsMonth d w month as_text first old new status
       → StaysSound old.disk new.disk
   reported_sound month as_text first old new status sound r =
       weakened IsSound (r.any_moment tells) (λ s narrow. narrower_sound (d.state old.disk) s sound narrow)

@@ -4,7 +4,7 @@ use Rattle.office_base.specs.Faults.{Rose}
 use Rattle.command_line.specs.Lines.{Line, asked, init, run, serve, report}
 use Rattle.http_front.specs.declared.replies.Replies as sinks
 use Rattle.office_program.specs.Lines.{usage_note, IsReportExit, IsServeExit}
-use Rattle.office_program.specs.Running.{Surroundings, IsNoted, IsSilent, IsUnread}
+use Rattle.office_program.specs.Running.{Surroundings, IsNoted, IsSilent, SaysNoReply, NotesNothing, IsUnread}
 
 -- the command line that these words are, where they are one
 abbrev pub asks : {A : Type 0} → List (String A) → Option Line
@@ -39,10 +39,10 @@ module _ {W : Type 0} (w : sinks.Ghosts W) where
   -- Each command line touches only what is its own.
   pub record TouchesOwn (line : Option Line) (input_stays port_stays : Type 0) (old new : W) (status : ℕ) : Type 0 where
     -- replies are said by a run alone, and other texts by no run and no server
-    pub unsaid : (line ≡ Some run → ⊥) → (w.said new ≡ w.said old) × (w.moments new ≡ w.moments old)
+    pub unsaid : (line ≡ Some run → ⊥) → SaysNoReply w old new
     pub no_text : (line ≡ Some run) ⊎ IsServe line → w.texts new ≡ w.texts old
-    -- nothing is noted where all was done
-    pub unnoted : status ≡ 0 → w.noted new ≡ w.noted old
+    -- nothing is noted where all was done, and nothing was lost
+    pub unnoted : status ≡ 0 → NotesNothing w old new
     -- the input is read by a run alone, the port used by a server alone, and neither where the journal was not opened
     pub unread : (line ≡ Some run → ⊥) → input_stays
     pub unused : (IsServe line → ⊥) → port_stays
@@ -57,6 +57,7 @@ pub record FaultCounts : Type 0 where
   pub output : ℕ
   pub port : ℕ
 
+-- these counts, in this order
 abbrev pub faults : ℕ → ℕ → ℕ → ℕ → FaultCounts
 faults disk input output port = record { disk = disk; input = input; output = output; port = port }
 
@@ -66,13 +67,14 @@ NoneFailed old new =
     (Rose old.disk new.disk → ⊥) × (Rose old.input new.input → ⊥) × (Rose old.output new.output → ⊥)
     × (Rose old.port new.port → ⊥)
 
--- Each status has its cause. The bytes of a journal that is not opened tell why (`OpenFails`, by `FailsToOpen`);
--- `init` refuses a foreign one alone.
+-- Each status has its cause, and the input and the port did not fail where another is told. The bytes of a journal that
+-- is not opened tell why (`OpenFails`, by `FailsToOpen`); `init` refuses a foreign one alone.
 pub record IsCaused (line : Option Line) (old new : FaultCounts) (foreign spent : Type 0) (status : ℕ) : Type 0 where
   pub known : (status ≡ 1) ⊎ ((status ≡ 8) ⊎ (IsReportExit status ⊎ IsServeExit status))
   pub usage : status ≡ 1 → line ≡ None
   pub disk_fault : status ≡ 2 → Rose old.disk new.disk
   pub read_fault : status ≡ 3 → Rose old.input new.input
+  pub read_done : (status ≡ 3 → ⊥) → new.input ≡ old.input
   pub write_fault : status ≡ 4 → Rose old.output new.output
   pub foreign_file : line ≡ Some init → status ≡ 5 → foreign
   pub port_fault : status ≡ 7 → Rose old.port new.port

@@ -38,29 +38,33 @@ workers_exit workers.NoMemory false = 6
 workers_exit workers.Done true = 2
 workers_exit workers.Done false = 0
 
--- those of a session, and of a command that runs one; of workers, and of a command that has some
+-- the status of a session, however it ended
 abbrev pub IsSessionExit : ℕ → Type 0
 IsSessionExit status = (end : SessionEnd) × (stale : Bool) × (status ≡ session_exit end stale)
 
+-- the status of a command that opens the office for a session, or cannot open it
 abbrev pub IsRunExit : ℕ → Type 0
 IsRunExit status = IsSessionExit status ⊎ ((fault : OpenFault) × (status ≡ fault_exit fault))
 
+-- the status of workers, however they ended
 abbrev pub IsWorkersExit : ℕ → Type 0
 IsWorkersExit status = (end : WorkerEnd) × (stale : Bool) × (status ≡ workers_exit end stale)
 
+-- the status of a command that opens the office for workers, or cannot open it
 abbrev pub IsServeExit : ℕ → Type 0
 IsServeExit status = IsWorkersExit status ⊎ ((fault : OpenFault) × (status ≡ fault_exit fault))
 
--- of a report: one of those, or that there is no tariff
+-- the status of a report: that of a run, or that there is no tariff
 abbrev pub IsReportExit : ℕ → Type 0
 IsReportExit status = (status ≡ 10) ⊎ IsRunExit status
 
--- that of a command that was done, but for want of memory, an input that is too long, and a report without a tariff
+-- the status of a command that was done, but for want of memory, too long an input, and a report without a tariff
 abbrev pub IsDoneExit : ℕ → Type 0
 IsDoneExit status = (status ≡ 0) ⊎ ((status ≡ 6) ⊎ ((status ≡ 9) ⊎ (status ≡ 10)))
 
 -- ---- lines
 
+-- a text with the newline behind it
 abbrev pub line : List ℕ → List ℕ
 line text = text ++ 10 ∷ []
 

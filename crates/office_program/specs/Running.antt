@@ -35,6 +35,7 @@ pub record Surroundings (D C W : Type 0) : Type 0 where
   pub out : W
 
 module _ {D C W : Type 0} where
+  -- this disk with this clock and this sink
   abbrev pub around : D → C → W → Surroundings D C W
   around disk clock out = record { disk = disk; clock = clock; out = out }
 
@@ -48,17 +49,26 @@ module _ {W : Type 0} (w : sinks.Ghosts W) where
   IsNoted old new text =
       (text ≡ [] → new ≡ old) × (Appends (w.noted old) (w.noted new) text ⊎ Rose (w.faults old) (w.faults new))
 
+  -- no reply was said
+  abbrev pub SaysNoReply : W → W → Type 0
+  SaysNoReply old new = (w.said new ≡ w.said old) × (w.moments new ≡ w.moments old)
+
+  -- nothing was noted, and nothing was lost
+  abbrev pub NotesNothing : W → W → Type 0
+  NotesNothing old new = (w.noted new ≡ w.noted old) × (w.faults new ≡ w.faults old)
+
   -- no reply was said, and no other text
   abbrev pub IsSilent : W → W → Type 0
   IsSilent old new = (w.said new ≡ w.said old) × (w.moments new ≡ w.moments old) × (w.texts new ≡ w.texts old)
 
-  -- The line comes behind all that was said: nothing was noted before it, and where a text was lost (status 4) the
-  -- count of faults rose before it, so that it tells of the line alone.
+  -- The line comes behind all that was said: nothing was noted before it, and the count of faults rose before it where
+  -- a text was lost (status 4), and only there.
   pub record EndsWithNote (old new : W) (status : ℕ) (text : List ℕ) : Type 0 where
     -- the sink in which all was said
     pub behind : W
     pub unnoted : w.noted behind ≡ w.noted old
     pub lost : status ≡ 4 → Rose (w.faults old) (w.faults behind)
+    pub kept : (status ≡ 4 → ⊥) → w.faults behind ≡ w.faults old
     pub silent : IsSilent behind new
     pub note : IsNoted behind new text
 
@@ -66,7 +76,7 @@ module _ {W : Type 0} (w : sinks.Ghosts W) where
   -- this text was said; or a front of it was, and the rest was lost
   abbrev pub IsPutOut : List ℕ → W → W → ℕ → Type 0
   IsPutOut text old new status =
-      ((status ≡ 0) × Appends (w.texts old) (w.texts new) text × (w.noted new ≡ w.noted old))
+      ((status ≡ 0) × Appends (w.texts old) (w.texts new) text × NotesNothing w old new)
       ⊎ ((status ≡ 4) × ((n : ℕ) × Appends (w.texts old) (w.texts new) (take n text))
       × EndsWithNote w old new status (end_note WriteFault false))
 
@@ -79,10 +89,8 @@ module _ {W : Type 0} (w : sinks.Ghosts W) where
 module _ {D C W : Type 0} (w : sinks.Ghosts W) where
   -- Memory ran out before the words were read: disk and clock were not touched, and nothing was said.
   pub record IsUnread (old new : Surroundings D C W) (status : ℕ) : Type 0 where
-    pub status_is : status ≡ 6
+    pub runs_out : RunsOut w old.out new.out status
     pub untouched : (new.disk ≡ old.disk) × (new.clock ≡ old.clock)
-    pub silent : IsSilent w old.out new.out
-    pub note : IsNoted w old.out new.out (end_note NoMemory false)
 
 module _ {D C W : Type 0} (d : disks.Ghosts D) (k : clocks.Ghosts C) (w : sinks.Ghosts W) where
   -- ---- run
@@ -92,14 +100,14 @@ module _ {D C W : Type 0} (d : disks.Ghosts D) (k : clocks.Ghosts C) (w : sinks.
   pub record AnswersStream (read : StreamEnds) (old new : Surroundings D C W) (status : ℕ) : Type 0 where
     pub end : SessionEnd
     pub talk : Transcript (option_map length read.stream) read end
-    pub answers : AnswersCalls d k journal_limit (under old) (under new) (calls_of talk.exchanges)
-    pub said_all : Appends (w.said old.out) (w.said new.out) talk.written
-    pub stamped : Appends (w.moments old.out) (w.moments new.out) (moments_of talk.whole)
+    pub answers : AnswersCalls d k journal_limit (under old) (under new) (calls_of talk.spoken.exchanges)
+    pub said_all : Appends (w.said old.out) (w.said new.out) talk.spoken.written
+    pub stamped : Appends (w.moments old.out) (w.moments new.out) (moments_of talk.spoken.whole)
     -- at most 2^40 bytes of the input are taken
     pub taken : (n : ℕ) × (n ≤ take_limit) × GaveBytes read.stream read.left n
     pub no_text : w.texts new.out ≡ w.texts old.out
-    pub status_is : status ≡ session_exit end (stale_by false (calls_of talk.exchanges))
-    pub note : EndsWithNote w old.out new.out status (end_note end (stale_by false (calls_of talk.exchanges)))
+    pub status_is : status ≡ session_exit end (stale_by false (calls_of talk.spoken.exchanges))
+    pub note : EndsWithNote w old.out new.out status (end_note end (stale_by false (calls_of talk.spoken.exchanges)))
 
   -- ---- serve
 

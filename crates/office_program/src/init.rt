@@ -4,6 +4,7 @@ ghost use Rattle.office_base.specs.Faults.{Rose};
 ghost use Rattle.meter_journal.specs.Reading.{IsForeign};
 ghost use Rattle.office_program.specs.Lines.{IsRunExit};
 ghost use Rattle.office_program.specs.Making.{Inits};
+ghost use Rattle.office_program.specs.Running.{SaysNoReply, NotesNothing};
 
 use crate::lines::{made_text, note_fault, open_exit};
 use crate::saying::say;
@@ -14,7 +15,7 @@ use meter_journal::create;
 // Makes the journal where it is not made, and says so.
 pub(crate) fn init<W: Replies, D: Disk>(out: &mut W, disk: &mut D) -> u8
     ensures inits { Inits D.Disk W.Replies disk.old disk.new out.old out.new result }
-    ensures unsaid { (W.said out.new ≡ W.said out.old) × (W.moments out.new ≡ W.moments out.old) }
+    ensures unsaid { SaysNoReply W.Replies out.old out.new }
     ensures foreign { IsTrue D.honest → result ≡ 5 → IsForeign (D.state disk.old).journal.seen }
     ensures later { (W.faults out.old ≤ W.faults out.new) × (D.fault_count disk.old ≤ D.fault_count disk.new) }
     ensures statuses { IsRunExit result }
@@ -22,7 +23,7 @@ pub(crate) fn init<W: Replies, D: Disk>(out: &mut W, disk: &mut D) -> u8
     ensures not_spent { result ≡ 9 → ⊥ }
     ensures disk_fault { result ≡ 2 → Rose (D.fault_count disk.old) (D.fault_count disk.new) }
     ensures write_fault { result ≡ 4 → Rose (W.faults out.old) (W.faults out.new) }
-    ensures unnoted { result ≡ 0 → W.noted out.new ≡ W.noted out.old }
+    ensures unnoted { result ≡ 0 → NotesNothing W.Replies out.old out.new }
 {
     match create(disk) {
         Ok(made) => say(out, made_text(made)),

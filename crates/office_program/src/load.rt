@@ -2,6 +2,7 @@
 ghost use Rattle.std.specs.Prelude.{◌≡◌, ◌≤◌, ◌⊎◌, ◌++◌, IfOk, OnOk, decimal};
 ghost use Rattle.office_base.specs.Faults.{Rose};
 ghost use Rattle.office_program.specs.Loading.{tally_line, TellsLoad};
+ghost use Rattle.office_program.specs.Running.{SaysNoReply, NotesNothing};
 
 use crate::saying::{run_out, say};
 use generator::{Tally, generate};
@@ -35,11 +36,11 @@ fn line_of(alloc: Global, tally: &Tally) -> Result<Vec<u8>, AllocError>
 // Makes so many commands that are generated of a number, on a disk in memory, and says their counts.
 pub(crate) fn load<W: Replies>(alloc: Global, out: &mut W, number: u64, count: u32) -> u8
     ensures tells { TellsLoad W.Replies number count out.old out.new result }
-    ensures unsaid { (W.said out.new ≡ W.said out.old) × (W.moments out.new ≡ W.moments out.old) }
+    ensures unsaid { SaysNoReply W.Replies out.old out.new }
     ensures later { W.faults out.old ≤ W.faults out.new }
     ensures statuses { (result ≡ 0) ⊎ ((result ≡ 4) ⊎ (result ≡ 6)) }
     ensures write_fault { result ≡ 4 → Rose (W.faults out.old) (W.faults out.new) }
-    ensures unnoted { result ≡ 0 → W.noted out.new ≡ W.noted out.old }
+    ensures unnoted { result ≡ 0 → NotesNothing W.Replies out.old out.new }
 {
     let Ok(tally) = generate(alloc, number, count) else {
         return run_out(out);

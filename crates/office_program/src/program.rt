@@ -1,12 +1,12 @@
 // The program over any source, replies, disk, clock and port.
 ghost use Rattle.std.specs.Prelude.{◌≡◌, ◌≤◌, ◌⊎◌, ℕ, Bool, List, Some, None, false, IsSome, IsTrue};
 ghost use Rattle.http_wire.specs.Held.{take_limit};
-ghost use Rattle.http_front.specs.Counts.{GaveBytes, reading};
+ghost use Rattle.http_front.specs.Counts.{GaveBytes, stream_ends};
 ghost use Rattle.disk_core.specs.Moments.{KeepsTo};
 ghost use Rattle.office_types.specs.declared.command.Entry.{Entry};
 ghost use Rattle.desk_core.specs.Histories.{HasAcceptedHistory, IsSound};
 ghost use Rattle.meter_journal.specs.Reading.{IsForeign};
-ghost use Rattle.command_line.specs.Lines.{Line, init as init_line, run as run_line, serve as serve_line};
+ghost use Rattle.command_line.specs.Lines.{init as init_line, run as run_line, serve as serve_line};
 ghost use Rattle.command_line.specs.Lines.{report as report_line, explain as explain_line, gen as gen_line};
 ghost use Rattle.http_front.specs.declared.answering.SessionEnd.TheVariants.{NoMemory};
 ghost use Rattle.office_program.specs.Commands.{asks, faults, Obeys, RefusesWords, TouchesOwn, IsCaused, NoneFailed};
@@ -119,7 +119,7 @@ where
 
     // What each word does, where memory suffices to read the words.
     ensures run { asks words.now ≡ Some run_line → Obeys W.Replies (input.new ≡ input.old)
-        (Runs D.Disk C.Clock W.Replies (input.new ≡ input.old) (reading (S.left input.old) (S.left input.new)))
+        (Runs D.Disk C.Clock W.Replies (input.new ≡ input.old) (stream_ends (S.left input.old) (S.left input.new)))
         (around disk clock out.old) (around result.disk result.clock out.new) result.status }
     ensures serve { (listen : List ℕ) (workers connections : ℕ)
         → asks words.now ≡ Some (serve_line listen workers connections) → Obeys W.Replies (port.new ≡ port.old)

@@ -1,5 +1,5 @@
 // Printing the report of a month.
-ghost use Rattle.std.specs.Prelude.{◌≡◌, ◌≤◌, ◌⊎◌, ◌<◌, ◌^◌, ℕ, List, false, Ok, IfOk, IsTrue};
+ghost use Rattle.std.specs.Prelude.{◌≡◌, ◌≤◌, ◌⊎◌, ◌<◌, ◌^◌, List, false, Ok, IfOk, IsTrue};
 ghost use Rattle.moments.specs.Time.{end_of_time};
 ghost use Rattle.office_base.specs.Faults.{Rose};
 ghost use Rattle.office_types.specs.Fits.{AnswerFits};
@@ -10,6 +10,7 @@ ghost use Rattle.desk_core.specs.Histories.{HasAcceptedHistory};
 ghost use Rattle.desk_core.specs.Opening.{Opens};
 ghost use Rattle.office_program.specs.Lines.{tariff_note, IsReportExit};
 ghost use Rattle.office_program.specs.Running.{journal_limit, around, IsNoted, IsSilent, RunsOut, FailsToOpen};
+ghost use Rattle.office_program.specs.Running.{SaysNoReply, NotesNothing};
 ghost use Rattle.office_program.specs.Reporting.{report_bytes, IsReportReply, TellsReport, TellsMonth, Reports};
 
 use crate::lines::{NO_TARIFF, note_line, tariff_line};
@@ -52,11 +53,11 @@ fn say_lines<W: Replies>(alloc: Global, out: &mut W, lines: &[ReportLine], as_te
     requires fits { charges lines.now < 2 ^ 128 }
     ensures tells { TellsReport W.Replies as_text (Ok (report_of.Report lines.now)) out.old out.new result
         ⊎ RunsOut W.Replies out.old out.new result }
-    ensures unsaid { (W.said out.new ≡ W.said out.old) × (W.moments out.new ≡ W.moments out.old) }
+    ensures unsaid { SaysNoReply W.Replies out.old out.new }
     ensures later { W.faults out.old ≤ W.faults out.new }
     ensures statuses { (result ≡ 0) ⊎ ((result ≡ 4) ⊎ (result ≡ 6)) }
     ensures write_fault { result ≡ 4 → Rose (W.faults out.old) (W.faults out.new) }
-    ensures unnoted { result ≡ 0 → W.noted out.new ≡ W.noted out.old }
+    ensures unnoted { result ≡ 0 → NotesNothing W.Replies out.old out.new }
 {
     match print(alloc, lines, as_text) {
         Ok(text) => say(out, &text),
@@ -75,11 +76,11 @@ fn say_reply<W: Replies>(
     requires fits { AnswerFits reply.now }
     ensures tells { TellsReport W.Replies as_text reply.now out.old out.new result
         ⊎ RunsOut W.Replies out.old out.new result }
-    ensures unsaid { (W.said out.new ≡ W.said out.old) × (W.moments out.new ≡ W.moments out.old) }
+    ensures unsaid { SaysNoReply W.Replies out.old out.new }
     ensures later { W.faults out.old ≤ W.faults out.new }
     ensures statuses { (result ≡ 10) ⊎ ((result ≡ 0) ⊎ ((result ≡ 4) ⊎ (result ≡ 6))) }
     ensures write_fault { result ≡ 4 → Rose (W.faults out.old) (W.faults out.new) }
-    ensures unnoted { result ≡ 0 → W.noted out.new ≡ W.noted out.old }
+    ensures unnoted { result ≡ 0 → NotesNothing W.Replies out.old out.new }
 {
     match reply {
         Ok(Reply::Report { lines }) => say_lines(alloc, out, lines.as_slice(), as_text),
@@ -108,15 +109,15 @@ fn say_report<W: Replies, D: Disk + Drop, C: Clock + Drop>(
 
     ensures tells { (disk : D) (clock : C)
         → Opens D.Disk disk clock journal_limit desk
-        → TellsMonth D.Disk C.Clock W.Replies month as_text told (around disk clock out.old)
+        → TellsMonth D.Disk W.Replies month as_text told (around disk clock out.old)
         (around result.disk result.clock out.new) result.status }
     ensures disk { result.disk ≡ desk.disk }
-    ensures unsaid { (W.said out.new ≡ W.said out.old) × (W.moments out.new ≡ W.moments out.old) }
+    ensures unsaid { SaysNoReply W.Replies out.old out.new }
     ensures later { W.faults out.old ≤ W.faults out.new }
     ensures statuses { (result.status ≡ 10)
         ⊎ ((result.status ≡ 0) ⊎ ((result.status ≡ 4) ⊎ (result.status ≡ 6))) }
     ensures write_fault { result.status ≡ 4 → Rose (W.faults out.old) (W.faults out.new) }
-    ensures unnoted { result.status ≡ 0 → W.noted out.new ≡ W.noted out.old }
+    ensures unnoted { result.status ≡ 0 → NotesNothing W.Replies out.old out.new }
 {
     let reply = desk.look(told, &Query::Report(month));
     let (disk, clock, _) = desk.finish();
@@ -140,19 +141,19 @@ fn work<W: Replies, D: Disk + Drop, C: Clock + Drop>(
 ) -> End<D, C>
     requires begun { told < end_of_time }
 
-    ensures works { TellsMonth D.Disk C.Clock W.Replies month as_text told (around disk clock out.old)
+    ensures works { TellsMonth D.Disk W.Replies month as_text told (around disk clock out.old)
         (around result.disk result.clock out.new) result.status
         ⊎ FailsToOpen D.Disk C.Clock W.Replies (around disk clock out.old)
         (around result.disk result.clock out.new) result.status }
     ensures sound { IsTrue D.honest → (history : List Entry)
         → HasAcceptedHistory history (D.state disk).journal.seen → result.status ≡ 5 → ⊥ }
-    ensures unsaid { (W.said out.new ≡ W.said out.old) × (W.moments out.new ≡ W.moments out.old) }
+    ensures unsaid { SaysNoReply W.Replies out.old out.new }
     ensures later { (W.faults out.old ≤ W.faults out.new) × (D.fault_count disk ≤ D.fault_count result.disk) }
     ensures statuses { IsReportExit result.status }
     ensures disk_fault { result.status ≡ 2 → Rose (D.fault_count disk) (D.fault_count result.disk) }
     ensures write_fault { result.status ≡ 4 → Rose (W.faults out.old) (W.faults out.new) }
     ensures only { (result.status ≡ 3 → ⊥) × ((result.status ≡ 7 → ⊥) × (result.status ≡ 9 → ⊥)) }
-    ensures unnoted { result.status ≡ 0 → W.noted out.new ≡ W.noted out.old }
+    ensures unnoted { result.status ≡ 0 → NotesNothing W.Replies out.old out.new }
 {
     match Desk::open(alloc, disk, clock, JOURNAL_LIMIT) {
         Ok(desk) => say_report(alloc, out, desk, told, month, as_text),
@@ -172,13 +173,13 @@ pub(crate) fn report<W: Replies, D: Disk + Drop, C: Clock + Drop>(
         (around result.disk result.clock out.new) result.status }
     ensures sound { IsTrue D.honest → (history : List Entry)
         → HasAcceptedHistory history (D.state disk).journal.seen → result.status ≡ 5 → ⊥ }
-    ensures unsaid { (W.said out.new ≡ W.said out.old) × (W.moments out.new ≡ W.moments out.old) }
+    ensures unsaid { SaysNoReply W.Replies out.old out.new }
     ensures later { (W.faults out.old ≤ W.faults out.new) × (D.fault_count disk ≤ D.fault_count result.disk) }
     ensures statuses { (result.status ≡ 8) ⊎ IsReportExit result.status }
     ensures disk_fault { result.status ≡ 2 → Rose (D.fault_count disk) (D.fault_count result.disk) }
     ensures write_fault { result.status ≡ 4 → Rose (W.faults out.old) (W.faults out.new) }
     ensures only { (result.status ≡ 3 → ⊥) × ((result.status ≡ 7 → ⊥) × (result.status ≡ 9 → ⊥)) }
-    ensures unnoted { result.status ≡ 0 → W.noted out.new ≡ W.noted out.old }
+    ensures unnoted { result.status ≡ 0 → NotesNothing W.Replies out.old out.new }
 {
     let Some(told) = first_moment(&mut clock) else {
         return end_at_clock(out, disk, clock);

@@ -1,6 +1,6 @@
 // Answering the messages of a stream.
 ghost use Rattle.std.specs.Prelude.{◌≡◌, ◌≤◌, ◌⊎◌, ◌<◌, ◌+◌, ◌-◌, ◌^◌, ◌∷◌, []};
-ghost use Rattle.std.specs.Prelude.{min, ℕ, List, Option, None, IfSome, false, IsOk, IsTrue};
+ghost use Rattle.std.specs.Prelude.{min, List, Option, None, IfSome, false, IsOk, IsTrue};
 ghost use Rattle.std.specs.Io.KnownBytes.{Appends};
 ghost use Rattle.moments.specs.Time.{end_of_time};
 ghost use Rattle.office_base.specs.Faults.{Rose};
@@ -8,9 +8,9 @@ ghost use Rattle.http_wire.specs.Held.{take_limit};
 ghost use Rattle.office_types.specs.declared.command.Entry.{Entry};
 ghost use Rattle.desk_core.specs.Histories.{HasAcceptedHistory};
 ghost use Rattle.desk_core.specs.Opening.{Opens};
-ghost use Rattle.http_front.specs.Counts.{GaveBytes, reading};
+ghost use Rattle.http_front.specs.Counts.{GaveBytes, stream_ends};
 ghost use Rattle.office_program.specs.Lines.{fault_exit, fault_note, IsSessionExit, IsRunExit};
-ghost use Rattle.office_program.specs.Running.{journal_limit, around, IsNoted, IsSilent};
+ghost use Rattle.office_program.specs.Running.{journal_limit, around, IsNoted, IsSilent, NotesNothing};
 ghost use Rattle.office_program.specs.Running.{AnswersStream, FailsToOpen, Ends, Runs};
 
 use crate::lines::{CLOCK_END, clock_line, end_line, note_fault, note_line, open_exit, run_exit};
@@ -41,7 +41,7 @@ fn answer<S: Source, W: Replies, D: Disk + Drop, C: Clock + Drop>(
 
     ensures answers { (disk : D) (clock : C)
         → Opens D.Disk disk clock journal_limit desk
-        → AnswersStream D.Disk C.Clock W.Replies (reading (S.left input.old) (S.left input.new))
+        → AnswersStream D.Disk C.Clock W.Replies (stream_ends (S.left input.old) (S.left input.new))
         (around disk clock out.old)
         (around result.disk result.clock out.new) result.status }
     ensures later { (S.faults input.old ≤ S.faults input.new) × (W.faults out.old ≤ W.faults out.new)
@@ -49,9 +49,10 @@ fn answer<S: Source, W: Replies, D: Disk + Drop, C: Clock + Drop>(
     ensures statuses { IsSessionExit result.status }
     ensures disk_fault { result.status ≡ 2 → Rose (D.fault_count desk.disk) (D.fault_count result.disk) }
     ensures read_fault { result.status ≡ 3 → Rose (S.faults input.old) (S.faults input.new) }
+    ensures read_done { (result.status ≡ 3 → ⊥) → S.faults input.new ≡ S.faults input.old }
     ensures spent { result.status ≡ 9 → GaveBytes (S.left input.old) (S.left input.new) take_limit }
     ensures write_fault { result.status ≡ 4 → Rose (W.faults out.old) (W.faults out.new) }
-    ensures unnoted { result.status ≡ 0 → W.noted out.new ≡ W.noted out.old }
+    ensures unnoted { result.status ≡ 0 → NotesNothing W.Replies out.old out.new }
 {
     let end = session(alloc, input, out, &mut desk);
     let stale = desk.stale();
@@ -96,7 +97,7 @@ fn work<S: Source, W: Replies, D: Disk + Drop, C: Clock + Drop>(
     disk: D,
     clock: C,
 ) -> End<D, C>
-    ensures works { AnswersStream D.Disk C.Clock W.Replies (reading (S.left input.old) (S.left input.new))
+    ensures works { AnswersStream D.Disk C.Clock W.Replies (stream_ends (S.left input.old) (S.left input.new))
         (around disk clock out.old)
         (around result.disk result.clock out.new) result.status
         ⊎ (FailsToOpen D.Disk C.Clock W.Replies (around disk clock out.old) (around result.disk result.clock out.new)
@@ -110,9 +111,10 @@ fn work<S: Source, W: Replies, D: Disk + Drop, C: Clock + Drop>(
     ensures unopened { result.status ≡ 5 → input.new ≡ input.old }
     ensures disk_fault { result.status ≡ 2 → Rose (D.fault_count disk) (D.fault_count result.disk) }
     ensures read_fault { result.status ≡ 3 → Rose (S.faults input.old) (S.faults input.new) }
+    ensures read_done { (result.status ≡ 3 → ⊥) → S.faults input.new ≡ S.faults input.old }
     ensures spent { result.status ≡ 9 → GaveBytes (S.left input.old) (S.left input.new) take_limit }
     ensures write_fault { result.status ≡ 4 → Rose (W.faults out.old) (W.faults out.new) }
-    ensures unnoted { result.status ≡ 0 → W.noted out.new ≡ W.noted out.old }
+    ensures unnoted { result.status ≡ 0 → NotesNothing W.Replies out.old out.new }
 {
     match Desk::open(alloc, disk, clock, JOURNAL_LIMIT) {
         Ok(desk) => answer(alloc, input, out, desk),
@@ -169,7 +171,7 @@ pub(crate) fn run<S: Source, W: Replies, D: Disk + Drop, C: Clock + Drop>(
     mut clock: C,
 ) -> End<D, C>
     ensures runs { Runs D.Disk C.Clock W.Replies (input.new ≡ input.old)
-        (reading (S.left input.old) (S.left input.new)) (around disk clock out.old)
+        (stream_ends (S.left input.old) (S.left input.new)) (around disk clock out.old)
         (around result.disk result.clock out.new) result.status }
     ensures sound { IsTrue D.honest → (history : List Entry)
         → HasAcceptedHistory history (D.state disk).journal.seen → result.status ≡ 5 → ⊥ }
@@ -180,9 +182,10 @@ pub(crate) fn run<S: Source, W: Replies, D: Disk + Drop, C: Clock + Drop>(
     ensures unopened { (result.status ≡ 5) ⊎ (result.status ≡ 8) → input.new ≡ input.old }
     ensures disk_fault { result.status ≡ 2 → Rose (D.fault_count disk) (D.fault_count result.disk) }
     ensures read_fault { result.status ≡ 3 → Rose (S.faults input.old) (S.faults input.new) }
+    ensures read_done { (result.status ≡ 3 → ⊥) → S.faults input.new ≡ S.faults input.old }
     ensures spent { result.status ≡ 9 → GaveBytes (S.left input.old) (S.left input.new) take_limit }
     ensures write_fault { result.status ≡ 4 → Rose (W.faults out.old) (W.faults out.new) }
-    ensures unnoted { result.status ≡ 0 → W.noted out.new ≡ W.noted out.old }
+    ensures unnoted { result.status ≡ 0 → NotesNothing W.Replies out.old out.new }
 {
     if !has_begun(&mut clock) {
         return end_at_clock(out, disk, clock);

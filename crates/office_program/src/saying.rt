@@ -1,7 +1,7 @@
 // Saying what a command prints.
 ghost use Rattle.std.specs.Prelude.{◌≡◌, ◌≤◌, ◌⊎◌};
 ghost use Rattle.office_base.specs.Faults.{Rose};
-ghost use Rattle.office_program.specs.Running.{IsPutOut, RunsOut};
+ghost use Rattle.office_program.specs.Running.{IsPutOut, RunsOut, SaysNoReply, NotesNothing};
 
 use crate::lines::{MEMORY, OUTPUT, end_line, note_line};
 use http_front::{Replies, SessionEnd};
@@ -9,11 +9,11 @@ use http_front::{Replies, SessionEnd};
 // Says a text, and answers the status.
 pub(crate) fn say<W: Replies>(out: &mut W, text: &[u8]) -> u8
     ensures told { IsPutOut W.Replies text.now out.old out.new result }
-    ensures unsaid { (W.said out.new ≡ W.said out.old) × (W.moments out.new ≡ W.moments out.old) }
+    ensures unsaid { SaysNoReply W.Replies out.old out.new }
     ensures statuses { (result ≡ 0) ⊎ (result ≡ 4) }
     ensures later { W.faults out.old ≤ W.faults out.new }
     ensures write_fault { result ≡ 4 → Rose (W.faults out.old) (W.faults out.new) }
-    ensures unnoted { result ≡ 0 → W.noted out.new ≡ W.noted out.old }
+    ensures unnoted { result ≡ 0 → NotesNothing W.Replies out.old out.new }
 {
     match out.text(text) {
         Ok(()) => 0,

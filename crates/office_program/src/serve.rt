@@ -1,11 +1,11 @@
 // Answering the messages of connections.
-ghost use Rattle.std.specs.Prelude.{◌≡◌, ◌≤◌, ◌⊎◌, ◌<◌, ℕ, List, false, IsTrue};
+ghost use Rattle.std.specs.Prelude.{◌≡◌, ◌≤◌, ◌⊎◌, ◌<◌, List, false, IsTrue};
 ghost use Rattle.office_base.specs.Faults.{Rose};
 ghost use Rattle.office_types.specs.declared.command.Entry.{Entry};
 ghost use Rattle.desk_core.specs.Histories.{HasAcceptedHistory};
 ghost use Rattle.desk_core.specs.Opening.{Opens};
 ghost use Rattle.office_program.specs.Lines.{workers_exit, workers_note, IsWorkersExit, IsServeExit};
-ghost use Rattle.office_program.specs.Running.{journal_limit, around, IsNoted, IsSilent};
+ghost use Rattle.office_program.specs.Running.{journal_limit, around, IsNoted, IsSilent, NotesNothing};
 ghost use Rattle.office_program.specs.Running.{AnswersWorkers, Connects, IsBalanced, FailsToOpen, ServesPort};
 
 use crate::lines::{note_line, serve_exit, served_line};
@@ -29,7 +29,7 @@ fn close<W: Replies, D: Disk + Drop, C: Clock + Drop>(
     ensures clock { result.clock ≡ closed.clock }
     ensures silent { IsSilent W.Replies out.old out.new }
     ensures noted { IsNoted W.Replies out.old out.new (workers_note closed.end closed.stale) }
-    ensures unnoted { result.status ≡ 0 → W.noted out.new ≡ W.noted out.old }
+    ensures unnoted { result.status ≡ 0 → NotesNothing W.Replies out.old out.new }
     ensures later { W.faults out.old ≤ W.faults out.new }
 {
     note_line(out, served_line(closed.end, closed.stale));
@@ -74,7 +74,7 @@ where
     ensures port_fault { result.status ≡ 7 → Rose (P.faults port.old) (P.faults port.new) }
     ensures port_done { (result.status ≡ 7 → ⊥) → P.faults port.new ≤ P.faults port.old }
     ensures balanced { IsBalanced P.Port port.old port.new }
-    ensures unnoted { result.status ≡ 0 → W.noted out.new ≡ W.noted out.old }
+    ensures unnoted { result.status ≡ 0 → NotesNothing W.Replies out.old out.new }
 {
     let closed = serve_office(rt, alloc, desk, port, address, gate, workers, connections);
     close(out, closed)
@@ -118,7 +118,7 @@ where
     ensures port_fault { result.status ≡ 7 → Rose (P.faults port.old) (P.faults port.new) }
     ensures port_done { (result.status ≡ 7 → ⊥) → P.faults port.new ≤ P.faults port.old }
     ensures balanced { IsBalanced P.Port port.old port.new }
-    ensures unnoted { result.status ≡ 0 → W.noted out.new ≡ W.noted out.old }
+    ensures unnoted { result.status ≡ 0 → NotesNothing W.Replies out.old out.new }
 {
     match Desk::open(alloc, disk, clock, JOURNAL_LIMIT) {
         Ok(desk) => answer(
@@ -172,7 +172,7 @@ where
     ensures port_fault { result.status ≡ 7 → Rose (P.faults port.old) (P.faults port.new) }
     ensures port_done { (result.status ≡ 7 → ⊥) → P.faults port.new ≤ P.faults port.old }
     ensures balanced { IsBalanced P.Port port.old port.new }
-    ensures unnoted { result.status ≡ 0 → W.noted out.new ≡ W.noted out.old }
+    ensures unnoted { result.status ≡ 0 → NotesNothing W.Replies out.old out.new }
 {
     if !has_begun(&mut clock) {
         return end_at_clock(out, disk, clock);

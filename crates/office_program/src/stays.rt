@@ -1,5 +1,5 @@
 // Printing the table of stays.
-ghost use Rattle.std.specs.Prelude.{◌≡◌, ◌≤◌, ◌⊎◌, ◌<◌, ℕ, List, IfOk, IfErr, IsTrue};
+ghost use Rattle.std.specs.Prelude.{◌≡◌, ◌≤◌, ◌<◌, List, IfOk, IfErr, IsTrue};
 ghost use Rattle.office_base.specs.Faults.{Rose};
 ghost use Rattle.meter_journal.specs.Reading.{HasStoreCause};
 ghost use Rattle.disk_core.specs.Moments.{Untouched};
@@ -7,7 +7,7 @@ ghost use Rattle.office_types.specs.declared.command.Entry.{Entry};
 ghost use Rattle.desk_core.specs.Damage.{OpenFails};
 ghost use Rattle.desk_core.specs.Histories.{HasAcceptedHistory};
 ghost use Rattle.office_program.specs.Lines.{IsRunExit};
-ghost use Rattle.office_program.specs.Running.{around};
+ghost use Rattle.office_program.specs.Running.{around, SaysNoReply, NotesNothing};
 ghost use Rattle.office_program.specs.Explaining.{Explains, ReadsTable};
 
 use crate::program::End;
@@ -54,13 +54,13 @@ pub(crate) fn stays<W: Replies, D: Disk + Drop, C: Clock + Drop, R: Threads + Sy
         (around result.disk result.clock out.new) result.status }
     ensures sound { IsTrue D.honest → (history : List Entry)
         → HasAcceptedHistory history (D.state disk).journal.seen → result.status ≡ 5 → ⊥ }
-    ensures unsaid { (W.said out.new ≡ W.said out.old) × (W.moments out.new ≡ W.moments out.old) }
+    ensures unsaid { SaysNoReply W.Replies out.old out.new }
     ensures later { (W.faults out.old ≤ W.faults out.new) × (D.fault_count disk ≤ D.fault_count result.disk) }
     ensures statuses { IsRunExit result.status }
     ensures disk_fault { result.status ≡ 2 → Rose (D.fault_count disk) (D.fault_count result.disk) }
     ensures write_fault { result.status ≡ 4 → Rose (W.faults out.old) (W.faults out.new) }
     ensures only { (result.status ≡ 3 → ⊥) × ((result.status ≡ 7 → ⊥) × (result.status ≡ 9 → ⊥)) }
-    ensures unnoted { result.status ≡ 0 → W.noted out.new ≡ W.noted out.old }
+    ensures unnoted { result.status ≡ 0 → NotesNothing W.Replies out.old out.new }
 {
     match table(rt, alloc, &mut disk, workers) {
         Ok(text) => {

@@ -20,6 +20,7 @@ abbrev pub RefusalFits : Refusal → Type 0
 RefusalFits (MonthNotOver end) = end ≤ end_of_time
 RefusalFits other = Unit {0}
 
+-- the same of an answer, which is a reply or a refusal
 abbrev pub AnswerFits : Result Reply Refusal → Type 0
 AnswerFits (Ok reply) = ReplyFits reply
 AnswerFits (Err refusal) = RefusalFits refusal

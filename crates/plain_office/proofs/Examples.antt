@@ -37,6 +37,7 @@ use Rattle.office_types.specs.declared.reply.Reply.TheVariants as reply
 use Rattle.office_types.specs.declared.refusal.Refusal.{Refusal}
 use Rattle.office_types.specs.declared.refusal.Refusal.TheVariants as refusal
 use Rattle.office_types.specs.declared.refusal.What.TheVariants as what
+use Rattle.office_types.specs.Entries.{entry_at}
 use Rattle.plain_office.specs.Office.{Office, Account, empty_office, empty_books, book_of}
 use Rattle.plain_office.specs.Changes.{effect, versions_of}
 use Rattle.plain_office.specs.Counts.{count_of, tag_bytes_of}
@@ -54,9 +55,6 @@ unfolding run accept step outcome count_of answer report_lines effect choice can
 to_compute = tt
 
 -- ---- words
-
-abbrev pub at : ℕ → Command → Entry
-at t command = record { moment = t; command = command }
 
 -- 2024-01-01 00:00 UTC; January 2024 is month 648, counted from January 1970
 abbrev pub new_year : ℕ
@@ -123,7 +121,7 @@ rules_of rules = record { rules = rules; mode = mode.All128K }
 -- ---- buckets
 
 -- names stand in byte order, whatever the order of the commands
-in_order : run (at new_year (command.CreateBucket logs) ∷ at (new_year + 2) (command.CreateBucket (codes "data")) ∷ [])
+in_order : run (entry_at new_year (command.CreateBucket logs) ∷ entry_at (new_year + 2) (command.CreateBucket (codes "data")) ∷ [])
     ≡ Some (record {
       last = Some (new_year + 2);
       tariff = None;
@@ -135,13 +133,13 @@ unfolding to_compute
 in_order = refl
 
 -- a name is taken once
-not_twice : answers empty_office (at 1 (command.CreateBucket logs) ∷ at 1 (command.CreateBucket logs) ∷ [])
+not_twice : answers empty_office (entry_at 1 (command.CreateBucket logs) ∷ entry_at 1 (command.CreateBucket logs) ∷ [])
     ≡ Ok (reply.BucketMade logs) ∷ Err refusal.BucketExists ∷ []
 unfolding to_compute
 not_twice = refl
 
 -- time does not go back, but may stand still
-not_back : run (at 2 (command.CreateBucket logs) ∷ at 1 (command.CreateBucket (codes "data")) ∷ []) ≡ None
+not_back : run (entry_at 2 (command.CreateBucket logs) ∷ entry_at 1 (command.CreateBucket (codes "data")) ∷ []) ≡ None
 unfolding to_compute
 not_back = refl
 
@@ -151,11 +149,11 @@ unfolding to_compute
 no_bucket = refl
 
 abbrev pub with_logs : List Entry
-with_logs = at new_year (command.CreateBucket logs) ∷ []
+with_logs = entry_at new_year (command.CreateBucket logs) ∷ []
 
 -- versioning is suspended only where it was enabled
-not_suspended : answers (after empty_office with_logs) (at new_year (command.SetVersioning logs false)
-    ∷ at new_year (command.SetVersioning logs true) ∷ at new_year (command.SetVersioning logs false) ∷ [])
+not_suspended : answers (after empty_office with_logs) (entry_at new_year (command.SetVersioning logs false)
+    ∷ entry_at new_year (command.SetVersioning logs true) ∷ entry_at new_year (command.SetVersioning logs false) ∷ [])
     ≡ Err refusal.NotEnabledBefore ∷ Ok (reply.VersioningSet versioning.Enabled)
     ∷ Ok (reply.VersioningSet versioning.Suspended) ∷ []
 unfolding to_compute
@@ -163,8 +161,8 @@ not_suspended = refl
 
 -- an empty configuration is one, and is dropped once
 dropped_once : answers (after empty_office with_logs)
-    (at new_year (command.DropRules logs) ∷ at new_year (command.SetRules logs (rules_of []))
-    ∷ at new_year (command.DropRules logs) ∷ at new_year (command.DropRules logs) ∷ [])
+    (entry_at new_year (command.DropRules logs) ∷ entry_at new_year (command.SetRules logs (rules_of []))
+    ∷ entry_at new_year (command.DropRules logs) ∷ entry_at new_year (command.DropRules logs) ∷ [])
     ≡ Err refusal.NoRules ∷ Ok (reply.RulesSet 0) ∷ Ok (reply.RulesSet 0) ∷ Err refusal.NoRules ∷ []
 unfolding to_compute
 dropped_once = refl
@@ -174,8 +172,8 @@ dropped_once = refl
 -- an object of 1,000 bytes, and a day later one of 2,000 bytes under the same key; in a bucket without versioning it
 -- is the only version
 abbrev pub two_puts : List Entry
-two_puts = at new_year (command.CreateBucket logs) ∷ at new_year (put 1_000 class.Standard)
-    ∷ at (new_year + day) (put 2_000 class.Standard) ∷ []
+two_puts = entry_at new_year (command.CreateBucket logs) ∷ entry_at new_year (put 1_000 class.Standard)
+    ∷ entry_at (new_year + day) (put 2_000 class.Standard) ∷ []
 
 one_version : option_map (answer (new_year + 2 * day) (query.Bucket logs)) (run two_puts)
     ≡ Some (Ok (reply.BucketShown logs 0 0 versioning.Unversioned 1))
@@ -184,7 +182,7 @@ one_version = refl
 
 -- a delete there removes it, and is refused where there is none
 deleted_once : answers (after empty_office two_puts)
-    (at (new_year + day) (command.Delete logs a) ∷ at (new_year + day) (command.Delete logs a) ∷ [])
+    (entry_at (new_year + day) (command.Delete logs a) ∷ entry_at (new_year + day) (command.Delete logs a) ∷ [])
     ≡ Ok (reply.Deleted None) ∷ Err refusal.NoSuchKey ∷ []
 unfolding to_compute
 deleted_once = refl
@@ -192,10 +190,10 @@ deleted_once = refl
 -- the null version is put, covered by version 1, and put again in the suspended bucket
 abbrev pub suspended : List Entry
 suspended =
-    at new_year (command.CreateBucket logs) ∷ at new_year (put 200_000 class.StandardIa)
-    ∷ at new_year (command.SetVersioning logs true)
-    ∷ at new_year (put 1 class.Standard) ∷ at new_year (command.SetVersioning logs false)
-    ∷ at (new_year + 10 * day) (put 2 class.Standard) ∷ []
+    entry_at new_year (command.CreateBucket logs) ∷ entry_at new_year (put 200_000 class.StandardIa)
+    ∷ entry_at new_year (command.SetVersioning logs true)
+    ∷ entry_at new_year (put 1 class.Standard) ∷ entry_at new_year (command.SetVersioning logs false)
+    ∷ entry_at (new_year + 10 * day) (put 2 class.Standard) ∷ []
 
 null_on_top : ids_in (after empty_office suspended) ≡ id.Null ∷ id.Number 1 ∷ []
 unfolding to_compute
@@ -207,15 +205,15 @@ unfolding to_compute
 replaced_early = refl
 
 -- a version is removed once
-removed_once : answers (after empty_office suspended) (at (new_year + 10 * day) (command.DeleteVersion logs a id.Null)
-    ∷ at (new_year + 10 * day) (command.DeleteVersion logs a id.Null)
-    ∷ at (new_year + 10 * day) (command.DeleteVersion logs (codes "b") id.Null) ∷ [])
+removed_once : answers (after empty_office suspended) (entry_at (new_year + 10 * day) (command.DeleteVersion logs a id.Null)
+    ∷ entry_at (new_year + 10 * day) (command.DeleteVersion logs a id.Null)
+    ∷ entry_at (new_year + 10 * day) (command.DeleteVersion logs (codes "b") id.Null) ∷ [])
     ≡ Ok (reply.VersionDeleted id.Null) ∷ Err refusal.NoSuchVersion ∷ Err refusal.NoSuchKey ∷ []
 unfolding to_compute
 removed_once = refl
 
 -- the version below a current null version that is replaced keeps the moment at which it ceased to be current
-ceased_once : ceased_in (after (after empty_office suspended) (at (new_year + 11 * day) (put 3 class.Standard) ∷ []))
+ceased_once : ceased_in (after (after empty_office suspended) (entry_at (new_year + 11 * day) (put 3 class.Standard) ∷ []))
     ≡ (new_year + 11 * day) ∷ (new_year + 10 * day) ∷ []
 unfolding to_compute
 ceased_once = refl
@@ -225,11 +223,11 @@ abbrev pub tags : List (List ℕ × List ℕ)
 tags = (codes "kind", codes "raw") ∷ []
 
 marked : answers (after empty_office with_logs)
-    (at new_year (command.SetVersioning logs true) ∷ at new_year (put 1 class.Standard)
-    ∷ at new_year (command.Delete logs a)
-    ∷ at new_year (command.SetTags logs a (id.Number 2) tags)
-    ∷ at new_year (command.SetTags logs a (id.Number 1) tags)
-    ∷ at new_year (command.SetTags logs a (id.Number 3) tags) ∷ [])
+    (entry_at new_year (command.SetVersioning logs true) ∷ entry_at new_year (put 1 class.Standard)
+    ∷ entry_at new_year (command.Delete logs a)
+    ∷ entry_at new_year (command.SetTags logs a (id.Number 2) tags)
+    ∷ entry_at new_year (command.SetTags logs a (id.Number 1) tags)
+    ∷ entry_at new_year (command.SetTags logs a (id.Number 3) tags) ∷ [])
     ≡ Ok (reply.VersioningSet versioning.Enabled) ∷ Ok (reply.Stored new_year (id.Number 1))
     ∷ Ok (reply.Deleted (Some (id.Number 2)))
     ∷ Err refusal.IsMarker ∷ Ok (reply.TagsSet 1) ∷ Err refusal.NoSuchVersion ∷ []
@@ -238,9 +236,9 @@ marked = refl
 
 -- a version that is put while versioning is suspended takes no number
 unnumbered : answers (after empty_office with_logs)
-    (at new_year (command.SetVersioning logs true) ∷ at new_year (put 1 class.Standard)
-    ∷ at new_year (command.SetVersioning logs false) ∷ at new_year (put 2 class.Standard)
-    ∷ at new_year (command.SetVersioning logs true) ∷ at new_year (put 3 class.Standard) ∷ [])
+    (entry_at new_year (command.SetVersioning logs true) ∷ entry_at new_year (put 1 class.Standard)
+    ∷ entry_at new_year (command.SetVersioning logs false) ∷ entry_at new_year (put 2 class.Standard)
+    ∷ entry_at new_year (command.SetVersioning logs true) ∷ entry_at new_year (put 3 class.Standard) ∷ [])
     ≡ Ok (reply.VersioningSet versioning.Enabled) ∷ Ok (reply.Stored new_year (id.Number 1))
     ∷ Ok (reply.VersioningSet versioning.Suspended) ∷ Ok (reply.Stored new_year id.Null)
     ∷ Ok (reply.VersioningSet versioning.Enabled) ∷ Ok (reply.Stored new_year (id.Number 2)) ∷ []
@@ -249,8 +247,8 @@ unnumbered = refl
 
 -- the versions of a key, as they are shown
 shown : answer new_year (query.Stack logs a)
-    (after (after empty_office with_logs) (at new_year (command.SetVersioning logs true)
-    ∷ at new_year (command.Put logs a 5 class.Glacier tags) ∷ at (new_year + day) (command.Delete logs a) ∷ []))
+    (after (after empty_office with_logs) (entry_at new_year (command.SetVersioning logs true)
+    ∷ entry_at new_year (command.Put logs a 5 class.Glacier tags) ∷ entry_at (new_year + day) (command.Delete logs a) ∷ []))
     ≡ Ok (reply.StackShown a (record {
       changed = new_year + day;
       versions = record { id = id.Number 2; kind = kind.Marker; created = new_year + day; ceased = new_year + day }
@@ -269,9 +267,9 @@ shown = refl
 -- a part that is put again replaces the one before; a part of an archive's upload is billed in STANDARD
 abbrev pub part_twice : List Entry
 part_twice =
-    at new_year (command.CreateBucket logs) ∷ at new_year (command.StartUpload logs a class.Glacier [])
-    ∷ at new_year (command.PutPart logs 1 1 1_000)
-    ∷ at new_year (command.PutPart logs 1 1 1_000) ∷ []
+    entry_at new_year (command.CreateBucket logs) ∷ entry_at new_year (command.StartUpload logs a class.Glacier [])
+    ∷ entry_at new_year (command.PutPart logs 1 1 1_000)
+    ∷ entry_at new_year (command.PutPart logs 1 1 1_000) ∷ []
 
 one_open_part : stays_in (after empty_office part_twice)
     ≡ ((class.Standard, 1_000) ∷ [], Some new_year) ∷ ((class.Standard, 1_000) ∷ [], None) ∷ []
@@ -292,7 +290,7 @@ unfolding to_compute
 upload_shown = refl
 
 -- completed, its parts end and the object's lines begin
-completed : stays_in (after (after empty_office part_twice) (at new_year (command.Complete logs 1) ∷ []))
+completed : stays_in (after (after empty_office part_twice) (entry_at new_year (command.Complete logs 1) ∷ []))
     ≡ ((class.Standard, 1_000) ∷ [], Some new_year) ∷ ((class.Standard, 1_000) ∷ [], Some new_year)
     ∷ ((class.Glacier, 33_768) ∷ (class.Standard, 8_192) ∷ [], None) ∷ []
 unfolding to_compute
@@ -300,9 +298,9 @@ completed = refl
 
 -- numbers of parts go to 10,000, an upload needs a part to be completed, and goes once
 refused_uploads : answers (after empty_office part_twice)
-    (at new_year (command.PutPart logs 1 10_001 1) ∷ at new_year (command.StartUpload logs a class.Standard [])
-    ∷ at new_year (command.Complete logs 2) ∷ at new_year (command.Abort logs 2)
-    ∷ at new_year (command.Abort logs 2) ∷ [])
+    (entry_at new_year (command.PutPart logs 1 10_001 1) ∷ entry_at new_year (command.StartUpload logs a class.Standard [])
+    ∷ entry_at new_year (command.Complete logs 2) ∷ entry_at new_year (command.Abort logs 2)
+    ∷ entry_at new_year (command.Abort logs 2) ∷ [])
     ≡ Err refusal.BadPart ∷ Ok (reply.UploadStarted 2) ∷ Err refusal.NoParts ∷ Ok (reply.Aborted 2)
     ∷ Err refusal.NoSuchUpload ∷ []
 unfolding to_compute

@@ -17,9 +17,10 @@ use Rattle.office_types.specs.declared.command.Entry.{Entry}
 use Rattle.office_types.specs.declared.reply.Reply.TheVariants as reply
 use Rattle.office_types.specs.declared.refusal.Refusal.TheVariants as refusal
 use Rattle.office_types.specs.declared.refusal.What.TheVariants as what
+use Rattle.office_types.specs.Entries.{entry_at}
 use Rattle.plain_office.specs.Office.{Office, empty_office}
 use Rattle.plain_office.specs.Answers.{answer}
-use Rattle.plain_office.proofs.Examples.{to_compute, at, after, answers, new_year, january, logs, a, put, no_action, rules_of, ids_in, book_in, tags, beside, with_stack_of}
+use Rattle.plain_office.proofs.Examples.{to_compute, after, answers, new_year, january, logs, a, put, no_action, rules_of, ids_in, book_in, tags, beside, with_stack_of}
 
 -- 2023-12-10 09:00 UTC, and the midnight that is due 30 days later
 abbrev start : ℕ
@@ -37,15 +38,15 @@ abbrev moves : List ℕ → ℕ → Class → Rule
 moves name days to = record (no_action name) { transitions = record { when = when.Days days; to = to } ∷ [] }
 
 abbrev act : ℕ → Entry
-act t = at t (command.Act logs)
+act t = entry_at t (command.Act logs)
 
 -- a bucket with rules, and one with versions and rules
 abbrev ruled : List Rule → List Entry
-ruled rules = at start (command.CreateBucket logs) ∷ at start (command.SetRules logs (rules_of rules)) ∷ []
+ruled rules = entry_at start (command.CreateBucket logs) ∷ entry_at start (command.SetRules logs (rules_of rules)) ∷ []
 
 abbrev versioned : List Rule → List Entry
-versioned rules = at start (command.CreateBucket logs) ∷ at start (command.SetVersioning logs true)
-    ∷ at start (command.SetRules logs (rules_of rules)) ∷ []
+versioned rules = entry_at start (command.CreateBucket logs) ∷ entry_at start (command.SetVersioning logs true)
+    ∷ entry_at start (command.SetRules logs (rules_of rules)) ∷ []
 
 -- ---- conflicts
 
@@ -54,7 +55,7 @@ abbrev move_and_expire : List Rule
 move_and_expire = moves (codes "r1") 30 class.StandardIa ∷ expires (codes "r2") 30 ∷ []
 
 removal_first : answers (after empty_office (ruled move_and_expire))
-    (at start (put 1_000_000 class.Standard) ∷ act due_midnight ∷ act due_midnight ∷ [])
+    (entry_at start (put 1_000_000 class.Standard) ∷ act due_midnight ∷ act due_midnight ∷ [])
     ≡ Ok (reply.Stored start id.Null)
     ∷ Ok (reply.Chosen action.Remove a (target.Version id.Null) (codes "r2") due_midnight None)
     ∷ Ok reply.NothingDue ∷ []
@@ -63,14 +64,14 @@ removal_first = refl
 
 -- nothing is due a millisecond earlier
 not_yet : answers (after empty_office (ruled move_and_expire))
-    (at start (put 1_000_000 class.Standard) ∷ act 1_704_844_799_999 ∷ [])
+    (entry_at start (put 1_000_000 class.Standard) ∷ act 1_704_844_799_999 ∷ [])
     ≡ Ok (reply.Stored start id.Null) ∷ Ok reply.NothingDue ∷ []
 unfolding to_compute
 not_yet = refl
 
 -- with versions the transition goes before the marker of the same moment
 transition_then_marker : answers (after empty_office (versioned move_and_expire))
-    (at start (put 1_000_000 class.Standard) ∷ act due_midnight ∷ act due_midnight ∷ act due_midnight ∷ [])
+    (entry_at start (put 1_000_000 class.Standard) ∷ act due_midnight ∷ act due_midnight ∷ act due_midnight ∷ [])
     ≡ Ok (reply.Stored start (id.Number 1))
     ∷ Ok (reply.Chosen (action.Transition class.StandardIa) a (target.Version (id.Number 1))
     (codes "r1") due_midnight None)
@@ -84,7 +85,7 @@ abbrev two_moves : List Rule
 two_moves = moves (codes "r1") 30 class.StandardIa ∷ moves (codes "r2") 30 class.Glacier ∷ []
 
 colder_first : answers (after empty_office (ruled two_moves))
-    (at start (put 1_000_000 class.Standard) ∷ act due_midnight ∷ act due_midnight ∷ [])
+    (entry_at start (put 1_000_000 class.Standard) ∷ act due_midnight ∷ act due_midnight ∷ [])
     ≡ Ok (reply.Stored start id.Null)
     ∷ Ok (reply.Chosen (action.Transition class.Glacier) a (target.Version id.Null)
     (codes "r2") due_midnight None) ∷ Ok reply.NothingDue ∷ []
@@ -93,7 +94,7 @@ colder_first = refl
 
 -- objects below 128 KiB are not moved
 small_objects_stay : answers (after empty_office (ruled two_moves))
-    (at start (put 131_071 class.Standard) ∷ act due_midnight ∷ [])
+    (entry_at start (put 131_071 class.Standard) ∷ act due_midnight ∷ [])
     ≡ Ok (reply.Stored start id.Null) ∷ Ok reply.NothingDue ∷ []
 unfolding to_compute
 small_objects_stay = refl
@@ -101,7 +102,7 @@ small_objects_stay = refl
 -- a change of the version, here of its tags, moves the moment at which its actions stand; a query shows the action
 -- and does not do it
 changed_later : answer due_midnight (query.Due logs) (after (after empty_office (ruled (expires (codes "e") 3 ∷ [])))
-    (at start (put 5 class.Standard) ∷ at (start + 10 * day) (command.SetTags logs a id.Null tags) ∷ []))
+    (entry_at start (put 5 class.Standard) ∷ entry_at (start + 10 * day) (command.SetTags logs a id.Null tags) ∷ []))
     ≡ Ok (reply.Chosen action.Remove a (target.Version id.Null) (codes "e") (start + 10 * day) None)
 unfolding to_compute
 changed_later = refl
@@ -113,7 +114,7 @@ abbrev keeping_one : Rule
 keeping_one = record (no_action (codes "n")) { noncurrent_expiration = Some (record { days = 30; newer = Some 1 }) }
 
 abbrev four_puts : List Entry
-four_puts = replicate 4 (at start (put 1 class.Standard))
+four_puts = replicate 4 (entry_at start (put 1 class.Standard))
 
 abbrev two_removals : List Entry
 two_removals = act due_midnight ∷ act due_midnight ∷ act due_midnight ∷ []
@@ -140,9 +141,9 @@ lone_marker = expires (codes "e") 3
     ∷ []
 
 marker_goes : answers empty_office (
-    at new_year (command.CreateBucket logs) ∷ at new_year (command.SetVersioning logs true)
-    ∷ at new_year (command.SetVersioning logs false)
-    ∷ at new_year (command.SetRules logs (rules_of lone_marker)) ∷ at new_year (put 5 class.Standard)
+    entry_at new_year (command.CreateBucket logs) ∷ entry_at new_year (command.SetVersioning logs true)
+    ∷ entry_at new_year (command.SetVersioning logs false)
+    ∷ entry_at new_year (command.SetRules logs (rules_of lone_marker)) ∷ entry_at new_year (put 5 class.Standard)
     ∷ act (new_year + 3 * day) ∷ act (new_year + 3 * day) ∷ act (new_year + 3 * day) ∷ [])
     ≡ Ok (reply.BucketMade logs) ∷ Ok (reply.VersioningSet versioning.Enabled)
     ∷ Ok (reply.VersioningSet versioning.Suspended) ∷ Ok (reply.RulesSet 2)
@@ -160,9 +161,9 @@ abbrev aborts : Rule
 aborts = record (no_action (codes "u")) { abort_days = Some 7 }
 
 aborted : answers empty_office (
-    at new_year (command.CreateBucket logs) ∷ at new_year (command.SetRules logs (rules_of (aborts ∷ [])))
-    ∷ at new_year (command.StartUpload logs a class.Standard [])
-    ∷ at new_year (command.PutPart logs 1 1 5) ∷ act (new_year + 7 * day) ∷ act (new_year + 7 * day) ∷ [])
+    entry_at new_year (command.CreateBucket logs) ∷ entry_at new_year (command.SetRules logs (rules_of (aborts ∷ [])))
+    ∷ entry_at new_year (command.StartUpload logs a class.Standard [])
+    ∷ entry_at new_year (command.PutPart logs 1 1 5) ∷ act (new_year + 7 * day) ∷ act (new_year + 7 * day) ∷ [])
     ≡ Ok (reply.BucketMade logs) ∷ Ok (reply.RulesSet 1) ∷ Ok (reply.UploadStarted 1) ∷ Ok (reply.PartStored 1)
     ∷ Ok (reply.Chosen action.Abort a (target.Upload 1) (codes "u") (new_year + 7 * day) None) ∷ Ok reply.NothingDue
     ∷ []
@@ -177,7 +178,7 @@ late = 1_705_233_600_000
 
 abbrev late_move : Office
 late_move = after (after empty_office (ruled (moves (codes "r1") 30 class.StandardIa ∷ [])))
-    (at start (put 1_000_000 class.Standard) ∷ act late ∷ [])
+    (entry_at start (put 1_000_000 class.Standard) ∷ act late ∷ [])
 
 billed_as_standard : meter january class.Standard late (book_in late_move) ≡ 777_600_000_000_000
 unfolding to_compute
@@ -195,9 +196,9 @@ one_move = refl
 
 -- an action is never refused by a limit
 marker_at_the_limit : (versions : List Version) → length versions ≡ 199_999
-    → answers (after (beside (with_stack_of versions)) (at new_year (command.SetVersioning logs true)
-    ∷ at new_year (command.SetRules logs (rules_of (expires (codes "e") 3 ∷ []))) ∷ []))
-    (at new_year (command.Put logs (codes "c") 5 class.Standard []) ∷ act (new_year + 3 * day) ∷ [])
+    → answers (after (beside (with_stack_of versions)) (entry_at new_year (command.SetVersioning logs true)
+    ∷ entry_at new_year (command.SetRules logs (rules_of (expires (codes "e") 3 ∷ []))) ∷ []))
+    (entry_at new_year (command.Put logs (codes "c") 5 class.Standard []) ∷ act (new_year + 3 * day) ∷ [])
     ≡ Err (refusal.Full what.Versions 200_000)
     ∷ Ok (reply.Chosen action.Marker a (target.Version id.Null) (codes "e") (new_year + 3 * day)
     (Some (id.Number 1))) ∷ []

@@ -14,10 +14,11 @@ use Rattle.office_types.specs.declared.reply.LineKind.TheVariants as line
 use Rattle.office_types.specs.declared.reply.Reply.TheVariants as reply
 use Rattle.office_types.specs.declared.reply.ReportLine.{ReportLine}
 use Rattle.office_types.specs.declared.refusal.Refusal.TheVariants as refusal
+use Rattle.office_types.specs.Entries.{entry_at}
 use Rattle.plain_office.specs.Office.{Office, empty_office}
 use Rattle.plain_office.specs.Answers.{answer}
 use Rattle.plain_office.specs.Run.{run}
-use Rattle.plain_office.proofs.Examples.{to_compute, at, after, answers, new_year, january, logs, a, put, rules_of, book_in, two_puts}
+use Rattle.plain_office.proofs.Examples.{to_compute, after, answers, new_year, january, logs, a, put, rules_of, book_in, two_puts}
 use Rattle.plain_office.proofs.LifecycleExamples.{expires}
 
 -- 2024-02-01 00:00 UTC, at which January is over
@@ -45,8 +46,8 @@ two_days = refl
 -- an object of 100 bytes in STANDARD_IA is billed as 131,072; deleted after 10 of 30 days it owes the other 20
 abbrev kept_for : ℕ → Office
 kept_for days = after empty_office
-    (at new_year (command.CreateBucket logs) ∷ at new_year (put 100 class.StandardIa)
-    ∷ at (new_year + days * day) (command.Delete logs a) ∷ [])
+    (entry_at new_year (command.CreateBucket logs) ∷ entry_at new_year (put 100 class.StandardIa)
+    ∷ entry_at (new_year + days * day) (command.Delete logs a) ∷ [])
 
 gone_after_ten_days : early_quantity january class.StandardIa (book_in (kept_for 10)) ≡ 226_492_416_000_000
 unfolding to_compute
@@ -60,16 +61,16 @@ gone_after_thirty_days = refl
 
 abbrev closing : Office
 closing = after empty_office (
-    at new_year (command.CreateBucket logs) ∷ at new_year (command.SetTariff (priced 23_000))
-    ∷ at new_year (command.SetRules logs (rules_of (expires (codes "e") 9 ∷ [])))
-    ∷ at new_year (put 1_000 class.Standard) ∷ [])
+    entry_at new_year (command.CreateBucket logs) ∷ entry_at new_year (command.SetTariff (priced 23_000))
+    ∷ entry_at new_year (command.SetRules logs (rules_of (expires (codes "e") 9 ∷ [])))
+    ∷ entry_at new_year (put 1_000 class.Standard) ∷ [])
 
 -- a month is closed once it is over and all that was due in it is done, once, and in order
 closes_in_order : answers closing (
-    at 1_706_745_599_999 (command.Close january) ∷ at february_begins (command.Close january)
-    ∷ at february_begins (command.Act logs)
-    ∷ at february_begins (command.Close january) ∷ at february_begins (command.Close january)
-    ∷ at 1_711_929_600_000 (command.Close 650) ∷ [])
+    entry_at 1_706_745_599_999 (command.Close january) ∷ entry_at february_begins (command.Close january)
+    ∷ entry_at february_begins (command.Act logs)
+    ∷ entry_at february_begins (command.Close january) ∷ entry_at february_begins (command.Close january)
+    ∷ entry_at 1_711_929_600_000 (command.Close 650) ∷ [])
     ≡ Err (refusal.MonthNotOver february_begins) ∷ Err (refusal.DueActions logs a (target.Version id.Null))
     ∷ Ok (reply.Chosen action.Remove a (target.Version id.Null) (codes "e") (new_year + 9 * day) None)
     ∷ Ok (reply.Closed january) ∷ Err refusal.AlreadyClosed ∷ Err (refusal.EarlierMonthOpen 649) ∷ []
@@ -78,8 +79,8 @@ closes_in_order = refl
 
 -- without prices it is not closed; where nothing was accepted yet, every month that is over counts as closed
 not_without_prices : answers empty_office
-    (at february_begins (command.Close january) ∷ at new_year (command.CreateBucket logs)
-    ∷ at february_begins (command.Close january) ∷ [])
+    (entry_at february_begins (command.Close january) ∷ entry_at new_year (command.CreateBucket logs)
+    ∷ entry_at february_begins (command.Close january) ∷ [])
     ≡ Err refusal.AlreadyClosed ∷ Ok (reply.BucketMade logs) ∷ Err refusal.NoTariff ∷ []
 unfolding to_compute
 not_without_prices = refl
@@ -88,11 +89,11 @@ not_without_prices = refl
 
 -- a GiB for a whole month costs the price of a GiB-month; a closed month keeps its prices
 abbrev a_gib : List Entry
-a_gib = at new_year (command.SetTariff (priced 23_000)) ∷ at new_year (command.CreateBucket logs)
-    ∷ at new_year (put 1_073_741_824 class.Standard) ∷ []
+a_gib = entry_at new_year (command.SetTariff (priced 23_000)) ∷ entry_at new_year (command.CreateBucket logs)
+    ∷ entry_at new_year (put 1_073_741_824 class.Standard) ∷ []
 
 abbrev new_prices : List Entry
-new_prices = at february_begins (command.Close january) ∷ at february_begins (command.SetTariff (priced 24_000)) ∷ []
+new_prices = entry_at february_begins (command.Close january) ∷ entry_at february_begins (command.SetTariff (priced 24_000)) ∷ []
 
 abbrev gib_line : ReportLine
 gib_line = record {

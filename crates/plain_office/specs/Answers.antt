@@ -55,6 +55,7 @@ due_shown t bucket = shown (choice bucket t) where
   shown None = NothingDue
   shown (Some action) = shown_action action None bucket
 
+-- the same as an answer, which is never a refusal
 abbrev pub due_told : ℕ → BucketRecord → Result Reply Refusal
 due_told t bucket = Ok (due_shown t bucket)
 

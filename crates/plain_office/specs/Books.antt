@@ -14,6 +14,7 @@ use Rattle.plain_office.specs.Office.{Item, of_version, of_part, Booked, Books}
 
 -- ---- stays
 
+-- two items are one: the same version, or the same part of the same upload
 abbrev pub same_item : Item → Item → Bool
 same_item (of_version a) (of_version b) = same_id a b
 same_item (of_part upload part) (of_part other_upload other_part) = (upload == other_upload) && (part == other_part)
@@ -60,6 +61,7 @@ lines_of_kind key Marker = marker_line (length key)
 abbrev pub with_version : List ℕ → Version → ℕ → Books → Books
 with_version key version at books = with_stay key (of_version version.id) (lines_of_kind key version.kind) at books
 
+-- a version goes at the moment: its open stay ends, and an object owes for leaving its class too early
 abbrev pub without_version : List ℕ → Version → ℕ → Books → Books
 without_version key version at books = with_early version.kind at (with_end key (of_version version.id) at books)
 

@@ -28,6 +28,7 @@ use Rattle.plain_office.specs.Books.{with_stay, with_end, with_version, without_
 abbrev pub stack_at : List ℕ → BucketRecord → StackRecord
 stack_at key bucket = unwrap_or (at_name key bucket.stacks) (new_stack 0)
 
+-- the versions of a key, newest first, and none where it has no stack
 abbrev pub versions_of : List ℕ → BucketRecord → List Version
 versions_of key bucket = (stack_at key bucket).versions
 
@@ -35,6 +36,7 @@ versions_of key bucket = (stack_at key bucket).versions
 abbrev pub stacks_with : List ℕ → StackRecord → List (List ℕ × StackRecord) → List (List ℕ × StackRecord)
 stacks_with key stack stacks = if is_empty stack.versions then without_name key stacks else with_name key stack stacks
 
+-- the bucket in which the key has this stack, or no stack where this one has no versions
 abbrev pub with_stack : List ℕ → StackRecord → BucketRecord → BucketRecord
 with_stack key stack bucket = record bucket { stacks = stacks_with key stack bucket.stacks }
 
@@ -90,6 +92,7 @@ move_version key id to at account =
 
 -- ---- uploads
 
+-- the bucket in which the number has this upload
 abbrev pub with_upload : ℕ → UploadRecord → BucketRecord → BucketRecord
 with_upload number upload bucket = record bucket { uploads = with_number number upload bucket.uploads }
 
@@ -111,6 +114,7 @@ remove_upload number upload at account =
       books = fold (λ books part. with_end upload.key (of_part number part.0) at books) account.books upload.parts;
     }
 
+-- the upload with this number goes, where it is there
 abbrev pub remove_upload_at : ℕ → ℕ → Account → Account
 remove_upload_at number at account = gone (at_number number account.bucket.uploads) where
   gone : Option UploadRecord → Account

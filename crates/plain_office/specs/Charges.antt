@@ -47,6 +47,7 @@ class_meters month t book class = record {
   moves = move_count month class book;
 }
 
+-- the quantity of the line is not 0, whatever its charge is
 abbrev pub has_quantity : ReportLine → Bool
 has_quantity line = not (line.quantity == 0)
 

@@ -11,6 +11,7 @@ use Rattle.office_types.specs.declared.refusal.What.{What}
 use Rattle.office_types.specs.declared.refusal.What.TheVariants.{Buckets, Versions, Uploads, Parts, Names, Rules}
 use Rattle.plain_office.specs.Office.{Account, Office}
 
+-- the limit of each kind, of names and rules in bytes (own)
 abbrev pub limit_of : What → ℕ
 limit_of Buckets = 1_000
 limit_of Versions = 200_000
@@ -25,6 +26,7 @@ limit_of Rules = 67_108_864
 abbrev pub tag_bytes : List Tag → ℕ
 tag_bytes tags = sum_by (λ tag. length tag.0 + length tag.1) tags
 
+-- the bytes of the tags of a version; a delete marker has none
 abbrev pub tag_bytes_of : Version → ℕ
 tag_bytes_of version = bytes version.kind where
   bytes : Kind → ℕ
@@ -35,6 +37,7 @@ tag_bytes_of version = bytes version.kind where
 abbrev pub version_count : BucketRecord → ℕ
 version_count bucket = sum_by (λ stack. length stack.1.versions) bucket.stacks
 
+-- the parts of all unfinished uploads
 abbrev pub part_count : BucketRecord → ℕ
 part_count bucket = sum_by (λ upload. length upload.1.parts) bucket.uploads
 
@@ -51,9 +54,11 @@ rules_bytes (Some rules) = length (printed rules)
 
 -- ---- in the office
 
+-- the sum of a count over all buckets
 abbrev pub over_buckets : (BucketRecord → ℕ) → Office → ℕ
 over_buckets count office = sum_by (λ (entry : List ℕ × Account). count entry.1.bucket) office.accounts
 
+-- how much there is of each kind that has a limit, of names and rules in bytes
 unfoldable pub count_of : What → Office → ℕ
 count_of Buckets office = length office.accounts
 count_of Versions office = over_buckets version_count office

@@ -41,6 +41,7 @@ pub record Office : Type 0 where
   pub closed : List (ℕ × Prices)
   pub accounts : List (List ℕ × Account)
 
+-- the books of a bucket of which nothing was booked yet
 abbrev pub empty_books : Books
 empty_books = record { stays = []; early = []; moves = [] }
 
@@ -48,6 +49,7 @@ empty_books = record { stays = []; early = []; moves = [] }
 abbrev pub empty_office : Office
 empty_office = record { last = None; tariff = None; first_month = None; closed = []; accounts = [] }
 
+-- the stay itself, without whose it is
 abbrev pub stay_in : Booked → Stay
 stay_in booked = booked.1
 

@@ -37,10 +37,12 @@ abbrev pub IsNumberBelow : ℕ → VersionId → Type 0
 IsNumberBelow next Null = Unit {0}
 IsNumberBelow next (Number n) = (0 < n) × (n < next)
 
+-- the version is an object, and no delete marker
 abbrev pub is_object : Kind → Bool
 is_object (Object size class tags entered) = true
 is_object Marker = false
 
+-- there is one version alone: the null version, which is an object
 abbrev pub IsOneNullObject : List Version → Type 0
 IsOneNullObject [] = ⊥
 IsOneNullObject (version ∷ others) = (others ≡ []) × (version.id ≡ Null) × IsTrue (is_object version.kind)
@@ -51,6 +53,7 @@ FitsVersioning Unversioned versions = IsOneNullObject versions
 FitsVersioning Enabled versions = Unit {0}
 FitsVersioning Suspended versions = Unit {0}
 
+-- the bytes of an object; a delete marker has none
 abbrev pub size_of : Kind → ℕ
 size_of (Object size class tags entered) = size
 size_of Marker = 0
@@ -107,6 +110,7 @@ abbrev pub stay_of_part : ℕ → UploadRecord → ℕ → Part → Booked
 stay_of_part number upload place part =
     (record { key = upload.key; item = of_part number place }, open_stay (part_line upload.class part.size) part.put)
 
+-- the stay that a part of this upload asks to be open under the key, and none where there is no such part
 abbrev pub part_stays_expected : List ℕ → ℕ → ℕ → Option UploadRecord → List Booked
 part_stays_expected key number place None = []
 part_stays_expected key number place (Some upload) =
@@ -140,9 +144,11 @@ last_end [] = 0
 last_end (month ∷ []) = month_end month.0
 last_end (month ∷ next ∷ others) = last_end (next ∷ others)
 
+-- the end of the last closed month of the office, and 0 where none is closed
 abbrev pub closed_until : Office → ℕ
 closed_until office = last_end office.closed
 
+-- the key has a current version, and it is an object
 abbrev pub current_is_object : List Version → Bool
 current_is_object [] = false
 current_is_object (version ∷ others) = is_object version.kind

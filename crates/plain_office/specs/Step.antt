@@ -47,15 +47,19 @@ refuse_if test refusal x = if test then Err refusal else Ok x
 
 -- ---- what is named has to be there
 
+-- the account of the bucket with this name, refused where there is none
 abbrev pub account_at : List ℕ → Office → Result Account Refusal
 account_at name office = ok_or (at_name name office.accounts) NoSuchBucket
 
+-- the key has a stack: at least a version or a delete marker
 abbrev pub has_stack : List ℕ → Account → Bool
 has_stack key account = is_some (at_name key account.bucket.stacks)
 
+-- the stack of a key, refused where it has none
 abbrev pub stack_in : List ℕ → Account → Result StackRecord Refusal
 stack_in key account = ok_or (at_name key account.bucket.stacks) NoSuchKey
 
+-- the upload with this number, refused where there is none
 abbrev pub upload_in : ℕ → Account → Result UploadRecord Refusal
 upload_in number account = ok_or (at_number number account.bucket.uploads) NoSuchUpload
 
@@ -71,6 +75,7 @@ of_stack (Err stack.IsMarker) = Err IsMarker
 abbrev pub Change : Type 0
 Change = Result (Account × Reply) Refusal
 
+-- versioning was never enabled
 abbrev pub is_unversioned : Versioning → Bool
 is_unversioned Unversioned = true
 is_unversioned Enabled = false
@@ -86,6 +91,7 @@ set_versioning t enabled account =
       VersioningSet versioning,
     )
 
+-- a bucket gets this configuration at the moment, or is left without one
 abbrev pub with_rules : ℕ → Option Configuration → Account → Account
 with_rules t rules account = record account { bucket = record account.bucket { rules = rules; rules_since = t } }
 
@@ -166,6 +172,7 @@ abbrev pub marker_made : ActionKind → BucketRecord → Option VersionId
 marker_made action.Marker bucket = Some (next_id bucket)
 marker_made kind bucket = None
 
+-- the reply that tells of an action, and of the marker that it made, if any
 abbrev pub shown_action : Action → Option VersionId → BucketRecord → Reply
 shown_action action marker bucket =
     Chosen action.kind action.key action.target (rule_id bucket.rules action.rule) action.since marker
@@ -191,6 +198,7 @@ on_bucket name change office = do
   done ← change account
   Ok (record office { accounts = with_name name done.0 office.accounts }, done.1)
 
+-- what a command did, refused where a count is above its limit
 abbrev pub unless_full : Option What → Office × Reply → Outcome
 unless_full None done = Ok done
 unless_full (Some what) done = Err (Full what (limit_of what))
@@ -214,6 +222,7 @@ new_bucket t = record {
   next_upload = 1;
 }
 
+-- the account of a bucket as it is made: nothing is booked of it
 abbrev pub new_account : ℕ → Account
 new_account t = record { bucket = new_bucket t; books = empty_books }
 
@@ -240,6 +249,7 @@ due_before t end ((name, account) ∷ accounts) = early_or (choice account.bucke
   early_or None others = others
   early_or (Some action) others = if nat_lt action.since end then Some (name, action) else others
 
+-- what a close did, refused where an action is due in a bucket
 abbrev pub unless_due : Option (List ℕ × Action) → Office × Reply → Outcome
 unless_due None done = Ok done
 unless_due (Some (name, action)) done = Err (DueActions name action.key action.target)

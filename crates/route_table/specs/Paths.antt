@@ -17,12 +17,13 @@ pub record IsPart (part : List ℕ) : Type 0 where
   pub some : 0 < length part
   pub plain : has_byte 47 part ≡ false
 
--- the pieces one after another, with a slash before each
+-- the bytes of a piece, without the slash before it
 abbrev pub piece_text : Piece → List ℕ
 piece_text (word text) = text
 piece_text (segment text) = text
 piece_text (remainder text) = text
 
+-- the pieces one after another, with a slash before each
 abbrev pub path_of : List Piece → List ℕ
 path_of pieces = flat_map (λ piece. 47 ∷ piece_text piece) pieces
 

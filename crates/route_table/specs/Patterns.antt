@@ -12,11 +12,13 @@ pub data Shape : Type 0 where
   a_segment : Shape
   a_remainder : Shape
 
+-- what a piece tells of a pattern: its word, or that any segment or all that is left may stand there
 abbrev pub shape_of : Piece → Shape
 shape_of (word text) = a_word text
 shape_of (segment text) = a_segment
 shape_of (remainder text) = a_remainder
 
+-- the shapes of some pieces, in their order
 abbrev pub shapes_of : List Piece → List Shape
 shapes_of pieces = map shape_of pieces
 
@@ -79,5 +81,6 @@ shape_in (Word text) = a_word text.now
 shape_in Segment = a_segment
 shape_in Remainder = a_remainder
 
+-- the shapes of a whole slice, in their order
 abbrev pub pattern_in : List Given → List Shape
 pattern_in shapes = map shape_in shapes

@@ -14,6 +14,7 @@ text_in (a_word text) = text
 text_in a_segment = codes "{p}"
 text_in a_remainder = codes "{*p}"
 
+-- the text of a whole pattern, with a slash before each shape
 abbrev pub pattern_text : List Shape → List ℕ
 pattern_text pattern = flat_map (λ shape. 47 ∷ text_in shape) pattern
 
@@ -23,6 +24,7 @@ tokens_in (a_word text) = text
 tokens_in a_segment = param_token ∷ []
 tokens_in a_remainder = catch_all_token ∷ []
 
+-- the tokens of a whole pattern, with a slash before those of each shape
 abbrev pub tokens_of : List Shape → List ℕ
 tokens_of pattern = flat_map (λ shape. 47 ∷ tokens_in shape) pattern
 
@@ -48,6 +50,7 @@ pub record IsRow (patterns : List (List Shape)) (n : ℕ) (tokens : List ℕ) (r
   pub is : tokens ≡ tokens_of (get_or patterns row.value [])
   pub route : IsRoute tokens row
 
+-- each row of the router has the place of one of the first n patterns, and its tokens
 abbrev pub AreRows : List (List Shape) → ℕ → RowsOf (RouteOf ℕ) → Type 0
 AreRows patterns n [] = Unit {0}
 AreRows patterns n ((tokens, row) ∷ rows) = IsRow patterns n tokens row × AreRows patterns n rows
@@ -85,5 +88,6 @@ abbrev pub taken : List (List ℕ × List ℕ) → List (List ℕ)
 taken [] = []
 taken (pair ∷ pairs) = pair.1 ∷ taken pairs
 
+-- the same of a match that matchit found
 abbrev pub taken_by : Params → List (List ℕ)
 taken_by params = taken (walk params.pattern.now params.text.now params.path.now params.names.now 0 0)

@@ -7,6 +7,7 @@ use Rattle.route_table.specs.Patterns.{Shape, HasPattern}
 abbrev pub Rows : Type 0 → Type 0
 Rows V = List (List Shape × V)
 
+-- the patterns of a table, in the order of its rows
 abbrev pub patterns_of : {V : Type 0} → Rows V → List (List Shape)
 patterns_of rows = map (λ row. row.0) rows
 

@@ -5,7 +5,7 @@ use Rattle.std.specs.Str.{bytes_eq}
 use Rattle.std.specs.declared.cmp.Ordering.{Ordering}
 use Rattle.std.specs.Map.{lookup}
 use Rattle.std.specs.BTreeMap.{is_at}
-use Rattle.std.proofs.lemmas.Bool.{and_parts, and_from, eqb-true, eqb-false}
+use Rattle.std.proofs.lemmas.Bool.{and_parts, and_from, eqb-true, both_ways}
 use Rattle.std.proofs.lemmas.Option.{get_or_from_slice_get}
 use Rattle.std.proofs.lemmas.Slice.Eq.{bytes_eq-Decides}
 use Rattle.plain_office.specs.Office.{Booked}
@@ -20,12 +20,6 @@ use Rattle.stay_explain.specs.Rows.{item_of, booked_of, IsOpenAt, IsIndex}
 use Rattle.stay_explain.specs.Plans.{end_stay, end_stays}
 
 -- ---- an open row is the open stay of its owner, and of no other
-
-number_itself : (n : ℕ) → (n == n) ≡ true
-number_itself n = by (n == n) refl where
-  by : (b : Bool) → (n == n) ≡ b → b ≡ true
-  by true h = refl
-  by false h = absurd (eqb-false n n h refl)
 
 same_spot : (a b : Spot) → same_item (item_of a) (item_of b) ≡ true → b ≡ a
 same_spot spot.Null spot.Null h = refl
@@ -169,9 +163,6 @@ module _ (rows : List Row) (find find_after : Owner → Option ℕ) (owner : Own
   row_is : (a b : Row) → Some a ≡ Some b → a ≡ b
   row_is a b h = cc
 
-  not_both : (b : Bool) → b ≡ true → b ≡ false → ⊥
-  not_both b h k = absurd cc
-
   -- the owner's own place is the only one
   only : (place : ℕ) → find owner ≡ Some place → (p : ℕ) → IsOpenAt owner p rows → p ≡ place
   only place is p o = some_is p place (sym (index.kept owner p o) ∙ is)
@@ -215,7 +206,7 @@ module _ (rows : List Row) (find find_after : Owner → Option ℕ) (owner : Own
           let there_too : slice_get rows p ≡ Some row = ap (slice_get rows) e ∙ there in
           let r = row_is o.row row (sym o.there ∙ there_too) in
           let own : other ≡ owner = sym o.owns ∙ ap (λ (x : Row). x.owner) r ∙ owns_row in
-          not_both (test other) (ap test own ∙ itself) differs
+          both_ways (test other) differs (ap test own ∙ itself)
 
       found_by : (other : Owner) (p : ℕ) (b : Bool) → test other ≡ b → cond b None (find other) ≡ Some p → IsOpenAt other p rows_after
       found_by other p true differs h = absurd cc
@@ -277,7 +268,7 @@ module _ (rows : List Row) (find find_after : Owner → Option ℕ) (owner : Own
     begun_kept other p false o differs (inl front) = index.kept other p (record { row = o.row; there = front; owns = o.owns; open_yet = o.open_yet })
     begun_kept other p false o differs (inr last) =
         let own : other ≡ owner = sym o.owns ∙ ap (λ (x : Row). x.owner) (sym last.1) ∙ owns in
-        absurd (not_both (test other) (ap test own ∙ itself) differs)
+        absurd (both_ways (test other) differs (ap test own ∙ itself))
 
     pub index_begun : IsIndex (rows ++ row ∷ []) find_after
     index_begun = record {

@@ -8,14 +8,17 @@ use Rattle.stay_explain.specs.declared.row.Item.TheVariants as spot
 use Rattle.stay_explain.specs.declared.row.Owner.{Owner}
 use Rattle.stay_explain.specs.declared.row.Row.{Row}
 
+-- the item of a row: a version by its id, or a part of an upload by both numbers
 abbrev pub item_of : Spot → Item
 item_of spot.Null = of_version id.Null
 item_of (spot.Number n) = of_version (id.Number n)
 item_of (spot.Part upload part) = of_part upload part
 
+-- whose stay a row is
 abbrev pub label_of : Owner → Label
 label_of owner = record { key = owner.key; item = item_of owner.item }
 
+-- the stay of a row, with whose it is
 abbrev pub booked_of : Row → Booked
 booked_of row = (label_of row.owner, record { lines = lines_of row.lines; from = row.from; to = row.to })
 

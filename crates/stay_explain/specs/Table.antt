@@ -9,6 +9,7 @@ use Rattle.class_rules.specs.declared.class.Class.{Class}
 use Rattle.office_base.specs.Versions.{id_text}
 use Rattle.plain_office.specs.Office.{Item, of_version, of_part, Booked, Account, Office}
 
+-- the names of the columns
 abbrev pub stays_header : List (List ℕ)
 stays_header =
     codes "bucket" ∷ codes "key" ∷ codes "item" ∷ codes "class" ∷ codes "bytes" ∷ codes "from" ∷ codes "to" ∷ []
@@ -18,6 +19,7 @@ abbrev pub item_text : Item → List ℕ
 item_text (of_version id) = codes "v:" ++ id_text id
 item_text (of_part upload part) = codes "u:" ++ decimal upload ++ codes "/" ++ decimal part
 
+-- the end of a stay, or that it is open yet
 abbrev pub end_text : Option ℕ → List ℕ
 end_text None = codes "open"
 end_text (Some at) = moment_text at
@@ -44,5 +46,6 @@ stays_of entry = (entry.0, entry.1.books.stays)
 unfoldable pub tables_csv : List (List ℕ × List Booked) → List ℕ
 tables_csv tables = flat_map (row_text default_writer) (stays_header ∷ flat_map table_rows tables)
 
+-- the table of all stays that are booked in the office
 abbrev pub table_csv : Office → List ℕ
 table_csv office = tables_csv (map stays_of office.accounts)

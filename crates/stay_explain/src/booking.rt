@@ -1,8 +1,7 @@
 // Which stays end and begin by a command.
 ghost use Rattle.std.specs.Prelude.{◌≡◌, ◌++◌, ◌∷◌, [], ℕ, map, length, Some, None, OnOk, IfOk};
 ghost use Rattle.std.specs.Prelude.{option_copied, option_map};
-ghost use Rattle.class_rules.specs.Lines.{lines_of, marker_line, object_lines};
-ghost use Rattle.office_base.specs.Maps.{at_number};
+ghost use Rattle.class_rules.specs.Lines.{lines_of, marker_line};
 ghost use Rattle.stacks.specs.Stacks as stack;
 ghost use Rattle.stacks.specs.Stacks.{kind_with_class};
 ghost use Rattle.stacks.specs.declared.version.Versioning.{Versioning};

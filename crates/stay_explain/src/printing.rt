@@ -1,10 +1,8 @@
 // The rows of the table, as CSV.
-ghost use Rattle.std.specs.Prelude.{◌≡◌, ◌++◌, [], ◌∷◌, ℕ, List, map, Some, IfOk, OnOk, codes, decimal};
+ghost use Rattle.std.specs.Prelude.{◌≡◌, ◌++◌, [], ◌∷◌, map, Some, IfOk, OnOk};
 ghost use Rattle.std.specs.List.{flat_map};
 ghost use Rattle.std.specs.Io.KnownBytes.{append_known};
 ghost use Rattle.csv.specs.Writing.{default_writer, row_text};
-ghost use Rattle.class_rules.specs.Lines.{lines_of};
-ghost use Rattle.plain_office.specs.Office.{Booked};
 ghost use Rattle.stay_explain.specs.Rows.{item_of, booked_of};
 ghost use Rattle.csv_sheet.specs.Sheets.{IsAtRowStart, bytes_written};
 ghost use Rattle.stay_explain.specs.Table.{end_text, stays_header, item_text, stay_row};

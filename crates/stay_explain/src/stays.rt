@@ -1,8 +1,8 @@
 // The stays of one bucket, in the order in which they were opened.
-ghost use Rattle.std.specs.Prelude.{◌≡◌, ◌≤◌, [], ◌∷◌, ℕ, List, map, length, filter, Some, OnOk, IfOk};
+ghost use Rattle.std.specs.Prelude.{◌≡◌, [], List, map, filter, Some, OnOk, IfOk};
 ghost use Rattle.class_rules.specs.Lines.{lines_of};
 ghost use Rattle.plain_office.specs.Books.{is_open_stay};
-ghost use Rattle.stay_explain.specs.Plans.{begin_stay, end_stays, stays_by, after_ends, BeginsFree};
+ghost use Rattle.stay_explain.specs.Plans.{begin_stay, end_stays, stays_by, BeginsFree};
 ghost use Rattle.stay_explain.specs.Rows.{item_of, booked_of};
 
 use crate::booking::Booking;

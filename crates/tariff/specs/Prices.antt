@@ -14,6 +14,7 @@ pub record Prices : Type 0 where
 abbrev pub is_price : ℕ → Bool
 is_price price = nat_le price 1_048_576
 
+-- the prices of storage and those of moves are in range
 abbrev pub are_prices : List ℕ → List ℕ → Bool
 are_prices storage transition = list_all is_price storage && list_all is_price transition
 

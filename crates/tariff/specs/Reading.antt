@@ -24,6 +24,7 @@ abbrev pub table_name : TariffTable → List ℕ
 table_name Storage = codes "storage"
 table_name Transition = codes "transition"
 
+-- both of them
 abbrev pub table_names : List (List ℕ)
 table_names = table_name Storage ∷ table_name Transition ∷ []
 
@@ -56,6 +57,7 @@ unless_other ms (Some name) = Err (unknown_field name)
 abbrev pub with_tables : Members → Result Members TariffFlaw
 with_tables document = unless_other document (first_other is_field document)
 
+-- a table of its classes alone, of which some may still be missing
 abbrev pub with_classes : TariffTable → Members → Result Members TariffFlaw
 with_classes table ms = unless_other ms (first_other (is_class_name table) ms)
 
@@ -75,6 +77,7 @@ abbrev pub price_at : TariffTable → Class → Option Data → Result ℕ Tarif
 price_at table class None = Err (missing_class table class)
 price_at table class (Some value) = ok_or (price_of value) (bad_price table class)
 
+-- the price that a table has for a class; one that is missing or out of range is a flaw
 abbrev pub price_in : TariffTable → Members → Class → Result ℕ TariffFlaw
 price_in table ms class = price_at table class (get_member (class_name class) ms)
 

@@ -1,6 +1,6 @@
 // Charges.
 ghost use Rattle.std.specs.Prelude.{◌≡◌, ℕ};
-ghost use Rattle.tariff.specs.Charges.{gib_month, charge_of, move_charge_of, IsCharge};
+ghost use Rattle.tariff.specs.Charges.{charge_of, move_charge_of, IsCharge};
 
 use moments::{Month, month_window};
 

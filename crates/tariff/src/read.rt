@@ -7,7 +7,7 @@ ghost use Rattle.toml.specs.View.{view, table_view};
 ghost use Rattle.class_rules.specs.Classes.{class_name};
 ghost use Rattle.tariff.specs.Faults.{TariffGives, not_toml};
 ghost use Rattle.tariff.specs.Reading.{document_of, table_name, classes_of, is_field, is_class_name, first_other};
-ghost use Rattle.tariff.specs.Reading.{with_tables, with_classes, members_of, price_of, price_in, prices_in, tariff_of};
+ghost use Rattle.tariff.specs.Reading.{with_tables, with_classes, price_of, price_in, prices_in, tariff_of};
 
 use crate::fault::{TariffFault, TariffTable, unknown};
 use crate::prices::{MOST_PRICE, Tariff};

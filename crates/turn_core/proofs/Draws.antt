@@ -1,17 +1,18 @@
 -- Drawing a ticket keeps the rule.
 use Rattle.std.proofs.Common.{◌≡◌, ◌≢◌, ◌∙◌, sym, ap, refl, subst, ℕ, ◌+◌, ◌%◌, ◌^◌, ◌<◌, ◌≤◌, List, [], ◌∷◌, length, get_or, set, ⊎_elim, inl, inr, arith, Option, Some, None, false}
+use Rattle.std.proofs.lemmas.Bool.{both_ways}
 use mathlib.Core.Option.{some, none}
 use lib.ListN.{get_elem?}
 use Rattle.atomic_table.specs.Table.{State, Me, step, keeps, Allows}
 use Rattle.atomic_table.proofs.Lists.{at_set, set_else}
-use Rattle.turn_core.specs.declared.view.Call.{Call}
+use Rattle.turn_core.specs.declared.view.TurnCall.{TurnCall}
 use Rattle.turn_core.specs.declared.view.View.{View}
 use Rattle.turn_core.specs.declared.view.Kept.{Kept}
 use Rattle.turn_core.specs.Plays.{Draws}
 use Rattle.turn_core.specs.Rule.{InTurn, Fits, AtHome, Away, out, share, has, OneList, IsOut}
 use Rattle.turn_core.specs.Views.{AtRest}
 use Rattle.turn_core.proofs.Numbers.{drawn_keeps}
-use Rattle.turn_core.proofs.Parts.{sum_of-replaced, one_view, placed, true_not_false, some_same, none_some, same_or_not}
+use Rattle.turn_core.proofs.Parts.{sum_of-replaced, one_view, placed, some_same, none_some, same_or_not}
 
 module _ {T A S : Type 0} (stands : T → T → List (A × S) → Type 0) where
   abbrev D : Type 0
@@ -23,7 +24,7 @@ module _ {T A S : Type 0} (stands : T → T → List (A × S) → Type 0) where
   abbrev M : Type 0
   M = Me (Option (Kept T A S)) D
 
-  module _ (opening : T) (log : List (Call A S)) (drawn : ℕ) (s : St) (r : InTurn stands opening log drawn s) (id : ℕ)
+  module _ (opening : T) (log : List (TurnCall A S)) (drawn : ℕ) (s : St) (r : InTurn stands opening log drawn s) (id : ℕ)
       (v : D) (at : get_elem? s.views id ≡ some v) (free : v.ticket ≡ None) (idle : v.served ≡ false)
       (member : 0 < v.share) where
     abbrev w : D
@@ -38,7 +39,7 @@ module _ {T A S : Type 0} (stands : T → T → List (A × S) → Type 0) where
       prefix = old.prefix;
       older = old.older;
       in_turn = λ t e. (let is : drawn ≡ t = some_same drawn t e in let less = few in (omega (arith, is, less), omega (arith, is)));
-      first = λ e. absurd (true_not_false v.served e idle);
+      first = λ e. absurd (both_ways v.served idle e);
       whole = omega (arith, member);
     }
 
@@ -83,7 +84,7 @@ module _ {T A S : Type 0} (stands : T → T → List (A × S) → Type 0) where
 
     still_away : Away stands s → (ws : List ℕ) → Away stands (record { words = ws; homes = s.homes; views = set s.views id w })
     still_away (homes, (by, u, e, served)) ws = ⊎_elim
-        (λ (same : by ≡ id). absurd (true_not_false v.served (ap (λ (x : D). x.served) (one_view s.views id v u at (subst (λ (n : ℕ). get_elem? s.views n ≡ some u) same e)) ∙ served) idle))
+        (λ (same : by ≡ id). absurd (both_ways v.served idle (ap (λ (x : D). x.served) (one_view s.views id v u at (subst (λ (n : ℕ). get_elem? s.views n ≡ some u) same e)) ∙ served)))
         (λ (apart : by ≢ id). (homes, (by, u, set_else s.views id by w apart ∙ e, served)))
         (same_or_not by id)
 

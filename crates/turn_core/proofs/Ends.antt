@@ -1,16 +1,17 @@
 -- The rule at the start, and what it says at the end.
 use Rattle.std.proofs.Common.{◌≡◌, ◌≢◌, ◌∙◌, sym, ap, refl, subst, ℕ, ◌<◌, List, [], ◌∷◌, get_or, ⊎_elim, inl, arith, Option, Some, false}
 use Rattle.std.specs.Prelude.{All, Contains}
+use Rattle.std.proofs.lemmas.Bool.{both_ways}
 use mathlib.Core.Option.{some, some-injective}
 use lib.ListN.{get_elem?}
 use Rattle.atomic_table.specs.Table.{State, opening, Seen, Final}
-use Rattle.turn_core.specs.declared.view.Call.{Call}
+use Rattle.turn_core.specs.declared.view.TurnCall.{TurnCall}
 use Rattle.turn_core.specs.declared.view.View.{View}
 use Rattle.turn_core.specs.declared.view.Kept.{Kept}
 use Rattle.turn_core.specs.Rule.{Numbered, InTurn, Fits, AtHome, Away, share, has, OneList}
 use Rattle.turn_core.specs.Views.{Counted, IsWhole, numbers, StandsSince, newcomer, all_shares}
 use Rattle.turn_core.proofs.Numbers.{start_numbers}
-use Rattle.turn_core.proofs.Parts.{one_view, true_not_false, none_some, same_or_not, sum_of-two, only}
+use Rattle.turn_core.proofs.Parts.{one_view, none_some, same_or_not, sum_of-two, only}
 
 module _ {T A S : Type 0} (stands : T → T → List (A × S) → Type 0) where
   abbrev D : Type 0
@@ -32,7 +33,7 @@ module _ {T A S : Type 0} (stands : T → T → List (A × S) → Type 0) where
       prefix = ([], refl);
       older = ([], refl);
       in_turn = λ t e. absurd (none_some t e);
-      first = λ e. absurd (true_not_false false e refl);
+      first = λ e. absurd (both_ways false refl e);
       whole = omega arith;
     }
 
@@ -51,7 +52,7 @@ module _ {T A S : Type 0} (stands : T → T → List (A × S) → Type 0) where
     pub starts : (k : K) → k.value ≡ value → stands value value [] → OneList stands value (opening (0 ∷ 0 ∷ []) (Some k ∷ []) v₀)
     starts k is ok = ([], 0, starts_turns k is ok, start_numbers value)
 
-  module _ (o : T) (log : List (Call A S)) (drawn : ℕ) (s : St) (r : InTurn stands o log drawn s) (id : ℕ) (v : D)
+  module _ (o : T) (log : List (TurnCall A S)) (drawn : ℕ) (s : St) (r : InTurn stands o log drawn s) (id : ℕ) (v : D)
       (at : get_elem? s.views id ≡ some v) (idle : v.served ≡ false) (all : v.share ≡ all_shares) where
     others_spent : (by : ℕ) (u : D) → by ≢ id → get_elem? s.views by ≡ some u → u.share ≡ 0
     others_spent by u apart e = let two = sum_of-two (share {T = T} {A = A} {S = S}) s.views by id u v apart e at in omega (arith, two, all, r.shares)
@@ -59,7 +60,7 @@ module _ {T A S : Type 0} (stands : T → T → List (A × S) → Type 0) where
     at_home : AtHome stands o log s
     at_home = ⊎_elim (λ (home : AtHome stands o log s). home)
         (λ (away : Away stands s). let by = away.1.0 in let u = away.1.1 in ⊎_elim
-        (λ (same : by ≡ id). absurd (true_not_false v.served (ap (λ (x : D). x.served) (one_view s.views id v u at (subst (λ (n : ℕ). get_elem? s.views n ≡ some u) same away.1.2)) ∙ away.1.3) idle))
+        (λ (same : by ≡ id). absurd (both_ways v.served idle (ap (λ (x : D). x.served) (one_view s.views id v u at (subst (λ (n : ℕ). get_elem? s.views n ≡ some u) same away.1.2)) ∙ away.1.3)))
         (λ (apart : by ≢ id). let f = r.each by u away.1.2 in let one : has u.ticket ≡ 1 = ap has (f.first away.1.3).0 in
         absurd (omega (arith, one, f.whole, others_spent by u apart away.1.2)))
         (same_or_not by id))
@@ -73,7 +74,7 @@ module _ {T A S : Type 0} (stands : T → T → List (A × S) → Type 0) where
 
     pub closes : (k : K) × (s.homes ≡ some (Some k) ∷ []) × StandsSince stands v.opening k.value v.seen
     closes = let home = at_home in
-        (home.0, home.1, subst (λ (z : Option T × List (Call A S)). StandsSince stands z.0 home.0.value z.1) (λ i. (sym ((r.each id v at).same (omega (arith, all))) i, sym sees_all i)) home.2)
+        (home.0, home.1, subst (λ (z : Option T × List (TurnCall A S)). StandsSince stands z.0 home.0.value z.1) (λ i. (sym ((r.each id v at).same (omega (arith, all))) i, sym sees_all i)) home.2)
 
   pub last_value : (o : T) (id : ℕ) (v : D) (ws : List ℕ) (xs : List (Option K)) (x : Option K) → v.served ≡ false
       → v.share ≡ all_shares → Final (Seen (OneList stands o) id v) ws xs → get_elem? xs 0 ≡ some x
@@ -85,7 +86,7 @@ module _ {T A S : Type 0} (stands : T → T → List (A × S) → Type 0) where
       (h.0, some-injective x (Some h.0) (sym e ∙ here), h.2)
 
   -- each call of the whole list was made under a number that the last pass knows
-  pub whole_list : (o : T) (log : List (Call A S)) (drawn : ℕ) (s : St) → InTurn stands o log drawn s
+  pub whole_list : (o : T) (log : List (TurnCall A S)) (drawn : ℕ) (s : St) → InTurn stands o log drawn s
       → Numbered log s.views → (id : ℕ) (v : D) → get_elem? s.views id ≡ some v → v.served ≡ false
       → v.share ≡ all_shares → IsWhole v
   whole_list o log drawn s r n id v at idle all =

@@ -1,19 +1,20 @@
 -- A look at the number that is served keeps the rule.
 use Rattle.std.proofs.Common.{◌≡◌, ◌≢◌, ◌∙◌, sym, ap, refl, subst, ℕ, ◌+◌, ◌%◌, ◌^◌, ◌<◌, ◌≤◌, List, [], length, append-nil, get_or, set, ⊎_elim, inr, arith, Option, Some, None, true, false}
+use Rattle.std.proofs.lemmas.Bool.{both_ways}
 use mathlib.Core.Logic.{dite}
 use native.Mathlib.Decide.{ℕ_discrete}
 use mathlib.Core.Option.{some, none}
 use lib.ListN.{get_elem?}
 use Rattle.atomic_table.specs.Table.{State, Me, step, keeps, takes, stepped, Allows}
 use Rattle.atomic_table.proofs.Lists.{at_set, set_else, set_again, one_turn}
-use Rattle.turn_core.specs.declared.view.Call.{Call}
+use Rattle.turn_core.specs.declared.view.TurnCall.{TurnCall}
 use Rattle.turn_core.specs.declared.view.View.{View}
 use Rattle.turn_core.specs.declared.view.Kept.{Kept}
 use Rattle.turn_core.specs.Plays.{Looks}
 use Rattle.turn_core.specs.Rule.{Numbered, InTurn, Fits, AtHome, Away, out, share, has, OneList, IsOut}
 use Rattle.turn_core.specs.Views.{StandsSince, all_shares}
 use Rattle.turn_core.proofs.Numbers.{served_keeps}
-use Rattle.turn_core.proofs.Parts.{sum_of-replaced, sum_of-below, one_view, placed, true_not_false, some_same, same_or_not, prefix_trans}
+use Rattle.turn_core.proofs.Parts.{sum_of-replaced, sum_of-below, one_view, placed, some_same, same_or_not, prefix_trans}
 
 module _ {T A S : Type 0} (stands : T → T → List (A × S) → Type 0) where
   abbrev D : Type 0
@@ -29,12 +30,12 @@ module _ {T A S : Type 0} (stands : T → T → List (A × S) → Type 0) where
   M = Me (Option K) D
 
   -- the tickets that are out are fewer than 2 ^ 32
-  pub few_out : (opening : T) (log : List (Call A S)) (drawn : ℕ) (s : St) (r : InTurn stands opening log drawn s) → drawn ≤ length log + all_shares
+  pub few_out : (opening : T) (log : List (TurnCall A S)) (drawn : ℕ) (s : St) (r : InTurn stands opening log drawn s) → drawn ≤ length log + all_shares
   few_out opening log drawn s r =
       let less = sum_of-below (out {T = T} {A = A} {S = S}) (share {T = T} {A = A} {S = S}) s.views (λ i v e. (r.each i v e).whole) in
       omega (arith, less, r.shares, r.tickets)
 
-  module _ (opening : T) (log : List (Call A S)) (drawn : ℕ) (s : St) (r : InTurn stands opening log drawn s) (id : ℕ)
+  module _ (opening : T) (log : List (TurnCall A S)) (drawn : ℕ) (s : St) (r : InTurn stands opening log drawn s) (id : ℕ)
       (v : D) (at : get_elem? s.views id ≡ some v) (t : ℕ) (mine : v.ticket ≡ Some t) (idle : v.served ≡ false) where
     -- the word shows the ticket only where it is the ticket's turn
     turn_is : length log % 2 ^ 64 ≡ t % 2 ^ 64 → length log ≡ t
@@ -94,7 +95,7 @@ module _ {T A S : Type 0} (stands : T → T → List (A × S) → Type 0) where
       nobody_else (homes, (by, u, e, is_served)) =
           let first = ((r.each by u e).first is_served).0 in
           let same : by ≡ id = r.alone by id u v t e at (first ∙ ap Some now) mine in
-          true_not_false v.served (ap (λ (x : D). x.served) (one_view s.views id v u at (subst (λ (n : ℕ). get_elem? s.views n ≡ some u) same e)) ∙ is_served) idle
+          both_ways v.served idle (ap (λ (x : D). x.served) (one_view s.views id v u at (subst (λ (n : ℕ). get_elem? s.views n ≡ some u) same e)) ∙ is_served)
 
     unmoved : InTurn stands opening log drawn (stepped s 1 (get_or s.words 1 0) id [] v keeps)
     unmoved = subst (λ (z : List ℕ × List D). InTurn stands opening log drawn (record { words = z.0; homes = s.homes; views = z.1 })) (λ i. (sym same_words i, sym (set_again s.views id v at) i)) r

@@ -1,18 +1,19 @@
 -- A meeting of two passes keeps the rule, and a look tells which list begins the other.
 use Rattle.std.proofs.Common.{◌≡◌, ◌≢◌, ◌∙◌, sym, ap, refl, subst, ℕ, ◌<◌, ◌≤◌, List, [], length, get_or, set, ⊎_elim, ◌⊎◌, inl, inr, arith, Option, Some, None, false}
+use Rattle.std.proofs.lemmas.Bool.{both_ways}
 use mathlib.Core.Option.{some, none}
 use mathlib.Core.List.{IsPrefix}
 use lib.ListN.{get_elem?}
 use Rattle.atomic_table.specs.Table.{State, Me, step, keeps, Allows, Joins}
 use Rattle.atomic_table.proofs.Lists.{at_set, set_else, set_again}
-use Rattle.turn_core.specs.declared.view.Call.{Call}
+use Rattle.turn_core.specs.declared.view.TurnCall.{TurnCall}
 use Rattle.turn_core.specs.declared.view.View.{View}
 use Rattle.turn_core.specs.declared.view.Kept.{Kept}
 use Rattle.turn_core.specs.Plays.{Learns, Learned}
 use Rattle.turn_core.specs.Rule.{InTurn, Fits, AtHome, Away, out, share, has, OneList, IsOut}
 use Rattle.turn_core.specs.Views.{AtRest, both, spent, Joined, IsWhole, all_shares}
 use Rattle.turn_core.proofs.Numbers.{meet_numbers}
-use Rattle.turn_core.proofs.Parts.{sum_of-replaced, one_view, placed, true_not_false, none_some, same_or_not}
+use Rattle.turn_core.proofs.Parts.{sum_of-replaced, one_view, placed, none_some, same_or_not}
 use Rattle.turn_core.proofs.Prefixes.{longer_prefix, shorter_begins, longer_whole, each_begins}
 use Rattle.turn_core.proofs.Ends.{whole_list}
 
@@ -29,7 +30,7 @@ module _ {T A S : Type 0} (stands : T → T → List (A × S) → Type 0) where
   abbrev M : Type 0
   M = Me (Option K) D
 
-  module _ (o : T) (log : List (Call A S)) (drawn : ℕ) (s : St) (r : InTurn stands o log drawn s) (id other : ℕ)
+  module _ (o : T) (log : List (TurnCall A S)) (drawn : ℕ) (s : St) (r : InTurn stands o log drawn s) (id other : ℕ)
       (v w : D) (at : get_elem? s.views id ≡ some v) (apart : other ≢ id) (at_w : get_elem? s.views other ≡ some w)
       (free_v : v.ticket ≡ None) (idle_v : v.served ≡ false) (live_v : 0 < v.share) (free_w : w.ticket ≡ None) (idle_w : w.served ≡ false) where
     abbrev u : D
@@ -50,7 +51,7 @@ module _ {T A S : Type 0} (stands : T → T → List (A × S) → Type 0) where
       prefix = longer_prefix v.seen w.seen log a.prefix b.prefix;
       older = shorter_begins v.seen w.seen log a.prefix b.prefix;
       in_turn = λ t e. absurd (none_some t (sym free_v ∙ e));
-      first = λ e. absurd (true_not_false v.served e idle_v);
+      first = λ e. absurd (both_ways v.served idle_v e);
       whole = let none_yet : has v.ticket ≡ 0 = ap has free_v in omega (arith, none_yet);
     }
 
@@ -60,7 +61,7 @@ module _ {T A S : Type 0} (stands : T → T → List (A × S) → Type 0) where
       prefix = (log, refl);
       older = ([], refl);
       in_turn = λ t e. absurd (none_some t e);
-      first = λ e. absurd (true_not_false false e refl);
+      first = λ e. absurd (both_ways false refl e);
       whole = omega arith;
     }
 
@@ -105,9 +106,9 @@ module _ {T A S : Type 0} (stands : T → T → List (A × S) → Type 0) where
 
     still_away : Away stands s → Away stands (record { words = s.words; homes = s.homes; views = vs })
     still_away (homes, (by, x, e, served)) = ⊎_elim
-        (λ (same : by ≡ id). absurd (true_not_false v.served (ap (λ (y : D). y.served) (here by x v id e at same) ∙ served) idle_v))
+        (λ (same : by ≡ id). absurd (both_ways v.served idle_v (ap (λ (y : D). y.served) (here by x v id e at same) ∙ served)))
         (λ (not_id : by ≢ id). ⊎_elim
-        (λ (same : by ≡ other). absurd (true_not_false w.served (ap (λ (y : D). y.served) (here by x w other e at_w same) ∙ served) idle_w))
+        (λ (same : by ≡ other). absurd (both_ways w.served idle_w (ap (λ (y : D). y.served) (here by x w other e at_w same) ∙ served)))
         (λ (not_other : by ≢ other). (homes, (by, x, kept_view by x not_other not_id e, served)))
         (same_or_not by other))
         (same_or_not by id)

@@ -9,8 +9,8 @@ use mathlib.Core.Option.{some}
 use mathlib.Core.List.{IsPrefix, map-append}
 use lib.ListN.{get_elem?}
 use Rattle.atomic_table.proofs.Lists.{at_set, set_else, at_longer}
-use Rattle.turn_core.specs.declared.view.Call.{Call}
-use Rattle.turn_core.specs.declared.view.Done.{Done}
+use Rattle.turn_core.specs.declared.view.TurnCall.{TurnCall}
+use Rattle.turn_core.specs.declared.view.LastCall.{LastCall}
 use Rattle.turn_core.specs.declared.view.Met.{Met}
 use Rattle.turn_core.specs.declared.view.View.{View}
 use Rattle.turn_core.specs.Calls.{calls_under}
@@ -82,7 +82,7 @@ module _ {T A S : Type 0} where
       (same_or_not by id)
 
   -- one view changes to w, which owns no more, and the list to log'
-  module _ (log log' : List (Call A S)) (views : List (View T A S)) (n : Numbered log views) (id : ℕ) (v w : View T A S) (at : get_elem? views id ≡ some v)
+  module _ (log log' : List (TurnCall A S)) (views : List (View T A S)) (n : Numbered log views) (id : ℕ) (v w : View T A S) (at : get_elem? views id ≡ some v)
       (live : 0 < w.share → 0 < v.share) (number_is : w.number ≡ v.number) (owns : (number : ℕ) → Owns w number → Owns v number) (met : w.met ≡ v.met)
       (mine : 0 < w.share → Named log' w) (others : (by : ℕ) (u : View T A S) → get_elem? views by ≡ some u → by ≢ id → 0 < u.share → Named log' u) where
     same_numbers : numbers w ≡ numbers v
@@ -120,7 +120,7 @@ module _ {T A S : Type 0} where
     }
 
   -- one view more, with numbers that no other owns or met
-  module _ (log : List (Call A S)) (views : List (View T A S)) (n : Numbered log views) (x : View T A S) (named : Named log x) (none_met : x.met ≡ [])
+  module _ (log : List (TurnCall A S)) (views : List (View T A S)) (n : Numbered log views) (x : View T A S) (named : Named log x) (none_met : x.met ≡ [])
       (new : (by : ℕ) (u : View T A S) (number : ℕ) → get_elem? views by ≡ some u → 0 < u.share → Owns u number → Owns x number → ⊥)
       (not_met : (by : ℕ) (u : View T A S) → get_elem? views by ≡ some u → 0 < u.share → All (λ m. Owns x m.number → ⊥) u.met) where
     numbers_apart : (by : ℕ) (u : View T A S) → get_elem? views by ≡ some u → 0 < u.share → Disjoint (numbers u) (x.number ∷ [])
@@ -167,7 +167,7 @@ module _ {T A S : Type 0} where
     }
 
   -- a ticket is drawn, or nothing changes
-  pub drawn_keeps : (log : List (Call A S)) (views : List (View T A S)) → Numbered log views
+  pub drawn_keeps : (log : List (TurnCall A S)) (views : List (View T A S)) → Numbered log views
       → (id : ℕ) (v : View T A S) (ticket : Option ℕ) → get_elem? views id ≡ some v
       → Numbered log (set views id (record v { ticket = ticket }))
   drawn_keeps log views n id v ticket at =
@@ -186,7 +186,7 @@ module _ {T A S : Type 0} where
       (λ k d h. still_known views id v u at (λ l. l) refl _ (n.known k d h))
 
   -- the pass has seen all
-  pub served_keeps : (log : List (Call A S)) (views : List (View T A S)) → Numbered log views
+  pub served_keeps : (log : List (TurnCall A S)) (views : List (View T A S)) → Numbered log views
       → (id : ℕ) (v : View T A S) → get_elem? views id ≡ some v
       → Numbered log (set views id (record v { seen = log; served = true }))
   served_keeps log views n id v at =
@@ -197,8 +197,8 @@ module _ {T A S : Type 0} where
       (λ k d h. still_known views id v u at (λ l. l) refl _ (n.known k d h))
 
   -- a call is added by the pass that has seen all
-  module _ (log : List (Call A S)) (views : List (View T A S)) (n : Numbered log views) (id : ℕ) (v : View T A S) (d : Done A S) (at : get_elem? views id ≡ some v) (live : 0 < v.share) where
-    abbrev call : Call A S
+  module _ (log : List (TurnCall A S)) (views : List (View T A S)) (n : Numbered log views) (id : ℕ) (v : View T A S) (d : LastCall A S) (at : get_elem? views id ≡ some v) (live : 0 < v.share) where
+    abbrev call : TurnCall A S
     call = next_call v d.ask.value d.say.value
 
     mine : Named log v
@@ -212,11 +212,11 @@ module _ {T A S : Type 0} where
     moved_named = record {
       stride = mine.stride;
       counted = record {
-        own = under v.number v.seen call refl ∙ ap (λ (l : List (Call A S)). l ++ call ∷ []) mine.counted.own;
+        own = under v.number v.seen call refl ∙ ap (λ (l : List (TurnCall A S)). l ++ call ∷ []) mine.counted.own;
         met = λ k x h. not_under _ v.seen call (met_other k x h) ∙ mine.counted.met k x h;
         distinct = mine.counted.distinct;
       };
-      own = under v.number log call refl ∙ ap (λ (l : List (Call A S)). l ++ call ∷ []) mine.own;
+      own = under v.number log call refl ∙ ap (λ (l : List (TurnCall A S)). l ++ call ∷ []) mine.own;
       unused = λ number o other. not_under number log call (λ e. other (sym e)) ∙ mine.unused number o other;
       met = λ k x h. not_under _ log call (met_other k x h) ∙ mine.met k x h;
     }
@@ -236,12 +236,12 @@ module _ {T A S : Type 0} where
     pub moved_keeps : Numbered (log ++ call ∷ []) (set views id (moved v d))
     moved_keeps =
         let w : View T A S = moved v d in
-        let P : Call A S → Type 0 = λ c. IsKnown (set views id w) c.by in
+        let P : TurnCall A S → Type 0 = λ c. IsKnown (set views id w) c.by in
         replaced log (log ++ call ∷ []) views n id v w at (λ l. l) refl (λ number o. o) refl (λ l. moved_named) others
         (All-push P log call (λ k c h. still_known views id v w at (λ l. l) refl _ (n.known k c h)) (id, w, placed views id v w at, live, (0, (omega arith), refl)))
 
   -- a pass is split
-  module _ (log : List (Call A S)) (views : List (View T A S)) (n : Numbered log views) (id : ℕ) (v : View T A S) (at : get_elem? views id ≡ some v) (more : 1 < v.share) where
+  module _ (log : List (TurnCall A S)) (views : List (View T A S)) (n : Numbered log views) (id : ℕ) (v : View T A S) (at : get_elem? views id ≡ some v) (more : 1 < v.share) where
     live : 0 < v.share
     live = omega (arith, more)
 
@@ -300,7 +300,7 @@ module _ {T A S : Type 0} where
         (right v) (right_named p) refl apart_from_right not_met_by_others
 
   -- two passes meet
-  module _ (log : List (Call A S)) (views : List (View T A S)) (n : Numbered log views) (id other : ℕ)
+  module _ (log : List (TurnCall A S)) (views : List (View T A S)) (n : Numbered log views) (id other : ℕ)
       (v w : View T A S) (at : get_elem? views id ≡ some v) (apart : other ≢ id) (at_w : get_elem? views other ≡ some w)
       (live_v : 0 < v.share) (live_w : 0 < w.share) (seen_v : IsPrefix v.seen log) (seen_w : IsPrefix w.seen log) where
     abbrev u : View T A S

@@ -1,5 +1,5 @@
 -- Facts on lists of views, for each kind of step.
-use Rattle.std.proofs.Common.{◌≡◌, ◌≢◌, ◌∙◌, sym, ap, refl, subst, ℕ, zero, suc, ◌+◌, ◌≤◌, List, [], ◌∷◌, ◌++◌, length, set, ⊎_elim, ◌⊎◌, inl, inr, arith, Option, Some, None, Bool, true, false}
+use Rattle.std.proofs.Common.{◌≡◌, ◌≢◌, ◌∙◌, sym, ap, refl, subst, ℕ, zero, suc, ◌+◌, ◌≤◌, List, [], ◌∷◌, ◌++◌, length, set, ⊎_elim, ◌⊎◌, inl, inr, arith, Option, Some, None}
 use Rattle.std.proofs.Common.{append_assoc}
 use mathlib.Core.Option.{some, some-injective, some-ne-none}
 use mathlib.Core.List.{IsPrefix}
@@ -8,7 +8,7 @@ use mathlib.Core.Logic.{dite}
 use native.Mathlib.Decide.{ℕ_discrete}
 use mathlib.Core.List.{map-append}
 use Rattle.atomic_table.specs.Table.{Me, rest}
-use Rattle.turn_core.specs.declared.view.Call.{Call}
+use Rattle.turn_core.specs.declared.view.TurnCall.{TurnCall}
 use Rattle.turn_core.specs.Calls.{plain}
 use Rattle.turn_core.specs.Rule.{sum_of}
 use Rattle.turn_core.specs.Views.{StandsSince}
@@ -73,13 +73,6 @@ module _ {A : Type 0} where
 pub one_not_zero : ◌≡◌ {A = ℕ} 1 0 → ⊥
 one_not_zero e = omega (arith, e)
 
-abbrev bit : Bool → ℕ
-bit true = 1
-bit false = 0
-
-pub true_not_false : (b : Bool) → b ≡ true → b ≡ false → ⊥
-true_not_false b t f = one_not_zero (sym (ap bit t) ∙ ap bit f)
-
 abbrev pub from_some : {A : Type 0} → A → Option A → A
 from_some d None = d
 from_some d (Some x) = x
@@ -96,10 +89,6 @@ none_some x e = one_not_zero (ap is_none e)
 
 pub same_or_not : (i j : ℕ) → (i ≡ j) ⊎ (i ≢ j)
 same_or_not i j = dite (ℕ_discrete i j) (λ (e : i ≡ j). inl e) (λ (n : i ≢ j). inr n)
-
-pub not_served : (b : Bool) → (b ≡ true → ⊥) → b ≡ false
-not_served true never = absurd (never refl)
-not_served false never = refl
 
 abbrev pub head_or : {A : Type 0} → A → List A → A
 head_or d [] = d
@@ -119,12 +108,12 @@ module _ {S V : Type 0} where
   )
 
 module _ {A S : Type 0} where
-  pub plain_more : (log : List (Call A S)) (c : Call A S) → plain (log ++ c ∷ []) ≡ plain log ++ (c.ask, c.say) ∷ []
-  plain_more log c = map-append (λ (x : Call A S). (x.ask, x.say)) log (c ∷ [])
+  pub plain_more : (log : List (TurnCall A S)) (c : TurnCall A S) → plain (log ++ c ∷ []) ≡ plain log ++ (c.ask, c.say) ∷ []
+  plain_more log c = map-append (λ (x : TurnCall A S). (x.ask, x.say)) log (c ∷ [])
 
 module _ {T A S : Type 0} (stands : T → T → List (A × S) → Type 0) where
   -- the value made one call more
-  pub makes_call : (o : Option T) (value value' : T) (log : List (Call A S)) (c : Call A S) (a : A) (s : S)
+  pub makes_call : (o : Option T) (value value' : T) (log : List (TurnCall A S)) (c : TurnCall A S) (a : A) (s : S)
       → ((opening : T) (calls : List (A × S)) → stands opening value calls → stands opening value' (calls ++ (a, s) ∷ []))
       → c.ask ≡ a → c.say ≡ s → StandsSince stands o value log → StandsSince stands o value' (log ++ c ∷ [])
   makes_call o value value' log c a s step asked said (first, opened, h) = (
@@ -135,5 +124,5 @@ module _ {T A S : Type 0} (stands : T → T → List (A × S) → Type 0) where
 
   -- what a value stands for is lawful
   pub lawful_of : (lawful : T → List (A × S) → Type 0) → ((first now : T) (calls : List (A × S)) → stands first now calls → lawful first calls)
-      → (o : Option T) (value : T) (log : List (Call A S)) → StandsSince stands o value log → (first : T) × (o ≡ Some first) × lawful first (plain log)
+      → (o : Option T) (value : T) (log : List (TurnCall A S)) → StandsSince stands o value log → (first : T) × (o ≡ Some first) × lawful first (plain log)
   lawful_of lawful law o value log (first, opened, h) = (first, opened, law first value (plain log) h)

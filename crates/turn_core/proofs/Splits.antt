@@ -1,16 +1,17 @@
 -- A split keeps the rule.
 use Rattle.std.proofs.Common.{◌≡◌, ◌≢◌, ◌∙◌, sym, ap, subst, ℕ, ◌<◌, ◌≤◌, List, [], ◌∷◌, ◌++◌, length, set, ⊎_elim, ◌⊎◌, inl, inr, arith, Option, Some, None, false}
+use Rattle.std.proofs.lemmas.Bool.{both_ways}
 use mathlib.Core.Option.{some}
 use lib.ListN.{get_elem?}
 use Rattle.atomic_table.specs.Table.{State, Splits}
 use Rattle.atomic_table.proofs.Lists.{at_set, set_else, at_snoc, at_longer}
-use Rattle.turn_core.specs.declared.view.Call.{Call}
+use Rattle.turn_core.specs.declared.view.TurnCall.{TurnCall}
 use Rattle.turn_core.specs.declared.view.View.{View}
 use Rattle.turn_core.specs.declared.view.Kept.{Kept}
 use Rattle.turn_core.specs.Rule.{InTurn, Fits, AtHome, Away, out, share, has, OneList, IsOut}
 use Rattle.turn_core.specs.Views.{left, right}
 use Rattle.turn_core.proofs.Numbers.{split_numbers}
-use Rattle.turn_core.proofs.Parts.{sum_of-replaced, one_view, placed, true_not_false, none_some, same_or_not, sum_of-snoc}
+use Rattle.turn_core.proofs.Parts.{sum_of-replaced, one_view, placed, none_some, same_or_not, sum_of-snoc}
 
 module _ {T A S : Type 0} (stands : T → T → List (A × S) → Type 0) where
   abbrev D : Type 0
@@ -22,7 +23,7 @@ module _ {T A S : Type 0} (stands : T → T → List (A × S) → Type 0) where
   abbrev St : Type 0
   St = State (Option K) D
 
-  module _ (o : T) (log : List (Call A S)) (drawn : ℕ) (s : St) (r : InTurn stands o log drawn s) (id : ℕ) (v : D)
+  module _ (o : T) (log : List (TurnCall A S)) (drawn : ℕ) (s : St) (r : InTurn stands o log drawn s) (id : ℕ) (v : D)
       (at : get_elem? s.views id ≡ some v) (free : v.ticket ≡ None) (idle : v.served ≡ false) (more : 1 < v.share) where
     abbrev vs : List D
     vs = set s.views id (left v)
@@ -86,7 +87,7 @@ module _ {T A S : Type 0} (stands : T → T → List (A × S) → Type 0) where
 
     still_away : Away stands s → Away stands (record { words = s.words; homes = s.homes; views = vs ++ right v ∷ [] })
     still_away (homes, (by, u, e, served)) = ⊎_elim
-        (λ (same : by ≡ id). absurd (true_not_false v.served (ap (λ (x : D). x.served) (one_view s.views id v u at (subst (λ (n : ℕ). get_elem? s.views n ≡ some u) same e)) ∙ served) idle))
+        (λ (same : by ≡ id). absurd (both_ways v.served idle (ap (λ (x : D). x.served) (one_view s.views id v u at (subst (λ (n : ℕ). get_elem? s.views n ≡ some u) same e)) ∙ served)))
         (λ (apart : by ≢ id). (homes, (by, u, kept_view by u apart e, served)))
         (same_or_not by id)
 

@@ -1,7 +1,7 @@
 -- A count that goes on by one with each call, and what it tells; and a list with calls under two numbers.
 use Rattle.std.proofs.Common.{◌≡◌, ◌∙◌, sym, ap, ℕ, ◌+◌, ◌%◌, ◌^◌, ◌<◌, List, [], ◌∷◌, ◌++◌, length, length-append, map, arith, ◌≢◌, zero, suc, cond, eq-eqb, ne_eqb, ⊎_elim, ◌⊎◌, inl, inr, ◌-◌, subst}
 use Rattle.std.specs.Prelude.{All, Contains}
-use Rattle.turn_core.specs.declared.view.Call.{Call}
+use Rattle.turn_core.specs.declared.view.TurnCall.{TurnCall}
 use Rattle.turn_core.specs.declared.view.Met.{Met}
 use Rattle.turn_core.specs.declared.view.View.{View}
 use Rattle.turn_core.specs.Views.{IsWhole, all_shares, both, left, newcomer, numbers, right}
@@ -34,12 +34,12 @@ one_of p q n (suc (suc k), h, e) = absurd (omega (arith, h))
 
 -- where all calls are under two numbers, the list has as many as there are under both
 module _ {A S : Type 0} (p q : ℕ) (apart : p ≢ q) where
-  pub two_numbers : (xs : List (Call A S)) → All (λ c. Contains (p ∷ q ∷ []) c.by) xs → length xs ≡ length (calls_under p xs) + length (calls_under q xs)
+  pub two_numbers : (xs : List (TurnCall A S)) → All (λ c. Contains (p ∷ q ∷ []) c.by) xs → length xs ≡ length (calls_under p xs) + length (calls_under q xs)
   two_numbers [] all = omega arith
   two_numbers (c ∷ cs) all =
       let r = two_numbers cs (λ k d h. all (suc k) d (omega (arith, h))) in
-      let of_p : List (Call A S) = calls_under p cs in
-      let of_q : List (Call A S) = calls_under q cs in
+      let of_p : List (TurnCall A S) = calls_under p cs in
+      let of_q : List (TurnCall A S) = calls_under q cs in
       ⊎_elim
       (λ (is : c.by ≡ p).
       let a : calls_under p (c ∷ cs) ≡ c ∷ of_p = ap (λ b. cond b (c ∷ of_p) of_p) (eq-eqb c.by p is) in

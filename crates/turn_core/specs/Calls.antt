@@ -1,20 +1,20 @@
 -- Lists of calls.
 use Rattle.std.specs.Prelude.{ℕ, List, map, filter, length, ◌==◌, if◌then◌else◌, nat_lt}
-use Rattle.turn_core.specs.declared.view.Call.{Call}
+use Rattle.turn_core.specs.declared.view.TurnCall.{TurnCall}
 
 module _ {A S : Type 0} where
   -- the calls without the numbers of their passes and their own
-  abbrev pub plain : List (Call A S) → List (A × S)
+  abbrev pub plain : List (TurnCall A S) → List (A × S)
   plain = map (λ c. (c.ask, c.say))
 
   -- the calls that were made under this pass number, in order
-  abbrev pub calls_under : ℕ → List (Call A S) → List (Call A S)
+  abbrev pub calls_under : ℕ → List (TurnCall A S) → List (TurnCall A S)
   calls_under number = filter (λ c. c.by == number)
 
   -- the longer of two lists; where they are as long as each other, the first
-  abbrev pub longer : List (Call A S) → List (Call A S) → List (Call A S)
+  abbrev pub longer : List (TurnCall A S) → List (TurnCall A S) → List (TurnCall A S)
   longer xs ys = if nat_lt (length xs) (length ys) then ys else xs
 
   -- the other one
-  abbrev pub shorter : List (Call A S) → List (Call A S) → List (Call A S)
+  abbrev pub shorter : List (TurnCall A S) → List (TurnCall A S) → List (TurnCall A S)
   shorter xs ys = if nat_lt (length xs) (length ys) then xs else ys

@@ -2,7 +2,7 @@
 use Rattle.std.specs.Prelude.{◌≡◌, ◌≢◌, ℕ, ◌%◌, ◌^◌, List, [], ◌∷◌, ◌++◌, Option, Some, None, true, false}
 use mathlib.Core.List.{IsPrefix}
 use Rattle.atomic_table.specs.Table.{Me, Step}
-use Rattle.turn_core.specs.declared.view.Done.{Done}
+use Rattle.turn_core.specs.declared.view.LastCall.{LastCall}
 use Rattle.turn_core.specs.declared.view.Kept.{Kept}
 use Rattle.turn_core.specs.declared.view.View.{View}
 use Rattle.turn_core.specs.Views.{Counted, IsWhole, StandsSince, all_shares, next_call}
@@ -17,19 +17,20 @@ module _ {T A S : Type 0} where
   Draws st m found m' = (t : ℕ) × (found ≡ t % 2 ^ 64) × (m'.0 ≡ record m.0 { ticket = Some t }) × (m'.1 ≡ m.1)
 
   -- after its call the pass has seen it, and is at rest
-  abbrev pub moved : View T A S → Done A S → View T A S
+  abbrev pub moved : View T A S → LastCall A S → View T A S
   moved v d =
       let call = next_call v d.ask.value d.say.value in
       record v { seen = v.seen ++ call ∷ []; made = v.made ++ call ∷ []; ticket = None; served = false }
 
   -- the call is the last one of the list, the value was given back, and the calls under the pass's numbers are those
   -- that were made
-  abbrev pub Moved : Place T A S → Done A S → Place T A S → Type 0
+  abbrev pub Moved : Place T A S → LastCall A S → Place T A S → Type 0
   Moved m d m' = (m' ≡ (moved m.0 d, [])) × Counted m'.0
 
   -- move: the call that the slot tells of is the last one of the list, and the value is given back
   abbrev pub GivesBack : Step (Option (Kept T A S)) → Place T A S → ℕ → Place T A S → Type 0
-  GivesBack st m found m' = (k : Kept T A S) (d : Done A S) → m.1 ≡ (0, Some k) ∷ [] → k.last ≡ Some d → Moved m d m'
+  GivesBack st m found m' =
+      (k : Kept T A S) (d : LastCall A S) → m.1 ≡ (0, Some k) ∷ [] → k.last ≡ Some d → Moved m d m'
 
   -- nothing changed: the shorter of the lists of a meeting begins the longer; the calls under the pass's numbers are
   -- those that were made; and where it has every share it knows all calls

@@ -5,7 +5,7 @@ use mathlib.Core.List.{IsPrefix}
 use mathlib.Core.Option.{some, none}
 use lib.ListN.{get_elem?}
 use Rattle.atomic_table.specs.Table.{State}
-use Rattle.turn_core.specs.declared.view.Call.{Call}
+use Rattle.turn_core.specs.declared.view.TurnCall.{TurnCall}
 use Rattle.turn_core.specs.declared.view.Kept.{Kept}
 use Rattle.turn_core.specs.declared.view.View.{View}
 use Rattle.turn_core.specs.Calls.{calls_under}
@@ -40,7 +40,7 @@ module _ {T A S : Type 0} where
 
   -- the whole list has no calls under the pass's number, and the numbers that it met, but those that the pass has
   -- seen; numbers that it has not given out have none
-  pub record Named (log : List (Call A S)) (v : View T A S) : Type 0 where
+  pub record Named (log : List (TurnCall A S)) (v : View T A S) : Type 0 where
     pub stride : 0 < v.stride
     pub counted : Counted v
     pub own : calls_under v.number log ≡ v.made
@@ -54,7 +54,7 @@ module _ {T A S : Type 0} where
 
   -- no number is two passes'; a number that was met is no pass's any more, and met by one pass alone; and each call
   -- of the whole list was made under a number that is a pass's or met
-  pub record Numbered (log : List (Call A S)) (views : List (View T A S)) : Type 0 where
+  pub record Numbered (log : List (TurnCall A S)) (views : List (View T A S)) : Type 0 where
     pub named : (by : ℕ) (v : View T A S) → get_elem? views by ≡ some v → 0 < v.share → Named log v
     pub apart : (i j : ℕ) (v w : View T A S) (number : ℕ) → get_elem? views i ≡ some v → get_elem? views j ≡ some w
         → 0 < v.share → 0 < w.share → Owns v number → Owns w number → i ≡ j
@@ -67,7 +67,7 @@ module _ {T A S : Type 0} where
 module _ {T A S : Type 0} (stands : T → T → List (A × S) → Type 0) where
   -- what is true of each pass: its list begins the whole one, its ticket is among those that are out, and where it is
   -- served, its turn is now and it has seen all
-  pub record Fits (opening : T) (log : List (Call A S)) (drawn : ℕ) (v : View T A S) : Type 0 where
+  pub record Fits (opening : T) (log : List (TurnCall A S)) (drawn : ℕ) (v : View T A S) : Type 0 where
     pub same : 0 < v.share → v.opening ≡ Some opening
     pub prefix : IsPrefix v.seen log
     pub older : IsPrefix v.older v.seen
@@ -76,7 +76,7 @@ module _ {T A S : Type 0} (stands : T → T → List (A × S) → Type 0) where
     pub whole : has v.ticket ≤ v.share
 
   -- the value is in the slot and stands for the whole list, and no pass is served
-  abbrev pub AtHome : T → List (Call A S) → State (Option (Kept T A S)) (View T A S) → Type 0
+  abbrev pub AtHome : T → List (TurnCall A S) → State (Option (Kept T A S)) (View T A S) → Type 0
   AtHome first log s =
       (k : Kept T A S) × (s.homes ≡ some (Some k) ∷ []) × StandsSince stands (Some first) k.value log
       × ((by : ℕ) (v : View T A S) → get_elem? s.views by ≡ some v → v.served ≡ false)
@@ -87,7 +87,7 @@ module _ {T A S : Type 0} (stands : T → T → List (A × S) → Type 0) where
 
   -- the tickets out are the numbers from the one that is served up to, but not including, the next one to be drawn,
   -- each with one pass; the list has as many calls as tickets were served
-  pub record InTurn (first : T) (log : List (Call A S)) (drawn : ℕ) (s : State (Option (Kept T A S)) (View T A S))
+  pub record InTurn (first : T) (log : List (TurnCall A S)) (drawn : ℕ) (s : State (Option (Kept T A S)) (View T A S))
       : Type 0 where
     pub words : s.words ≡ (drawn % 2 ^ 64) ∷ (length log % 2 ^ 64) ∷ []
     pub each : (by : ℕ) (v : View T A S) → get_elem? s.views by ≡ some v → Fits first log drawn v
@@ -102,4 +102,4 @@ module _ {T A S : Type 0} (stands : T → T → List (A × S) → Type 0) where
 
   -- there is one list of calls, under which the passes are in turn and have their numbers
   abbrev pub OneList : T → State (Option (Kept T A S)) (View T A S) → Type 0
-  OneList first s = (log : List (Call A S)) × (drawn : ℕ) × InTurn first log drawn s × Numbered log s.views
+  OneList first s = (log : List (TurnCall A S)) × (drawn : ℕ) × InTurn first log drawn s × Numbered log s.views

@@ -2,7 +2,7 @@
 use Rattle.std.specs.Prelude.{◌≡◌, ℕ, ◌%◌, ◌^◌, List, [], ◌∷◌, ◌++◌, Some, false}
 use Rattle.atomic_table.specs.declared.shared.Seat.{Seat}
 use Rattle.atomic_table.specs.declared.shared.Shared.{Shared}
-use Rattle.turn_core.specs.declared.view.Done.{Done}
+use Rattle.turn_core.specs.declared.view.LastCall.{LastCall}
 use Rattle.turn_core.specs.declared.view.Kept.{Kept}
 use Rattle.turn_core.specs.declared.view.View.{View}
 use Rattle.turn_core.specs.Plays.{Place}
@@ -35,12 +35,12 @@ module _ {T A S : Type 0} (stands : T → T → List (A × S) → Type 0) where
   -- it has the value, which stands for that list and the call that the slot tells of
   abbrev pub HasCalled : Place T A S → Type 0
   HasCalled m =
-      (k : Kept T A S) × (d : Done A S) × (m.1 ≡ (0, Some k) ∷ []) × (k.last ≡ Some d)
+      (k : Kept T A S) × (d : LastCall A S) × (m.1 ≡ (0, Some k) ∷ []) × (k.last ≡ Some d)
       × StandsSince stands m.0.opening k.value (m.0.seen ++ next_call m.0 d.ask.value d.say.value ∷ [])
 
   -- the same, where that call was this one, and the pass knew v before it
   abbrev pub HasAnswered : View T A S → A → S → Place T A S → Type 0
   HasAnswered v ask say m =
-      (k : Kept T A S) × (d : Done A S) × (m.1 ≡ (0, Some k) ∷ []) × (k.last ≡ Some d) × (d.ask.value ≡ ask)
+      (k : Kept T A S) × (d : LastCall A S) × (m.1 ≡ (0, Some k) ∷ []) × (k.last ≡ Some d) × (d.ask.value ≡ ask)
       × (d.say.value ≡ say)
       × StandsSince stands m.0.opening k.value (v.seen ++ next_call v d.ask.value d.say.value ∷ [])

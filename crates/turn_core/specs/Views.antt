@@ -3,7 +3,7 @@ use Rattle.std.specs.Prelude.{◌≡◌, ◌≢◌, ℕ, ◌+◌, ◌*◌, ◌-�
 use Rattle.std.specs.Prelude.{None, false}
 use mathlib.Core.List.{IsPrefix}
 use Rattle.atomic_table.specs.Table.{Me}
-use Rattle.turn_core.specs.declared.view.Call.{Call}
+use Rattle.turn_core.specs.declared.view.TurnCall.{TurnCall}
 use Rattle.turn_core.specs.declared.view.Kept.{Kept}
 use Rattle.turn_core.specs.declared.view.Met.{Met}
 use Rattle.turn_core.specs.declared.view.View.{View}
@@ -15,7 +15,7 @@ all_shares = 4_294_967_295
 
 module _ {A S : Type 0} where
   -- the list has under this number the calls that were made under it, each once and in order
-  abbrev pub HasMade : List (Call A S) → Met A S → Type 0
+  abbrev pub HasMade : List (TurnCall A S) → Met A S → Type 0
   HasMade list m = calls_under m.number list ≡ m.made
 
 module _ {T A S : Type 0} where
@@ -77,7 +77,7 @@ module _ {T A S : Type 0} where
   numbers v = v.number ∷ map (λ m. m.number) v.met
 
   -- the call that the pass makes now
-  abbrev pub next_call : View T A S → A → S → Call A S
+  abbrev pub next_call : View T A S → A → S → TurnCall A S
   next_call v ask say = record { by = v.number; nth = length v.made; ask = ask; say = say }
 
   -- the calls in the list under the pass's number are those that it made, and under each number that it met
@@ -93,7 +93,7 @@ module _ {T A S : Type 0} where
 
   -- v made this call, and is then w: its list begins with what it had seen and ends with the call
   pub record Called (v : View T A S) (ask : A) (say : S) (w : View T A S) : Type 0 where
-    pub list : (between : List (Call A S)) × (w.seen ≡ v.seen ++ between ++ next_call v ask say ∷ [])
+    pub list : (between : List (TurnCall A S)) × (w.seen ≡ v.seen ++ between ++ next_call v ask say ∷ [])
     pub made : w.made ≡ v.made ++ next_call v ask say ∷ []
     pub others : w ≡ record v { seen = w.seen; made = w.made }
 
@@ -109,7 +109,7 @@ module _ {T A S : Type 0} where
 
 module _ {T A S : Type 0} (stands : T → T → List (A × S) → Type 0) where
   -- there was an opening, and since then the value stands for these calls
-  abbrev pub StandsSince : Option T → T → List (Call A S) → Type 0
+  abbrev pub StandsSince : Option T → T → List (TurnCall A S) → Type 0
   StandsSince opening value calls = (first : T) × (opening ≡ Some first) × stands first value (plain calls)
 
 module _ {T A S : Type 0} (lawful : T → List (A × S) → Type 0) where

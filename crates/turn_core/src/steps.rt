@@ -7,7 +7,7 @@ ghost use Rattle.turn_core.specs.Views.{AtRest, Called, Counted, IsLawful};
 
 use crate::rule::{Held, Known, Law, SERVING, TICKET};
 use crate::turned::Turned;
-use crate::view::{Done, Kept, View};
+use crate::view::{Kept, LastCall, View};
 use crate::waiting::{ParkingLot, hold_back};
 use atomic_table::{Play, Seat, Shared};
 use std::marker::PhantomData;
@@ -102,7 +102,7 @@ pub(crate) fn call<T: Turned>(top: &Top<T>, place: &mut Place<T>, ask: &T::Ask) 
     };
     let Kept { mut value, last: _ } = kept;
     let say = value.take(ask);
-    let done = Done {
+    let done = LastCall {
         ask: Snapshot::of(ask),
         say: Snapshot::of(&say),
     };

@@ -1,5 +1,5 @@
 // What a value has to say of its calls.
-ghost use Rattle.std.specs.Prelude.{◌≡◌, List, [], ◌∷◌, ◌++◌};
+ghost use Rattle.std.specs.Prelude.{List, [], ◌∷◌, ◌++◌};
 
 /// A value whose calls threads make in turns.
 pub trait Turned {

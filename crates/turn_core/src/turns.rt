@@ -1,5 +1,5 @@
 // The turns.
-ghost use Rattle.std.specs.Prelude.{◌≡◌, ◌<◌, List, [], ◌∷◌, ◌++◌, IfOk, IfErr, IsSome, Some};
+ghost use Rattle.std.specs.Prelude.{◌≡◌, ◌<◌, [], IfOk, IfErr, IsSome, Some};
 ghost use Rattle.turn_core.specs.Views.{Called, Counted, IsLawful, IsWhole, Joined, StandsSince, newcomer, left, right};
 ghost use Rattle.turn_core.specs.Views.{all_shares};
 

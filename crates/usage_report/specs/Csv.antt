@@ -7,9 +7,11 @@ use Rattle.office_types.specs.declared.reply.ReportLine.{ReportLine}
 use Rattle.office_types.specs.Reports.{charges}
 use Rattle.usage_report.specs.Lines.{line_name}
 
+-- the names of the columns
 abbrev pub report_header : List (List ℕ)
 report_header = codes "bucket" ∷ codes "line" ∷ codes "class" ∷ codes "quantity" ∷ codes "price" ∷ codes "charge" ∷ []
 
+-- a line of the report: what is charged of a bucket and a class, how much of it, at which price, and the charge
 abbrev pub report_row : ReportLine → List (List ℕ)
 report_row line =
     line.bucket ∷ line_name line.kind ∷ class_name line.class

@@ -10,6 +10,7 @@ use Rattle.usage_report.specs.Lines.{line_name}
 abbrev pub left_aligned : ℕ → List ℕ → List ℕ
 left_aligned width text = text ++ replicate (width - length text) 32
 
+-- numbers stand at the right, so that their last digits are below each other
 abbrev pub right_aligned : ℕ → List ℕ → List ℕ
 right_aligned width text = replicate (width - length text) 32 ++ text
 
@@ -19,6 +20,7 @@ table_line bucket kind class quantity charge =
     left_aligned 24 bucket ++ 32 ∷ left_aligned 12 kind ++ 32 ∷ left_aligned 14 class ++ 32 ∷ right_aligned 28 quantity
     ++ 32 ∷ right_aligned 16 (decimal charge) ++ 10 ∷ []
 
+-- a line of the report, without its price
 abbrev pub line_text : ReportLine → List ℕ
 line_text line =
     table_line line.bucket (line_name line.kind) (class_name line.class) (decimal line.quantity) line.charge
@@ -27,5 +29,6 @@ line_text line =
 abbrev pub total_text : ℕ → List ℕ
 total_text total = table_line [] (codes "total") [] [] total
 
+-- the lines of the report, and the total below them
 unfoldable pub report_text : List ReportLine → List ℕ
 report_text lines = flat_map line_text lines ++ total_text (charges lines)

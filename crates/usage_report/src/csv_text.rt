@@ -1,9 +1,9 @@
 // The report of a month as CSV.
-ghost use Rattle.std.specs.Prelude.{◌≡◌, ◌<◌, ◌^◌, [], ◌∷◌, IfOk, OnOk, decimal};
+ghost use Rattle.std.specs.Prelude.{◌≡◌, ◌<◌, ◌^◌, [], ◌∷◌, IfOk, OnOk};
 ghost use Rattle.std.specs.Io.KnownBytes.{append_known};
 ghost use Rattle.office_types.specs.Reports.{charges};
 ghost use Rattle.csv.specs.Writing.{default_writer, row_text};
-ghost use Rattle.usage_report.specs.Csv.{report_header, report_row, report_csv, total_row};
+ghost use Rattle.usage_report.specs.Csv.{report_row, report_csv, total_row};
 ghost use Rattle.csv_sheet.specs.Sheets.{IsAtRowStart, bytes_written};
 
 use crate::names::line_name;

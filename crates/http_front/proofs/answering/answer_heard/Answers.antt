@@ -6,12 +6,13 @@ use Rattle.http_asks.specs.Meaning.{Refused}
 use Rattle.http_asks.specs.Tells.{TellsHeard, OnItem}
 use Rattle.http_asks.specs.declared.reader.Heard.{Heard}
 use Rattle.http_wire.specs.declared.message.MessageStop.{MessageStop}
-use Rattle.http_front.specs.Counts.{reading, IsHeldBack}
-use Rattle.http_front.specs.Talk.{sides, Went}
+use Rattle.http_front.specs.Counts.{stream_ends, IsHeldBack}
+use Rattle.http_front.specs.Session.{sides}
+use Rattle.http_front.specs.Talk.{Went}
 use Rattle.http_front.specs.declared.answering.SessionEnd.{SessionEnd}
 use Rattle.http_front.specs.declared.answering.SessionEnd.TheVariants.{Ended}
 use Rattle.http_front.proofs.RefusalLemmas.{of_rule}
-use Rattle.http_front.proofs.TalkLemmas.{asked_on, asked_end, bad_on, bad_end, closed_here, item_refused, says_none, IsNoLack}
+use Rattle.http_front.proofs.TalkLemmas.{asked_on, asked_end, bad_on, bad_end, session_here, item_refused, says_none, IsNoLack}
 use Rattle.http_front.proofs.answering.answer_heard.Goals as goal
 
 err_of : (result : Result Unit SessionEnd) (end : SessionEnd) → IsErrAnd result (λ (other : SessionEnd). other ≡ end) → Err end ≡ result
@@ -31,7 +32,7 @@ pub returns-in_err-answer-in-Asked-clause-went : goal.returns-in_err-answer-in-A
 returns-in_err-answer-in-Asked-clause-went g c stream rest left total tells under within ahead held =
     let before = sides c.args.teller.now c.args.out.now in
     let after = sides c.answer.new.teller c.answer.new.out in
-    subst (Went g.T.Teller.moves g.W.Replies before after (reading stream left) rest total)
+    subst (Went g.T.Teller.moves g.W.Replies before after (stream_ends stream left) rest total)
     (err_of c.from_residual.result c.in_err-answer-in-Asked.field-0.0 c.from_residual.ensures.1) (
     asked_end g.T.Teller.moves g.W.Replies left before after stream rest total c.in-Asked.ask c.in-Asked.last
     c.in_err-answer-in-Asked.field-0.0 c.in_err-answer-in-Asked.ensures.answers
@@ -58,7 +59,7 @@ returns-in_ok-say_bad-in-Bad-clause-item g c stream rest few many tells item =
 pub returns-in_err-say_bad-in-Bad-clause-went : goal.returns-in_err-say_bad-in-Bad-clause-went
 returns-in_err-say_bad-in-Bad-clause-went g c stream rest left total tells under within ahead held =
     subst (Went g.T.Teller.moves g.W.Replies (sides c.args.teller.now c.args.out.now) (sides c.args.teller.now c.say_bad.new.out)
-    (reading stream left) rest total) (err_of
+    (stream_ends stream left) rest total) (err_of
     c.from_residual-in_err-say_bad-in-Bad.result c.in_err-say_bad-in-Bad.field-0.0
     c.from_residual-in_err-say_bad-in-Bad.ensures.1) (
     of_rule (refused_of c.in-Bad.bad) (subst (λ (h : Heard). TellsHeard stream h rest) c.in-Bad.is tells) c.in_err-say_bad-in-Bad.ensures.said
@@ -70,9 +71,9 @@ returns-in_err-say_bad-in-Bad-clause-went g c stream rest left total tells under
 
 pub returns-in-End-clause-went : goal.returns-in-End-clause-went
 returns-in-End-clause-went g c stream rest left total tells under within ahead held =
-    closed_here g.T.Teller.moves g.W.Replies left c.args.teller.now c.args.out.now c.args.out.now stream total
+    session_here g.T.Teller.moves g.W.Replies left c.args.teller.now c.args.out.now c.args.out.now stream total
     Ended [] (says_none g.T.Teller.moves g.W.Replies c.args.out.now)
-    (refl, inr (refl, inl ((subst (λ (h : Heard). TellsHeard stream h rest) c.in-End.is tells), under c.in-End.is, refl))) (All-nil IsNoLack) ahead
+    (inr (inl (refl, (subst (λ (h : Heard). TellsHeard stream h rest) c.in-End.is tells), under c.in-End.is, record { whole = refl; written = refl }))) (All-nil IsNoLack) ahead
     (λ is. absurd cc)
 
 pub returns-in_err-say_bad-in-Bad-clause-not_read : goal.returns-in_err-say_bad-in-Bad-clause-not_read

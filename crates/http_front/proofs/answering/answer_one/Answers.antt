@@ -2,7 +2,7 @@ use Rattle.std.proofs.Common.{◌+◌, length, ap, refl, Ok, Err}
 use Rattle.std.specs.Io.KnownBytes.{prepend_known}
 use Rattle.http_wire.specs.declared.message.MessageStop.TheVariants as stops
 use Rattle.http_front.specs.Counts.{total_of}
-use Rattle.http_front.specs.Talk.{sides}
+use Rattle.http_front.specs.Session.{sides}
 use Rattle.http_front.specs.declared.answering.SessionEnd.TheVariants as ends
 use Rattle.http_front.proofs.TalkLemmas.{ahead_here, last_stop, under_limit, unspent_here, held_back, spent_here, begun_here, went_on, went_end, reads_nothing, reads_on, same_err}
 use Rattle.http_front.proofs.answering.answer_one.Goals as goal
@@ -22,8 +22,8 @@ returns-in-Ok-clause-goes_on g c =
     (ahead_here c.args.reader.now c.next.new.self (left c.args.source.now) (left c.next.new.source) c.in-Ok.ensures.given c.next.ensures.ahead)
     (held_back c.in-Ok.heard c.next.new.self (left c.next.new.source) c.in-Ok.ensures.short))
 
-pub returns-in-Ok-clause-closed : goal.returns-in-Ok-clause-closed
-returns-in-Ok-clause-closed g c =
+pub returns-in-Ok-clause-session : goal.returns-in-Ok-clause-session
+returns-in-Ok-clause-session g c =
     let left = g.R.Source.left in
     let before = prepend_known c.args.reader.now.bytes (left c.args.source.now) in
     let after = prepend_known c.next.new.self.bytes (left c.next.new.source) in
@@ -37,8 +37,8 @@ returns-in-Ok-clause-closed g c =
     (ahead_here c.args.reader.now c.next.new.self (left c.args.source.now) (left c.next.new.source) c.in-Ok.ensures.given c.next.ensures.ahead)
     (held_back c.in-Ok.heard c.next.new.self (left c.next.new.source) c.in-Ok.ensures.short))
 
-pub returns-in-Err-clause-closed : goal.returns-in-Err-clause-closed
-returns-in-Err-clause-closed g c =
+pub returns-in-Err-clause-session : goal.returns-in-Err-clause-session
+returns-in-Err-clause-session g c =
     let left = g.R.Source.left in
     last_stop g.T.Teller.moves g.W.Replies (left c.next.new.source) c.args.teller.now c.args.out.now c.say_stop.new.out
     (prepend_known c.args.reader.now.bytes (left c.args.source.now)) (total_of c.args.reader.now.taken (left c.args.source.now)) c.in-Err.stop c.say_stop.result

@@ -1,7 +1,7 @@
 use Rattle.std.proofs.Common.{◌∙◌, ap, Err}
 use Rattle.std.specs.Io.KnownBytes.{prepend_known}
-use Rattle.http_front.specs.Talk.{sides}
-use Rattle.http_front.proofs.TalkLemmas.{talked_none, talked_then, closed_then, given_none, given_then, says_nothing, says_on, reads_nothing, reads_on, same_err}
+use Rattle.http_front.specs.Session.{sides}
+use Rattle.http_front.proofs.TalkLemmas.{talked_none, talked_then, session_then, given_none, given_then, says_nothing, says_on, reads_nothing, reads_on, same_err}
 use Rattle.http_front.specs.declared.answering.SessionEnd.TheVariants.{ReadFault, WriteFault}
 use Rattle.http_front.proofs.talking.go_on.Goals as goal
 
@@ -32,13 +32,13 @@ talking-preserved g c =
       only_reads = reads_on g.R.Source c.args.source.now c.talking.source c.answer_one.new.source c.talking.invariant.only_reads c.in-Ok.ensures.only_reads (λ no. absurd no) (λ is. absurd cc);
     }
 
-pub returns-in-Err-clause-closed : goal.returns-in-Err-clause-closed
-returns-in-Err-clause-closed g c =
+pub returns-in-Err-clause-session : goal.returns-in-Err-clause-session
+returns-in-Err-clause-session g c =
     let left = g.R.Source.left in
-    closed_then g.T.Teller.moves g.W.Replies (left c.answer_one.new.source) c.args.reader.now.taken c.talking.reader.taken (left c.args.source.now) (left c.talking.source) c.talking.invariant.given
+    session_then g.T.Teller.moves g.W.Replies (left c.answer_one.new.source) c.args.reader.now.taken c.talking.reader.taken (left c.args.source.now) (left c.talking.source) c.talking.invariant.given
     (sides c.args.teller.now c.args.out.now) (sides c.talking.teller c.talking.out) (sides c.answer_one.new.teller c.answer_one.new.out)
     (prepend_known c.args.reader.now.bytes (left c.args.source.now)) (prepend_known c.talking.reader.bytes (left c.talking.source)) c.in-Err.end
-    c.talking.invariant.talked c.in-Err.ensures.closed
+    c.talking.invariant.talked c.in-Err.ensures.session
 
 pub returns-in-Err-clause-given : goal.returns-in-Err-clause-given
 returns-in-Err-clause-given g c =

@@ -4,7 +4,8 @@ use Rattle.http_wire.specs.Held.{take_limit}
 use Rattle.http_wire.specs.Sources.{OnlyReads}
 use Rattle.http_asks.specs.Counts.{Given}
 use Rattle.http_front.specs.Saying.{OnlySays}
-use Rattle.http_front.specs.Talk.{sides, Talked}
+use Rattle.http_front.specs.Session.{sides}
+use Rattle.http_front.specs.Talk.{Talked}
 use Rattle.http_front.proofs.talking.go_on.Given as goal
 
 abbrev pub invariant-talking : goal.invariant-talking

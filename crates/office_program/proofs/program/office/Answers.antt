@@ -2,7 +2,7 @@ use Rattle.std.proofs.Common.{◌≡◌, ⊎_elim, arith, inl, inr, refl, Err, m
 use Rattle.command_line.specs.Lines.{line_of}
 use Rattle.command_line.specs.declared.line.CommandLine.{CommandLine}
 use Rattle.command_line.proofs.Ranges.{serve_in_range, explain_in_range}
-use Rattle.http_front.specs.Counts.{reading}
+use Rattle.http_front.specs.Counts.{stream_ends}
 use Rattle.http_front.specs.Exchanges.{calls_of}
 use Rattle.serving.specs.Serving.{log_calls}
 use Rattle.office_program.specs.Reporting.{TellsMonth}
@@ -43,9 +43,11 @@ returns-in-Ok-Run-clause-sound g c tells sound =
     let w = g.W.Replies in
     let has = c.sound_now.ensures.reads tells sound in (
       c.run.ensures.sound tells has.0 has.1,
-      starts_sound d k w tells (c.run.new.input ≡ c.args.input.now) (λ first. AnswersStream d k w (reading (g.S.Source.left c.args.input.now) (g.S.Source.left c.run.new.input)))
-          (λ first old new status sound a. calls_sound d k w tells journal_limit (under old) (under new) (calls_of a.talk.exchanges) sound a.answers)
-          (around c.args.disk c.args.clock c.args.out.now) (around c.run.result.disk c.run.result.clock c.run.new.out) c.run.result.status sound (c.sound_now.ensures.still tells sound) c.run.ensures.runs,
+      starts_sound d k w tells (c.run.new.input ≡ c.args.input.now)
+          (λ first. AnswersStream d k w (stream_ends (g.S.Source.left c.args.input.now) (g.S.Source.left c.run.new.input)))
+          (λ first old new status sound a. calls_sound d k w tells journal_limit (under old) (under new) (calls_of a.talk.spoken.exchanges) sound a.answers)
+          (around c.args.disk c.args.clock c.args.out.now) (around c.run.result.disk c.run.result.clock c.run.new.out) c.run.result.status sound
+          (c.sound_now.ensures.still tells sound) c.run.ensures.runs,
     )
 
 pub returns-in-Ok-Run-clause-complete : goal.returns-in-Ok-Run-clause-complete
@@ -89,7 +91,7 @@ returns-in-Ok-Report-clause-sound g c tells sound =
     let as_text = c.in-Ok-Report.asked.as_text in
     let has = c.sound_now.ensures.reads tells sound in (
       c.report.ensures.sound tells has.0 has.1,
-      starts_sound d k w tells (Unit {0}) (TellsMonth d k w month as_text) (reported_sound d k w tells month as_text)
+      starts_sound d k w tells (Unit {0}) (TellsMonth d w month as_text) (reported_sound d k w tells month as_text)
           (around c.args.disk c.args.clock c.args.out.now)
           (around c.report.result.disk c.report.result.clock c.report.new.out) c.report.result.status sound
           (c.sound_now.ensures.still tells sound) c.report.ensures.reports,
@@ -179,6 +181,7 @@ returns-in-Ok-Init-clause-causes g c =
       usage = λ one. absurd (run_none _ 1 refl e.statuses one);
       disk_fault = e.disk_fault;
       read_fault = λ three. absurd (e.not_read three);
+      read_done = λ _. refl;
       write_fault = e.write_fault;
       foreign_file = λ _ five tells. e.foreign tells five;
       port_fault = λ seven. absurd (run_none _ 7 refl e.statuses seven);
@@ -197,6 +200,7 @@ returns-in-Ok-Run-clause-causes g c =
       usage = λ one. absurd (late_none _ 1 refl (run_none _ 1 refl) e.statuses one);
       disk_fault = e.disk_fault;
       read_fault = e.read_fault;
+      read_done = e.read_done;
       write_fault = e.write_fault;
       foreign_file = λ is. absurd (not_init _ _ line (λ other. absurd cc) is);
       port_fault = λ seven. absurd (late_none _ 7 refl (run_none _ 7 refl) e.statuses seven);
@@ -215,6 +219,7 @@ returns-in-Ok-Serve-clause-causes g c =
       usage = λ one. absurd (late_none _ 1 refl (serve_none _ 1 refl) e.statuses one);
       disk_fault = e.disk_fault;
       read_fault = λ three. absurd (late_none _ 3 refl (serve_none _ 3 refl) e.statuses three);
+      read_done = λ _. refl;
       write_fault = λ four. absurd (late_none _ 4 refl (serve_none _ 4 refl) e.statuses four);
       foreign_file = λ is. absurd (not_init _ _ line (λ other. absurd cc) is);
       port_fault = e.port_fault;
@@ -233,6 +238,7 @@ returns-in-Ok-Report-clause-causes g c =
       usage = λ one. absurd (late_none _ 1 refl (report_none _ 1 refl refl) e.statuses one);
       disk_fault = e.disk_fault;
       read_fault = λ three. absurd (e.only.0 three);
+      read_done = λ _. refl;
       write_fault = e.write_fault;
       foreign_file = λ is. absurd (not_init _ _ line (λ other. absurd cc) is);
       port_fault = λ seven. absurd (e.only.1.0 seven);
@@ -251,6 +257,7 @@ returns-in-Ok-Explain-clause-causes g c =
       usage = λ one. absurd (run_none _ 1 refl e.statuses one);
       disk_fault = e.disk_fault;
       read_fault = λ three. absurd (e.only.0 three);
+      read_done = λ _. refl;
       write_fault = e.write_fault;
       foreign_file = λ is. absurd (not_init _ _ line (λ other. absurd cc) is);
       port_fault = λ seven. absurd (e.only.1.0 seven);
@@ -269,6 +276,7 @@ returns-in-Ok-Gen-clause-causes g c =
       usage = λ one. absurd (said_none _ 1 refl e.statuses one);
       disk_fault = λ two. absurd (said_none _ 2 refl e.statuses two);
       read_fault = λ three. absurd (said_none _ 3 refl e.statuses three);
+      read_done = λ _. refl;
       write_fault = e.write_fault;
       foreign_file = λ is. absurd (not_init _ _ line (λ other. absurd cc) is);
       port_fault = λ seven. absurd (said_none _ 7 refl e.statuses seven);
@@ -289,6 +297,7 @@ returns-in-Err-clause-causes g c =
       usage = refusal_line c.in-Err.fault _ c.refuse_line-status.result (λ is. c.in-Err.ensures.refused (ap Err is)) six;
       disk_fault = λ two. absurd (none 2 refl two);
       read_fault = λ three. absurd (none 3 refl three);
+      read_done = λ _. refl;
       write_fault = λ four. absurd (none 4 refl four);
       foreign_file = λ _ five. absurd (none 5 refl five);
       port_fault = λ seven. absurd (none 7 refl seven);

@@ -4,7 +4,7 @@ use Rattle.disk_core.specs.Moments.{KeepsTo}
 use Rattle.office_types.specs.declared.command.Entry.{Entry}
 use Rattle.desk_core.specs.Histories.{HasAcceptedHistory}
 use Rattle.desk_core.specs.Opening.{opened_with}
-use Rattle.office_program.proofs.MonthTold.{report_reply, told_plainly}
+use Rattle.office_program.proofs.MonthTold.{report_reply}
 use Rattle.office_program.proofs.report.say_report.Goals as goal
 
 pub say_reply-status-requires-clause-of_report : goal.say_reply-status-requires-clause-of_report
@@ -24,7 +24,7 @@ returns-clause-tells g c disk clock opens =
       any_moment = λ tells. subst (λ (x : g.row.D.Denot). KeepsTo d disk x (Narrower (d.state disk))) (sym c.finish-disk.ensures.disk) (opens.any_moment tells);
       quiet = subst (λ (x : g.row.D.Denot). d.fault_count x ≡ d.fault_count disk) (sym c.finish-disk.ensures.disk) opens.quiet;
       clock = c.finish-disk.ensures.clock ∙ opens.clock_is;
-      plain = read.2.plain;
-      is_run = read.2.is_run;
-      told = told_plainly g.W.Replies c.args.as_text c.look-reply.result _ c.args.out.now c.say_reply-status.new.out c.say_reply-status.result read.2.answered c.say_reply-status.ensures.tells;
+      reply = c.look-reply.result;
+      is_read = read.2;
+      told = c.say_reply-status.ensures.tells;
     }

@@ -15,6 +15,7 @@ returns-in-Err-clause-told g c =
         behind = c.text.new.self;
         unnoted = c.text.ensures.noted;
         lost = λ four. c.in-Err.ensures.cause.failed;
+        kept = λ not. absurd (not refl);
         silent = c.note_line.ensures.silent;
         note = subst (λ (t : List ℕ). IsNoted w c.text.new.self c.note_line.new.out t) c.end_line.ensures c.note_line.ensures.noted;
       },

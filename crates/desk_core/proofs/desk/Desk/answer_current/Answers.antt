@@ -1,4 +1,5 @@
 use Rattle.std.proofs.Common.{◌≡◌, Bool, false, IsTrue, ◌∷◌, [], ◌++◌, Err, inr, sym, ◌∙◌, subst}
+use Rattle.std.proofs.lemmas.Bool.{both_ways}
 use Rattle.disk_core.specs.declared.disk.FileNo.TheVariants.{Journal}
 use Rattle.disk_core.proofs.Laws.{laws_of}
 use Rattle.desk_core.specs.Answers.{Call}
@@ -6,7 +7,7 @@ use Rattle.desk_core.specs.Submitting.{IsOffice, HasCauses}
 use Rattle.desk_core.specs.Desk.{DeskView, IsReady, StandsFor, GoesOn, TellsFault, stale_after}
 use Rattle.desk_core.specs.Histories.{IsSound}
 use Rattle.desk_core.proofs.Reopened.{unopened_call, asked_call, sound_unbroken}
-use Rattle.desk_core.proofs.Standing.{marked_holds, still_true}
+use Rattle.desk_core.proofs.Standing.{marked_holds}
 use Rattle.desk_core.proofs.Submitted.{fresh_after, marked_causes, narrower_sound, asked_told, unopened_told}
 use Rattle.desk_core.proofs.desk.Desk.answer_current.Goals as goal
 
@@ -81,7 +82,7 @@ returns-clause-cause g c =
 pub invariant_of-self : goal.invariant_of-self
 invariant_of-self g c =
     let d = g.D.Disk in (
-      λ fresh. absurd (still_true c.self.inside.engine.stale c.in-Err.ensures.unopened.is_stale (sym c.refresh.ensures.stale ∙ fresh)),
+      λ fresh. absurd (both_ways c.self.inside.engine.stale (sym c.refresh.ensures.stale ∙ fresh) c.in-Err.ensures.unopened.is_stale),
       λ tells. narrower_sound (d.state c.self.inside.engine.disk) (d.state c.refresh.new.self.disk) (c.self.invariant.1 tells) (c.in-Err.ensures.any_moment tells).now,
     )
 

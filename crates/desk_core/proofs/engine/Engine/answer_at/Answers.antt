@@ -1,28 +1,29 @@
 use Rattle.std.proofs.Common.{ℕ, inl, sym, subst}
 use Rattle.office_types.specs.declared.command.Ask.{Ask}
 use Rattle.office_types.specs.declared.command.Ask.TheVariants.{Command, Query}
-use Rattle.desk_core.specs.Answering.{AnswersInTime}
+use Rattle.desk_core.specs.Answering.{call_time, AnswersInTime}
 use Rattle.desk_core.proofs.engine.Engine.answer_at.Goals as goal
 
 pub returns-in-Command-clause-answers : goal.returns-in-Command-clause-answers
 returns-in-Command-clause-answers g c before hold =
     let d = g.D.Disk in
     let keeps = subst
-    (λ (t : ℕ). AnswersInTime d t c.args.told (Command c.in-Command.command) hold.office.plain before c.args.self.now c.run_command.new.self c.run_command.result) c.in-Ok.ensures.ok.0
+    (λ (t : ℕ). AnswersInTime d (call_time t c.args.told) (Command c.in-Command.command) hold.office.plain before c.args.self.now c.run_command.new.self c.run_command.result) c.in-Ok.ensures.ok.0
     (c.run_command.ensures.keeps before hold) in
     inl (
       c.in-Ok.ensures.ok.1,
-      subst (λ (q : Ask). AnswersInTime d c.args.moment c.args.told q hold.office.plain before c.args.self.now c.run_command.new.self c.run_command.result)
+      subst (λ (q : Ask). AnswersInTime d (call_time c.args.moment c.args.told) q hold.office.plain before c.args.self.now c.run_command.new.self c.run_command.result)
           (sym c.in-Command.is) keeps,
     )
 
 pub returns-in-Query-clause-answers : goal.returns-in-Query-clause-answers
 returns-in-Query-clause-answers g c before hold =
     let d = g.D.Disk in
-    let keeps = subst (λ (t : ℕ). AnswersInTime d t c.args.told (Query c.in-Query.query) hold.office.plain before c.args.self.now c.args.self.now c.answer_query.result) c.in-Ok.ensures.ok.0
+    let keeps = subst
+    (λ (t : ℕ). AnswersInTime d (call_time t c.args.told) (Query c.in-Query.query) hold.office.plain before c.args.self.now c.args.self.now c.answer_query.result) c.in-Ok.ensures.ok.0
     (c.answer_query.ensures.keeps before hold) in
     inl (
       c.in-Ok.ensures.ok.1,
-      subst (λ (q : Ask). AnswersInTime d c.args.moment c.args.told q hold.office.plain before c.args.self.now c.args.self.now c.answer_query.result)
+      subst (λ (q : Ask). AnswersInTime d (call_time c.args.moment c.args.told) q hold.office.plain before c.args.self.now c.args.self.now c.answer_query.result)
           (sym c.in-Query.is) keeps,
     )
