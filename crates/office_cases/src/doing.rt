@@ -2,8 +2,10 @@
 use crate::running::{given_command, given_messages, run};
 use crate::telling::{tell, tell_others};
 use anyhow::{Result, bail};
-use case_table::{Case, Command, Session, Step, Stops, add_messages, count_images, disk_of, number_of, put_counted};
-use case_table::{put_lines, put_times, start, tell_replies};
+use case_table::{
+    Case, Command, Session, Step, Stops, add_messages, count_images, disk_of, number_of,
+    put_counted, put_lines, put_times, start, tell_replies,
+};
 use disk_core::{Disk, FileNo, MemoryDisk};
 use meter_journal::read_all;
 use std::alloc::Global;
