@@ -1,8 +1,9 @@
 #!/usr/bin/env python3
 """Builds a program with all processors busy: python3 tools/build.py CRATE
 
-Crates below CRATE are proved side by side, those with the longest chain above them first, and then `rt run` builds the
-program. How far it is goes to standard error, and what rt says to crates/CRATE/build.log. Status 3: not possible here.
+Crates below CRATE are proved side by side, and then `rt run` builds the program. The crate with the longest chain above it
+starts at once, and the others work with what it leaves of the processors. How far it is goes to standard error, and what rt
+says to crates/CRATE/build.log. Status 3: not possible here.
 
 A run of rt holds its crate and all below it, so two crates over a common one would wait for each other. Here each is
 proved in a tree of its own in .build/, with hard links to what is below it; its folder out/ is moved there and back.
@@ -67,14 +68,15 @@ def hold(names):
 
 
 class Run:
-    """A run of rt on one crate, whose folder is given."""
+    """A run of rt on one crate, whose folder is given. With `aside` it works with what others leave of the processors."""
 
-    def __init__(self, name, folder, verb, jobs, log):
+    def __init__(self, name, folder, verb, jobs, log, aside=False):
         self.name, self.folder, self.jobs, self.log, self.started = name, folder, jobs, log, time.time()
         how = {"cwd": folder, "stdin": subprocess.DEVNULL, "stderr": subprocess.STDOUT}
         with open(log, "ab") as out:
             self.from_byte = out.tell()
-            self.child = subprocess.Popen(["rt", verb, "--jobs", str(jobs)], stdout=out, **how)
+            words = [*(("nice", "-n", "10") if aside else ()), "rt", verb, "--jobs", str(jobs)]
+            self.child = subprocess.Popen(words, stdout=out, **how)
 
     def functions(self):
         """Returns how many functions are checked: what rt says, or else the files that it kept of them."""
@@ -85,7 +87,7 @@ class Run:
         return str(sum(it.stat().st_mtime >= self.started for it in kept if it.exists()))
 
 
-def start_apart(name, jobs, rows, lower):
+def start_apart(name, jobs, rows, lower, aside):
     """Starts a run on the crate in a tree of its own."""
     tree = f"{TREES}/{name}"
     for it in [*lower, name]:
@@ -95,7 +97,7 @@ def start_apart(name, jobs, rows, lower):
     Path(tree, "crates.txt").write_text("".join(f"{rows[it]}\n" for it in [*lower, name]), encoding="utf-8")
     if os.path.isdir(f"{ROOT}/crates/{name}/out"):
         os.rename(f"{ROOT}/crates/{name}/out", f"{tree}/crates/{name}/out")
-    return Run(name, f"{tree}/crates/{name}", "lib", jobs, f"{tree}/log")
+    return Run(name, f"{tree}/crates/{name}", "lib", jobs, f"{tree}/log", aside)
 
 
 def end_apart(run, log):
@@ -123,18 +125,24 @@ class Build:
             self.chain[it] = self.cost[it] + max([self.chain[up] for up in self.chain if it in self.uses[up]] or [0])
         self.running, self.told, self.begun = [], 0, time.time()
         free = 1024 * int(re.search(r"MemAvailable:\s+(\d+)", Path("/proc/meminfo").read_text(encoding="ascii"))[1])
-        self.jobs = max(1, min(len(os.sched_getaffinity(0)), free // JOB_BYTES))
+        self.room = max(1, free // JOB_BYTES)
+        self.jobs = min(len(os.sched_getaffinity(0)), self.room)
 
     def start(self):
-        """Starts what can be started, with a share of the free processors; the longest chain has at least half."""
-        longest = max((it for it in self.names if it not in self.done), key=self.chain.get)
+        """Starts what can be started: the crate with the longest chain with a job for each processor, as far as half of the
+        memory goes, and others with a share of the jobs that are left, one for each processor too."""
+        longest = max((it for it in self.names[:-1] if it not in self.done), key=self.chain.get)
         begun = [*self.done, *(it.name for it in self.running)]
         ready = [it for it in self.names[:-1] if it not in begun and {*self.uses[it]} <= {*self.done}]
         ready.sort(key=self.chain.get)
-        while ready and (free := self.jobs - sum(it.jobs for it in self.running)) > 0:
+        most = min(self.jobs, -(-self.room // 2))
+        if longest in ready:
+            ready.remove(longest)
+            self.running.append(start_apart(longest, most, self.rows, below(longest, self.uses), aside=False))
+        others = min(self.jobs, self.room - most)
+        while ready and (free := others - sum(it.jobs for it in self.running if it.name != longest)) > 0:
             share, name = -(-free // len(ready)), ready.pop()
-            jobs = max(share, -(-self.jobs // 2)) if name == longest else share
-            self.running.append(start_apart(name, jobs, self.rows, below(name, self.uses)))
+            self.running.append(start_apart(name, share, self.rows, below(name, self.uses), aside=True))
 
     def tell(self):
         """Says every 15 seconds how far the build is, and sleeps for a moment."""

@@ -1,11 +1,14 @@
 // What is done in a case, in order, and what is printed of it.
-use crate::cases::{Case, Command, Step, Stops, number_of};
-use crate::running::{disk_of, given_command, given_messages, run, start};
-use crate::telling::{put_lines, put_times, tell, tell_others, tell_replies};
+use crate::running::{given_command, given_messages, run};
+use crate::telling::{tell, tell_others};
 use anyhow::{Result, bail};
+use case_table::{
+    Case, Command, Session, Step, Stops, add_messages, count_images, disk_of, number_of,
+    put_counted, put_lines, put_times, start, tell_replies,
+};
 use disk_core::{Disk, FileNo, MemoryDisk};
 use meter_journal::read_all;
-use std::alloc::{AllocError, Global};
+use std::alloc::Global;
 use std::collections::BTreeMap;
 use std::fmt::Write;
 use std::sync::Wait;
@@ -13,87 +16,6 @@ use std::thread::Threads;
 
 /// The size of the pieces in which input comes, in bytes, where a case says none.
 const CUT: usize = 8192;
-
-// The message of a step for a number, as a client sends it.
-fn message_of(alloc: Global, step: &Step, number: &str) -> Result<String> {
-    let ask = step.ask.as_str().replace(alloc, "{n}", number)?;
-    let body = match &step.body {
-        Some(body) => body.as_str().replace(alloc, "{n}", number)?,
-        None => String::new(alloc),
-    };
-    let length = body.len();
-    let text = format!(in alloc;
-        "{ask} HTTP/1.1\r\nHost: x\r\nContent-Length: {length}\r\n\r\n{body}"
-    )?;
-    Ok(text)
-}
-
-/// The messages of a session so far, and what was said to them.
-#[derive(Drop)]
-struct Session {
-    words: Vec<String>,
-    cut: usize,
-    input: String,
-    clock: Vec<u64>,
-    said: Vec<u8>,
-}
-
-impl Session {
-    fn new(alloc: Global, cut: usize) -> Result<Session, AllocError> {
-        let mut words = Vec::new(alloc);
-        words.push(String::from_str(alloc, "run")?)?;
-        Ok(Session {
-            words,
-            cut,
-            input: String::new(alloc),
-            clock: vec![in alloc; 0]?,
-            said: Vec::new(alloc),
-        })
-    }
-}
-
-// Adds the messages of a step to a session, and gives them.
-fn add_messages(alloc: Global, session: &mut Session, step: &Step, at: u64) -> Result<String> {
-    let [first, last] = step.numbers.unwrap_or([0, 0]);
-    let mut messages = String::new(alloc);
-    for n in first..=last {
-        let number = format!(in alloc; "{n}")?;
-        let message = message_of(alloc, step, number.as_str())?;
-        messages.push_str(message.as_str())?;
-        session.clock.push(at)?;
-    }
-    session.input.push_str(messages.as_str())?;
-    Ok(messages)
-}
-
-// Prints replies, those that are the same right behind one another once, with how often. Where they are numbered, from
-// the first number on, each has `{n}` in place of its own.
-fn put_counted(
-    page: &mut String,
-    alloc: Global,
-    numbered: bool,
-    first: u64,
-    replies: &[String],
-) -> Result<()> {
-    let mut last = String::new(alloc);
-    let mut times = 0u64;
-    for (place, reply) in replies.iter().enumerate() {
-        let told = if numbered {
-            let number = format!(in alloc; "{}", first.saturating_add(place as u64))?;
-            reply.as_str().replace(alloc, number.as_str(), "{n}")?
-        } else {
-            reply.clone()?
-        };
-        if told != last {
-            put_times(page, times, last.as_str())?;
-            last = told;
-            times = 0;
-        }
-        times = times.saturating_add(1);
-    }
-    put_times(page, times, last.as_str())?;
-    Ok(())
-}
 
 // Sends the messages of a step in a run of their own, and prints what they are answered. The first number of the clock
 // is that of the run itself.
@@ -206,16 +128,6 @@ fn tell_disk(alloc: Global, page: &mut String, case: &Case, disk: &mut MemoryDis
         }
     }
     Ok(())
-}
-
-// How often each of these images comes.
-fn count_images(alloc: Global, images: Vec<Vec<u8>>) -> Result<BTreeMap<Vec<u8>, u64>> {
-    let mut counts = BTreeMap::new(alloc);
-    for image in images {
-        let times = counts.get(&image).copied().unwrap_or(0u64);
-        counts.insert(image, times.saturating_add(1))?;
-    }
-    Ok(counts)
 }
 
 // Prints what the message of these stops is answered over images of the journal, each answer once, with how often.

@@ -1,14 +1,13 @@
 //! Runs the cases of a TOML document over the program, each on a disk in memory, and prints what the program did.
 #![tactic(auto)]
 
-mod cases;
 mod doing;
 mod running;
 mod telling;
 
-use crate::cases::Document;
 use crate::doing::tell_case;
 use anyhow::{Context, Result};
+use case_table::Document;
 use std::alloc::Global;
 use std::io;
 use std::process::ExitCode;

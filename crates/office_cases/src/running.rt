@@ -1,8 +1,8 @@
 // One command of the program, over a disk in memory.
-use crate::cases::{Case, Command, bytes_of, number_of};
 use anyhow::{Result, bail};
+use case_table::{Command, number_of};
 use desk_core::ListClock;
-use disk_core::{Disk, FileNo, MemoryDisk};
+use disk_core::MemoryDisk;
 use http_front::MemoryReplies;
 use http_wire::MemorySource;
 use office_program::{End, office};
@@ -10,9 +10,6 @@ use serving::{MemoryPort, OpenGate};
 use std::alloc::Global;
 use std::sync::Wait;
 use std::thread::Threads;
-
-/// The journal file without entries.
-const MADE: &[u8] = b"\xA5METERJRN1\x00";
 
 /// What a command of the program is given, but for the disk.
 #[derive(Drop)]
@@ -108,44 +105,4 @@ pub fn given_command(alloc: Global, command: &Command, cut: usize) -> Result<Giv
         out: MemoryReplies::new(alloc, command.failing_texts.to_vec(alloc)?),
         port: port_of(alloc, &command.connections, &command.failing_port)?,
     })
-}
-
-// Writes to the journal file, at most at its end.
-fn write_journal(disk: &mut MemoryDisk, at: u64, bytes: &[u8]) -> Result<()> {
-    let Ok(length) = disk.length(FileNo::Journal) else {
-        bail!("the length of the journal is not told");
-    };
-    if length < at {
-        bail!("a write at {at} is past the end");
-    }
-    if disk.write_at(FileNo::Journal, at, bytes).is_err() {
-        bail!("a write at {at} failed");
-    }
-    Ok(())
-}
-
-/// A disk with this journal file, whose write is its call 1.
-pub fn disk_of(alloc: Global, journal: &[u8], failing: &[u64]) -> Result<MemoryDisk> {
-    let mut disk = MemoryDisk::new(alloc, failing.to_vec(alloc)?);
-    if disk.write_at(FileNo::Journal, 0, journal).is_err() {
-        bail!("the journal was not written");
-    }
-    Ok(disk)
-}
-
-/// The disk with which a case starts.
-pub fn start(alloc: Global, case: &Case) -> Result<MemoryDisk> {
-    let journal = match &case.journal {
-        None => Vec::new(alloc),
-        Some(word) if word.as_str() == "made" => MADE.to_vec(alloc)?,
-        Some(digits) => bytes_of(alloc, digits.as_str())?,
-    };
-    let mut disk = disk_of(alloc, &journal, &case.failing)?;
-    for write in &case.write {
-        if write.synced && disk.sync(FileNo::Journal).is_err() {
-            bail!("the journal was not synced");
-        }
-        write_journal(&mut disk, write.at, &bytes_of(alloc, write.bytes.as_str())?)?;
-    }
-    Ok(disk)
 }

@@ -10,7 +10,8 @@ use Rattle.http_front.specs.declared.answering.SessionEnd.{SessionEnd}
 use Rattle.http_front.specs.declared.answering.SessionEnd.TheVariants as ends
 use Rattle.serving.specs.declared.worker.WorkerEnd.{WorkerEnd}
 use Rattle.serving.specs.declared.worker.WorkerEnd.TheVariants as workers
-use Rattle.office_program.specs.Lines.{session_exit, fault_exit, workers_exit, IsRunExit, IsReportExit, IsServeExit, IsDoneExit}
+use Rattle.office_commands.specs.Lines.{session_exit, fault_exit, IsRunExit, IsReportExit, IsDoneExit}
+use Rattle.office_program.specs.Workers.{workers_exit, IsServeExit}
 
 module _ (status : ℕ) (store : status ≡ 2 → ⊥) (journal : status ≡ 5 → ⊥) where
   fault_done : (fault : OpenFault) → status ≡ fault_exit fault → IsDoneExit status
@@ -49,27 +50,6 @@ module _ (status : ℕ) (store : status ≡ 2 → ⊥) (journal : status ≡ 5 �
     pub serve_done : IsServeExit status → IsDoneExit status
     serve_done (inl end) = workers_done end.0 end.1 end.2
     serve_done (inr fault) = fault_done fault.0 fault.1
-
--- a fault that the bytes do not tell of is not status 5
-pub not_five : (fault : OpenFault) (status : ℕ) → (fault ≡ faults.StoreFault) ⊎ (fault ≡ faults.NoMemory) → status ≡ fault_exit fault → status ≡ 5 → ⊥
-not_five faults.StoreFault status other is five = omega (arith, is, five)
-not_five faults.NoMemory status other is five = omega (arith, is, five)
-not_five faults.NotMade status (inl store) is five = absurd cc
-not_five faults.NotMade status (inr memory) is five = absurd cc
-not_five faults.Foreign status (inl store) is five = absurd cc
-not_five faults.Foreign status (inr memory) is five = absurd cc
-not_five (faults.Damaged at) status (inl store) is five = absurd cc
-not_five (faults.Damaged at) status (inr memory) is five = absurd cc
-
--- where a text was said, or not
-pub said_is_run : (status : ℕ) → (status ≡ 0) ⊎ ((status ≡ 4) ⊎ (status ≡ 6)) → IsRunExit status
-said_is_run status (inl is) = inl (ends.Ended, false, is)
-said_is_run status (inr (inl is)) = inl (ends.WriteFault, false, is)
-said_is_run status (inr (inr is)) = inl (ends.NoMemory, false, is)
-
-pub said_is_report : (status : ℕ) → (status ≡ 10) ⊎ ((status ≡ 0) ⊎ ((status ≡ 4) ⊎ (status ≡ 6))) → IsReportExit status
-said_is_report status (inl ten) = inl ten
-said_is_report status (inr said) = inr (said_is_run status said)
 
 -- ---- which numbers are the statuses of each command
 

@@ -1,6 +1,4 @@
-pub mod Answering
 pub mod Done
-pub mod MadeSo
-pub mod MonthTold
 pub mod Owning
 pub mod Soundness
+pub mod Working

@@ -3,7 +3,7 @@ use Rattle.std.proofs.Common.{◌≡◌, ◌∙◌, ⊎_elim, sym, ℕ, List, Op
 use Rattle.command_line.specs.Lines.{Line, init, run, serve}
 use Rattle.http_front.specs.declared.replies.Replies as sinks
 use Rattle.office_program.specs.Commands.{IsServe, TouchesOwn}
-use Rattle.office_program.specs.Running.{SaysNoReply, NotesNothing}
+use Rattle.office_commands.specs.Running.{SaysNoReply, NotesNothing}
 
 -- ---- what a line is not
 

@@ -13,10 +13,10 @@ use Rattle.desk_core.specs.Histories.{HasAcceptedHistory, IsSound}
 use Rattle.desk_core.specs.Runs.{Outside, AnswersCalls}
 use Rattle.desk_core.proofs.Submitted.{narrower_sound}
 use Rattle.http_front.specs.declared.replies.Replies as sinks
-use Rattle.office_program.specs.Making.{Inits}
-use Rattle.office_program.specs.Explaining.{Explains}
-use Rattle.office_program.specs.Reporting.{TellsMonth}
-use Rattle.office_program.specs.Running.{Surroundings, FailsToOpen, Starts}
+use Rattle.office_commands.specs.Making.{Inits}
+use Rattle.office_commands.specs.Explaining.{Explains}
+use Rattle.office_commands.specs.Reporting.{TellsMonth}
+use Rattle.office_commands.specs.Running.{Surroundings, FailsToOpen, Starts}
 
 -- ---- what is read has a history
 

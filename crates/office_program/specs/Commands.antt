@@ -3,8 +3,9 @@ use Rattle.std.specs.Prelude.{◌≡◌, ◌⊎◌, ◌≤◌, ℕ, Bool, String
 use Rattle.office_base.specs.Faults.{Rose}
 use Rattle.command_line.specs.Lines.{Line, asked, init, run, serve, report}
 use Rattle.http_front.specs.declared.replies.Replies as sinks
-use Rattle.office_program.specs.Lines.{usage_note, IsReportExit, IsServeExit}
-use Rattle.office_program.specs.Running.{Surroundings, IsNoted, IsSilent, SaysNoReply, NotesNothing, IsUnread}
+use Rattle.office_commands.specs.Lines.{usage_note, IsReportExit}
+use Rattle.office_program.specs.Workers.{IsServeExit}
+use Rattle.office_commands.specs.Running.{Surroundings, IsNoted, IsSilent, SaysNoReply, NotesNothing, IsUnread}
 
 -- the command line that these words are, where they are one
 abbrev pub asks : {A : Type 0} → List (String A) → Option Line

@@ -1,7 +1,2 @@
 pub mod Commands
-pub mod Explaining
-pub mod Lines
-pub mod Loading
-pub mod Making
-pub mod Reporting
-pub mod Running
+pub mod Workers

@@ -10,42 +10,27 @@ ghost use Rattle.command_line.specs.Lines.{init as init_line, run as run_line, s
 ghost use Rattle.command_line.specs.Lines.{report as report_line, explain as explain_line, gen as gen_line};
 ghost use Rattle.http_front.specs.declared.answering.SessionEnd.TheVariants.{NoMemory};
 ghost use Rattle.office_program.specs.Commands.{asks, faults, Obeys, RefusesWords, TouchesOwn, IsCaused, NoneFailed};
-ghost use Rattle.office_program.specs.Lines.{usage_note, end_note, IsDoneExit};
-ghost use Rattle.office_program.specs.Making.{InitsAlone};
-ghost use Rattle.office_program.specs.Explaining.{Explains};
-ghost use Rattle.office_program.specs.Loading.{Loads};
-ghost use Rattle.office_program.specs.Reporting.{Reports};
-ghost use Rattle.office_program.specs.Running.{around, IsNoted, IsSilent, Connects, IsBalanced, Runs, ServesPort};
+ghost use Rattle.office_commands.specs.Lines.{usage_note, end_note, IsDoneExit};
+ghost use Rattle.office_commands.specs.Making.{InitsAlone};
+ghost use Rattle.office_commands.specs.Explaining.{Explains};
+ghost use Rattle.office_commands.specs.Loading.{Loads};
+ghost use Rattle.office_commands.specs.Reporting.{Reports};
+ghost use Rattle.office_commands.specs.Running.{around, IsNoted, IsSilent, Runs};
+ghost use Rattle.office_program.specs.Workers.{Connects, IsBalanced, ServesPort};
 
-use crate::init::init;
-use crate::lines::{MEMORY, USAGE, end_line, note_line, usage};
-use crate::load::load;
-use crate::report::report;
-use crate::run::run;
 use crate::serve::serve;
-use crate::stays::stays;
 use command_line::{CommandLine, LineFault, read_line};
 use desk_core::Clock;
 use disk_core::Disk;
 use http_front::{Replies, SessionEnd};
 use http_wire::Source;
+use office_commands::{
+    End, MEMORY, USAGE, end_line, init, load, note_line, report, run, stays, usage,
+};
 use serving::{Gate, Port};
 use std::alloc::Global;
 use std::sync::Wait;
 use std::thread::Threads;
-
-/// How a command of the program ended, with what was handed in.
-#[derive(Drop)]
-pub struct End<D, C> {
-    /// The exit status.
-    pub status: u8,
-    pub disk: D,
-    pub clock: C,
-}
-
-/// The most bytes that the program's journal file has: 1 GiB. Own rule: an operator can read a journal of this size
-/// at once.
-pub const JOURNAL_LIMIT: u64 = 1_073_741_824;
 
 // States of a disk each of whose images has a history that what it reads has one, and that it has such images as
 // long as it is left alone. It does nothing.

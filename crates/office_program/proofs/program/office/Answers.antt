@@ -5,9 +5,11 @@ use Rattle.command_line.proofs.Ranges.{serve_in_range, explain_in_range}
 use Rattle.http_front.specs.Counts.{stream_ends}
 use Rattle.http_front.specs.Exchanges.{calls_of}
 use Rattle.serving.specs.Serving.{log_calls}
-use Rattle.office_program.specs.Reporting.{TellsMonth}
-use Rattle.office_program.specs.Running.{around, under, journal_limit, AnswersStream, AnswersWorkers, Connects}
-use Rattle.office_program.proofs.Done.{said_is_run, init_not_explain, run_done, report_done, serve_done, init_not_run, init_not_report, init_not_serve}
+use Rattle.office_commands.specs.Reporting.{TellsMonth}
+use Rattle.office_commands.specs.Running.{around, under, journal_limit, AnswersStream}
+use Rattle.office_program.specs.Workers.{AnswersWorkers, Connects}
+use Rattle.office_commands.proofs.Said.{said_is_run}
+use Rattle.office_program.proofs.Done.{init_not_explain, run_done, report_done, serve_done, init_not_run, init_not_report, init_not_serve}
 use Rattle.command_line.specs.declared.line.LineFault.TheVariants.{NotALine, NoMemory}
 use Rattle.office_program.proofs.Done.{run_none, serve_none, said_none, late_none, report_none}
 use Rattle.office_program.proofs.Done.{refusal_none, refusal_known, refusal_line}

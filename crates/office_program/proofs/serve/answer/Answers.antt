@@ -1,9 +1,9 @@
 use Rattle.std.proofs.Common.{◌≡◌, Bool, inr, sym, subst}
 use Rattle.desk_core.specs.Runs.{AnswersCalls, outside}
 use Rattle.serving.specs.Serving.{log_calls}
-use Rattle.office_program.specs.Lines.{workers_exit, workers_note}
-use Rattle.office_program.specs.Running.{journal_limit, IsNoted}
-use Rattle.office_program.proofs.Answering.{port_seven}
+use Rattle.office_program.specs.Workers.{workers_exit, workers_note}
+use Rattle.office_commands.specs.Running.{journal_limit, IsNoted}
+use Rattle.office_program.proofs.Working.{port_seven}
 use Rattle.office_program.proofs.serve.answer.Goals as goal
 
 pub returns-clause-answers : goal.returns-clause-answers

@@ -1,5 +1,5 @@
 use Rattle.std.proofs.Common.{◌∙◌, ap}
-use Rattle.office_program.proofs.Answering.{zero_unnoted_workers}
+use Rattle.office_program.proofs.Working.{zero_unnoted_workers}
 use Rattle.office_program.proofs.serve.close.Goals as goal
 
 pub returns-clause-unnoted : goal.returns-clause-unnoted

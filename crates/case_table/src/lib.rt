@@ -1,0 +1,12 @@
+//! The cases of a document, the disks and messages that they ask for, and the texts that are printed of what was done.
+#![tactic(auto)]
+
+mod cases;
+mod disks;
+mod messages;
+mod texts;
+
+pub use cases::{Case, Command, Document, Step, Stops, Write, bytes_of, number_of};
+pub use disks::{count_images, disk_of, start};
+pub use messages::{Session, add_messages};
+pub use texts::{put_bytes, put_counted, put_lines, put_times, tell_replies};

@@ -1,0 +1,4 @@
+pub mod Answering
+pub mod MadeSo
+pub mod MonthTold
+pub mod Said

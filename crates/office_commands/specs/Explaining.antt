@@ -1,0 +1,32 @@
+-- What the table of stays prints.
+use Rattle.std.specs.Prelude.{◌≡◌, ◌⊎◌, ℕ, List, IsTrue}
+use Rattle.disk_core.specs.declared.disk.Disk as disks
+use Rattle.disk_core.specs.Fronts.{Narrower}
+use Rattle.disk_core.specs.Moments.{KeepsTo}
+use Rattle.desk_core.specs.declared.clock.Clock as clocks
+use Rattle.stay_explain.specs.Explaining.{IsTableOf}
+use Rattle.http_front.specs.declared.replies.Replies as sinks
+use Rattle.office_commands.specs.Running.{Surroundings, IsPutOut, FailsToOpen}
+
+module _ {D : Type 0} (d : disks.Ghosts D) where
+  -- What was read is the journal file, and the text is the table of stays of its history: also of a disk that tells
+  -- nothing the text is some journal's table, and never made up.
+  pub record ReadsTable (disk : D) (text : List ℕ) : Type 0 where
+    pub file : List ℕ
+    pub seen : IsTrue d.honest → file ≡ (d.state disk).journal.seen
+    pub table : IsTableOf file text
+
+module _ {D C W : Type 0} (d : disks.Ghosts D) (k : clocks.Ghosts C) (w : sinks.Ghosts W) where
+  -- What is said is the table of stays of the journal's history, from which a bill can be checked by hand (own).
+  -- Nothing is written, the disk did not fail, and the clock tells no number.
+  pub record TellsTable (old new : Surroundings D C W) (status : ℕ) : Type 0 where
+    pub text : List ℕ
+    pub table : ReadsTable d old.disk text
+    pub any_moment : IsTrue d.honest → KeepsTo d old.disk new.disk (Narrower (d.state old.disk))
+    pub quiet : d.fault_count new.disk ≡ d.fault_count old.disk
+    pub clock : new.clock ≡ old.clock
+    pub told : IsPutOut w text old.out new.out status
+
+  -- so `explain` does, or the journal is refused as at an opening
+  abbrev pub Explains : Surroundings D C W → Surroundings D C W → ℕ → Type 0
+  Explains old new status = TellsTable old new status ⊎ FailsToOpen d k w old new status

@@ -1,0 +1,6 @@
+pub mod Explaining
+pub mod Lines
+pub mod Loading
+pub mod Making
+pub mod Reporting
+pub mod Running

@@ -1,0 +1,87 @@
+-- The statuses of the program, and the lines that it prints.
+use Rattle.std.specs.Prelude.{◌≡◌, ◌⊎◌, ℕ, Bool, true, false, List, [], ◌∷◌, ◌++◌, codes, decimal}
+use Rattle.meter_journal.specs.declared.fault.OpenFault.{OpenFault}
+use Rattle.meter_journal.specs.declared.fault.OpenFault.TheVariants as faults
+use Rattle.meter_journal.specs.declared.making.Made.{Made}
+use Rattle.meter_journal.specs.declared.making.Made.TheVariants as mades
+use Rattle.http_front.specs.declared.answering.SessionEnd.{SessionEnd}
+use Rattle.http_front.specs.declared.answering.SessionEnd.TheVariants as ends
+
+-- ---- statuses (own)
+
+-- of a run whose session ended so, with a desk that is stale then or not; where two hold, the first of 4, 3, 9, 2 and 6
+-- (own)
+abbrev pub session_exit : SessionEnd → Bool → ℕ
+session_exit ends.WriteFault stale = 4
+session_exit ends.ReadFault stale = 3
+session_exit ends.Spent stale = 9
+session_exit ends.NoMemory true = 2
+session_exit ends.NoMemory false = 6
+session_exit ends.Ended true = 2
+session_exit ends.Ended false = 0
+
+-- of a journal that was not opened, or not made
+abbrev pub fault_exit : OpenFault → ℕ
+fault_exit faults.StoreFault = 2
+fault_exit faults.NotMade = 5
+fault_exit faults.Foreign = 5
+fault_exit (faults.Damaged at) = 5
+fault_exit faults.NoMemory = 6
+
+-- the status of a session, however it ended
+abbrev pub IsSessionExit : ℕ → Type 0
+IsSessionExit status = (end : SessionEnd) × (stale : Bool) × (status ≡ session_exit end stale)
+
+-- the status of a command that opens the office for a session, or cannot open it
+abbrev pub IsRunExit : ℕ → Type 0
+IsRunExit status = IsSessionExit status ⊎ ((fault : OpenFault) × (status ≡ fault_exit fault))
+
+-- the status of a report: that of a run, or that there is no tariff
+abbrev pub IsReportExit : ℕ → Type 0
+IsReportExit status = (status ≡ 10) ⊎ IsRunExit status
+
+-- the status of a command that was done, but for want of memory, too long an input, and a report without a tariff
+abbrev pub IsDoneExit : ℕ → Type 0
+IsDoneExit status = (status ≡ 0) ⊎ ((status ≡ 6) ⊎ ((status ≡ 9) ⊎ (status ≡ 10)))
+
+-- ---- lines
+
+-- a text with the newline behind it
+abbrev pub line : List ℕ → List ℕ
+line text = text ++ 10 ∷ []
+
+-- what is printed once a journal is made
+abbrev pub made_line : Made → List ℕ
+made_line mades.Now = line (codes "made")
+made_line mades.Before = line (codes "already made")
+
+-- what is noted of words that are no command line
+unfoldable pub usage_note : List ℕ
+usage_note = line (codes
+    "usage: office init; run; serve --listen A [--workers N] [--connections K]; report MONTH [--text]; explain [--workers N]; gen NUMBER COUNT")
+
+-- of a clock that is at its end
+unfoldable pub clock_note : List ℕ
+clock_note = line (codes "clock: at its end")
+
+-- of a report where no tariff is set
+unfoldable pub tariff_note : List ℕ
+tariff_note = line (codes "report: no tariff")
+
+-- of the end of a session, with a desk that is stale then or not; nothing where all was done
+unfoldable pub end_note : SessionEnd → Bool → List ℕ
+end_note ends.WriteFault stale = line (codes "output: failed")
+end_note ends.ReadFault stale = line (codes "input: failed")
+end_note ends.Spent stale = line (codes "input: too long")
+end_note ends.NoMemory true = line (codes "store: failed")
+end_note ends.NoMemory false = line (codes "memory: refused")
+end_note ends.Ended true = line (codes "store: failed")
+end_note ends.Ended false = []
+
+-- of a journal that was not opened, or not made
+unfoldable pub fault_note : OpenFault → List ℕ
+fault_note faults.StoreFault = line (codes "store: failed")
+fault_note faults.NotMade = line (codes "journal: not made")
+fault_note faults.Foreign = line (codes "journal: foreign")
+fault_note (faults.Damaged at) = line (codes "journal: damaged at " ++ decimal at)
+fault_note faults.NoMemory = line (codes "memory: refused")

@@ -1,0 +1,57 @@
+-- What the report of a month prints (S3 User Guide, "Understanding your AWS billing and usage reports for Amazon S3").
+use Rattle.std.specs.Prelude.{◌≡◌, ◌⊎◌, ℕ, Bool, true, false, List, Result, Ok, Err, IsTrue}
+use Rattle.disk_core.specs.declared.disk.Disk as disks
+use Rattle.disk_core.specs.Fronts.{Narrower}
+use Rattle.disk_core.specs.Moments.{KeepsTo}
+use Rattle.office_types.specs.declared.command.Entry.{Entry}
+use Rattle.office_types.specs.declared.command.Query.TheVariants as query
+use Rattle.office_types.specs.declared.reply.Reply.{Reply}
+use Rattle.office_types.specs.declared.reply.Reply.TheVariants as reply
+use Rattle.office_types.specs.declared.reply.ReportLine.{ReportLine}
+use Rattle.office_types.specs.declared.refusal.Refusal.{Refusal}
+use Rattle.office_types.specs.declared.refusal.Refusal.TheVariants.{NoTariff, NoMemory}
+use Rattle.usage_report.specs.Csv.{report_csv}
+use Rattle.usage_report.specs.Tables.{report_text}
+use Rattle.desk_core.specs.declared.clock.Clock as clocks
+use Rattle.desk_core.specs.Histories.{HasAcceptedHistory}
+use Rattle.desk_core.specs.Looking.{IsRead}
+use Rattle.http_front.specs.declared.replies.Replies as sinks
+use Rattle.office_commands.specs.Lines.{tariff_note}
+use Rattle.office_commands.specs.Running.{Surroundings, IsNoted, IsSilent, IsPutOut, RunsOut, Starts}
+
+-- a report is printed as a table to read, or as CSV
+abbrev pub report_bytes : Bool → List ReportLine → List ℕ
+report_bytes true lines = report_text lines
+report_bytes false lines = report_csv lines
+
+-- a reply of the office to that query, or that memory ran out
+abbrev pub IsReportReply : Result Reply Refusal → Type 0
+IsReportReply answered = ((lines : List ReportLine) × (answered ≡ Ok (reply.Report lines)))
+    ⊎ ((answered ≡ Err NoTariff) ⊎ (answered ≡ Err NoMemory))
+
+module _ {W : Type 0} (w : sinks.Ghosts W) where
+  -- what is said of the office's reply to the query for the report
+  abbrev pub TellsReport : Bool → Result Reply Refusal → W → W → ℕ → Type 0
+  TellsReport as_text (Ok (reply.Report lines)) old new status = IsPutOut w (report_bytes as_text lines) old new status
+  TellsReport as_text (Err NoTariff) old new status = (status ≡ 10) × IsSilent w old new × IsNoted w old new tariff_note
+  TellsReport as_text _ old new status = ⊥
+
+module _ {D C W : Type 0} (d : disks.Ghosts D) (w : sinks.Ghosts W) where
+  -- The journal was read: what is said is the report of the month by the office after its history, as of the later of
+  -- the clock's first number and the last moment; or memory ran out. Nothing is written, the disk did not fail, and
+  -- the clock tells no further number.
+  pub record TellsMonth (month : ℕ) (as_text : Bool) (first : ℕ) (old new : Surroundings D C W) (status : ℕ) : Type 0
+    where
+      pub history : List Entry
+      pub read : IsTrue d.honest → HasAcceptedHistory history (d.state old.disk).journal.seen
+      pub any_moment : IsTrue d.honest → KeepsTo d old.disk new.disk (Narrower (d.state old.disk))
+      pub quiet : d.fault_count new.disk ≡ d.fault_count old.disk
+      pub clock : new.clock ≡ old.clock
+      pub reply : Result Reply Refusal
+      pub is_read : IsRead first (query.Report month) history reply
+      pub told : TellsReport w as_text reply old.out new.out status ⊎ RunsOut w old.out new.out status
+
+module _ {D C W : Type 0} (d : disks.Ghosts D) (k : clocks.Ghosts C) (w : sinks.Ghosts W) where
+  -- what `report` does; where the journal is not opened, and where the clock is at its end, nothing is said
+  abbrev pub Reports : ℕ → Bool → Surroundings D C W → Surroundings D C W → ℕ → Type 0
+  Reports month as_text = Starts d k w (Unit {0}) (TellsMonth d w month as_text)

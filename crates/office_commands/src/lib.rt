@@ -1,0 +1,19 @@
+//! The commands of the program that need no port, over any source, replies, disk and clock.
+#![tactic(auto)]
+
+mod end;
+mod explaining;
+mod lines;
+mod loading;
+mod making;
+mod reporting;
+mod running;
+mod saying;
+
+pub use end::{End, JOURNAL_LIMIT};
+pub use explaining::stays;
+pub use lines::{MEMORY, STORE, USAGE, end_line, note_line, refuse_words, usage};
+pub use loading::load;
+pub use making::init;
+pub use reporting::report;
+pub use running::{end_at_clock, has_begun, refuse, run};

@@ -1,0 +1,73 @@
+-- What a command of the program does that serves connections.
+use Rattle.std.specs.Prelude.{◌≡◌, ◌⊎◌, ℕ, ◌*◌, Bool, true, false, List, [], codes}
+use Rattle.disk_core.specs.declared.disk.Disk as disks
+use Rattle.meter_journal.specs.declared.fault.OpenFault.{OpenFault}
+use Rattle.desk_core.specs.declared.clock.Clock as clocks
+use Rattle.desk_core.specs.Runs.{AnswersCalls, stale_by}
+use Rattle.http_front.specs.declared.replies.Replies as sinks
+use Rattle.serving.specs.declared.port.Port as ports
+use Rattle.serving.specs.declared.worker.WorkerEnd.{WorkerEnd}
+use Rattle.serving.specs.declared.worker.WorkerEnd.TheVariants as workers
+use Rattle.serving.specs.Serving.{Log, log_calls, AreOfWorkers}
+use Rattle.serving.specs.Works.{Balances, RoseBy}
+use Rattle.office_commands.specs.Lines.{fault_exit, line}
+use Rattle.office_commands.specs.Running.{journal_limit, Surroundings, under, IsSilent, IsNoted, Starts}
+
+-- ---- statuses and lines (own)
+
+-- of workers that ended so, with a desk that is stale then or not; where two hold, the first of 7, 2 and 6 (own)
+abbrev pub workers_exit : WorkerEnd → Bool → ℕ
+workers_exit workers.PortFault stale = 7
+workers_exit workers.NoMemory true = 2
+workers_exit workers.NoMemory false = 6
+workers_exit workers.Done true = 2
+workers_exit workers.Done false = 0
+
+-- the status of workers, however they ended
+abbrev pub IsWorkersExit : ℕ → Type 0
+IsWorkersExit status = (end : WorkerEnd) × (stale : Bool) × (status ≡ workers_exit end stale)
+
+-- the status of a command that opens the office for workers, or cannot open it
+abbrev pub IsServeExit : ℕ → Type 0
+IsServeExit status = IsWorkersExit status ⊎ ((fault : OpenFault) × (status ≡ fault_exit fault))
+
+-- of the end of workers, with a desk that is stale then or not; nothing where all was done
+unfoldable pub workers_note : WorkerEnd → Bool → List ℕ
+workers_note workers.PortFault stale = line (codes "port: failed")
+workers_note workers.NoMemory true = line (codes "store: failed")
+workers_note workers.NoMemory false = line (codes "memory: refused")
+workers_note workers.Done true = line (codes "store: failed")
+workers_note workers.Done false = []
+
+-- ---- serve
+
+module _ {D C W : Type 0} (d : disks.Ghosts D) (k : clocks.Ghosts C) (w : sinks.Ghosts W) where
+  -- The office was opened, and workers served its port: the office answered one list of the calls of all of them.
+  pub record AnswersWorkers (connected : WorkerEnd → Log → Type 0) (old new : Surroundings D C W)
+      (status : ℕ) : Type 0 where
+    pub log : Log
+    pub answers : AnswersCalls d k journal_limit (under old) (under new) (log_calls log)
+    pub end : WorkerEnd
+    pub connections : connected end log
+    pub silent : IsSilent w old.out new.out
+    pub status_is : status ≡ workers_exit end (stale_by false (log_calls log))
+    pub note : IsNoted w old.out new.out (workers_note end (stale_by false (log_calls log)))
+
+  -- what `serve` does with connections of a port, or leaves it alone
+  abbrev pub ServesPort : Type 0 → (WorkerEnd → Log → Type 0) → Surroundings D C W → Surroundings D C W → ℕ → Type 0
+  ServesPort left_alone connected = Starts d k w left_alone (λ first. AnswersWorkers connected)
+
+module _ {P Source Replies : Type 0} (p : ports.Ghosts P Source Replies) where
+  -- The port listens at the address, and the workers' ports with it, where it had given no connection before; or it
+  -- gave none. It gave and ended as many as the workers served, all where all was done; and where it tells them they
+  -- are those for which the calls of the list were made.
+  pub record Connects (address : List ℕ) (workers connections : ℕ) (old new : P) (end : WorkerEnd) (log : Log)
+      : Type 0 where
+    pub listens : (p.given old ≡ 0 → p.listens new address) ⊎ (p.given new ≡ p.given old)
+    pub counts : Balances (workers * connections) end (p.given old) (p.given new) (p.ended old) (p.ended new)
+    pub divided : AreOfWorkers workers log (p.connections old) (p.connections new)
+
+  -- it is as it was, or was given back as many connections, ended, as it gave
+  abbrev pub IsBalanced : P → P → Type 0
+  IsBalanced old new =
+      (new ≡ old) ⊎ ((n : ℕ) × RoseBy (p.given old) (p.given new) n × RoseBy (p.ended old) (p.ended new) n)
