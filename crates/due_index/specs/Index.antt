@@ -1,0 +1,50 @@
+-- What an index of the next actions stands for.
+use Rattle.std.specs.Prelude.{◌≡◌, ℕ, List, Option, Some, None}
+use Rattle.office_base.specs.Maps.{bytes_cmp, at_name, at_number, Rises}
+use Rattle.std.specs.Ordering.{nat_cmp}
+use Rattle.due_core.specs.Buckets.{BucketRecord}
+use Rattle.due_core.specs.declared.action.Target.{Target}
+use Rattle.due_core.specs.declared.action.Target.TheVariants.{Version, Upload}
+use Rattle.due_core.specs.declared.action.Candidate.{Candidate}
+use Rattle.due_index.specs.Firsts.{first_on_key, first_on_upload}
+use Rattle.due_index.specs.Queue.{slot_at}
+
+-- a map's entry in the slots
+abbrev pub slot_of : Option ℕ → List (Option Candidate) → Option Candidate
+slot_of None slots = None
+slot_of (Some slot) slots = slot_at slot slots
+
+-- what contracts see of an index: the slot of each key and of each upload that has an action, and what stands in each
+-- slot
+pub record IndexRecord : Type 0 where
+  pub keys : List (List ℕ × ℕ)
+  pub uploads : List (ℕ × ℕ)
+  pub slots : List (Option Candidate)
+
+-- the action that comes next on a key
+abbrev pub next_on_key : IndexRecord → List ℕ → Option Candidate
+next_on_key index key = slot_of (at_name key index.keys) index.slots
+
+-- the action that comes next on an upload
+abbrev pub next_on_upload : IndexRecord → ℕ → Option Candidate
+next_on_upload index number = slot_of (at_number number index.uploads) index.slots
+
+-- an action on a version stands in the slot of its key, one on an upload in the slot of that upload
+abbrev pub IsOwned : IndexRecord → ℕ → Candidate → Target → Type 0
+IsOwned index slot candidate (Version id) = at_name candidate.action.key index.keys ≡ Some slot
+IsOwned index slot candidate (Upload number) = at_number number index.uploads ≡ Some slot
+
+-- each action in a slot is that of the key or upload that it is on, and the index has none but those
+pub record IsTied (index : IndexRecord) : Type 0 where
+  pub owned : (slot : ℕ) (candidate : Candidate) → slot_at slot index.slots ≡ Some candidate
+      → IsOwned index slot candidate candidate.action.target
+
+-- the index stands for a bucket: on each key and each upload comes next what comes first of all that the rules ask
+pub record StandsFor (index : IndexRecord) (bucket : BucketRecord) : Type 0 where
+  pub keys : (key : List ℕ) → next_on_key index key ≡ first_on_key bucket key
+  pub uploads : (number : ℕ) → next_on_upload index number ≡ first_on_upload bucket number
+
+-- the keys of the stacks and the numbers of the uploads rise, as in every bucket
+pub record IsBucket (bucket : BucketRecord) : Type 0 where
+  pub stacks : Rises bytes_cmp bucket.stacks
+  pub uploads : Rises nat_cmp bucket.uploads
