@@ -1,3 +1,4 @@
 pub mod Firsts
 pub mod Index
+pub mod Places
 pub mod Queue
