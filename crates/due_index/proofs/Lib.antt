@@ -1,3 +1,4 @@
 pub mod Among
+pub mod Chosen
 pub mod PlaceOrder
 pub mod Ties

@@ -6,6 +6,7 @@ use Rattle.std.specs.declared.cmp.Ordering.{Ordering}
 use Rattle.std.specs.declared.cmp.Ordering.TheVariants.{Less, Equal, Greater}
 use Rattle.std.specs.Ordering.{nat_cmp, ordering_then, ordering_reverse, is_lt}
 use Rattle.std.specs.Cmp.{IsTotalOrder, ranked}
+use Rattle.std.specs.FinMap.{slice_cmp-IsAntisymmetric, nat_cmp-IsAntisymmetric}
 use Rattle.moments.specs.Time.{end_of_time}
 use Rattle.class_rules.specs.Classes.{rank_of}
 use Rattle.class_rules.specs.declared.class.Class.{Class}
@@ -292,3 +293,16 @@ by_orders Greater Greater turned forth back = absurd cc
 -- two of which neither comes before the other
 pub neither_before : (c d : Candidate) → comes_before c d ≡ false → comes_before d c ≡ false → precedence c d ≡ Equal
 neither_before c d forth back = by_orders (precedence c d) (precedence d c) (precedence_total.antisymm c d) forth back
+
+pub tied_key : (c d : Candidate) → precedence c d ≡ Equal → c.action.key ≡ d.action.key
+tied_key c d is =
+    let since = then_equal (nat_cmp c.action.since d.action.since) _ is in
+    let kind = then_equal (nat_cmp (kind_place c.action.kind) (kind_place d.action.kind)) _ since.1 in
+    let key = then_equal (bytes_cmp c.action.key d.action.key) _ kind.1 in
+    slice_cmp-IsAntisymmetric nat_cmp-IsAntisymmetric c.action.key d.action.key key.0
+
+pub tied_age : (c d : Candidate) → precedence c d ≡ Equal → c.age ≡ d.age
+tied_age c d is = (tied c d is).age
+
+pub tied_kind : (c d : Candidate) → precedence c d ≡ Equal → c.action.kind ≡ d.action.kind
+tied_kind c d is = (tied c d is).kind

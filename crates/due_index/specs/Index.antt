@@ -1,8 +1,9 @@
 -- What an index of the next actions stands for.
-use Rattle.std.specs.Prelude.{◌≡◌, ℕ, List, Option, Some, None}
+use Rattle.std.specs.Prelude.{◌≡◌, ℕ, List, Option, Some, None, nat_le, if◌then◌else◌}
 use Rattle.office_base.specs.Maps.{bytes_cmp, at_name, at_number, Rises}
 use Rattle.std.specs.Ordering.{nat_cmp}
 use Rattle.due_core.specs.Buckets.{BucketRecord}
+use Rattle.due_core.specs.declared.action.Action.{Action}
 use Rattle.due_core.specs.declared.action.Target.{Target}
 use Rattle.due_core.specs.declared.action.Target.TheVariants.{Version, Upload}
 use Rattle.due_core.specs.declared.action.Candidate.{Candidate}
@@ -48,3 +49,8 @@ pub record StandsFor (index : IndexRecord) (bucket : BucketRecord) : Type 0 wher
 pub record IsBucket (bucket : BucketRecord) : Type 0 where
   pub stacks : Rises bytes_cmp bucket.stacks
   pub uploads : Rises nat_cmp bucket.uploads
+
+-- the action that is due first at a moment, where this candidate is the first of all
+abbrev pub due_by : ℕ → Option Candidate → Option Action
+due_by t None = None
+due_by t (Some first) = if nat_le first.action.since t then Some first.action else None

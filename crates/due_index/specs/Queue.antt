@@ -1,5 +1,6 @@
 -- The slots in which the next actions stand.
-use Rattle.std.specs.Prelude.{ℕ, List, Option, Some, None, slice_get}
+use Rattle.std.specs.Prelude.{◌≡◌, ℕ, List, Option, Some, None, slice_get, false}
+use Rattle.due_core.specs.Choice.{comes_before}
 use Rattle.due_core.specs.declared.action.Candidate.{Candidate}
 
 -- a slot that is there and not empty
@@ -10,3 +11,9 @@ held_in (Some slot) = slot
 -- what stands in a slot
 abbrev pub slot_at : ℕ → List (Option Candidate) → Option Candidate
 slot_at slot slots = held_in (slice_get slots slot)
+
+-- the candidate stands in one of the slots, and none in the slots comes before it; None: all slots are empty
+abbrev pub IsHead : List (Option Candidate) → Option Candidate → Type 0
+IsHead slots None = (slot : ℕ) (candidate : Candidate) → slot_at slot slots ≡ Some candidate → ⊥
+IsHead slots (Some head) = ((slot : ℕ) × (slot_at slot slots ≡ Some head))
+    × ((slot : ℕ) (candidate : Candidate) → slot_at slot slots ≡ Some candidate → comes_before candidate head ≡ false)
