@@ -1,4 +1,6 @@
 pub mod Among
 pub mod Chosen
+pub mod Orders
 pub mod PlaceOrder
 pub mod Ties
+pub mod Tournaments

@@ -2,3 +2,4 @@ pub mod Firsts
 pub mod Index
 pub mod Places
 pub mod Queue
+pub mod Tournament
