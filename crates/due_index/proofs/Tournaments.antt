@@ -8,7 +8,9 @@ use Rattle.std.specs.Ordering.{nat_cmp}
 use Rattle.std.specs.Cmp.{ranked}
 use Rattle.due_core.specs.Choice.{comes_before}
 use Rattle.due_core.specs.declared.action.Candidate.{Candidate}
-use Rattle.due_index.specs.Queue.{slot_at, IsHead}
+use Rattle.std.specs.Prelude.{slice_get}
+use Rattle.std.proofs.lemmas.Option.{slice_get_within, slice_get-get_or, slice_get_past, get_or_from_slice_get}
+use Rattle.due_index.specs.Queue.{slot_at, held_in, IsHead, IsPut}
 use Rattle.due_index.specs.Tournament.{is_sooner, won_by, IsExact, IsNotAfter, IsWinner, IsTournament, IsTournamentOff, IsOnPath, halved, order_of, HasLeaves}
 use Rattle.due_index.specs.declared.tournament.Node.{Node}
 use Rattle.due_index.proofs.Orders.{sooner_chain, sooner_itself}
@@ -30,6 +32,13 @@ pub path_split : (k i : ℕ) → IsOnPath k i → (k ≡ i) ⊎ IsOnPath k (i / 
 path_split k i (zero, is) = inl is
 path_split k i (suc m, is) = inr (m, is)
 
+halved_half : (m i : ℕ) → halved m (i / 2) ≡ halved m i / 2
+halved_half zero i = refl
+halved_half (suc m) i = halved_half m (i / 2)
+
+pub path_parent : (k j i : ℕ) → k ≡ j / 2 → IsOnPath j i → IsOnPath k i
+path_parent k j i half (m, is) = (suc m, half ∙ ap (λ n. n / 2) is ∙ sym (halved_half m i))
+
 decide_by : (k i : ℕ) (o : Ordering) → o ≡ nat_cmp k i → (k ≡ i) ⊎ (k ≡ i → ⊥)
 decide_by k i Less is = let less = ranked k i Less is in inr (λ e. omega arith)
 decide_by k i Equal is = inl (ranked k i Equal is)
@@ -46,7 +55,7 @@ any_default (x ∷ xs) (suc k) d e h = any_default xs k d e (omega arith)
 
 -- one node is written
 module _ (slots : List (Option Candidate)) (nodes : List Node) (at : ℕ) (v : Node) (off : IsTournamentOff slots nodes at)
-    (from_one : 1 ≤ at) (within : at < length nodes) (exact : IsExact slots v) where
+    (from_one : 1 ≤ at) (within : at < length nodes) (exact : IsExact slots v) (under_at : IsOnPath at (off.half + v.slot)) where
   abbrev after : List Node
   after = set nodes at v
 
@@ -55,6 +64,10 @@ module _ (slots : List (Option Candidate)) (nodes : List Node) (at : ℕ) (v : N
 
   there : (k : ℕ) (d : Node) → (k ≡ at → ⊥) → get_or after k d ≡ get_or nodes k d
   there k d apart = get_or-set_other nodes at k v d apart
+
+  below_by : (k : ℕ) (d : Node) → 1 ≤ k → k < 2 * off.half → (k ≡ at) ⊎ (k ≡ at → ⊥) → IsOnPath k (off.half + (get_or after k d).slot)
+  below_by k d one less (inl is) = subst (λ n. IsOnPath n (off.half + (get_or after n d).slot)) (sym is) (subst (λ (n : Node). IsOnPath at (off.half + n.slot)) (sym (here d)) under_at)
+  below_by k d one less (inr apart) = subst (λ (n : Node). IsOnPath k (off.half + n.slot)) (sym (there k d apart)) (off.below k d one less)
 
   not_on : (k : ℕ) → (k ≡ at → ⊥) → (IsOnPath k (at / 2) → ⊥) → IsOnPath k at → ⊥
   not_on k apart above on = elim (path_split k at on) [ inl is ↦ apart is | inr up ↦ above up ]
@@ -95,6 +108,7 @@ module _ (slots : List (Option Candidate)) (nodes : List Node) (at : ℕ) (v : N
       ];
     exact = λ k d one less above. exact_by k d one less above (decide k at);
     winners = λ k one less above. winner_there k (λ same. omega arith) above (off.winners k one less (not_on k (λ same. omega arith) above));
+    below = λ k d one less. below_by k d one less (decide k at);
   }
 
   -- a node above two others
@@ -109,6 +123,7 @@ module _ (slots : List (Option Candidate)) (nodes : List Node) (at : ℕ) (v : N
         inl same ↦ subst (λ n. IsWinner slots after n) (sym same) (winner_here e (let size = off.size in omega arith) first second)
       | inr apart ↦ winner_there k apart above (off.winners k one less (not_on k apart above))
       ];
+    below = λ k d one less. below_by k d one less (decide k at);
   }
 
 -- once the root is written
@@ -120,6 +135,7 @@ whole_at_root slots nodes i one off = record {
   leaves = off.leaves;
   exact = λ k d some less. off.exact k d some less (λ on. let le = path_le k (i / 2) on in omega arith);
   winners = λ k some less. off.winners k some less (λ on. let le = path_le k (i / 2) on in omega arith);
+  below = off.below;
 }
 
 -- ---- the tournament has its first action at the node 1
@@ -170,6 +186,7 @@ pub record IsTournamentFrom (slots : List (Option Candidate)) (nodes : List Node
   pub leaves : (i : ℕ) (d : Node) → i < half → (get_or nodes (half + i) d).slot ≡ i
   pub exact : (i : ℕ) (d : Node) → from ≤ i → i < 2 * half → IsExact slots (get_or nodes i d)
   pub winners : (i : ℕ) → from ≤ i → i < half → IsWinner slots nodes i
+  pub below : (i : ℕ) (d : Node) → from ≤ i → i < 2 * half → IsOnPath i (half + (get_or nodes i d).slot)
 
 pub from_leaves : (slots : List (Option Candidate)) (nodes : List Node) (half : ℕ) → HasLeaves slots nodes half → IsTournamentFrom slots nodes half half
 from_leaves slots nodes half h = record {
@@ -177,11 +194,15 @@ from_leaves slots nodes half h = record {
   leaves = h.leaves;
   exact = λ i d le less. subst (λ k. IsExact slots (get_or nodes k d)) (let same : half + (i - half) ≡ i = omega arith in same) (h.exact (i - half) d (omega arith));
   winners = λ i le less. absurd (omega arith);
+  below = λ i d le less. (0, let slot = h.leaves (i - half) d (omega arith) in
+    let same : half + (i - half) ≡ i = omega arith in
+    let here : (get_or nodes i d).slot ≡ i - half = subst (λ k. (get_or nodes k d).slot ≡ i - half) same slot in omega arith);
 }
 
 module _ (slots : List (Option Candidate)) (nodes : List Node) (half at : ℕ) (v e : Node) (h : IsTournamentFrom slots nodes half (at + 1))
     (inner : at < half) (some : 1 ≤ at) (exact : IsExact slots v)
-    (first : IsNotAfter slots v (get_or nodes (2 * at) e)) (second : IsNotAfter slots v (get_or nodes (2 * at + 1) e)) where
+    (first : IsNotAfter slots v (get_or nodes (2 * at) e)) (second : IsNotAfter slots v (get_or nodes (2 * at + 1) e))
+    (under_at : IsOnPath at (half + v.slot)) where
   there_too : (k : ℕ) (d : Node) → (k ≡ at → ⊥) → get_or (set nodes at v) k d ≡ get_or nodes k d
   there_too k d apart = get_or-set_other nodes at k v d apart
 
@@ -213,6 +234,10 @@ module _ (slots : List (Option Candidate)) (nodes : List Node) (half at : ℕ) (
         (there_too (2 * i + 1) d (λ k. omega arith)) (h.winners i (omega arith) less d).1,
       )
       ];
+    below = λ i d le less. elim (decide i at) [
+        inl same ↦ subst (λ k. IsOnPath k (half + (get_or (set nodes at v) k d).slot)) (sym same) (subst (λ (n : Node). IsOnPath at (half + n.slot)) (sym (here_now d)) under_at)
+      | inr apart ↦ subst (λ (n : Node). IsOnPath i (half + n.slot)) (sym (there_too i d apart)) (h.below i d (omega arith) less)
+      ];
   }
 
 pub whole_from : (slots : List (Option Candidate)) (nodes : List Node) (half at : ℕ) → at ≤ 1 → length slots ≤ half → IsTournamentFrom slots nodes half at → IsTournament slots nodes
@@ -223,4 +248,94 @@ whole_from slots nodes half at one fits h = record {
   leaves = h.leaves;
   exact = λ i d some less. h.exact i d (omega arith) less;
   winners = λ i some less. h.winners i (omega arith) less;
+  below = λ i d some less. h.below i d (omega arith) less;
 }
+
+-- ---- something else stands in a slot
+
+pub other_slot : (slots other : List (Option Candidate)) (nodes : List Node) (slot half : ℕ) (whole : IsTournament slots nodes)
+    → length nodes ≡ 2 * half → slot < half → length other ≤ half → ((k : ℕ) → (k ≡ slot → ⊥) → slot_at k other ≡ slot_at k slots)
+    → IsTournamentOff other nodes (half + slot)
+other_slot slots other nodes slot half whole size less fits same =
+    let halves : whole.half ≡ half = let own = whole.size in omega arith in
+    let apart : (i : ℕ) (d : Node) → 1 ≤ i → i < 2 * half → (IsOnPath i (half + slot) → ⊥) → (get_or nodes i d).slot ≡ slot → ⊥ =
+    λ i d one inside off is. off (subst (λ n. IsOnPath i (half + n)) is (subst (λ h. IsOnPath i (h + (get_or nodes i d).slot)) halves (whole.below i d one (omega arith)))) in
+    let won : (i : ℕ) (d : Node) → 1 ≤ i → i < 2 * half → (IsOnPath i (half + slot) → ⊥) → won_by other (get_or nodes i d) ≡ won_by slots (get_or nodes i d) =
+    λ i d one inside off. same (get_or nodes i d).slot (apart i d one inside off) in
+    record {
+      half = half;
+      size = size;
+      fits = fits;
+      leaves = λ i d inside. subst (λ h. (get_or nodes (h + i) d).slot ≡ i) halves (whole.leaves i d (omega arith));
+      exact = λ i d one inside off. whole.exact i d one (omega arith) ∙ ap order_of (sym (won i d one inside off));
+      winners = λ i one inside off d.
+        let left : IsOnPath (2 * i) (half + slot) → ⊥ = λ on. off (path_parent i (2 * i) (half + slot) (omega arith) on) in
+        let right : IsOnPath (2 * i + 1) (half + slot) → ⊥ = λ on. off (path_parent i (2 * i + 1) (half + slot) (omega arith) on) in
+        let old = whole.winners i one (omega arith) d in
+        let own = won i d one (omega arith) off in (
+          ap (λ o. is_sooner o (won_by other (get_or nodes i d))) (won (2 * i) d (omega arith) (omega arith) left)
+          ∙ ap (λ o. is_sooner (won_by slots (get_or nodes (2 * i) d)) o) own ∙ old.0,
+          ap (λ o. is_sooner o (won_by other (get_or nodes i d))) (won (2 * i + 1) d (omega arith) (omega arith) right)
+          ∙ ap (λ o. is_sooner (won_by slots (get_or nodes (2 * i + 1) d)) o) own ∙ old.1,
+        );
+      below = λ i d one inside. subst (λ h. IsOnPath i (h + (get_or nodes i d).slot)) halves (whole.below i d one (omega arith));
+    }
+
+-- ---- slots
+
+slot_within_by : (slots : List (Option Candidate)) (slot : ℕ) (c : Candidate) (o : Option (Option Candidate)) → slice_get slots slot ≡ o → held_in o ≡ Some c → slot < length slots
+slot_within_by slots slot c None is held = absurd cc
+slot_within_by slots slot c (Some found) is held = slice_get_within slots slot found is
+
+pub slot_within : (slots : List (Option Candidate)) (slot : ℕ) (c : Candidate) → slot_at slot slots ≡ Some c → slot < length slots
+slot_within slots slot c held = slot_within_by slots slot c (slice_get slots slot) refl held
+
+get_set_by : (slots : List (Option Candidate)) (slot k : ℕ) (v : Option Candidate) (o : Ordering) → o ≡ nat_cmp k (length slots) → (k ≡ slot → ⊥) → slice_get (set slots slot v) k ≡ slice_get slots k
+get_set_by slots slot k v Less is apart =
+    let less = ranked k (length slots) Less is in
+    let same = length-set slots slot v in
+    slice_get-get_or (set slots slot v) k v (omega arith) ∙ ap Some (get_or-set_other slots slot k v v apart) ∙ sym (slice_get-get_or slots k v less)
+get_set_by slots slot k v Equal is apart =
+    let past = ranked k (length slots) Equal is in
+    let same = length-set slots slot v in slice_get_past (set slots slot v) k (omega arith) ∙ sym (slice_get_past slots k (omega arith))
+get_set_by slots slot k v Greater is apart =
+    let past = ranked k (length slots) Greater is in
+    let same = length-set slots slot v in slice_get_past (set slots slot v) k (omega arith) ∙ sym (slice_get_past slots k (omega arith))
+
+pub slot_kept : (slots : List (Option Candidate)) (slot k : ℕ) (v : Option Candidate) → (k ≡ slot → ⊥) → slot_at k (set slots slot v) ≡ slot_at k slots
+slot_kept slots slot k v apart = ap held_in (get_set_by slots slot k v (nat_cmp k (length slots)) refl apart)
+
+pub slot_written : (slots : List (Option Candidate)) (slot : ℕ) (v : Option Candidate) → slot < length slots → slot_at slot (set slots slot v) ≡ v
+slot_written slots slot v less =
+    let same = length-set slots slot v in
+    ap held_in (slice_get-get_or (set slots slot v) slot v (omega arith) ∙ ap Some (get_or-set_same slots slot v v less))
+
+pub is_put : (slots : List (Option Candidate)) (slot : ℕ) (v : Option Candidate) → slot < length slots → IsPut slots (set slots slot v) slot v
+is_put slots slot v less = record { here = slot_written slots slot v less; others = λ k apart. slot_kept slots slot k v apart }
+
+-- ---- no slots, and the root
+
+pub no_slots : (slots : List (Option Candidate)) (nodes : List Node) → slots ≡ [] → nodes ≡ [] → IsTournament slots nodes
+no_slots slots nodes empty none = record {
+  half = 0;
+  size = ap length none;
+  fits = let is = ap length empty in omega arith;
+  leaves = λ i d less. absurd (omega arith);
+  exact = λ i d one less. absurd (omega arith);
+  winners = λ i one less. absurd (omega arith);
+  below = λ i d one less. absurd (omega arith);
+}
+
+pub root_head : (slots : List (Option Candidate)) (nodes : List Node) (root : Node) (held : Option Candidate) → IsTournament slots nodes
+    → slice_get nodes 1 ≡ Some root → held ≡ slot_at root.slot slots → IsHead slots held
+root_head slots nodes root held whole is held_is =
+    let here : get_or nodes 1 root ≡ root = get_or_from_slice_get nodes 1 root root is in
+    head_by slots nodes whole root held (ap (won_by slots) here ∙ sym held_is) (slot_within slots)
+
+pub no_root : (slots : List (Option Candidate)) (nodes : List Node) → IsTournament slots nodes → slice_get nodes 1 ≡ None → IsHead slots None
+no_root slots nodes whole is slot c held =
+    let inside = slot_within slots slot c held in
+    let size = whole.size in
+    let fits = whole.fits in
+    let there = slice_get-get_or nodes 1 (record { order = 0; slot = 0 }) (omega arith) in
+    absurd (cc)

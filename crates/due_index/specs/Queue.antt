@@ -1,5 +1,6 @@
 -- The slots in which the next actions stand.
-use Rattle.std.specs.Prelude.{◌≡◌, ℕ, List, Option, Some, None, slice_get, false}
+use Rattle.std.specs.Prelude.{◌≡◌, ℕ, List, Option, Some, None, slice_get, option_map, false}
+use Rattle.due_core.specs.declared.action.Action.{Action}
 use Rattle.due_core.specs.Choice.{comes_before}
 use Rattle.due_core.specs.declared.action.Candidate.{Candidate}
 
@@ -17,3 +18,12 @@ abbrev pub IsHead : List (Option Candidate) → Option Candidate → Type 0
 IsHead slots None = (slot : ℕ) (candidate : Candidate) → slot_at slot slots ≡ Some candidate → ⊥
 IsHead slots (Some head) = ((slot : ℕ) × (slot_at slot slots ≡ Some head))
     × ((slot : ℕ) (candidate : Candidate) → slot_at slot slots ≡ Some candidate → comes_before candidate head ≡ false)
+
+-- in this slot stands this now, in all others what stood there
+pub record IsPut (old new : List (Option Candidate)) (slot : ℕ) (held : Option Candidate) : Type 0 where
+  pub here : slot_at slot new ≡ held
+  pub others : (k : ℕ) → (k ≡ slot → ⊥) → slot_at k new ≡ slot_at k old
+
+-- the action of a candidate that stands first; None: all slots are empty
+abbrev pub IsFirstAction : List (Option Candidate) → Option Action → Type 0
+IsFirstAction slots action = (head : Option Candidate) × IsHead slots head × (option_map (λ candidate. candidate.action) head ≡ action)

@@ -33,15 +33,6 @@ abbrev pub IsWinner : List (Option Candidate) → List Node → ℕ → Type 0
 IsWinner slots nodes i = (d : Node) → IsNotAfter slots (slice_index_or nodes i d) (slice_index_or nodes (2 * i) d)
     × IsNotAfter slots (slice_index_or nodes i d) (slice_index_or nodes (2 * i + 1) d)
 
--- half of the nodes are leaves, one for each slot and for slots to come; the tree begins at the node 1
-pub record IsTournament (slots : List (Option Candidate)) (nodes : List Node) : Type 0 where
-  pub half : ℕ
-  pub size : length nodes ≡ 2 * half
-  pub fits : length slots ≤ half
-  pub leaves : (i : ℕ) (d : Node) → i < half → (slice_index_or nodes (half + i) d).slot ≡ i
-  pub exact : (i : ℕ) (d : Node) → 1 ≤ i → i < 2 * half → IsExact slots (slice_index_or nodes i d)
-  pub winners : (i : ℕ) → 1 ≤ i → i < half → IsWinner slots nodes i
-
 -- so many nodes above the node i
 abbrev pub halved : ℕ → ℕ → ℕ
 halved zero i = i
@@ -51,6 +42,16 @@ halved (suc m) i = halved m (i / 2)
 abbrev pub IsOnPath : ℕ → ℕ → Type 0
 IsOnPath k i = (m : ℕ) × (k ≡ halved m i)
 
+-- half of the nodes are leaves, one for each slot and for slots to come; the tree begins at the node 1
+pub record IsTournament (slots : List (Option Candidate)) (nodes : List Node) : Type 0 where
+  pub half : ℕ
+  pub size : length nodes ≡ 2 * half
+  pub fits : length slots ≤ half
+  pub leaves : (i : ℕ) (d : Node) → i < half → (slice_index_or nodes (half + i) d).slot ≡ i
+  pub exact : (i : ℕ) (d : Node) → 1 ≤ i → i < 2 * half → IsExact slots (slice_index_or nodes i d)
+  pub winners : (i : ℕ) → 1 ≤ i → i < half → IsWinner slots nodes i
+  pub below : (i : ℕ) (d : Node) → 1 ≤ i → i < 2 * half → IsOnPath i (half + (slice_index_or nodes i d).slot)
+
 -- the same, but for this node and the nodes above it
 pub record IsTournamentOff (slots : List (Option Candidate)) (nodes : List Node) (at : ℕ) : Type 0 where
   pub half : ℕ
@@ -59,6 +60,7 @@ pub record IsTournamentOff (slots : List (Option Candidate)) (nodes : List Node)
   pub leaves : (i : ℕ) (d : Node) → i < half → (slice_index_or nodes (half + i) d).slot ≡ i
   pub exact : (i : ℕ) (d : Node) → 1 ≤ i → i < 2 * half → (IsOnPath i at → ⊥) → IsExact slots (slice_index_or nodes i d)
   pub winners : (i : ℕ) → 1 ≤ i → i < half → (IsOnPath i at → ⊥) → IsWinner slots nodes i
+  pub below : (i : ℕ) (d : Node) → 1 ≤ i → i < 2 * half → IsOnPath i (half + (slice_index_or nodes i d).slot)
 
 -- half of the nodes are leaves, one for each slot and for slots to come
 pub record HasLeaves (slots : List (Option Candidate)) (nodes : List Node) (half : ℕ) : Type 0 where

@@ -1,7 +1,7 @@
 use Rattle.std.proofs.Common.{◌≡◌, ℕ, ◌+◌, ◌-◌, ◌*◌, ◌≤◌, ◌⊎◌, inl, inr, arith, subst, sym}
-use Rattle.due_index.specs.Tournament.{IsExact}
+use Rattle.due_index.specs.Tournament.{IsExact, IsOnPath}
 use Rattle.due_index.specs.declared.tournament.Node.{Node}
-use Rattle.due_index.proofs.Tournaments.{IsTournamentFrom, from_leaves, one_more, whole_from}
+use Rattle.due_index.proofs.Tournaments.{IsTournamentFrom, from_leaves, one_more, whole_from, path_parent}
 use Rattle.due_index.proofs.tournament.play.Goals as goal
 
 pub loop-i-init : goal.loop-i-init
@@ -30,9 +30,15 @@ loop-i-preserved c =
     let exact : IsExact c.args.slots.now c.earlier.result = elim c.earlier.ensures.either [
       inl is ↦ subst (λ n. IsExact c.args.slots.now n) (sym is) (h.exact (2 * (c.loop-i.i - 1)) (record { order = 0; slot = 0 }) (omega arith) (omega arith))
     | inr is ↦ subst (λ n. IsExact c.args.slots.now n) (sym is) (h.exact (2 * (c.loop-i.i - 1) + 1) (record { order = 0; slot = 0 }) (omega arith) (omega arith))
+    ] in
+    let under : IsOnPath (c.loop-i.i - 1) (c.args.half + c.earlier.result.slot) = elim c.earlier.ensures.either [
+      inl is ↦ subst (λ (n : Node). IsOnPath (c.loop-i.i - 1) (c.args.half + n.slot)) (sym is) (path_parent (c.loop-i.i - 1) (2 * (c.loop-i.i - 1)) _ (omega arith)
+      (h.below (2 * (c.loop-i.i - 1)) (record { order = 0; slot = 0 }) (omega arith) (omega arith)))
+    | inr is ↦ subst (λ (n : Node). IsOnPath (c.loop-i.i - 1) (c.args.half + n.slot)) (sym is) (path_parent (c.loop-i.i - 1) (2 * (c.loop-i.i - 1) + 1) _ (omega arith)
+      (h.below (2 * (c.loop-i.i - 1) + 1) (record { order = 0; slot = 0 }) (omega arith) (omega arith)))
     ] in record {
       from = one_more c.args.slots.now c.loop-i.nodes c.args.half (c.loop-i.i - 1) c.earlier.result (record { order = 0; slot = 0 })
-      (subst (λ k. IsTournamentFrom c.args.slots.now c.loop-i.nodes c.args.half k) same h) (omega arith) (omega arith) exact c.earlier.ensures.first c.earlier.ensures.second;
+      (subst (λ k. IsTournamentFrom c.args.slots.now c.loop-i.nodes c.args.half k) same h) (omega arith) (omega arith) exact c.earlier.ensures.first c.earlier.ensures.second under;
       within = omega arith;
     }
 
