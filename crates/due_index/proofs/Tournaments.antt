@@ -1,14 +1,14 @@
 -- How a tournament is brought up to date, node by node from a leaf to the root.
-use Rattle.std.proofs.Common.{◌≡◌, ℕ, ◌+◌, ◌-◌, ◌*◌, ◌/◌, ◌<◌, ◌≤◌, ◌⊎◌, inl, inr, List, [], ◌∷◌, length, get_or, set, refl, sym, ap, ◌∙◌, subst, Bool, true, false, arith, zero, suc}
+use Rattle.std.proofs.Common.{◌≡◌, ℕ, ◌+◌, ◌-◌, ◌*◌, ◌/◌, ◌<◌, ◌≤◌, ◌⊎◌, inl, inr, List, [], ◌∷◌, ◌++◌, length, get_or, set, length-append, refl, sym, ap, ◌∙◌, subst, Bool, true, false, arith, zero, suc}
 use Rattle.std.specs.Prelude.{Option, Some, None}
-use Rattle.std.proofs.lemmas.List.{length-set, get_or-set_same, get_or-set_other}
+use Rattle.std.proofs.lemmas.List.{length-set, get_or-set_same, get_or-set_other, get_or_append_left}
 use Rattle.std.specs.declared.cmp.Ordering.{Ordering}
 use Rattle.std.specs.declared.cmp.Ordering.TheVariants.{Less, Equal, Greater}
 use Rattle.std.specs.Ordering.{nat_cmp}
 use Rattle.std.specs.Cmp.{ranked}
 use Rattle.due_core.specs.Choice.{comes_before}
 use Rattle.due_core.specs.declared.action.Candidate.{Candidate}
-use Rattle.std.specs.Prelude.{slice_get}
+use Rattle.std.specs.Prelude.{slice_get, IsSome}
 use Rattle.std.proofs.lemmas.Option.{slice_get_within, slice_get-get_or, slice_get_past, get_or_from_slice_get}
 use Rattle.due_index.specs.Queue.{slot_at, held_in, IsHead, IsPut}
 use Rattle.due_index.specs.Tournament.{is_sooner, won_by, IsExact, IsNotAfter, IsWinner, IsTournament, IsTournamentOff, IsOnPath, halved, order_of, HasLeaves}
@@ -339,3 +339,56 @@ no_root slots nodes whole is slot c held =
     let fits = whole.fits in
     let there = slice_get-get_or nodes 1 (record { order = 0; slot = 0 }) (omega arith) in
     absurd (cc)
+
+-- ---- what is written in a slot, or behind them all
+
+pub after_more : (old new : List (Option Candidate)) (nodes : List Node) (slot : ℕ) (v : Option Candidate) (whole : IsTournament old nodes) → IsPut old new slot v
+    → slot < length nodes / 2 → length new ≤ length nodes / 2 → IsTournamentOff new nodes (length nodes / 2 + slot)
+after_more old new nodes slot v whole put less fits =
+    let size = whole.size in
+    other_slot old new nodes slot (length nodes / 2) whole (omega arith) less fits put.others
+
+pub after_put : (old new : List (Option Candidate)) (nodes : List Node) (slot : ℕ) (v : Option Candidate) (whole : IsTournament old nodes) → IsPut old new slot v
+    → slot < length old → length new ≡ length old → IsTournamentOff new nodes (length nodes / 2 + slot)
+after_put old new nodes slot v whole put less same =
+    let size = whole.size in
+    let fits = whole.fits in
+    after_more old new nodes slot v whole put (omega arith) (omega arith)
+
+-- two writes of a slot are one
+pub put_twice : (slots : List (Option Candidate)) (slot : ℕ) (first v : Option Candidate) → slot < length slots → IsPut slots (set (set slots slot first) slot v) slot v
+put_twice slots slot first v less =
+    let same = length-set slots slot first in record {
+      here = slot_written (set slots slot first) slot v (omega arith);
+      others = λ k apart. slot_kept (set slots slot first) slot k v apart ∙ slot_kept slots slot k first apart;
+    }
+
+get_back_by : (slots : List (Option Candidate)) (v : Option Candidate) (k : ℕ) (o : Ordering) → o ≡ nat_cmp k (length slots) → (k ≡ length slots → ⊥)
+    → slice_get (slots ++ v ∷ []) k ≡ slice_get slots k
+get_back_by slots v k Less is apart =
+    let less = ranked k (length slots) Less is in
+    let more = length-append slots (v ∷ []) in
+    slice_get-get_or (slots ++ v ∷ []) k v (omega arith) ∙ ap Some (get_or_append_left slots (v ∷ []) v k less) ∙ sym (slice_get-get_or slots k v less)
+get_back_by slots v k Equal is apart = absurd (apart (ranked k (length slots) Equal is))
+get_back_by slots v k Greater is apart =
+    let past = ranked k (length slots) Greater is in
+    let more = length-append slots (v ∷ []) in
+    slice_get_past (slots ++ v ∷ []) k (omega arith) ∙ sym (slice_get_past slots k (omega arith))
+
+get_last : {X : Type 0} (xs : List X) (v d : X) → get_or (xs ++ v ∷ []) (length xs) d ≡ v
+get_last [] v d = refl
+get_last (x ∷ xs) v d = get_last xs v d
+
+pub put_behind : (slots : List (Option Candidate)) (v : Option Candidate) → IsPut slots (slots ++ v ∷ []) (length slots) v
+put_behind slots v =
+    let more = length-append slots (v ∷ []) in record {
+      here = ap held_in (slice_get-get_or (slots ++ v ∷ []) (length slots) v (omega arith) ∙ ap Some (get_last slots v v));
+      others = λ k apart. ap held_in (get_back_by slots v k (nat_cmp k (length slots)) refl apart);
+    }
+
+pub nothing_behind : (slots : List (Option Candidate)) → slot_at (length slots) slots ≡ None
+nothing_behind slots = ap held_in (slice_get_past slots (length slots) (omega arith))
+
+pub some_of : (o : Option Candidate) → IsSome o → (c : Candidate) × (o ≡ Some c)
+some_of None some = absurd cc
+some_of (Some c) some = (c, refl)
