@@ -2,5 +2,6 @@ pub mod Among
 pub mod Chosen
 pub mod Orders
 pub mod PlaceOrder
+pub mod Renewing
 pub mod Ties
 pub mod Tournaments

@@ -327,9 +327,9 @@ no_slots slots nodes empty none = record {
 }
 
 pub root_head : (slots : List (Option Candidate)) (nodes : List Node) (root : Node) (held : Option Candidate) → IsTournament slots nodes
-    → slice_get nodes 1 ≡ Some root → held ≡ slot_at root.slot slots → IsHead slots held
+    → root ≡ get_or nodes 1 root → held ≡ slot_at root.slot slots → IsHead slots held
 root_head slots nodes root held whole is held_is =
-    let here : get_or nodes 1 root ≡ root = get_or_from_slice_get nodes 1 root root is in
+    let here : get_or nodes 1 root ≡ root = sym is in
     head_by slots nodes whole root held (ap (won_by slots) here ∙ sym held_is) (slot_within slots)
 
 pub no_root : (slots : List (Option Candidate)) (nodes : List Node) → IsTournament slots nodes → slice_get nodes 1 ≡ None → IsHead slots None

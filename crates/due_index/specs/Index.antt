@@ -2,6 +2,7 @@
 use Rattle.std.specs.Prelude.{◌≡◌, ℕ, List, Option, Some, None, nat_le, if◌then◌else◌}
 use Rattle.office_base.specs.Maps.{bytes_cmp, at_name, at_number, Rises}
 use Rattle.std.specs.Ordering.{nat_cmp}
+use Rattle.office_base.specs.declared.version_id.VersionId.{VersionId}
 use Rattle.due_core.specs.Buckets.{BucketRecord}
 use Rattle.due_core.specs.declared.action.Action.{Action}
 use Rattle.due_core.specs.declared.action.Target.{Target}
@@ -35,8 +36,23 @@ abbrev pub IsOwned : IndexRecord → ℕ → Candidate → Target → Type 0
 IsOwned index slot candidate (Version id) = at_name candidate.action.key index.keys ≡ Some slot
 IsOwned index slot candidate (Upload number) = at_number number index.uploads ≡ Some slot
 
--- each action in a slot is that of the key or upload that it is on, and the index has none but those
+-- what stands in the slot of a key is on a version of it
+pub record IsOfKey (key : List ℕ) (candidate : Candidate) : Type 0 where
+  pub own : candidate.action.key ≡ key
+  pub version : VersionId
+  pub target : candidate.action.target ≡ Version version
+
+-- what stands in a slot stands there
+pub record Stands (index : IndexRecord) (slot : ℕ) (P : Candidate → Type 0) : Type 0 where
+  pub candidate : Candidate
+  pub there : slot_at slot index.slots ≡ Some candidate
+  pub is : P candidate
+
+-- each action in a slot is that of the key or upload that it is on, and each slot of a key or upload has its action
 pub record IsTied (index : IndexRecord) : Type 0 where
+  pub keys : (key : List ℕ) (slot : ℕ) → at_name key index.keys ≡ Some slot → Stands index slot (IsOfKey key)
+  pub uploads : (number slot : ℕ) → at_number number index.uploads ≡ Some slot
+      → Stands index slot (λ candidate. candidate.action.target ≡ Upload number)
   pub owned : (slot : ℕ) (candidate : Candidate) → slot_at slot index.slots ≡ Some candidate
       → IsOwned index slot candidate candidate.action.target
 
@@ -54,3 +70,19 @@ pub record IsBucket (bucket : BucketRecord) : Type 0 where
 abbrev pub due_by : ℕ → Option Candidate → Option Action
 due_by t None = None
 due_by t (Some first) = if nat_le first.action.since t then Some first.action else None
+
+-- on each key and each upload comes next what came before
+pub record KeepsNext (old new : IndexRecord) : Type 0 where
+  pub keys : (key : List ℕ) → next_on_key new key ≡ next_on_key old key
+  pub uploads : (number : ℕ) → next_on_upload new number ≡ next_on_upload old number
+
+-- on this key comes this next, and on all others what came before
+pub record SetsNextOnKey (old new : IndexRecord) (key : List ℕ) (next : Option Candidate) : Type 0 where
+  pub here : next_on_key new key ≡ next
+  pub others : (k : List ℕ) → (k ≡ key → ⊥) → next_on_key new k ≡ next_on_key old k
+  pub uploads : (number : ℕ) → next_on_upload new number ≡ next_on_upload old number
+
+-- the index stands for a bucket, but for one key
+pub record StandsButKey (index : IndexRecord) (bucket : BucketRecord) (key : List ℕ) : Type 0 where
+  pub keys : (k : List ℕ) → (k ≡ key → ⊥) → next_on_key index k ≡ first_on_key bucket k
+  pub uploads : (number : ℕ) → next_on_upload index number ≡ first_on_upload bucket number

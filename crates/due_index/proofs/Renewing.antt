@@ -1,0 +1,112 @@
+-- What an index has next, after the slot of one key is written, emptied or taken up.
+use Rattle.std.proofs.Common.{◌≡◌, ℕ, ◌⊎◌, inl, inr, List, [], ◌∷◌, length, refl, sym, ap, ◌∙◌, subst, Bool, true, false, cond, arith}
+use Rattle.std.specs.Prelude.{Option, Some, None}
+use Rattle.std.specs.Cmp.{tied_itself}
+use Rattle.std.specs.declared.cmp.Ordering.{Ordering}
+use Rattle.std.specs.declared.cmp.Ordering.TheVariants.{Less, Equal, Greater}
+use Rattle.std.specs.Ordering.{nat_cmp, is_eq}
+use Rattle.std.proofs.lemmas.Cmp.{nat_list_cmp_total}
+use Rattle.office_base.specs.Maps.{bytes_cmp, at_name, at_number}
+use Rattle.due_core.specs.Buckets.{BucketRecord}
+use Rattle.due_core.specs.declared.action.Target.{Target}
+use Rattle.due_core.specs.declared.action.Target.TheVariants as target
+use Rattle.due_core.specs.declared.action.Candidate.{Candidate}
+use Rattle.due_index.specs.Firsts.{first_on_key, first_on_upload}
+use Rattle.due_index.specs.Queue.{slot_at, IsPut}
+use Rattle.due_index.specs.Index.{IndexRecord, next_on_key, next_on_upload, slot_of, IsOwned, IsTied, IsOfKey, Stands, KeepsNext, SetsNextOnKey, StandsFor, StandsButKey}
+use Rattle.due_index.proofs.Chosen.{same_name, equal_is}
+use Rattle.due_index.proofs.Tournaments.{decide}
+
+-- ---- two keys are the same or not
+
+name_by : (a b : List ℕ) (o : Ordering) → bytes_cmp a b ≡ o → (a ≡ b) ⊎ (a ≡ b → ⊥)
+name_by a b Equal is = inl (same_name a b is)
+name_by a b Less is = inr (λ e. let itself : bytes_cmp a b ≡ Equal = subst (λ k. bytes_cmp a k ≡ Equal) e (tied_itself nat_list_cmp_total a) in absurd (cc))
+name_by a b Greater is = inr (λ e. let itself : bytes_cmp a b ≡ Equal = subst (λ k. bytes_cmp a k ≡ Equal) e (tied_itself nat_list_cmp_total a) in absurd (cc))
+
+pub names : (a b : List ℕ) → (a ≡ b) ⊎ (a ≡ b → ⊥)
+names a b = name_by a b (bytes_cmp a b) refl
+
+-- ---- slots of other keys and uploads are other slots
+
+module _ (index : IndexRecord) (tied : IsTied index) where
+  one_candidate : (slot : ℕ) (c d : Candidate) → slot_at slot index.slots ≡ Some c → slot_at slot index.slots ≡ Some d → c ≡ d
+  one_candidate slot c d h k = let both : Some c ≡ Some d = sym h ∙ k in cc
+
+  pub apart_keys : (key other : List ℕ) (slot : ℕ) → at_name key index.keys ≡ Some slot → at_name other index.keys ≡ Some slot → key ≡ other
+  apart_keys key other slot h k =
+      let a = tied.keys key slot h in
+      let b = tied.keys other slot k in
+      sym a.is.own ∙ ap (λ (c : Candidate). c.action.key) (one_candidate slot a.candidate b.candidate a.there b.there) ∙ b.is.own
+
+  pub apart_sides : (key : List ℕ) (number slot : ℕ) → at_name key index.keys ≡ Some slot → at_number number index.uploads ≡ Some slot → ⊥
+  apart_sides key number slot h k =
+      let a = tied.keys key slot h in
+      let b = tied.uploads number slot k in
+      let both : target.Version a.is.version ≡ target.Upload number =
+      sym a.is.target ∙ ap (λ (c : Candidate). c.action.target) (one_candidate slot a.candidate b.candidate a.there b.there) ∙ b.is in absurd (cc)
+
+-- ---- the slot of a key is written
+
+module _ (index : IndexRecord) (tied : IsTied index) (key : List ℕ) (slot : ℕ) (at : at_name key index.keys ≡ Some slot)
+    (slots : List (Option Candidate)) (c : Candidate) (of_key : IsOfKey key c) (put : IsPut index.slots slots slot (Some c)) where
+  abbrev written : IndexRecord
+  written = record { keys = index.keys; uploads = index.uploads; slots = slots }
+
+  other_key_by : (k : List ℕ) (o : Option ℕ) → at_name k index.keys ≡ o → (k ≡ key → ⊥) → slot_of o slots ≡ slot_of o index.slots
+  other_key_by k None is apart = refl
+  other_key_by k (Some s) is apart = put.others s (λ same. apart (apart_keys index tied k key s is (at ∙ ap Some (sym same))))
+
+  other_upload_by : (number : ℕ) (o : Option ℕ) → at_number number index.uploads ≡ o → slot_of o slots ≡ slot_of o index.slots
+  other_upload_by number None is = refl
+  other_upload_by number (Some s) is = put.others s (λ same. apart_sides index tied key number s (at ∙ ap Some (sym same)) is)
+
+  pub sets_written : SetsNextOnKey index written key (Some c)
+  sets_written = record {
+    here = ap (λ o. slot_of o slots) at ∙ put.here;
+    others = λ k apart. other_key_by k (at_name k index.keys) refl apart;
+    uploads = λ number. other_upload_by number (at_number number index.uploads) refl;
+  }
+
+  stays_by : (s : ℕ) (P : Candidate → Type 0) → (s ≡ slot → ⊥) → Stands index s P → Stands written s P
+  stays_by s P apart h = record { candidate = h.candidate; there = put.others s apart ∙ h.there; is = h.is }
+
+  key_tied : (k : List ℕ) (s : ℕ) → at_name k index.keys ≡ Some s → (s ≡ slot) ⊎ (s ≡ slot → ⊥) → Stands written s (IsOfKey k)
+  key_tied k s is (inl same) =
+      let own : key ≡ k = apart_keys index tied key k slot at (is ∙ ap Some same) in record {
+        candidate = c;
+        there = ap (λ n. slot_at n slots) same ∙ put.here;
+        is = subst (λ n. IsOfKey n c) own of_key;
+      }
+  key_tied k s is (inr apart) = stays_by s (IsOfKey k) apart (tied.keys k s is)
+
+  owned_by : (s : ℕ) (d : Candidate) → slot_at s slots ≡ Some d → (s ≡ slot) ⊎ (s ≡ slot → ⊥) → IsOwned written s d d.action.target
+  owned_by s d is (inl same) =
+      let both : Some c ≡ Some d = sym put.here ∙ ap (λ n. slot_at n slots) (sym same) ∙ is in
+      let one : c ≡ d = cc in
+      subst (λ e. IsOwned written s e e.action.target) one
+      (subst (λ t. IsOwned written s c t) (sym of_key.target) (ap (λ k. at_name k index.keys) of_key.own ∙ at ∙ ap Some (sym same)))
+  owned_by s d is (inr apart) = owned_same s d d.action.target (tied.owned s d (sym (put.others s apart) ∙ is))
+    where
+    owned_same : (s : ℕ) (d : Candidate) (t : Target) → IsOwned index s d t → IsOwned written s d t
+    owned_same s d (target.Version id) h = h
+    owned_same s d (target.Upload number) h = h
+
+  pub tied_written : IsTied written
+  tied_written = record {
+    keys = λ k s is. key_tied k s is (decide s slot);
+    uploads = λ number s is. stays_by s _ (λ same. apart_sides index tied key number slot at (is ∙ ap Some same)) (tied.uploads number s is);
+    owned = λ s d is. owned_by s d is (decide s slot);
+  }
+
+-- ---- so the index stands for the bucket again
+
+pub renewed : (old new : IndexRecord) (bucket : BucketRecord) (key : List ℕ) → StandsButKey old bucket key
+    → SetsNextOnKey old new key (first_on_key bucket key) → StandsFor new bucket
+renewed old new bucket key but sets = record {
+  keys = λ k. elim (names k key) [
+      inl same ↦ ap (next_on_key new) same ∙ sets.here ∙ ap (first_on_key bucket) (sym same)
+    | inr apart ↦ sets.others k apart ∙ but.keys k apart
+    ];
+  uploads = λ number. sets.uploads number ∙ but.uploads number;
+}
