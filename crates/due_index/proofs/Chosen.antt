@@ -72,13 +72,13 @@ least_is xs c first only =
 
 -- ---- maps
 
-same_name : (a b : List ℕ) → bytes_cmp a b ≡ Equal → a ≡ b
+pub same_name : (a b : List ℕ) → bytes_cmp a b ≡ Equal → a ≡ b
 same_name a b is = slice_cmp-IsAntisymmetric nat_cmp-IsAntisymmetric a b is
 
 same_number : (a b : ℕ) → nat_cmp a b ≡ Equal → a ≡ b
 same_number a b is = ranked a b Equal (sym is)
 
-equal_is : (o : Ordering) → is_eq o ≡ true → o ≡ Equal
+pub equal_is : (o : Ordering) → is_eq o ≡ true → o ≡ Equal
 equal_is Less is = absurd cc
 equal_is Equal is = refl
 equal_is Greater is = absurd cc

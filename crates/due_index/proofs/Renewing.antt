@@ -1,6 +1,8 @@
 -- What an index has next, after the slot of one key is written, emptied or taken up.
 use Rattle.std.proofs.Common.{◌≡◌, ℕ, ◌⊎◌, inl, inr, List, [], ◌∷◌, length, refl, sym, ap, ◌∙◌, subst, Bool, true, false, cond, arith}
-use Rattle.std.specs.Prelude.{Option, Some, None}
+use Rattle.std.specs.Prelude.{Option, Some, None, IsSome}
+use Rattle.due_index.specs.Places.{candidate_of, IsOnVersion}
+use Rattle.due_index.specs.declared.place.Place.{Place}
 use Rattle.std.specs.Cmp.{tied_itself}
 use Rattle.std.specs.declared.cmp.Ordering.{Ordering}
 use Rattle.std.specs.declared.cmp.Ordering.TheVariants.{Less, Equal, Greater}
@@ -99,6 +101,114 @@ module _ (index : IndexRecord) (tied : IsTied index) (key : List ℕ) (slot : �
     owned = λ s d is. owned_by s d is (decide s slot);
   }
 
+-- ---- the slot of a key is emptied
+
+module _ (index : IndexRecord) (tied : IsTied index) (key : List ℕ) (slot : ℕ) (at : at_name key index.keys ≡ Some slot)
+    (slots : List (Option Candidate)) (put : IsPut index.slots slots slot None) (keys : List (List ℕ × ℕ))
+    (gone : at_name key keys ≡ None) (kept : (k : List ℕ) → (k ≡ key → ⊥) → at_name k keys ≡ at_name k index.keys) where
+  abbrev emptied : IndexRecord
+  emptied = record { keys = keys; uploads = index.uploads; slots = slots }
+
+  left_key_by : (k : List ℕ) (o : Option ℕ) → at_name k index.keys ≡ o → (k ≡ key → ⊥) → slot_of o slots ≡ slot_of o index.slots
+  left_key_by k None is apart = refl
+  left_key_by k (Some s) is apart = put.others s (λ same. apart (apart_keys index tied k key s is (at ∙ ap Some (sym same))))
+
+  left_upload_by : (number : ℕ) (o : Option ℕ) → at_number number index.uploads ≡ o → slot_of o slots ≡ slot_of o index.slots
+  left_upload_by number None is = refl
+  left_upload_by number (Some s) is = put.others s (λ same. apart_sides index tied key number s (at ∙ ap Some (sym same)) is)
+
+  pub sets_emptied : SetsNextOnKey index emptied key None
+  sets_emptied = record {
+    here = ap (λ o. slot_of o slots) gone;
+    others = λ k apart. ap (λ o. slot_of o slots) (kept k apart) ∙ left_key_by k (at_name k index.keys) refl apart;
+    uploads = λ number. left_upload_by number (at_number number index.uploads) refl;
+  }
+
+  left_stays : (s : ℕ) (P : Candidate → Type 0) → (s ≡ slot → ⊥) → Stands index s P → Stands emptied s P
+  left_stays s P apart h = record { candidate = h.candidate; there = put.others s apart ∙ h.there; is = h.is }
+
+  left_tied : (k : List ℕ) (s : ℕ) → at_name k keys ≡ Some s → (k ≡ key) ⊎ (k ≡ key → ⊥) → Stands emptied s (IsOfKey k)
+  left_tied k s is (inl same) = let both : None ≡ Some s = sym gone ∙ ap (λ n. at_name n keys) (sym same) ∙ is in absurd (cc)
+  left_tied k s is (inr apart) =
+      let before = sym (kept k apart) ∙ is in
+      left_stays s (IsOfKey k) (λ same. apart (apart_keys index tied k key s before (at ∙ ap Some (sym same)))) (tied.keys k s before)
+
+  left_owned : (s : ℕ) (d : Candidate) (t : Target) → (s ≡ slot → ⊥) → IsOwned index s d t → IsOwned emptied s d t
+  left_owned s d (target.Version id) apart h =
+      kept d.action.key (λ same. let both : Some slot ≡ Some s = sym at ∙ ap (λ k. at_name k index.keys) (sym same) ∙ h in apart (cc)) ∙ h
+  left_owned s d (target.Upload number) apart h = h
+
+  left_by : (s : ℕ) (d : Candidate) → slot_at s slots ≡ Some d → (s ≡ slot) ⊎ (s ≡ slot → ⊥) → IsOwned emptied s d d.action.target
+  left_by s d is (inl same) = let both : None ≡ Some d = sym put.here ∙ ap (λ n. slot_at n slots) (sym same) ∙ is in absurd (cc)
+  left_by s d is (inr apart) = left_owned s d d.action.target apart (tied.owned s d (sym (put.others s apart) ∙ is))
+
+  pub tied_emptied : IsTied emptied
+  tied_emptied = record {
+    keys = λ k s is. left_tied k s is (names k key);
+    uploads = λ number s is. left_stays s _ (λ same. apart_sides index tied key number slot at (is ∙ ap Some same)) (tied.uploads number s is);
+    owned = λ s d is. left_by s d is (decide s slot);
+  }
+
+-- ---- an empty slot is taken up for a key
+
+module _ (index : IndexRecord) (tied : IsTied index) (key : List ℕ) (absent : at_name key index.keys ≡ None) (slot : ℕ)
+    (empty : slot_at slot index.slots ≡ None) (slots : List (Option Candidate)) (c : Candidate) (of_key : IsOfKey key c)
+    (put : IsPut index.slots slots slot (Some c)) (keys : List (List ℕ × ℕ))
+    (at : at_name key keys ≡ Some slot) (kept : (k : List ℕ) → (k ≡ key → ⊥) → at_name k keys ≡ at_name k index.keys) where
+  abbrev taken : IndexRecord
+  taken = record { keys = keys; uploads = index.uploads; slots = slots }
+
+  not_empty : (s : ℕ) (P : Candidate → Type 0) → Stands index s P → s ≡ slot → ⊥
+  not_empty s P h same = let both : None ≡ Some h.candidate = sym empty ∙ ap (λ n. slot_at n index.slots) (sym same) ∙ h.there in absurd (cc)
+
+  more_key_by : (k : List ℕ) (o : Option ℕ) → at_name k index.keys ≡ o → slot_of o slots ≡ slot_of o index.slots
+  more_key_by k None is = refl
+  more_key_by k (Some s) is = put.others s (not_empty s (IsOfKey k) (tied.keys k s is))
+
+  more_upload_by : (number : ℕ) (o : Option ℕ) → at_number number index.uploads ≡ o → slot_of o slots ≡ slot_of o index.slots
+  more_upload_by number None is = refl
+  more_upload_by number (Some s) is = put.others s (not_empty s _ (tied.uploads number s is))
+
+  pub sets_taken : SetsNextOnKey index taken key (Some c)
+  sets_taken = record {
+    here = ap (λ o. slot_of o slots) at ∙ put.here;
+    others = λ k apart. ap (λ o. slot_of o slots) (kept k apart) ∙ more_key_by k (at_name k index.keys) refl;
+    uploads = λ number. more_upload_by number (at_number number index.uploads) refl;
+  }
+
+  more_stays : (s : ℕ) (P : Candidate → Type 0) → Stands index s P → Stands taken s P
+  more_stays s P h = record { candidate = h.candidate; there = put.others s (not_empty s P h) ∙ h.there; is = h.is }
+
+  more_tied : (k : List ℕ) (s : ℕ) → at_name k keys ≡ Some s → (k ≡ key) ⊎ (k ≡ key → ⊥) → Stands taken s (IsOfKey k)
+  more_tied k s is (inl same) =
+      let both : Some slot ≡ Some s = sym at ∙ ap (λ n. at_name n keys) (sym same) ∙ is in
+      let one : slot ≡ s = cc in record {
+        candidate = c;
+        there = ap (λ n. slot_at n slots) (sym one) ∙ put.here;
+        is = subst (λ n. IsOfKey n c) (sym same) of_key;
+      }
+  more_tied k s is (inr apart) = more_stays s (IsOfKey k) (tied.keys k s (sym (kept k apart) ∙ is))
+
+  more_owned : (s : ℕ) (d : Candidate) (t : Target) → IsOwned index s d t → IsOwned taken s d t
+  more_owned s d (target.Version id) h =
+      kept d.action.key (λ same. let both : None ≡ Some s = sym absent ∙ ap (λ k. at_name k index.keys) (sym same) ∙ h in absurd (cc)) ∙ h
+  more_owned s d (target.Upload number) h = h
+
+  more_by : (s : ℕ) (d : Candidate) → slot_at s slots ≡ Some d → (s ≡ slot) ⊎ (s ≡ slot → ⊥) → IsOwned taken s d d.action.target
+  more_by s d is (inl same) =
+      let both : Some c ≡ Some d = sym put.here ∙ ap (λ n. slot_at n slots) (sym same) ∙ is in
+      let one : c ≡ d = cc in
+      subst (λ e. IsOwned taken s e e.action.target) one
+      (subst (λ t. IsOwned taken s c t) (sym of_key.target) (ap (λ k. at_name k keys) of_key.own ∙ at ∙ ap Some (sym same)))
+  more_by s d is (inr apart) = more_owned s d d.action.target (tied.owned s d (sym (put.others s apart) ∙ is))
+
+  pub tied_taken : IsTied taken
+  tied_taken = record {
+    keys = λ k s is. more_tied k s is (names k key);
+    uploads = λ number s is. more_stays s _ (tied.uploads number s is);
+    owned = λ s d is. more_by s d is (decide s slot);
+  }
+
 -- ---- so the index stands for the bucket again
 
 pub renewed : (old new : IndexRecord) (bucket : BucketRecord) (key : List ℕ) → StandsButKey old bucket key
@@ -110,3 +220,26 @@ renewed old new bucket key but sets = record {
     ];
   uploads = λ number. sets.uploads number ∙ but.uploads number;
 }
+
+-- ---- as the calls tell it
+
+pub version_of : (key : List ℕ) (place : Place) → IsOnVersion place → IsOfKey key (candidate_of key place)
+version_of key place on = record { own = refl; version = on.version; target = on.target }
+
+-- the key's slot got the place's action
+module _ (index : IndexRecord) (tied : IsTied index) (key : List ℕ) (slot : ℕ) (at : at_name key index.keys ≡ Some slot) (place : Place) (on : IsOnVersion place)
+    (slots : List (Option Candidate))
+    (put : (held : Candidate) → slot_at slot index.slots ≡ Some held → IsPut index.slots slots slot (Some (candidate_of held.action.key place))) where
+  put_own : IsPut index.slots slots slot (Some (candidate_of key place))
+  put_own =
+      let h = tied.keys key slot at in
+      subst (λ k. IsPut index.slots slots slot (Some (candidate_of k place))) h.is.own (put h.candidate h.there)
+
+  pub sets_replaced : SetsNextOnKey index (record { keys = index.keys; uploads = index.uploads; slots = slots }) key (Some (candidate_of key place))
+  sets_replaced = sets_written index tied key slot at slots (candidate_of key place) (version_of key place on) put_own
+
+  pub tied_replaced : IsTied (record { keys = index.keys; uploads = index.uploads; slots = slots })
+  tied_replaced = tied_written index tied key slot at slots (candidate_of key place) (version_of key place on) put_own
+
+pub slot_there : (index : IndexRecord) (tied : IsTied index) (key : List ℕ) (slot : ℕ) → at_name key index.keys ≡ Some slot → IsSome (slot_at slot index.slots)
+slot_there index tied key slot at = let h = tied.keys key slot at in subst IsSome (sym h.there) refl

@@ -1,5 +1,7 @@
 -- An action without its key.
-use Rattle.std.specs.Prelude.{ℕ, List}
+use Rattle.std.specs.Prelude.{◌≡◌, ℕ, List}
+use Rattle.office_base.specs.declared.version_id.VersionId.{VersionId}
+use Rattle.due_core.specs.declared.action.Target.TheVariants.{Version}
 use Rattle.due_core.specs.declared.action.Action.{Action}
 use Rattle.due_core.specs.declared.action.Candidate.{Candidate}
 use Rattle.due_index.specs.declared.place.Place.{Place}
@@ -10,3 +12,8 @@ candidate_of key place = record {
   action = record { kind = place.kind; key = key; target = place.target; rule = place.rule; since = place.since };
   age = place.age;
 }
+
+-- the action is on a version
+pub record IsOnVersion (place : Place) : Type 0 where
+  pub version : VersionId
+  pub target : place.target ≡ Version version
