@@ -29,6 +29,14 @@ name_by a b Greater is = inr (λ e. let itself : bytes_cmp a b ≡ Equal = subst
 pub names : (a b : List ℕ) → (a ≡ b) ⊎ (a ≡ b → ⊥)
 names a b = name_by a b (bytes_cmp a b) refl
 
+not_at_by : (key k : List ℕ) (o : Ordering) → bytes_cmp key k ≡ o → (k ≡ key → ⊥) → is_eq o ≡ false
+not_at_by key k Less is apart = refl
+not_at_by key k Equal is apart = absurd (apart (sym (same_name key k is)))
+not_at_by key k Greater is apart = refl
+
+pub not_at : (key k : List ℕ) → (k ≡ key → ⊥) → is_eq (bytes_cmp key k) ≡ false
+not_at key k apart = not_at_by key k (bytes_cmp key k) refl apart
+
 -- ---- slots of other keys and uploads are other slots
 
 module _ (index : IndexRecord) (tied : IsTied index) where
@@ -243,3 +251,41 @@ module _ (index : IndexRecord) (tied : IsTied index) (key : List ℕ) (slot : �
 
 pub slot_there : (index : IndexRecord) (tied : IsTied index) (key : List ℕ) (slot : ℕ) → at_name key index.keys ≡ Some slot → IsSome (slot_at slot index.slots)
 slot_there index tied key slot at = let h = tied.keys key slot at in subst IsSome (sym h.there) refl
+
+-- ---- want of memory
+
+-- what was put into an empty slot is taken out again
+pub back_again : (index : IndexRecord) (more less : List (Option Candidate)) (slot : ℕ) (c : Candidate) → slot_at slot index.slots ≡ None
+    → IsPut index.slots more slot (Some c) → IsPut more less slot None → (k : ℕ) → slot_at k less ≡ slot_at k index.slots
+back_again index more less slot c empty put out k = elim (decide k slot) [
+      inl same ↦ ap (λ n. slot_at n less) same ∙ out.here ∙ sym empty ∙ ap (λ n. slot_at n index.slots) (sym same)
+    | inr apart ↦ out.others k apart ∙ put.others k apart
+    ]
+
+module _ (index : IndexRecord) (tied : IsTied index) (slots : List (Option Candidate)) (same : (k : ℕ) → slot_at k slots ≡ slot_at k index.slots) where
+  abbrev again : IndexRecord
+  again = record { keys = index.keys; uploads = index.uploads; slots = slots }
+
+  same_slot : (o : Option ℕ) → slot_of o slots ≡ slot_of o index.slots
+  same_slot None = refl
+  same_slot (Some s) = same s
+
+  pub keeps_again : KeepsNext index again
+  keeps_again = record { keys = λ key. same_slot (at_name key index.keys); uploads = λ number. same_slot (at_number number index.uploads) }
+
+  stands_again : (s : ℕ) (P : Candidate → Type 0) → Stands index s P → Stands again s P
+  stands_again s P h = record { candidate = h.candidate; there = same s ∙ h.there; is = h.is }
+
+  owned_again : (s : ℕ) (d : Candidate) (t : Target) → IsOwned index s d t → IsOwned again s d t
+  owned_again s d (target.Version id) h = h
+  owned_again s d (target.Upload number) h = h
+
+  pub tied_again : IsTied again
+  tied_again = record {
+    keys = λ k s is. stands_again s (IsOfKey k) (tied.keys k s is);
+    uploads = λ number s is. stands_again s _ (tied.uploads number s is);
+    owned = λ s d is. owned_again s d d.action.target (tied.owned s d (sym (same s) ∙ is));
+  }
+
+pub keeps_itself : (index : IndexRecord) → KeepsNext index index
+keeps_itself index = record { keys = λ key. refl; uploads = λ number. refl }
