@@ -16,9 +16,7 @@ use crate::change::{Done, change};
 use crate::counts::Counts;
 use accrual::Meters;
 use class_rules::Class;
-use due_core::{Action, Bucket, chosen};
-use due_index::DueIndex;
-use office_base::NoMemory;
+use due_core::Bucket;
 use moments::{Moment, Month};
 use office_types::{ClassMeters, Command, Refusal};
 use stacks::Versioning;
@@ -35,8 +33,6 @@ pub struct Account {
     versions: u64,
     // The bytes of its printed configuration.
     text_bytes: u64,
-    // What comes next; None where memory for it was wanting.
-    index: Option<DueIndex>,
 }
 
 impl Model for Account {
@@ -79,7 +75,6 @@ impl Account {
             meters: Meters::new(alloc),
             versions: 0,
             text_bytes: 0,
-            index: Some(DueIndex::new(alloc)),
         }
     }
 
@@ -105,7 +100,6 @@ impl Account {
         let done = change(
             &mut self.bucket,
             &mut self.meters,
-            &mut self.index,
             alloc,
             t,
             command,
@@ -122,24 +116,6 @@ impl Account {
         ensures { result.now ≡ self.now.bucket }
     {
         &self.bucket
-    }
-
-    /// Finds the lifecycle action that is due first.
-    pub fn chosen(&self, t: Moment) -> Result<Option<Action>, NoMemory>
-    {
-        match &self.index {
-            Some(index) => index.chosen(&self.bucket, t),
-            None => chosen(&self.bucket, t),
-        }
-    }
-
-    /// Counts the entries of the queue.
-    pub fn queued(&self) -> Option<u64>
-    {
-        match &self.index {
-            Some(index) => Some(index.entries()),
-            None => None,
-        }
     }
 
     /// Counts the versions.

@@ -13,7 +13,7 @@ ghost use Rattle.bucket_account.specs.Effects.{DoesEffect};
 ghost use Rattle.bucket_account.specs.Standing.{StandsForAccount, most_commands};
 
 use crate::adding::add_version;
-use crate::change::{Done, renew_all, renew_key, renew_upload};
+use crate::change::Done;
 use crate::counts::Counts;
 use crate::dropping::remove_upload;
 use crate::incoming::id_of;
@@ -21,7 +21,6 @@ use crate::moving::move_version;
 use crate::removing::remove_version;
 use accrual::Meters;
 use due_core::{Action, ActionKind, Bucket, Target, chosen};
-use due_index::DueIndex;
 use moments::Moment;
 use office_base::{NoMemory, Text, VersionId};
 use office_types::{Refusal, Reply};
@@ -142,7 +141,6 @@ fn shown(action: Action, rule: Text, marker: Option<VersionId>) -> Reply
 fn act_on(
     bucket: &mut Bucket,
     meters: &mut Meters,
-    index: &mut Option<DueIndex>,
     alloc: Global,
     t: Moment,
     action: Action,
@@ -171,10 +169,6 @@ fn act_on(
     };
     let marker = marker_made(action.kind, bucket);
     let counts = do_action(bucket, meters, alloc, t, &action, counts)?;
-    match action.target {
-        Target::Version(_) => renew_key(index, bucket, &action.key),
-        Target::Upload(number) => renew_upload(index, bucket, number),
-    }
     Ok(Done {
         counts,
         reply: shown(action, rule, marker),
@@ -192,7 +186,6 @@ fn act_on(
 pub(crate) fn act(
     bucket: &mut Bucket,
     meters: &mut Meters,
-    index: &mut Option<DueIndex>,
     alloc: Global,
     t: Moment,
     counts: Counts,
@@ -213,15 +206,8 @@ pub(crate) fn act(
     ensures few { IfOk result (IsFewMore counts) }
     ensures fits { IfOk result (λ done. ReplyFits done.reply) }
 {
-    if index.is_none() {
-        renew_all(index, alloc, bucket);
-    }
-    let choice = match index {
-        Some(kept) => kept.chosen(bucket, t),
-        None => chosen(bucket, t),
-    };
-    match choice {
-        Ok(Some(action)) => act_on(bucket, meters, index, alloc, t, action, counts),
+    match chosen(bucket, t) {
+        Ok(Some(action)) => act_on(bucket, meters, alloc, t, action, counts),
         Ok(None) => Ok(Done {
             counts,
             reply: Reply::NothingDue,

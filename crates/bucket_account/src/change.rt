@@ -18,8 +18,6 @@ use crate::upload::{abort, complete, put_part, start_upload};
 use crate::versioning::set_versioning;
 use accrual::Meters;
 use due_core::Bucket;
-use due_index::DueIndex;
-use office_base::Key;
 use moments::Moment;
 use office_types::{Command, Refusal, Reply};
 use std::alloc::Global;
@@ -35,7 +33,6 @@ pub struct Done {
 pub(crate) fn change(
     bucket: &mut Bucket,
     meters: &mut Meters,
-    index: &mut Option<DueIndex>,
     alloc: Global,
     t: Moment,
     command: &Command,
@@ -60,7 +57,7 @@ pub(crate) fn change(
     ensures few { IfOk result (IsFewMore counts) }
     ensures fits { IfOk result (λ done. ReplyFits done.reply) }
 {
-    let done = match command {
+    match command {
         Command::SetVersioning { enabled, .. } => {
             set_versioning(bucket, meters, t, *enabled, counts)
         }
@@ -94,55 +91,9 @@ pub(crate) fn change(
             size,
             ..
         } => put_part(bucket, meters, t, *upload, *part, *size, counts),
-        Command::Complete { upload, .. } => { complete(bucket, meters, index, alloc, t, *upload, counts) }
+        Command::Complete { upload, .. } => complete(bucket, meters, alloc, t, *upload, counts),
         Command::Abort { upload, .. } => abort(bucket, meters, t, *upload, counts),
-        Command::Act { .. } => return act(bucket, meters, index, alloc, t, counts),
-        _ => return Err(Refusal::NoMemory),
-    };
-    let done = done?;
-    match command {
-        Command::SetVersioning { .. } | Command::SetRules { .. } | Command::DropRules { .. } => {
-            renew_all(index, alloc, bucket)
-        }
-        Command::Put { key, .. }
-        | Command::Delete { key, .. }
-        | Command::DeleteVersion { key, .. }
-        | Command::SetTags { key, .. } => renew_key(index, bucket, key),
-        Command::StartUpload { .. } => renew_upload(index, bucket, bucket.next_upload - 1),
-        Command::PutPart { upload, .. }
-        | Command::Abort { upload, .. } => renew_upload(index, bucket, *upload),
-        _ => {}
-    }
-    Ok(done)
-}
-
-/// Renews what comes next on a key. Where memory is wanting, there is no index any more.
-pub(crate) fn renew_key(index: &mut Option<DueIndex>, bucket: &Bucket, key: &Key)
-{
-    let failed = match index {
-        Some(kept) => kept.renew_key(bucket, key).is_err(),
-        None => false,
-    };
-    if failed {
-        *index = None;
+        Command::Act { .. } => act(bucket, meters, alloc, t, counts),
+        _ => Err(Refusal::NoMemory),
     }
 }
-
-/// Renews what comes next on an upload. Where memory is wanting, there is no index any more.
-pub(crate) fn renew_upload(index: &mut Option<DueIndex>, bucket: &Bucket, upload: u64)
-{
-    let failed = match index {
-        Some(kept) => kept.renew_upload(bucket, upload).is_err(),
-        None => false,
-    };
-    if failed {
-        *index = None;
-    }
-}
-
-/// Renews all that comes next.
-pub(crate) fn renew_all(index: &mut Option<DueIndex>, alloc: Global, bucket: &Bucket)
-{
-    *index = DueIndex::build(alloc, bucket).ok();
-}
-

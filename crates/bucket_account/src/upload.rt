@@ -12,7 +12,7 @@ ghost use Rattle.bucket_account.specs.Uploading.{counts_started};
 ghost use Rattle.bucket_account.specs.Standing.{StandsForAccount, most_commands};
 
 use crate::adding::next_number;
-use crate::change::{Done, renew_key, renew_upload};
+use crate::change::Done;
 use crate::completing::{put_whole, whole};
 use crate::counts::Counts;
 use crate::dropping::{remove_upload, without};
@@ -21,7 +21,6 @@ use crate::parts::{put_in, with_part};
 use accrual::Meters;
 use class_rules::Class;
 use due_core::Bucket;
-use due_index::DueIndex;
 use moments::Moment;
 use office_base::{Key, Tags};
 use office_types::{Refusal, Reply, What};
@@ -172,7 +171,6 @@ pub(crate) fn put_part(
 pub(crate) fn complete(
     bucket: &mut Bucket,
     meters: &mut Meters,
-    index: &mut Option<DueIndex>,
     alloc: Global,
     t: Moment,
     upload: u64,
@@ -200,9 +198,7 @@ pub(crate) fn complete(
     let object = whole(kept, versioning, number, t)?;
     let left = without(counts, kept);
     let counts = put_whole(&mut bucket.stacks, meters, alloc, kept, object, left)?;
-    renew_key(index, bucket, kept.key());
     let _ = bucket.uploads.remove(&upload);
-    renew_upload(index, bucket, upload);
     bucket.next_version = next_number(versioning, number);
     Ok(Done {
         counts,

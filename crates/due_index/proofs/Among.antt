@@ -56,9 +56,9 @@ filtered p (y ∷ ys) x (inr h) is = keeps_by p y ys x (p y) (filtered p ys x h 
 pub among_flat_map : {X Y : Type 0} (f : X → List Y) (xs : List X) (y : Y) → Among (flat_map f xs) y → (x : X) × Among xs x × Among (f x) y
 among_flat_map f [] y h = absurd h
 among_flat_map f (x ∷ xs) y h = elim (among_append (f x) (flat_map f xs) y h) [
-      inl a ↦ (x, inl refl, a)
-    | inr b ↦ let found = among_flat_map f xs y b in (found.0, inr found.1, found.2)
-    ]
+  | inl a ↦ (x, inl refl, a)
+  | inr b ↦ let found = among_flat_map f xs y b in (found.0, inr found.1, found.2)
+]
 
 pub flat_mapped : {X Y : Type 0} (f : X → List Y) (xs : List X) (x : X) (y : Y) → Among xs x → Among (f x) y → Among (flat_map f xs) y
 flat_mapped f [] x y h k = absurd h

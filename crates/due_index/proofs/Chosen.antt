@@ -165,7 +165,7 @@ module _ (index : IndexRecord) (bucket : BucketRecord) (whole : IsBucket bucket)
         holds = place.2;
         not_after = first.none_before r among;
         alone = λ back. tied_on_key key stack least_of.0 r (on_key bucket rules key stack least_of.0 first.one) (on_key bucket rules key stack r among)
-        (neither_before least_of.0 r back (first.none_before r among));
+            (neither_before least_of.0 r back (first.none_before r among));
       }
 
   led_on_upload : (rules : Configuration) (number : ℕ) (upload : UploadRecord) (r : Candidate) → bucket.rules ≡ Some rules
@@ -184,15 +184,15 @@ module _ (index : IndexRecord) (bucket : BucketRecord) (whole : IsBucket bucket)
         holds = place.2;
         not_after = first.none_before r among;
         alone = λ back. tied_on_upload number upload least_of.0 r (on_upload bucket rules number upload least_of.0 first.one) (on_upload bucket rules number upload r among)
-        (neither_before least_of.0 r back (first.none_before r among));
+            (neither_before least_of.0 r back (first.none_before r among));
       }
 
   led_by : (o : Option Configuration) (r : Candidate) → bucket.rules ≡ o → Among (eligible_by bucket o) r → IsLed r
   led_by None r own h = absurd h
   led_by (Some rules) r own h =
       elim (among_append (flat_map (stack_candidates bucket rules) bucket.stacks) (flat_map (upload_candidates bucket rules) bucket.uploads) r h) [
-        inl a ↦ let found = among_flat_map (stack_candidates bucket rules) bucket.stacks r a in led_on_key rules found.0.0 found.0.1 r own found.1 found.2
-      | inr b ↦ let found = among_flat_map (upload_candidates bucket rules) bucket.uploads r b in led_on_upload rules found.0.0 found.0.1 r own found.1 found.2
+        | inl a ↦ let found = among_flat_map (stack_candidates bucket rules) bucket.stacks r a in led_on_key rules found.0.0 found.0.1 r own found.1 found.2
+        | inr b ↦ let found = among_flat_map (upload_candidates bucket rules) bucket.uploads r b in led_on_upload rules found.0.0 found.0.1 r own found.1 found.2
       ]
 
   pub led : (r : Candidate) → Among (eligible bucket) r → IsLed r

@@ -98,9 +98,9 @@ module _ (index : IndexRecord) (tied : IsTied index) (key : List ℕ) (slot : �
       (subst (λ t. IsOwned written s c t) (sym of_key.target) (ap (λ k. at_name k index.keys) of_key.own ∙ at ∙ ap Some (sym same)))
   owned_by s d is (inr apart) = owned_same s d d.action.target (tied.owned s d (sym (put.others s apart) ∙ is))
     where
-    owned_same : (s : ℕ) (d : Candidate) (t : Target) → IsOwned index s d t → IsOwned written s d t
-    owned_same s d (target.Version id) h = h
-    owned_same s d (target.Upload number) h = h
+      owned_same : (s : ℕ) (d : Candidate) (t : Target) → IsOwned index s d t → IsOwned written s d t
+      owned_same s d (target.Version id) h = h
+      owned_same s d (target.Upload number) h = h
 
   pub tied_written : IsTied written
   tied_written = record {
@@ -223,9 +223,9 @@ pub renewed : (old new : IndexRecord) (bucket : BucketRecord) (key : List ℕ) �
     → SetsNextOnKey old new key (first_on_key bucket key) → StandsFor new bucket
 renewed old new bucket key but sets = record {
   keys = λ k. elim (names k key) [
-      inl same ↦ ap (next_on_key new) same ∙ sets.here ∙ ap (first_on_key bucket) (sym same)
+    | inl same ↦ ap (next_on_key new) same ∙ sets.here ∙ ap (first_on_key bucket) (sym same)
     | inr apart ↦ sets.others k apart ∙ but.keys k apart
-    ];
+  ];
   uploads = λ number. sets.uploads number ∙ but.uploads number;
 }
 
@@ -258,9 +258,9 @@ slot_there index tied key slot at = let h = tied.keys key slot at in subst IsSom
 pub back_again : (index : IndexRecord) (more less : List (Option Candidate)) (slot : ℕ) (c : Candidate) → slot_at slot index.slots ≡ None
     → IsPut index.slots more slot (Some c) → IsPut more less slot None → (k : ℕ) → slot_at k less ≡ slot_at k index.slots
 back_again index more less slot c empty put out k = elim (decide k slot) [
-      inl same ↦ ap (λ n. slot_at n less) same ∙ out.here ∙ sym empty ∙ ap (λ n. slot_at n index.slots) (sym same)
-    | inr apart ↦ out.others k apart ∙ put.others k apart
-    ]
+  | inl same ↦ ap (λ n. slot_at n less) same ∙ out.here ∙ sym empty ∙ ap (λ n. slot_at n index.slots) (sym same)
+  | inr apart ↦ out.others k apart ∙ put.others k apart
+]
 
 module _ (index : IndexRecord) (tied : IsTied index) (slots : List (Option Candidate)) (same : (k : ℕ) → slot_at k slots ≡ slot_at k index.slots) where
   abbrev again : IndexRecord

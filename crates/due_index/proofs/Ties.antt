@@ -143,23 +143,23 @@ object_kinds : (versioning : Versioning) (mode : SizeMode) (rule : Rule) (size :
     → Among (object_actions versioning mode rule size class created) due → kind_place due.0 < 3
 object_kinds versioning mode rule size class created due h =
     elim (among_append (expiration_actions versioning rule created) (transition_actions mode rule size class created) due h) [
-      inl a ↦ let found = among_map _ _ due a in subst (λ (d : DueAction). kind_place d.0 < 3) found.2 (expiring_kind versioning)
-    | inr b ↦ let found = among_map _ _ due b in subst (λ (d : DueAction). kind_place d.0 < 3) found.2 (omega arith)
+      | inl a ↦ let found = among_map _ _ due a in subst (λ (d : DueAction). kind_place d.0 < 3) found.2 (expiring_kind versioning)
+      | inr b ↦ let found = among_map _ _ due b in subst (λ (d : DueAction). kind_place d.0 < 3) found.2 (omega arith)
     ]
 
 noncurrent_kinds : (mode : SizeMode) (rule : Rule) (size : ℕ) (class : Class) (newer ceased : ℕ) (due : DueAction)
     → Among (noncurrent_removals rule newer ceased ++ noncurrent_transitions mode rule size class newer ceased) due → kind_place due.0 < 3
 noncurrent_kinds mode rule size class newer ceased due h =
     elim (among_append (noncurrent_removals rule newer ceased) (noncurrent_transitions mode rule size class newer ceased) due h) [
-      inl a ↦ removal_kinds rule newer ceased due a
-    | inr b ↦ move_kinds mode rule size class newer ceased due b
+      | inl a ↦ removal_kinds rule newer ceased due a
+      | inr b ↦ move_kinds mode rule size class newer ceased due b
     ]
 
 lone_kinds : (rule : Rule) (created changed : ℕ) (due : DueAction) → Among (lone_marker_actions rule created changed) due → kind_place due.0 < 3
 lone_kinds rule created changed due h =
     elim (among_append (marker_expirations rule created) (lone_marker_removals rule changed) due h) [
-      inl a ↦ let found = among_map _ _ due a in subst (λ (d : DueAction). kind_place d.0 < 3) found.2 (omega arith)
-    | inr b ↦ let found = among_map _ _ due b in subst (λ (d : DueAction). kind_place d.0 < 3) found.2 (omega arith)
+      | inl a ↦ let found = among_map _ _ due a in subst (λ (d : DueAction). kind_place d.0 < 3) found.2 (omega arith)
+      | inr b ↦ let found = among_map _ _ due b in subst (λ (d : DueAction). kind_place d.0 < 3) found.2 (omega arith)
     ]
 
 in_either : (b : Bool) (xs ys : List DueAction) (due : DueAction) → ((d : DueAction) → Among xs d → kind_place d.0 < 3)
@@ -203,7 +203,7 @@ on_key bucket rules key stack c h =
     let of_version = among_flat_map _ (placed_from 0 stack.versions) c h in
     let of_rule = among_flat_map _ (filter (λ numbered. matches_version numbered.1.filter key of_version.0.version) (enabled_rules rules)) c of_version.2 in
     let fields = from_timely key (target.Version of_version.0.version.id) of_rule.0.0 of_version.0.older (max stack.changed bucket.rules_since)
-        (version_actions bucket.versioning rules.mode stack.changed of_rule.0.1 of_version.0) c of_rule.2 in
+    (version_actions bucket.versioning rules.mode stack.changed of_rule.0.1 of_version.0) c of_rule.2 in
     record {
       own = fields.0;
       placed = of_version.0;
@@ -211,7 +211,7 @@ on_key bucket rules key stack c h =
       on = fields.1;
       older = fields.3;
       kind = subst (λ k. kind_place k < 3) (sym fields.4.2)
-      (version_kinds bucket.versioning rules.mode stack.changed of_rule.0.1 of_version.0 fields.4.0 fields.4.1);
+          (version_kinds bucket.versioning rules.mode stack.changed of_rule.0.1 of_version.0 fields.4.0 fields.4.1);
     }
 
 -- ---- candidates on an upload
@@ -227,7 +227,7 @@ pub on_upload : (bucket : BucketRecord) (rules : Configuration) (number : ℕ) (
 on_upload bucket rules number upload c h =
     let of_rule = among_flat_map _ (filter (λ numbered. matches_upload numbered.1.filter upload.key) (enabled_rules rules)) c h in
     let fields = from_timely upload.key (target.Upload number) of_rule.0.0 number (max upload.changed bucket.rules_since)
-        (upload_actions of_rule.0.1 upload) c of_rule.2 in
+    (upload_actions of_rule.0.1 upload) c of_rule.2 in
     record {
       own = fields.0;
       on = fields.1;
@@ -264,7 +264,7 @@ tied c d is =
     record {
       since = are_equal c.action.since d.action.since since.0;
       kind = same_kind c.action.kind d.action.kind (are_equal (kind_place c.action.kind) (kind_place d.action.kind) kind.0)
-      (sym (are_equal (coldness d.action.kind) (coldness c.action.kind) cold.0));
+          (sym (are_equal (coldness d.action.kind) (coldness c.action.kind) cold.0));
       age = are_equal c.age d.age age.0;
       rule = are_equal c.action.rule d.action.rule cold.1;
     }

@@ -82,19 +82,19 @@ module _ (slots : List (Option Candidate)) (nodes : List Node) (at : ℕ) (v : N
 
   winner_there : (k : ℕ) → (k ≡ at → ⊥) → (IsOnPath k (at / 2) → ⊥) → IsWinner slots nodes k → IsWinner slots after k
   winner_there k apart above h d = (
-      moved (get_or nodes k d) (get_or nodes (2 * k) d) (get_or after k d) (get_or after (2 * k) d) (there k d apart)
-      (there (2 * k) d (λ is. above (0, omega arith))) (h d).0,
-      moved (get_or nodes k d) (get_or nodes (2 * k + 1) d) (get_or after k d) (get_or after (2 * k + 1) d) (there k d apart)
-      (there (2 * k + 1) d (λ is. above (0, omega arith))) (h d).1,
-    )
+    moved (get_or nodes k d) (get_or nodes (2 * k) d) (get_or after k d) (get_or after (2 * k) d) (there k d apart)
+        (there (2 * k) d (λ is. above (0, omega arith))) (h d).0,
+    moved (get_or nodes k d) (get_or nodes (2 * k + 1) d) (get_or after k d) (get_or after (2 * k + 1) d) (there k d apart)
+        (there (2 * k + 1) d (λ is. above (0, omega arith))) (h d).1,
+  )
 
   winner_here : (e : Node) → 2 * at + 1 < length nodes → IsNotAfter slots v (get_or nodes (2 * at) e) → IsNotAfter slots v (get_or nodes (2 * at + 1) e) → IsWinner slots after at
   winner_here e inside first second d = (
-      moved v (get_or nodes (2 * at) e) (get_or after at d) (get_or after (2 * at) d) (here d)
-      (there (2 * at) d (λ is. omega arith) ∙ any_default nodes (2 * at) d e (omega arith)) first,
-      moved v (get_or nodes (2 * at + 1) e) (get_or after at d) (get_or after (2 * at + 1) d) (here d)
-      (there (2 * at + 1) d (λ is. omega arith) ∙ any_default nodes (2 * at + 1) d e (omega arith)) second,
-    )
+    moved v (get_or nodes (2 * at) e) (get_or after at d) (get_or after (2 * at) d) (here d)
+        (there (2 * at) d (λ is. omega arith) ∙ any_default nodes (2 * at) d e (omega arith)) first,
+    moved v (get_or nodes (2 * at + 1) e) (get_or after at d) (get_or after (2 * at + 1) d) (here d)
+        (there (2 * at + 1) d (λ is. omega arith) ∙ any_default nodes (2 * at + 1) d e (omega arith)) second,
+  )
 
   -- a leaf
   pub with_leaf : (slot : ℕ) → at ≡ off.half + slot → v.slot ≡ slot → IsTournamentOff slots after (at / 2)
@@ -103,9 +103,9 @@ module _ (slots : List (Option Candidate)) (nodes : List Node) (at : ℕ) (v : N
     size = length-set nodes at v ∙ off.size;
     fits = off.fits;
     leaves = λ i d less. elim (decide (off.half + i) at) [
-        inl same ↦ ap (λ (n : Node). n.slot) (ap (λ k. get_or after k d) same ∙ here d) ∙ own ∙ omega arith
+      | inl same ↦ ap (λ (n : Node). n.slot) (ap (λ k. get_or after k d) same ∙ here d) ∙ own ∙ omega arith
       | inr apart ↦ ap (λ (n : Node). n.slot) (there (off.half + i) d apart) ∙ off.leaves i d less
-      ];
+    ];
     exact = λ k d one less above. exact_by k d one less above (decide k at);
     winners = λ k one less above. winner_there k (λ same. omega arith) above (off.winners k one less (not_on k (λ same. omega arith) above));
     below = λ k d one less. below_by k d one less (decide k at);
@@ -120,9 +120,9 @@ module _ (slots : List (Option Candidate)) (nodes : List Node) (at : ℕ) (v : N
     leaves = λ i d less. ap (λ (n : Node). n.slot) (there (off.half + i) d (λ same. omega arith)) ∙ off.leaves i d less;
     exact = λ k d one less above. exact_by k d one less above (decide k at);
     winners = λ k one less above. elim (decide k at) [
-        inl same ↦ subst (λ n. IsWinner slots after n) (sym same) (winner_here e (let size = off.size in omega arith) first second)
+      | inl same ↦ subst (λ n. IsWinner slots after n) (sym same) (winner_here e (let size = off.size in omega arith) first second)
       | inr apart ↦ winner_there k apart above (off.winners k one less (not_on k apart above))
-      ];
+    ];
     below = λ k d one less. below_by k d one less (decide k at);
   }
 
@@ -174,9 +174,12 @@ module _ (slots : List (Option Candidate)) (nodes : List Node) (whole : IsTourna
   head_by d None is inside = λ slot c held.
       let first = leaf_first slot c d (inside slot c held) held in
       let no_less : is_sooner (Some c) None ≡ false = subst (λ o. is_sooner (Some c) o ≡ false) is first in absurd cc
-  head_by d (Some h) is inside = (((get_or nodes 1 d).slot, is), λ slot c held.
-      let first = leaf_first slot c d (inside slot c held) held in
-      subst (λ o. is_sooner (Some c) o ≡ false) is first)
+  head_by d (Some h) is inside = (
+    ((get_or nodes 1 d).slot, is),
+    λ slot c held.
+        let first = leaf_first slot c d (inside slot c held) held in
+        subst (λ o. is_sooner (Some c) o ≡ false) is first,
+  )
 
 -- ---- the tournament is made from its leaves up
 
@@ -194,9 +197,12 @@ from_leaves slots nodes half h = record {
   leaves = h.leaves;
   exact = λ i d le less. subst (λ k. IsExact slots (get_or nodes k d)) (let same : half + (i - half) ≡ i = omega arith in same) (h.exact (i - half) d (omega arith));
   winners = λ i le less. absurd (omega arith);
-  below = λ i d le less. (0, let slot = h.leaves (i - half) d (omega arith) in
-    let same : half + (i - half) ≡ i = omega arith in
-    let here : (get_or nodes i d).slot ≡ i - half = subst (λ k. (get_or nodes k d).slot ≡ i - half) same slot in omega arith);
+  below = λ i d le less. (
+    0,
+    let slot = h.leaves (i - half) d (omega arith) in
+        let same : half + (i - half) ≡ i = omega arith in
+        let here : (get_or nodes i d).slot ≡ i - half = subst (λ k. (get_or nodes k d).slot ≡ i - half) same slot in omega arith,
+  );
 }
 
 module _ (slots : List (Option Candidate)) (nodes : List Node) (half at : ℕ) (v e : Node) (h : IsTournamentFrom slots nodes half (at + 1))
@@ -217,27 +223,27 @@ module _ (slots : List (Option Candidate)) (nodes : List Node) (half at : ℕ) (
     size = length-set nodes at v ∙ h.size;
     leaves = λ i d less. ap (λ (n : Node). n.slot) (there_too (half + i) d (λ same. omega arith)) ∙ h.leaves i d less;
     exact = λ i d le less. elim (decide i at) [
-        inl same ↦ subst (λ k. IsExact slots (get_or (set nodes at v) k d)) (sym same) (subst (λ n. IsExact slots n) (sym (here_now d)) exact)
+      | inl same ↦ subst (λ k. IsExact slots (get_or (set nodes at v) k d)) (sym same) (subst (λ n. IsExact slots n) (sym (here_now d)) exact)
       | inr apart ↦ subst (λ n. IsExact slots n) (sym (there_too i d apart)) (h.exact i d (omega arith) less)
-      ];
+    ];
     winners = λ i le less. elim (decide i at) [
-        inl same ↦ let size = h.size in subst (λ k. IsWinner slots (set nodes at v) k) (sym same) (λ d. (
+      | inl same ↦ let size = h.size in subst (λ k. IsWinner slots (set nodes at v) k) (sym same) (λ d. (
         both v (get_or nodes (2 * at) e) (get_or (set nodes at v) at d) (get_or (set nodes at v) (2 * at) d) (here_now d)
-        (there_too (2 * at) d (λ k. omega arith) ∙ any_default nodes (2 * at) d e (omega arith)) first,
+            (there_too (2 * at) d (λ k. omega arith) ∙ any_default nodes (2 * at) d e (omega arith)) first,
         both v (get_or nodes (2 * at + 1) e) (get_or (set nodes at v) at d) (get_or (set nodes at v) (2 * at + 1) d) (here_now d)
-        (there_too (2 * at + 1) d (λ k. omega arith) ∙ any_default nodes (2 * at + 1) d e (omega arith)) second,
+            (there_too (2 * at + 1) d (λ k. omega arith) ∙ any_default nodes (2 * at + 1) d e (omega arith)) second,
       ))
       | inr apart ↦ λ d. (
         both (get_or nodes i d) (get_or nodes (2 * i) d) (get_or (set nodes at v) i d) (get_or (set nodes at v) (2 * i) d) (there_too i d apart)
-        (there_too (2 * i) d (λ k. omega arith)) (h.winners i (omega arith) less d).0,
+            (there_too (2 * i) d (λ k. omega arith)) (h.winners i (omega arith) less d).0,
         both (get_or nodes i d) (get_or nodes (2 * i + 1) d) (get_or (set nodes at v) i d) (get_or (set nodes at v) (2 * i + 1) d) (there_too i d apart)
-        (there_too (2 * i + 1) d (λ k. omega arith)) (h.winners i (omega arith) less d).1,
+            (there_too (2 * i + 1) d (λ k. omega arith)) (h.winners i (omega arith) less d).1,
       )
-      ];
+    ];
     below = λ i d le less. elim (decide i at) [
-        inl same ↦ subst (λ k. IsOnPath k (half + (get_or (set nodes at v) k d).slot)) (sym same) (subst (λ (n : Node). IsOnPath at (half + n.slot)) (sym (here_now d)) under_at)
+      | inl same ↦ subst (λ k. IsOnPath k (half + (get_or (set nodes at v) k d).slot)) (sym same) (subst (λ (n : Node). IsOnPath at (half + n.slot)) (sym (here_now d)) under_at)
       | inr apart ↦ subst (λ (n : Node). IsOnPath i (half + n.slot)) (sym (there_too i d apart)) (h.below i d (omega arith) less)
-      ];
+    ];
   }
 
 pub whole_from : (slots : List (Option Candidate)) (nodes : List Node) (half at : ℕ) → at ≤ 1 → length slots ≤ half → IsTournamentFrom slots nodes half at → IsTournament slots nodes
@@ -269,15 +275,15 @@ other_slot slots other nodes slot half whole size less fits same =
       leaves = λ i d inside. subst (λ h. (get_or nodes (h + i) d).slot ≡ i) halves (whole.leaves i d (omega arith));
       exact = λ i d one inside off. whole.exact i d one (omega arith) ∙ ap order_of (sym (won i d one inside off));
       winners = λ i one inside off d.
-        let left : IsOnPath (2 * i) (half + slot) → ⊥ = λ on. off (path_parent i (2 * i) (half + slot) (omega arith) on) in
-        let right : IsOnPath (2 * i + 1) (half + slot) → ⊥ = λ on. off (path_parent i (2 * i + 1) (half + slot) (omega arith) on) in
-        let old = whole.winners i one (omega arith) d in
-        let own = won i d one (omega arith) off in (
-          ap (λ o. is_sooner o (won_by other (get_or nodes i d))) (won (2 * i) d (omega arith) (omega arith) left)
-          ∙ ap (λ o. is_sooner (won_by slots (get_or nodes (2 * i) d)) o) own ∙ old.0,
-          ap (λ o. is_sooner o (won_by other (get_or nodes i d))) (won (2 * i + 1) d (omega arith) (omega arith) right)
-          ∙ ap (λ o. is_sooner (won_by slots (get_or nodes (2 * i + 1) d)) o) own ∙ old.1,
-        );
+          let left : IsOnPath (2 * i) (half + slot) → ⊥ = λ on. off (path_parent i (2 * i) (half + slot) (omega arith) on) in
+          let right : IsOnPath (2 * i + 1) (half + slot) → ⊥ = λ on. off (path_parent i (2 * i + 1) (half + slot) (omega arith) on) in
+          let old = whole.winners i one (omega arith) d in
+          let own = won i d one (omega arith) off in (
+            ap (λ o. is_sooner o (won_by other (get_or nodes i d))) (won (2 * i) d (omega arith) (omega arith) left)
+                ∙ ap (λ o. is_sooner (won_by slots (get_or nodes (2 * i) d)) o) own ∙ old.0,
+            ap (λ o. is_sooner o (won_by other (get_or nodes i d))) (won (2 * i + 1) d (omega arith) (omega arith) right)
+                ∙ ap (λ o. is_sooner (won_by slots (get_or nodes (2 * i + 1) d)) o) own ∙ old.1,
+          );
       below = λ i d one inside. subst (λ h. IsOnPath i (h + (get_or nodes i d).slot)) halves (whole.below i d one (omega arith));
     }
 

@@ -41,7 +41,9 @@ fn comes_before(a: &Candidate, b: &Candidate) -> bool
     }
     let colder = coldness(b.action.kind).cmp(&coldness(a.action.kind));
     let decided = a.age.cmp(&b.age);
-    decided.then(colder.then(a.action.rule.cmp(&b.action.rule))).is_lt()
+    decided
+        .then(colder.then(a.action.rule.cmp(&b.action.rule)))
+        .is_lt()
 }
 
 // What stands in a slot.

@@ -28,17 +28,17 @@ loop-i-preserved c =
     let test = c.loop-i-test.true in
     let same : c.loop-i.i ≡ c.loop-i.i - 1 + 1 = omega arith in
     let exact : IsExact c.args.slots.now c.earlier.result = elim c.earlier.ensures.either [
-      inl is ↦ subst (λ n. IsExact c.args.slots.now n) (sym is) (h.exact (2 * (c.loop-i.i - 1)) (record { order = 0; slot = 0 }) (omega arith) (omega arith))
-    | inr is ↦ subst (λ n. IsExact c.args.slots.now n) (sym is) (h.exact (2 * (c.loop-i.i - 1) + 1) (record { order = 0; slot = 0 }) (omega arith) (omega arith))
+      | inl is ↦ subst (λ n. IsExact c.args.slots.now n) (sym is) (h.exact (2 * (c.loop-i.i - 1)) (record { order = 0; slot = 0 }) (omega arith) (omega arith))
+      | inr is ↦ subst (λ n. IsExact c.args.slots.now n) (sym is) (h.exact (2 * (c.loop-i.i - 1) + 1) (record { order = 0; slot = 0 }) (omega arith) (omega arith))
     ] in
     let under : IsOnPath (c.loop-i.i - 1) (c.args.half + c.earlier.result.slot) = elim c.earlier.ensures.either [
-      inl is ↦ subst (λ (n : Node). IsOnPath (c.loop-i.i - 1) (c.args.half + n.slot)) (sym is) (path_parent (c.loop-i.i - 1) (2 * (c.loop-i.i - 1)) _ (omega arith)
-      (h.below (2 * (c.loop-i.i - 1)) (record { order = 0; slot = 0 }) (omega arith) (omega arith)))
-    | inr is ↦ subst (λ (n : Node). IsOnPath (c.loop-i.i - 1) (c.args.half + n.slot)) (sym is) (path_parent (c.loop-i.i - 1) (2 * (c.loop-i.i - 1) + 1) _ (omega arith)
-      (h.below (2 * (c.loop-i.i - 1) + 1) (record { order = 0; slot = 0 }) (omega arith) (omega arith)))
+      | inl is ↦ subst (λ (n : Node). IsOnPath (c.loop-i.i - 1) (c.args.half + n.slot)) (sym is) (path_parent (c.loop-i.i - 1) (2 * (c.loop-i.i - 1)) _ (omega arith)
+          (h.below (2 * (c.loop-i.i - 1)) (record { order = 0; slot = 0 }) (omega arith) (omega arith)))
+      | inr is ↦ subst (λ (n : Node). IsOnPath (c.loop-i.i - 1) (c.args.half + n.slot)) (sym is) (path_parent (c.loop-i.i - 1) (2 * (c.loop-i.i - 1) + 1) _ (omega arith)
+          (h.below (2 * (c.loop-i.i - 1) + 1) (record { order = 0; slot = 0 }) (omega arith) (omega arith)))
     ] in record {
       from = one_more c.args.slots.now c.loop-i.nodes c.args.half (c.loop-i.i - 1) c.earlier.result (record { order = 0; slot = 0 })
-      (subst (λ k. IsTournamentFrom c.args.slots.now c.loop-i.nodes c.args.half k) same h) (omega arith) (omega arith) exact c.earlier.ensures.first c.earlier.ensures.second under;
+          (subst (λ k. IsTournamentFrom c.args.slots.now c.loop-i.nodes c.args.half k) same h) (omega arith) (omega arith) exact c.earlier.ensures.first c.earlier.ensures.second under;
       within = omega arith;
     }
 

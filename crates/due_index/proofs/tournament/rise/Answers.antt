@@ -11,7 +11,7 @@ loop-i-init c =
     let fits = c.requires.below.fits in
     let less = c.requires.slot in record {
       off = with_leaf c.args.slots.now c.args.nodes.now (length c.args.nodes.now / 2 + c.args.slot) c.leaf.result c.requires.below
-      (omega arith) (omega arith) c.leaf.ensures.exact (0, let own = c.leaf.ensures.slot in omega arith) c.args.slot (omega arith) c.leaf.ensures.slot;
+          (omega arith) (omega arith) c.leaf.ensures.exact (0, let own = c.leaf.ensures.slot in omega arith) c.args.slot (omega arith) c.leaf.ensures.slot;
       from_one = omega arith;
       within = let same = length-set c.args.nodes.now (length c.args.nodes.now / 2 + c.args.slot) c.leaf.result in omega arith;
     }
@@ -41,19 +41,19 @@ loop-i-preserved c =
     let within = c.loop-i.invariant.within in
     let test = c.loop-i-test.true in
     let exact : IsExact c.args.slots.now c.earlier.result = elim c.earlier.ensures.either [
-      inl is ↦ subst (λ n. IsExact c.args.slots.now n) (sym is) (off.exact (2 * (c.loop-i.i / 2)) (record { order = 0; slot = 0 }) (omega arith) (omega arith)
-      (λ on. let le = path_le (2 * (c.loop-i.i / 2)) (c.loop-i.i / 2) on in omega arith))
-    | inr is ↦ subst (λ n. IsExact c.args.slots.now n) (sym is) (off.exact (2 * (c.loop-i.i / 2) + 1) (record { order = 0; slot = 0 }) (omega arith) (omega arith)
-      (λ on. let le = path_le (2 * (c.loop-i.i / 2) + 1) (c.loop-i.i / 2) on in omega arith))
+      | inl is ↦ subst (λ n. IsExact c.args.slots.now n) (sym is) (off.exact (2 * (c.loop-i.i / 2)) (record { order = 0; slot = 0 }) (omega arith) (omega arith)
+          (λ on. let le = path_le (2 * (c.loop-i.i / 2)) (c.loop-i.i / 2) on in omega arith))
+      | inr is ↦ subst (λ n. IsExact c.args.slots.now n) (sym is) (off.exact (2 * (c.loop-i.i / 2) + 1) (record { order = 0; slot = 0 }) (omega arith) (omega arith)
+          (λ on. let le = path_le (2 * (c.loop-i.i / 2) + 1) (c.loop-i.i / 2) on in omega arith))
     ] in
     let under : IsOnPath (c.loop-i.i / 2) (off.half + c.earlier.result.slot) = elim c.earlier.ensures.either [
-      inl is ↦ subst (λ (n : Node). IsOnPath (c.loop-i.i / 2) (off.half + n.slot)) (sym is) (path_parent (c.loop-i.i / 2) (2 * (c.loop-i.i / 2)) _ (omega arith)
-      (off.below (2 * (c.loop-i.i / 2)) (record { order = 0; slot = 0 }) (omega arith) (omega arith)))
-    | inr is ↦ subst (λ (n : Node). IsOnPath (c.loop-i.i / 2) (off.half + n.slot)) (sym is) (path_parent (c.loop-i.i / 2) (2 * (c.loop-i.i / 2) + 1) _ (omega arith)
-      (off.below (2 * (c.loop-i.i / 2) + 1) (record { order = 0; slot = 0 }) (omega arith) (omega arith)))
+      | inl is ↦ subst (λ (n : Node). IsOnPath (c.loop-i.i / 2) (off.half + n.slot)) (sym is) (path_parent (c.loop-i.i / 2) (2 * (c.loop-i.i / 2)) _ (omega arith)
+          (off.below (2 * (c.loop-i.i / 2)) (record { order = 0; slot = 0 }) (omega arith) (omega arith)))
+      | inr is ↦ subst (λ (n : Node). IsOnPath (c.loop-i.i / 2) (off.half + n.slot)) (sym is) (path_parent (c.loop-i.i / 2) (2 * (c.loop-i.i / 2) + 1) _ (omega arith)
+          (off.below (2 * (c.loop-i.i / 2) + 1) (record { order = 0; slot = 0 }) (omega arith) (omega arith)))
     ] in record {
       off = with_winner c.args.slots.now c.loop-i.nodes (c.loop-i.i / 2) c.earlier.result off (omega arith) (omega arith) exact under
-      (record { order = 0; slot = 0 }) (omega arith) c.earlier.ensures.first c.earlier.ensures.second;
+          (record { order = 0; slot = 0 }) (omega arith) c.earlier.ensures.first c.earlier.ensures.second;
       from_one = omega arith;
       within = let same = length-set c.loop-i.nodes (c.loop-i.i / 2) c.earlier.result in omega arith;
     }
