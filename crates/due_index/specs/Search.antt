@@ -1,0 +1,115 @@
+-- How the first action on a key or an upload is searched: what is kept so far, with the next one looked at.
+use Rattle.std.specs.Prelude.{ℕ, ◌-◌, ◌==◌, ◌++◌, max, List, [], ◌∷◌, fold, flat_map, nat_lt, Option, Some, None, option_map, if◌then◌else◌}
+use Rattle.std.specs.List.{enumerate_from}
+use Rattle.moments.specs.Time.{end_of_time}
+use Rattle.rules_core.specs.Matching.{matches_upload}
+use Rattle.rules_core.specs.Configurations.{Configuration}
+use Rattle.rules_core.specs.declared.rule.Rule.{Rule}
+use Rattle.stacks.specs.Stacks.{StackRecord}
+use Rattle.stacks.specs.declared.version.Version.{Version}
+use Rattle.uploads.specs.Uploads.{UploadRecord}
+use Rattle.due_core.specs.Buckets.{BucketRecord}
+use Rattle.due_core.specs.Candidates.{timely}
+use Rattle.due_core.specs.RuleActions.{DueAction, Placed, placed_from, object_actions, noncurrent_removals, noncurrent_transitions}
+use Rattle.due_core.specs.RuleActions.{version_actions, matches_version, upload_actions}
+use Rattle.due_core.specs.Search.{sooner}
+use Rattle.due_core.specs.declared.action.Target.{Target}
+use Rattle.due_core.specs.declared.action.Target.TheVariants as target
+use Rattle.due_core.specs.declared.action.Candidate.{Candidate}
+use Rattle.due_index.specs.Places.{candidate_of}
+use Rattle.due_index.specs.declared.place.Place.{Place}
+use Rattle.due_index.specs.declared.asked.Held.{Held}
+use Rattle.due_index.specs.declared.asked.Setting.{Setting}
+
+-- the action of a place, on this key
+abbrev pub on_key : List ℕ → Option Place → Option Candidate
+on_key key place = option_map (candidate_of key) place
+
+-- the first so far, once one more was looked at
+abbrev pub with_one : Option Candidate → Candidate → Option Candidate
+with_one first next = Some (sooner first next)
+
+-- the first so far, once these were looked at
+abbrev pub with_each : Option Candidate → List Candidate → Option Candidate
+with_each first candidates = fold with_one first candidates
+
+-- a target and a rule that matches it, and the moment before which no action on it stands
+pub record Aim : Type 0 where
+  pub key : List ℕ
+  pub target : Target
+  pub age : ℕ
+  pub rule : ℕ
+  pub not_before : ℕ
+
+-- the candidate that an action makes: it stands at its due moment, but not before the moment that the aim names
+abbrev pub aimed : Aim → DueAction → Candidate
+aimed aim due = record {
+  action = record {
+    kind = due.0;
+    key = aim.key;
+    target = aim.target;
+    rule = aim.rule;
+    since = max due.1 aim.not_before;
+  };
+  age = aim.age;
+}
+
+-- an action that the rule asks for is looked at, unless it is never due
+abbrev pub with_due : Aim → Option Candidate → DueAction → Option Candidate
+with_due aim first due = if nat_lt due.1 end_of_time then with_one first (aimed aim due) else first
+
+-- the first so far, once all that the rule asks for was looked at
+abbrev pub with_each_due : Aim → Option Candidate → List DueAction → Option Candidate
+with_each_due aim first asked = fold (with_due aim) first asked
+
+-- ---- the candidates in the order of the search: each version, and each rule with its place from 1
+
+-- what of a bucket and its configuration bears on a search
+abbrev pub setting_of : BucketRecord → Configuration → Setting
+setting_of bucket rules =
+    record { versioning = bucket.versioning; mode = rules.mode; rules_since = bucket.rules_since }
+
+-- what a rule asks of an object with so many newer versions
+abbrev pub asked_of_object : Setting → Rule → Held → Version → ℕ → List DueAction
+asked_of_object setting rule object version newer =
+    if newer == 0
+    then object_actions setting.versioning setting.mode rule object.size object.class version.created
+    else noncurrent_removals rule (newer - 1) version.ceased
+    ++ noncurrent_transitions setting.mode rule object.size object.class (newer - 1) version.ceased
+
+-- what an enabled rule asks of a version that it matches, in a stack that changed last at this moment
+abbrev pub asked_of_version : Setting → List ℕ → ℕ → Placed → ℕ × Rule → List Candidate
+asked_of_version setting key changed placed numbered =
+    if numbered.1.enabled
+    then (
+    if matches_version numbered.1.filter key placed.version
+    then timely key (target.Version placed.version.id) numbered.0 placed.older (max changed setting.rules_since)
+    (version_actions setting.versioning setting.mode changed numbered.1 placed) else []
+    )
+    else []
+
+-- what the enabled rules ask of a version, rule by rule
+abbrev pub version_candidates : Setting → List Rule → List ℕ → ℕ → Placed → List Candidate
+version_candidates setting rules key changed placed =
+    flat_map (asked_of_version setting key changed placed) (enumerate_from 1 rules)
+
+-- what the enabled rules ask of the versions of a key, from the newest on
+abbrev pub key_candidates : Setting → List Rule → List ℕ × StackRecord → List Candidate
+key_candidates setting rules (key, stack) =
+    flat_map (version_candidates setting rules key stack.changed) (placed_from 0 stack.versions)
+
+-- what an enabled rule asks of an upload that it matches
+abbrev pub asked_of_one_upload : Setting → ℕ → UploadRecord → ℕ × Rule → List Candidate
+asked_of_one_upload setting number upload numbered =
+    if numbered.1.enabled
+    then (
+    if matches_upload numbered.1.filter upload.key
+    then timely upload.key (target.Upload number) numbered.0 number (max upload.changed setting.rules_since)
+    (upload_actions numbered.1 upload) else []
+    )
+    else []
+
+-- what the enabled rules ask of an upload, rule by rule
+abbrev pub number_candidates : Setting → List Rule → ℕ × UploadRecord → List Candidate
+number_candidates setting rules (number, upload) =
+    flat_map (asked_of_one_upload setting number upload) (enumerate_from 1 rules)
