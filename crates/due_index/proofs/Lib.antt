@@ -3,6 +3,7 @@ pub mod Chosen
 pub mod Orders
 pub mod PlaceOrder
 pub mod Renewing
+pub mod RenewingUploads
 pub mod Searching
 pub mod Ties
 pub mod Tournaments

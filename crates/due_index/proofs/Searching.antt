@@ -1,5 +1,5 @@
 -- One pass over what the rules ask of a key or an upload finds the first of it.
-use Rattle.std.proofs.Common.{◌≡◌, ℕ, List, [], ◌∷◌, ◌++◌, refl, sym, ap, ◌∙◌, subst, Bool, true, false, cond, map, filter, flat_map}
+use Rattle.std.proofs.Common.{◌≡◌, ℕ, List, [], ◌∷◌, ◌++◌, refl, sym, ap, ◌∙◌, subst, tt, Bool, true, false, cond, map, filter, flat_map}
 use Rattle.std.specs.Prelude.{max, Option, Some, None, IfSome, option_map, nat_lt}
 use Rattle.std.specs.List.{best_of, enumerate_from}
 use Rattle.moments.specs.Time.{end_of_time}
@@ -15,6 +15,7 @@ use Rattle.due_core.specs.declared.action.Candidate.{Candidate}
 use Rattle.due_core.specs.declared.action.Target.TheVariants as target
 use Rattle.due_core.proofs.Loops.{picked_twice, same_flat}
 use Rattle.due_index.specs.Places.{candidate_of, IsOnVersion}
+use Rattle.due_index.specs.Index.{IsOnUpload}
 use Rattle.due_index.specs.Search.{Aim, on_key, with_one, with_each, with_due, with_each_due, aimed, setting_of, key_candidates, number_candidates}
 use Rattle.due_index.specs.declared.place.Place.{Place}
 use Rattle.due_index.proofs.Chosen.{least_first}
@@ -72,7 +73,7 @@ first_of_upload bucket rules number upload first is =
 
 on_version_by : (bucket : BucketRecord) (rules : Configuration) (key : List ℕ) (stack : StackRecord) (place : Option Place)
     → on_key key place ≡ least comes_before (stack_candidates bucket rules (key, stack)) → IfSome place IsOnVersion
-on_version_by bucket rules key stack None is = unit
+on_version_by bucket rules key stack None is = tt
 on_version_by bucket rules key stack (Some place) is =
     let found = ties.on_key bucket rules key stack (candidate_of key place)
     (least_first (stack_candidates bucket rules (key, stack)) (candidate_of key place) (sym is)).one in
@@ -81,3 +82,11 @@ on_version_by bucket rules key stack (Some place) is =
 pub on_version : (bucket : BucketRecord) (rules : Configuration) (key : List ℕ) (stack : StackRecord) (place : Option Place)
     → on_key key place ≡ least comes_before (stack_candidates bucket rules (key, stack)) → IfSome place IsOnVersion
 on_version = on_version_by
+
+-- ---- and what was found on an upload is on that upload
+
+pub on_upload : (bucket : BucketRecord) (rules : Configuration) (number : ℕ) (upload : UploadRecord) (place : Place)
+    → on_key upload.key (Some place) ≡ least comes_before (upload_candidates bucket rules (number, upload)) → IsOnUpload number (candidate_of upload.key place)
+on_upload bucket rules number upload place is =
+    (ties.on_upload bucket rules number upload (candidate_of upload.key place)
+    (least_first (upload_candidates bucket rules (number, upload)) (candidate_of upload.key place) (sym is)).one).on

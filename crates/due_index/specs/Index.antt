@@ -86,3 +86,39 @@ pub record SetsNextOnKey (old new : IndexRecord) (key : List ℕ) (next : Option
 pub record StandsButKey (index : IndexRecord) (bucket : BucketRecord) (key : List ℕ) : Type 0 where
   pub keys : (k : List ℕ) → (k ≡ key → ⊥) → next_on_key index k ≡ first_on_key bucket k
   pub uploads : (number : ℕ) → next_on_upload index number ≡ first_on_upload bucket number
+
+-- on this upload comes this next, and on all others and on all keys what came before
+pub record SetsNextOnUpload (old new : IndexRecord) (number : ℕ) (next : Option Candidate) : Type 0 where
+  pub here : next_on_upload new number ≡ next
+  pub others : (n : ℕ) → (n ≡ number → ⊥) → next_on_upload new n ≡ next_on_upload old n
+  pub keys : (key : List ℕ) → next_on_key new key ≡ next_on_key old key
+
+-- the index stands for a bucket, but for one upload
+pub record StandsButUpload (index : IndexRecord) (bucket : BucketRecord) (number : ℕ) : Type 0 where
+  pub keys : (key : List ℕ) → next_on_key index key ≡ first_on_key bucket key
+  pub uploads : (n : ℕ) → (n ≡ number → ⊥) → next_on_upload index n ≡ first_on_upload bucket n
+
+-- the action is on this upload
+abbrev pub IsOnUpload : ℕ → Candidate → Type 0
+IsOnUpload number candidate = candidate.action.target ≡ Upload number
+
+-- nothing comes next on any key, or on any upload
+abbrev pub HasNoKeys : IndexRecord → Type 0
+HasNoKeys index = (key : List ℕ) → next_on_key index key ≡ None
+
+abbrev pub HasNoUploads : IndexRecord → Type 0
+HasNoUploads index = (number : ℕ) → next_on_upload index number ≡ None
+
+-- on each key comes next what comes first of all that the rules ask of it, and so on each upload
+abbrev pub StandsOnKeys : IndexRecord → BucketRecord → Type 0
+StandsOnKeys index bucket = (key : List ℕ) → next_on_key index key ≡ first_on_key bucket key
+
+abbrev pub StandsOnUploads : IndexRecord → BucketRecord → Type 0
+StandsOnUploads index bucket = (number : ℕ) → next_on_upload index number ≡ first_on_upload bucket number
+
+-- on each key comes next what came before, and so on each upload
+abbrev pub KeepsKeys : IndexRecord → IndexRecord → Type 0
+KeepsKeys old new = (key : List ℕ) → next_on_key new key ≡ next_on_key old key
+
+abbrev pub KeepsUploads : IndexRecord → IndexRecord → Type 0
+KeepsUploads old new = (number : ℕ) → next_on_upload new number ≡ next_on_upload old number
