@@ -1,4 +1,5 @@
 pub mod Among
+pub mod Building
 pub mod Chosen
 pub mod Orders
 pub mod PlaceOrder

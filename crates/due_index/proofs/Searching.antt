@@ -1,5 +1,5 @@
 -- One pass over what the rules ask of a key or an upload finds the first of it.
-use Rattle.std.proofs.Common.{◌≡◌, ℕ, List, [], ◌∷◌, ◌++◌, refl, sym, ap, ◌∙◌, subst, tt, Bool, true, false, cond, map, filter, flat_map}
+use Rattle.std.proofs.Common.{◌≡◌, ℕ, List, [], ◌∷◌, ◌++◌, refl, sym, ap, ◌∙◌, subst, Bool, true, false, cond, map, filter, flat_map}
 use Rattle.std.specs.Prelude.{max, Option, Some, None, IfSome, option_map, nat_lt}
 use Rattle.std.specs.List.{best_of, enumerate_from}
 use Rattle.moments.specs.Time.{end_of_time}
