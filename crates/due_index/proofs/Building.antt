@@ -33,7 +33,7 @@ no_stack_by : (bucket : BucketRecord) (key : List ℕ) (o : Option Configuration
 no_stack_by bucket key None = refl
 no_stack_by bucket key (Some rules) = refl
 
-no_stack : (bucket : BucketRecord) (key : List ℕ) → at_name key bucket.stacks ≡ None → first_on_key bucket key ≡ None
+pub no_stack : (bucket : BucketRecord) (key : List ℕ) → at_name key bucket.stacks ≡ None → first_on_key bucket key ≡ None
 unfolding first_on_key
 no_stack bucket key none = ap (λ s. least comes_before (asked_of_key bucket key bucket.rules s)) none ∙ no_stack_by bucket key bucket.rules
 
@@ -41,7 +41,7 @@ no_upload_by : (bucket : BucketRecord) (number : ℕ) (o : Option Configuration)
 no_upload_by bucket number None = refl
 no_upload_by bucket number (Some rules) = refl
 
-no_upload : (bucket : BucketRecord) (number : ℕ) → at_number number bucket.uploads ≡ None → first_on_upload bucket number ≡ None
+pub no_upload : (bucket : BucketRecord) (number : ℕ) → at_number number bucket.uploads ≡ None → first_on_upload bucket number ≡ None
 unfolding first_on_upload
 no_upload bucket number none = ap (λ s. least comes_before (asked_of_upload bucket number bucket.rules s)) none ∙ no_upload_by bucket number bucket.rules
 

@@ -1,6 +1,7 @@
 pub mod Among
 pub mod Building
 pub mod Chosen
+pub mod Counting
 pub mod Orders
 pub mod PlaceOrder
 pub mod Renewing

@@ -1,5 +1,6 @@
 -- The action that comes first on each key and on each upload of a bucket.
-use Rattle.std.specs.Prelude.{ℕ, List, [], Option, Some, None}
+use Rattle.std.specs.Prelude.{ℕ, ◌+◌, List, [], length, filter, Option, Some, None, is_some}
+use Rattle.std.specs.Map.{keys_of}
 use Rattle.office_base.specs.Maps.{at_name, at_number}
 use Rattle.rules_core.specs.Configurations.{Configuration}
 use Rattle.stacks.specs.Stacks.{StackRecord}
@@ -29,3 +30,9 @@ first_on_key bucket key = least comes_before (asked_of_key bucket key bucket.rul
 unfoldable pub first_on_upload : BucketRecord → ℕ → Option Candidate
 first_on_upload bucket number =
     least comes_before (asked_of_upload bucket number bucket.rules (at_number number bucket.uploads))
+
+-- how many keys and uploads have an eligible action
+abbrev pub entry_count : BucketRecord → ℕ
+entry_count bucket =
+    length (filter (λ key. is_some (first_on_key bucket key)) (keys_of bucket.stacks))
+    + length (filter (λ number. is_some (first_on_upload bucket number)) (keys_of bucket.uploads))
