@@ -54,11 +54,11 @@ found_by xs (Some d) c h is =
 pub least_first : (xs : List Candidate) (c : Candidate) → least comes_before xs ≡ Some c → IsFirst xs c
 least_first xs c is = found_by xs (least comes_before xs) c (first_candidate xs) is
 
-some_least : (xs : List Candidate) (x : Candidate) → Among xs x → (c : Candidate) × (least comes_before xs ≡ Some c)
+pub some_least : (xs : List Candidate) (x : Candidate) → Among xs x → (c : Candidate) × (least comes_before xs ≡ Some c)
 some_least [] x h = absurd h
 some_least (y ∷ ys) x h = (_, refl)
 
-no_least : (xs : List Candidate) → ((x : Candidate) → Among xs x → ⊥) → least comes_before xs ≡ None
+pub no_least : (xs : List Candidate) → ((x : Candidate) → Among xs x → ⊥) → least comes_before xs ≡ None
 no_least [] h = refl
 no_least (y ∷ ys) h = absurd (h y (inl refl))
 

@@ -2,6 +2,7 @@ pub mod Among
 pub mod Building
 pub mod Chosen
 pub mod Counting
+pub mod Covering
 pub mod Orders
 pub mod PlaceOrder
 pub mod Renewing
