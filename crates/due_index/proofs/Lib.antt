@@ -1,10 +1,12 @@
 pub mod Among
 pub mod Building
+pub mod ByRule
 pub mod Chosen
 pub mod Counting
 pub mod Covering
 pub mod Orders
 pub mod PlaceOrder
+pub mod Prefixes
 pub mod Renewing
 pub mod RenewingUploads
 pub mod Searching
