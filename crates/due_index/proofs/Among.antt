@@ -1,6 +1,5 @@
 -- The elements of a list, by recursion.
 use Rattle.std.proofs.Common.{◌≡◌, ℕ, ◌<◌, ◌⊎◌, inl, inr, List, [], ◌∷◌, ◌++◌, length, get_or, refl, sym, ap, ◌∙◌, subst, Bool, true, false, cond, filter, map, flat_map, arith, zero, suc}
-use Rattle.std.specs.List.{Contains, All}
 
 abbrev pub Among : {X : Type 0} → List X → X → Type 0
 Among [] x = ⊥

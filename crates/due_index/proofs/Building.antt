@@ -1,18 +1,12 @@
 -- Taking up what comes first, key by key and upload by upload.
-use Rattle.std.proofs.Common.{◌≡◌, ℕ, ◌⊎◌, inl, inr, List, [], ◌∷◌, refl, sym, ap, ◌∙◌, Bool, true, false, cond}
+use Rattle.std.proofs.Common.{◌≡◌, ℕ, inl, inr, List, [], ◌∷◌, refl, sym, ap, ◌∙◌, cond}
 use Rattle.std.specs.Prelude.{Option, Some, None}
-use Rattle.std.specs.declared.cmp.Ordering.{Ordering}
-use Rattle.std.specs.declared.cmp.Ordering.TheVariants.{Less, Equal, Greater}
-use Rattle.std.specs.Ordering.{nat_cmp, is_eq}
-use Rattle.std.specs.Map.{lookup}
-use Rattle.std.specs.BTreeMap.{is_at}
-use Rattle.office_base.specs.Maps.{bytes_cmp, at_name, at_number}
+use Rattle.office_base.specs.Maps.{at_name, at_number}
 use Rattle.rules_core.specs.Configurations.{Configuration}
 use Rattle.stacks.specs.Stacks.{StackRecord}
 use Rattle.uploads.specs.Uploads.{UploadRecord}
 use Rattle.due_core.specs.Buckets.{BucketRecord}
 use Rattle.due_core.specs.Choice.{comes_before, least}
-use Rattle.due_core.specs.declared.action.Candidate.{Candidate}
 use Rattle.due_index.specs.Firsts.{asked_of_key, asked_of_upload, first_on_key, first_on_upload}
 use Rattle.due_index.specs.Index.{IndexRecord, next_on_key, next_on_upload, IsTied, SetsNextOnKey, SetsNextOnUpload, StandsFor}
 use Rattle.due_index.specs.Index.{HasNoKeys, HasNoUploads, StandsOnKeys, StandsOnUploads, KeepsKeys, KeepsUploads}
@@ -64,7 +58,7 @@ one_key_less start old new bucket key stack left are sets = record {
   keys = λ k absent. elim (names k key) [
     | inl same ↦ ap (next_on_key new) same ∙ sets.here ∙ ap (first_on_key bucket) (sym same)
     | inr apart ↦ sets.others k apart ∙ are.keys k (
-      ap (λ b. cond b (Some stack) (at_name k left)) (not_at k key (λ same. apart (sym same))) ∙ absent)
+        ap (λ b. cond b (Some stack) (at_name k left)) (not_at k key (λ same. apart (sym same))) ∙ absent)
   ];
   uploads = λ number. sets.uploads number ∙ are.uploads number;
 }
@@ -92,7 +86,7 @@ one_upload_less start old new bucket number upload left are sets = record {
   uploads = λ n absent. elim (decide n number) [
     | inl same ↦ ap (next_on_upload new) same ∙ sets.here ∙ ap (first_on_upload bucket) (sym same)
     | inr apart ↦ sets.others n apart ∙ are.uploads n (
-      ap (λ b. cond b (Some upload) (at_number n left)) (not_at_number n number (λ same. apart (sym same))) ∙ absent)
+        ap (λ b. cond b (Some upload) (at_number n left)) (not_at_number n number (λ same. apart (sym same))) ∙ absent)
   ];
   keys = λ key. sets.keys key ∙ are.keys key;
 }

@@ -1,13 +1,11 @@
 -- A search may go rule by rule, and leave out the rules that are disabled or whose prefix does not begin the key.
-use Rattle.std.proofs.Common.{◌≡◌, ℕ, List, [], ◌∷◌, refl, sym, ap, ◌∙◌, subst, Bool, true, false, cond, ◌&&◌, ◌||◌, not, flat_map}
-use Rattle.std.specs.Prelude.{Option, Some, None}
+use Rattle.std.proofs.Common.{◌≡◌, ℕ, List, [], refl, sym, ◌∙◌, subst, Bool, true, false, cond, ◌&&◌, ◌||◌, not, flat_map}
 use Rattle.std.specs.List.{enumerate_from, list_all}
 use Rattle.rules_core.specs.Matching.{has_prefix, has_tag, has_tags, has_bound, is_above, is_below}
 use Rattle.rules_core.specs.Configurations.{Configuration}
 use Rattle.rules_core.specs.declared.rule.Rule.{Rule}
 use Rattle.rules_core.specs.declared.rule.Filter.{Filter}
 use Rattle.stacks.specs.Stacks.{StackRecord}
-use Rattle.stacks.specs.declared.version.Version.{Version}
 use Rattle.stacks.specs.declared.version.Kind.{Kind}
 use Rattle.stacks.specs.declared.version.Kind.TheVariants.{Object, Marker as DeleteMarker}
 use Rattle.office_base.specs.declared.version_id.VersionId.{VersionId}
@@ -20,7 +18,7 @@ use Rattle.due_index.specs.Search.{setting_of, asked_of_version, version_candida
 use Rattle.due_index.specs.declared.asked.Setting.{Setting}
 use Rattle.due_index.proofs.Among.{Among, among_flat_map, flat_mapped}
 use Rattle.due_index.proofs.Chosen.{candidate_order}
-use Rattle.due_index.proofs.Covering.{Covers, IsMet, same_on_key}
+use Rattle.due_index.proofs.Covering.{Covers, same_on_key}
 use Rattle.due_index.proofs.Searching.{same_versions}
 
 -- what one rule asks of the versions of a key

@@ -1,6 +1,6 @@
 -- The head of the slots is the first of all that the rules ask of the bucket, so it is the choice once its moment has come.
-use Rattle.std.proofs.Common.{◌≡◌, ℕ, ◌<◌, ◌≤◌, ◌⊎◌, inl, inr, List, [], ◌∷◌, ◌++◌, length, get_or, refl, sym, ap, ◌∙◌, subst, Bool, true, false, cond, filter, flat_map, arith}
-use Rattle.std.specs.Prelude.{Option, Some, None, option_map, nat_le, IsTrue}
+use Rattle.std.proofs.Common.{◌≡◌, ℕ, ◌<◌, ◌≤◌, inl, inr, List, [], ◌∷◌, refl, sym, ap, ◌∙◌, subst, Bool, true, false, cond, filter, flat_map, arith}
+use Rattle.std.specs.Prelude.{Option, Some, None, option_map, IsTrue}
 use Rattle.std.specs.Cmp.{IsStrictWeakOrder, IsTotalOrder, ranked, tied_itself}
 use Rattle.std.specs.Map.{lookup}
 use Rattle.std.specs.BTreeMap.{is_at}
@@ -10,7 +10,7 @@ use Rattle.std.specs.Ordering.{nat_cmp, ordering_then, ordering_reverse, is_lt, 
 use Rattle.std.specs.FinMap.{slice_cmp-IsAntisymmetric, nat_cmp-IsAntisymmetric}
 use Rattle.std.proofs.lemmas.Cmp.{nat_list_cmp_total, nat_cmp_total}
 use Rattle.std.proofs.lemmas.Bool.Decides.{nat_tests}
-use Rattle.std.specs.List.{AllByRecursion, Contains}
+use Rattle.std.specs.List.{AllByRecursion}
 use Rattle.std.proofs.lemmas.List.MinMax.{ranks_by}
 use Rattle.office_base.specs.Maps.{bytes_cmp, at_name, at_number, Rises}
 use Rattle.rules_core.specs.Configurations.{Configuration}
@@ -19,7 +19,6 @@ use Rattle.uploads.specs.Uploads.{UploadRecord}
 use Rattle.due_core.specs.Buckets.{BucketRecord}
 use Rattle.due_core.specs.Candidates.{eligible, eligible_by, candidates, stack_candidates, upload_candidates}
 use Rattle.due_core.specs.Choice.{precedence, comes_before, kind_place, coldness, least, IsLeast, choice}
-use Rattle.due_core.specs.declared.action.Action.{Action}
 use Rattle.due_core.specs.declared.action.Target.{Target}
 use Rattle.due_core.specs.declared.action.Target.TheVariants as target
 use Rattle.due_core.specs.declared.action.Candidate.{Candidate}
@@ -27,7 +26,7 @@ use Rattle.due_core.proofs.Precedence.{precedence_total, first_candidate}
 use Rattle.due_core.proofs.Pass.{has_come}
 use Rattle.due_index.specs.Firsts.{asked_of_key, asked_of_upload, first_on_key, first_on_upload}
 use Rattle.due_index.specs.Queue.{slot_at, IsHead}
-use Rattle.due_index.specs.Index.{IndexRecord, next_on_key, next_on_upload, slot_of, IsOwned, IsTied, StandsFor, IsBucket, due_by}
+use Rattle.due_index.specs.Index.{IndexRecord, slot_of, IsOwned, IsTied, StandsFor, IsBucket, due_by}
 use Rattle.due_index.proofs.Among.{Among, among_append, among_front, among_back, among_filter, filtered, among_flat_map, flat_mapped, among_at, place_of}
 use Rattle.due_index.proofs.Ties.{IsOnKey, IsOnUpload, on_key, on_upload, tied_on_key, tied_on_upload, neither_before, tied_key, tied_age, tied_kind}
 

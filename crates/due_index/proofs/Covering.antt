@@ -1,6 +1,6 @@
 -- A search may look at the candidates of a key or an upload in any order, more than once, and not at all at one that
 -- some other one is not after.
-use Rattle.std.proofs.Common.{◌≡◌, ℕ, List, [], ◌∷◌, refl, sym, ap, ◌∙◌, subst, false}
+use Rattle.std.proofs.Common.{◌≡◌, ℕ, List, refl, sym, ◌∙◌, false}
 use Rattle.std.specs.Prelude.{Option, Some, None}
 use Rattle.rules_core.specs.Configurations.{Configuration}
 use Rattle.stacks.specs.Stacks.{StackRecord}

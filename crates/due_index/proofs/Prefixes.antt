@@ -1,5 +1,5 @@
 -- In the order of the keys, a prefix of a key that does not stand behind another one is that one's prefix too.
-use Rattle.std.proofs.Common.{◌≡◌, ℕ, ◌<◌, List, [], ◌∷◌, refl, sym, ap, ◌∙◌, subst, Bool, true, false, cond, ◌&&◌, length, take, arith}
+use Rattle.std.proofs.Common.{◌≡◌, ℕ, List, [], ◌∷◌, refl, sym, subst, Bool, true, false, ◌&&◌, length, take, arith}
 use Rattle.std.specs.Prelude.{nat_eq}
 use Rattle.std.specs.Cmp.{ranked}
 use Rattle.std.specs.List.{starts_with}

@@ -1,22 +1,22 @@
 -- What an index has next, after the slot of one key is written, emptied or taken up.
-use Rattle.std.proofs.Common.{◌≡◌, ℕ, ◌⊎◌, inl, inr, List, [], ◌∷◌, length, refl, sym, ap, ◌∙◌, subst, Bool, true, false, cond, arith}
+use Rattle.std.proofs.Common.{◌≡◌, ℕ, ◌⊎◌, inl, inr, List, refl, sym, ap, ◌∙◌, subst, false}
 use Rattle.std.specs.Prelude.{Option, Some, None, IsSome}
 use Rattle.due_index.specs.Places.{candidate_of, IsOnVersion}
 use Rattle.due_index.specs.declared.place.Place.{Place}
 use Rattle.std.specs.Cmp.{tied_itself}
 use Rattle.std.specs.declared.cmp.Ordering.{Ordering}
 use Rattle.std.specs.declared.cmp.Ordering.TheVariants.{Less, Equal, Greater}
-use Rattle.std.specs.Ordering.{nat_cmp, is_eq}
+use Rattle.std.specs.Ordering.{is_eq}
 use Rattle.std.proofs.lemmas.Cmp.{nat_list_cmp_total}
 use Rattle.office_base.specs.Maps.{bytes_cmp, at_name, at_number}
 use Rattle.due_core.specs.Buckets.{BucketRecord}
 use Rattle.due_core.specs.declared.action.Target.{Target}
 use Rattle.due_core.specs.declared.action.Target.TheVariants as target
 use Rattle.due_core.specs.declared.action.Candidate.{Candidate}
-use Rattle.due_index.specs.Firsts.{first_on_key, first_on_upload}
+use Rattle.due_index.specs.Firsts.{first_on_key}
 use Rattle.due_index.specs.Queue.{slot_at, IsPut}
-use Rattle.due_index.specs.Index.{IndexRecord, next_on_key, next_on_upload, slot_of, IsOwned, IsTied, IsOfKey, Stands, KeepsNext, SetsNextOnKey, StandsFor, StandsButKey}
-use Rattle.due_index.proofs.Chosen.{same_name, equal_is}
+use Rattle.due_index.specs.Index.{IndexRecord, next_on_key, slot_of, IsOwned, IsTied, IsOfKey, Stands, KeepsNext, SetsNextOnKey, StandsFor, StandsButKey}
+use Rattle.due_index.proofs.Chosen.{same_name}
 use Rattle.due_index.proofs.Tournaments.{decide}
 
 -- ---- two keys are the same or not

@@ -1,18 +1,18 @@
 -- What an index has next, after the slot of one upload is written, emptied or taken up.
-use Rattle.std.proofs.Common.{◌≡◌, ℕ, ◌⊎◌, inl, inr, List, [], ◌∷◌, length, refl, sym, ap, ◌∙◌, subst, Bool, true, false, cond, arith}
+use Rattle.std.proofs.Common.{◌≡◌, ℕ, ◌⊎◌, inl, inr, List, refl, sym, ap, ◌∙◌, subst, false}
 use Rattle.std.specs.Prelude.{Option, Some, None, IsSome}
 use Rattle.std.specs.Cmp.{ranked}
 use Rattle.std.specs.declared.cmp.Ordering.{Ordering}
 use Rattle.std.specs.declared.cmp.Ordering.TheVariants.{Less, Equal, Greater}
 use Rattle.std.specs.Ordering.{nat_cmp, is_eq}
-use Rattle.office_base.specs.Maps.{bytes_cmp, at_name, at_number}
+use Rattle.office_base.specs.Maps.{at_name, at_number}
 use Rattle.due_core.specs.Buckets.{BucketRecord}
 use Rattle.due_core.specs.declared.action.Target.{Target}
 use Rattle.due_core.specs.declared.action.Target.TheVariants as target
 use Rattle.due_core.specs.declared.action.Candidate.{Candidate}
-use Rattle.due_index.specs.Firsts.{first_on_key, first_on_upload}
+use Rattle.due_index.specs.Firsts.{first_on_upload}
 use Rattle.due_index.specs.Queue.{slot_at, IsPut}
-use Rattle.due_index.specs.Index.{IndexRecord, next_on_key, next_on_upload, slot_of, IsOwned, IsTied, IsOfKey, IsOnUpload, Stands, KeepsNext, SetsNextOnUpload, StandsFor, StandsButUpload}
+use Rattle.due_index.specs.Index.{IndexRecord, next_on_upload, slot_of, IsOwned, IsTied, IsOfKey, IsOnUpload, Stands, SetsNextOnUpload, StandsFor, StandsButUpload}
 use Rattle.due_index.proofs.Tournaments.{decide}
 use Rattle.due_index.proofs.Renewing.{apart_sides}
 

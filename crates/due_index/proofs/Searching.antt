@@ -1,6 +1,6 @@
 -- One pass over what the rules ask of a key or an upload finds the first of it.
-use Rattle.std.proofs.Common.{◌≡◌, ℕ, List, [], ◌∷◌, ◌++◌, refl, sym, ap, ◌∙◌, subst, Bool, true, false, cond, map, filter, flat_map}
-use Rattle.std.specs.Prelude.{max, Option, Some, None, IfSome, option_map, nat_lt}
+use Rattle.std.proofs.Common.{◌≡◌, ℕ, List, [], ◌∷◌, refl, sym, ap, ◌∙◌, Bool, true, false, cond, map, filter}
+use Rattle.std.specs.Prelude.{max, Option, Some, None, IfSome, nat_lt}
 use Rattle.std.specs.List.{best_of, enumerate_from}
 use Rattle.moments.specs.Time.{end_of_time}
 use Rattle.rules_core.specs.Matching.{matches_upload}
@@ -16,7 +16,7 @@ use Rattle.due_core.specs.declared.action.Target.TheVariants as target
 use Rattle.due_core.proofs.Loops.{picked_twice, same_flat}
 use Rattle.due_index.specs.Places.{candidate_of, IsOnVersion}
 use Rattle.due_index.specs.Index.{IsOnUpload}
-use Rattle.due_index.specs.Search.{Aim, on_key, with_one, with_each, with_due, with_each_due, aimed, setting_of, key_candidates, number_candidates}
+use Rattle.due_index.specs.Search.{Aim, on_key, with_one, with_each, with_each_due, aimed, setting_of, key_candidates, number_candidates}
 use Rattle.due_index.specs.declared.place.Place.{Place}
 use Rattle.due_index.proofs.Chosen.{least_first}
 use Rattle.due_index.proofs.Ties as ties

@@ -1,15 +1,14 @@
 -- How a tournament is brought up to date, node by node from a leaf to the root.
-use Rattle.std.proofs.Common.{◌≡◌, ℕ, ◌+◌, ◌-◌, ◌*◌, ◌/◌, ◌<◌, ◌≤◌, ◌⊎◌, inl, inr, List, [], ◌∷◌, ◌++◌, length, get_or, set, length-append, refl, sym, ap, ◌∙◌, subst, Bool, true, false, arith, zero, suc}
+use Rattle.std.proofs.Common.{◌≡◌, ℕ, ◌+◌, ◌-◌, ◌*◌, ◌/◌, ◌<◌, ◌≤◌, ◌⊎◌, inl, inr, List, [], ◌∷◌, ◌++◌, length, get_or, set, length-append, refl, sym, ap, ◌∙◌, subst, false, arith, zero, suc}
 use Rattle.std.specs.Prelude.{Option, Some, None}
 use Rattle.std.proofs.lemmas.List.{length-set, get_or-set_same, get_or-set_other, get_or_append_left}
 use Rattle.std.specs.declared.cmp.Ordering.{Ordering}
 use Rattle.std.specs.declared.cmp.Ordering.TheVariants.{Less, Equal, Greater}
 use Rattle.std.specs.Ordering.{nat_cmp}
 use Rattle.std.specs.Cmp.{ranked}
-use Rattle.due_core.specs.Choice.{comes_before}
 use Rattle.due_core.specs.declared.action.Candidate.{Candidate}
 use Rattle.std.specs.Prelude.{slice_get, IsSome}
-use Rattle.std.proofs.lemmas.Option.{slice_get_within, slice_get-get_or, slice_get_past, get_or_from_slice_get}
+use Rattle.std.proofs.lemmas.Option.{slice_get_within, slice_get-get_or, slice_get_past}
 use Rattle.due_index.specs.Queue.{slot_at, held_in, IsHead, IsPut}
 use Rattle.due_index.specs.Tournament.{is_sooner, won_by, IsExact, IsNotAfter, IsWinner, IsTournament, IsTournamentOff, IsOnPath, halved, order_of, HasLeaves}
 use Rattle.due_index.specs.declared.tournament.Node.{Node}

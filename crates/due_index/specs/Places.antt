@@ -2,7 +2,6 @@
 use Rattle.std.specs.Prelude.{◌≡◌, ℕ, List}
 use Rattle.office_base.specs.declared.version_id.VersionId.{VersionId}
 use Rattle.due_core.specs.declared.action.Target.TheVariants.{Version}
-use Rattle.due_core.specs.declared.action.Action.{Action}
 use Rattle.due_core.specs.declared.action.Candidate.{Candidate}
 use Rattle.due_index.specs.declared.place.Place.{Place}
 

@@ -104,13 +104,7 @@ fn sooner(best: Option<Place>, next: Place) -> Place
     ensures { (key : List ℕ) → candidate_of key result ≡ sooner (on_key key best) (candidate_of key next) }
 {
     match best {
-        Some(best) => {
-            if next.comes_before(&best) {
-                next
-            } else {
-                best
-            }
-        }
+        Some(best) => { if next.comes_before(&best) { next } else { best } }
         None => next,
     }
 }
@@ -137,13 +131,7 @@ impl<'a> Aim<'a> {
     }
 
     // Looks at an action that is due so many days after a moment.
-    fn in_days(
-        &self,
-        best: &mut Option<Place>,
-        kind: ActionKind,
-        from: Moment,
-        days: u32,
-    )
+    fn in_days(&self, best: &mut Option<Place>, kind: ActionKind, from: Moment, days: u32)
         ensures { on_key self.now.key best.new
             ≡ with_each_due self.now (on_key self.now.key best.old) ((kind, due from days) ∷ []) }
     {
@@ -239,13 +227,7 @@ impl<'a> Aim<'a> {
     }
 
     // Looks at the removal of a noncurrent version.
-    fn noncurrent_removal(
-        &self,
-        best: &mut Option<Place>,
-        rule: &Rule,
-        newer: u64,
-        ceased: Moment,
-    )
+    fn noncurrent_removal(&self, best: &mut Option<Place>, rule: &Rule, newer: u64, ceased: Moment)
         ensures { on_key self.now.key best.new
             ≡ with_each_due self.now (on_key self.now.key best.old) (noncurrent_removals rule.now newer ceased) }
     {
@@ -253,8 +235,7 @@ impl<'a> Aim<'a> {
             Some(expiration) => {
                 if keeps_newer(expiration.newer, newer) {
                     self.in_days(best, ActionKind::Remove, ceased, expiration.days)
-                } else {
-                            }
+                } else {}
             }
             None => {}
         }
@@ -278,13 +259,7 @@ impl<'a> Aim<'a> {
     }
 
     // Looks at what removes a delete marker that is the only version of its key.
-    fn lone_marker(
-        &self,
-        best: &mut Option<Place>,
-        rule: &Rule,
-        created: Moment,
-        changed: Moment,
-    )
+    fn lone_marker(&self, best: &mut Option<Place>, rule: &Rule, created: Moment, changed: Moment)
         ensures { on_key self.now.key best.new
             ≡ with_each_due self.now (on_key self.now.key best.old) (lone_marker_actions rule.now created changed) }
     {
@@ -293,20 +268,14 @@ impl<'a> Aim<'a> {
                 self.expiring(best, ActionKind::Remove, created, expiration);
                 if expiration.lone_marker {
                     self.at_midnight(best, ActionKind::Remove, changed)
-                } else {
-                            }
+                } else {}
             }
             None => {}
         }
     }
 
     // Looks at an action that is due at the midnight that is not before a moment.
-    fn at_midnight(
-        &self,
-        best: &mut Option<Place>,
-        kind: ActionKind,
-        from: Moment,
-    )
+    fn at_midnight(&self, best: &mut Option<Place>, kind: ActionKind, from: Moment)
         ensures { on_key self.now.key best.new
             ≡ with_each_due self.now (on_key self.now.key best.old) ((kind, next_midnight from) ∷ []) }
     {
@@ -341,13 +310,7 @@ impl<'a> Aim<'a> {
     }
 
     // Looks at all that a rule asks of a delete marker.
-    fn marker(
-        &self,
-        best: &mut Option<Place>,
-        rule: &Rule,
-        placed: &Placed<'a>,
-        changed: Moment,
-    )
+    fn marker(&self, best: &mut Option<Place>, rule: &Rule, placed: &Placed<'a>, changed: Moment)
         ensures { on_key self.now.key best.new
             ≡ with_each_due self.now (on_key self.now.key best.old)
             (if placed.now.newer == 0
@@ -357,8 +320,7 @@ impl<'a> Aim<'a> {
         if placed.newer == 0 {
             if placed.older == 0 {
                 self.lone_marker(best, rule, placed.version.created, changed)
-            } else {
-                    }
+            } else {}
         } else {
             self.noncurrent_removal(best, rule, placed.newer - 1, placed.version.ceased)
         }
@@ -391,12 +353,7 @@ impl<'a> Aim<'a> {
     }
 
     /// Looks at what a rule asks of an upload.
-    pub(crate) fn upload(
-        &self,
-        best: &mut Option<Place>,
-        rule: &Rule,
-        upload: &Upload,
-    )
+    pub(crate) fn upload(&self, best: &mut Option<Place>, rule: &Rule, upload: &Upload)
         ensures { on_key self.now.key best.new
             ≡ with_each_due self.now (on_key self.now.key best.old) (upload_actions rule.now upload.now) }
     {

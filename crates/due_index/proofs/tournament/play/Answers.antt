@@ -1,4 +1,4 @@
-use Rattle.std.proofs.Common.{◌≡◌, ℕ, ◌+◌, ◌-◌, ◌*◌, ◌≤◌, ◌⊎◌, inl, inr, arith, subst, sym}
+use Rattle.std.proofs.Common.{◌≡◌, ◌+◌, ◌-◌, ◌*◌, inl, inr, arith, subst, sym}
 use Rattle.due_index.specs.Tournament.{IsExact, IsOnPath}
 use Rattle.due_index.specs.declared.tournament.Node.{Node}
 use Rattle.due_index.proofs.Tournaments.{IsTournamentFrom, from_leaves, one_more, whole_from, path_parent}

@@ -1,4 +1,4 @@
-use Rattle.std.proofs.Common.{◌≡◌, ◌≤◌}
+use Rattle.std.proofs.Common.{◌≤◌}
 use Rattle.due_index.proofs.Tournaments.{IsTournamentFrom}
 use Rattle.due_index.proofs.tournament.play.Given as goal
 

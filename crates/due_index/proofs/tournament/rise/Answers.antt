@@ -1,4 +1,4 @@
-use Rattle.std.proofs.Common.{◌≡◌, ℕ, ◌+◌, ◌*◌, ◌/◌, ◌<◌, ◌≤◌, ◌⊎◌, inl, inr, length, arith, subst, sym}
+use Rattle.std.proofs.Common.{◌+◌, ◌*◌, ◌/◌, inl, inr, length, arith, subst, sym}
 use Rattle.std.proofs.lemmas.List.{length-set}
 use Rattle.due_index.specs.Tournament.{IsExact, IsOnPath}
 use Rattle.due_index.specs.declared.tournament.Node.{Node}

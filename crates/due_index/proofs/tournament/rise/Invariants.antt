@@ -1,4 +1,4 @@
-use Rattle.std.proofs.Common.{ℕ, ◌/◌, ◌<◌, ◌≤◌, length}
+use Rattle.std.proofs.Common.{◌/◌, ◌<◌, ◌≤◌, length}
 use Rattle.due_index.specs.Tournament.{IsTournamentOff}
 use Rattle.due_index.proofs.tournament.rise.Given as goal
 

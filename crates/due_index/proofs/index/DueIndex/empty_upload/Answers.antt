@@ -1,4 +1,4 @@
-use Rattle.std.proofs.Common.{◌≡◌, ◌<◌, length, subst, sym, ap}
+use Rattle.std.proofs.Common.{◌≡◌, subst, sym}
 use Rattle.std.specs.Prelude.{Some, None}
 use Rattle.office_base.specs.Maps.{at_number}
 use Rattle.due_index.specs.Index.{IndexRecord, SetsNextOnUpload}

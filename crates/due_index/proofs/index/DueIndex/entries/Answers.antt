@@ -1,4 +1,4 @@
-use Rattle.std.proofs.Common.{◌≡◌, ℕ, ◌+◌, ◌≤◌, length, subst, sym, ap, ◌∙◌, arith}
+use Rattle.std.proofs.Common.{◌+◌, ◌≤◌, length, subst, sym, ap, ◌∙◌}
 use Rattle.due_index.specs.Index.{IndexRecord, StandsFor}
 use Rattle.due_index.proofs.Counting.{entries_are, few_entries}
 use Rattle.due_index.proofs.index.DueIndex.entries.Goals as goal

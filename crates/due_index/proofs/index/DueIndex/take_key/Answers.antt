@@ -1,9 +1,7 @@
-use Rattle.std.proofs.Common.{◌≡◌, ◌<◌, List, length, subst, sym, ap, ◌∙◌, false}
+use Rattle.std.proofs.Common.{◌≡◌, subst, sym, false}
 use Rattle.std.specs.Prelude.{Some, None}
 use Rattle.std.specs.Ordering.{is_eq}
 use Rattle.office_base.specs.Maps.{at_name, bytes_cmp}
-use Rattle.due_index.specs.Places.{candidate_of}
-use Rattle.due_index.specs.Queue.{slot_at, IsPut}
 use Rattle.due_index.specs.Index.{IndexRecord, SetsNextOnKey, KeepsNext, IsOfKey, IsTied}
 use Rattle.due_index.proofs.Tournaments.{slot_within}
 use Rattle.due_index.proofs.Renewing.{sets_taken, tied_taken, version_of, not_at, back_again, keeps_again, tied_again}

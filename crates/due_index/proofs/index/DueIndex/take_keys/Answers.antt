@@ -1,4 +1,4 @@
-use Rattle.std.proofs.Common.{rules, ◌≡◌, sym, ap, ◌∙◌, subst}
+use Rattle.std.proofs.Common.{rules, ◌≡◌, subst}
 use Rattle.due_index.specs.Index.{SetsNextOnKey}
 use Rattle.due_index.proofs.Building.{AreKeysLeft, all_keys_left, one_key_less}
 use Rattle.due_index.proofs.index.DueIndex.take_keys.Goals as goal

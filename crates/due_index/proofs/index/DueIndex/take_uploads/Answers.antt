@@ -1,4 +1,4 @@
-use Rattle.std.proofs.Common.{rules, ◌≡◌, sym, ap, ◌∙◌, subst}
+use Rattle.std.proofs.Common.{rules, ◌≡◌, subst}
 use Rattle.due_index.specs.Index.{SetsNextOnUpload}
 use Rattle.due_index.proofs.Building.{AreUploadsLeft, all_uploads_left, one_upload_less}
 use Rattle.due_index.proofs.index.DueIndex.take_uploads.Goals as goal

@@ -1,4 +1,4 @@
-use Rattle.std.proofs.Common.{◌≡◌, ◌+◌, ◌/◌, ◌<◌, ◌≤◌, [], ◌∷◌, ◌++◌, subst, length, arith, ap, sym, ◌∙◌, length-append}
+use Rattle.std.proofs.Common.{◌≡◌, ◌+◌, ◌/◌, ◌<◌, [], ◌∷◌, ◌++◌, subst, length, arith, ap, sym, ◌∙◌, length-append}
 use Rattle.std.specs.Prelude.{Some, None}
 use Rattle.due_index.specs.Queue.{slot_at, IsPut}
 use Rattle.due_index.specs.Tournament.{IsTournament, IsTournamentOff}

@@ -1,4 +1,4 @@
-use Rattle.std.proofs.Common.{◌≡◌, ◌+◌, ◌/◌, ◌<◌, subst, length, arith, ap, sym, ◌∙◌}
+use Rattle.std.proofs.Common.{◌≡◌, ◌+◌, ◌/◌, subst, length, sym}
 use Rattle.std.specs.Prelude.{IsSome, Some}
 use Rattle.due_index.specs.Places.{candidate_of}
 use Rattle.due_index.specs.Queue.{slot_at, IsPut}
