@@ -1,5 +1,6 @@
 -- A search may go rule by rule, and leave out the rules that are disabled or whose prefix does not begin the key.
-use Rattle.std.proofs.Common.{◌≡◌, ℕ, List, [], refl, sym, ◌∙◌, subst, Bool, true, false, cond, ◌&&◌, ◌||◌, not, flat_map}
+use Rattle.std.proofs.Common.{◌≡◌, ℕ, List, [], refl, sym, ap, ◌∙◌, subst, Bool, true, false, cond, ◌&&◌, ◌||◌, not, flat_map, filter}
+use Rattle.std.specs.Prelude.{Option, Some, None}
 use Rattle.std.specs.List.{enumerate_from, list_all}
 use Rattle.rules_core.specs.Matching.{has_prefix, has_tag, has_tags, has_bound, is_above, is_below}
 use Rattle.rules_core.specs.Configurations.{Configuration}
@@ -14,16 +15,13 @@ use Rattle.due_core.specs.Candidates.{stack_candidates}
 use Rattle.due_core.specs.Choice.{comes_before, least}
 use Rattle.due_core.specs.RuleActions.{Placed, placed_from, matches_version}
 use Rattle.due_core.specs.declared.action.Candidate.{Candidate}
-use Rattle.due_index.specs.Search.{setting_of, asked_of_version, version_candidates, key_candidates}
+use Rattle.due_core.proofs.Loops.{picked_twice}
+use Rattle.due_index.specs.Search.{setting_of, asked_of_version, version_candidates, key_candidates, rule_candidates, asked_by_rules, with_each}
 use Rattle.due_index.specs.declared.asked.Setting.{Setting}
-use Rattle.due_index.proofs.Among.{Among, among_flat_map, flat_mapped}
+use Rattle.due_index.proofs.Among.{Among, among_filter, filtered, among_flat_map, flat_mapped}
 use Rattle.due_index.proofs.Chosen.{candidate_order}
 use Rattle.due_index.proofs.Covering.{Covers, same_on_key}
-use Rattle.due_index.proofs.Searching.{same_versions}
-
--- what one rule asks of the versions of a key
-abbrev pub rule_candidates : Setting → List ℕ × StackRecord → ℕ × Rule → List Candidate
-rule_candidates setting (key, stack) numbered = flat_map (λ placed. asked_of_version setting key stack.changed placed numbered) (placed_from 0 stack.versions)
+use Rattle.due_index.proofs.Searching.{same_versions, none_each}
 
 -- ---- a rule that asks something is enabled, and its prefix begins the key
 
@@ -90,3 +88,26 @@ module _ (bucket : BucketRecord) (rules : Configuration) (key : List ℕ) (stack
 
   pub by_rule : least comes_before found ≡ least comes_before (stack_candidates bucket rules (key, stack))
   by_rule = same_on_key bucket rules key stack found covers
+
+-- ---- all rules that are enabled and whose prefix begins the key
+
+abbrev enabled : ℕ × Rule → Bool
+enabled numbered = numbered.1.enabled
+
+abbrev begins : List ℕ → ℕ × Rule → Bool
+begins key numbered = has_prefix numbered.1.filter key
+
+all_enough : (rules : List Rule) (key : List ℕ) → AreEnough rules key (filter (begins key) (filter enabled (enumerate_from 1 rules)))
+all_enough rules key = record {
+  own = λ numbered h. (among_filter enabled (enumerate_from 1 rules) numbered (among_filter (begins key) (filter enabled (enumerate_from 1 rules)) numbered h).0).0;
+  all = λ numbered h is fits. filtered (begins key) (filter enabled (enumerate_from 1 rules)) numbered (filtered enabled (enumerate_from 1 rules) numbered h is) fits;
+}
+
+pub first_of_key : (bucket : BucketRecord) (rules : Configuration) (key : List ℕ) (stack : StackRecord) (first : Option Candidate)
+    → first ≡ with_each None (asked_by_rules (setting_of bucket rules) rules.rules (key, stack)) → first ≡ least comes_before (stack_candidates bucket rules (key, stack))
+first_of_key bucket rules key stack first is =
+    let setting = setting_of bucket rules in
+    let visited = filter (begins key) (filter enabled (enumerate_from 1 rules.rules)) in
+    is ∙ ap (with_each None) (picked_twice enabled (begins key) (rule_candidates setting (key, stack)) (enumerate_from 1 rules.rules))
+    ∙ none_each (flat_map (rule_candidates setting (key, stack)) visited)
+    ∙ by_rule bucket rules key stack visited (all_enough rules.rules key)

@@ -2,7 +2,7 @@
 use Rattle.std.specs.Prelude.{ℕ, ◌-◌, ◌==◌, ◌++◌, max, List, [], fold, flat_map, nat_lt, Option, Some, option_map, if◌then◌else◌}
 use Rattle.std.specs.List.{enumerate_from}
 use Rattle.moments.specs.Time.{end_of_time}
-use Rattle.rules_core.specs.Matching.{matches_upload}
+use Rattle.rules_core.specs.Matching.{has_prefix, matches_upload}
 use Rattle.rules_core.specs.Configurations.{Configuration}
 use Rattle.rules_core.specs.declared.rule.Rule.{Rule}
 use Rattle.stacks.specs.Stacks.{StackRecord}
@@ -97,6 +97,22 @@ version_candidates setting rules key changed placed =
 abbrev pub key_candidates : Setting → List Rule → List ℕ × StackRecord → List Candidate
 key_candidates setting rules (key, stack) =
     flat_map (version_candidates setting rules key stack.changed) (placed_from 0 stack.versions)
+
+-- what one rule asks of the versions of a key, from the newest on
+abbrev pub rule_candidates : Setting → List ℕ × StackRecord → ℕ × Rule → List Candidate
+rule_candidates setting (key, stack) numbered =
+    flat_map (λ placed. asked_of_version setting key stack.changed placed numbered) (placed_from 0 stack.versions)
+
+-- what a rule asks of the versions of a key, where it is enabled and its prefix begins the key
+abbrev pub asked_by_rule : Setting → List ℕ × StackRecord → ℕ × Rule → List Candidate
+asked_by_rule setting (key, stack) numbered =
+    if numbered.1.enabled
+    then (if has_prefix numbered.1.filter key then rule_candidates setting (key, stack) numbered else [])
+    else []
+
+-- what the rules ask of the versions of a key, rule by rule
+abbrev pub asked_by_rules : Setting → List Rule → List ℕ × StackRecord → List Candidate
+asked_by_rules setting rules entry = flat_map (asked_by_rule setting entry) (enumerate_from 1 rules)
 
 -- what an enabled rule asks of an upload that it matches
 abbrev pub asked_of_one_upload : Setting → ℕ → UploadRecord → ℕ × Rule → List Candidate

@@ -1,27 +1,15 @@
-use Rattle.std.proofs.Common.{refl, ap, ◌∙◌, flat_map}
-use Rattle.due_core.specs.RuleActions.{placed_from}
-use Rattle.due_index.specs.Search.{on_key, with_each, with_one, version_candidates}
+use Rattle.std.proofs.Common.{◌+◌, refl}
+use Rattle.std.specs.List.{enumerate_from}
 use Rattle.due_core.proofs.Loops.{placed_turn, placed_end}
-use Rattle.due_core.proofs.Places.{placed, older_left}
+use Rattle.due_index.specs.Search.{with_one, asked_by_rule}
 use Rattle.due_index.proofs.search.stack.Goals as goal
 
 pub loop-i-preserved : goal.loop-i-preserved
 loop-i-preserved c =
-    let asked = version_candidates c.args.setting.now c.args.rules.now c.args.key.now c.changed-changed.result in
-    let versions = c.versions-versions.result.now in
-    let i = c.loop-i.i in
-    let older = older_left versions i in
-    placed_turn with_one asked placed_from placed
-    (λ _. refl) (λ _ _ _. refl) _ _ _ versions i i c.index-versions-i.result c.loop-i-test.true c.index-versions-i.is c.loop-i.invariant
-    (c.version.ensures ∙ ap (λ n. with_each (on_key c.args.key.now c.loop-i.best) (asked (record { version = c.index-versions-i.result; newer = i; older = n }))) older)
+    placed_turn with_one (asked_by_rule c.args.setting.now (c.args.key.now, c.args.of_key.now)) enumerate_from (λ n x _. (n, x))
+    (λ _. refl) (λ _ _ _. refl) _ _ _ c.args.rules.now c.loop-i.i (c.loop-i.i + 1) c.index-rules-i.result c.loop-i-test.true c.index-rules-i.is c.loop-i.invariant c.rule_of_stack.ensures
 
 pub returns : goal.returns
 returns c =
-    placed_end with_one (version_candidates c.args.setting.now c.args.rules.now c.args.key.now c.changed-changed.result) placed_from placed
-    (λ _. refl) (λ _ _ _. refl) _ _ c.versions-versions.result.now c.loop-i.i c.loop-i.i c.loop-i-test.false c.loop-i.invariant
-    ∙ ap (λ changed. with_each (on_key c.args.key.now c.args.best.now) (flat_map
-    (version_candidates c.args.setting.now c.args.rules.now c.args.key.now changed)
-    (placed_from 0 c.versions-versions.result.now))) c.changed-changed.ensures
-    ∙ ap (λ versions. with_each (on_key c.args.key.now c.args.best.now) (flat_map
-    (version_candidates c.args.setting.now c.args.rules.now c.args.key.now c.args.stack.now.changed)
-    (placed_from 0 versions))) c.versions-versions.ensures.same
+    placed_end with_one (asked_by_rule c.args.setting.now (c.args.key.now, c.args.of_key.now)) enumerate_from (λ n x _. (n, x))
+    (λ _. refl) (λ _ _ _. refl) _ _ c.args.rules.now c.loop-i.i (c.loop-i.i + 1) c.loop-i-test.false c.loop-i.invariant
