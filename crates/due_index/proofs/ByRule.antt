@@ -1,6 +1,6 @@
 -- A search may go rule by rule, and leave out the rules that are disabled or whose prefix does not begin the key.
 use Rattle.std.proofs.Common.{◌≡◌, ℕ, List, [], refl, sym, ap, ◌∙◌, subst, Bool, true, false, cond, ◌&&◌, ◌||◌, not, flat_map, filter}
-use Rattle.std.specs.Prelude.{Option, Some, None}
+use Rattle.std.specs.Prelude.{Option, None}
 use Rattle.std.specs.List.{enumerate_from, list_all}
 use Rattle.rules_core.specs.Matching.{has_prefix, has_tag, has_tags, has_bound, is_above, is_below}
 use Rattle.rules_core.specs.Configurations.{Configuration}
