@@ -150,7 +150,8 @@ impl<'a> Aim<'a> {
         expiration: &Expiration,
     )
         ensures { on_key self.now.key best.new
-            ≡ with_each_due self.now (on_key self.now.key best.old) (map (λ at. (kind, at)) (expirations created expiration.now)) }
+            ≡ with_each_due self.now (on_key self.now.key best.old)
+            (map (λ at. (kind, at)) (expirations created expiration.now)) }
     {
         if let Some(days) = expiration.days {
             self.in_days(best, kind, created, days);
