@@ -1,0 +1,17 @@
+pub mod Among
+pub mod Building
+pub mod ByRule
+pub mod Chosen
+pub mod Counting
+pub mod Firsts
+pub mod Noncurrents
+pub mod Oldest
+pub mod Orders
+pub mod PlaceOrder
+pub mod Prefixes
+pub mod Renewing
+pub mod RenewingUploads
+pub mod Searching
+pub mod Ties
+pub mod Touched
+pub mod Tournaments

@@ -1,0 +1,124 @@
+-- What an index of the next actions stands for.
+use Rattle.std.specs.Prelude.{◌≡◌, ℕ, List, Option, Some, None, nat_le, if◌then◌else◌}
+use Rattle.office_base.specs.Maps.{bytes_cmp, at_name, at_number, Rises}
+use Rattle.std.specs.Ordering.{nat_cmp}
+use Rattle.office_base.specs.declared.version_id.VersionId.{VersionId}
+use Rattle.due_core.specs.Buckets.{BucketRecord}
+use Rattle.due_core.specs.declared.action.Action.{Action}
+use Rattle.due_core.specs.declared.action.Target.{Target}
+use Rattle.due_core.specs.declared.action.Target.TheVariants.{Version, Upload}
+use Rattle.due_core.specs.declared.action.Candidate.{Candidate}
+use Rattle.due_index.specs.Firsts.{first_on_key, first_on_upload}
+use Rattle.due_index.specs.Queue.{slot_at}
+
+-- a map's entry in the slots
+abbrev pub slot_of : Option ℕ → List (Option Candidate) → Option Candidate
+slot_of None slots = None
+slot_of (Some slot) slots = slot_at slot slots
+
+-- what contracts see of an index: the slot of each key and of each upload that has an action, and what stands in each
+-- slot
+pub record IndexRecord : Type 0 where
+  pub keys : List (List ℕ × ℕ)
+  pub uploads : List (ℕ × ℕ)
+  pub slots : List (Option Candidate)
+
+-- the action that comes next on a key
+abbrev pub next_on_key : IndexRecord → List ℕ → Option Candidate
+next_on_key index key = slot_of (at_name key index.keys) index.slots
+
+-- the action that comes next on an upload
+abbrev pub next_on_upload : IndexRecord → ℕ → Option Candidate
+next_on_upload index number = slot_of (at_number number index.uploads) index.slots
+
+-- an action on a version stands in the slot of its key, one on an upload in the slot of that upload
+abbrev pub IsOwned : IndexRecord → ℕ → Candidate → Target → Type 0
+IsOwned index slot candidate (Version id) = at_name candidate.action.key index.keys ≡ Some slot
+IsOwned index slot candidate (Upload number) = at_number number index.uploads ≡ Some slot
+
+-- what stands in the slot of a key is on a version of it
+pub record IsOfKey (key : List ℕ) (candidate : Candidate) : Type 0 where
+  pub own : candidate.action.key ≡ key
+  pub version : VersionId
+  pub target : candidate.action.target ≡ Version version
+
+-- what stands in a slot stands there
+pub record Stands (index : IndexRecord) (slot : ℕ) (P : Candidate → Type 0) : Type 0 where
+  pub candidate : Candidate
+  pub there : slot_at slot index.slots ≡ Some candidate
+  pub is : P candidate
+
+-- each action in a slot is that of the key or upload that it is on, and each slot of a key or upload has its action
+pub record IsTied (index : IndexRecord) : Type 0 where
+  pub keys : (key : List ℕ) (slot : ℕ) → at_name key index.keys ≡ Some slot → Stands index slot (IsOfKey key)
+  pub uploads : (number slot : ℕ) → at_number number index.uploads ≡ Some slot
+      → Stands index slot (λ candidate. candidate.action.target ≡ Upload number)
+  pub owned : (slot : ℕ) (candidate : Candidate) → slot_at slot index.slots ≡ Some candidate
+      → IsOwned index slot candidate candidate.action.target
+
+-- the index stands for a bucket: on each key and each upload comes next what comes first of all that the rules ask
+pub record StandsFor (index : IndexRecord) (bucket : BucketRecord) : Type 0 where
+  pub keys : (key : List ℕ) → next_on_key index key ≡ first_on_key bucket key
+  pub uploads : (number : ℕ) → next_on_upload index number ≡ first_on_upload bucket number
+
+-- the keys of the stacks and the numbers of the uploads rise, as in every bucket
+pub record IsBucket (bucket : BucketRecord) : Type 0 where
+  pub stacks : Rises bytes_cmp bucket.stacks
+  pub uploads : Rises nat_cmp bucket.uploads
+
+-- the action that is due first at a moment, where this candidate is the first of all
+abbrev pub due_by : ℕ → Option Candidate → Option Action
+due_by t None = None
+due_by t (Some first) = if nat_le first.action.since t then Some first.action else None
+
+-- on each key and each upload comes next what came before
+pub record KeepsNext (old new : IndexRecord) : Type 0 where
+  pub keys : (key : List ℕ) → next_on_key new key ≡ next_on_key old key
+  pub uploads : (number : ℕ) → next_on_upload new number ≡ next_on_upload old number
+
+-- on this key comes this next, and on all others what came before
+pub record SetsNextOnKey (old new : IndexRecord) (key : List ℕ) (next : Option Candidate) : Type 0 where
+  pub here : next_on_key new key ≡ next
+  pub others : (k : List ℕ) → (k ≡ key → ⊥) → next_on_key new k ≡ next_on_key old k
+  pub uploads : (number : ℕ) → next_on_upload new number ≡ next_on_upload old number
+
+-- the index stands for a bucket, but for one key
+pub record StandsButKey (index : IndexRecord) (bucket : BucketRecord) (key : List ℕ) : Type 0 where
+  pub keys : (k : List ℕ) → (k ≡ key → ⊥) → next_on_key index k ≡ first_on_key bucket k
+  pub uploads : (number : ℕ) → next_on_upload index number ≡ first_on_upload bucket number
+
+-- on this upload comes this next, and on all others and on all keys what came before
+pub record SetsNextOnUpload (old new : IndexRecord) (number : ℕ) (next : Option Candidate) : Type 0 where
+  pub here : next_on_upload new number ≡ next
+  pub others : (n : ℕ) → (n ≡ number → ⊥) → next_on_upload new n ≡ next_on_upload old n
+  pub keys : (key : List ℕ) → next_on_key new key ≡ next_on_key old key
+
+-- the index stands for a bucket, but for one upload
+pub record StandsButUpload (index : IndexRecord) (bucket : BucketRecord) (number : ℕ) : Type 0 where
+  pub keys : (key : List ℕ) → next_on_key index key ≡ first_on_key bucket key
+  pub uploads : (n : ℕ) → (n ≡ number → ⊥) → next_on_upload index n ≡ first_on_upload bucket n
+
+-- the action is on this upload
+abbrev pub IsOnUpload : ℕ → Candidate → Type 0
+IsOnUpload number candidate = candidate.action.target ≡ Upload number
+
+-- nothing comes next on any key, or on any upload
+abbrev pub HasNoKeys : IndexRecord → Type 0
+HasNoKeys index = (key : List ℕ) → next_on_key index key ≡ None
+
+abbrev pub HasNoUploads : IndexRecord → Type 0
+HasNoUploads index = (number : ℕ) → next_on_upload index number ≡ None
+
+-- on each key comes next what comes first of all that the rules ask of it, and so on each upload
+abbrev pub StandsOnKeys : IndexRecord → BucketRecord → Type 0
+StandsOnKeys index bucket = (key : List ℕ) → next_on_key index key ≡ first_on_key bucket key
+
+abbrev pub StandsOnUploads : IndexRecord → BucketRecord → Type 0
+StandsOnUploads index bucket = (number : ℕ) → next_on_upload index number ≡ first_on_upload bucket number
+
+-- on each key comes next what came before, and so on each upload
+abbrev pub KeepsKeys : IndexRecord → IndexRecord → Type 0
+KeepsKeys old new = (key : List ℕ) → next_on_key new key ≡ next_on_key old key
+
+abbrev pub KeepsUploads : IndexRecord → IndexRecord → Type 0
+KeepsUploads old new = (number : ℕ) → next_on_upload new number ≡ next_on_upload old number

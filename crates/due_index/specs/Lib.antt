@@ -1,0 +1,6 @@
+pub mod Firsts
+pub mod Index
+pub mod Places
+pub mod Queue
+pub mod Search
+pub mod Tournament
