@@ -2,7 +2,7 @@ use Rattle.std.proofs.Common.{sym, subst}
 use Rattle.bucket_account.specs.Changing.{limits_of}
 use Rattle.bucket_account.specs.Counting.{account_of}
 use Rattle.bucket_account.proofs.Accepted.{IsNoAct, as_asked, something_done}
-use Rattle.bucket_account.proofs.change.change.Goals as goal
+use Rattle.bucket_account.proofs.change.change_records.Goals as goal
 
 pub returns-in-SetVersioning-clause-done : goal.returns-in-SetVersioning-clause-done
 returns-in-SetVersioning-clause-done c = λ account stands orderly.
@@ -40,17 +40,9 @@ pub returns-in-PutPart-clause-done : goal.returns-in-PutPart-clause-done
 returns-in-PutPart-clause-done c = λ account stands orderly.
     as_asked _ c.args.bucket.now account _ _ c.put_part.result _ _ c.in-PutPart.is (c.put_part.ensures.done account stands orderly)
 
-pub returns-in-Complete-clause-done : goal.returns-in-Complete-clause-done
-returns-in-Complete-clause-done c = λ account stands orderly.
-    as_asked _ c.args.bucket.now account _ _ c.complete.result _ _ c.in-Complete.is (c.complete.ensures.done account stands orderly)
-
 pub returns-in-Abort-clause-done : goal.returns-in-Abort-clause-done
 returns-in-Abort-clause-done c = λ account stands orderly.
     as_asked _ c.args.bucket.now account _ _ c.abort.result _ _ c.in-Abort.is (c.abort.ensures.done account stands orderly)
-
-pub returns-in-Act-clause-done : goal.returns-in-Act-clause-done
-returns-in-Act-clause-done c = λ account stands orderly.
-    as_asked _ c.args.bucket.now account _ _ c.act.result _ _ c.in-Act.is (c.act.ensures.done account stands orderly)
 
 -- only an act may find nothing to do
 
@@ -116,13 +108,6 @@ returns-in-PutPart-clause-nothing c =
     something_done c.args.t c.args.command.now (subst IsNoAct (sym c.in-PutPart.is) tt)
     (limits_of c.args.command.now c.args.bucket.now) account.0 c.args.counts (account_of c.put_part.new.bucket c.put_part.new.meters) c.put_part.result
     (returns-in-PutPart-clause-done c account.0 account.1 account.2) _
-
-pub returns-in-Complete-clause-nothing : goal.returns-in-Complete-clause-nothing
-returns-in-Complete-clause-nothing c =
-    let account = c.requires.account in
-    something_done c.args.t c.args.command.now (subst IsNoAct (sym c.in-Complete.is) tt)
-    (limits_of c.args.command.now c.args.bucket.now) account.0 c.args.counts (account_of c.complete.new.bucket c.complete.new.meters) c.complete.result
-    (returns-in-Complete-clause-done c account.0 account.1 account.2) _
 
 pub returns-in-Abort-clause-nothing : goal.returns-in-Abort-clause-nothing
 returns-in-Abort-clause-nothing c =
