@@ -11,4 +11,5 @@ pub mod Renewing
 pub mod RenewingUploads
 pub mod Searching
 pub mod Ties
+pub mod Touched
 pub mod Tournaments

@@ -1,0 +1,100 @@
+-- Where a bucket changes in one place, the index still stands for all others. What comes first on a key reads the stack
+-- of that key, the rules, the versioning and the moment of their last change; on an upload, that upload in its stead.
+use Rattle.std.proofs.Common.{◌≡◌, ℕ, List, refl, sym, ap, ◌∙◌}
+use Rattle.std.specs.Prelude.{Option, Some, None}
+use Rattle.office_base.specs.Maps.{at_name, at_number}
+use Rattle.rules_core.specs.declared.rule.SizeMode.{SizeMode}
+use Rattle.rules_core.specs.Configurations.{Configuration}
+use Rattle.stacks.specs.Stacks.{StackRecord}
+use Rattle.stacks.specs.declared.version.Versioning.{Versioning}
+use Rattle.uploads.specs.Uploads.{UploadRecord}
+use Rattle.due_core.specs.Buckets.{BucketRecord}
+use Rattle.due_core.specs.Choice.{comes_before, least}
+use Rattle.due_index.specs.Firsts.{asked_of_key, asked_of_upload, first_on_key, first_on_upload}
+use Rattle.due_index.specs.Index.{IndexRecord, StandsFor, StandsButKey, StandsButUpload}
+use Rattle.due_index.specs.Search.{setting_of, key_candidates, number_candidates}
+use Rattle.due_index.specs.declared.asked.Setting.{Setting}
+use Rattle.due_index.proofs.Searching.{same_versions, same_upload}
+
+-- the rules, the versioning and the moment of their last change stay
+pub record KeepsRules (before after : BucketRecord) : Type 0 where
+  pub rules : after.rules ≡ before.rules
+  pub versioning : after.versioning ≡ before.versioning
+  pub since : after.rules_since ≡ before.rules_since
+
+abbrev made : Versioning → SizeMode → ℕ → Setting
+made v mode r = record { versioning = v; mode = mode; rules_since = r }
+
+made_same : (v w : Versioning) (mode : SizeMode) (r s : ℕ) → v ≡ w → r ≡ s → made v mode r ≡ made w mode s
+made_same v w mode r s hv hr = cc
+
+module _ (before after : BucketRecord) (kept : KeepsRules before after) where
+  same_setting : (rules : Configuration) → setting_of after rules ≡ setting_of before rules
+  same_setting rules = made_same after.versioning before.versioning rules.mode after.rules_since before.rules_since kept.versioning kept.since
+
+  asked_on_key : (key : List ℕ) (o : Option Configuration) (s : Option StackRecord) → asked_of_key after key o s ≡ asked_of_key before key o s
+  asked_on_key key None s = refl
+  asked_on_key key (Some rules) None = refl
+  asked_on_key key (Some rules) (Some stack) =
+      sym (same_versions after rules key stack) ∙ ap (λ s. key_candidates s rules.rules (key, stack)) (same_setting rules)
+      ∙ same_versions before rules key stack
+
+  asked_on_upload : (number : ℕ) (o : Option Configuration) (u : Option UploadRecord) → asked_of_upload after number o u ≡ asked_of_upload before number o u
+  asked_on_upload number None u = refl
+  asked_on_upload number (Some rules) None = refl
+  asked_on_upload number (Some rules) (Some upload) =
+      sym (same_upload after rules number upload) ∙ ap (λ s. number_candidates s rules.rules (number, upload)) (same_setting rules)
+      ∙ same_upload before rules number upload
+
+  -- the same stack on a key: the same comes first
+  pub same_first_on_key : (key : List ℕ) → at_name key after.stacks ≡ at_name key before.stacks → first_on_key after key ≡ first_on_key before key
+  unfolding first_on_key
+  same_first_on_key key same =
+      ap (least comes_before) (ap (λ s. asked_of_key after key after.rules s) same ∙ ap (λ o. asked_of_key after key o (at_name key before.stacks)) kept.rules
+      ∙ asked_on_key key before.rules (at_name key before.stacks))
+
+  -- the same upload of a number: the same comes first
+  pub same_first_on_upload : (number : ℕ) → at_number number after.uploads ≡ at_number number before.uploads
+      → first_on_upload after number ≡ first_on_upload before number
+  unfolding first_on_upload
+  same_first_on_upload number same =
+      ap (least comes_before) (ap (λ u. asked_of_upload after number after.rules u) same ∙ ap (λ o. asked_of_upload after number o (at_number number before.uploads)) kept.rules
+      ∙ asked_on_upload number before.rules (at_number number before.uploads))
+
+-- the stacks of all keys but this one are as before
+abbrev pub KeepsOtherStacks : List ℕ → BucketRecord → BucketRecord → Type 0
+KeepsOtherStacks key before after = (k : List ℕ) → (k ≡ key → ⊥) → at_name k after.stacks ≡ at_name k before.stacks
+
+-- the uploads of all numbers but this one are as before
+abbrev pub KeepsOtherUploads : ℕ → BucketRecord → BucketRecord → Type 0
+KeepsOtherUploads number before after = (n : ℕ) → (n ≡ number → ⊥) → at_number n after.uploads ≡ at_number n before.uploads
+
+abbrev pub KeepsStacks : BucketRecord → BucketRecord → Type 0
+KeepsStacks before after = (key : List ℕ) → at_name key after.stacks ≡ at_name key before.stacks
+
+abbrev pub KeepsUploads : BucketRecord → BucketRecord → Type 0
+KeepsUploads before after = (number : ℕ) → at_number number after.uploads ≡ at_number number before.uploads
+
+-- nothing that bears on an action changed: the index stands for the bucket after as for the one before
+pub stands_still : (index : IndexRecord) (before after : BucketRecord) → StandsFor index before → KeepsRules before after
+    → KeepsStacks before after → KeepsUploads before after → StandsFor index after
+stands_still index before after stands kept stacks uploads = record {
+  keys = λ key. stands.keys key ∙ sym (same_first_on_key before after kept key (stacks key));
+  uploads = λ number. stands.uploads number ∙ sym (same_first_on_upload before after kept number (uploads number));
+}
+
+-- one key's stack changed
+pub stands_but_key : (index : IndexRecord) (before after : BucketRecord) (key : List ℕ) → StandsFor index before → KeepsRules before after
+    → KeepsOtherStacks key before after → KeepsUploads before after → StandsButKey index after key
+stands_but_key index before after key stands kept stacks uploads = record {
+  keys = λ k apart. stands.keys k ∙ sym (same_first_on_key before after kept k (stacks k apart));
+  uploads = λ number. stands.uploads number ∙ sym (same_first_on_upload before after kept number (uploads number));
+}
+
+-- one upload changed
+pub stands_but_upload : (index : IndexRecord) (before after : BucketRecord) (number : ℕ) → StandsFor index before → KeepsRules before after
+    → KeepsStacks before after → KeepsOtherUploads number before after → StandsButUpload index after number
+stands_but_upload index before after number stands kept stacks uploads = record {
+  keys = λ key. stands.keys key ∙ sym (same_first_on_key before after kept key (stacks key));
+  uploads = λ n apart. stands.uploads n ∙ sym (same_first_on_upload before after kept n (uploads n apart));
+}
