@@ -1,31 +1,33 @@
 -- What a command or a lifecycle action does not touch stays, so that an index of the next actions stands for the rest.
-use Rattle.std.proofs.Common.{◌≡◌, ℕ, List, refl, ap, sym, ◌∙◌, subst, Bool, true, false, not, cond}
+use Rattle.std.proofs.Common.{◌≡◌, ℕ, ◌+◌, List, refl, ap, sym, ◌∙◌, subst, Bool, true, false, not, cond}
 use Rattle.std.specs.Prelude.{Option, Some, None, Result, Ok, Err, IfSome, is_ok}
 use Rattle.std.specs.Ordering.{nat_cmp, is_eq}
 use Rattle.std.specs.Option.{ok_or}
 use Rattle.office_base.specs.Maps.{bytes_cmp, at_name, with_name, without_name, at_number, with_number, without_number}
 use Rattle.office_base.specs.Results.{◌>>=◌}
+use Rattle.office_base.specs.declared.version_id.VersionId.{VersionId}
 use Rattle.office_base.specs.declared.version_id.VersionId.TheVariants.{Null}
 use Rattle.rules_core.specs.Configurations.{Configuration}
 use Rattle.rules_core.specs.Matching.{is_empty}
-use Rattle.stacks.specs.Stacks.{StackRecord, found, tags_at}
+use Rattle.class_rules.specs.declared.class.Class.{Class}
+use Rattle.stacks.specs.Stacks.{StackRecord, found, tags_at, after_adding, after_removal, after_move, after_tags}
+use Rattle.stacks.specs.declared.version.Kind.{Kind}
+use Rattle.stacks.specs.declared.version.Kind.TheVariants as kind
 use Rattle.stacks.specs.declared.version.Kind.TheVariants.{Marker}
 use Rattle.stacks.specs.declared.version.Versioning.{Versioning}
 use Rattle.stacks.specs.declared.version.Versioning.TheVariants.{Unversioned, Enabled, Suspended}
-use Rattle.uploads.specs.Uploads.{UploadRecord}
+use Rattle.uploads.specs.Uploads.{UploadRecord, new_upload, after_part}
 use Rattle.due_core.specs.Buckets.{BucketRecord}
-use Rattle.due_core.specs.Choice.{comes_before, least}
-use Rattle.due_core.specs.Candidates.{stack_candidates, upload_candidates}
 use Rattle.due_core.specs.declared.action.Action.{Action}
 use Rattle.due_core.specs.declared.action.ActionKind.{ActionKind}
 use Rattle.due_core.specs.declared.action.ActionKind.TheVariants as action
 use Rattle.due_core.specs.declared.action.Target.{Target}
 use Rattle.due_core.specs.declared.action.Target.TheVariants as target
 use Rattle.due_core.specs.declared.action.Candidate.{Candidate}
-use Rattle.due_index.specs.Firsts.{asked_of_key, asked_of_upload, first_on_key, first_on_upload}
-use Rattle.due_index.specs.Index.{IndexRecord, next_on_key, next_on_upload, StandsFor, StandsButKey, StandsButUpload}
+use Rattle.due_index.specs.Index.{IndexRecord, StandsFor, StandsButKey, StandsButUpload}
+use Rattle.due_index.proofs.Touched.{KeepsRules, stands_but_key, stands_but_upload}
 use Rattle.plain_office.specs.Office.{Account}
-use Rattle.plain_office.specs.Changes.{stacks_with, next_id, remove_version, add_version, remove_upload_at, remove_upload, effect}
+use Rattle.plain_office.specs.Changes.{stack_at, stacks_with, with_stack, with_upload, next_id, remove_version, add_version, move_version, add_part, remove_upload_at, remove_upload, effect}
 use Rattle.plain_office.specs.Step.{Change, refuse_if, has_stack, stack_in, upload_in, of_stack, delete}
 use Rattle.office_types.specs.declared.command.Command.{Command}
 use Rattle.office_types.specs.declared.command.Command.TheVariants as command
@@ -40,7 +42,7 @@ use Rattle.bucket_account.specs.declared.counts.Counts.{Counts}
 use Rattle.bucket_account.specs.Changing.{change_of, DoesTold}
 use Rattle.bucket_account.specs.Counting.{AccountRecord}
 use Rattle.bucket_account.specs.Effects.{DoesEffect}
-use Rattle.bucket_account.specs.Touching.{Touch, of_key, of_upload, of_all, touched, touched_at, HasSameRules, KeepsButKey, KeepsButUpload, KeepsBut, StandsBut}
+use Rattle.bucket_account.specs.Touching.{Touch, of_key, of_upload, of_all, touched, touched_at, StandsBut}
 
 -- ---- maps elsewhere
 
@@ -67,7 +69,25 @@ stack_elsewhere_by false key stack entries k apart = name_elsewhere key stack en
 
 -- ---- what stays
 
-pub keeps_key : (key : List ℕ) (before after : BucketRecord) → HasSameRules before after → (stack : StackRecord)
+-- versioning, rules, all uploads and the versions of all other keys are the same
+pub record KeepsButKey (key : List ℕ) (before after : BucketRecord) : Type 0 where
+  pub rules : KeepsRules before after
+  pub others : (k : List ℕ) → (k ≡ key → ⊥) → at_name k after.stacks ≡ at_name k before.stacks
+  pub uploads : (n : ℕ) → at_number n after.uploads ≡ at_number n before.uploads
+
+-- versioning, rules, all versions and all other uploads are the same
+pub record KeepsButUpload (number : ℕ) (before after : BucketRecord) : Type 0 where
+  pub rules : KeepsRules before after
+  pub stacks : (k : List ℕ) → at_name k after.stacks ≡ at_name k before.stacks
+  pub others : (n : ℕ) → (n ≡ number → ⊥) → at_number n after.uploads ≡ at_number n before.uploads
+
+-- nothing else has changed
+abbrev pub KeepsBut : Touch → BucketRecord → BucketRecord → Type 0
+KeepsBut (of_key key) before after = KeepsButKey key before after
+KeepsBut (of_upload number) before after = KeepsButUpload number before after
+KeepsBut of_all before after = Unit {0}
+
+pub keeps_key : (key : List ℕ) (before after : BucketRecord) → KeepsRules before after → (stack : StackRecord)
     → after.stacks ≡ stacks_with key stack before.stacks → after.uploads ≡ before.uploads → KeepsButKey key before after
 keeps_key key before after rules stack stacks uploads = record {
   rules = rules;
@@ -76,7 +96,7 @@ keeps_key key before after rules stack stacks uploads = record {
 }
 
 -- a key that has these versions now
-pub keeps_written : (key : List ℕ) (before after : BucketRecord) → HasSameRules before after → (stack : StackRecord)
+pub keeps_written : (key : List ℕ) (before after : BucketRecord) → KeepsRules before after → (stack : StackRecord)
     → after.stacks ≡ with_name key stack before.stacks → after.uploads ≡ before.uploads → KeepsButKey key before after
 keeps_written key before after rules stack stacks uploads = record {
   rules = rules;
@@ -84,7 +104,7 @@ keeps_written key before after rules stack stacks uploads = record {
   uploads = λ n. ap (at_number n) uploads;
 }
 
-pub keeps_upload : (number : ℕ) (before after : BucketRecord) → HasSameRules before after → (upload : UploadRecord)
+pub keeps_upload : (number : ℕ) (before after : BucketRecord) → KeepsRules before after → (upload : UploadRecord)
     → after.stacks ≡ before.stacks → after.uploads ≡ with_number number upload before.uploads → KeepsButUpload number before after
 keeps_upload number before after rules upload stacks uploads = record {
   rules = rules;
@@ -92,7 +112,7 @@ keeps_upload number before after rules upload stacks uploads = record {
   others = λ n apart. ap (at_number n) uploads ∙ number_elsewhere number upload before.uploads n apart;
 }
 
-pub keeps_removed : (number : ℕ) (before after : BucketRecord) → HasSameRules before after
+pub keeps_removed : (number : ℕ) (before after : BucketRecord) → KeepsRules before after
     → after.stacks ≡ before.stacks → after.uploads ≡ without_number number before.uploads → KeepsButUpload number before after
 keeps_removed number before after rules stacks uploads = record {
   rules = rules;
@@ -100,13 +120,41 @@ keeps_removed number before after rules stacks uploads = record {
   others = λ n apart. ap (at_number n) uploads ∙ at_left by_number number n (other_number n number apart) before.uploads;
 }
 
-same_rules : (bucket : BucketRecord) → HasSameRules bucket bucket
+same_rules : (bucket : BucketRecord) → KeepsRules bucket bucket
 same_rules bucket = record { versioning = refl; rules = refl; since = refl }
 
 keeps_all : (touch : Touch) (bucket : BucketRecord) → KeepsBut touch bucket bucket
 keeps_all (of_key key) bucket = record { rules = same_rules bucket; others = λ k apart. refl; uploads = λ n. refl }
 keeps_all (of_upload number) bucket = record { rules = same_rules bucket; stacks = λ k. refl; others = λ n apart. refl }
 keeps_all of_all bucket = tt
+
+-- ---- what the effects leave
+
+module _ (account : Account) where
+  abbrev bucket : BucketRecord
+  bucket = account.bucket
+
+  pub added : (key : List ℕ) (kind : Kind) (at : ℕ) → KeepsButKey key bucket (add_version key kind at account).bucket
+  added key kind at = keeps_key key bucket (add_version key kind at account).bucket (record { rules = refl; versioning = refl; since = refl }) (after_adding (next_id bucket) kind at (stack_at key bucket)) refl refl
+
+  pub gone : (key : List ℕ) (id : VersionId) (at : ℕ) → KeepsButKey key bucket (remove_version key id at account).bucket
+  gone key id at = keeps_key key bucket (remove_version key id at account).bucket (record { rules = refl; versioning = refl; since = refl }) (after_removal id at (stack_at key bucket)) refl refl
+
+  pub moved : (key : List ℕ) (id : VersionId) (to : Class) (at : ℕ) → KeepsButKey key bucket (move_version key id to at account).bucket
+  moved key id to at = keeps_key key bucket (move_version key id to at account).bucket (record { rules = refl; versioning = refl; since = refl }) (after_move id to at (stack_at key bucket)) refl refl
+
+  pub stacked : (key : List ℕ) (stack : StackRecord) → KeepsButKey key bucket (with_stack key stack bucket)
+  stacked key stack = keeps_key key bucket (with_stack key stack bucket) (record { rules = refl; versioning = refl; since = refl }) stack refl refl
+
+  pub started : (number next : ℕ) (upload : UploadRecord) → KeepsButUpload number bucket (record (with_upload number upload bucket) { next_upload = next })
+  started number next upload = keeps_upload number bucket (record (with_upload number upload bucket) { next_upload = next }) (record { rules = refl; versioning = refl; since = refl }) upload refl refl
+
+  pub parted : (number : ℕ) (upload : UploadRecord) (part size at : ℕ) → KeepsButUpload number bucket (add_part number upload part size at account).bucket
+  parted number upload part size at =
+      keeps_upload number bucket (add_part number upload part size at account).bucket (record { rules = refl; versioning = refl; since = refl }) (after_part part size at upload) refl refl
+
+  pub dropped : (number : ℕ) (upload : UploadRecord) (at : ℕ) → KeepsButUpload number bucket (remove_upload number upload at account).bucket
+  dropped number upload at = keeps_removed number bucket (remove_upload number upload at account).bucket (record { rules = refl; versioning = refl; since = refl }) refl refl
 
 -- ---- what a command is told
 
@@ -128,38 +176,38 @@ module _ (touch : Touch) (before : BucketRecord) where
   unless_leaves false refusal done h = h
 
 module _ (t : ℕ) (account : Account) where
-  abbrev bucket : BucketRecord
-  bucket = account.bucket
+  abbrev its : BucketRecord
+  its = account.bucket
 
   by_versioning : List ℕ → Versioning → Change
   by_versioning key Unversioned = refuse_if (not (has_stack key account)) NoSuchKey (remove_version key Null t account, Deleted None)
   by_versioning key Enabled = Ok (add_version key Marker t account, Deleted (Some (next_id account.bucket)))
   by_versioning key Suspended = Ok (add_version key Marker t account, Deleted (Some (next_id account.bucket)))
 
-  deleted_by : (key : List ℕ) (versioning : Versioning) → Leaves (of_key key) bucket (by_versioning key versioning)
+  deleted_by : (key : List ℕ) (versioning : Versioning) → Leaves (of_key key) its (by_versioning key versioning)
   unfolding by_versioning
-  deleted_by key Unversioned = unless_leaves (of_key key) bucket (not (has_stack key account)) NoSuchKey (remove_version key Null t account, Deleted None) (keeps_key key bucket _ (same_rules bucket) _ refl refl)
-  deleted_by key Enabled = keeps_key key bucket _ (same_rules bucket) _ refl refl
-  deleted_by key Suspended = keeps_key key bucket _ (same_rules bucket) _ refl refl
+  deleted_by key Unversioned = unless_leaves (of_key key) its (not (has_stack key account)) NoSuchKey (remove_version key Null t account, Deleted None) (gone account key Null t)
+  deleted_by key Enabled = added account key Marker t
+  deleted_by key Suspended = added account key Marker t
 
-  deleted_leaves : (key : List ℕ) → Leaves (of_key key) bucket (delete t key account)
+  deleted_leaves : (key : List ℕ) → Leaves (of_key key) its (delete t key account)
   unfolding by_versioning
   deleted_leaves key = deleted_by key account.bucket.versioning
 
   -- a command leaves what it does not touch
-  pub command_leaves : (asked : Command) → Leaves (touched bucket.next_upload asked) bucket (change_of t asked account)
-  command_leaves (command.Put name key size class tags) = keeps_key key bucket _ (same_rules bucket) _ refl refl
+  pub command_leaves : (asked : Command) → Leaves (touched its.next_upload asked) its (change_of t asked account)
+  command_leaves (command.Put name key size class tags) = added account key (kind.Object size class tags t) t
   command_leaves (command.Delete name key) = deleted_leaves key
   command_leaves (command.DeleteVersion name key id) =
-      then_leaves (of_key key) bucket (stack_in key account) _ (λ stack. then_leaves (of_key key) bucket (of_stack (found id stack.versions)) _ (λ version. keeps_key key bucket _ (same_rules bucket) _ refl refl))
+      then_leaves (of_key key) its (stack_in key account) _ (λ stack. then_leaves (of_key key) its (of_stack (found id stack.versions)) _ (λ version. gone account key id t))
   command_leaves (command.SetTags name key id tags) =
-      then_leaves (of_key key) bucket (stack_in key account) _ (λ stack. then_leaves (of_key key) bucket (of_stack (tags_at id stack.versions)) _ (λ old. keeps_key key bucket _ (same_rules bucket) _ refl refl))
-  command_leaves (command.StartUpload name key class tags) = keeps_upload bucket.next_upload bucket _ (same_rules bucket) _ refl refl
+      then_leaves (of_key key) its (stack_in key account) _ (λ stack. then_leaves (of_key key) its (of_stack (tags_at id stack.versions)) _ (λ old. stacked account key (after_tags id tags t stack)))
+  command_leaves (command.StartUpload name key class tags) = started account its.next_upload (its.next_upload + 1) (new_upload key class tags t)
   command_leaves (command.PutPart name number part size) =
-      then_leaves (of_upload number) bucket (upload_in number account) _ (λ upload. unless_leaves (of_upload number) bucket _ _ _ (keeps_upload number bucket _ (same_rules bucket) _ refl refl))
+      then_leaves (of_upload number) its (upload_in number account) _ (λ upload. unless_leaves (of_upload number) its _ _ _ (parted account number upload part size t))
   command_leaves (command.Abort name number) =
-      then_leaves (of_upload number) bucket (upload_in number account) _ (λ upload. keeps_removed number bucket _ (same_rules bucket) refl refl)
-  command_leaves other = leaves_any bucket (change_of t other account)
+      then_leaves (of_upload number) its (upload_in number account) _ (λ upload. dropped account number upload t)
+  command_leaves other = leaves_any its (change_of t other account)
 
 -- ---- what a lifecycle action does
 
@@ -167,13 +215,13 @@ module _ (chosen : Action) (account : Account) where
   removed_by : (number : ℕ) (o : Option UploadRecord) → at_number number account.bucket.uploads ≡ o
       → KeepsButUpload number account.bucket (remove_upload_at number chosen.since account).bucket
   removed_by number None is = rw is (keeps_all (of_upload number) account.bucket)
-  removed_by number (Some upload) is = rw is (keeps_removed number account.bucket _ (same_rules account.bucket) refl refl)
+  removed_by number (Some upload) is = rw is (dropped account number upload chosen.since)
 
   effect_by : (kind : ActionKind) (aim : Target) → chosen.kind ≡ kind → chosen.target ≡ aim → KeepsBut (touched_at chosen.key aim) account.bucket (effect chosen account).bucket
   unfolding effect
-  effect_by action.Remove (target.Version id) kind aims = rw (kind, aims) (keeps_key chosen.key account.bucket _ (same_rules account.bucket) _ refl refl)
-  effect_by (action.Transition to) (target.Version id) kind aims = rw (kind, aims) (keeps_key chosen.key account.bucket _ (same_rules account.bucket) _ refl refl)
-  effect_by action.Marker (target.Version id) kind aims = rw (kind, aims) (keeps_key chosen.key account.bucket _ (same_rules account.bucket) _ refl refl)
+  effect_by action.Remove (target.Version id) kind aims = rw (kind, aims) (gone account chosen.key id chosen.since)
+  effect_by (action.Transition to) (target.Version id) kind aims = rw (kind, aims) (moved account chosen.key id to chosen.since)
+  effect_by action.Marker (target.Version id) kind aims = rw (kind, aims) (added account chosen.key Marker chosen.since)
   effect_by action.Abort (target.Version id) kind aims = rw (kind, aims) (keeps_all (of_key chosen.key) account.bucket)
   effect_by action.Remove (target.Upload number) kind aims = rw (kind, aims) (keeps_all (of_upload number) account.bucket)
   effect_by (action.Transition to) (target.Upload number) kind aims = rw (kind, aims) (keeps_all (of_upload number) account.bucket)
@@ -186,46 +234,9 @@ module _ (chosen : Action) (account : Account) where
 
 -- ---- the index stands for the rest
 
-module _ (before after : BucketRecord) (same : HasSameRules before after) where
-  asked_of_stack : (rules : Configuration) (entry : List ℕ × StackRecord) → stack_candidates after rules entry ≡ stack_candidates before rules entry
-  asked_of_stack rules entry = rw (same.versioning, same.since) refl
-
-  asked_of_number : (rules : Configuration) (entry : ℕ × UploadRecord) → upload_candidates after rules entry ≡ upload_candidates before rules entry
-  asked_of_number rules entry = rw same.since refl
-
-  key_by : (key : List ℕ) (rules : Option Configuration) (stack : Option StackRecord) → asked_of_key after key rules stack ≡ asked_of_key before key rules stack
-  key_by key None stack = refl
-  key_by key (Some rules) None = refl
-  key_by key (Some rules) (Some stack) = asked_of_stack rules (key, stack)
-
-  upload_by : (number : ℕ) (rules : Option Configuration) (upload : Option UploadRecord) → asked_of_upload after number rules upload ≡ asked_of_upload before number rules upload
-  upload_by number None upload = refl
-  upload_by number (Some rules) None = refl
-  upload_by number (Some rules) (Some upload) = asked_of_number rules (number, upload)
-
-  first_key : (key : List ℕ) → at_name key after.stacks ≡ at_name key before.stacks → first_on_key after key ≡ first_on_key before key
-  unfolding first_on_key
-  first_key key at =
-      ap (least comes_before) (key_by key after.rules (at_name key after.stacks)
-      ∙ ap (λ (rules : Option Configuration). asked_of_key before key rules (at_name key after.stacks)) same.rules
-      ∙ ap (λ (stack : Option StackRecord). asked_of_key before key before.rules stack) at)
-
-  first_upload : (number : ℕ) → at_number number after.uploads ≡ at_number number before.uploads → first_on_upload after number ≡ first_on_upload before number
-  unfolding first_on_upload
-  first_upload number at =
-      ap (least comes_before) (upload_by number after.rules (at_number number after.uploads)
-      ∙ ap (λ (rules : Option Configuration). asked_of_upload before number rules (at_number number after.uploads)) same.rules
-      ∙ ap (λ (upload : Option UploadRecord). asked_of_upload before number before.rules upload) at)
-
 pub stands_but : (touch : Touch) (index : IndexRecord) (before after : BucketRecord) → StandsFor index before → KeepsBut touch before after → StandsBut touch index after
-stands_but (of_key key) index before after stands keeps = record {
-  keys = λ k apart. stands.keys k ∙ sym (first_key before after keeps.rules k (keeps.others k apart));
-  uploads = λ n. stands.uploads n ∙ sym (first_upload before after keeps.rules n (keeps.uploads n));
-}
-stands_but (of_upload number) index before after stands keeps = record {
-  keys = λ k. stands.keys k ∙ sym (first_key before after keeps.rules k (keeps.stacks k));
-  uploads = λ n apart. stands.uploads n ∙ sym (first_upload before after keeps.rules n (keeps.others n apart));
-}
+stands_but (of_key key) index before after stands keeps = stands_but_key index before after key stands keeps.rules keeps.others keeps.uploads
+stands_but (of_upload number) index before after stands keeps = stands_but_upload index before after number stands keeps.rules keeps.stacks keeps.others
 stands_but of_all index before after stands keeps = tt
 
 pub may_stand_but : (touch : Touch) (index : Option IndexRecord) (before after : BucketRecord) → IfSome index (λ i. StandsFor i before) → KeepsBut touch before after → IfSome index (λ i. StandsBut touch i after)
@@ -272,3 +283,20 @@ stands_acted chosen account whats counts after moved index h stands =
 -- the index stands for the same bucket
 pub stands_same : (index : Option IndexRecord) (before after : BucketRecord) → after ≡ before → IfSome index (λ i. StandsFor i before) → IfSome index (λ i. StandsFor i after)
 stands_same index before after same stands = subst (λ (b : BucketRecord). IfSome index (λ i. StandsFor i b)) (sym same) stands
+
+-- ---- in steps, as where an upload is completed
+
+-- a key has these versions now
+pub stands_but_written : (key : List ℕ) (index : Option IndexRecord) (start before after : BucketRecord) → before ≡ start → KeepsRules before after → (stack : StackRecord)
+    → after.stacks ≡ with_name key stack before.stacks → after.uploads ≡ before.uploads
+    → IfSome index (λ i. StandsFor i start) → IfSome index (λ i. StandsButKey i after key)
+stands_but_written key index start before after is rules stack stacks uploads stands =
+    may_stand_but (of_key key) index before after (subst (λ (b : BucketRecord). IfSome index (λ i. StandsFor i b)) (sym is) stands)
+    (keeps_written key before after rules stack stacks uploads)
+
+-- an upload has gone
+pub stands_but_removed : (number : ℕ) (index : Option IndexRecord) (before after : BucketRecord) → KeepsRules before after
+    → after.stacks ≡ before.stacks → after.uploads ≡ without_number number before.uploads
+    → IfSome index (λ i. StandsFor i before) → IfSome index (λ i. StandsButUpload i after number)
+stands_but_removed number index before after rules stacks uploads stands =
+    may_stand_but (of_upload number) index before after stands (keeps_removed number before after rules stacks uploads)

@@ -95,10 +95,10 @@ fn leave_of(version: &Version) -> Leaving
 }
 
 /// Tells of the version with this id what has to be known before it goes.
-pub(crate) fn leaving_at(stack: &Stack, id: VersionId) -> Option<Leaving>
-    ensures { result ≡ option_map leaving_of (version_at id stack.now.versions) }
+pub(crate) fn leaving_at(stack: &Stack, id: &VersionId) -> Option<Leaving>
+    ensures { result ≡ option_map leaving_of (version_at id.now stack.now.versions) }
 {
-    match stack.version(id) {
+    match stack.version(*id) {
         Some(version) => Some(leave_of(version)),
         None => None,
     }
@@ -110,7 +110,7 @@ pub(crate) fn replaced(versioning: Versioning, stack: &Stack) -> Option<Leaving>
 {
     match versioning {
         Versioning::Enabled => None,
-        Versioning::Unversioned | Versioning::Suspended => leaving_at(stack, VersionId::Null),
+        Versioning::Unversioned | Versioning::Suspended => leaving_at(stack, &VersionId::Null),
     }
 }
 

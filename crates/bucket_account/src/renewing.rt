@@ -1,5 +1,7 @@
 // The index of a bucket's next actions is renewed after a change, and asked for the first of them.
-ghost use Rattle.std.specs.Prelude.{◌≡◌, IfOk, IfSome};
+ghost use Rattle.std.specs.Prelude.{◌≡◌, IfOk, IfSome, Some};
+ghost use Rattle.office_base.specs.Maps.{at_number};
+ghost use Rattle.uploads.specs.Uploads.{UploadRecord};
 ghost use Rattle.due_core.specs.Choice.{choice};
 ghost use Rattle.due_index.specs.Firsts.{entry_count};
 ghost use Rattle.due_index.specs.Index.{StandsFor, StandsButKey, StandsButUpload, IsBucket};
@@ -35,6 +37,18 @@ pub(crate) fn renew_upload(index: &mut Option<DueIndex>, bucket: &Bucket, number
     };
     if kept.renew_upload(bucket, number).is_err() {
         *index = None;
+    }
+}
+
+/// Renews what comes next on the key of an upload that is there.
+pub(crate) fn renew_key_of(index: &mut Option<DueIndex>, bucket: &Bucket, number: u64)
+    requires rest { (upload : UploadRecord) × (at_number number bucket.now.uploads ≡ Some upload)
+        × IfSome index.old (λ index. StandsButKey index bucket.now upload.key) }
+    ensures stands { IfSome index.new (λ index. StandsFor index bucket.now) }
+{
+    match bucket.uploads.get(&number) {
+        Some(upload) => renew_key(index, bucket, upload.key()),
+        None => unreachable!(),
     }
 }
 

@@ -19,7 +19,7 @@ use crate::counts::Counts;
 use crate::dropping::{remove_upload, without};
 use crate::incoming::{id_of, tag_bytes};
 use crate::parts::{put_in, with_part};
-use crate::renewing::{renew_key, renew_upload};
+use crate::renewing::{renew_key_of, renew_upload};
 use accrual::Meters;
 use class_rules::Class;
 use due_core::Bucket;
@@ -165,7 +165,7 @@ pub(crate) fn put_part(
 ///
 /// Rule: S3 User Guide, "Uploading and copying objects using multipart upload": completion. Own rule: the object is
 /// created at the moment.
-/// Cost: what a put takes, two searches of the uploads, and two passes over the parts.
+/// Cost: what a put takes, three searches of the uploads, and two passes over the parts.
 ///
 /// # Errors
 ///
@@ -205,7 +205,7 @@ pub(crate) fn complete(
     let left = without(counts, kept);
     let counts = put_whole(&mut bucket.stacks, meters, alloc, kept, object, left)?;
     bucket.next_version = next_number(versioning, number);
-    renew_key(index, bucket, kept.key());
+    renew_key_of(index, bucket, upload);
     let _ = bucket.uploads.remove(&upload);
     renew_upload(index, bucket, upload);
     Ok(Done {
