@@ -2,12 +2,10 @@
 use Rattle.std.proofs.Common.{◌≡◌, ℕ, ◌+◌, List, refl, ap, sym, ◌∙◌, subst, Bool, true, false, not, cond}
 use Rattle.std.specs.Prelude.{Option, Some, None, Result, Ok, Err, IfSome, is_ok}
 use Rattle.std.specs.Ordering.{nat_cmp, is_eq}
-use Rattle.std.specs.Option.{ok_or}
 use Rattle.office_base.specs.Maps.{bytes_cmp, at_name, with_name, without_name, at_number, with_number, without_number}
 use Rattle.office_base.specs.Results.{◌>>=◌}
 use Rattle.office_base.specs.declared.version_id.VersionId.{VersionId}
 use Rattle.office_base.specs.declared.version_id.VersionId.TheVariants.{Null}
-use Rattle.rules_core.specs.Configurations.{Configuration}
 use Rattle.rules_core.specs.Matching.{is_empty}
 use Rattle.class_rules.specs.declared.class.Class.{Class}
 use Rattle.stacks.specs.Stacks.{StackRecord, found, tags_at, after_adding, after_removal, after_move, after_tags}
@@ -23,7 +21,6 @@ use Rattle.due_core.specs.declared.action.ActionKind.{ActionKind}
 use Rattle.due_core.specs.declared.action.ActionKind.TheVariants as action
 use Rattle.due_core.specs.declared.action.Target.{Target}
 use Rattle.due_core.specs.declared.action.Target.TheVariants as target
-use Rattle.due_core.specs.declared.action.Candidate.{Candidate}
 use Rattle.due_index.specs.Index.{IndexRecord, StandsFor, StandsButKey, StandsButUpload}
 use Rattle.due_index.proofs.Touched.{KeepsRules, stands_but_key, stands_but_upload}
 use Rattle.plain_office.specs.Office.{Account}
@@ -252,23 +249,14 @@ module _ (t : ℕ) (asked : Command) (whats : List What) (account : Account) (co
   told_keeps (Err refused) (Ok done) touch h leaves ok = absurd h
   told_keeps told (Err refusal) touch h leaves ok = absurd cc
 
-  told_same : (told : Change) (result : Result Done Refusal) → DoesTold whats told account counts after result → is_ok result ≡ false → after.bucket ≡ account.bucket
-  told_same told (Ok done) h ok = absurd cc
-  told_same (Ok told) (Err refusal) h ok = h.1.bucket
-  told_same (Err refused) (Err refusal) h ok = h.1.bucket
-
   -- the index stands for the bucket but for what the command touched
-  pub stands_after : (result : Result Done Refusal) (index : Option IndexRecord) → DoesTold whats (change_of t asked account) account counts after result → is_ok result ≡ true
-      → IfSome index (λ i. StandsFor i account.bucket) → IfSome index (λ i. StandsBut (touched account.bucket.next_upload asked) i after.bucket)
-  stands_after result index h ok stands =
-      may_stand_but (touched account.bucket.next_upload asked) index account.bucket after.bucket stands
-      (told_keeps (change_of t asked account) result (touched account.bucket.next_upload asked) h (command_leaves t account asked) ok)
-
-  -- and for the bucket where nothing was done
-  pub stands_still : (result : Result Done Refusal) (index : Option IndexRecord) → DoesTold whats (change_of t asked account) account counts after result → is_ok result ≡ false
-      → IfSome index (λ i. StandsFor i account.bucket) → IfSome index (λ i. StandsFor i after.bucket)
-  stands_still result index h ok stands =
-      subst (λ (b : BucketRecord). IfSome index (λ i. StandsFor i b)) (sym (told_same (change_of t asked account) result h ok)) stands
+  pub stands_after : (next : ℕ) → next ≡ account.bucket.next_upload → (result : Result Done Refusal) (index : Option IndexRecord)
+      → DoesTold whats (change_of t asked account) account counts after result → is_ok result ≡ true
+      → IfSome index (λ i. StandsFor i account.bucket) → IfSome index (λ i. StandsBut (touched next asked) i after.bucket)
+  stands_after next same result index h ok stands =
+      may_stand_but (touched next asked) index account.bucket after.bucket stands
+      (told_keeps (change_of t asked account) result (touched next asked) h
+      (subst (λ (n : ℕ). Leaves (touched n asked) account.bucket (change_of t asked account)) (sym same) (command_leaves t account asked)) ok)
 
 -- ---- after a lifecycle action
 
