@@ -20,5 +20,7 @@ pub mod Started
 pub mod TagSizes
 pub mod Tagged
 pub mod Told
+pub mod Touches
 pub mod Under
+pub mod Whole
 pub mod WholePut

@@ -5,4 +5,5 @@ pub mod Effects
 pub mod Moving
 pub mod Standing
 pub mod Tagging
+pub mod Touching
 pub mod Uploading

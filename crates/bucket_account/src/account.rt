@@ -1,7 +1,9 @@
 // A bucket in memory: its records, its meters and its running count of versions.
-ghost use Rattle.std.specs.Prelude.{◌≡◌, ◌+◌, ◌^◌, ◌<◌, ◌≤◌, ℕ, length, OnOk, OnErr, IfOk};
+ghost use Rattle.std.specs.Prelude.{◌≡◌, ◌+◌, ◌^◌, ◌<◌, ◌≤◌, ℕ, length, OnOk, OnErr, IfOk, IfSome};
 ghost use Rattle.accrual.specs.Books.{Book, IsBookedBy};
 ghost use Rattle.accrual.specs.Totals.{AreTotalsOf};
+ghost use Rattle.due_core.specs.Choice.{choice};
+ghost use Rattle.due_index.specs.Firsts.{entry_count};
 ghost use Rattle.plain_office.specs.Office as plain;
 ghost use Rattle.plain_office.specs.Step.{new_account};
 ghost use Rattle.plain_office.specs.Counts.{version_count};
@@ -14,10 +16,13 @@ ghost use Rattle.bucket_account.specs.Standing.{StandsForAccount, most_commands}
 
 use crate::change::{Done, change};
 use crate::counts::Counts;
+use crate::renewing::{entries_of, first_of};
 use accrual::Meters;
 use class_rules::Class;
-use due_core::Bucket;
+use due_core::{Action, Bucket};
+use due_index::DueIndex;
 use moments::{Moment, Month};
+use office_base::NoMemory;
 use office_types::{ClassMeters, Command, Refusal};
 use stacks::Versioning;
 use std::alloc::Global;
@@ -33,10 +38,13 @@ pub struct Account {
     versions: u64,
     // The bytes of its printed configuration.
     text_bytes: u64,
+    // The actions that come next; none where memory for them was wanting.
+    index: Option<DueIndex>,
 }
 
 impl Model for Account {
-    ghost use Rattle.std.specs.Prelude.{◌≡◌};
+    ghost use Rattle.std.specs.Prelude.{◌≡◌, IfSome};
+    ghost use Rattle.due_index.specs.Index.{StandsFor, IsBucket};
     ghost use Rattle.plain_office.specs.Counts.{version_count, rules_bytes};
     ghost use Rattle.bucket_account.specs.Counting.{AccountRecord};
 
@@ -44,7 +52,8 @@ impl Model for Account {
 
     ghost view = { λ a. record { bucket = a.bucket; meters = a.meters } };
 
-    ghost invariant = { λ a. (a.versions ≡ version_count a.bucket) × (a.text_bytes ≡ rules_bytes a.bucket.rules) };
+    ghost invariant = { λ a. (a.versions ≡ version_count a.bucket) × (a.text_bytes ≡ rules_bytes a.bucket.rules)
+        × IfSome a.index (λ index. StandsFor index a.bucket) };
 }
 
 // Moves a bucket's own share as the count moved, of which it is one.
@@ -62,19 +71,22 @@ impl Account {
         ensures stands { StandsForAccount result (new_account at) }
         ensures room { (accepted : ℕ) → IsWithinBy accepted result }
     {
+        let bucket = Bucket {
+            versioning: Versioning::Unversioned,
+            rules: None,
+            rules_since: at,
+            stacks: BTreeMap::new(alloc),
+            uploads: BTreeMap::new(alloc),
+            next_version: 1,
+            next_upload: 1,
+        };
+        let index = DueIndex::build(alloc, &bucket).ok();
         Account {
-            bucket: Bucket {
-                versioning: Versioning::Unversioned,
-                rules: None,
-                rules_since: at,
-                stacks: BTreeMap::new(alloc),
-                uploads: BTreeMap::new(alloc),
-                next_version: 1,
-                next_upload: 1,
-            },
+            bucket,
             meters: Meters::new(alloc),
             versions: 0,
             text_bytes: 0,
+            index,
         }
     }
 
@@ -100,6 +112,7 @@ impl Account {
         let done = change(
             &mut self.bucket,
             &mut self.meters,
+            &mut self.index,
             alloc,
             t,
             command,
@@ -116,6 +129,31 @@ impl Account {
         ensures { result.now ≡ self.now.bucket }
     {
         &self.bucket
+    }
+
+    /// Finds the lifecycle action that is due first at a moment; None where none is.
+    ///
+    /// Cost: one reading of the index, and a copy of the action's key; a pass over all versions and uploads where there
+    /// is no index.
+    ///
+    /// # Errors
+    ///
+    /// `NoMemory`: memory ran out.
+    pub fn chosen(&self, t: Moment) -> Result<Option<Action>, NoMemory>
+        ensures exact { IfOk result (λ action. action ≡ choice self.now.bucket t) }
+    {
+        first_of(&self.index, &self.bucket, t)
+    }
+
+    /// Counts the keys and the uploads that have an eligible action; None only where memory for an index of them was
+    /// wanting. Takes no memory.
+    pub fn queued(&self) -> Option<u64>
+        ensures exact { IfSome result (λ entries. entries ≡ entry_count self.now.bucket) }
+    {
+        match &self.index {
+            Some(index) => Some(entries_of(index, &self.bucket)),
+            None => None,
+        }
     }
 
     /// Counts the versions.

@@ -1,7 +1,8 @@
 // The first lifecycle action that is due is done.
-ghost use Rattle.std.specs.Prelude.{◌≡◌, ◌+◌, ◌<◌, ◌≤◌, [], ℕ, Some, Ok, OnOk, OnErr, IfOk};
+ghost use Rattle.std.specs.Prelude.{◌≡◌, ◌+◌, ◌<◌, ◌≤◌, [], ℕ, Some, Ok, OnOk, OnErr, IfOk, IfSome};
 ghost use Rattle.office_base.specs.Tags.{char_count};
 ghost use Rattle.due_core.specs.Choice.{choice};
+ghost use Rattle.due_index.specs.Index.{StandsFor};
 ghost use Rattle.plain_office.specs.Office as plain;
 ghost use Rattle.plain_office.specs.Changes.{effect};
 ghost use Rattle.plain_office.specs.Step.{act, rule_id, marker_made, shown_action};
@@ -19,8 +20,10 @@ use crate::dropping::remove_upload;
 use crate::incoming::id_of;
 use crate::moving::move_version;
 use crate::removing::remove_version;
+use crate::renewing::{build_where_none, first_of, renew_target};
 use accrual::Meters;
-use due_core::{Action, ActionKind, Bucket, Target, chosen};
+use due_core::{Action, ActionKind, Bucket, Target};
+use due_index::DueIndex;
 use moments::Moment;
 use office_base::{NoMemory, Text, VersionId};
 use office_types::{Refusal, Reply};
@@ -141,6 +144,7 @@ fn shown(action: Action, rule: Text, marker: Option<VersionId>) -> Reply
 fn act_on(
     bucket: &mut Bucket,
     meters: &mut Meters,
+    index: &mut Option<DueIndex>,
     alloc: Global,
     t: Moment,
     action: Action,
@@ -152,6 +156,7 @@ fn act_on(
     requires room { (accepted : ℕ) × (accepted < most_commands)
         × IsWithinBy accepted (account_of bucket.old meters.old) }
     requires counts { AreCountsOver bucket.old counts }
+    requires index { IfSome index.old (λ index. StandsFor index bucket.old) }
     ensures done { (account : plain.Account) → StandsForAccount (account_of bucket.old meters.old) account
         → IsOrderlyAccount t account → DoesTold ([])
         (Ok (effect action account, shown_action action (marker_made action.kind bucket.old) bucket.old))
@@ -163,12 +168,14 @@ fn act_on(
         → HasGrownBy 0 0 (account_of bucket.old meters.old) (account_of bucket.new meters.new)) }
     ensures few { IfOk result (IsFewMore counts) }
     ensures fits { IfOk result (λ done. ReplyFits done.reply) }
+    ensures index { IfSome index.new (λ index. StandsFor index bucket.new) }
 {
     let Ok(rule) = rule_id(alloc, &bucket.rules, action.rule) else {
         return Err(Refusal::NoMemory);
     };
     let marker = marker_made(action.kind, bucket);
     let counts = do_action(bucket, meters, alloc, t, &action, counts)?;
+    renew_target(index, bucket, &action);
     Ok(Done {
         counts,
         reply: shown(action, rule, marker),
@@ -178,7 +185,8 @@ fn act_on(
 /// Does the first lifecycle action that is due, at the moment at which it stands; nothing where none is due.
 ///
 /// Rule: S3 User Guide, "Managing the lifecycle of objects". Own rule: it is never refused for a count.
-/// Cost: one pass over the bucket's versions and uploads, with the rules for each.
+/// Cost: what the change takes, and a renewal of what it touches. Where there is no index it is built first, in a pass
+/// over the bucket's versions and uploads; where that takes more memory than there is, that pass makes the choice.
 ///
 /// # Errors
 ///
@@ -186,6 +194,7 @@ fn act_on(
 pub(crate) fn act(
     bucket: &mut Bucket,
     meters: &mut Meters,
+    index: &mut Option<DueIndex>,
     alloc: Global,
     t: Moment,
     counts: Counts,
@@ -195,6 +204,7 @@ pub(crate) fn act(
     requires room { (accepted : ℕ) × (accepted < most_commands)
         × IsWithinBy accepted (account_of bucket.old meters.old) }
     requires counts { AreCountsOver bucket.old counts }
+    requires index { IfSome index.old (λ index. StandsFor index bucket.old) }
     ensures done { (account : plain.Account) → StandsForAccount (account_of bucket.old meters.old) account
         → IsOrderlyAccount t account
         → DoesTold ([]) (act t account) account counts (account_of bucket.new meters.new) result }
@@ -205,9 +215,11 @@ pub(crate) fn act(
         → HasGrownBy 0 0 (account_of bucket.old meters.old) (account_of bucket.new meters.new)) }
     ensures few { IfOk result (IsFewMore counts) }
     ensures fits { IfOk result (λ done. ReplyFits done.reply) }
+    ensures index { IfSome index.new (λ index. StandsFor index bucket.new) }
 {
-    match chosen(bucket, t) {
-        Ok(Some(action)) => act_on(bucket, meters, alloc, t, action, counts),
+    build_where_none(index, alloc, bucket);
+    match first_of(index, bucket, t) {
+        Ok(Some(action)) => act_on(bucket, meters, index, alloc, t, action, counts),
         Ok(None) => Ok(Done {
             counts,
             reply: Reply::NothingDue,

@@ -219,7 +219,7 @@ pub(crate) fn put_version(
     let tags = kind_bytes(&incoming.kind);
     match stacks.get_mut(key) {
         Some(stack) => {
-            let gone = replaced(incoming.versioning, stack.versions());
+            let gone = replaced(incoming.versioning, stack);
             let counts = counted(counts, 0, tags, &gone, whats)?;
             let since = since_of(&gone, incoming.at);
             put_on(stack, meters, key, incoming, since)?;

@@ -1,5 +1,6 @@
 // What a command does to its bucket.
-ghost use Rattle.std.specs.Prelude.{◌≡◌, ◌<◌, ℕ, OnOk, OnErr, IfOk};
+ghost use Rattle.std.specs.Prelude.{◌≡◌, ◌<◌, ℕ, OnOk, OnErr, IfOk, IfSome};
+ghost use Rattle.due_index.specs.Index.{StandsFor};
 ghost use Rattle.plain_office.specs.Office as plain;
 ghost use Rattle.office_types.specs.Fits.{ReplyFits};
 ghost use Rattle.office_types.specs.declared.reply.Reply.TheVariants.{NothingDue};
@@ -13,11 +14,13 @@ use crate::counts::Counts;
 use crate::delete::{delete, delete_version};
 use crate::lifecycle::{drop_rules, set_rules};
 use crate::put::put;
+use crate::renewing::renew;
 use crate::tags::set_tags;
 use crate::upload::{abort, complete, put_part, start_upload};
 use crate::versioning::set_versioning;
 use accrual::Meters;
 use due_core::Bucket;
+use due_index::DueIndex;
 use moments::Moment;
 use office_types::{Command, Refusal, Reply};
 use std::alloc::Global;
@@ -29,8 +32,55 @@ pub struct Done {
     pub reply: Reply,
 }
 
-/// Does a command on a bucket. What is no command on a bucket is refused with `NoMemory`.
+/// Does a command on a bucket, and renews what it touched in the index. Where memory for the index is wanting, there is
+/// none any more, and the command is done all the same.
 pub(crate) fn change(
+    bucket: &mut Bucket,
+    meters: &mut Meters,
+    index: &mut Option<DueIndex>,
+    alloc: Global,
+    t: Moment,
+    command: &Command,
+    counts: Counts,
+    text_bytes: u64,
+) -> Result<Done, Refusal>
+    requires account { (account : plain.Account) × StandsForAccount (account_of bucket.old meters.old) account
+        × IsOrderlyAccount t account }
+    requires room { (accepted : ℕ) × (accepted < most_commands)
+        × IsWithinBy accepted (account_of bucket.old meters.old) }
+    requires counts { AreCountsOver bucket.old counts }
+    requires text { text_bytes ≡ rules_bytes bucket.old.rules }
+    requires index { IfSome index.old (λ index. StandsFor index bucket.old) }
+    ensures done { (account : plain.Account) → StandsForAccount (account_of bucket.old meters.old) account
+        → IsOrderlyAccount t account
+        → DoesTold (limits_of command.now bucket.old) (change_of t command.now account) account counts
+        (account_of bucket.new meters.new) result }
+    ensures room { OnOk result (HasGrownBy 3 1 (account_of bucket.old meters.old) (account_of bucket.new meters.new)) }
+    ensures room_kept { OnErr result (HasGrownBy 0 0 (account_of bucket.old meters.old)
+        (account_of bucket.new meters.new)) }
+    ensures nothing { IfOk result (λ done. done.reply ≡ NothingDue
+        → HasGrownBy 0 0 (account_of bucket.old meters.old) (account_of bucket.new meters.new)) }
+    ensures few { IfOk result (IsFewMore counts) }
+    ensures fits { IfOk result (λ done. ReplyFits done.reply) }
+    ensures index { IfSome index.new (λ index. StandsFor index bucket.new) }
+{
+    match command {
+        Command::Complete { upload, .. } => {
+            return complete(bucket, meters, index, alloc, t, *upload, counts);
+        }
+        Command::Act { .. } => return act(bucket, meters, index, alloc, t, counts),
+        _ => {}
+    }
+    let next_upload = bucket.next_upload;
+    let result = change_records(bucket, meters, alloc, t, command, counts, text_bytes);
+    if result.is_ok() {
+        renew(index, alloc, bucket, command, next_upload);
+    }
+    result
+}
+
+/// Does a command that touches one key, one upload or the rules. Any other is refused with `NoMemory`.
+fn change_records(
     bucket: &mut Bucket,
     meters: &mut Meters,
     alloc: Global,
@@ -91,9 +141,7 @@ pub(crate) fn change(
             size,
             ..
         } => put_part(bucket, meters, t, *upload, *part, *size, counts),
-        Command::Complete { upload, .. } => complete(bucket, meters, alloc, t, *upload, counts),
         Command::Abort { upload, .. } => abort(bucket, meters, t, *upload, counts),
-        Command::Act { .. } => act(bucket, meters, alloc, t, counts),
         _ => Err(Refusal::NoMemory),
     }
 }

@@ -1,15 +1,15 @@
 // A version that comes, and the version that it replaces.
-ghost use Rattle.std.specs.Prelude.{◌≡◌, ◌≤◌, ◌<◌, ◌*◌, length, option_map, option_copied, IsTrue};
+ghost use Rattle.std.specs.Prelude.{◌≡◌, ◌≤◌, ◌<◌, ◌*◌, length, option_map, IsTrue};
 ghost use Rattle.std.specs.List.{list_all};
 ghost use Rattle.office_base.specs.Tags.{is_tag, tags_of};
 ghost use Rattle.plain_office.specs.Counts.{tag_bytes};
 ghost use Rattle.plain_office.specs.Orderly.{lines_since};
-ghost use Rattle.stacks.specs.Stacks.{same_id, new_id, replaced, version_at};
+ghost use Rattle.stacks.specs.Stacks.{new_id, replaced, version_at};
 ghost use Rattle.bucket_account.specs.Booking.{bytes_of_kind, leaving_of, leaving_since};
 
 use moments::Moment;
 use office_base::{Nth, Tags, VersionId};
-use stacks::{Kind, Version, Versioning};
+use stacks::{Kind, Stack, Version, Versioning};
 
 /// A version that comes, but for its key.
 #[derive(Drop)]
@@ -41,13 +41,6 @@ pub(crate) fn id_of(versioning: Versioning, number: u64) -> VersionId
         },
         Versioning::Unversioned | Versioning::Suspended => VersionId::Null,
     }
-}
-
-// The ids are the same.
-fn is_same(a: VersionId, b: VersionId) -> bool
-    ensures { result ≡ same_id a b }
-{
-    a == b
 }
 
 #[tactic(auto, using(crate::proofs::TagSizes::tag_most))]
@@ -101,30 +94,23 @@ fn leave_of(version: &Version) -> Leaving
     }
 }
 
-/// Finds the version with this id.
-pub(crate) fn version_at<'v>(versions: &'v [Version], id: &VersionId) -> Option<&'v Version>
-    ensures { option_copied result ≡ version_at id.now versions.now }
-{
-    versions.iter().find(|version| is_same(*id, version.id))
-}
-
 /// Tells of the version with this id what has to be known before it goes.
-pub(crate) fn leaving_at(versions: &[Version], id: &VersionId) -> Option<Leaving>
-    ensures { result ≡ option_map leaving_of (version_at id.now versions.now) }
+pub(crate) fn leaving_at(stack: &Stack, id: &VersionId) -> Option<Leaving>
+    ensures { result ≡ option_map leaving_of (version_at id.now stack.now.versions) }
 {
-    match version_at(versions, id) {
+    match stack.version(*id) {
         Some(version) => Some(leave_of(version)),
         None => None,
     }
 }
 
 /// Tells what goes where a version is put on these: the null version, unless the new one gets a number.
-pub(crate) fn replaced(versioning: Versioning, versions: &[Version]) -> Option<Leaving>
-    ensures { result ≡ option_map leaving_of (replaced versioning versions.now) }
+pub(crate) fn replaced(versioning: Versioning, stack: &Stack) -> Option<Leaving>
+    ensures { result ≡ option_map leaving_of (replaced versioning stack.now.versions) }
 {
     match versioning {
         Versioning::Enabled => None,
-        Versioning::Unversioned | Versioning::Suspended => leaving_at(versions, &VersionId::Null),
+        Versioning::Unversioned | Versioning::Suspended => leaving_at(stack, &VersionId::Null),
     }
 }
 

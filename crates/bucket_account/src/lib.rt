@@ -16,6 +16,7 @@ mod moving;
 mod parts;
 mod put;
 mod removing;
+mod renewing;
 mod tags;
 mod upload;
 mod versioning;

@@ -59,43 +59,29 @@ fn book_move(
     }
 }
 
-// The version has this id.
-fn has_id(version: &Version, id: VersionId) -> bool
-    ensures { result ≡ has_id id version.now }
-{
-    id == version.id
-}
-
-/// Finds the version with this id.
-fn named<'a>(versions: &'a [Version], id: &VersionId) -> Option<&'a Version>
-    ensures { option_map (λ version. version.now) result ≡ version_at id.now versions.now }
-{
-    versions.iter().find(|version| has_id(version, *id))
-}
-
 /// Books that the object with this id moves.
 fn book_move_of(
-    versions: &[Version],
+    stack: &Stack,
     meters: &mut Meters,
     key: &Key,
     id: &VersionId,
     to: Class,
     at: Moment,
 ) -> Result<(), Refusal>
-    requires there { IsAnObject (version_at id.now versions.now) }
-    requires since { IsSinceBy at (version_at id.now versions.now) }
+    requires there { IsAnObject (version_at id.now stack.now.versions) }
+    requires since { IsSinceBy at (version_at id.now stack.now.versions) }
     requires few { meters.old.booked + 3 ≤ most_bookings }
     requires open { (books : Books) × AreTotalsOf meters.old (book_of books)
-        × MayHaveStay key.now (version_at id.now versions.now) books }
+        × MayHaveStay key.now (version_at id.now stack.now.versions) books }
     ensures stands { OnOk result ((books : Books) → AreTotalsOf meters.old (book_of books)
-        → MayHaveStay key.now (version_at id.now versions.now) books
-        → AreTotalsOf meters.new (book_of (books_moved key.now (version_at id.now versions.now) to at books))) }
+        → MayHaveStay key.now (version_at id.now stack.now.versions) books
+        → AreTotalsOf meters.new (book_of (books_moved key.now (version_at id.now stack.now.versions) to at books))) }
     ensures kept { OnErr result ((book : Book) → AreTotalsOf meters.old book → AreTotalsOf meters.new book) }
     ensures refusal { IfErr result (λ refusal. refusal ≡ Refusal.NoMemory) }
     ensures booked { meters.new.booked ≤ meters.old.booked + 3 }
     ensures not_booked { OnErr result (meters.new.booked ≡ meters.old.booked) }
 {
-    match named(versions, id) {
+    match stack.version(*id) {
         Some(version) => book_move(meters, key, version, to, at),
         None => unreachable!(),
     }
@@ -135,7 +121,7 @@ fn move_on(
     ensures booked { meters.new.booked ≤ meters.old.booked + 3 }
     ensures not_booked { OnErr result (meters.new.booked ≡ meters.old.booked) }
 {
-    book_move_of(stack.versions(), meters, key, &id, to, at)?;
+    book_move_of(stack, meters, key, &id, to, at)?;
     set_class(stack, id, to, at);
     Ok(())
 }

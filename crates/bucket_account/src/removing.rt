@@ -136,7 +136,7 @@ fn take_from(
     ensures booked { meters.new.booked ≤ meters.old.booked + 1 }
     ensures not_booked { OnErr result (meters.new.booked ≡ meters.old.booked) }
 {
-    let gone = leaving_at(stack.versions(), &id);
+    let gone = leaving_at(stack, &id);
     let lost = lost_bytes(key, stack.versions());
     let after = counted(counts, lost, &gone, whats)?;
     let since = since_of(&gone, at);

@@ -17,13 +17,13 @@ ghost use Rattle.bucket_account.specs.Tagging.{tags_counted, AreTaggable, Counts
 
 use crate::change::Done;
 use crate::counts::Counts;
-use crate::incoming::{tag_bytes, version_at};
+use crate::incoming::tag_bytes;
 use accrual::Meters;
 use due_core::Bucket;
 use moments::Moment;
 use office_base::{Key, Tags, VersionId};
 use office_types::{Refusal, Reply, What};
-use stacks::{Kind, Stack, Version};
+use stacks::{Kind, Stack};
 use std::collections::BTreeMap;
 
 /// The count to which new tags add.
@@ -46,10 +46,10 @@ fn object_bytes(kind: &Kind) -> Result<u64, Refusal>
 }
 
 /// Counts the bytes of the tags of the object with this id.
-fn bytes_at(versions: &[Version], id: &VersionId) -> Result<u64, Refusal>
-    ensures { result ≡ tags_counted (tags_at id.now versions.now) }
+fn bytes_at(stack: &Stack, id: VersionId) -> Result<u64, Refusal>
+    ensures { result ≡ tags_counted (tags_at id stack.now.versions) }
 {
-    match version_at(versions, id) {
+    match stack.version(id) {
         Some(version) => object_bytes(&version.kind),
         None => Err(Refusal::NoSuchVersion),
     }
@@ -98,7 +98,7 @@ fn retag(
     ensures ok { OnOk result (stack.new ≡ after_tags id.now tags.now at stack.old) }
     ensures err { OnErr result (stack.new ≡ stack.old) }
 {
-    let before = bytes_at(stack.versions(), id)?;
+    let before = bytes_at(stack, *id)?;
     let after = counted(counts, before, tags)?;
     let Ok(copy) = tags.copy() else {
         return Err(Refusal::NoMemory);

@@ -1,6 +1,7 @@
 // Multipart uploads are started, filled, completed and aborted.
-ghost use Rattle.std.specs.Prelude.{◌≡◌, ◌+◌, ◌^◌, ◌<◌, ◌≤◌, ◌∷◌, [], ℕ, None, OnOk, OnErr, IfOk, IfErr};
+ghost use Rattle.std.specs.Prelude.{◌≡◌, ◌+◌, ◌^◌, ◌<◌, ◌≤◌, ◌∷◌, [], ℕ, None, OnOk, OnErr, IfOk, IfErr, IfSome};
 ghost use Rattle.uploads.specs.Uploads.{new_upload};
+ghost use Rattle.due_index.specs.Index.{StandsFor};
 ghost use Rattle.plain_office.specs.Office as plain;
 ghost use Rattle.plain_office.specs.Step.{start_upload, put_part, complete, abort};
 ghost use Rattle.office_types.specs.declared.refusal.What.TheVariants.{Versions, Uploads, Parts, Names};
@@ -18,9 +19,11 @@ use crate::counts::Counts;
 use crate::dropping::{remove_upload, without};
 use crate::incoming::{id_of, tag_bytes};
 use crate::parts::{put_in, with_part};
+use crate::renewing::{renew_key_of, renew_upload};
 use accrual::Meters;
 use class_rules::Class;
 use due_core::Bucket;
+use due_index::DueIndex;
 use moments::Moment;
 use office_base::{Key, Tags};
 use office_types::{Refusal, Reply, What};
@@ -158,11 +161,11 @@ pub(crate) fn put_part(
     })
 }
 
-/// Makes an object of the parts of an upload, which goes.
+/// Makes an object of the parts of an upload, which goes. What comes next is renewed on the key, and then on the upload.
 ///
 /// Rule: S3 User Guide, "Uploading and copying objects using multipart upload": completion. Own rule: the object is
 /// created at the moment.
-/// Cost: what a put takes, two searches of the uploads, and two passes over the parts.
+/// Cost: what a put takes, three searches of the uploads, and two passes over the parts.
 ///
 /// # Errors
 ///
@@ -171,6 +174,7 @@ pub(crate) fn put_part(
 pub(crate) fn complete(
     bucket: &mut Bucket,
     meters: &mut Meters,
+    index: &mut Option<DueIndex>,
     alloc: Global,
     t: Moment,
     upload: u64,
@@ -181,6 +185,7 @@ pub(crate) fn complete(
     requires room { (accepted : ℕ) × (accepted < most_commands)
         × IsWithinBy accepted (account_of bucket.old meters.old) }
     requires counts { AreCountsOver bucket.old counts }
+    requires index { IfSome index.old (λ index. StandsFor index bucket.old) }
     ensures done { (account : plain.Account) → StandsForAccount (account_of bucket.old meters.old) account
         → IsOrderlyAccount t account
         → DoesTold (Versions ∷ Names ∷ []) (complete t upload account) account counts
@@ -190,6 +195,7 @@ pub(crate) fn complete(
         (account_of bucket.new meters.new)) }
     ensures few { IfOk result (IsFewMore counts) }
     ensures fits { IfOk result (λ done. ReplyFits done.reply) }
+    ensures index { IfSome index.new (λ index. StandsFor index bucket.new) }
 {
     let (versioning, number) = (bucket.versioning, bucket.next_version);
     let Some(kept) = bucket.uploads.get(&upload) else {
@@ -198,8 +204,10 @@ pub(crate) fn complete(
     let object = whole(kept, versioning, number, t)?;
     let left = without(counts, kept);
     let counts = put_whole(&mut bucket.stacks, meters, alloc, kept, object, left)?;
-    let _ = bucket.uploads.remove(&upload);
     bucket.next_version = next_number(versioning, number);
+    renew_key_of(index, bucket, upload);
+    let _ = bucket.uploads.remove(&upload);
+    renew_upload(index, bucket, upload);
     Ok(Done {
         counts,
         reply: Reply::Stored {

@@ -2,4 +2,5 @@ pub mod AnswerParts
 pub mod Closing
 pub mod Lateness
 pub mod Lines
+pub mod Queued
 pub mod Standing

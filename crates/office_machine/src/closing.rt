@@ -13,7 +13,7 @@ ghost use Rattle.office_machine.specs.Standing.{StandsForOffice, Does, accepted_
 use crate::commands::{copy_of, first_of};
 use crate::office::Office;
 use bucket_account::Account;
-use due_core::{Action, Bucket, chosen};
+use due_core::Action;
 use moments::{Moment, Month, month_window};
 use office_base::BucketName;
 use office_types::{Refusal, Reply};
@@ -83,7 +83,7 @@ fn due_before(
     ensures refusal { IfErr result (λ refusal. refusal ≡ Refusal.NoMemory) }
 {
     for (name, account) in accounts.iter() {
-        if let Some(action) = choice_of(account.bucket(), t)? {
+        if let Some(action) = choice_of(account, t)? {
             if action.since.ms() < end {
                 return Ok(Some(Refusal::DueActions {
                     bucket: copy_of(name)?,
@@ -97,11 +97,11 @@ fn due_before(
 }
 
 /// Gives the lifecycle action of a bucket that is due first.
-pub(crate) fn choice_of(bucket: &Bucket, t: Moment) -> Result<Option<Action>, Refusal>
-    ensures exact { IfOk result (λ action. action ≡ choice bucket.now t) }
+pub(crate) fn choice_of(account: &Account, t: Moment) -> Result<Option<Action>, Refusal>
+    ensures exact { IfOk result (λ action. action ≡ choice account.now.bucket t) }
     ensures refusal { IfErr result (λ refusal. refusal ≡ Refusal.NoMemory) }
 {
-    match chosen(bucket, t) {
+    match account.chosen(t) {
         Ok(action) => Ok(action),
         Err(_) => Err(Refusal::NoMemory),
     }

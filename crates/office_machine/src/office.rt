@@ -1,5 +1,5 @@
 // The office.
-ghost use Rattle.std.specs.Prelude.{◌≡◌, ◌⊎◌, ◌<◌, ℕ, List, Ok, Err, IsTrue, option_copied, option_map};
+ghost use Rattle.std.specs.Prelude.{◌≡◌, ◌⊎◌, ◌<◌, ℕ, List, Ok, Err, IsTrue, option_copied, option_map, IfSome};
 ghost use Rattle.office_base.specs.Maps.{at_name};
 ghost use Rattle.plain_office.specs.Office as plain;
 ghost use Rattle.plain_office.specs.Office.{empty_office};
@@ -10,6 +10,7 @@ ghost use Rattle.plain_office.specs.Orderly.{IsOrderly, SizeFits};
 ghost use Rattle.office_types.specs.Fits.{AnswerFits};
 ghost use Rattle.bucket_account.specs.Counting.{AccountRecord};
 ghost use Rattle.bucket_account.specs.Standing.{most_commands};
+ghost use Rattle.office_machine.specs.Queued.{AreQueuedIn};
 ghost use Rattle.office_machine.specs.Standing.{StandsForOffice, Does, accepted_after};
 ghost use Rattle.office_machine.specs.Lateness.{LeavesLaterSweeps, HasEmptySweep, LeavesOthers};
 ghost use Rattle.office_machine.specs.Lateness.{AsksClosedMonth, KeepsClosedMonths};
@@ -105,10 +106,25 @@ impl Office {
         }
     }
 
+    /// Counts the keys and the uploads of a bucket that have an eligible action, which is what its queue of next actions
+    /// holds; None only where there is no bucket of this name, or no queue of it for want of memory. Takes no memory.
+    ///
+    /// Cost: one search of the buckets.
+    pub fn queued(&self, bucket: &BucketName) -> Option<u64>
+        ensures exact { IfSome result (λ entries. AreQueuedIn entries (at_name bucket.now self.now.accounts)) }
+    {
+        match self.accounts.get(bucket) {
+            Some(account) => account.queued(),
+            None => None,
+        }
+    }
+
     /// Does a command at a moment, and answers it. `t` is not before the moment of the last accepted command.
     ///
-    /// Cost: one search of the buckets and one of what the command names in its bucket; `Act` and `Close` read all
-    /// versions and uploads, of one bucket or of all. Memory for copies of names, keys and tags, and for the months
+    /// Cost: one search of the buckets and one of what the command names in its bucket; `Act` takes
+    /// the first of its bucket's queue of next actions, and `Close` reads the first of each bucket's. `SetRules`,
+    /// `DropRules` and `SetVersioning` read all versions and uploads of the bucket, and so does an `Act` or a `Close`
+    /// where there is no queue for want of memory. Memory for copies of names, keys and tags, and for the months
     /// since what is removed or replaced came. Nothing is counted again.
     ///
     /// # Errors

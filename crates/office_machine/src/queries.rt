@@ -82,7 +82,7 @@ impl Office {
         ensures fits { AnswerFits result }
     {
         match self.accounts.get(name) {
-            Some(account) => due_of(self.alloc, account.bucket(), t),
+            Some(account) => due_of(self.alloc, account, t),
             None => Err(Refusal::NoSuchBucket),
         }
     }
@@ -160,8 +160,8 @@ fn upload_of(bucket: &Bucket, number: u64) -> Result<Reply, Refusal>
     }
 }
 
-fn due_of(alloc: Global, bucket: &Bucket, t: Moment) -> Result<Reply, Refusal>
-    ensures reply { IsAnswer (due_told t bucket.now) result }
+fn due_of(alloc: Global, account: &Account, t: Moment) -> Result<Reply, Refusal>
+    ensures reply { IsAnswer (due_told t account.now.bucket) result }
     ensures fits { AnswerFits result }
 {
     let Some(
@@ -172,7 +172,7 @@ fn due_of(alloc: Global, bucket: &Bucket, t: Moment) -> Result<Reply, Refusal>
             rule,
             since,
         },
-    ) = choice_of(bucket, t)?
+    ) = choice_of(account, t)?
     else {
         return Ok(Reply::NothingDue);
     };
@@ -180,7 +180,7 @@ fn due_of(alloc: Global, bucket: &Bucket, t: Moment) -> Result<Reply, Refusal>
         kind,
         key,
         target,
-        rule: id_of(alloc, &bucket.rules, rule)?,
+        rule: id_of(alloc, &account.bucket().rules, rule)?,
         since,
         marker: None,
     })

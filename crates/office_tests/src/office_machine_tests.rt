@@ -6,6 +6,7 @@ use moments::{Moment, Month};
 use office_base::{BucketName, Key, Size, Tags, VersionId};
 use office_machine::Office;
 use office_types::{Ask, ClassMeters, Command, Query, Refusal, Reply, What};
+use rules_json::read_rules;
 use std::alloc::Global;
 use std::marker::Model;
 use std::process::Abort;
@@ -538,5 +539,38 @@ fn a_thousand_buckets(rt: HostRuntime) -> Result<(), Fail> {
     let full = Heard::Full(What::Buckets, 1_000);
     assert_eq!(rt; tried.turn(&rt, alloc, 101, Wish::Make("one-more"))?, full);
     assert_eq!(rt; tried.last_ms(), Some(100));
+    Ok(())
+}
+
+// Objects move to STANDARD_IA 30 days after they were created.
+const ARCHIVING: &str = "{\"Rules\":[{\"ID\":\"archive\",\"Filter\":{\"Prefix\":\"\"},\
+    \"Status\":\"Enabled\",\"Transitions\":[{\"Days\":30,\"StorageClass\":\"STANDARD_IA\"}]}]}";
+
+fn archiving(alloc: Global) -> Result<Command, Fail> {
+    let bucket = BucketName::read(alloc, "logs")?;
+    match read_rules(alloc, ARCHIVING.as_bytes()) {
+        Ok(rules) => Ok(Command::SetRules { bucket, rules }),
+        Err(_) => Err(Fail::new("no rules")),
+    }
+}
+
+// A thousand objects wait for the rule, whenever each comes due.
+#[test]
+fn a_thousand_queued(rt: HostRuntime) -> Result<(), Fail> {
+    let alloc = rt.alloc();
+    let put = 1_702_198_800_000;
+    let mut tried = Tried::new(alloc);
+    assert_eq!(rt; tried.turn(&rt, alloc, put, Wish::Make("logs"))?, MADE);
+    let logs = BucketName::read(alloc, "logs")?;
+    assert!(rt; tried.ask(&rt, Moment::of(put)?, &archiving(alloc)?).is_ok());
+    assert_eq!(rt; tried.office.queued(&logs), Some(0));
+    for number in 0u64..1_000 {
+        let key = format!(in alloc; "object-{number}")?;
+        let said = tried.turn(&rt, alloc, put, Wish::Put("logs", &key, 1_000_000, STANDARD, 0))?;
+        assert_eq!(rt; said, Heard::Stored, "{key}");
+    }
+    assert_eq!(rt; tried.office.queued(&logs), Some(1_000));
+    let others = BucketName::read(alloc, "others")?;
+    assert_eq!(rt; tried.office.queued(&others), None);
     Ok(())
 }

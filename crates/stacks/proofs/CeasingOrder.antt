@@ -1,11 +1,11 @@
 -- The noncurrent versions of a key stay in the order in which they ceased, whatever is done to the key.
-use Rattle.std.proofs.Common.{◌≡◌, ℕ, ◌≤◌, Bool, true, false, ◌&&◌, cond, List, [], ◌∷◌, refl, sym, ap, ◌∙◌, arith}
+use Rattle.std.proofs.Common.{◌≡◌, ℕ, ◌≤◌, Bool, true, false, ◌&&◌, cond, List, [], ◌∷◌, refl, ap, ◌∙◌, arith}
 use Rattle.std.specs.Prelude.{nat_le, map, filter}
 use Rattle.std.proofs.lemmas.Bool.{and_parts, and_from}
 use Rattle.std.proofs.lemmas.Bool.Decides.{nat_tests}
 use Rattle.stacks.specs.declared.version.Version.{Version}
 use Rattle.office_base.specs.declared.version_id.VersionId.{VersionId}
-use Rattle.stacks.specs.Stacks.{StackRecord, covered, without, changed_at, after_removal}
+use Rattle.stacks.specs.Stacks.{covered, without, changed_at}
 use Rattle.stacks.specs.Ceasing.{cease_until, cease_in_order}
 
 le_trans : (a b c : ℕ) → nat_le a b ≡ true → b ≤ c → nat_le a c ≡ true

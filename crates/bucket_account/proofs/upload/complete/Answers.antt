@@ -1,4 +1,4 @@
-use Rattle.std.proofs.Common.{ℕ, List, sym, ap, ◌∙◌, subst}
+use Rattle.std.proofs.Common.{ℕ, List, refl, sym, ap, ◌∙◌, subst}
 use Rattle.std.specs.Prelude.{Result}
 use Rattle.due_core.specs.Buckets.{BucketRecord}
 use Rattle.stacks.specs.Stacks.{StackRecord}
@@ -13,6 +13,7 @@ use Rattle.bucket_account.proofs.Gone.{rises_for, stays_for, uploads_for, parts_
 use Rattle.bucket_account.proofs.Handed.{err_of}
 use Rattle.bucket_account.proofs.PartPut.{changed_for}
 use Rattle.bucket_account.proofs.Started.{upload_ready_at}
+use Rattle.bucket_account.proofs.Touches.{stands_but_written, stands_but_removed}
 use Rattle.bucket_account.proofs.upload.complete.Goals as goal
 
 pub without-left-requires-clause-uploads : goal.without-left-requires-clause-uploads
@@ -116,3 +117,57 @@ returns-clause-done c = λ account stands orderly.
     (stays_for _ account same c.args.upload c.args.t c.in-Some.kept.now found (upload_ready_at c.args.upload c.args.t account orderly)))
     c.without-left.result c.without-left.ensures c.in_ok-counts.counts c.in_ok-counts.ensures.counts.0 c.in_ok-counts.ensures.counts.1
     c.id_of.result c.id_of.ensures
+
+pub renew_key_of-requires : goal.renew_key_of-requires
+renew_key_of-requires c =
+    let kept = c.in-Some.kept.now in
+    let before : BucketRecord = record {
+      versioning = c.bucket.inside.versioning;
+      rules = c.bucket.inside.rules;
+      rules_since = c.bucket.inside.rules_since;
+      stacks = c.bucket.inside.stacks.entries;
+      uploads = c.bucket.inside.uploads.entries;
+      next_version = c.bucket.inside.next_version;
+      next_upload = c.bucket.inside.next_upload;
+    } in
+    let after : BucketRecord = record {
+      versioning = c.bucket.inside.versioning;
+      rules = c.bucket.inside.rules;
+      rules_since = c.bucket.inside.rules_since;
+      stacks = c.put_whole.new.stacks.entries;
+      uploads = c.bucket.inside.uploads.entries;
+      next_version = c.next_number-bucket-inside.result;
+      next_upload = c.bucket.inside.next_upload;
+    } in
+    record {
+      rest = (
+        kept,
+        sym c.in-Some.ensures.value,
+        stands_but_written kept.key c.args.index.now c.args.bucket.now before after c.bucket.view_is (record { rules = refl; versioning = refl; since = refl }) _ c.in_ok-counts.ensures.stacks refl c.requires.index,
+      );
+    }
+
+pub renew_upload-requires : goal.renew_upload-requires
+renew_upload-requires c =
+    let before : BucketRecord = record {
+      versioning = c.bucket.inside.versioning;
+      rules = c.bucket.inside.rules;
+      rules_since = c.bucket.inside.rules_since;
+      stacks = c.put_whole.new.stacks.entries;
+      uploads = c.bucket.inside.uploads.entries;
+      next_version = c.next_number-bucket-inside.result;
+      next_upload = c.bucket.inside.next_upload;
+    } in
+    let after : BucketRecord = record {
+      versioning = c.bucket.inside.versioning;
+      rules = c.bucket.inside.rules;
+      rules_since = c.bucket.inside.rules_since;
+      stacks = c.put_whole.new.stacks.entries;
+      uploads = c.remove.new.self.entries;
+      next_version = c.next_number-bucket-inside.result;
+      next_upload = c.bucket.inside.next_upload;
+    } in
+    record {
+      rest =
+          stands_but_removed c.args.upload c.renew_key_of.new.index before after (record { rules = refl; versioning = refl; since = refl }) refl c.remove.ensures.entries c.renew_key_of.ensures.stands;
+    }

@@ -51,4 +51,4 @@ invariant_of-self-2 c =
     let rules = moved Rules in
     let same = ap (λ (b : BucketRecord). version_count b) stands.bucket in
     let text = ap (λ (b : BucketRecord). rules_bytes b.rules) stands.bucket in
-    (omega (arith, versions, same, c.self.invariant.0, c.moved-self-inside.ensures), omega (arith, rules, text, c.self.invariant.1, c.moved-self-inside-2.ensures))
+    (omega (arith, versions, same, c.self.invariant.0, c.moved-self-inside.ensures), omega (arith, rules, text, c.self.invariant.1, c.moved-self-inside-2.ensures), c.in_ok-done.ensures.index)

@@ -1,0 +1,36 @@
+-- What a command changes of a bucket's records, as far as the lifecycle rules read them.
+use Rattle.std.specs.Prelude.{ℕ, List}
+use Rattle.due_core.specs.Buckets.{BucketRecord}
+use Rattle.due_core.specs.declared.action.Target.{Target}
+use Rattle.due_core.specs.declared.action.Target.TheVariants as target
+use Rattle.due_index.specs.Index.{IndexRecord, StandsButKey, StandsButUpload}
+use Rattle.office_types.specs.declared.command.Command.{Command}
+use Rattle.office_types.specs.declared.command.Command.TheVariants as command
+
+-- the versions of one key, one upload, or all
+pub data Touch : Type 0 where
+  of_key : List ℕ → Touch
+  of_upload : ℕ → Touch
+  of_all : Touch
+
+-- what a command on a bucket changes, whose next upload has this number
+abbrev pub touched : ℕ → Command → Touch
+touched next (command.Put name key size class tags) = of_key key
+touched next (command.Delete name key) = of_key key
+touched next (command.DeleteVersion name key id) = of_key key
+touched next (command.SetTags name key id tags) = of_key key
+touched next (command.StartUpload name key class tags) = of_upload next
+touched next (command.PutPart name upload part size) = of_upload upload
+touched next (command.Abort name upload) = of_upload upload
+touched next other = of_all
+
+-- what a lifecycle action changes
+abbrev pub touched_at : List ℕ → Target → Touch
+touched_at key (target.Version id) = of_key key
+touched_at key (target.Upload number) = of_upload number
+
+-- the index stands for the bucket, but for what was touched
+abbrev pub StandsBut : Touch → IndexRecord → BucketRecord → Type 0
+StandsBut (of_key key) index bucket = StandsButKey index bucket key
+StandsBut (of_upload number) index bucket = StandsButUpload index bucket number
+StandsBut of_all index bucket = Unit {0}

@@ -1,0 +1,140 @@
+// The index of a bucket's next actions is renewed after a change, and asked for the first of them.
+ghost use Rattle.std.specs.Prelude.{◌≡◌, IfOk, IfSome, Some};
+ghost use Rattle.office_base.specs.Maps.{at_number};
+ghost use Rattle.uploads.specs.Uploads.{UploadRecord};
+ghost use Rattle.due_core.specs.Choice.{choice};
+ghost use Rattle.due_index.specs.Firsts.{entry_count};
+ghost use Rattle.due_index.specs.Index.{StandsFor, StandsButKey, StandsButUpload, IsBucket};
+ghost use Rattle.bucket_account.specs.Touching.{touched, touched_at, StandsBut};
+
+use due_core::{Action, Bucket, Target, chosen};
+use due_index::DueIndex;
+use moments::Moment;
+use office_base::{Key, NoMemory};
+use office_types::Command;
+use std::alloc::Global;
+
+/// Renews what comes next on a key. Where memory is wanting, there is no index any more.
+pub(crate) fn renew_key(index: &mut Option<DueIndex>, bucket: &Bucket, key: &Key)
+    requires rest { IfSome index.old (λ index. StandsButKey index bucket.now key.now) }
+    ensures stands { IfSome index.new (λ index. StandsFor index bucket.now) }
+{
+    let Some(kept) = index else {
+        return;
+    };
+    if kept.renew_key(bucket, key).is_err() {
+        *index = None;
+    }
+}
+
+/// Renews what comes next on an upload. Where memory is wanting, there is no index any more.
+pub(crate) fn renew_upload(index: &mut Option<DueIndex>, bucket: &Bucket, number: u64)
+    requires rest { IfSome index.old (λ index. StandsButUpload index bucket.now number) }
+    ensures stands { IfSome index.new (λ index. StandsFor index bucket.now) }
+{
+    let Some(kept) = index else {
+        return;
+    };
+    if kept.renew_upload(bucket, number).is_err() {
+        *index = None;
+    }
+}
+
+/// Renews what comes next on the key of an upload that is there.
+pub(crate) fn renew_key_of(index: &mut Option<DueIndex>, bucket: &Bucket, number: u64)
+    requires rest { (upload : UploadRecord) × (at_number number bucket.now.uploads ≡ Some upload)
+        × IfSome index.old (λ index. StandsButKey index bucket.now upload.key) }
+    ensures stands { IfSome index.new (λ index. StandsFor index bucket.now) }
+{
+    match bucket.uploads.get(&number) {
+        Some(upload) => renew_key(index, bucket, upload.key()),
+        None => unreachable!(),
+    }
+}
+
+/// Builds the index anew. Where memory is wanting, there is none.
+pub(crate) fn renew_all(index: &mut Option<DueIndex>, alloc: Global, bucket: &Bucket)
+    ensures stands { IfSome index.new (λ index. StandsFor index bucket.now) }
+{
+    *index = DueIndex::build(alloc, bucket).ok();
+}
+
+/// Renews what a command has touched in a bucket whose next upload had this number before it.
+pub(crate) fn renew(
+    index: &mut Option<DueIndex>,
+    alloc: Global,
+    bucket: &Bucket,
+    command: &Command,
+    next_upload: u64,
+)
+    requires rest { IfSome index.old (λ index. StandsBut (touched next_upload command.now) index bucket.now) }
+    ensures stands { IfSome index.new (λ index. StandsFor index bucket.now) }
+{
+    match command {
+        Command::Put { key, .. } => renew_key(index, bucket, key),
+        Command::Delete { key, .. } => renew_key(index, bucket, key),
+        Command::DeleteVersion { key, .. } => renew_key(index, bucket, key),
+        Command::SetTags { key, .. } => renew_key(index, bucket, key),
+        Command::StartUpload { .. } => renew_upload(index, bucket, next_upload),
+        Command::PutPart { upload, .. } => renew_upload(index, bucket, *upload),
+        Command::Abort { upload, .. } => renew_upload(index, bucket, *upload),
+        _ => renew_all(index, alloc, bucket),
+    }
+}
+
+/// Renews what a lifecycle action has touched.
+pub(crate) fn renew_target(index: &mut Option<DueIndex>, bucket: &Bucket, action: &Action)
+    requires rest { IfSome index.old
+        (λ index. StandsBut (touched_at action.now.key action.now.target) index bucket.now) }
+    ensures stands { IfSome index.new (λ index. StandsFor index bucket.now) }
+{
+    match action.target {
+        Target::Version(_) => renew_key(index, bucket, &action.key),
+        Target::Upload(number) => renew_upload(index, bucket, number),
+    }
+}
+
+/// Builds the index where there is none.
+pub(crate) fn build_where_none(index: &mut Option<DueIndex>, alloc: Global, bucket: &Bucket)
+    requires stands { IfSome index.old (λ index. StandsFor index bucket.now) }
+    ensures stands { IfSome index.new (λ index. StandsFor index bucket.now) }
+{
+    if index.is_none() {
+        renew_all(index, alloc, bucket);
+    }
+}
+
+/// Tells that the keys of a bucket's stacks and the numbers of its uploads rise, as they do in every map.
+#[tactic(auto, using(crate::proofs::Whole::rises_of))]
+fn see_order(bucket: &Bucket)
+    ensures { IsBucket bucket.now }
+{
+    let _ = (bucket.stacks.len(), bucket.uploads.len());
+}
+
+/// Counts the entries of an index of this bucket.
+pub(crate) fn entries_of(index: &DueIndex, bucket: &Bucket) -> u64
+    requires stands { StandsFor index.now bucket.now }
+    ensures exact { result ≡ entry_count bucket.now }
+{
+    see_order(bucket);
+    index.entries()
+}
+
+/// Finds the action that is due first: by the index, or in a pass over the bucket where there is none.
+pub(crate) fn first_of(
+    index: &Option<DueIndex>,
+    bucket: &Bucket,
+    t: Moment,
+) -> Result<Option<Action>, NoMemory>
+    requires stands { IfSome index.now (λ index. StandsFor index bucket.now) }
+    ensures exact { IfOk result (λ action. action ≡ choice bucket.now t) }
+{
+    match index {
+        Some(index) => {
+            see_order(bucket);
+            index.chosen(bucket, t)
+        }
+        None => chosen(bucket, t),
+    }
+}
