@@ -7,7 +7,7 @@ use Rattle.class_rules.specs.Lines.{object_lines}
 use Rattle.class_rules.specs.declared.class.Class.TheVariants.{Standard, StandardIa, Glacier}
 use Rattle.accrual.specs.Books.{Book, empty_book, open_stay, ended_stay, book_with_early}
 use Rattle.accrual.specs.Meters.{meter, early_quantity, move_count}
-use Rattle.accrual.specs.Totals.{ended_sum, running_sum, since_sum, with_early_of}
+use Rattle.accrual.specs.Totals.{ended_sum, running_sum, lead_sum, with_early_of}
 use Rattle.accrual.specs.Sums.{listed}
 use Rattle.accrual.specs.declared.monthly.MonthSums.{MonthSums}
 
@@ -74,9 +74,9 @@ running_in_january : running_sum january Standard two_puts ≡ 2_000
 unfolding running_sum first_day days_of_months
 running_in_january = refl
 
-since_in_january : since_sum january Standard two_puts ≡ 2_000 * day
-unfolding since_sum first_day days_of_months
-since_in_january = refl
+lead_in_january : lead_sum january Standard two_puts ≡ 2_000 * day
+unfolding lead_sum first_day days_of_months
+lead_in_january = refl
 
 -- what a list says of a month that it has, and of one that it has not
 abbrev sums_of_january : MonthSums

@@ -2,9 +2,10 @@ pub mod Bookings
 pub mod Bounds
 pub mod Cases
 pub mod Changes
+pub mod Ending
 pub mod Examples
 pub mod Places
-pub mod Settling
+pub mod Prefixes
 pub mod Summing
 pub mod Sums
 pub mod Windows

@@ -10,10 +10,10 @@ use Rattle.class_rules.specs.Classes.{rank_of}
 use Rattle.class_rules.specs.declared.class.Class.{Class}
 use Rattle.accrual.specs.Books.{Stay, Book, HasEndedBy, IsStayBy, IsBookedBy}
 use Rattle.accrual.specs.Meters.{bytes_in_class, overlap, meter}
-use Rattle.accrual.specs.Totals.{Totals, AreTotalsOf, kept, has_no_end, ended_ms, running_bytes, ended_sum, running_sum, since_sum}
-use Rattle.accrual.specs.Rows.{running_to}
+use Rattle.accrual.specs.Totals.{Totals, AreTotalsOf, kept, has_no_end, ended_ms, running_bytes, ended_sum, running_sum, lead_sum}
+use Rattle.accrual.specs.Rows.{sum_to, running_to, ended_in}
 use Rattle.accrual.proofs.Cases.{by_less}
-use Rattle.accrual.proofs.Settling.{running_more}
+use Rattle.accrual.proofs.Prefixes.{sum_more}
 
 -- ---- sums over a list
 
@@ -129,23 +129,23 @@ before_next month class book = sum_of_two_any (λ (stay : Stay). before_bytes mo
 
 -- the bytes that began before a month, by the rows and by the book
 pub running_is : (totals : Totals) (book : Book) (class : Class) (month : ℕ) → AreTotalsOf totals book → running_to totals.rows (rank_of class) month ≡ before_sum month class book
-unfolding running_to
+unfolding sum_to
 running_is totals book class zero stands = sym (sum_none (λ (stay : Stay). before_bytes 0 class stay) (λ stay. before_first class stay) book.stays)
 running_is totals book class (suc month) stands =
     let a = running_is totals book class month stands in
     let b = stands.running month class in
     let n = before_next month class book in
     let e : suc month ≡ month + 1 = omega arith in
-    rw e (omega (arith, running_more totals.rows (rank_of class) month, a, b, n))
+    rw e (omega (arith, sum_more (λ kept. kept.running) totals.rows (rank_of class) month, a, b, n))
 
 -- the byte-milliseconds of the stays without an end
 running_ms : ℕ → Class → ℕ → Stay → ℕ
 running_ms month class t stay = if has_no_end stay.to then bytes_in_class class stay.lines * overlap t (month_start month) (month_end month) stay else 0
 
 open_stays : (month : ℕ) (class : Class) (t : ℕ) (book : Book) → IsBookedBy t book
-    → sum_by (λ (stay : Stay). running_ms month class t stay) book.stays + since_sum month class book
+    → sum_by (λ (stay : Stay). running_ms month class t stay) book.stays + lead_sum month class book
     ≡ (before_sum month class book + running_sum month class book) * (min t (month_end month) - month_start month)
-unfolding since_sum running_sum running_ms
+unfolding lead_sum running_sum running_ms
 open_stays month class t book by =
     sum_of_two (IsStayBy t) (λ (stay : Stay). running_ms month class t stay) (λ (stay : Stay). running_bytes month class stay * (stay.from - month_start month))
     (λ (stay : Stay). (before_bytes month class stay + running_bytes month class stay) * (min t (month_end month) - month_start month))
@@ -162,18 +162,18 @@ all_stays month class t book by =
     (λ (stay : Stay). bytes_in_class class stay.lines * overlap t (month_start month) (month_end month) stay)
     (λ stay past. ended_case (bytes_in_class class stay.lines) (month_start month) (month_end month) stay.from t stay.to past.1) book.stays by.stays
 
-less_since : (ms since all : ℕ) → ms + since ≡ all → ms ≡ all - since
-less_since ms since all e = omega (arith, e)
+less_lead : (ms since all : ℕ) → ms + since ≡ all → ms ≡ all - since
+less_lead ms since all e = omega (arith, e)
 
 -- the meter by the kept numbers
 pub meter_is : (totals : Totals) (book : Book) (month : ℕ) (class : Class) (t : ℕ) → AreTotalsOf totals book → IsBookedBy t book
     → meter month class t book
-    ≡ (kept totals month class).ended
+    ≡ ended_in totals.rows month (rank_of class)
     + ((running_to totals.rows (rank_of class) month + (kept totals month class).running)
     * (min t (month_end month) - month_start month)
-    - (kept totals month class).since)
+    - (kept totals month class).lead)
 meter_is totals book month class t stands by =
     let a = all_stays month class t book by in
-    let o = less_since _ _ _ (open_stays month class t book by) in
+    let o = less_lead _ _ _ (open_stays month class t book by) in
     let r = running_is totals book class month stands in
-    rw (stands.ended month class, stands.running month class, stands.since month class, r) (sym a ∙ ap (λ n. ended_sum month class book + n) o)
+    rw (stands.ended month class, stands.running month class, stands.lead month class, r) (sym a ∙ ap (λ n. ended_sum month class book + n) o)

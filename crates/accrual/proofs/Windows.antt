@@ -14,6 +14,9 @@ month_short m =
     let b = month_has_days m in
     omega (arith, b)
 
+pub month_order : (m : ℕ) → month_start m ≤ month_end m
+month_order m = let o = first_day_order m (m + 1) (omega arith) in omega (arith, o)
+
 within_window : (start end from to : ℕ) → ms_within start end from to ≤ end - start
 within_window start end from to = omega arith
 
@@ -22,6 +25,13 @@ within_short m from to =
     let w = within_window (month_start m) (month_end m) from to in
     let s = month_short m in
     omega (arith, w, s)
+
+-- the parts of a month before a moment in it and after it
+pub short_before : (m x : ℕ) → IsInMonth m x → x - month_start m < 2 ^ 32
+short_before m x is = let s = month_short m in omega (arith, s, is.not_over)
+
+pub short_after : (m x : ℕ) → IsInMonth m x → month_end m - x < 2 ^ 32
+short_after m x is = let s = month_short m in omega (arith, s, is.begun)
 
 none_before : (start end from to : ℕ) → end ≤ from → ms_within start end from to ≡ 0
 none_before start end from to le = omega arith

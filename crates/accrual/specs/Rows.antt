@@ -1,6 +1,7 @@
 -- The kept numbers by month and class.
 use Rattle.std.specs.Prelude.{◌≡◌, ◌≢◌, ◌⊎◌, ℕ, zero, suc, ◌+◌, ◌-◌, ◌*◌, ◌^◌, ◌<◌, ◌≤◌, ◌&&◌, ◌==◌, List, [], length, get_or, nat_le}
 use Rattle.std.specs.Prelude.{if◌then◌else◌}
+use Rattle.moments.specs.Months.{months, month_length}
 use Rattle.class_rules.specs.Classes.{rank_of}
 use Rattle.class_rules.specs.Lines.{lines_of}
 use Rattle.class_rules.specs.declared.class.Class.{Class}
@@ -11,7 +12,7 @@ use Rattle.accrual.specs.declared.rows.Rows.{Rows}
 
 -- what is kept of a class in a month of which nothing was booked
 abbrev pub nothing : Numbers
-nothing = record { ended = 0; running = 0; since = 0; early = 0; moves = 0 }
+nothing = record { edges = 0; arrived = 0; departed = 0; running = 0; lead = 0; early = 0; moves = 0 }
 
 -- what is kept of the class with this rank in the month: nothing where there is no row
 unfoldable pub kept_in : Rows → ℕ → ℕ → Numbers
@@ -42,9 +43,12 @@ at_place month rank m r n = if m == month && rank == r then n else 0
 
 -- the numbers were added at one place
 pub record IsAdded (old new : Rows) (month rank : ℕ) (more : Numbers) : Type 0 where
-  pub ended : (m r : ℕ) → (kept_in new m r).ended ≡ (kept_in old m r).ended + at_place month rank m r more.ended
+  pub edges : (m r : ℕ) → (kept_in new m r).edges ≡ (kept_in old m r).edges + at_place month rank m r more.edges
+  pub arrived : (m r : ℕ) → (kept_in new m r).arrived ≡ (kept_in old m r).arrived + at_place month rank m r more.arrived
+  pub departed : (m r : ℕ)
+      → (kept_in new m r).departed ≡ (kept_in old m r).departed + at_place month rank m r more.departed
   pub running : (m r : ℕ) → (kept_in new m r).running ≡ (kept_in old m r).running + at_place month rank m r more.running
-  pub since : (m r : ℕ) → (kept_in new m r).since ≡ (kept_in old m r).since + at_place month rank m r more.since
+  pub lead : (m r : ℕ) → (kept_in new m r).lead ≡ (kept_in old m r).lead + at_place month rank m r more.lead
   pub early : (m r : ℕ) → (kept_in new m r).early ≡ (kept_in old m r).early + at_place month rank m r more.early
   pub moves : (m r : ℕ) → (kept_in new m r).moves ≡ (kept_in old m r).moves + at_place month rank m r more.moves
   pub first : new.first ≡ old.first
@@ -52,17 +56,21 @@ pub record IsAdded (old new : Rows) (month rank : ℕ) (more : Numbers) : Type 0
 
 -- the numbers can be added without leaving their range
 pub record HasRoom (kept more : Numbers) : Type 0 where
-  pub ended : kept.ended + more.ended < 2 ^ 128
+  pub edges : kept.edges + more.edges < 2 ^ 128
+  pub arrived : kept.arrived + more.arrived < 2 ^ 128
+  pub departed : kept.departed + more.departed < 2 ^ 128
   pub running : kept.running + more.running < 2 ^ 128
-  pub since : kept.since + more.since < 2 ^ 128
+  pub lead : kept.lead + more.lead < 2 ^ 128
   pub early : kept.early + more.early < 2 ^ 128
   pub moves : kept.moves + more.moves < 2 ^ 64
 
 -- the numbers can be taken out
 pub record IsWithin (less kept : Numbers) : Type 0 where
-  pub ended : less.ended ≤ kept.ended
+  pub edges : less.edges ≤ kept.edges
+  pub arrived : less.arrived ≤ kept.arrived
+  pub departed : less.departed ≤ kept.departed
   pub running : less.running ≤ kept.running
-  pub since : less.since ≤ kept.since
+  pub lead : less.lead ≤ kept.lead
   pub early : less.early ≤ kept.early
   pub moves : less.moves ≤ kept.moves
 
@@ -70,59 +78,132 @@ pub record IsWithin (less kept : Numbers) : Type 0 where
 abbrev pub in_month : ℕ → ℕ → ℕ → ℕ
 in_month month m n = if m == month then n else 0
 
--- what a stay of so many bytes adds that begins so many milliseconds after the start of the month
-abbrev pub begun_numbers : ℕ → ℕ → Numbers
-begun_numbers bytes ms = record { ended = 0; running = bytes; since = bytes * ms; early = 0; moves = 0 }
+-- what each byte of a stay without an end counts that began so many milliseconds after the start of the month
+abbrev pub running_each : ℕ → Numbers
+running_each ms = record { edges = 0; arrived = 0; departed = 0; running = 1; lead = ms; early = 0; moves = 0 }
 
--- what a stay of so many bytes adds that has ended, and lasted so many milliseconds in the month
-abbrev pub ended_numbers : ℕ → ℕ → Numbers
-ended_numbers bytes ms = record { ended = bytes * ms; running = 0; since = 0; early = 0; moves = 0 }
+-- what each byte of a stay that has ended counts in the month in which it began, so many milliseconds before its end
+abbrev pub arrived_each : ℕ → Numbers
+arrived_each ms = record { edges = ms; arrived = 1; departed = 0; running = 0; lead = 0; early = 0; moves = 0 }
 
--- the kept numbers of the month hold a stay with these lines, so many milliseconds after its start
-abbrev pub HasBegun : Rows → Lines → ℕ → ℕ → Type 0
-HasBegun rows lines month ms =
-    (class : Class) → (bytes_in_class class (lines_of lines) ≤ (kept_in rows month (rank_of class)).running)
-    × (bytes_in_class class (lines_of lines) * ms ≤ (kept_in rows month (rank_of class)).since)
+-- what each of its bytes counts in the month in which it ended, so many milliseconds after its start
+abbrev pub departed_each : ℕ → Numbers
+departed_each ms = record { edges = ms; arrived = 0; departed = 1; running = 0; lead = 0; early = 0; moves = 0 }
 
--- stays with these lines began in the month, so many milliseconds after its start
-pub record IsBegun (old new : Rows) (lines : Lines) (month ms : ℕ) : Type 0 where
-  pub ended : (m r : ℕ) → (kept_in new m r).ended ≡ (kept_in old m r).ended
+-- the numbers of so many bytes, by what each of them counts
+abbrev pub weighed : ℕ → Numbers → Numbers
+weighed bytes each = record {
+  edges = bytes * each.edges;
+  arrived = bytes * each.arrived;
+  departed = bytes * each.departed;
+  running = bytes * each.running;
+  lead = bytes * each.lead;
+  early = 0;
+  moves = 0;
+}
+
+-- no byte counts for more than itself, and for more than 2 ^ 32 milliseconds
+pub record IsShort (each : Numbers) : Type 0 where
+  pub edges : each.edges < 2 ^ 32
+  pub arrived : each.arrived ≤ 1
+  pub departed : each.departed ≤ 1
+  pub running : each.running ≤ 1
+  pub lead : each.lead < 2 ^ 32
+
+-- what is kept of the month holds what stays with these lines count there
+pub record HasBooked (rows : Rows) (lines : Lines) (month : ℕ) (each : Numbers) : Type 0 where
+  pub edges : (class : Class)
+      → bytes_in_class class (lines_of lines) * each.edges ≤ (kept_in rows month (rank_of class)).edges
+  pub arrived : (class : Class)
+      → bytes_in_class class (lines_of lines) * each.arrived ≤ (kept_in rows month (rank_of class)).arrived
+  pub departed : (class : Class)
+      → bytes_in_class class (lines_of lines) * each.departed ≤ (kept_in rows month (rank_of class)).departed
+  pub running : (class : Class)
+      → bytes_in_class class (lines_of lines) * each.running ≤ (kept_in rows month (rank_of class)).running
+  pub lead : (class : Class)
+      → bytes_in_class class (lines_of lines) * each.lead ≤ (kept_in rows month (rank_of class)).lead
+
+-- stays with these lines were booked in the month, by what each of their bytes counts there
+pub record IsBooked (old new : Rows) (lines : Lines) (month : ℕ) (each : Numbers) : Type 0 where
+  pub edges : (m : ℕ) (class : Class)
+      → (kept_in new m (rank_of class)).edges
+      ≡ (kept_in old m (rank_of class)).edges + in_month month m (bytes_in_class class (lines_of lines) * each.edges)
+  pub arrived : (m : ℕ) (class : Class)
+      → (kept_in new m (rank_of class)).arrived
+      ≡ (kept_in old m (rank_of class)).arrived + in_month month m (bytes_in_class class (lines_of lines) * each.arrived)
+  pub departed : (m : ℕ) (class : Class)
+      → (kept_in new m (rank_of class)).departed
+      ≡ (kept_in old m (rank_of class)).departed + in_month month m (bytes_in_class class (lines_of lines) * each.departed)
   pub running : (m : ℕ) (class : Class)
       → (kept_in new m (rank_of class)).running
-      ≡ (kept_in old m (rank_of class)).running + in_month month m (bytes_in_class class (lines_of lines))
-  pub since : (m : ℕ) (class : Class)
-      → (kept_in new m (rank_of class)).since
-      ≡ (kept_in old m (rank_of class)).since + in_month month m (bytes_in_class class (lines_of lines) * ms)
+      ≡ (kept_in old m (rank_of class)).running + in_month month m (bytes_in_class class (lines_of lines) * each.running)
+  pub lead : (m : ℕ) (class : Class)
+      → (kept_in new m (rank_of class)).lead
+      ≡ (kept_in old m (rank_of class)).lead + in_month month m (bytes_in_class class (lines_of lines) * each.lead)
   pub early : (m r : ℕ) → (kept_in new m r).early ≡ (kept_in old m r).early
   pub moves : (m r : ℕ) → (kept_in new m r).moves ≡ (kept_in old m r).moves
   pub first : new.first ≡ old.first
   pub as_many : length new.rows.items ≡ length old.rows.items
-
--- a stay with these lines has ended, which was so many milliseconds long in each month
-pub record IsEnded (old new : Rows) (lines : Lines) (ms : ℕ → ℕ) : Type 0 where
-  pub ended : (m : ℕ) (class : Class)
-      → (kept_in new m (rank_of class)).ended
-      ≡ (kept_in old m (rank_of class)).ended + bytes_in_class class (lines_of lines) * ms m
-  pub running : (m r : ℕ) → (kept_in new m r).running ≡ (kept_in old m r).running
-  pub since : (m r : ℕ) → (kept_in new m r).since ≡ (kept_in old m r).since
-  pub early : (m r : ℕ) → (kept_in new m r).early ≡ (kept_in old m r).early
-  pub moves : (m r : ℕ) → (kept_in new m r).moves ≡ (kept_in old m r).moves
-  pub first : new.first ≡ old.first
-  pub as_many : length new.rows.items ≡ length old.rows.items
-
--- a stay with these lines has ended, which was so many milliseconds long in one month
-abbrev pub IsSettled : Rows → Rows → Lines → ℕ → ℕ → Type 0
-IsSettled old new lines month ms = IsEnded old new lines (λ m. in_month month m ms)
 
 -- far from the end of its range
 pub record IsModest (kept : Numbers) : Type 0 where
-  pub ended : kept.ended < 2 ^ 127
+  pub edges : kept.edges < 2 ^ 127
+  pub arrived : kept.arrived < 2 ^ 127
+  pub departed : kept.departed < 2 ^ 127
   pub running : kept.running < 2 ^ 127
-  pub since : kept.since < 2 ^ 127
+  pub lead : kept.lead < 2 ^ 127
   pub early : kept.early < 2 ^ 127
   pub moves : kept.moves < 2 ^ 63
 
--- the bytes of the stays without an end that began in the first n months
-unfoldable pub running_to : Rows → ℕ → ℕ → ℕ
-running_to rows rank zero = 0
-running_to rows rank (suc n) = running_to rows rank n + (kept_in rows n rank).running
+-- ---- sums over the months before one
+
+-- the sum over the first n months of one of the kept numbers
+unfoldable pub sum_to : (Numbers → ℕ) → Rows → ℕ → ℕ → ℕ
+sum_to number rows rank zero = 0
+sum_to number rows rank (suc n) = sum_to number rows rank n + number (kept_in rows n rank)
+
+-- the bytes of the stays without an end that began before the month
+abbrev pub running_to : Rows → ℕ → ℕ → ℕ
+running_to rows rank month = sum_to (λ kept. kept.running) rows rank month
+
+-- the bytes of the stays that have ended and began before the month
+abbrev pub arrived_to : Rows → ℕ → ℕ → ℕ
+arrived_to rows rank month = sum_to (λ kept. kept.arrived) rows rank month
+
+-- the bytes of the stays that ended before the month
+abbrev pub departed_to : Rows → ℕ → ℕ → ℕ
+departed_to rows rank month = sum_to (λ kept. kept.departed) rows rank month
+
+-- the byte-milliseconds of a month if what arrived stayed to its end, and what arrived in an earlier one for all of it
+unfoldable pub gross_in : Rows → ℕ → ℕ → ℕ
+gross_in rows month rank = (kept_in rows month rank).edges + arrived_to rows rank month * month_length month
+
+-- of them those that count a whole month of what had departed by its end
+unfoldable pub excess_in : Rows → ℕ → ℕ → ℕ
+excess_in rows month rank = departed_to rows rank (month + 1) * month_length month
+
+-- the byte-milliseconds, inside the month, of the stays that have ended
+unfoldable pub ended_in : Rows → ℕ → ℕ → ℕ
+ended_in rows month rank = gross_in rows month rank - excess_in rows month rank
+
+-- a stay with these lines has ended, which was so many milliseconds long in each month
+pub record IsEnded (old new : Rows) (lines : Lines) (ms : ℕ → ℕ) : Type 0 where
+  pub gain : (m : ℕ) (class : Class)
+      → gross_in new m (rank_of class) + excess_in old m (rank_of class)
+      ≡ gross_in old m (rank_of class) + excess_in new m (rank_of class) + bytes_in_class class (lines_of lines) * ms m
+  pub grows : (m : ℕ) (class : Class) → excess_in old m (rank_of class) ≤ excess_in new m (rank_of class)
+  pub edges : (m : ℕ) (class : Class)
+      → (kept_in new m (rank_of class)).edges
+      ≤ (kept_in old m (rank_of class)).edges + bytes_in_class class (lines_of lines) * 2 ^ 33
+  pub arrived : (class : Class)
+      → arrived_to new (rank_of class) months
+      ≡ arrived_to old (rank_of class) months + bytes_in_class class (lines_of lines)
+  pub departed : (class : Class)
+      → departed_to new (rank_of class) months
+      ≡ departed_to old (rank_of class) months + bytes_in_class class (lines_of lines)
+  pub running : (m : ℕ) (class : Class) → (kept_in new m (rank_of class)).running ≡ (kept_in old m (rank_of class)).running
+  pub lead : (m : ℕ) (class : Class) → (kept_in new m (rank_of class)).lead ≡ (kept_in old m (rank_of class)).lead
+  pub early : (m r : ℕ) → (kept_in new m r).early ≡ (kept_in old m r).early
+  pub moves : (m r : ℕ) → (kept_in new m r).moves ≡ (kept_in old m r).moves
+  pub first : new.first ≡ old.first
+  pub as_many : length new.rows.items ≡ length old.rows.items

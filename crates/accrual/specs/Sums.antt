@@ -6,7 +6,7 @@ use Rattle.class_rules.specs.declared.class.Class.{Class}
 use Rattle.accrual.specs.Books.{Stay, Book}
 use Rattle.accrual.specs.Meters.{early_quantity, move_count}
 use Rattle.accrual.specs.Totals.{has_no_end, ended_sum}
-use Rattle.accrual.specs.Rows.{kept_in}
+use Rattle.accrual.specs.Rows.{kept_in, ended_in}
 use Rattle.accrual.specs.declared.rows.Numbers.{Numbers}
 use Rattle.accrual.specs.declared.rows.Rows.{Rows}
 use Rattle.accrual.specs.declared.monthly.MonthSums.{MonthSums}
@@ -49,7 +49,7 @@ pub record IsSmallMonth (sums : MonthSums) : Type 0 where
 -- the list has the sums of the rows
 pub record AreSumsIn (rows : Rows) (sums : List MonthSums) : Type 0 where
   pub ended : (month : ℕ) (class : Class)
-      → listed (λ s. s.ended) sums month class ≡ (kept_in rows month (rank_of class)).ended
+      → listed (λ s. s.ended) sums month class ≡ ended_in rows month (rank_of class)
   pub early : (month : ℕ) (class : Class)
       → listed (λ s. s.early) sums month class ≡ (kept_in rows month (rank_of class)).early
   pub moves : (month : ℕ) (class : Class)
@@ -58,30 +58,34 @@ pub record AreSumsIn (rows : Rows) (sums : List MonthSums) : Type 0 where
 -- the entry has the sums of this month of the rows
 pub record IsMonthOf (rows : Rows) (number : ℕ) (sums : MonthSums) : Type 0 where
   pub month : sums.month ≡ number
-  pub ended : (class : Class) → get_or sums.ended (rank_of class) 0 ≡ (kept_in rows number (rank_of class)).ended
+  pub ended : (class : Class) → get_or sums.ended (rank_of class) 0 ≡ ended_in rows number (rank_of class)
   pub early : (class : Class) → get_or sums.early (rank_of class) 0 ≡ (kept_in rows number (rank_of class)).early
   pub moves : (class : Class) → get_or sums.moves (rank_of class) 0 ≡ (kept_in rows number (rank_of class)).moves
 
--- nothing is kept but of stays without an end
-pub record HasNoSum (kept : Numbers) : Type 0 where
-  pub ended : kept.ended ≡ 0
-  pub early : kept.early ≡ 0
-  pub moves : kept.moves ≡ 0
+-- nothing of a class is counted in a month but stays without an end
+pub record HasNoSum (rows : Rows) (month rank : ℕ) : Type 0 where
+  pub ended : ended_in rows month rank ≡ 0
+  pub early : (kept_in rows month rank).early ≡ 0
+  pub moves : (kept_in rows month rank).moves ≡ 0
 
 -- what is kept of a class in a month with these sums
 abbrev pub summed_numbers : MonthSums → ℕ → Numbers
 summed_numbers sums rank = record {
-  ended = get_or sums.ended rank 0;
+  edges = get_or sums.ended rank 0;
+  arrived = 0;
+  departed = 0;
   running = 0;
-  since = 0;
+  lead = 0;
   early = get_or sums.early rank 0;
   moves = get_or sums.moves rank 0;
 }
 
--- nothing is kept of a stay without an end, and the sums leave room
+-- nothing is kept of a stay, and the sums leave room
 pub record IsSmall (kept : Numbers) : Type 0 where
-  pub ended : kept.ended < 2 ^ 120
+  pub edges : kept.edges < 2 ^ 120
+  pub arrived : kept.arrived ≡ 0
+  pub departed : kept.departed ≡ 0
   pub running : kept.running ≡ 0
-  pub since : kept.since ≡ 0
+  pub lead : kept.lead ≡ 0
   pub early : kept.early < 2 ^ 120
   pub moves : kept.moves < 2 ^ 62

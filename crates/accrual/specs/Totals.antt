@@ -10,7 +10,7 @@ use Rattle.accrual.specs.declared.rows.Numbers.{Numbers}
 use Rattle.accrual.specs.declared.rows.Rows.{Rows}
 use Rattle.accrual.specs.Books.{Stay, Book, open_stay, book_with_early}
 use Rattle.accrual.specs.Meters.{bytes_in_class, is_in_month, early_quantity, move_count}
-use Rattle.accrual.specs.Rows.{kept_in, HasRowIn}
+use Rattle.accrual.specs.Rows.{kept_in, ended_in, HasRowIn}
 
 -- what the meters are to their callers: rows by month, and the number of calls of open, early and moved
 pub record Totals : Type 0 where
@@ -64,16 +64,16 @@ unfoldable pub running_sum : ℕ → Class → Book → ℕ
 running_sum month class book = sum_by (λ (stay : Stay). running_bytes month class stay) book.stays
 
 -- their byte-milliseconds from the month's start to their beginnings
-unfoldable pub since_sum : ℕ → Class → Book → ℕ
-since_sum month class book =
+unfoldable pub lead_sum : ℕ → Class → Book → ℕ
+lead_sum month class book =
     sum_by (λ (stay : Stay). running_bytes month class stay * (stay.from - month_start month)) book.stays
 
 -- the totals are those of the book: each kept number equals its sum over the book, and is nothing in a month that is
 -- not kept
 pub record AreTotalsOf (totals : Totals) (book : Book) : Type 0 where
-  pub ended : (month : ℕ) (class : Class) → (kept totals month class).ended ≡ ended_sum month class book
+  pub ended : (month : ℕ) (class : Class) → ended_in totals.rows month (rank_of class) ≡ ended_sum month class book
   pub running : (month : ℕ) (class : Class) → (kept totals month class).running ≡ running_sum month class book
-  pub since : (month : ℕ) (class : Class) → (kept totals month class).since ≡ since_sum month class book
+  pub lead : (month : ℕ) (class : Class) → (kept totals month class).lead ≡ lead_sum month class book
   pub early : (month : ℕ) (class : Class) → (kept totals month class).early ≡ early_quantity month class book
   pub moves : (month : ℕ) (class : Class) → (kept totals month class).moves ≡ move_count month class book
 

@@ -10,7 +10,7 @@ ghost use Rattle.accrual.specs.Sums.{AreSumsOf, HasAllEnded, HaveRisingMonths, I
 ghost use Rattle.accrual.specs.Totals.{HasRow, AreTotalsOf, HasOpenStay, IsBilled, most_bookings, with_early_of};
 
 use crate::monthly::MonthSums;
-use crate::rows::{NOTHING, Numbers, Rows};
+use crate::rows::{NOTHING, Numbers, Rows, arrived_each, departed_each, running_each};
 use class_rules::{Class, Lines, least_duration};
 use moments::{Moment, Month, month_of, month_window};
 use office_base::NoMemory;
@@ -124,7 +124,8 @@ impl Meters {
     {
         let month = month_of(from);
         let (start, _) = month_window(month);
-        self.rows.begin(lines, month.number(), from.ms() - start);
+        self.rows
+            .book(lines, month.number(), &running_each(from.ms() - start));
         self.booked += 1;
     }
 
@@ -140,10 +141,16 @@ impl Meters {
         ensures rows { (month : ℕ) → HasRow self.old month → HasRow self.new month }
         ensures booked { self.new.booked ≡ self.old.booked }
     {
-        let month = month_of(from);
-        let (start, _) = month_window(month);
-        self.rows.finish(lines, month.number(), from.ms() - start);
-        self.rows.settle(lines, from, at);
+        let first = month_of(from);
+        let (start, end) = month_window(first);
+        self.rows
+            .unbook(lines, first.number(), &running_each(from.ms() - start));
+        self.rows
+            .book(lines, first.number(), &arrived_each(end - from.ms()));
+        let last = month_of(at);
+        let (start, _) = month_window(last);
+        self.rows
+            .book(lines, last.number(), &departed_each(at.ms() - start));
     }
 
     /// Books what an object owes that entered this class at `entered`, has this many bytes on its own line, and leaves
@@ -198,8 +205,8 @@ impl Meters {
         let (start, end) = month_window(month);
         let ms = t.ms().min(end).saturating_sub(start);
         let kept = self.rows.kept(month.number(), class);
-        let bytes = self.rows.running_before(month.number(), class) + kept.running;
-        kept.ended + (bytes * ms as u128).saturating_sub(kept.since)
+        let bytes = self.rows.before(month.number(), class).running + kept.running;
+        self.rows.ended(month, class) + (bytes * ms as u128).saturating_sub(kept.lead)
     }
 
     /// Reads the early quantities of a month and a class, in byte-milliseconds. Takes no memory.

@@ -4,11 +4,13 @@ ghost use Rattle.std.specs.List.{list_all};
 ghost use Rattle.moments.specs.Months.{months};
 ghost use Rattle.class_rules.specs.Classes.{rank_of};
 ghost use Rattle.class_rules.specs.declared.class.Class.{Class};
-ghost use Rattle.accrual.specs.Rows.{nothing, kept_in, HasRowIn};
+ghost use Rattle.accrual.specs.Rows.{nothing, kept_in, ended_in, HasRowIn};
+ghost use Rattle.accrual.specs.Bounds.{IsSound};
 ghost use Rattle.accrual.specs.Sums.{AreSumsIn, IsMonthOf, HasNoSum, HaveRisingMonths, IsSmallMonth, IsSmall};
 ghost use Rattle.accrual.specs.Sums.{is_nothing, is_zero, summed_numbers};
 
 use crate::rows::{NOTHING, Numbers, Rows};
+use class_rules::Class;
 use moments::Month;
 use std::alloc::{AllocError, Global};
 
@@ -36,7 +38,7 @@ impl MonthSums {
 impl Rows {
     // Lists the sums of each month that has some.
     pub(crate) fn sums(&self) -> Result<Vec<MonthSums>, AllocError>
-        requires run { self.now.first + length self.now.rows.items ≤ months }
+        requires sound { IsSound self.now }
         ensures sums { IfOk result (λ sums. AreSumsIn self.now sums.items) }
         ensures rising { IfOk result (λ sums. HaveRisingMonths sums.items) }
         ensures some { IfOk result (λ sums. All (λ month. IsFalse (is_nothing month)) sums.items) }
@@ -54,19 +56,35 @@ impl Rows {
     // Gives the sums of a month; None where all are 0.
     fn sums_in(&self, month: u64) -> Option<MonthSums>
         requires row { HasRowIn self.now month }
-        requires month { month < months }
+        requires sound { IsSound self.now }
         ensures sums { IfSome result (λ sums. IsMonthOf self.now month sums) }
         ensures some { IfSome result (λ sums. IsFalse (is_nothing sums)) }
-        ensures none { IfNone result ((class : Class) → HasNoSum (kept_in self.now month (rank_of class))) }
+        ensures none { IfNone result ((class : Class) → HasNoSum self.now month (rank_of class)) }
     {
         let sums = sums_of(
             Month::numbered(month),
+            self.all_ended(Month::numbered(month)),
             &self.rows[(month - self.first) as usize],
         );
         if sums.is_nothing() {
             return None;
         }
         Some(sums)
+    }
+
+    // Lists the byte-milliseconds, inside the month, of the stays that have ended.
+    fn all_ended(&self, month: Month) -> [u128; 6]
+        requires sound { IsSound self.now }
+        ensures { (class : Class) → get_or result (rank_of class) 0 ≡ ended_in self.now month (rank_of class) }
+    {
+        [
+            self.ended(month, Class::Standard),
+            self.ended(month, Class::StandardIa),
+            self.ended(month, Class::OnezoneIa),
+            self.ended(month, Class::GlacierIr),
+            self.ended(month, Class::Glacier),
+            self.ended(month, Class::DeepArchive),
+        ]
     }
 
     // Gives rows with these sums, in which no stay is without an end.
@@ -100,11 +118,10 @@ fn are_zero(numbers: &[u128; 6]) -> bool
     numbers.iter().all(|n| *n == 0)
 }
 
-// The sums of a month by its row.
-fn sums_of(month: Month, row: &[Numbers; 6]) -> MonthSums
+// The sums of a month by its row, with the byte-milliseconds of the stays that have ended.
+fn sums_of(month: Month, ended: [u128; 6], row: &[Numbers; 6]) -> MonthSums
     ensures month { result.month ≡ month }
-    ensures ended { (class : Class)
-        → get_or result.ended (rank_of class) 0 ≡ (get_or row.now (rank_of class) nothing).ended }
+    ensures ended { result.ended ≡ ended }
     ensures early { (class : Class)
         → get_or result.early (rank_of class) 0 ≡ (get_or row.now (rank_of class) nothing).early }
     ensures moves { (class : Class)
@@ -113,7 +130,7 @@ fn sums_of(month: Month, row: &[Numbers; 6]) -> MonthSums
     let [a, b, c, d, e, f] = *row;
     MonthSums {
         month,
-        ended: [a.ended, b.ended, c.ended, d.ended, e.ended, f.ended],
+        ended,
         early: [a.early, b.early, c.early, d.early, e.early, f.early],
         moves: [a.moves, b.moves, c.moves, d.moves, e.moves, f.moves],
     }
@@ -139,7 +156,7 @@ fn kept_of(sums: &MonthSums, rank: usize) -> Numbers
     ensures { result ≡ summed_numbers sums.now rank }
 {
     Numbers {
-        ended: sums.ended[rank],
+        edges: sums.ended[rank],
         early: sums.early[rank],
         moves: sums.moves[rank],
         ..NOTHING

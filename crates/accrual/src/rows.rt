@@ -1,29 +1,47 @@
 // The kept numbers, a row for each month.
 ghost use Rattle.std.specs.Prelude.{OnOk, OnErr, ◌^◌, ◌≡◌, ◌<◌, ◌≤◌, ◌+◌, ◌-◌, ℕ, length, slice_set};
 ghost use Rattle.class_rules.specs.Classes.{rank_of};
-ghost use Rattle.accrual.specs.Rows.{kept_in, HasRowIn, IsPut, IsRowPut, IsAdded, HasRoom, IsWithin, IsModest, IsBegun};
-ghost use Rattle.accrual.specs.Rows.{HasBegun, IsSettled, IsEnded, running_to, begun_numbers, ended_numbers};
+ghost use Rattle.accrual.specs.Rows.{kept_in, HasRowIn, IsPut, IsRowPut, IsAdded, HasRoom, IsWithin, IsModest, IsShort};
+ghost use Rattle.accrual.specs.Rows.{HasBooked, IsBooked, weighed, running_each, arrived_each, departed_each};
+ghost use Rattle.accrual.specs.Rows.{running_to, arrived_to, departed_to, ended_in};
+ghost use Rattle.accrual.specs.Bounds.{IsSound};
 ghost use Rattle.class_rules.specs.declared.class.Class.{Class};
-ghost use Rattle.moments.specs.Months.{months, month_at, month_start, month_end};
-ghost use Rattle.accrual.specs.Totals.{IsBilled, ms_within};
+ghost use Rattle.moments.specs.Months.{months};
+ghost use Rattle.accrual.specs.Totals.{IsBilled};
 
 use class_rules::{Class, Lines, rank};
-use moments::{Moment, Month, month_of, month_window};
+use moments::{Month, month_window};
 use std::alloc::{AllocError, Global};
 
 /// What is kept of a class in a month.
 #[derive(Clone, Copy, Debug, PartialEq, Eq)]
 pub(crate) struct Numbers {
-    // The byte-milliseconds, inside the month, of the stays that have ended.
-    pub(crate) ended: u128,
+    // Of the stays that have ended: the byte-milliseconds from the beginnings in the month to its end, and from its
+    // start to the ends in it.
+    pub(crate) edges: u128,
+    // The bytes of the stays that have ended and began in the month.
+    pub(crate) arrived: u128,
+    // The bytes of the stays that ended in the month.
+    pub(crate) departed: u128,
     // The bytes of the stays without an end that began in the month.
     pub(crate) running: u128,
     // The byte-milliseconds from the month's start to their beginnings.
-    pub(crate) since: u128,
+    pub(crate) lead: u128,
     // The early quantities, in byte-milliseconds.
     pub(crate) early: u128,
     // The moves to the class.
     pub(crate) moves: u64,
+}
+
+/// Sums over the months before one.
+#[derive(Clone, Copy)]
+pub(crate) struct Before {
+    // The bytes of the stays without an end that began.
+    pub(crate) running: u128,
+    // The bytes of the stays that have ended and began.
+    pub(crate) arrived: u128,
+    // The bytes of the stays that ended.
+    pub(crate) departed: u128,
 }
 
 /// Rows for a run of months, six classes in each, the warmest first.
@@ -35,9 +53,11 @@ pub(crate) struct Rows {
 }
 
 pub(crate) const NOTHING: Numbers = Numbers {
-    ended: 0,
+    edges: 0,
+    arrived: 0,
+    departed: 0,
     running: 0,
-    since: 0,
+    lead: 0,
     early: 0,
     moves: 0,
 };
@@ -89,9 +109,11 @@ impl Rows {
     {
         let kept = self.kept(month, class);
         let sums = Numbers {
-            ended: kept.ended + more.ended,
+            edges: kept.edges + more.edges,
+            arrived: kept.arrived + more.arrived,
+            departed: kept.departed + more.departed,
             running: kept.running + more.running,
-            since: kept.since + more.since,
+            lead: kept.lead + more.lead,
             early: kept.early + more.early,
             moves: kept.moves + more.moves,
         };
@@ -106,77 +128,79 @@ impl Rows {
     {
         let kept = self.kept(month, class);
         let rest = Numbers {
-            ended: kept.ended - less.ended,
+            edges: kept.edges - less.edges,
+            arrived: kept.arrived - less.arrived,
+            departed: kept.departed - less.departed,
             running: kept.running - less.running,
-            since: kept.since - less.since,
+            lead: kept.lead - less.lead,
             early: kept.early - less.early,
             moves: kept.moves - less.moves,
         };
         self.put(month, class, rest);
     }
 
-    // Takes up a stay without an end: one that began in the month, so many milliseconds after its start.
-    pub(crate) fn begin(&mut self, lines: &Lines, month: u64, ms: u64)
+    // Books stays with these lines in the month, by what each of their bytes counts there.
+    pub(crate) fn book(&mut self, lines: &Lines, month: u64, each: &Numbers)
         requires row { HasRowIn self.old month }
         requires modest { (class : Class) → IsModest (kept_in self.old month (rank_of class)) }
         requires billed { IsBilled lines.now }
-        requires short { ms < 2 ^ 32 }
-        ensures { IsBegun self.old self.new lines.now month ms }
+        requires short { IsShort each.now }
+        ensures { IsBooked self.old self.new lines.now month each.now }
     {
-        self.add(month, lines.class, begun(lines.bytes, ms));
-        self.add(month, Class::Standard, begun(lines.standard, ms));
-    }
-
-    // Takes out a stay without an end, as `begin` took it up.
-    pub(crate) fn finish(&mut self, lines: &Lines, month: u64, ms: u64)
-        requires row { HasRowIn self.old month }
-        requires within { HasBegun self.old lines.now month ms }
-        ensures { IsBegun self.new self.old lines.now month ms }
-    {
-        self.remove(month, lines.class, begun(lines.bytes, ms));
-        self.remove(month, Class::Standard, begun(lines.standard, ms));
-    }
-
-    // Takes up a stay that has ended, so many milliseconds of it in this month.
-    pub(crate) fn settle_month(&mut self, lines: &Lines, month: u64, ms: u64)
-        requires row { HasRowIn self.old month }
-        requires modest { (class : Class) → IsModest (kept_in self.old month (rank_of class)) }
-        requires billed { IsBilled lines.now }
-        requires short { ms < 2 ^ 32 }
-        ensures { IsSettled self.old self.new lines.now month ms }
-    {
-        self.add(month, lines.class, ended(lines.bytes, ms));
-        self.add(month, Class::Standard, ended(lines.standard, ms));
-    }
-
-    // Takes up a stay that has ended.
-    pub(crate) fn settle(&mut self, lines: &Lines, from: Moment, at: Moment)
-        requires rows { (month : ℕ) → month_at from ≤ month → month ≤ month_at at → HasRowIn self.old month }
-        requires modest { (month : ℕ) (class : Class) → IsModest (kept_in self.old month (rank_of class)) }
-        requires billed { IsBilled lines.now }
-        ensures { IsEnded self.old self.new lines.now (λ m. ms_within (month_start m) (month_end m) from at) }
-    {
-        let first = month_of(from).number();
-        let last = month_of(at).number();
-        for month in first..last + 1 {
-            let (start, end) = month_window(Month::numbered(month));
-            let ms = at.ms().min(end).saturating_sub(from.ms().max(start));
-            self.settle_month(lines, month, ms);
+        self.add(month, lines.class, weighed(lines.bytes, each));
+        if lines.standard != 0 {
+            self.add(month, Class::Standard, weighed(lines.standard, each));
         }
     }
 
-    // Sums the bytes of the stays without an end that began before the month.
-    pub(crate) fn running_before(&self, month: u64, class: Class) -> u128
-        requires run { self.now.first + length self.now.rows.items ≤ months }
-        requires small { (n : ℕ) → running_to self.now (rank_of class) n < 2 ^ 127 }
-        ensures { result ≡ running_to self.now (rank_of class) month }
+    // Takes out what `book` booked.
+    pub(crate) fn unbook(&mut self, lines: &Lines, month: u64, each: &Numbers)
+        requires row { HasRowIn self.old month }
+        requires within { HasBooked self.old lines.now month each.now }
+        requires short { IsShort each.now }
+        ensures { IsBooked self.new self.old lines.now month each.now }
+    {
+        self.remove(month, lines.class, weighed(lines.bytes, each));
+        if lines.standard != 0 {
+            self.remove(month, Class::Standard, weighed(lines.standard, each));
+        }
+    }
+
+    // The byte-milliseconds, inside the month, of the stays that have ended.
+    pub(crate) fn ended(&self, month: Month, class: Class) -> u128
+        requires sound { IsSound self.now }
+        ensures { result ≡ ended_in self.now month (rank_of class) }
+    {
+        let (start, end) = month_window(month);
+        let length = (end - start) as u128;
+        let before = self.before(month.number(), class);
+        let kept = self.kept(month.number(), class);
+        let gross = kept.edges + before.arrived * length;
+        gross - (before.departed + kept.departed) * length
+    }
+
+    // Sums over the rows before the month.
+    pub(crate) fn before(&self, month: u64, class: Class) -> Before
+        requires sound { IsSound self.now }
+        ensures running { result.running ≡ running_to self.now (rank_of class) month }
+        ensures arrived { result.arrived ≡ arrived_to self.now (rank_of class) month }
+        ensures departed { result.departed ≡ departed_to self.now (rank_of class) month }
     {
         let end = month.min(self.first + self.rows.len() as u64);
-        let mut bytes = 0u128;
+        let mut sums = Before {
+            running: 0,
+            arrived: 0,
+            departed: 0,
+        };
         for earlier in self.first..end {
-            bytes += self.kept(earlier, class).running;
+            let kept = self.kept(earlier, class);
+            sums = Before {
+                running: sums.running + kept.running,
+                arrived: sums.arrived + kept.arrived,
+                departed: sums.departed + kept.departed,
+            };
         }
-        bytes
+        sums
     }
 
     // Makes rows for these months, and all between them and the rows that are there.
@@ -259,23 +283,51 @@ fn place(row: &mut [Numbers; 6], class: Class, kept: Numbers)
     row[rank(class) as usize] = kept;
 }
 
-// The numbers of a stay without an end.
-fn begun(bytes: u64, ms: u64) -> Numbers
-    ensures { result ≡ begun_numbers bytes ms }
+// The numbers of so many bytes.
+fn weighed(bytes: u64, each: &Numbers) -> Numbers
+    requires { IsShort each.now }
+    ensures { result ≡ weighed bytes each.now }
 {
+    let bytes = bytes as u128;
     Numbers {
-        running: bytes as u128,
-        since: bytes as u128 * ms as u128,
+        edges: bytes * each.edges,
+        arrived: bytes * each.arrived,
+        departed: bytes * each.departed,
+        running: bytes * each.running,
+        lead: bytes * each.lead,
         ..NOTHING
     }
 }
 
-// The numbers of a stay that has ended.
-fn ended(bytes: u64, ms: u64) -> Numbers
-    ensures { result ≡ ended_numbers bytes ms }
+// What each byte of a stay without an end counts that began so many milliseconds after the month's start.
+pub(crate) fn running_each(ms: u64) -> Numbers
+    ensures { result ≡ running_each ms }
 {
     Numbers {
-        ended: bytes as u128 * ms as u128,
+        running: 1,
+        lead: ms as u128,
+        ..NOTHING
+    }
+}
+
+// What each byte of a stay that has ended counts in the month in which it began, so many milliseconds before its end.
+pub(crate) fn arrived_each(ms: u64) -> Numbers
+    ensures { result ≡ arrived_each ms }
+{
+    Numbers {
+        edges: ms as u128,
+        arrived: 1,
+        ..NOTHING
+    }
+}
+
+// What each of its bytes counts in the month in which it ended, so many milliseconds after its start.
+pub(crate) fn departed_each(ms: u64) -> Numbers
+    ensures { result ≡ departed_each ms }
+{
+    Numbers {
+        edges: ms as u128,
+        departed: 1,
         ..NOTHING
     }
 }

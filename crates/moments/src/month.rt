@@ -111,7 +111,7 @@ fn days_until(date: Date) -> u64
     requires { pos 0 ≤ℤ epoch_day date }
     ensures { pos result ≡ epoch_day date }
 {
-    (epoch().duration_until(date).as_hours() / 24) as u64
+    date.to_plain().to_unix_epoch_day() as u64
 }
 
 // The days from 1970-01-01 to the first day of a month, which may be January 2100.

@@ -1,5 +1,5 @@
 // The key of an object.
-ghost use Rattle.std.specs.Prelude.{◌≡◌, ◌≤◌, ◌↔◌, ◌⊎◌, true, false, length, IfOk, IfErr, IsErrOf, Some, refl};
+ghost use Rattle.std.specs.Prelude.{◌≡◌, ◌≤◌, ◌↔◌, ◌⊎◌, true, false, length, IfOk, IfErr, IfSome, IfNone, IsErrOf, Some, refl};
 ghost use Rattle.std.specs.Ordering.{nat_cmp};
 ghost use Rattle.std.specs.Cmp.Lexicographic.{slice_cmp, nat_list_eq_equiv, nat_list_cmp_total, texts_ties, texts_po};
 ghost use Rattle.std.specs.Str.{bytes_eq, is_utf8};
@@ -16,38 +16,33 @@ use std::marker::Model;
 /// Rule: S3 User Guide, "Naming Amazon S3 objects".
 #[derive(Drop)]
 pub struct Key {
-    bytes: Vec<u8>,
+    text: String,
 }
 
 impl Model for Key {
-    ghost use Rattle.std.specs.Prelude.{ℕ, List};
+    ghost use Rattle.std.specs.Prelude.{ℕ, List, string_bytes};
     ghost use Rattle.office_base.specs.Keys.{IsKey};
 
     ghost Value = { List ℕ };
 
-    ghost view = { λ k. k.bytes.items };
+    ghost view = { λ k. string_bytes k.text };
 
-    ghost invariant = { λ k. IsKey k.bytes.items };
+    ghost invariant = { λ k. IsKey (string_bytes k.text) };
 }
 
-#[tactic(auto, using(crate::proofs::Utf8::utf8_tests))]
-fn is_text(bytes: &[u8]) -> bool
-    ensures { result ≡ is_utf8 bytes.now }
-{
-    match str::from_utf8(bytes) {
-        Ok(_) => true,
-        Err(_) => false,
-    }
-}
-
-#[tactic(auto, unfolding(crate::specs::Keys::is_key))]
-fn in_range(bytes: &[u8]) -> bool
-    ensures { result ≡ is_key bytes.now }
+// The bytes as a text, where an object may have them for its key.
+#[tactic(auto, using(crate::proofs::Utf8::utf8_tests), unfolding(crate::specs::Keys::is_key))]
+fn key_text(bytes: &[u8]) -> Option<&str>
+    ensures some { IfSome result (λ text. (text.now ≡ bytes.now) × IsKey bytes.now) }
+    ensures none { IfNone result (is_key bytes.now ≡ false) }
 {
     if bytes.is_empty() || bytes.len() > 1_024 {
-        return false;
+        return None;
     }
-    is_text(bytes)
+    match str::from_utf8(bytes) {
+        Ok(text) => Some(text),
+        Err(_) => None,
+    }
 }
 
 impl Key {
@@ -61,11 +56,11 @@ impl Key {
         ensures bad { IsErrOf result NameRefusal.BadKey ↔ (is_key bytes.now ≡ false) }
         ensures refusal { IfErr result (λ e. (e ≡ NameRefusal.BadKey) ⊎ (e ≡ NameRefusal.NoMemory)) }
     {
-        if !in_range(bytes) {
+        let Some(text) = key_text(bytes) else {
             return Err(NameRefusal::BadKey);
-        }
-        match bytes.to_vec(alloc) {
-            Ok(bytes) => Ok(Key { bytes }),
+        };
+        match String::from_str(alloc, text) {
+            Ok(text) => Ok(Key { text }),
             Err(_) => Err(NameRefusal::NoMemory),
         }
     }
@@ -74,8 +69,8 @@ impl Key {
     pub fn copy(&self) -> Result<Key, AllocError>
         ensures { IfOk result (λ key. key ≡ self.now) }
     {
-        let bytes = self.bytes.clone()?;
-        Ok(Key { bytes })
+        let text = self.text.clone()?;
+        Ok(Key { text })
     }
 
     /// Reads the bytes of the key.
@@ -85,7 +80,14 @@ impl Key {
         ensures key { IsKey self.now }
         ensures at_most { length self.now ≤ 1_024 }
     {
-        &self.bytes
+        self.text.as_bytes()
+    }
+
+    /// Reads the key as a text.
+    pub fn text(&self) -> &str
+        ensures { result.now ≡ self.now }
+    {
+        &self.text
     }
 }
 
@@ -95,7 +97,7 @@ impl PartialEq for Key {
     ghost laws = { laws_of.partial_equiv_from_equiv nat_list_eq_equiv };
 
     fn eq(&self, other: &Key) -> bool {
-        self.bytes() == other.bytes()
+        self.text() == other.text()
     }
 }
 
@@ -123,6 +125,6 @@ impl Ord for Key {
     ghost matches_eq = { λ a b. texts_ties a b };
 
     fn cmp(&self, other: &Key) -> Ordering {
-        self.bytes().cmp(other.bytes())
+        self.text().cmp(other.text())
     }
 }

@@ -21,8 +21,9 @@ loop-month-preserved c =
     let small : IsSmallMonth s = subst IsSmallMonth (sym c.month-item.is) (All-get_or IsSmallMonth c.args.sums.now c.loop-month.month-index s c.loop-month-test.true c.requires.small) in
     let taken = taken_up c.loop-month.rows c.reserve.new.self c.put_row.new.self c.number-number.result s
     c.row_of.result c.number-number.ensures.number c.reserve.ensures.same c.put_row.ensures c.row_of.ensures in
+    let small_too = small_more c.loop-month.rows c.put_row.new.self s small taken c.loop-month.invariant.small in
     record {
       run = omega (arith, c.put_row.ensures.first, c.put_row.ensures.as_many, c.reserve.ensures.run);
-      small = small_more c.loop-month.rows c.put_row.new.self s small taken c.loop-month.invariant.small;
-      sums = sums_more c.loop-month.rows c.put_row.new.self c.args.sums.now c.loop-month.month-index s c.loop-month-test.true c.month-item.is c.requires.rising taken c.loop-month.invariant.sums;
+      small = small_too;
+      sums = sums_more c.loop-month.rows c.put_row.new.self c.args.sums.now c.loop-month.month-index s c.loop-month-test.true c.month-item.is c.requires.rising taken c.loop-month.invariant.small small_too c.loop-month.invariant.sums;
     }

@@ -1,13 +1,11 @@
 use Rattle.std.proofs.Common.{◌≡◌, ◌++◌, ◌∷◌, [], ◌+◌, subst, sym, ap, ◌∙◌, arith}
-use Rattle.accrual.proofs.Places.{kept_before, kept_behind}
 use Rattle.accrual.proofs.Summing.{AreSumsTo, listed_none, listed_more, listed_same, listed_all}
 use Rattle.accrual.proofs.rows.Rows.sums.Goals as goal
 use Rattle.accrual.proofs.rows.Rows.sums.Goals.{in-Some+in_ok-push, in_default}
 
 pub loop-number-init : goal.loop-number-init
 loop-number-init c =
-    subst (λ l. AreSumsTo c.args.self.now c.args.self.now.first l) (sym c.new-all.ensures.items)
-    (listed_none c.args.self.now c.args.self.now.first (λ m rank less. kept_before c.args.self.now m rank less))
+    subst (λ l. AreSumsTo c.args.self.now c.args.self.now.first l) (sym c.new-all.ensures.items) (listed_none c.args.self.now)
 
 pub loop-number-preserved : goal.loop-number-preserved
 loop-number-preserved c =
@@ -22,4 +20,4 @@ loop-number-preserved c =
     ]
 
 pub returns-clause-sums : goal.returns-clause-sums
-returns-clause-sums c = listed_all c.args.self.now c.loop-number.number c.loop-number.all.items (λ m rank more. kept_behind c.args.self.now m rank (omega (arith, more))) c.loop-number.invariant
+returns-clause-sums c = listed_all c.args.self.now c.requires.sound.0 c.loop-number.number c.loop-number.all.items c.requires.sound.1 (omega arith) c.loop-number.invariant
