@@ -1,6 +1,8 @@
 // A disk in memory, which keeps each call.
-ghost use Rattle.std.specs.Prelude.{◌≡◌, ◌≤◌, ◌++◌, [], ◌∷◌, true, length, IfOk, OnOk, OnErr};
-ghost use Rattle.disk_core.specs.Files.{file_in, seen_in};
+ghost use Rattle.std.specs.Prelude.{◌≡◌, ◌+◌, ◌≤◌, ◌++◌, [], ◌∷◌, true, length, take, drop, IfOk, OnOk, OnErr};
+ghost use Rattle.std.specs.Bool.{Decides};
+ghost use Rattle.std.specs.List.{Contains};
+ghost use Rattle.disk_core.specs.Files.{file_in, seen_in, put, Wrote, Shortened, Synced};
 ghost use Rattle.disk_core.specs.Contents.{AreBytes, bytes_of, seens};
 ghost use Rattle.disk_core.specs.Pending.{AreImages};
 ghost use Rattle.office_base.specs.Faults.{Rose, HasCause};
@@ -58,7 +60,7 @@ fn find_images(calls: &[DiskCall], file: FileNo, alloc: Global) -> Result<Vec<Ve
 impl MemoryDisk {
     ghost use Rattle.disk_core.specs.Files.{empty_disk};
     ghost use Rattle.disk_core.specs.Images.{state_at};
-    ghost use Rattle.disk_core.specs.Memory.{memory_state, memory_faults};
+    ghost use Rattle.disk_core.specs.Memory.{memory_state, memory_faults, memory_failing, call_count, IsCall};
 
     /// Makes a disk of three empty files, of which the calls with these numbers fail.
     ///
@@ -67,6 +69,8 @@ impl MemoryDisk {
     /// too, and is not counted as a call.
     pub fn new(alloc: Global, failing: Vec<u64>) -> Self
         ensures empty { memory_state result ≡ empty_disk }
+        ensures failing { memory_failing result ≡ failing.items }
+        ensures calls { call_count result ≡ 0 }
         ensures faults { memory_faults result ≡ 0 }
     {
         MemoryDisk::with_block(alloc, failing, 0)
@@ -77,6 +81,8 @@ impl MemoryDisk {
     pub fn with_block(alloc: Global, failing: Vec<u64>, block: u64) -> Self
         requires { block ≤ 4096 }
         ensures empty { memory_state result ≡ empty_disk }
+        ensures failing { memory_failing result ≡ failing.items }
+        ensures calls { call_count result ≡ 0 }
         ensures faults { memory_faults result ≡ 0 }
     {
         let contents = Contents::new(alloc);
@@ -114,13 +120,16 @@ impl MemoryDisk {
     }
 
     // Whether the next call is one that is to fail.
-    fn next_fails(&self) -> bool {
+    fn next_fails(&self) -> bool
+        ensures { Decides result (Contains self.now.failing.items (length self.now.calls.items + 1)) }
+    {
         self.failing.contains(&(self.calls.len() as u64 + 1))
     }
 
     // Counts a fault.
     fn fail(&mut self) -> Failed
         ensures calls { self.new.calls.items ≡ self.old.calls.items }
+        ensures failing { self.new.failing.items ≡ self.old.failing.items }
         ensures later { self.old.faults ≤ self.new.faults }
         ensures rose { Rose self.old.faults self.new.faults }
     {
@@ -133,6 +142,7 @@ impl MemoryDisk {
         ensures ok { OnOk result ((self.new.calls.items ≡ self.old.calls.items ++ Other ∷ [])
             × (self.new.faults ≡ self.old.faults)) }
         ensures err { OnErr result (IsUntold self.old.calls.items self.new.calls.items) }
+        ensures call { IsCall self.old self.new result }
         ensures cause { HasCause self.old.faults self.new.faults result }
     {
         let fails = self.next_fails();
@@ -148,6 +158,7 @@ impl MemoryDisk {
         requires { at ≤ length (seen_in file (after self.old.calls.items)) }
         ensures ok { OnOk result (KeepsWrite file at bytes.now self.old.calls.items self.new.calls.items) }
         ensures err { OnErr result (self.new.calls.items ≡ self.old.calls.items) }
+        ensures failing { self.new.failing.items ≡ self.old.failing.items }
         ensures faults { self.new.faults ≡ self.old.faults }
     {
         let copy = bytes.to_vec(self.alloc)?;
@@ -166,6 +177,7 @@ impl MemoryDisk {
     fn note(&mut self) -> Result<(), AllocError>
         ensures ok { OnOk result (self.new.calls.items ≡ self.old.calls.items ++ Other ∷ []) }
         ensures err { OnErr result (self.new.calls.items ≡ self.old.calls.items) }
+        ensures failing { self.new.failing.items ≡ self.old.failing.items }
         ensures faults { self.new.faults ≡ self.old.faults }
     {
         self.calls.reserve(1)?;
@@ -177,6 +189,7 @@ impl MemoryDisk {
     fn settle(&mut self, file: FileNo) -> Result<(), AllocError>
         ensures ok { OnOk result (self.new.calls.items ≡ self.old.calls.items ++ Sync file ∷ []) }
         ensures err { OnErr result (self.new.calls.items ≡ self.old.calls.items) }
+        ensures failing { self.new.failing.items ≡ self.old.failing.items }
         ensures faults { self.new.faults ≡ self.old.faults }
     {
         self.calls.reserve(1)?;
@@ -189,6 +202,7 @@ impl MemoryDisk {
         requires { to ≤ length (seen_in file (after self.old.calls.items)) }
         ensures ok { OnOk result (self.new.calls.items ≡ self.old.calls.items ++ Cut file to ∷ []) }
         ensures err { OnErr result (self.new.calls.items ≡ self.old.calls.items) }
+        ensures failing { self.new.failing.items ≡ self.old.failing.items }
         ensures faults { self.new.faults ≡ self.old.faults }
     {
         self.calls.reserve(1)?;
@@ -201,6 +215,8 @@ impl MemoryDisk {
 
 #[tactic(auto, using(crate::proofs::Replay::facts))]
 impl Disk for MemoryDisk {
+    ghost use Rattle.disk_core.specs.Memory.{IsCall, IsCounted, memory_state};
+
     ghost honest = { true };
 
     ghost state = { λ m. after m.calls.items };
@@ -221,12 +237,22 @@ impl Disk for MemoryDisk {
 
     ghost holds_bytes = { λ told m file. bytes_told file (bytes_of m.contents) (after m.calls.items) m.same m.small };
 
-    fn length(&mut self, file: FileNo) -> Result<u64, Failed> {
+    fn length(&mut self, file: FileNo) -> Result<u64, Failed>
+        ensures call { IsCall self.old self.new result }
+        ensures length { IfOk result (λ n. n ≡ length (seen_in file (memory_state self.old))) }
+        ensures state { memory_state self.new ≡ memory_state self.old }
+    {
         self.pass()?;
         Ok(self.contents.file(file).len() as u64)
     }
 
-    fn read_at(&mut self, file: FileNo, at: u64, room: &mut [u8]) -> Result<(), Failed> {
+    fn read_at(&mut self, file: FileNo, at: u64, room: &mut [u8]) -> Result<(), Failed>
+        requires { at + length room.old ≤ length (seen_in file (memory_state self.old)) }
+        ensures call { IsCall self.old self.new result }
+        ensures bytes { OnOk result (room.new
+            ≡ take (length room.old) (drop at (seen_in file (memory_state self.old)))) }
+        ensures state { memory_state self.new ≡ memory_state self.old }
+    {
         self.pass()?;
         let at = at as usize;
         let bytes = self.contents.file(file);
@@ -234,7 +260,13 @@ impl Disk for MemoryDisk {
         Ok(())
     }
 
-    fn write_at(&mut self, file: FileNo, at: u64, bytes: &[u8]) -> Result<(), Failed> {
+    fn write_at(&mut self, file: FileNo, at: u64, bytes: &[u8]) -> Result<(), Failed>
+        requires { at ≤ length (seen_in file (memory_state self.old)) }
+        ensures call { IsCall self.old self.new result }
+        ensures done { IsCounted self.old self.new → seen_in file (memory_state self.new)
+            ≡ put at bytes.now (seen_in file (memory_state self.old)) }
+        ensures state { Wrote file at (length bytes.now) (memory_state self.old) (memory_state self.new) }
+    {
         let fails = self.next_fails();
         match self.write(file, at, bytes) {
             Err(_) => Err(self.fail()),
@@ -243,7 +275,13 @@ impl Disk for MemoryDisk {
         }
     }
 
-    fn cut(&mut self, file: FileNo, to: u64) -> Result<(), Failed> {
+    fn cut(&mut self, file: FileNo, to: u64) -> Result<(), Failed>
+        requires { to ≤ length (seen_in file (memory_state self.old)) }
+        ensures call { IsCall self.old self.new result }
+        ensures done { IsCounted self.old self.new → seen_in file (memory_state self.new)
+            ≡ take to (seen_in file (memory_state self.old)) }
+        ensures state { Shortened file to (memory_state self.old) (memory_state self.new) }
+    {
         let fails = self.next_fails();
         match self.shorten(file, to) {
             Err(_) => Err(self.fail()),
@@ -252,10 +290,14 @@ impl Disk for MemoryDisk {
         }
     }
 
-    fn sync(&mut self, file: FileNo) -> Result<(), Failed> {
+    fn sync(&mut self, file: FileNo) -> Result<(), Failed>
+        ensures call { IsCall self.old self.new result }
+        ensures done { OnOk result (Synced file (memory_state self.old) (memory_state self.new)) }
+        ensures state { OnErr result (memory_state self.new ≡ memory_state self.old) }
+    {
         if self.next_fails() {
-            return match self.pass() {
-                Err(e) => Err(e),
+            return match self.note() {
+                Err(_) => Err(self.fail()),
                 Ok(()) => Err(self.fail()),
             };
         }
