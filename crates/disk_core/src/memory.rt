@@ -5,6 +5,7 @@ ghost use Rattle.std.specs.List.{Contains};
 ghost use Rattle.disk_core.specs.Files.{file_in, seen_in, put, Wrote, Shortened, Synced};
 ghost use Rattle.disk_core.specs.Contents.{AreBytes, bytes_of, seens};
 ghost use Rattle.disk_core.specs.Pending.{AreImages};
+ghost use Rattle.disk_core.specs.Choices.{GivesEach};
 ghost use Rattle.office_base.specs.Faults.{Rose, HasCause};
 ghost use Rattle.disk_core.specs.declared.memory.DiskCall.TheVariants.{Other, Cut, Sync};
 ghost use Rattle.disk_core.specs.Replay.{IsUntold, KeepsWrite, after, HadSince, counts_now, only_now, since_earlier};
@@ -51,7 +52,8 @@ pub struct MemoryDisk {
 }
 
 fn find_images(calls: &[DiskCall], file: FileNo, alloc: Global) -> Result<Vec<Vec<u8>>, AllocError>
-    ensures { IfOk result (λ images. AreImages (file_in file (after calls.now)) images.items) }
+    ensures images { IfOk result (λ images. AreImages (file_in file (after calls.now)) images.items) }
+    ensures each { IfOk result (λ images. GivesEach (file_in file (after calls.now)) images.items) }
 {
     let pending = Pending::of(calls, file, alloc)?;
     pending.images(alloc)
@@ -62,11 +64,11 @@ impl MemoryDisk {
     ghost use Rattle.disk_core.specs.Images.{state_at};
     ghost use Rattle.disk_core.specs.Memory.{memory_state, memory_faults, memory_failing, call_count, IsCall};
 
-    /// Makes a disk of three empty files, of which the calls with these numbers fail.
+    /// Makes a disk of three empty files, of which exactly the calls with these numbers fail.
     ///
     /// Calls are counted from 1, `length`, `read_at`, `write_at`, `cut` and `sync` alike. A write or a cut that
     /// fails so has happened as a whole; a sync that fails so has not happened. A call that finds no memory fails
-    /// too, and is not counted as a call.
+    /// too: it changes nothing, and is not counted as a call.
     pub fn new(alloc: Global, failing: Vec<u64>) -> Self
         ensures empty { memory_state result ≡ empty_disk }
         ensures failing { memory_failing result ≡ failing.items }
@@ -100,9 +102,9 @@ impl MemoryDisk {
     /// Gives images of a file that a crash after the first `after` calls may leave, for tests; after all calls where
     /// there are fewer.
     ///
-    /// There is one for each choice of a length that the file had since its last sync (as often as it had it), a
-    /// place from 0 to that length, one filling for all pending bytes before the place, and one for those from there
-    /// on.
+    /// Each of them is an image, and there is one for each choice of a length that the file had since its last sync
+    /// (as often as it had it), a place from 0 to that length, one filling for all pending bytes before the place, and
+    /// one for those from there on.
     /// A pending byte is one in a range written since the last sync, or past the length at that sync. Its fillings are
     /// what that sync left there, what a read gives (each 0 past its end), and 0x37. All other bytes are as synced.
     ///
@@ -111,6 +113,7 @@ impl MemoryDisk {
     /// `NoMemory`: memory ran out.
     pub fn images(&self, file: FileNo, after: u64) -> Result<Vec<Vec<u8>>, NoMemory>
         ensures images { IfOk result (λ images. AreImages (file_in file (state_at self.now after)) images.items) }
+        ensures each { IfOk result (λ images. GivesEach (file_in file (state_at self.now after)) images.items) }
     {
         let count = (after as usize).min(self.calls.len());
         match find_images(&self.calls[..count], file, self.alloc) {
@@ -137,7 +140,7 @@ impl MemoryDisk {
         Failed
     }
 
-    // Makes a call that changes nothing: it fails where it is to.
+    // Makes a call that changes nothing; it fails where it is to.
     fn pass(&mut self) -> Result<(), Failed>
         ensures ok { OnOk result ((self.new.calls.items ≡ self.old.calls.items ++ Other ∷ [])
             × (self.new.faults ≡ self.old.faults)) }
