@@ -15,6 +15,14 @@ covers_at [] k i d lt from to = absurd (omega (arith, lt))
 covers_at (range ∷ ranges) zero i d lt from to = inl (from, to)
 covers_at (range ∷ ranges) (suc k) i d lt from to = inr (covers_at ranges k i d (omega (arith, lt)) from to)
 
+-- a place that no range has is not covered
+pub none_covers : (ranges : List (ℕ × ℕ)) (i : ℕ)
+    → ((k : ℕ) → k < length ranges → (get_or ranges k (0, 0)).0 ≤ i → i < (get_or ranges k (0, 0)).0 + (get_or ranges k (0, 0)).1 → ⊥)
+    → Covers ranges i → ⊥
+none_covers [] i none covers = covers
+none_covers (range ∷ ranges) i none (inl has) = none 0 (omega arith) has.0 has.1
+none_covers (range ∷ ranges) i none (inr later) = none_covers ranges i (λ k lt. none (suc k) (omega (arith, lt))) later
+
 -- no call yet: the file is empty
 pub step_none : (file : FileNo) (calls : List DiskCall) → synced_file [] ≡ file_in file (after (take 0 calls))
 unfolding after replay

@@ -1,12 +1,8 @@
 -- The files of a disk in memory at an earlier moment, and what is left of one of them for a crash.
-use Rattle.std.specs.Prelude.{ℕ, length, take}
+use Rattle.std.specs.Prelude.{ℕ, take}
 use Rattle.disk_core.specs.declared.memory.MemoryDisk.{MemoryDisk}
 use Rattle.disk_core.specs.Files.{State}
 use Rattle.disk_core.specs.Replay.{after}
-
--- how many calls it keeps
-abbrev pub call_count : MemoryDisk → ℕ
-call_count m = length m.calls.items
 
 -- its three files after the first n calls, or after all where there are fewer
 abbrev pub state_at : MemoryDisk → ℕ → State

@@ -1,4 +1,5 @@
 pub mod Calls
+pub mod Choices
 pub mod Contents
 pub mod Files
 pub mod Fronts

@@ -1,8 +1,11 @@
 // A disk in memory, which keeps each call.
-ghost use Rattle.std.specs.Prelude.{◌≡◌, ◌≤◌, ◌++◌, [], ◌∷◌, true, length, IfOk, OnOk, OnErr};
-ghost use Rattle.disk_core.specs.Files.{file_in, seen_in};
+ghost use Rattle.std.specs.Prelude.{◌≡◌, ◌+◌, ◌≤◌, ◌++◌, [], ◌∷◌, true, length, take, drop, IfOk, OnOk, OnErr};
+ghost use Rattle.std.specs.Bool.{Decides};
+ghost use Rattle.std.specs.List.{Contains};
+ghost use Rattle.disk_core.specs.Files.{file_in, seen_in, put, Wrote, Shortened, Synced};
 ghost use Rattle.disk_core.specs.Contents.{AreBytes, bytes_of, seens};
 ghost use Rattle.disk_core.specs.Pending.{AreImages};
+ghost use Rattle.disk_core.specs.Choices.{GivesEach};
 ghost use Rattle.office_base.specs.Faults.{Rose, HasCause};
 ghost use Rattle.disk_core.specs.declared.memory.DiskCall.TheVariants.{Other, Cut, Sync};
 ghost use Rattle.disk_core.specs.Replay.{IsUntold, KeepsWrite, after, HadSince, counts_now, only_now, since_earlier};
@@ -49,7 +52,8 @@ pub struct MemoryDisk {
 }
 
 fn find_images(calls: &[DiskCall], file: FileNo, alloc: Global) -> Result<Vec<Vec<u8>>, AllocError>
-    ensures { IfOk result (λ images. AreImages (file_in file (after calls.now)) images.items) }
+    ensures images { IfOk result (λ images. AreImages (file_in file (after calls.now)) images.items) }
+    ensures each { IfOk result (λ images. GivesEach (file_in file (after calls.now)) images.items) }
 {
     let pending = Pending::of(calls, file, alloc)?;
     pending.images(alloc)
@@ -58,15 +62,17 @@ fn find_images(calls: &[DiskCall], file: FileNo, alloc: Global) -> Result<Vec<Ve
 impl MemoryDisk {
     ghost use Rattle.disk_core.specs.Files.{empty_disk};
     ghost use Rattle.disk_core.specs.Images.{state_at};
-    ghost use Rattle.disk_core.specs.Memory.{memory_state, memory_faults};
+    ghost use Rattle.disk_core.specs.Memory.{memory_state, memory_faults, memory_failing, call_count, IsCall};
 
-    /// Makes a disk of three empty files, of which the calls with these numbers fail.
+    /// Makes a disk of three empty files, of which exactly the calls with these numbers fail.
     ///
     /// Calls are counted from 1, `length`, `read_at`, `write_at`, `cut` and `sync` alike. A write or a cut that
     /// fails so has happened as a whole; a sync that fails so has not happened. A call that finds no memory fails
-    /// too, and is not counted as a call.
+    /// too: it changes nothing, and is not counted as a call.
     pub fn new(alloc: Global, failing: Vec<u64>) -> Self
         ensures empty { memory_state result ≡ empty_disk }
+        ensures failing { memory_failing result ≡ failing.items }
+        ensures calls { call_count result ≡ 0 }
         ensures faults { memory_faults result ≡ 0 }
     {
         MemoryDisk::with_block(alloc, failing, 0)
@@ -77,6 +83,8 @@ impl MemoryDisk {
     pub fn with_block(alloc: Global, failing: Vec<u64>, block: u64) -> Self
         requires { block ≤ 4096 }
         ensures empty { memory_state result ≡ empty_disk }
+        ensures failing { memory_failing result ≡ failing.items }
+        ensures calls { call_count result ≡ 0 }
         ensures faults { memory_faults result ≡ 0 }
     {
         let contents = Contents::new(alloc);
@@ -94,9 +102,9 @@ impl MemoryDisk {
     /// Gives images of a file that a crash after the first `after` calls may leave, for tests; after all calls where
     /// there are fewer.
     ///
-    /// There is one for each choice of a length that the file had since its last sync (as often as it had it), a
-    /// place from 0 to that length, one filling for all pending bytes before the place, and one for those from there
-    /// on.
+    /// Each of them is an image, and there is one for each choice of a length that the file had since its last sync
+    /// (as often as it had it), a place from 0 to that length, one filling for all pending bytes before the place, and
+    /// one for those from there on.
     /// A pending byte is one in a range written since the last sync, or past the length at that sync. Its fillings are
     /// what that sync left there, what a read gives (each 0 past its end), and 0x37. All other bytes are as synced.
     ///
@@ -105,6 +113,7 @@ impl MemoryDisk {
     /// `NoMemory`: memory ran out.
     pub fn images(&self, file: FileNo, after: u64) -> Result<Vec<Vec<u8>>, NoMemory>
         ensures images { IfOk result (λ images. AreImages (file_in file (state_at self.now after)) images.items) }
+        ensures each { IfOk result (λ images. GivesEach (file_in file (state_at self.now after)) images.items) }
     {
         let count = (after as usize).min(self.calls.len());
         match find_images(&self.calls[..count], file, self.alloc) {
@@ -114,13 +123,16 @@ impl MemoryDisk {
     }
 
     // Whether the next call is one that is to fail.
-    fn next_fails(&self) -> bool {
+    fn next_fails(&self) -> bool
+        ensures { Decides result (Contains self.now.failing.items (length self.now.calls.items + 1)) }
+    {
         self.failing.contains(&(self.calls.len() as u64 + 1))
     }
 
     // Counts a fault.
     fn fail(&mut self) -> Failed
         ensures calls { self.new.calls.items ≡ self.old.calls.items }
+        ensures failing { self.new.failing.items ≡ self.old.failing.items }
         ensures later { self.old.faults ≤ self.new.faults }
         ensures rose { Rose self.old.faults self.new.faults }
     {
@@ -128,11 +140,12 @@ impl MemoryDisk {
         Failed
     }
 
-    // Makes a call that changes nothing: it fails where it is to.
+    // Makes a call that changes nothing; it fails where it is to.
     fn pass(&mut self) -> Result<(), Failed>
         ensures ok { OnOk result ((self.new.calls.items ≡ self.old.calls.items ++ Other ∷ [])
             × (self.new.faults ≡ self.old.faults)) }
         ensures err { OnErr result (IsUntold self.old.calls.items self.new.calls.items) }
+        ensures call { IsCall self.old self.new result }
         ensures cause { HasCause self.old.faults self.new.faults result }
     {
         let fails = self.next_fails();
@@ -148,6 +161,7 @@ impl MemoryDisk {
         requires { at ≤ length (seen_in file (after self.old.calls.items)) }
         ensures ok { OnOk result (KeepsWrite file at bytes.now self.old.calls.items self.new.calls.items) }
         ensures err { OnErr result (self.new.calls.items ≡ self.old.calls.items) }
+        ensures failing { self.new.failing.items ≡ self.old.failing.items }
         ensures faults { self.new.faults ≡ self.old.faults }
     {
         let copy = bytes.to_vec(self.alloc)?;
@@ -166,6 +180,7 @@ impl MemoryDisk {
     fn note(&mut self) -> Result<(), AllocError>
         ensures ok { OnOk result (self.new.calls.items ≡ self.old.calls.items ++ Other ∷ []) }
         ensures err { OnErr result (self.new.calls.items ≡ self.old.calls.items) }
+        ensures failing { self.new.failing.items ≡ self.old.failing.items }
         ensures faults { self.new.faults ≡ self.old.faults }
     {
         self.calls.reserve(1)?;
@@ -177,6 +192,7 @@ impl MemoryDisk {
     fn settle(&mut self, file: FileNo) -> Result<(), AllocError>
         ensures ok { OnOk result (self.new.calls.items ≡ self.old.calls.items ++ Sync file ∷ []) }
         ensures err { OnErr result (self.new.calls.items ≡ self.old.calls.items) }
+        ensures failing { self.new.failing.items ≡ self.old.failing.items }
         ensures faults { self.new.faults ≡ self.old.faults }
     {
         self.calls.reserve(1)?;
@@ -189,6 +205,7 @@ impl MemoryDisk {
         requires { to ≤ length (seen_in file (after self.old.calls.items)) }
         ensures ok { OnOk result (self.new.calls.items ≡ self.old.calls.items ++ Cut file to ∷ []) }
         ensures err { OnErr result (self.new.calls.items ≡ self.old.calls.items) }
+        ensures failing { self.new.failing.items ≡ self.old.failing.items }
         ensures faults { self.new.faults ≡ self.old.faults }
     {
         self.calls.reserve(1)?;
@@ -201,6 +218,8 @@ impl MemoryDisk {
 
 #[tactic(auto, using(crate::proofs::Replay::facts))]
 impl Disk for MemoryDisk {
+    ghost use Rattle.disk_core.specs.Memory.{IsCall, IsCounted, memory_state};
+
     ghost honest = { true };
 
     ghost state = { λ m. after m.calls.items };
@@ -221,12 +240,22 @@ impl Disk for MemoryDisk {
 
     ghost holds_bytes = { λ told m file. bytes_told file (bytes_of m.contents) (after m.calls.items) m.same m.small };
 
-    fn length(&mut self, file: FileNo) -> Result<u64, Failed> {
+    fn length(&mut self, file: FileNo) -> Result<u64, Failed>
+        ensures call { IsCall self.old self.new result }
+        ensures length { IfOk result (λ n. n ≡ length (seen_in file (memory_state self.old))) }
+        ensures state { memory_state self.new ≡ memory_state self.old }
+    {
         self.pass()?;
         Ok(self.contents.file(file).len() as u64)
     }
 
-    fn read_at(&mut self, file: FileNo, at: u64, room: &mut [u8]) -> Result<(), Failed> {
+    fn read_at(&mut self, file: FileNo, at: u64, room: &mut [u8]) -> Result<(), Failed>
+        requires { at + length room.old ≤ length (seen_in file (memory_state self.old)) }
+        ensures call { IsCall self.old self.new result }
+        ensures bytes { OnOk result (room.new
+            ≡ take (length room.old) (drop at (seen_in file (memory_state self.old)))) }
+        ensures state { memory_state self.new ≡ memory_state self.old }
+    {
         self.pass()?;
         let at = at as usize;
         let bytes = self.contents.file(file);
@@ -234,7 +263,13 @@ impl Disk for MemoryDisk {
         Ok(())
     }
 
-    fn write_at(&mut self, file: FileNo, at: u64, bytes: &[u8]) -> Result<(), Failed> {
+    fn write_at(&mut self, file: FileNo, at: u64, bytes: &[u8]) -> Result<(), Failed>
+        requires { at ≤ length (seen_in file (memory_state self.old)) }
+        ensures call { IsCall self.old self.new result }
+        ensures done { IsCounted self.old self.new → seen_in file (memory_state self.new)
+            ≡ put at bytes.now (seen_in file (memory_state self.old)) }
+        ensures state { Wrote file at (length bytes.now) (memory_state self.old) (memory_state self.new) }
+    {
         let fails = self.next_fails();
         match self.write(file, at, bytes) {
             Err(_) => Err(self.fail()),
@@ -243,7 +278,13 @@ impl Disk for MemoryDisk {
         }
     }
 
-    fn cut(&mut self, file: FileNo, to: u64) -> Result<(), Failed> {
+    fn cut(&mut self, file: FileNo, to: u64) -> Result<(), Failed>
+        requires { to ≤ length (seen_in file (memory_state self.old)) }
+        ensures call { IsCall self.old self.new result }
+        ensures done { IsCounted self.old self.new → seen_in file (memory_state self.new)
+            ≡ take to (seen_in file (memory_state self.old)) }
+        ensures state { Shortened file to (memory_state self.old) (memory_state self.new) }
+    {
         let fails = self.next_fails();
         match self.shorten(file, to) {
             Err(_) => Err(self.fail()),
@@ -252,10 +293,14 @@ impl Disk for MemoryDisk {
         }
     }
 
-    fn sync(&mut self, file: FileNo) -> Result<(), Failed> {
+    fn sync(&mut self, file: FileNo) -> Result<(), Failed>
+        ensures call { IsCall self.old self.new result }
+        ensures done { OnOk result (Synced file (memory_state self.old) (memory_state self.new)) }
+        ensures state { OnErr result (memory_state self.new ≡ memory_state self.old) }
+    {
         if self.next_fails() {
-            return match self.pass() {
-                Err(e) => Err(e),
+            return match self.note() {
+                Err(_) => Err(self.fail()),
                 Ok(()) => Err(self.fail()),
             };
         }

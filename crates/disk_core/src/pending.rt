@@ -1,9 +1,11 @@
 // What a crash may leave of one file of a disk in memory.
-ghost use Rattle.std.specs.Prelude.{◌≡◌, ◌<◌, [], length, get_or, true, false, IfOk, OnOk};
+ghost use Rattle.std.specs.Prelude.{◌≡◌, ◌<◌, ◌≤◌, [], length, get_or, IfOk, OnOk};
+ghost use Rattle.std.specs.Bool.{Decides};
 ghost use Rattle.std.specs.List.{Contains};
-ghost use Rattle.disk_core.specs.Files.{State, Covers, IsImage, file_in, shortened, synced_file};
+ghost use Rattle.disk_core.specs.Files.{State, file_in, shortened, synced_file};
 ghost use Rattle.disk_core.specs.Replay.{after_call, after, written_in};
-ghost use Rattle.disk_core.specs.Pending.{file_of, AreImages};
+ghost use Rattle.disk_core.specs.Pending.{file_of, AreImages, KeepsGiven};
+ghost use Rattle.disk_core.specs.Choices.{IsPending, filled, IsChosen, Gives, GivesEach};
 
 use crate::FileNo;
 use crate::contents::overwrite;
@@ -12,7 +14,7 @@ use std::alloc::{AllocError, Global};
 
 // What a byte holds that may hold anything.
 #[derive(Clone, Copy)]
-enum Filling {
+pub enum Filling {
     // What the last sync left there, or 0.
     Old,
     // What a read gives there, or 0.
@@ -23,7 +25,16 @@ enum Filling {
 
 const MARK: u8 = 0x37;
 
-const CHOICES: [(Filling, Filling); 9] = [
+// A length of the file, a place in it, and what the bytes before and behind that place hold that may hold anything.
+#[derive(Clone, Copy)]
+pub struct Choice {
+    size: usize,
+    place: usize,
+    before: Filling,
+    behind: Filling,
+}
+
+const FILLINGS: [(Filling, Filling); 9] = [
     (Filling::Old, Filling::Old),
     (Filling::Old, Filling::New),
     (Filling::Old, Filling::Mark),
@@ -35,7 +46,9 @@ const CHOICES: [(Filling, Filling); 9] = [
     (Filling::Mark, Filling::Mark),
 ];
 
-fn byte_or_zero(bytes: &[u8], at: usize) -> u8 {
+fn byte_or_zero(bytes: &[u8], at: usize) -> u8
+    ensures { result ≡ get_or bytes.now at 0 }
+{
     if at < bytes.len() { bytes[at] } else { 0 }
 }
 
@@ -122,8 +135,7 @@ impl Pending {
 
     // Whether the byte may hold anything.
     fn is_pending(&self, at: usize) -> bool
-        ensures within { result ≡ false → at < length self.now.synced.items }
-        ensures written { result ≡ true → at < length self.now.synced.items → Covers self.now.written.items at }
+        ensures { Decides result (IsPending (file_of self.now) at) }
     {
         if at >= self.synced.len() {
             return true;
@@ -137,8 +149,8 @@ impl Pending {
     }
 
     fn byte(&self, at: usize, filling: Filling) -> u8
-        ensures { at < length self.now.synced.items → (Covers self.now.written.items at → ⊥)
-            → result ≡ get_or self.now.synced.items at 0 }
+        ensures pending { IsPending (file_of self.now) at → result ≡ filled filling (file_of self.now) at }
+        ensures others { (IsPending (file_of self.now) at → ⊥) → result ≡ get_or self.now.synced.items at 0 }
     {
         if !self.is_pending(at) {
             return self.synced[at];
@@ -150,66 +162,98 @@ impl Pending {
         }
     }
 
-    // Makes the image of this length, with one filling before a place and one from there on.
-    fn image(
-        &self,
-        length: usize,
-        place: usize,
-        fillings: (Filling, Filling),
-        alloc: Global,
-    ) -> Result<Vec<u8>, AllocError>
-        requires { Contains self.now.lengths.items length }
-        ensures { IfOk result (λ image. IsImage (file_of self.now) image.items) }
+    // Makes the image of a choice.
+    fn image(&self, choice: Choice, alloc: Global) -> Result<Vec<u8>, AllocError>
+        ensures { IfOk result (λ image. IsChosen (file_of self.now) choice image.items) }
     {
         let mut image = Vec::new(alloc);
-        for at in 0..length {
-            let filling = if at < place { fillings.0 } else { fillings.1 };
+        for at in 0..choice.size {
+            let filling = if at < choice.place {
+                choice.before
+            } else {
+                choice.behind
+            };
             image.push(self.byte(at, filling))?;
         }
         Ok(image)
     }
 
+    // Adds the image of a choice.
+    fn add(
+        &self,
+        choice: Choice,
+        images: &mut Vec<Vec<u8>>,
+        alloc: Global,
+    ) -> Result<(), AllocError>
+        requires size { Contains self.now.lengths.items choice.size }
+        requires images { AreImages (file_of self.now) images.old.items }
+        ensures images { OnOk result (AreImages (file_of self.now) images.new.items) }
+        ensures kept { OnOk result (KeepsGiven (file_of self.now) images.old.items images.new.items) }
+        ensures given { OnOk result (Gives (file_of self.now) images.new.items choice) }
+    {
+        let image = self.image(choice, alloc)?;
+        images.push(image)?;
+        Ok(())
+    }
+
+    // Adds an image for each pair of fillings.
     fn add_fillings(
         &self,
-        length: usize,
+        size: usize,
         place: usize,
         images: &mut Vec<Vec<u8>>,
         alloc: Global,
     ) -> Result<(), AllocError>
-        requires length { Contains self.now.lengths.items length }
+        requires size { Contains self.now.lengths.items size }
         requires images { AreImages (file_of self.now) images.old.items }
-        ensures { OnOk result (AreImages (file_of self.now) images.new.items) }
+        ensures images { OnOk result (AreImages (file_of self.now) images.new.items) }
+        ensures kept { OnOk result (KeepsGiven (file_of self.now) images.old.items images.new.items) }
+        ensures given { OnOk result ((before behind : Filling) → Gives (file_of self.now) images.new.items
+            (record { size = size; place = place; before = before; behind = behind })) }
     {
-        for fillings in CHOICES {
-            let image = self.image(length, place, fillings, alloc)?;
-            images.push(image)?;
+        for (before, behind) in FILLINGS {
+            self.add(
+                Choice {
+                    size,
+                    place,
+                    before,
+                    behind,
+                },
+                images,
+                alloc,
+            )?;
         }
         Ok(())
     }
 
+    // Adds an image for each place and pair of fillings.
     fn add_places(
         &self,
-        length: usize,
+        size: usize,
         images: &mut Vec<Vec<u8>>,
         alloc: Global,
     ) -> Result<(), AllocError>
-        requires length { Contains self.now.lengths.items length }
+        requires size { Contains self.now.lengths.items size }
         requires images { AreImages (file_of self.now) images.old.items }
-        ensures { OnOk result (AreImages (file_of self.now) images.new.items) }
+        ensures images { OnOk result (AreImages (file_of self.now) images.new.items) }
+        ensures kept { OnOk result (KeepsGiven (file_of self.now) images.old.items images.new.items) }
+        ensures given { OnOk result ((choice : Choice) → choice.size ≡ size → choice.place ≤ size
+            → Gives (file_of self.now) images.new.items choice) }
     {
-        for place in 0..=length {
-            self.add_fillings(length, place, images, alloc)?;
+        for place in 0..size {
+            self.add_fillings(size, place, images, alloc)?;
         }
-        Ok(())
+        self.add_fillings(size, size, images, alloc)
     }
 
     // Gives an image for each length, place and pair of fillings.
     pub fn images(&self, alloc: Global) -> Result<Vec<Vec<u8>>, AllocError>
-        ensures { IfOk result (λ images. AreImages (file_of self.now) images.items) }
+        ensures images { IfOk result (λ images. AreImages (file_of self.now) images.items) }
+        ensures each { IfOk result (λ images. GivesEach (file_of self.now) images.items) }
     {
         let mut images = Vec::new(alloc);
-        for length in &self.lengths {
-            self.add_places(*length, &mut images, alloc)?;
+        for size in &self.lengths {
+            self.add_places(*size, &mut images, alloc)?;
         }
         Ok(images)
     }
