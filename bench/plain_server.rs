@@ -6,7 +6,7 @@
 //! Each worker accepts a connection and serves it to its end, as a worker of the office does. A message is read by
 //! hand: its method, its target, Content-Length and Connection. Three requests are answered, with the bytes that the
 //! office answers them with: `PUT /buckets/NAME` makes a bucket, `GET /buckets/NAME` tells it, and with a JOURNAL
-//! `PUT /buckets/NAME/objects/KEY` counts an object; everything else gets 501. The buckets lie in a map under a lock.
+//! `PUT /buckets/NAME/objects/KEY` counts an object; everything else gets 404. The buckets lie in a map under a lock.
 //! Under that lock an object's entry of ENTRY_BYTES is written to the new file JOURNAL as the office writes one: its
 //! length, the entry, and a closed gate, with zeros up to the end of its block of the file where that is a new one; a data
 //! sync, the gate, a data sync. What the entry says is not written. It serves until it is stopped.
@@ -149,7 +149,7 @@ fn answer(method: &[u8], target: &[u8], office: &Mutex<Office>) -> (&'static str
             office.versions.insert(name.to_vec(), 0);
             ("201 Created", format!(r#"{{"bucket":"{told}"}}"#))
         }
-        _ => ("501 Not Implemented", r#"{"error":"NotBuilt","number":119}"#.to_string()),
+        _ => ("404 Not Found", r#"{"error":"NoRoute","number":121}"#.to_string()),
     }
 }
 

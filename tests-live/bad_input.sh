@@ -1,5 +1,6 @@
 #!/bin/sh
-# Sends what is no request that the program knows, and shows its answer, its status, and that the journal is unchanged.
+# Sends what is no request, or none that the program serves, and shows its answer, its status, and that the journal is
+# unchanged.
 #
 #   bad_input.sh PROGRAM
 #
@@ -10,7 +11,19 @@ tools='cmp head tr sed awk'
 . "$(dirname -- "$0")/common"
 cd "$work" || exit 1
 
-printf 'HTTP/1.1 501 Not Implemented\r\ncontent-type: application/json\r\ncontent-length: 33\r\n\r\n{"error":"NotBuilt","number":119}' >not_built
+# The reply to a refusal: the status with its phrase, the name and the number.
+refusal() {
+    body="{\"error\":\"$2\",\"number\":$3}"
+    printf 'HTTP/1.1 %s\r\ncontent-type: application/json\r\ncontent-length: %d\r\n\r\n%s' "$1" "${#body}" "$body"
+}
+
+refusal '400 Bad Request' BadHead 120 >bad_head
+refusal '404 Not Found' NoRoute 121 >no_route
+refusal '405 Method Not Allowed' BadMethod 122 >bad_method
+refusal '413 Payload Too Large' BodyTooLarge 124 >body_too_large
+refusal '501 Not Implemented' ChunkedBody 125 >chunked_body
+refusal '431 Request Header Fields Too Large' HeadTooLarge 126 >head_too_large
+refusal '400 Bad Request' CutShort 127 >cut_short
 printf 'HTTP/1.1 201 Created\r\ncontent-type: application/json\r\ncontent-length: 17\r\n\r\n{"bucket":"logs"}' >made
 : >nothing
 
@@ -57,15 +70,16 @@ check() {
     fi
 }
 
-# The same for what is no request that the program knows: the texts of its lines, with a line end behind each.
-check_not_built() {
+# The same for a message of which the journal keeps nothing: the texts of its lines, with a line end behind each.
+check_refused() {
     name=$1
-    shift
+    wanted=$2
+    shift 2
     : >in
     for line; do
         printf '%s\r\n' "$line" >>in
     done
-    check "$name" not_built same
+    check "$name" "$wanted" same
 }
 
 "$program" init </dev/null >out 2>notes || exit 1
@@ -73,24 +87,34 @@ check_not_built() {
 : >in
 check 'nothing' nothing same
 
-check_not_built 'a word' 'hello'
-check_not_built 'a head of one word' 'hello' ''
-check_not_built 'a method that is not known' 'GET / HTTP/1.1' 'Host: x' ''
-check_not_built 'another method' 'POST /buckets/logs HTTP/1.1' 'Host: x' ''
-check_not_built 'another target' 'PUT /bucket/logs HTTP/1.1' 'Host: x' ''
-check_not_built 'a longer target' 'PUT /buckets/logs/ HTTP/1.1' 'Host: x' ''
-check_not_built 'a query' 'PUT /buckets/logs?versions HTTP/1.1' 'Host: x' ''
-check_not_built 'two lengths' 'PUT /buckets/logs HTTP/1.1' 'Host: x' 'Content-Length: 0' 'Content-Length: 0' ''
-check_not_built 'a length with a sign' 'PUT /buckets/logs HTTP/1.1' 'Host: x' 'Content-Length: +0' ''
-check_not_built 'a body above the limit' 'PUT /buckets/logs HTTP/1.1' 'Host: x' 'Content-Length: 1048577' ''
-check_not_built 'a body cut short' 'PUT /buckets/logs HTTP/1.1' 'Host: x' 'Content-Length: 10' '' 'hello'
-check_not_built 'a body in chunks' 'PUT /buckets/logs HTTP/1.1' 'Host: x' 'transfer-encoding: chunked' '' '0' ''
-check_not_built 'a field without a colon' 'PUT /buckets/logs HTTP/1.1' 'Host x' ''
-check_not_built 'a head without its end' 'PUT /buckets/logs HTTP/1.1' 'Host: x'
-check_not_built 'nothing behind what is not known' 'GET / HTTP/1.1' 'Host: x' '' 'PUT /buckets/logs HTTP/1.1' 'Host: x' ''
+check_refused 'a word' bad_head 'hello'
+check_refused 'a head of one word' bad_head 'hello' ''
+check_refused 'a target that leads nowhere' no_route 'GET / HTTP/1.1' 'Host: x' ''
+check_refused 'another method' bad_method 'POST /buckets/logs HTTP/1.1' 'Host: x' ''
+check_refused 'a method in small letters' bad_method 'put /buckets/logs HTTP/1.1' 'Host: x' ''
+check_refused 'another method, before a bad name' bad_method 'POST /buckets/lo HTTP/1.1' 'Host: x' ''
+check_refused 'another target' no_route 'PUT /bucket/logs HTTP/1.1' 'Host: x' ''
+check_refused 'a longer target' no_route 'PUT /buckets/logs/ HTTP/1.1' 'Host: x' ''
+check_refused 'a query' no_route 'PUT /buckets/logs?versions HTTP/1.1' 'Host: x' ''
+check_refused 'two lengths' bad_head 'PUT /buckets/logs HTTP/1.1' 'Host: x' 'Content-Length: 0' 'Content-Length: 0' ''
+check_refused 'two lengths of a body above the limit' bad_head 'PUT / HTTP/1.1' 'Content-Length: 1048577' 'Content-Length: 1048577' ''
+check_refused 'a length with a sign' bad_head 'PUT /buckets/logs HTTP/1.1' 'Host: x' 'Content-Length: +0' ''
+check_refused 'a body above the limit' body_too_large 'PUT /buckets/logs HTTP/1.1' 'Host: x' 'Content-Length: 1048577' ''
+check_refused 'a body cut short' cut_short 'PUT /buckets/logs HTTP/1.1' 'Host: x' 'Content-Length: 10' '' 'hello'
+check_refused 'a body in chunks' chunked_body 'PUT /buckets/logs HTTP/1.1' 'Host: x' 'transfer-encoding: chunked' '' '0' ''
+check_refused 'a body in chunks, with two lengths' chunked_body 'PUT / HTTP/1.1' 'Content-Length: 0' 'Content-Length: 0' 'Transfer-Encoding: x' ''
+check_refused 'a field without a colon' bad_head 'PUT /buckets/logs HTTP/1.1' 'Host x' ''
+check_refused 'a head without its end' cut_short 'PUT /buckets/logs HTTP/1.1' 'Host: x'
+
+printf 'GET / HTTP/1.1\r\nHost: x\r\n\r\nDELETE /tariff HTTP/1.1\r\nHost: x\r\n\r\nPUT /buckets/axe HTTP/1.1\r\nHost: x\r\n\r\n' >in
+{ cat no_route bad_method; sed 's/logs/axe/; s/length: 17/length: 16/' made; } >replies
+check 'a request behind what is not served' replies longer
+
+printf 'PUT /buckets\001' >in
+check 'a control byte in a target' bad_head same
 
 printf 'PUT /buckets/lo' >in
-check 'a line without its end' not_built same
+check 'a line without its end' cut_short same
 
 : >in
 for high in 0 1 2 3; do
@@ -101,19 +125,19 @@ for high in 0 1 2 3; do
         done
     done
 done
-check 'every byte' not_built same
+check 'every byte' bad_head same
 
 printf '\026\003\001\002\000\001\000\001\374\003\003' >in
-check 'the beginning of a TLS handshake' not_built same
+check 'the beginning of a TLS handshake' bad_head same
 
 head -c 1048576 /dev/zero >in
-check 'a mebibyte of zeros' not_built same
+check 'a mebibyte of zeros' bad_head same
 
 head -c 1048576 /dev/zero | tr '\000' 'a' >in
-check 'a mebibyte of letters' not_built same
+check 'a mebibyte of letters' head_too_large same
 
 head_of logs 8193 >in
-check 'a head of 8,193 bytes' not_built same
+check 'a head of 8,193 bytes' head_too_large same
 
 head_of logs 8192 >in
 check 'a head of 8,192 bytes' made longer
@@ -142,7 +166,7 @@ check 'nothing behind a message that closes its session' replies longer
 
 printf 'PUT /buckets/data HTTP/1.1\r\nHost: x\r\n\r\nPUT\r\n\r\n' >in
 sed 's/logs/data/' made >replies
-cat not_built >>replies
+cat bad_head >>replies
 check 'garbage behind a request' replies longer
 
 echo "$passed passed, $failed failed"

@@ -86,7 +86,7 @@ check 'an upload that expects a 100' 201 \
     "$(status_of --header 'Expect: 100-continue' --upload-file body "$at/objects/b")"
 check 'a query of HTTP/1.0' '"versions":2' "$(versions --http1.0)"
 check 'a query with a field Connection: close' '"versions":2' "$(versions --header 'Connection: close')"
-check 'a request that is not built' 501 "$(status_of --request DELETE "$at")"
+check 'a method that a bucket does not serve' 405 "$(status_of --request DELETE "$at")"
 wait "$server"
 check 'status after three connections a worker' 0 $?
 server=

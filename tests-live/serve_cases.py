@@ -68,10 +68,10 @@ def ends(server, load):
     with server.client() as client:
         client.send(put_object(load.key())[:40])
         client.end()
-        check("a message cut short is refused", (501, '{"error":"NotBuilt","number":119}'), client.reply())
+        check("a message cut short is refused", (400, '{"error":"CutShort","number":127}'), client.reply())
     with server.client() as client:
         found = client.ask(request("PUT", "/buckets/load/objects/large", "x" * (2 << 20)))
-        check("a refusal reaches a client that sends two mebibytes behind its head", 501, found and found[0])
+        check("a refusal reaches a client that sends two mebibytes behind its head", 413, found and found[0])
 
 
 def slow_and_lost(server, load):

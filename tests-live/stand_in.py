@@ -23,7 +23,7 @@ from stand_in_rules import refuse, rule_of  # noqa: E402
 
 STATUS = {"NoSuchBucket": 404, "NoRules": 404, "NoSuchKey": 404, "NoSuchVersion": 404, "BucketExists": 409, "NotEnabledBefore": 409,
           "MonthNotOver": 409, "DueActions": 409, "AlreadyClosed": 409, "EarlierMonthOpen": 409, "NoTariff": 409,
-          "NotBuilt": 501}
+          "NoRoute": 404, "BadMethod": 405}
 it_all = types.SimpleNamespace(buckets={}, months=Months(), last=0)
 buckets, months, turn = it_all.buckets, it_all.months, threading.Lock()
 
@@ -65,7 +65,9 @@ def ask_month(method, month, word):
     """What is answered to the closing of a month, or its report."""
     if (method, word) == ("POST", "close"):
         return 200, months.close(month_of(month), buckets, now())
-    return (200, months.report(month_of(month), buckets, now())) if (method, word) == ("GET", "report") else refuse("NotBuilt", 119)
+    if (method, word) == ("GET", "report"):
+        return 200, months.report(month_of(month), buckets, now())
+    return refuse("BadMethod", 122) if word in ("close", "report") else refuse("NoRoute", 121)
 
 
 def ask_tariff(method, sent):
@@ -148,7 +150,7 @@ class Handler(http.server.BaseHTTPRequestHandler):
             error, number, *more = refusal.args
             status, found = STATUS.get(error, 400), {"error": error, "number": number, **(more[0] if more else {})}
         except KeyError:
-            status, found = 501, {"error": "NotBuilt", "number": 119}
+            status, found = 404, {"error": "NoRoute", "number": 121}
         kind, text = "text/csv", found
         if not isinstance(found, str):
             kind, text = "application/json", json.dumps(found, sort_keys=True, separators=(",", ":"), ensure_ascii=False)

@@ -24,8 +24,9 @@ use Rattle.http_bodies.specs.Settings.{versioning_of}
 use Rattle.http_routes.specs.Spelled.{key_of}
 use Rattle.http_routes.specs.Targets as targets
 use Rattle.http_asks.specs.Meaning.{Meant, asks, refuses, not_a_month, bad_bucket_name, bad_key, no_such_version, no_such_upload, bad_part, in_body, in_rules, in_tariff}
-use Rattle.http_asks.specs.Meaning.{not_built, by_object_key, by_body, by_rules, by_tariff, meant_of, bucket_meant, versioning_meant, lifecycle_meant, object_meant}
+use Rattle.http_asks.specs.Meaning.{bad_method, method_of, by_object_key, by_body, by_rules, by_tariff, meant_of, bucket_meant, versioning_meant, lifecycle_meant, object_meant}
 use Rattle.http_asks.specs.Meaning.{version_meant, upload_meant, part_meant, act_meant, due_meant, meters_meant, tariff_meant, close_meant, report_meant}
+use Rattle.http_asks.specs.declared.method.Method.TheVariants as methods
 use Rattle.http_asks.specs.Numbers.{number_in, version_in, part_in}
 
 -- ---- numbers and ids
@@ -82,56 +83,68 @@ part_with_a_sign = refl
 -- ---- buckets
 
 -- a bucket is made, whatever the body
-makes : meant_of (targets.bucket (codes "logs")) (codes "PUT") (codes "[") ≡ asks (Command (CreateBucket (codes "logs")))
+makes : meant_of (targets.bucket (codes "logs")) methods.Put (codes "[") ≡ asks (Command (CreateBucket (codes "logs")))
 unfolding bucket_meant is_bucket_name
 makes = refl
 
-asks_for : meant_of (targets.bucket (codes "logs")) (codes "GET") [] ≡ asks (Query (Bucket (codes "logs")))
+asks_for : meant_of (targets.bucket (codes "logs")) methods.Get [] ≡ asks (Query (Bucket (codes "logs")))
 unfolding bucket_meant is_bucket_name
 asks_for = refl
 
 -- methods are compared as they stand
-lower_case : meant_of (targets.bucket (codes "logs")) (codes "put") [] ≡ refuses not_built
-unfolding bucket_meant is_bucket_name
+upper_case : method_of (codes "PUT") ≡ methods.Put
+unfolding method_of
+upper_case = refl
+
+lower_case : method_of (codes "put") ≡ methods.Other
+unfolding method_of
 lower_case = refl
 
-short_name : meant_of (targets.bucket (codes "lo")) (codes "PUT") [] ≡ refuses bad_bucket_name
+cut_off : method_of (codes "DELET") ≡ methods.Other
+unfolding method_of
+cut_off = refl
+
+no_patch : meant_of (targets.bucket (codes "logs")) methods.Other [] ≡ refuses bad_method
+unfolding bucket_meant
+no_patch = refl
+
+short_name : meant_of (targets.bucket (codes "lo")) methods.Put [] ≡ refuses bad_bucket_name
 unfolding bucket_meant is_bucket_name
 short_name = refl
 
 -- a method that is not served comes before a bad name
-another_method : meant_of (targets.bucket (codes "lo")) (codes "DELETE") [] ≡ refuses not_built
+another_method : meant_of (targets.bucket (codes "lo")) methods.Delete [] ≡ refuses bad_method
 unfolding bucket_meant is_bucket_name
 another_method = refl
 
 -- versioning is set as the body says
-sets : (body : List ℕ) (enabled : Bool) → versioning_of body ≡ Ok enabled → meant_of (targets.versioning (codes "logs")) (codes "PUT") body ≡ asks (Command (SetVersioning (codes "logs") enabled))
+sets : (body : List ℕ) (enabled : Bool) → versioning_of body ≡ Ok enabled → meant_of (targets.versioning (codes "logs")) methods.Put body ≡ asks (Command (SetVersioning (codes "logs") enabled))
 unfolding versioning_meant is_bucket_name
 sets body enabled is = ap (λ (said : Result Bool BodyFlaw). by_body said (λ e. asks (Command (SetVersioning (codes "logs") e)))) is
 
-no_status : (body : List ℕ) → versioning_of body ≡ Err (bad_body (codes "Status")) → meant_of (targets.versioning (codes "logs")) (codes "PUT") body ≡ refuses (in_body (bad_body (codes "Status")))
+no_status : (body : List ℕ) → versioning_of body ≡ Err (bad_body (codes "Status")) → meant_of (targets.versioning (codes "logs")) methods.Put body ≡ refuses (in_body (bad_body (codes "Status")))
 unfolding versioning_meant is_bucket_name
 no_status body is = ap (λ (said : Result Bool BodyFlaw). by_body said (λ e. asks (Command (SetVersioning (codes "logs") e)))) is
 
-acts : meant_of (targets.act (codes "logs")) (codes "POST") [] ≡ asks (Command (Act (codes "logs")))
+acts : meant_of (targets.act (codes "logs")) methods.Post [] ≡ asks (Command (Act (codes "logs")))
 unfolding act_meant is_bucket_name
 acts = refl
 
-shows_due : meant_of (targets.due (codes "logs")) (codes "GET") [] ≡ asks (Query (Due (codes "logs")))
+shows_due : meant_of (targets.due (codes "logs")) methods.Get [] ≡ asks (Query (Due (codes "logs")))
 unfolding due_meant is_bucket_name
 shows_due = refl
 
 -- ---- lifecycle configurations
 
-drops : meant_of (targets.lifecycle (codes "logs")) (codes "DELETE") [] ≡ asks (Command (DropRules (codes "logs")))
+drops : meant_of (targets.lifecycle (codes "logs")) methods.Delete [] ≡ asks (Command (DropRules (codes "logs")))
 unfolding lifecycle_meant is_bucket_name
 drops = refl
 
-shows_rules : meant_of (targets.lifecycle (codes "logs")) (codes "GET") [] ≡ asks (Query (Rules (codes "logs")))
+shows_rules : meant_of (targets.lifecycle (codes "logs")) methods.Get [] ≡ asks (Query (Rules (codes "logs")))
 unfolding lifecycle_meant is_bucket_name
 shows_rules = refl
 
-name_before_rules : meant_of (targets.lifecycle (codes "lo")) (codes "PUT") [] ≡ refuses bad_bucket_name
+name_before_rules : meant_of (targets.lifecycle (codes "lo")) methods.Put [] ≡ refuses bad_bucket_name
 unfolding lifecycle_meant is_bucket_name
 name_before_rules = refl
 
@@ -151,99 +164,104 @@ not_keyed : (part : List ℕ) (meant : List ℕ → Meant) → is_key (key_of pa
 not_keyed part meant is = ap (λ (b : Bool). if b then meant (key_of part) else refuses bad_key) is
 
 -- a bad name comes before a bad key, and that before a bad body
-name_first : meant_of (targets.object (codes "lo") (codes "%ff")) (codes "PUT") (codes "[]") ≡ refuses bad_bucket_name
+name_first : meant_of (targets.object (codes "lo") (codes "%ff")) methods.Put (codes "[]") ≡ refuses bad_bucket_name
 unfolding object_meant is_bucket_name
 name_first = refl
 
 -- parts of the path go from left to right: a name, an id, a key
-name_before_id : meant_of (targets.version (codes "lo") (codes "01") (codes "%ff")) (codes "DELETE") [] ≡ refuses bad_bucket_name
+name_before_id : meant_of (targets.version (codes "lo") (codes "01") (codes "%ff")) methods.Delete [] ≡ refuses bad_bucket_name
 unfolding version_meant is_bucket_name
 name_before_id = refl
 
-id_before_key : meant_of (targets.version (codes "logs") (codes "01") (codes "%ff")) (codes "DELETE") [] ≡ refuses no_such_version
+id_before_key : meant_of (targets.version (codes "logs") (codes "01") (codes "%ff")) methods.Delete [] ≡ refuses no_such_version
 unfolding version_meant is_bucket_name version_in number_in
 id_before_key = refl
 
+-- the tariff is not removed
+no_tariff_removed : meant_of targets.tariff methods.Delete [] ≡ refuses bad_method
+unfolding tariff_meant
+no_tariff_removed = refl
+
 -- a version is not asked for by itself
-no_version_read : meant_of (targets.version (codes "logs") (codes "1") (codes "a")) (codes "GET") [] ≡ refuses not_built
+no_version_read : meant_of (targets.version (codes "logs") (codes "1") (codes "a")) methods.Get [] ≡ refuses bad_method
 unfolding version_meant
 no_version_read = refl
 
 -- ---- uploads
 
-shows_upload : meant_of (targets.upload (codes "logs") (codes "7")) (codes "GET") [] ≡ asks (Query (Upload (codes "logs") 7))
+shows_upload : meant_of (targets.upload (codes "logs") (codes "7")) methods.Get [] ≡ asks (Query (Upload (codes "logs") 7))
 unfolding upload_meant is_bucket_name number_in
 shows_upload = refl
 
-completes : meant_of (targets.upload (codes "logs") (codes "7")) (codes "POST") [] ≡ asks (Command (Complete (codes "logs") 7))
+completes : meant_of (targets.upload (codes "logs") (codes "7")) methods.Post [] ≡ asks (Command (Complete (codes "logs") 7))
 unfolding upload_meant is_bucket_name number_in
 completes = refl
 
-aborts : meant_of (targets.upload (codes "logs") (codes "7")) (codes "DELETE") [] ≡ asks (Command (Abort (codes "logs") 7))
+aborts : meant_of (targets.upload (codes "logs") (codes "7")) methods.Delete [] ≡ asks (Command (Abort (codes "logs") 7))
 unfolding upload_meant is_bucket_name number_in
 aborts = refl
 
 -- the null version is no upload
-null_upload : meant_of (targets.upload (codes "logs") (codes "null")) (codes "GET") [] ≡ refuses no_such_upload
+null_upload : meant_of (targets.upload (codes "logs") (codes "null")) methods.Get [] ≡ refuses no_such_upload
 unfolding upload_meant is_bucket_name number_in
 null_upload = refl
 
 puts_part : (body : List ℕ) (size : ℕ) → part_of body ≡ Ok size
-    → meant_of (targets.part (codes "logs") (codes "7") (codes "00002")) (codes "PUT") body
+    → meant_of (targets.part (codes "logs") (codes "7") (codes "00002")) methods.Put body
     ≡ asks (Command (PutPart (codes "logs") 7 2 size))
 unfolding part_meant is_bucket_name number_in part_in
 puts_part body size is = ap (λ (said : Result ℕ BodyFlaw). by_body said (λ n. asks (Command (PutPart (codes "logs") 7 2 n)))) is
 
-upload_before_part : meant_of (targets.part (codes "logs") (codes "0") (codes "x")) (codes "PUT") (codes "[]") ≡ refuses no_such_upload
+upload_before_part : meant_of (targets.part (codes "logs") (codes "0") (codes "x")) methods.Put (codes "[]") ≡ refuses no_such_upload
 unfolding part_meant is_bucket_name number_in
 upload_before_part = refl
 
-part_before_body : meant_of (targets.part (codes "logs") (codes "7") (codes "x")) (codes "PUT") (codes "[]") ≡ refuses bad_part
+part_before_body : meant_of (targets.part (codes "logs") (codes "7") (codes "x")) methods.Put (codes "[]") ≡ refuses bad_part
 unfolding part_meant is_bucket_name number_in part_in
 part_before_body = refl
 
 -- ---- meters, months and prices
 
-a_month : meant_of (targets.meters (codes "logs") (codes "2024-02")) (codes "GET") [] ≡ asks (Query (Meters (codes "logs") (month_number 2024 2)))
+a_month : meant_of (targets.meters (codes "logs") (codes "2024-02")) methods.Get [] ≡ asks (Query (Meters (codes "logs") (month_number 2024 2)))
 unfolding meters_meant is_bucket_name is_month begins_with_month
 a_month = refl
 
-no_month : meant_of (targets.meters (codes "logs") (codes "2024-13")) (codes "GET") [] ≡ refuses not_a_month
+no_month : meant_of (targets.meters (codes "logs") (codes "2024-13")) methods.Get [] ≡ refuses not_a_month
 unfolding meters_meant is_bucket_name is_month begins_with_month
 no_month = refl
 
 -- a bad name comes before a text that is no month
-name_before_month : meant_of (targets.meters (codes "lo") (codes "2024-13")) (codes "GET") [] ≡ refuses bad_bucket_name
+name_before_month : meant_of (targets.meters (codes "lo") (codes "2024-13")) methods.Get [] ≡ refuses bad_bucket_name
 unfolding meters_meant is_bucket_name is_month begins_with_month
 name_before_month = refl
 
 -- a tariff is set as the body says
-sets_prices : (body : List ℕ) (said : Prices) → tariff_of body ≡ Ok said → meant_of targets.tariff (codes "PUT") body ≡ asks (Command (SetTariff said))
+sets_prices : (body : List ℕ) (said : Prices) → tariff_of body ≡ Ok said → meant_of targets.tariff methods.Put body ≡ asks (Command (SetTariff said))
 unfolding tariff_meant
 sets_prices body said is = ap (λ (read : Result Prices TariffFlaw). by_tariff read (λ t. asks (Command (SetTariff t)))) is
 
-no_price : (body : List ℕ) → tariff_of body ≡ Err (prices.missing_class Transition Glacier) → meant_of targets.tariff (codes "PUT") body ≡ refuses (in_tariff (prices.missing_class Transition Glacier))
+no_price : (body : List ℕ) → tariff_of body ≡ Err (prices.missing_class Transition Glacier) → meant_of targets.tariff methods.Put body ≡ refuses (in_tariff (prices.missing_class Transition Glacier))
 unfolding tariff_meant
 no_price body is = ap (λ (said : Result Prices TariffFlaw). by_tariff said (λ t. asks (Command (SetTariff t)))) is
 
 -- a body is passed over where none is wanted
-shows_prices : meant_of targets.tariff (codes "GET") (codes "[") ≡ asks (Query Tariff)
+shows_prices : meant_of targets.tariff methods.Get (codes "[") ≡ asks (Query Tariff)
 unfolding tariff_meant
 shows_prices = refl
 
-closes : meant_of (targets.close (codes "2024-02")) (codes "POST") [] ≡ asks (Command (Close (month_number 2024 2)))
+closes : meant_of (targets.close (codes "2024-02")) methods.Post [] ≡ asks (Command (Close (month_number 2024 2)))
 unfolding close_meant is_month begins_with_month
 closes = refl
 
-no_month_to_close : meant_of (targets.close (codes "2024-2")) (codes "POST") [] ≡ refuses not_a_month
+no_month_to_close : meant_of (targets.close (codes "2024-2")) methods.Post [] ≡ refuses not_a_month
 unfolding close_meant is_month begins_with_month
 no_month_to_close = refl
 
 -- a method that is not served comes before a text that is no month
-no_close_shown : meant_of (targets.close (codes "2024-2")) (codes "GET") [] ≡ refuses not_built
+no_close_shown : meant_of (targets.close (codes "2024-2")) methods.Get [] ≡ refuses bad_method
 unfolding close_meant
 no_close_shown = refl
 
-reports : meant_of (targets.report (codes "1970-01")) (codes "GET") [] ≡ asks (Query (Report (month_number 1970 1)))
+reports : meant_of (targets.report (codes "1970-01")) methods.Get [] ≡ asks (Query (Report (month_number 1970 1)))
 unfolding report_meant is_month begins_with_month
 reports = refl

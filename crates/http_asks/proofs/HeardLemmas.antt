@@ -1,17 +1,15 @@
 -- What is heard at the front of a stream.
-use Rattle.std.proofs.Common.{◌≡◌, ◌≢◌, ℕ, Bool, List, [], ◌∷◌, ◌++◌, length, drop, refl, sym, ap, ◌∙◌, subst, arith, length-append, append_assoc, append-nil, inl, inr}
+use Rattle.std.proofs.Common.{◌≡◌, ℕ, Bool, true, false, List, [], ◌∷◌, ◌++◌, length, drop, refl, sym, ap, ◌∙◌, subst, arith, length-append, append_assoc, append-nil, inl, inr, codes}
 use Rattle.std.proofs.Common.{Option, Some, None, Result, Ok, Err}
-use Rattle.std.specs.Prelude.{◌<◌, IsErrOf, IfSome, IsSomeAnd, option_map}
+use Rattle.std.specs.Prelude.{◌<◌, ◌⊎◌, IsErrOf, IsSomeAnd}
 use Rattle.std.specs.Io.KnownBytes.{prepend_known, IsAtEnd}
+use Rattle.httparse.specs.Grammar.{RequestHead, Field}
 use Rattle.httparse.specs.Spans.{span_bytes}
-use Rattle.http_bodies.specs.Flaws.{body_flaw_of}
-use Rattle.rules_json.specs.Faults.{told_fault}
-use Rattle.tariff.specs.Faults.{tariff_flaw_of}
 use Rattle.http_routes.specs.Targets.{Resource}
 use Rattle.http_routes.proofs.Leads.{one_route}
 use Rattle.http_wire.specs.Answers.{Gave, HasRequest, Refuses, AwaitsLongBody, OnRequest, OnRefused}
 use Rattle.http_wire.specs.Held.{Held, take_limit}
-use Rattle.http_wire.specs.Messages.{Framed, Request, request, refused, Stands, IsCutShort, IsUnsettled}
+use Rattle.http_wire.specs.Messages.{Framed, Request, request, refused, Stands, IsCutShort, IsUnsettled, Messages, ends_session, after_length, after_coding, fields_named, body_length}
 use Rattle.http_wire.specs.Parts.{MessageParts, body_of}
 use Rattle.http_wire.specs.declared.framing.FramingRefusal.{FramingRefusal}
 use Rattle.http_wire.specs.declared.framing.FramingRefusal.TheVariants.{BadHead, BodyTooLarge, ChunkedBody, HeadTooLarge, CutShort}
@@ -22,13 +20,11 @@ use Rattle.http_wire.specs.declared.message.MessageStop.TheVariants as stops
 use Rattle.http_wire.proofs.Unique.{stands_unique, stands_rest, stands_more, nothing_stands}
 use Rattle.http_asks.specs.Counts.{AreEnough}
 use Rattle.http_asks.specs.Faults.{refused_of}
-use Rattle.http_asks.specs.Hearing.{IsHeard, last_of}
-use Rattle.http_asks.specs.Meaning.{Refused, not_a_month, bad_bucket_name, bad_key, no_such_version, no_such_upload, bad_part, in_body, in_rules, in_tariff, not_built}
-use Rattle.http_asks.specs.Meaning.{Meant, asks, refuses, meant_of, Means, IsMeant}
-use Rattle.http_asks.specs.Streams.{IsItem, IsUnbuilt, StandsUnbuilt, WantsMemory}
+use Rattle.http_asks.specs.Hearing.{IsHeard}
+use Rattle.http_asks.specs.Meaning.{Refused, in_framing, Meant, asks, refuses, method_of, meant_of, Means, IsMeant}
+use Rattle.http_asks.specs.Streams.{IsMeantBy, IsFirst, IsItem, StandsItem, BeginWith, WantsMemory}
 use Rattle.http_asks.specs.Tells.{TellsHeard, TellsRefused}
-use Rattle.http_asks.specs.declared.bad.Bad.{Bad}
-use Rattle.http_asks.specs.declared.bad.Bad.TheVariants as bads
+use Rattle.http_asks.proofs.FramingLemmas.{never_framing}
 use Rattle.http_asks.specs.declared.reader.Heard.{Heard}
 use Rattle.http_asks.specs.declared.reader.Heard.TheVariants as heards
 
@@ -36,7 +32,7 @@ use Rattle.http_asks.specs.declared.reader.Heard.TheVariants as heards
 
 means_same : (target method body : List ℕ) (x y : Meant) → Means target method body x → Means target method body y → x ≡ y
 means_same target method body x y (inl (one, has, is)) (inl (other, also, same)) =
-    is ∙ ap (λ (r : Resource). meant_of r method body) (one_route target one other has also) ∙ sym same
+    is ∙ ap (λ (r : Resource). meant_of r (method_of method) body) (one_route target one other has also) ∙ sym same
 means_same target method body x y (inl (one, has, is)) (inr (none, same)) = absurd (none one has)
 means_same target method body x y (inr (none, is)) (inl (other, also, same)) = absurd (none other also)
 means_same target method body x y (inr (none, is)) (inr (other, same)) = is ∙ sym same
@@ -44,56 +40,82 @@ means_same target method body x y (inr (none, is)) (inr (other, same)) = is ∙ 
 pub means_one : (r : Request) (x y : Meant) → IsMeant r x → IsMeant r y → x ≡ y
 means_one r x y is same = means_same r.head.target r.head.method r.body x y is same
 
-abbrev request_or : Request → Framed → Request
-request_or other (request r) = r
-request_or other (refused bad) = other
+meant_by_one : (f : Framed) (x y : Meant) → IsMeantBy f x → IsMeantBy f y → x ≡ y
+meant_by_one (request r) x y is same = means_one r x y is same
+meant_by_one (refused bad) x y is same = is ∙ sym same
 
-same_request : (a b : Request) → request a ≡ request b → a ≡ b
-same_request a b same = ap (request_or b) same
+-- ---- one thing stands first
+
+refusal_unique : (stream : List ℕ) (a b : FramingRefusal) → (Stands stream (refused a) []) ⊎ (IsCutShort stream × (a ≡ CutShort))
+    → (Stands stream (refused b) []) ⊎ (IsCutShort stream × (b ≡ CutShort)) → refused a ≡ refused b
+refusal_unique stream a b (inl x) (inl y) = stands_unique stream (refused a) (refused b) [] [] x y
+refusal_unique stream a b (inl x) (inr (cut, is)) = absurd (cut.unsettled (refused a) [] x)
+refusal_unique stream a b (inr (cut, is)) (inl y) = absurd (cut.unsettled (refused b) [] y)
+refusal_unique stream a b (inr (cut, is)) (inr (other, same)) = ap refused (is ∙ sym same)
+
+first_unique : (stream : List ℕ) (a b : Framed) (rest other : List ℕ) → IsFirst stream a rest → IsFirst stream b other → (a ≡ b) × (rest ≡ other)
+first_unique stream (request a) (request b) rest other x y = (stands_unique stream (request a) (request b) rest other x y, stands_rest stream a b rest other x y)
+first_unique stream (request a) (refused b) rest other x (inl y, stays) = absurd (let e = stands_unique stream (request a) (refused b) rest [] x y in cc)
+first_unique stream (request a) (refused b) rest other x (inr (cut, is), stays) = absurd (cut.unsettled (request a) rest x)
+first_unique stream (refused a) (request b) rest other (inl x, stays) y = absurd (let e = stands_unique stream (refused a) (request b) [] other x y in cc)
+first_unique stream (refused a) (request b) rest other (inr (cut, is), stays) y = absurd (cut.unsettled (request b) other y)
+first_unique stream (refused a) (refused b) rest other (x, stays) (y, same) = (refusal_unique stream a b x y, stays ∙ sym same)
 
 pub one_item : (stream : List ℕ) (first second : Meant) (last other : Bool) (rest after : List ℕ)
     → IsItem stream first last rest → IsItem stream second other after → (first ≡ second) × (last ≡ other) × (rest ≡ after)
 one_item stream first second last other rest after x y =
-    let same = same_request x.found y.found (stands_unique stream (request x.found) (request y.found) rest after x.stands y.stands) in (
-      means_one y.found first second (subst (λ (r : Request). IsMeant r first) same x.means) y.means,
-      x.ends ∙ ap (λ (r : Request). r.last) same ∙ sym y.ends,
-      stands_rest stream x.found y.found rest after x.stands y.stands,
+    let same = first_unique stream x.found y.found rest after x.first y.first in (
+      meant_by_one y.found first second (subst (λ (f : Framed). IsMeantBy f first) same.0 x.means) y.means,
+      x.ends ∙ ap ends_session same.0 ∙ sym y.ends,
+      same.1,
     )
+
+-- ---- it is the first of the whole stream
+
+request_begins : (stream : List ℕ) (meant : Meant) (last : Bool) (rest q : List ℕ) (r : Request) (g : Framed) (later : List Framed) → request r ≡ g
+    → Stands stream (request r) rest → IsMeant r meant → last ≡ r.last → Stands stream g q
+    → ((ends_session g ≡ true) × (later ≡ [])) ⊎ ((ends_session g ≡ false) × Messages q later) → BeginWith (g ∷ later) meant last rest
+request_begins stream meant last rest q r g later same first means ends stands (inl (e, none)) =
+    (subst (λ (f : Framed). IsMeantBy f meant) same means, inl (ends ∙ ap ends_session same ∙ e, none))
+request_begins stream meant last rest q r g later same first means ends stands (inr (e, more)) = (
+  subst (λ (f : Framed). IsMeantBy f meant) same means,
+  inr (
+    ends ∙ ap ends_session same ∙ e,
+    subst (λ (t : List ℕ). Messages t later) (stands_rest stream r r q rest (subst (λ (f : Framed). Stands stream f q) (sym same) stands) first) more,
+  ),
+)
+
+refused_begins : (stream : List ℕ) (meant : Meant) (last : Bool) (rest q : List ℕ) (bad : FramingRefusal) (g : Framed) (later : List Framed) → refused bad ≡ g
+    → meant ≡ refuses (in_framing bad) → last ≡ true
+    → ((ends_session g ≡ true) × (later ≡ [])) ⊎ ((ends_session g ≡ false) × Messages q later) → BeginWith (g ∷ later) meant last rest
+refused_begins stream meant last rest q bad g later same means ends (inl (e, none)) =
+    (subst (λ (f : Framed). IsMeantBy f meant) same means, inl (ends, none))
+refused_begins stream meant last rest q bad g later same means ends (inr (e, more)) = absurd (let z = ap ends_session same ∙ e in cc)
+
+begins : (stream : List ℕ) (meant : Meant) (last : Bool) (rest : List ℕ) (messages : List Framed) (f : Framed) → IsFirst stream f rest → IsMeantBy f meant
+    → last ≡ ends_session f → Messages stream messages → BeginWith messages meant last rest
+begins stream meant last rest [] (request r) first means ends are = absurd (nothing_stands (request r) rest (subst (λ (t : List ℕ). Stands t (request r) rest) are first))
+begins stream meant last rest [] (refused bad) (inl s, stays) means ends are = absurd (nothing_stands (refused bad) [] (subst (λ (t : List ℕ). Stands t (refused bad) []) are s))
+begins stream meant last rest [] (refused bad) (inr (cut, is), stays) means ends are = absurd (omega (arith, cut.some, ap length are))
+begins stream meant last rest (g ∷ later) (request r) first means ends (inr (cut, is, none)) = absurd (cut.unsettled (request r) rest first)
+begins stream meant last rest (g ∷ later) (request r) first means ends (inl (q, stands, how)) =
+    request_begins stream meant last rest q r g later (stands_unique stream (request r) g rest q first stands) first means ends stands how
+begins stream meant last rest (g ∷ later) (refused bad) (inl s, stays) means ends (inr (cut, is, none)) = absurd (cut.unsettled (refused bad) [] s)
+begins stream meant last rest (g ∷ later) (refused bad) (inl s, stays) means ends (inl (q, stands, how)) =
+    refused_begins stream meant last rest q bad g later (stands_unique stream (refused bad) g [] q s stands) means ends how
+begins stream meant last rest (g ∷ later) (refused bad) (inr (cut, is), stays) means ends (inl (q, stands, how)) = absurd (cut.unsettled g q stands)
+begins stream meant last rest (g ∷ later) (refused bad) (inr (cut, is), stays) means ends (inr (other, same, none)) =
+    (subst (λ (f : Framed). IsMeantBy f meant) (ap refused is ∙ sym same) means, inl (ends, none))
+
+pub items_are_messages : (stream : List ℕ) (meant : Meant) (last : Bool) (rest : List ℕ) (messages : List Framed)
+    → IsItem stream meant last rest → Messages stream messages → BeginWith messages meant last rest
+items_are_messages stream meant last rest messages x are = begins stream meant last rest messages x.found x.first x.means x.ends are
 
 -- ---- a refusal is heard
 
 some_and : {P Q : Refused → Type 0} (o : Option Refused) → ((broken : Refused) → P broken → Q broken) → IsSomeAnd o P → IsSomeAnd o Q
 some_and None f is = is
 some_and (Some broken) f is = f broken is
-
-mapped_last : {T : Type 0} (rule : T → Refused) (last : Bool) → ((x : T) → last_of (rule x) last ≡ last) → (o : Option T)
-    → IfSome (option_map rule o) (λ (broken : Refused). last_of broken last ≡ last)
-mapped_last rule last is None = tt
-mapped_last rule last is (Some x) = is x
-
--- what is served need not be the last
-pub last_told : (bad : Bad) (last : Bool) → (bad ≡ bads.NotBuilt → ⊥) → IfSome (refused_of bad) (λ (broken : Refused). last_of broken last ≡ last)
-last_told bads.NotAMonth last served = refl
-last_told bads.BadBucketName last served = refl
-last_told bads.BadKey last served = refl
-last_told bads.NoSuchVersion last served = refl
-last_told bads.NoSuchUpload last served = refl
-last_told bads.BadPart last served = refl
-last_told (bads.Body fault) last served = mapped_last in_body last (λ flaw. refl) (body_flaw_of fault)
-last_told (bads.Rules fault) last served = mapped_last in_rules last (λ told. refl) (told_fault fault)
-last_told (bads.Tariff fault) last served = mapped_last in_tariff last (λ flaw. refl) (tariff_flaw_of fault)
-last_told bads.NotBuilt last served = absurd (served refl)
-
-pub refusal_heard : (Means : Meant → Type 0) (last : Bool) (bad : Bad) (heard : Heard) → IsSomeAnd (refused_of bad) (λ (broken : Refused). Means (refuses broken))
-    → IfSome (refused_of bad) (λ (broken : Refused). heard ≡ heards.Bad bad (last_of broken last)) → IsHeard Means last heard
-refusal_heard Means last bad heard means is = by_rule (refused_of bad) refl means is
-  where
-    by_rule : (o : Option Refused) → refused_of bad ≡ o → IsSomeAnd o (λ (broken : Refused). Means (refuses broken))
-        → IfSome o (λ (broken : Refused). heard ≡ heards.Bad bad (last_of broken last)) → IsHeard Means last heard
-    by_rule None same means is = absurd means
-    by_rule (Some broken) same means is =
-        subst (IsHeard Means last) (sym is)
-        (subst (λ (o : Option Refused). IsSomeAnd o (λ (rule : Refused). Means (refuses rule) × (last_of broken last ≡ last_of rule last))) (sym same) (means, refl))
 
 -- ---- a request stands
 
@@ -107,82 +129,50 @@ meant_parts bytes held m a meant means =
 
 item_stands : (bytes more after : List ℕ) (held : Held) (m : MessageParts) (meant : Meant) (last : Bool) → HasRequest bytes held m → after ≡ drop m.used held.bytes
     → Means (span_bytes held.bytes m.head.path) (span_bytes held.bytes m.head.method) (body_of m held.bytes) meant
-    → meant ≢ refuses not_built → last ≡ m.last → IsItem (bytes ++ more) meant last (after ++ more)
-item_stands bytes more after held m meant last a rest means built ends = record {
-  found = a.found;
-  stands = subst (λ (t : List ℕ). Stands (bytes ++ more) (request a.found) (t ++ more)) (sym rest)
+    → last ≡ m.last → IsItem (bytes ++ more) meant last (after ++ more)
+item_stands bytes more after held m meant last a rest means ends = record {
+  found = request a.found;
+  first = subst (λ (t : List ℕ). Stands (bytes ++ more) (request a.found) (t ++ more)) (sym rest)
       (stands_more bytes more (request a.found) (drop m.used held.bytes) a.stands);
   means = meant_parts bytes held m a meant means;
-  built = built;
   ends = ends ∙ a.last;
-}
-
-no_bytes : (xs zs : List ℕ) → xs ++ zs ≡ [] → xs ≡ []
-no_bytes [] zs is = refl
-no_bytes (x ∷ xs) zs is = absurd cc
-
--- what stands at the front of a stream has some bytes
-some_stand : (bytes more : List ℕ) (found : Framed) (rest : List ℕ) → Stands bytes found rest → bytes ++ more ≢ []
-some_stand bytes more found rest stands is =
-    nothing_stands found rest (subst (λ (t : List ℕ). Stands t found rest) (no_bytes bytes more is) stands)
-
-unserved_stands : (bytes more : List ℕ) (held : Held) (m : MessageParts) → HasRequest bytes held m
-    → Means (span_bytes held.bytes m.head.path) (span_bytes held.bytes m.head.method) (body_of m held.bytes) (refuses not_built) → IsUnbuilt (bytes ++ more)
-unserved_stands bytes more held m a means = record {
-  some = some_stand bytes more (request a.found) (drop m.used held.bytes) a.stands;
-  other = λ meant last rest x.
-      let here = stands_more bytes more (request a.found) (drop m.used held.bytes) a.stands in
-      let same = same_request x.found a.found (stands_unique (bytes ++ more) (request x.found) (request a.found) rest (drop m.used held.bytes ++ more) x.stands here) in
-      x.built (means_one a.found meant (refuses not_built) (subst (λ (r : Request). IsMeant r meant) same x.means) (meant_parts bytes held m a (refuses not_built) means));
 }
 
 refused_told : (bytes more after : List ℕ) (held : Held) (m : MessageParts) (broken : Refused) (last : Bool) → HasRequest bytes held m → after ≡ drop m.used held.bytes
     → Means (span_bytes held.bytes m.head.path) (span_bytes held.bytes m.head.method) (body_of m held.bytes) (refuses broken)
-    → last ≡ last_of broken m.last → TellsRefused (Some (bytes ++ more)) broken last (Some (after ++ more))
-refused_told bytes more after held m not_built last a rest means ends = (unserved_stands bytes more held m a means, ends)
-refused_told bytes more after held m not_a_month last a rest means ends = item_stands bytes more after held m (refuses not_a_month) last a rest means (λ is. cc) ends
-refused_told bytes more after held m bad_bucket_name last a rest means ends = item_stands bytes more after held m (refuses bad_bucket_name) last a rest means (λ is. cc) ends
-refused_told bytes more after held m bad_key last a rest means ends = item_stands bytes more after held m (refuses bad_key) last a rest means (λ is. cc) ends
-refused_told bytes more after held m no_such_version last a rest means ends = item_stands bytes more after held m (refuses no_such_version) last a rest means (λ is. cc) ends
-refused_told bytes more after held m no_such_upload last a rest means ends = item_stands bytes more after held m (refuses no_such_upload) last a rest means (λ is. cc) ends
-refused_told bytes more after held m bad_part last a rest means ends = item_stands bytes more after held m (refuses bad_part) last a rest means (λ is. cc) ends
-refused_told bytes more after held m (in_body flaw) last a rest means ends = item_stands bytes more after held m (refuses (in_body flaw)) last a rest means (λ is. cc) ends
-refused_told bytes more after held m (in_rules fault) last a rest means ends = item_stands bytes more after held m (refuses (in_rules fault)) last a rest means (λ is. cc) ends
-refused_told bytes more after held m (in_tariff flaw) last a rest means ends = item_stands bytes more after held m (refuses (in_tariff flaw)) last a rest means (λ is. cc) ends
+    → last ≡ m.last → TellsRefused (Some (bytes ++ more)) broken last (Some (after ++ more))
+refused_told bytes more after held m (in_framing bad) last a rest means ends =
+    absurd (never_framing (span_bytes held.bytes m.head.path) (span_bytes held.bytes m.head.method) (body_of m held.bytes) bad means)
+refused_told bytes more after held m broken last a rest means ends = item_stands bytes more after held m (refuses broken) last a rest means ends
 
 request_told : (bytes more after : List ℕ) (held : Held) (m : MessageParts) (heard : Heard) → HasRequest bytes held m → after ≡ drop m.used held.bytes
     → IsHeard (Means (span_bytes held.bytes m.head.path) (span_bytes held.bytes m.head.method) (body_of m held.bytes)) m.last heard
     → TellsHeard (Some (bytes ++ more)) heard (Some (after ++ more))
-request_told bytes more after held m (heards.Asked ask last) a rest is = item_stands bytes more after held m (asks ask) last a rest is.0 (λ is. cc) is.1
+request_told bytes more after held m (heards.Asked ask last) a rest is = item_stands bytes more after held m (asks ask) last a rest is.0 is.1
 request_told bytes more after held m (heards.Bad bad last) a rest is =
-    some_and (refused_of bad) (λ (broken : Refused) x. refused_told bytes more after held m broken last a rest x.0 x.1) is
+    some_and (refused_of bad) (λ (broken : Refused) x. refused_told bytes more after held m broken last a rest x is.1) is.0
 request_told bytes more after held m heards.End a rest is = absurd is
 
 -- the whole stream, where it is told
 whole_stream : (held xs ys given : List ℕ) → xs ≡ given ++ ys → held ++ xs ≡ (held ++ given) ++ ys
 whole_stream held xs ys given is = ap (λ (t : List ℕ). held ++ t) is ∙ sym (append_assoc held given ys)
 
-tells_refused_none : (broken : Refused) (bad_last last : Bool) (after : Option (List ℕ)) → bad_last ≡ last_of broken last → TellsRefused None broken bad_last after
-tells_refused_none not_built bad_last last after is = (tt, is)
-tells_refused_none not_a_month bad_last last after is = tt
-tells_refused_none bad_bucket_name bad_last last after is = tt
-tells_refused_none bad_key bad_last last after is = tt
-tells_refused_none no_such_version bad_last last after is = tt
-tells_refused_none no_such_upload bad_last last after is = tt
-tells_refused_none bad_part bad_last last after is = tt
-tells_refused_none (in_body flaw) bad_last last after is = tt
-tells_refused_none (in_rules fault) bad_last last after is = tt
-tells_refused_none (in_tariff flaw) bad_last last after is = tt
+tells_refused_none : (broken : Refused) (last : Bool) (after : Option (List ℕ)) (Means : Meant → Type 0) → ((bad : FramingRefusal) → Means (refuses (in_framing bad)) → ⊥)
+    → Means (refuses broken) → TellsRefused None broken last after
+tells_refused_none (in_framing bad) last after Means never means = absurd (never bad means)
+tells_refused_none broken last after Means never means = tt
 
-tells_none : (heard : Heard) (Means : Meant → Type 0) (last : Bool) (after : Option (List ℕ)) → IsHeard Means last heard → TellsHeard None heard after
-tells_none (heards.Asked ask ends) Means last after is = tt
-tells_none (heards.Bad bad ends) Means last after is = some_and (refused_of bad) (λ (broken : Refused) x. tells_refused_none broken ends last after x.1) is
-tells_none heards.End Means last after is = tt
+tells_none : (heard : Heard) (Means : Meant → Type 0) (last : Bool) (after : Option (List ℕ)) → ((bad : FramingRefusal) → Means (refuses (in_framing bad)) → ⊥) → IsHeard Means last heard
+    → TellsHeard None heard after
+tells_none (heards.Asked ask ends) Means last after never is = tt
+tells_none (heards.Bad bad ends) Means last after never is = some_and (refused_of bad) (λ (broken : Refused) x. tells_refused_none broken ends after Means never x) is.0
+tells_none heards.End Means last after never is = tt
 
 pub heard_told : (a b c : Held) (la lb : Option (List ℕ)) (m : MessageParts) (heard : Heard) → Gave a b la lb (λ (bytes : List ℕ). HasRequest bytes b m) → c.bytes ≡ drop m.used b.bytes
     → IsHeard (Means (span_bytes b.bytes m.head.path) (span_bytes b.bytes m.head.method) (body_of m b.bytes)) m.last heard
     → TellsHeard (prepend_known a.bytes la) heard (prepend_known c.bytes lb)
-heard_told a b c None lb m heard gave rest is = tells_none heard (Means (span_bytes b.bytes m.head.path) (span_bytes b.bytes m.head.method) (body_of m b.bytes)) m.last (prepend_known c.bytes lb) is
+heard_told a b c None lb m heard gave rest is = tells_none heard (Means (span_bytes b.bytes m.head.path) (span_bytes b.bytes m.head.method) (body_of m b.bytes)) m.last (prepend_known c.bytes lb)
+    (never_framing (span_bytes b.bytes m.head.path) (span_bytes b.bytes m.head.method) (body_of m b.bytes)) is
 heard_told a b c (Some xs) None m heard gave rest is = absurd gave.left
 heard_told a b c (Some xs) (Some ys) m heard gave rest is =
     subst (λ (t : List ℕ). TellsHeard (Some t) heard (Some (c.bytes ++ ys))) (sym (whole_stream a.bytes xs ys gave.given gave.left))
@@ -190,34 +180,41 @@ heard_told a b c (Some xs) (Some ys) m heard gave rest is =
 
 -- ---- what the framing refuses
 
-refused_unbuilt : (bytes more : List ℕ) (bad : FramingRefusal) → Stands bytes (refused bad) [] → IsUnbuilt (bytes ++ more)
-refused_unbuilt bytes more bad stands = record {
-  some = some_stand bytes more (refused bad) [] stands;
-  other = λ meant last rest x.
-      let clash = stands_unique (bytes ++ more) (refused bad) (request x.found) ([] ++ more) rest (stands_more bytes more (refused bad) [] stands) x.stands in
-      absurd cc;
-}
+length_any : (h : RequestHead) (bytes : List ℕ) (n : Option ℕ) (bad : FramingRefusal) (r q : List ℕ) → after_length h bytes n (refused bad) r → after_length h bytes n (refused bad) q
+length_any h bytes None bad r q x = x
+length_any h bytes (Some n) bad r q (inl x) = inl x
+length_any h bytes (Some n) bad r q (inr x) = absurd (let e = x.3 in cc)
 
-short_unbuilt : (bytes more : List ℕ) → IsCutShort bytes → more ≡ [] → IsUnbuilt (bytes ++ more)
-short_unbuilt bytes more cut end = record {
-  some = λ is. omega (arith, cut.some, ap length is, length-append bytes more);
-  other = λ meant last rest x.
-      cut.unsettled (request x.found) rest
-      (subst (λ (t : List ℕ). Stands t (request x.found) rest) (ap (λ (t : List ℕ). bytes ++ t) end ∙ append-nil bytes) x.stands);
-}
+coding_any : (h : RequestHead) (bytes : List ℕ) (codings : List Field) (bad : FramingRefusal) (r q : List ℕ) → after_coding h bytes codings (refused bad) r
+    → after_coding h bytes codings (refused bad) q
+coding_any h bytes [] bad r q x = length_any h bytes (body_length (fields_named (codes "Content-Length") h.fields)) bad r q x
+coding_any h bytes (c ∷ codings) bad r q x = x
 
-framing_unbuilt : (bytes ys : List ℕ) (bad : FramingRefusal) → Refuses (Some ys) bad bytes → IsUnbuilt (bytes ++ ys)
-framing_unbuilt bytes ys BadHead is = refused_unbuilt bytes ys BadHead is
-framing_unbuilt bytes ys BodyTooLarge is = refused_unbuilt bytes ys BodyTooLarge is
-framing_unbuilt bytes ys ChunkedBody is = refused_unbuilt bytes ys ChunkedBody is
-framing_unbuilt bytes ys HeadTooLarge is = refused_unbuilt bytes ys HeadTooLarge is
-framing_unbuilt bytes ys CutShort is = short_unbuilt bytes ys is.0 is.1
+-- a refusal has no end
+refusal_any : (bytes : List ℕ) (bad : FramingRefusal) (r q : List ℕ) → Stands bytes (refused bad) r → Stands bytes (refused bad) q
+refusal_any bytes bad r q (inl x) = inl x
+refusal_any bytes bad r q (inr (inl x)) = inr (inl x)
+refusal_any bytes bad r q (inr (inr (h, after, head, what))) = inr (inr (h, after, head, coding_any h after (fields_named (codes "Transfer-Encoding") h.fields) bad r q what))
 
-pub unbuilt_told : (a b : Held) (la lb : Option (List ℕ)) (bad : FramingRefusal) → Gave a b la lb (Refuses lb bad) → StandsUnbuilt (prepend_known a.bytes la)
-unbuilt_told a b None lb bad gave = tt
-unbuilt_told a b (Some xs) None bad gave = absurd gave.left
-unbuilt_told a b (Some xs) (Some ys) bad gave =
-    subst IsUnbuilt (sym (whole_stream a.bytes xs ys gave.given gave.left)) (framing_unbuilt (a.bytes ++ gave.given) ys bad gave.so)
+refusal_first : (bytes ys : List ℕ) (bad : FramingRefusal) → Stands bytes (refused bad) [] → IsFirst (bytes ++ ys) (refused bad) (bytes ++ ys)
+refusal_first bytes ys bad is = (inl (refusal_any (bytes ++ ys) bad ([] ++ ys) [] (stands_more bytes ys (refused bad) [] is)), refl)
+
+framing_first : (bytes ys : List ℕ) (bad : FramingRefusal) → Refuses (Some ys) bad bytes → IsFirst (bytes ++ ys) (refused bad) (bytes ++ ys)
+framing_first bytes ys BadHead is = refusal_first bytes ys BadHead is
+framing_first bytes ys BodyTooLarge is = refusal_first bytes ys BodyTooLarge is
+framing_first bytes ys ChunkedBody is = refusal_first bytes ys ChunkedBody is
+framing_first bytes ys HeadTooLarge is = refusal_first bytes ys HeadTooLarge is
+framing_first bytes ys CutShort is = (inr (subst IsCutShort (sym (ap (λ (t : List ℕ). bytes ++ t) is.1 ∙ append-nil bytes)) is.0, refl), refl)
+
+framing_item : (bytes ys : List ℕ) (bad : FramingRefusal) → Refuses (Some ys) bad bytes → IsItem (bytes ++ ys) (refuses (in_framing bad)) true (bytes ++ ys)
+framing_item bytes ys bad is = record { found = refused bad; first = framing_first bytes ys bad is; means = refl; ends = refl }
+
+pub framing_told : (a b : Held) (la lb : Option (List ℕ)) (bad : FramingRefusal) → Gave a b la lb (Refuses lb bad)
+    → StandsItem (prepend_known a.bytes la) (refuses (in_framing bad)) true (prepend_known a.bytes la)
+framing_told a b None lb bad gave = tt
+framing_told a b (Some xs) None bad gave = absurd gave.left
+framing_told a b (Some xs) (Some ys) bad gave =
+    subst (λ (t : List ℕ). IsItem t (refuses (in_framing bad)) true t) (sym (whole_stream a.bytes xs ys gave.given gave.left)) (framing_item (a.bytes ++ gave.given) ys bad gave.so)
 
 -- ---- counts and the end
 

@@ -1,4 +1,5 @@
 pub mod AskLemmas
 mod Examples
+pub mod FramingLemmas
 pub mod HeardLemmas
 pub mod NumberLemmas

@@ -1,6 +1,6 @@
 -- What a request means, by its target, its method and its body. Methods are compared as they stand (RFC 9110,
 -- "Methods").
-use Rattle.std.specs.Prelude.{◌≡◌, ◌⊎◌, ℕ, Bool, List, codes, bytes_eq, if◌then◌else◌}
+use Rattle.std.specs.Prelude.{◌≡◌, ◌⊎◌, ℕ, List, codes, bytes_eq, if◌then◌else◌}
 use Rattle.std.specs.Prelude.{Option, Some, None, Result, Ok, Err}
 use Rattle.office_base.specs.Keys.{is_key}
 use Rattle.office_base.specs.Names.{is_bucket_name}
@@ -27,11 +27,18 @@ use Rattle.http_routes.specs.Spelled.{key_of}
 use Rattle.http_routes.specs.Targets.{Resource, HasRoute}
 use Rattle.http_routes.specs.Targets as targets
 use Rattle.http_wire.specs.Messages.{Request}
+use Rattle.http_wire.specs.declared.framing.FramingRefusal.{FramingRefusal}
+use Rattle.http_asks.specs.declared.method.Method.{Method}
+use Rattle.http_asks.specs.declared.method.Method.TheVariants as methods
 use Rattle.http_asks.specs.Numbers.{number_in, version_in, part_in}
 
 -- the rule that a request breaks: of what names a part of its path, or of what a body, a lifecycle configuration or a
--- tariff says; not_built: it asks what is not served (own)
+-- tariff says; in_framing: of how a message is framed; no_route: the target leads nowhere (own); bad_method: what it
+-- leads to does not serve the method (own)
 pub data Refused : Type 0 where
+  in_framing : FramingRefusal → Refused
+  no_route : Refused
+  bad_method : Refused
   not_a_month : Refused
   bad_bucket_name : Refused
   bad_key : Refused
@@ -41,7 +48,6 @@ pub data Refused : Type 0 where
   in_body : BodyFlaw → Refused
   in_rules : RulesFault → Refused
   in_tariff : TariffFlaw → Refused
-  not_built : Refused
 
 -- what a request means: an ask of the office, or a refusal
 pub data Meant : Type 0 where
@@ -50,21 +56,14 @@ pub data Meant : Type 0 where
 
 -- ---- methods, parts of the path and bodies
 
--- the methods that are served (RFC 9110, "GET", "PUT", "POST" and "DELETE")
-abbrev pub is_get : List ℕ → Bool
-is_get method = bytes_eq method (codes "GET")
-
--- PUT: something is made, put or set
-abbrev pub is_put : List ℕ → Bool
-is_put method = bytes_eq method (codes "PUT")
-
--- POST: something is started, completed, done or closed
-abbrev pub is_post : List ℕ → Bool
-is_post method = bytes_eq method (codes "POST")
-
--- DELETE: something is removed, dropped or aborted
-abbrev pub is_delete : List ℕ → Bool
-is_delete method = bytes_eq method (codes "DELETE")
+-- the method that a text names (RFC 9110, "GET", "PUT", "POST" and "DELETE"); no resource serves another one (own)
+unfoldable pub method_of : List ℕ → Method
+method_of text =
+    if bytes_eq text (codes "GET") then methods.Get
+    else if bytes_eq text (codes "PUT") then methods.Put
+    else if bytes_eq text (codes "POST") then methods.Post
+    else if bytes_eq text (codes "DELETE") then methods.Delete
+    else methods.Other
 
 -- this, where the bucket has a name
 abbrev pub if_name : List ℕ → Meant → Meant
@@ -164,100 +163,98 @@ put_part_meant name id part body =
     if_name name (by_upload id (λ upload. by_part (part_in part) bad_part (λ number.
     by_body (part_of body) (λ size. asks (Command (PutPart name upload number size))))))
 
--- ---- the routes: what a method asks of what the target names
+-- a tariff is set
+abbrev pub set_tariff_meant : List ℕ → Meant
+set_tariff_meant body = by_tariff (tariff_of body) (λ tariff. asks (Command (SetTariff tariff)))
+
+-- ---- the routes: what a method asks of what the target names; a resource that does not serve it refuses it first
 
 -- a bucket
-unfoldable pub bucket_meant : List ℕ → List ℕ → Meant
-bucket_meant method name =
-    if is_put method then if_name name (asks (Command (CreateBucket name)))
-    else if is_get method then if_name name (asks (Query (Bucket name)))
-    else refuses not_built
+unfoldable pub bucket_meant : Method → List ℕ → Meant
+bucket_meant methods.Put name = if_name name (asks (Command (CreateBucket name)))
+bucket_meant methods.Get name = if_name name (asks (Query (Bucket name)))
+bucket_meant _ name = refuses bad_method
 
 -- the versioning of a bucket
-unfoldable pub versioning_meant : List ℕ → List ℕ → List ℕ → Meant
-versioning_meant method name body =
-    if is_put method
-    then if_name name (by_body (versioning_of body) (λ enabled. asks (Command (SetVersioning name enabled))))
-    else refuses not_built
+unfoldable pub versioning_meant : Method → List ℕ → List ℕ → Meant
+versioning_meant methods.Put name body =
+    if_name name (by_body (versioning_of body) (λ enabled. asks (Command (SetVersioning name enabled))))
+versioning_meant _ name body = refuses bad_method
 
 -- the lifecycle configuration of a bucket
-unfoldable pub lifecycle_meant : List ℕ → List ℕ → List ℕ → Meant
-lifecycle_meant method name body =
-    if is_put method then set_rules_meant name body
-    else if is_get method then if_name name (asks (Query (Rules name)))
-    else if is_delete method then if_name name (asks (Command (DropRules name)))
-    else refuses not_built
+unfoldable pub lifecycle_meant : Method → List ℕ → List ℕ → Meant
+lifecycle_meant methods.Put name body = set_rules_meant name body
+lifecycle_meant methods.Get name body = if_name name (asks (Query (Rules name)))
+lifecycle_meant methods.Delete name body = if_name name (asks (Command (DropRules name)))
+lifecycle_meant _ name body = refuses bad_method
 
 -- an object
-unfoldable pub object_meant : List ℕ → List ℕ → List ℕ → List ℕ → Meant
-object_meant method name part body =
-    if is_put method then put_meant name part body
-    else if is_get method then stack_meant name part
-    else if is_delete method then delete_meant name part
-    else refuses not_built
+unfoldable pub object_meant : Method → List ℕ → List ℕ → List ℕ → Meant
+object_meant methods.Put name part body = put_meant name part body
+object_meant methods.Get name part body = stack_meant name part
+object_meant methods.Delete name part body = delete_meant name part
+object_meant _ name part body = refuses bad_method
 
 -- a version of an object
-unfoldable pub version_meant : List ℕ → List ℕ → List ℕ → List ℕ → Meant
-version_meant method name id part =
-    if is_delete method then remove_meant name id part else refuses not_built
+unfoldable pub version_meant : Method → List ℕ → List ℕ → List ℕ → Meant
+version_meant methods.Delete name id part = remove_meant name id part
+version_meant _ name id part = refuses bad_method
 
 -- the tags of a version
-unfoldable pub tags_meant : List ℕ → List ℕ → List ℕ → List ℕ → List ℕ → Meant
-tags_meant method name id part body =
-    if is_put method then set_tags_meant name id part body else refuses not_built
+unfoldable pub tags_meant : Method → List ℕ → List ℕ → List ℕ → List ℕ → Meant
+tags_meant methods.Put name id part body = set_tags_meant name id part body
+tags_meant _ name id part body = refuses bad_method
 
 -- the uploads under a key
-unfoldable pub uploads_meant : List ℕ → List ℕ → List ℕ → List ℕ → Meant
-uploads_meant method name part body =
-    if is_post method then start_meant name part body else refuses not_built
+unfoldable pub uploads_meant : Method → List ℕ → List ℕ → List ℕ → Meant
+uploads_meant methods.Post name part body = start_meant name part body
+uploads_meant _ name part body = refuses bad_method
 
 -- an upload
-unfoldable pub upload_meant : List ℕ → List ℕ → List ℕ → Meant
-upload_meant method name id =
-    if is_get method then shown_meant name id
-    else if is_post method then complete_meant name id
-    else if is_delete method then abort_meant name id
-    else refuses not_built
+unfoldable pub upload_meant : Method → List ℕ → List ℕ → Meant
+upload_meant methods.Get name id = shown_meant name id
+upload_meant methods.Post name id = complete_meant name id
+upload_meant methods.Delete name id = abort_meant name id
+upload_meant _ name id = refuses bad_method
 
 -- a part of an upload
-unfoldable pub part_meant : List ℕ → List ℕ → List ℕ → List ℕ → List ℕ → Meant
-part_meant method name id part body =
-    if is_put method then put_part_meant name id part body else refuses not_built
+unfoldable pub part_meant : Method → List ℕ → List ℕ → List ℕ → List ℕ → Meant
+part_meant methods.Put name id part body = put_part_meant name id part body
+part_meant _ name id part body = refuses bad_method
 
 -- the next lifecycle action of a bucket, taken
-unfoldable pub act_meant : List ℕ → List ℕ → Meant
-act_meant method name =
-    if is_post method then if_name name (asks (Command (Act name))) else refuses not_built
+unfoldable pub act_meant : Method → List ℕ → Meant
+act_meant methods.Post name = if_name name (asks (Command (Act name)))
+act_meant _ name = refuses bad_method
 
 -- the next lifecycle action of a bucket, shown
-unfoldable pub due_meant : List ℕ → List ℕ → Meant
-due_meant method name =
-    if is_get method then if_name name (asks (Query (Due name))) else refuses not_built
+unfoldable pub due_meant : Method → List ℕ → Meant
+due_meant methods.Get name = if_name name (asks (Query (Due name)))
+due_meant _ name = refuses bad_method
 
 -- the meters of a bucket in a month
-unfoldable pub meters_meant : List ℕ → List ℕ → List ℕ → Meant
-meters_meant method name month =
-    if is_get method then if_name name (by_month month (λ m. asks (Query (Meters name m)))) else refuses not_built
+unfoldable pub meters_meant : Method → List ℕ → List ℕ → Meant
+meters_meant methods.Get name month = if_name name (by_month month (λ m. asks (Query (Meters name m))))
+meters_meant _ name month = refuses bad_method
 
 -- the tariff
-unfoldable pub tariff_meant : List ℕ → List ℕ → Meant
-tariff_meant method body =
-    if is_put method then by_tariff (tariff_of body) (λ tariff. asks (Command (SetTariff tariff)))
-    else if is_get method then asks (Query Tariff)
-    else refuses not_built
+unfoldable pub tariff_meant : Method → List ℕ → Meant
+tariff_meant methods.Put body = set_tariff_meant body
+tariff_meant methods.Get body = asks (Query Tariff)
+tariff_meant _ body = refuses bad_method
 
 -- the close of a month
-unfoldable pub close_meant : List ℕ → List ℕ → Meant
-close_meant method month =
-    if is_post method then by_month month (λ m. asks (Command (Close m))) else refuses not_built
+unfoldable pub close_meant : Method → List ℕ → Meant
+close_meant methods.Post month = by_month month (λ m. asks (Command (Close m)))
+close_meant _ month = refuses bad_method
 
 -- the report of a month
-unfoldable pub report_meant : List ℕ → List ℕ → Meant
-report_meant method month =
-    if is_get method then by_month month (λ m. asks (Query (Report m))) else refuses not_built
+unfoldable pub report_meant : Method → List ℕ → Meant
+report_meant methods.Get month = by_month month (λ m. asks (Query (Report m)))
+report_meant _ month = refuses bad_method
 
 -- what a method asks of a resource, with this body
-abbrev pub meant_of : Resource → List ℕ → List ℕ → Meant
+abbrev pub meant_of : Resource → Method → List ℕ → Meant
 meant_of (targets.bucket name) method body = bucket_meant method name
 meant_of (targets.versioning name) method body = versioning_meant method name body
 meant_of (targets.lifecycle name) method body = lifecycle_meant method name body
@@ -274,12 +271,12 @@ meant_of targets.tariff method body = tariff_meant method body
 meant_of (targets.close month) method body = close_meant method month
 meant_of (targets.report month) method body = report_meant method month
 
--- a request with this target, method and body means this: what it asks of the resource that the target names, or
--- nothing that is served where the target names none
+-- a request with this target, method and body means this: what it asks of the resource that the target names, or that
+-- the target names none
 abbrev pub Means : List ℕ → List ℕ → List ℕ → Meant → Type 0
 Means target method body meant =
-    ((resource : Resource) × HasRoute target resource × (meant ≡ meant_of resource method body))
-    ⊎ (((resource : Resource) → ¬ (HasRoute target resource)) × (meant ≡ refuses not_built))
+    ((resource : Resource) × HasRoute target resource × (meant ≡ meant_of resource (method_of method) body))
+    ⊎ (((resource : Resource) → ¬ (HasRoute target resource)) × (meant ≡ refuses no_route))
 
 -- the same of a request that stands in a stream
 abbrev pub IsMeant : Request → Meant → Type 0

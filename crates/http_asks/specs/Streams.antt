@@ -1,42 +1,58 @@
--- Which items stand in a stream: requests that mean what is served.
-use Rattle.std.specs.Prelude.{◌≡◌, ◌≢◌, ◌⊎◌, ℕ, Bool, List, [], Option, Some, None, ⊤}
+-- What the messages of a stream mean.
+use Rattle.std.specs.Prelude.{◌≡◌, ◌⊎◌, ℕ, Bool, true, false, List, [], ◌∷◌, Option, Some, None, ⊤}
 use Rattle.http_wire.specs.Answers.{AwaitsLongBody}
-use Rattle.http_wire.specs.Messages.{Request, request, Stands}
-use Rattle.http_asks.specs.Meaning.{Meant, refuses, not_built, IsMeant}
+use Rattle.http_wire.specs.Messages.{Framed, request, refused, Request, Stands, IsCutShort, ends_session, Messages}
+use Rattle.http_wire.specs.declared.framing.FramingRefusal.TheVariants.{CutShort}
+use Rattle.http_asks.specs.Meaning.{Meant, refuses, in_framing, IsMeant}
 
--- The stream begins with a request that means this, whether it is the last of its session, and rest follows.
+-- what stands in a stream means this: what its request asks or breaks, or why its framing is refused
+abbrev pub IsMeantBy : Framed → Meant → Type 0
+IsMeantBy (request r) meant = IsMeant r meant
+IsMeantBy (refused bad) meant = meant ≡ refuses (in_framing bad)
+
+-- This stands at the front of a whole stream, and rest follows. What its framing refuses has no end: the stream stays.
+abbrev pub IsFirst : List ℕ → Framed → List ℕ → Type 0
+IsFirst stream (request r) rest = Stands stream (request r) rest
+IsFirst stream (refused bad) rest =
+    (Stands stream (refused bad) [] ⊎ (IsCutShort stream × (bad ≡ CutShort))) × (rest ≡ stream)
+
+-- The stream begins with a message that means this, whether it is the last of its session, and rest follows.
 pub record IsItem (stream : List ℕ) (meant : Meant) (last : Bool) (rest : List ℕ) : Type 0 where
-  pub found : Request
-  pub stands : Stands stream (request found) rest
-  pub means : IsMeant found meant
-  pub built : meant ≢ refuses not_built
-  pub ends : last ≡ found.last
-
--- Something else stands there.
-pub record IsUnbuilt (stream : List ℕ) : Type 0 where
-  pub some : stream ≢ []
-  pub other : (meant : Meant) (last : Bool) (rest : List ℕ) → ¬ (IsItem stream meant last rest)
+  pub found : Framed
+  pub first : IsFirst stream found rest
+  pub means : IsMeantBy found meant
+  pub ends : last ≡ ends_session found
 
 -- What takes memory stands at the front of the bytes: a head whose body is longer than the room behind it, or a
 -- request.
 abbrev pub WantsMemory : List ℕ → Type 0
 WantsMemory bytes = AwaitsLongBody bytes ⊎ ((found : Request) × (rest : List ℕ) × Stands bytes (request found) rest)
 
--- the same of streams that may not be told
+-- a message stands at the front of a stream that may not be told
 abbrev pub StandsItem : Option (List ℕ) → Meant → Bool → Option (List ℕ) → Type 0
 StandsItem None meant last after = ⊤
 StandsItem (Some stream) meant last None = ⊥
 StandsItem (Some stream) meant last (Some rest) = IsItem stream meant last rest
 
--- something else stands there, of a stream that may not be told
-abbrev pub StandsUnbuilt : Option (List ℕ) → Type 0
-StandsUnbuilt None = ⊤
-StandsUnbuilt (Some stream) = IsUnbuilt stream
+-- ---- the messages of a whole stream
+
+-- Those of a whole stream begin with one that means this. It is the last of its session, or the others are those of the
+-- rest.
+abbrev pub BeginWith : List Framed → Meant → Bool → List ℕ → Type 0
+BeginWith [] meant last rest = ⊥
+BeginWith (found ∷ later) meant last rest =
+    IsMeantBy found meant
+    × (((last ≡ true) × (later ≡ [])) ⊎ ((last ≡ false) × Messages rest later))
 
 -- ---- laws
 
--- one item stands at the front of a stream, and one rest follows it
+-- one message stands at the front of a stream, and one rest follows it
 abbrev pub HasOneItem : Type 0
 HasOneItem = (stream : List ℕ) (first second : Meant) (last other : Bool) (rest after : List ℕ)
     → IsItem stream first last rest → IsItem stream second other after
     → (first ≡ second) × (last ≡ other) × (rest ≡ after)
+
+-- it is the first of those of the whole stream, and the others follow it
+abbrev pub ItemsAreMessages : Type 0
+ItemsAreMessages = (stream : List ℕ) (meant : Meant) (last : Bool) (rest : List ℕ) (messages : List Framed)
+    → IsItem stream meant last rest → Messages stream messages → BeginWith messages meant last rest

@@ -2,15 +2,16 @@
 use Rattle.std.specs.Prelude.{◌≡◌, ℕ, Bool, true, List, Option, IsSomeAnd, IfSome, Result, Ok, Err, ⊤}
 use Rattle.std.specs.Io.KnownBytes.{IsAtEnd}
 use Rattle.http_asks.specs.Faults.{refused_of}
-use Rattle.http_asks.specs.Meaning.{Refused, not_built, asks, refuses}
-use Rattle.http_asks.specs.Streams.{StandsItem, StandsUnbuilt}
+use Rattle.http_asks.specs.Meaning.{Refused, in_framing, asks, refuses}
+use Rattle.http_asks.specs.Streams.{StandsItem}
 use Rattle.http_asks.specs.declared.reader.Heard.{Heard}
 use Rattle.http_asks.specs.declared.reader.Heard.TheVariants.{Asked, Bad, End}
 
--- a refusal stands at the front of the stream, which is then the later one; or what stands there is not served, and
--- the last
+-- a refusal stands at the front of the stream, which is then the later one; a message whose framing is refused has no
+-- end, and is the last
 abbrev pub TellsRefused : Option (List ℕ) → Refused → Bool → Option (List ℕ) → Type 0
-TellsRefused before not_built last after = StandsUnbuilt before × (last ≡ true)
+TellsRefused before (in_framing bad) last after =
+    StandsItem before (refuses (in_framing bad)) last before × (last ≡ true)
 TellsRefused before broken last after = StandsItem before (refuses broken) last after
 
 -- what was heard stands at the front of the stream, which is then the later one; a refusal is never heard for want of
@@ -21,14 +22,14 @@ TellsHeard before (Bad bad last) after =
     IsSomeAnd (refused_of bad) (λ broken. TellsRefused before broken last after)
 TellsHeard before End after = IsAtEnd before
 
--- P, where the rule is one that an item breaks
-abbrev pub IfServed : Refused → Type 0 → Type 0
-IfServed not_built P = ⊤
-IfServed broken P = P
+-- P, where the rule is one that a request breaks
+abbrev pub IfFramed : Refused → Type 0 → Type 0
+IfFramed (in_framing bad) P = ⊤
+IfFramed broken P = P
 
--- P, where an item was heard
-abbrev pub OnItem : {E : Type 0} → Result Heard E → Type 0 → Type 0
-OnItem (Ok (Asked ask last)) P = P
-OnItem (Ok (Bad bad last)) P = IfSome (refused_of bad) (λ broken. IfServed broken P)
-OnItem (Ok End) P = ⊤
-OnItem (Err e) P = ⊤
+-- P, where a request was heard
+abbrev pub OnFramed : {E : Type 0} → Result Heard E → Type 0 → Type 0
+OnFramed (Ok (Asked ask last)) P = P
+OnFramed (Ok (Bad bad last)) P = IfSome (refused_of bad) (λ broken. IfFramed broken P)
+OnFramed (Ok End) P = ⊤
+OnFramed (Err e) P = ⊤

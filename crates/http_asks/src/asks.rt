@@ -5,6 +5,7 @@ ghost use Rattle.http_asks.specs.Meaning.{Means, meant_of};
 
 use crate::bad::{Bad, Fault};
 use crate::bucket_asks::{act_ask, bucket_ask, due_ask, lifecycle_ask, meters_ask, versioning_ask};
+use crate::method::Method;
 use crate::month_asks::{close_ask, report_ask, tariff_ask};
 use crate::object_asks::{object_ask, tags_ask, version_ask};
 use crate::upload_asks::{part_ask, upload_ask, uploads_ask};
@@ -13,8 +14,8 @@ use office_types::Ask;
 use std::alloc::Global;
 
 // What a method asks of the resource that a route names.
-fn route_ask(alloc: Global, route: Route<'_>, method: &[u8], body: &[u8]) -> Result<Ask, Fault>
-    ensures { IsMeaning result (meant_of (resource_of route.entry) method.now body.now) }
+fn route_ask(alloc: Global, route: Route<'_>, method: Method, body: &[u8]) -> Result<Ask, Fault>
+    ensures { IsMeaning result (meant_of (resource_of route.entry) method body.now) }
 {
     match route {
         Route::Bucket { bucket } => bucket_ask(alloc, method, bucket),
@@ -46,7 +47,7 @@ pub(crate) fn ask_of(
     ensures { OnMeant result (Means target.now method.now body.now) }
 {
     match routes.find(target) {
-        Some(route) => route_ask(alloc, route, method, body),
-        None => Err(Fault::Bad(Bad::NotBuilt)),
+        Some(route) => route_ask(alloc, route, Method::read(method), body),
+        None => Err(Fault::Bad(Bad::NoRoute)),
     }
 }

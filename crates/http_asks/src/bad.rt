@@ -7,12 +7,19 @@ ghost use Rattle.rules_json.specs.Faults.{told_fault};
 ghost use Rattle.tariff.specs.Faults.{tariff_flaw_of};
 
 use http_bodies::BodyFault;
+use http_wire::FramingRefusal;
 use rules_json::RulesFault;
 use tariff::TariffFault;
 
 /// Refusals that a message's own text decides. What is heard is never one for want of memory.
 #[derive(Drop)]
 pub enum Bad {
+    /// The framing of the message is refused. It is the last of its session.
+    Framing(FramingRefusal),
+    /// The target begins with no `/`, has a `?`, or leads nowhere.
+    NoRoute,
+    /// What the target leads to does not serve the method.
+    BadMethod,
     /// The text is not `YYYY-MM`, or no month from 1970-01 to 2099-12.
     NotAMonth,
     /// The part of the path is out of the range of bucket names.
@@ -31,8 +38,6 @@ pub enum Bad {
     Rules(RulesFault),
     /// The body breaks a rule of tariffs.
     Tariff(TariffFault),
-    /// The message is none that is served. It is the last of its session.
-    NotBuilt,
 }
 
 /// Why a request was not read as an ask.

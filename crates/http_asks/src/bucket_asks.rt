@@ -6,40 +6,47 @@ ghost use Rattle.http_asks.specs.Meaning.{act_meant, due_meant, meters_meant};
 
 use crate::bad::{Bad, Fault};
 use crate::bodies::{rules_body, status_body};
+use crate::method::Method;
 use crate::parts::{bucket_name, month_of};
 use office_types::{Ask, Command, Query};
 use std::alloc::Global;
 
 #[tactic(auto, unfolding(crate::specs::Meaning::bucket_meant))]
-pub(crate) fn bucket_ask(alloc: Global, method: &[u8], name: &str) -> Result<Ask, Fault>
-    ensures { IsMeaning result (bucket_meant method.now name.now) }
+pub(crate) fn bucket_ask(alloc: Global, method: Method, name: &str) -> Result<Ask, Fault>
+    ensures { IsMeaning result (bucket_meant method name.now) }
 {
-    if method == b"PUT".as_slice() {
-        let bucket = bucket_name(alloc, name)?;
-        return Ok(Ask::Command(Command::CreateBucket { bucket }));
+    match method {
+        Method::Put => {
+            let bucket = bucket_name(alloc, name)?;
+            Ok(Ask::Command(Command::CreateBucket { bucket }))
+        }
+        Method::Get => {
+            let bucket = bucket_name(alloc, name)?;
+            Ok(Ask::Query(Query::Bucket(bucket)))
+        }
+        Method::Post | Method::Delete | Method::Other => Err(Fault::Bad(Bad::BadMethod)),
     }
-    if method == b"GET".as_slice() {
-        let bucket = bucket_name(alloc, name)?;
-        return Ok(Ask::Query(Query::Bucket(bucket)));
-    }
-    Err(Fault::Bad(Bad::NotBuilt))
 }
 
 #[tactic(auto, unfolding(crate::specs::Meaning::versioning_meant))]
 pub(crate) fn versioning_ask(
     alloc: Global,
-    method: &[u8],
+    method: Method,
     name: &str,
     body: &[u8],
 ) -> Result<Ask, Fault>
-    ensures { IsMeaning result (versioning_meant method.now name.now body.now) }
+    ensures { IsMeaning result (versioning_meant method name.now body.now) }
 {
-    if method == b"PUT".as_slice() {
-        let bucket = bucket_name(alloc, name)?;
-        let enabled = status_body(alloc, body)?;
-        return Ok(Ask::Command(Command::SetVersioning { bucket, enabled }));
+    match method {
+        Method::Put => {
+            let bucket = bucket_name(alloc, name)?;
+            let enabled = status_body(alloc, body)?;
+            Ok(Ask::Command(Command::SetVersioning { bucket, enabled }))
+        }
+        Method::Get | Method::Post | Method::Delete | Method::Other => Err(Fault::Bad(
+            Bad::BadMethod,
+        )),
     }
-    Err(Fault::Bad(Bad::NotBuilt))
 }
 
 // The ask of a PUT of a lifecycle configuration.
@@ -54,61 +61,73 @@ fn rules_ask(alloc: Global, name: &str, body: &[u8]) -> Result<Ask, Fault>
 #[tactic(auto, unfolding(crate::specs::Meaning::lifecycle_meant))]
 pub(crate) fn lifecycle_ask(
     alloc: Global,
-    method: &[u8],
+    method: Method,
     name: &str,
     body: &[u8],
 ) -> Result<Ask, Fault>
-    ensures { IsMeaning result (lifecycle_meant method.now name.now body.now) }
+    ensures { IsMeaning result (lifecycle_meant method name.now body.now) }
 {
-    if method == b"PUT".as_slice() {
-        return rules_ask(alloc, name, body);
+    match method {
+        Method::Put => rules_ask(alloc, name, body),
+        Method::Get => {
+            let bucket = bucket_name(alloc, name)?;
+            Ok(Ask::Query(Query::Rules(bucket)))
+        }
+        Method::Delete => {
+            let bucket = bucket_name(alloc, name)?;
+            Ok(Ask::Command(Command::DropRules { bucket }))
+        }
+        Method::Post | Method::Other => Err(Fault::Bad(Bad::BadMethod)),
     }
-    if method == b"GET".as_slice() {
-        let bucket = bucket_name(alloc, name)?;
-        return Ok(Ask::Query(Query::Rules(bucket)));
-    }
-    if method == b"DELETE".as_slice() {
-        let bucket = bucket_name(alloc, name)?;
-        return Ok(Ask::Command(Command::DropRules { bucket }));
-    }
-    Err(Fault::Bad(Bad::NotBuilt))
 }
 
 #[tactic(auto, unfolding(crate::specs::Meaning::act_meant))]
-pub(crate) fn act_ask(alloc: Global, method: &[u8], name: &str) -> Result<Ask, Fault>
-    ensures { IsMeaning result (act_meant method.now name.now) }
+pub(crate) fn act_ask(alloc: Global, method: Method, name: &str) -> Result<Ask, Fault>
+    ensures { IsMeaning result (act_meant method name.now) }
 {
-    if method == b"POST".as_slice() {
-        let bucket = bucket_name(alloc, name)?;
-        return Ok(Ask::Command(Command::Act { bucket }));
+    match method {
+        Method::Post => {
+            let bucket = bucket_name(alloc, name)?;
+            Ok(Ask::Command(Command::Act { bucket }))
+        }
+        Method::Get | Method::Put | Method::Delete | Method::Other => Err(Fault::Bad(
+            Bad::BadMethod,
+        )),
     }
-    Err(Fault::Bad(Bad::NotBuilt))
 }
 
 #[tactic(auto, unfolding(crate::specs::Meaning::due_meant))]
-pub(crate) fn due_ask(alloc: Global, method: &[u8], name: &str) -> Result<Ask, Fault>
-    ensures { IsMeaning result (due_meant method.now name.now) }
+pub(crate) fn due_ask(alloc: Global, method: Method, name: &str) -> Result<Ask, Fault>
+    ensures { IsMeaning result (due_meant method name.now) }
 {
-    if method == b"GET".as_slice() {
-        let bucket = bucket_name(alloc, name)?;
-        return Ok(Ask::Query(Query::Due(bucket)));
+    match method {
+        Method::Get => {
+            let bucket = bucket_name(alloc, name)?;
+            Ok(Ask::Query(Query::Due(bucket)))
+        }
+        Method::Put | Method::Post | Method::Delete | Method::Other => Err(Fault::Bad(
+            Bad::BadMethod,
+        )),
     }
-    Err(Fault::Bad(Bad::NotBuilt))
 }
 
 #[tactic(auto, unfolding(crate::specs::Meaning::meters_meant))]
 pub(crate) fn meters_ask(
     alloc: Global,
-    method: &[u8],
+    method: Method,
     name: &str,
     month: &str,
 ) -> Result<Ask, Fault>
-    ensures { IsMeaning result (meters_meant method.now name.now month.now) }
+    ensures { IsMeaning result (meters_meant method name.now month.now) }
 {
-    if method == b"GET".as_slice() {
-        let bucket = bucket_name(alloc, name)?;
-        let month = month_of(month)?;
-        return Ok(Ask::Query(Query::Meters(bucket, month)));
+    match method {
+        Method::Get => {
+            let bucket = bucket_name(alloc, name)?;
+            let month = month_of(month)?;
+            Ok(Ask::Query(Query::Meters(bucket, month)))
+        }
+        Method::Put | Method::Post | Method::Delete | Method::Other => Err(Fault::Bad(
+            Bad::BadMethod,
+        )),
     }
-    Err(Fault::Bad(Bad::NotBuilt))
 }

@@ -5,7 +5,7 @@ mod asks;
 mod bad;
 mod bodies;
 mod bucket_asks;
-mod laws;
+mod method;
 mod month_asks;
 mod object_asks;
 mod parts;
@@ -13,5 +13,5 @@ mod reader;
 mod upload_asks;
 
 pub use bad::Bad;
-pub use laws::{means_one_thing, one_item};
+pub use http_wire::{Buffer, FramingRefusal, MessageStop};
 pub use reader::{Heard, Reader};

@@ -5,6 +5,7 @@ ghost use Rattle.http_asks.specs.Meaning.{object_meant, version_meant, tags_mean
 
 use crate::bad::{Bad, Fault};
 use crate::bodies::{put_body, tags_body};
+use crate::method::Method;
 use crate::parts::{bucket_name, object_key, version_id};
 use office_types::{Ask, Command, Query};
 use std::alloc::Global;
@@ -46,23 +47,19 @@ fn delete_ask(alloc: Global, name: &str, part: &str) -> Result<Ask, Fault>
 #[tactic(auto, unfolding(crate::specs::Meaning::object_meant))]
 pub(crate) fn object_ask(
     alloc: Global,
-    method: &[u8],
+    method: Method,
     name: &str,
     part: &str,
     body: &[u8],
 ) -> Result<Ask, Fault>
-    ensures { IsMeaning result (object_meant method.now name.now part.now body.now) }
+    ensures { IsMeaning result (object_meant method name.now part.now body.now) }
 {
-    if method == b"PUT".as_slice() {
-        return put_ask(alloc, name, part, body);
+    match method {
+        Method::Put => put_ask(alloc, name, part, body),
+        Method::Get => stack_ask(alloc, name, part),
+        Method::Delete => delete_ask(alloc, name, part),
+        Method::Post | Method::Other => Err(Fault::Bad(Bad::BadMethod)),
     }
-    if method == b"GET".as_slice() {
-        return stack_ask(alloc, name, part);
-    }
-    if method == b"DELETE".as_slice() {
-        return delete_ask(alloc, name, part);
-    }
-    Err(Fault::Bad(Bad::NotBuilt))
 }
 
 // The ask of a DELETE of a version.
@@ -78,17 +75,17 @@ fn remove_ask(alloc: Global, name: &str, id: &str, part: &str) -> Result<Ask, Fa
 #[tactic(auto, unfolding(crate::specs::Meaning::version_meant))]
 pub(crate) fn version_ask(
     alloc: Global,
-    method: &[u8],
+    method: Method,
     name: &str,
     id: &str,
     part: &str,
 ) -> Result<Ask, Fault>
-    ensures { IsMeaning result (version_meant method.now name.now id.now part.now) }
+    ensures { IsMeaning result (version_meant method name.now id.now part.now) }
 {
-    if method == b"DELETE".as_slice() {
-        return remove_ask(alloc, name, id, part);
+    match method {
+        Method::Delete => remove_ask(alloc, name, id, part),
+        Method::Get | Method::Put | Method::Post | Method::Other => Err(Fault::Bad(Bad::BadMethod)),
     }
-    Err(Fault::Bad(Bad::NotBuilt))
 }
 
 // The ask of a PUT of the tags of a version.
@@ -110,16 +107,18 @@ fn tagging_ask(alloc: Global, name: &str, id: &str, part: &str, body: &[u8]) -> 
 #[tactic(auto, unfolding(crate::specs::Meaning::tags_meant))]
 pub(crate) fn tags_ask(
     alloc: Global,
-    method: &[u8],
+    method: Method,
     name: &str,
     id: &str,
     part: &str,
     body: &[u8],
 ) -> Result<Ask, Fault>
-    ensures { IsMeaning result (tags_meant method.now name.now id.now part.now body.now) }
+    ensures { IsMeaning result (tags_meant method name.now id.now part.now body.now) }
 {
-    if method == b"PUT".as_slice() {
-        return tagging_ask(alloc, name, id, part, body);
+    match method {
+        Method::Put => tagging_ask(alloc, name, id, part, body),
+        Method::Get | Method::Post | Method::Delete | Method::Other => Err(Fault::Bad(
+            Bad::BadMethod,
+        )),
     }
-    Err(Fault::Bad(Bad::NotBuilt))
 }

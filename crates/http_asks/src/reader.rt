@@ -1,5 +1,5 @@
 // The reader of the messages of a stream.
-ghost use Rattle.std.specs.Prelude.{◌≡◌, ◌≤◌, ◌<◌, ◌+◌, length, [], IfOk, IfSome, IsErrOf, Ok};
+ghost use Rattle.std.specs.Prelude.{◌≡◌, ◌≤◌, ◌<◌, ◌+◌, length, [], IfOk, IsErrOf, Ok};
 ghost use Rattle.std.specs.Io.KnownBytes.{IsAtEnd, prepend_known};
 ghost use Rattle.httparse.specs.Spans.{IsRequestWithin, span_bytes};
 ghost use Rattle.http_wire.specs.Answers.{Gave, TakesFew};
@@ -8,11 +8,10 @@ ghost use Rattle.http_wire.specs.Messages.{IsUnsettled};
 ghost use Rattle.http_wire.specs.Sources.{OnlyReads};
 ghost use Rattle.http_asks.specs.Counts.{Given, AreEnough};
 ghost use Rattle.http_wire.specs.Parts.{body_of};
-ghost use Rattle.http_asks.specs.Faults.{refused_of};
-ghost use Rattle.http_asks.specs.Hearing.{IsHeard, last_of};
-ghost use Rattle.http_asks.specs.Meaning.{Means};
-ghost use Rattle.http_asks.specs.Streams.{WantsMemory};
-ghost use Rattle.http_asks.specs.Tells.{TellsHeard, OnItem};
+ghost use Rattle.http_asks.specs.Hearing.{IsHeard};
+ghost use Rattle.http_asks.specs.Meaning.{Means, MeansOneThing};
+ghost use Rattle.http_asks.specs.Streams.{WantsMemory, HasOneItem, ItemsAreMessages};
+ghost use Rattle.http_asks.specs.Tells.{TellsHeard, OnFramed};
 
 use crate::asks::ask_of;
 use crate::bad::{Bad, Fault};
@@ -37,7 +36,7 @@ pub enum Heard {
     Bad {
         /// The rule that it breaks.
         bad: Bad,
-        /// Whether it is the last of its session, as each is that is not served.
+        /// Whether it is the last of its session, as each is whose framing is refused.
         last: bool,
     },
     /// The end of the stream.
@@ -57,18 +56,6 @@ impl Model for Reader {
     ghost Value = { Held };
 
     ghost view = { λ r. r.buffer };
-}
-
-// What is not served is the last of its session.
-#[tactic(auto, using(crate::proofs::HeardLemmas::last_told))]
-fn refusal_of(bad: Bad, last: bool) -> Heard
-    ensures { IfSome (refused_of bad) (λ broken. result ≡ Heard.Bad bad (last_of broken last)) }
-{
-    let last = match bad {
-        Bad::NotBuilt => true,
-        _ => last,
-    };
-    Heard::Bad { bad, last }
 }
 
 impl Reader {
@@ -109,12 +96,15 @@ impl Reader {
                 ask,
                 last: message.last(),
             }),
-            Err(Fault::Bad(bad)) => Ok(refusal_of(bad, message.last())),
+            Err(Fault::Bad(bad)) => Ok(Heard::Bad {
+                bad,
+                last: message.last(),
+            }),
             Err(Fault::NoMemory) => Err(NoMemory),
         }
     }
 
-    /// Reads the next message, and takes its bytes from the buffer. What the framing refuses is not served.
+    /// Reads the next message, and takes its bytes from the buffer. What the framing refuses has no end, and stays.
     ///
     /// # Errors
     ///
@@ -124,14 +114,19 @@ impl Reader {
     pub fn next<R: Source>(&mut self, alloc: Global, source: &mut R) -> Result<Heard, MessageStop>
         ensures tells { IfOk result (λ heard. TellsHeard (prepend_known self.old.bytes (R.left source.old)) heard
             (prepend_known self.new.bytes (R.left source.new))) }
+        // A message has one meaning, and one stands at the front of a stream: the first of the whole stream's.
+        ensures one_meaning { MeansOneThing }
+        ensures one_item { HasOneItem }
+        ensures of_whole { ItemsAreMessages }
         ensures given { Given self.old.taken self.new.taken (R.left source.old) (R.left source.new) }
         ensures limit { self.new.taken ≤ take_limit }
         // Whatever is answered, a head and a body at most were held and taken.
         ensures ahead { TakesFew self.old self.new }
-        // An item has at least one byte.
-        ensures uses { OnItem result (self.old.taken + length self.new.bytes < self.new.taken + length self.old.bytes) }
+        // A request has at least one byte.
+        ensures uses { OnFramed result
+            (self.old.taken + length self.new.bytes < self.new.taken + length self.old.bytes) }
         // At most so many bytes are held behind it.
-        ensures short { OnItem result (length self.new.bytes ≤ head_room) }
+        ensures short { OnFramed result (length self.new.bytes ≤ head_room) }
         // What is heard is settled by the bytes that were taken, or they are all, and fewer than the limit.
         ensures enough { IfOk result (λ _. Gave self.old self.new (R.left source.old) (R.left source.new)
             (AreEnough self.new.taken (R.left source.new))) }
@@ -158,8 +153,8 @@ impl Reader {
                 self.buffer.drop_front(message.used());
                 Ok(heard)
             }
-            Ok(Next::Refused(_)) => Ok(Heard::Bad {
-                bad: Bad::NotBuilt,
+            Ok(Next::Refused(bad)) => Ok(Heard::Bad {
+                bad: Bad::Framing(bad),
                 last: true,
             }),
             Ok(Next::End) => Ok(Heard::End),

@@ -5,6 +5,7 @@ ghost use Rattle.http_asks.specs.Meaning.{uploads_meant, upload_meant, part_mean
 
 use crate::bad::{Bad, Fault};
 use crate::bodies::{part_body, upload_body};
+use crate::method::Method;
 use crate::parts::{bucket_name, object_key, part_number, upload_number};
 use office_types::{Ask, Command, Query};
 use std::alloc::Global;
@@ -27,17 +28,19 @@ fn start_ask(alloc: Global, name: &str, part: &str, body: &[u8]) -> Result<Ask, 
 #[tactic(auto, unfolding(crate::specs::Meaning::uploads_meant))]
 pub(crate) fn uploads_ask(
     alloc: Global,
-    method: &[u8],
+    method: Method,
     name: &str,
     part: &str,
     body: &[u8],
 ) -> Result<Ask, Fault>
-    ensures { IsMeaning result (uploads_meant method.now name.now part.now body.now) }
+    ensures { IsMeaning result (uploads_meant method name.now part.now body.now) }
 {
-    if method == b"POST".as_slice() {
-        return start_ask(alloc, name, part, body);
+    match method {
+        Method::Post => start_ask(alloc, name, part, body),
+        Method::Get | Method::Put | Method::Delete | Method::Other => Err(Fault::Bad(
+            Bad::BadMethod,
+        )),
     }
-    Err(Fault::Bad(Bad::NotBuilt))
 }
 
 // The ask of a GET of an upload.
@@ -68,19 +71,15 @@ fn abort_ask(alloc: Global, name: &str, id: &str) -> Result<Ask, Fault>
 }
 
 #[tactic(auto, unfolding(crate::specs::Meaning::upload_meant))]
-pub(crate) fn upload_ask(alloc: Global, method: &[u8], name: &str, id: &str) -> Result<Ask, Fault>
-    ensures { IsMeaning result (upload_meant method.now name.now id.now) }
+pub(crate) fn upload_ask(alloc: Global, method: Method, name: &str, id: &str) -> Result<Ask, Fault>
+    ensures { IsMeaning result (upload_meant method name.now id.now) }
 {
-    if method == b"GET".as_slice() {
-        return shown_ask(alloc, name, id);
+    match method {
+        Method::Get => shown_ask(alloc, name, id),
+        Method::Post => complete_ask(alloc, name, id),
+        Method::Delete => abort_ask(alloc, name, id),
+        Method::Put | Method::Other => Err(Fault::Bad(Bad::BadMethod)),
     }
-    if method == b"POST".as_slice() {
-        return complete_ask(alloc, name, id);
-    }
-    if method == b"DELETE".as_slice() {
-        return abort_ask(alloc, name, id);
-    }
-    Err(Fault::Bad(Bad::NotBuilt))
 }
 
 // The ask of a PUT of a part.
@@ -102,16 +101,18 @@ fn put_part_ask(alloc: Global, name: &str, id: &str, part: &str, body: &[u8]) ->
 #[tactic(auto, unfolding(crate::specs::Meaning::part_meant))]
 pub(crate) fn part_ask(
     alloc: Global,
-    method: &[u8],
+    method: Method,
     name: &str,
     id: &str,
     part: &str,
     body: &[u8],
 ) -> Result<Ask, Fault>
-    ensures { IsMeaning result (part_meant method.now name.now id.now part.now body.now) }
+    ensures { IsMeaning result (part_meant method name.now id.now part.now body.now) }
 {
-    if method == b"PUT".as_slice() {
-        return put_part_ask(alloc, name, id, part, body);
+    match method {
+        Method::Put => put_part_ask(alloc, name, id, part, body),
+        Method::Get | Method::Post | Method::Delete | Method::Other => Err(Fault::Bad(
+            Bad::BadMethod,
+        )),
     }
-    Err(Fault::Bad(Bad::NotBuilt))
 }

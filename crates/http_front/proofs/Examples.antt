@@ -1,5 +1,5 @@
 -- Texts of refusals and faults, and the calls and moments among exchanges, computed.
-use Rattle.std.proofs.Common.{◌≡◌, ℕ, List, [], ◌∷◌, ◌++◌, codes, decimal, refl, ap, ◌∙◌, arith, Option, Ok, Err}
+use Rattle.std.proofs.Common.{◌≡◌, ℕ, true, false, List, [], ◌∷◌, ◌++◌, codes, decimal, refl, ap, ◌∙◌, arith, Option, Ok, Err}
 use Rattle.std.proofs.lemmas.Fmt.{decimal_digit}
 use Rattle.json.specs.Print.{escape_byte}
 use Rattle.serde_json.proofs.OnLiterals.{serde_json_on_literals}
@@ -7,9 +7,10 @@ use Rattle.office_types.specs.declared.command.Ask.{Ask}
 use Rattle.desk_core.specs.Answers.{Answer, Call}
 use Rattle.desk_core.specs.declared.fault.DeskFault.TheVariants.{StoreFault, JournalFull}
 use Rattle.http_bodies.specs.Flaws.{bad_size}
-use Rattle.http_asks.specs.Meaning.{not_a_month, bad_key, in_body, not_built}
-use Rattle.http_front.specs.Exchanges.{answered, refused, calls_of, moments_of}
-use Rattle.http_front.specs.Texts.{named_text, field_text, rule_text, damaged_text, refused_status, fault_status, bad_text, not_built_text}
+use Rattle.http_wire.specs.declared.framing.FramingRefusal.TheVariants.{BadHead, BodyTooLarge, ChunkedBody, HeadTooLarge, CutShort}
+use Rattle.http_asks.specs.Meaning.{not_a_month, bad_key, in_body, in_framing, no_route, bad_method}
+use Rattle.http_front.specs.Exchanges.{answered, refused, calls_of, moments_of, ends_unframed}
+use Rattle.http_front.specs.Texts.{named_text, field_text, rule_text, damaged_text, refused_status, fault_status, bad_text, error_reply}
 use Rattle.http_front.proofs.PrintLemmas.{two_digits, three_digits}
 
 field_told : field_text (codes "BadBody") 123 (codes "size") ≡ codes "{\"error\":\"BadBody\",\"field\":\"size\",\"number\":123}"
@@ -45,8 +46,35 @@ store_is_unavailable number count = refl
 size_is_bad_request : refused_status (in_body bad_size) ≡ 400
 size_is_bad_request = refl
 
-unserved_text : bad_text not_built ≡ not_built_text
-unserved_text = refl
+-- ---- what is told of a message that leads nowhere, or whose framing is refused
+
+nowhere : bad_text no_route ≡ error_reply 404 (codes "NoRoute") 121
+nowhere = refl
+
+not_served : bad_text bad_method ≡ error_reply 405 (codes "BadMethod") 122
+not_served = refl
+
+no_head : bad_text (in_framing BadHead) ≡ error_reply 400 (codes "BadHead") 120
+no_head = refl
+
+large_body : bad_text (in_framing BodyTooLarge) ≡ error_reply 413 (codes "BodyTooLarge") 124
+large_body = refl
+
+coded_body : bad_text (in_framing ChunkedBody) ≡ error_reply 501 (codes "ChunkedBody") 125
+coded_body = refl
+
+large_head : bad_text (in_framing HeadTooLarge) ≡ error_reply 431 (codes "HeadTooLarge") 126
+large_head = refl
+
+cut_message : bad_text (in_framing CutShort) ≡ error_reply 400 (codes "CutShort") 127
+cut_message = refl
+
+-- such a message ends the exchanges that it is the last of
+framing_ends : (call : Call) → ends_unframed (answered call ∷ refused (in_framing CutShort) ∷ []) ≡ true
+framing_ends call = refl
+
+others_do_not : (call : Call) → ends_unframed (answered call ∷ refused no_route ∷ []) ≡ false
+others_do_not call = refl
 
 -- refusals are no calls
 calls_alone : (first second : Call) → calls_of (answered first ∷ refused bad_key ∷ answered second ∷ refused not_a_month ∷ []) ≡ first ∷ second ∷ []

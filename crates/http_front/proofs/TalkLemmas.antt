@@ -16,13 +16,16 @@ use Rattle.desk_core.proofs.Serving.{rose_later}
 use Rattle.http_wire.specs.declared.source.Source as sources
 use Rattle.http_wire.specs.Answers.{Gave as GaveTo, TakesFew}
 use Rattle.http_wire.specs.Held.{Held, head_room, take_limit}
-use Rattle.http_wire.specs.Messages.{IsUnsettled}
+use Rattle.http_wire.specs.Messages.{Framed, IsUnsettled, Messages}
+use Rattle.http_wire.specs.declared.framing.FramingRefusal.{FramingRefusal}
+use Rattle.http_wire.proofs.Unique.{messages_unique}
 use Rattle.http_wire.proofs.MessageLemmas.{unsettled_front}
 use Rattle.http_asks.specs.Counts.{Given, AreEnough}
-use Rattle.http_asks.specs.Meaning.{Refused, not_built, asks, refuses}
-use Rattle.http_asks.specs.Streams.{IsItem, StandsItem, StandsUnbuilt}
+use Rattle.http_asks.specs.Meaning.{Refused, in_framing, asks, refuses}
+use Rattle.http_asks.specs.Streams.{IsItem, StandsItem, BeginWith}
+use Rattle.http_asks.proofs.HeardLemmas.{items_are_messages}
 use Rattle.http_asks.specs.Faults.{refused_of}
-use Rattle.http_asks.specs.Tells.{TellsRefused, IfServed, OnItem}
+use Rattle.http_asks.specs.Tells.{TellsRefused, IfFramed, OnFramed}
 use Rattle.http_asks.specs.declared.reader.Heard.{Heard}
 use Rattle.http_asks.specs.declared.reader.Heard.TheVariants as heards
 use Rattle.http_wire.specs.declared.message.MessageStop.{MessageStop}
@@ -30,14 +33,14 @@ use Rattle.http_wire.specs.declared.message.MessageStop.TheVariants as stops
 use Rattle.http_front.specs.declared.answering.SessionEnd.{SessionEnd}
 use Rattle.http_front.specs.declared.answering.SessionEnd.TheVariants as ends
 use Rattle.http_front.specs.Counts.{GaveBytes, total_of, IsUnder, IsSpent, IsUnspent, stream_ends, IsHeldBack, IsTakenAhead, SettlesNothing}
-use Rattle.http_front.specs.Exchanges.{Exchange, answered, refused, exchange_meant, calls_of, exchange_moment, moments_of, Goes, Hears}
+use Rattle.http_front.specs.Exchanges.{Exchange, answered, refused, exchange_meant, calls_of, exchange_moment, moments_of, is_unframed, ends_unframed, Goes, Hears, AreThen}
 use Rattle.desk_core.specs.Turns.{Moves}
-use Rattle.http_front.specs.Session.{Spoken, IsSaidWhole, AddsText, StopsUnbuilt, CutsLast, IsUnsaid, IsLong, IsWritten, EndsWithExchange, NoneLacks, LastLacks, LacksBy, Sides, sides, Session}
+use Rattle.http_front.specs.Session.{Spoken, IsSaidWhole, AddsText, CutsLast, IsUnsaid, IsLong, IsWritten, EndsWithRequest, AreOfWhole, NoneLacks, LastLacks, LacksBy, Sides, sides, Session}
 use Rattle.http_front.specs.declared.replies.Replies as sinks
 use Rattle.http_wire.specs.Sources.{OnlyReads}
 use Rattle.http_front.specs.Saying.{OnlySays, Says, SaysFront}
 use Rattle.http_front.specs.Talk.{SaysNoMemory, IsRefusedBy, AnswersOne, Talked, Went}
-use Rattle.http_front.specs.Texts.{exchange_text, text_of, bad_text, texts, not_built_text, no_memory_text}
+use Rattle.http_front.specs.Texts.{exchange_text, text_of, bad_text, texts, no_memory_text}
 
 -- ---- what was heard
 
@@ -76,6 +79,65 @@ calls_of-append (refused broken ∷ more) second = calls_of-append more second
 pub from_start : (held : List ℕ) (left : Option (List ℕ)) → held ≡ [] → prepend_known held left ≡ left
 from_start held None empty = refl
 from_start held (Some xs) empty = ap (λ (t : List ℕ). Some (t ++ xs)) empty
+
+-- ---- whose framing was refused
+
+framed-append : (first second : List Exchange) → ends_unframed first ≡ false → ends_unframed (first ++ second) ≡ ends_unframed second
+framed-append [] second none = refl
+framed-append (exchange ∷ []) [] none = none
+framed-append (exchange ∷ []) (next ∷ more) none = refl
+framed-append (exchange ∷ other ∷ first) second none = framed-append (other ∷ first) second none
+
+-- ---- the messages of the whole stream
+
+-- the first messages are the exchanges, and the others are those of the rest
+abbrev BeginAs : List Framed → List Exchange → Bool → List ℕ → Type 0
+BeginAs messages exchanges closed rest =
+    (others : List Framed) × AreThen messages exchanges others × (((closed ≡ true) × (others ≡ [])) ⊎ ((closed ≡ false) × Messages rest others))
+
+begin_one : (messages : List Framed) (exchange : Exchange) (closed : Bool) (rest : List ℕ) → BeginWith messages (exchange_meant exchange) closed rest → BeginAs messages (exchange ∷ []) closed rest
+begin_one [] exchange closed rest begin = absurd begin
+begin_one (found ∷ later) exchange closed rest (means, how) = (later, (means, refl), how)
+
+goes_whole : (stream : List ℕ) (exchanges : List Exchange) (rest : List ℕ) (closed : Bool) (messages : List Framed) → Goes stream exchanges rest closed → Messages stream messages
+    → BeginAs messages exchanges closed rest
+goes_whole stream [] rest closed messages (same, going) are = (messages, refl, inr (going, subst (λ (t : List ℕ). Messages t messages) (sym same) are))
+goes_whole stream (exchange ∷ []) rest closed messages item are =
+    begin_one messages exchange closed rest (items_are_messages stream (exchange_meant exchange) closed rest messages item are)
+goes_whole stream (exchange ∷ next ∷ more) rest closed messages (mid, item, later) are =
+    on messages (items_are_messages stream (exchange_meant exchange) false mid messages item are)
+    (λ (others : List Framed) x. goes_whole mid (next ∷ more) rest closed others later x)
+  where
+    on : (messages : List Framed) → BeginWith messages (exchange_meant exchange) false mid → ((others : List Framed) → Messages mid others → BeginAs others (next ∷ more) closed rest)
+        → BeginAs messages (exchange ∷ next ∷ more) closed rest
+    on [] begin go = absurd begin
+    on (found ∷ others) (means, inl how) go = absurd (let e = how.0 in cc)
+    on (found ∷ others) (means, inr how) go = let x = go others how.1 in (x.0, (means, x.1), x.2)
+
+none_left : (rest : List ℕ) (others : List Framed) → rest ≡ [] → Messages rest others → others ≡ []
+none_left rest others end are = messages_unique [] others [] (subst (λ (t : List ℕ). Messages t others) end are) refl
+
+others_none : (closed : Bool) (rest : List ℕ) (others : List Framed) → ((closed ≡ true) × (others ≡ [])) ⊎ ((closed ≡ false) × Messages rest others)
+    → (closed ≡ true) ⊎ IsAtEnd (Some rest) → others ≡ []
+others_none closed rest others (inl how) ended = how.1
+others_none closed rest others (inr how) (inl ended) = absurd (let e = sym ended ∙ how.0 in cc)
+others_none closed rest others (inr how) (inr ended) = none_left rest others ended how.1
+
+pub whole_of : (stream rest : Option (List ℕ)) (exchanges : List Exchange) (closed : Bool) (end : SessionEnd) → Hears stream exchanges rest closed
+    → (end ≡ ends.Ended → (closed ≡ true) ⊎ IsAtEnd rest) → AreOfWhole stream exchanges end
+whole_of None rest exchanges closed end hears ended = tt
+whole_of (Some stream) None exchanges closed end hears ended = absurd hears
+whole_of (Some stream) (Some rest) exchanges closed end hears ended = λ messages are.
+    let x = goes_whole stream exchanges rest closed messages hears are in (x.0, x.1, λ is. others_none closed rest x.0 x.2 (ended is))
+
+-- a session that is Ended is closed, or at the end of its stream
+pub ended_at : (total : Option ℕ) (end : SessionEnd) (spoken : Spoken) → IsWritten total end spoken → end ≡ ends.Ended → (spoken.closed ≡ true) ⊎ IsAtEnd spoken.rest
+ended_at total ends.Ended spoken (inl x) is = inl x.0
+ended_at total ends.Ended spoken (inr x) is = inr x.1
+ended_at total ends.ReadFault spoken x is = absurd cc
+ended_at total ends.Spent spoken x is = absurd cc
+ended_at total ends.WriteFault spoken x is = absurd cc
+ended_at total ends.NoMemory spoken x is = absurd cc
 
 -- ---- what was said
 
@@ -198,22 +260,15 @@ record Totals (whole later : Option ℕ) : Type 0 where
   spent : (rest : Option (List ℕ)) → IsSpent later rest → IsSpent whole rest
   unspent : (rest : Option (List ℕ)) → IsUnspent later rest → IsUnspent whole rest
 
-unbuilt_then : (total later : Option ℕ) → Totals total later → (first : List Exchange) (spoken : Spoken) (text : List ℕ)
-    → StopsUnbuilt later spoken text → StopsUnbuilt total (spoken_after first spoken) text
-unbuilt_then total later totals first spoken text x = (x.0, totals.unspent spoken.rest x.1, adds_then first spoken text x.2)
-
 written_then : (total later : Option ℕ) → Totals total later → (end : SessionEnd) (first : List Exchange) (spoken : Spoken)
     → NoneLacks (calls_of first) → IsWritten later end spoken → IsWritten total end (spoken_after first spoken)
 written_then total later totals ends.Ended first spoken enough (inl x) = inl (x.0, whole_then first spoken x.1)
-written_then total later totals ends.Ended first spoken enough (inr (inl x)) = inr (inl (x.0, x.1, totals.under x.2, whole_then first spoken x.3))
-written_then total later totals ends.Ended first spoken enough (inr (inr x)) = inr (inr (unbuilt_then total later totals first spoken not_built_text x))
+written_then total later totals ends.Ended first spoken enough (inr x) = inr (x.0, x.1, totals.under x.2, whole_then first spoken x.3)
 written_then total later totals ends.ReadFault first spoken enough x = (x.0, whole_then first spoken x.1)
 written_then total later totals ends.Spent first spoken enough x = (x.0, totals.spent spoken.rest x.1, whole_then first spoken x.2)
 written_then total later totals ends.WriteFault first spoken enough (inl x) = inl (cut_then first spoken x)
 written_then total later totals ends.WriteFault first spoken enough (inr (inl x)) = inr (inl (x.0, unsaid_then first spoken (take x.0 no_memory_text) x.1))
-written_then total later totals ends.WriteFault first spoken enough (inr (inr (inl x))) =
-    inr (inr (inl (x.0, unbuilt_then total later totals first spoken (take x.0 not_built_text) x.1)))
-written_then total later totals ends.WriteFault first spoken enough (inr (inr (inr x))) = inr (inr (inr (x.0, adds_then first spoken (take x.0 no_memory_text) x.1)))
+written_then total later totals ends.WriteFault first spoken enough (inr (inr x)) = inr (inr (x.0, adds_then first spoken (take x.0 no_memory_text) x.1))
 written_then total later totals ends.NoMemory first spoken enough (inl x) = inl (unsaid_then first spoken no_memory_text x)
 written_then total later totals ends.NoMemory first spoken enough (inr (inl x)) = inr (inl (lacks_then first spoken.exchanges enough x.0, whole_then first spoken x.1))
 written_then total later totals ends.NoMemory first spoken enough (inr (inr x)) =
@@ -243,16 +298,21 @@ gave_all a b la lb given none all = (given.given, omega (arith, given.counted, n
 -- ---- the exchange with which a session ends
 
 -- it is the last of the second part
-ends_later : (first : List Exchange) (spoken : Spoken) → NoneLacks (calls_of first) → EndsWithExchange (spoken_after first spoken) → EndsWithExchange spoken
-ends_later first spoken enough (inl is) = inl is
-ends_later first spoken enough (inr (inl not)) = inr (inl (λ all. not (all_then first spoken.exchanges spoken.whole all)))
-ends_later first spoken enough (inr (inr lacks)) = inr (inr (λ none. lacks (enough_then first spoken.exchanges enough none)))
+ends_how : (first : List Exchange) (spoken : Spoken) → NoneLacks (calls_of first)
+    → ((spoken.closed ≡ true) ⊎ ((first ++ spoken.whole ≡ first ++ spoken.exchanges → ⊥) ⊎ (NoneLacks (calls_of (first ++ spoken.exchanges)) → ⊥)))
+    → ((spoken.closed ≡ true) ⊎ ((spoken.whole ≡ spoken.exchanges → ⊥) ⊎ (NoneLacks (calls_of spoken.exchanges) → ⊥)))
+ends_how first spoken enough (inl is) = inl is
+ends_how first spoken enough (inr (inl not)) = inr (inl (λ all. not (all_then first spoken.exchanges spoken.whole all)))
+ends_how first spoken enough (inr (inr lacks)) = inr (inr (λ none. lacks (enough_then first spoken.exchanges enough none)))
+
+ends_later : (first : List Exchange) (spoken : Spoken) → NoneLacks (calls_of first) → ends_unframed first ≡ false → EndsWithRequest (spoken_after first spoken) → EndsWithRequest spoken
+ends_later first spoken enough framed is = (sym (framed-append first spoken.exchanges framed) ∙ is.0, ends_how first spoken enough is.1)
 
 -- there is none
-none_ends : (rest : Option (List ℕ)) (written : List ℕ) → EndsWithExchange (spoken_none rest written) → ⊥
-none_ends rest written (inl is) = absurd cc
-none_ends rest written (inr (inl not)) = not refl
-none_ends rest written (inr (inr lacks)) = lacks (All-nil IsNoLack)
+none_ends : (rest : Option (List ℕ)) (written : List ℕ) → EndsWithRequest (spoken_none rest written) → ⊥
+none_ends rest written (framed, inl is) = absurd cc
+none_ends rest written (framed, inr (inl not)) = not refl
+none_ends rest written (framed, inr (inr lacks)) = lacks (All-nil IsNoLack)
 
 no_totals : (later : Option ℕ) → Totals None later
 no_totals later = record { under = λ x. tt; spent = λ rest x. tt; unspent = λ rest x. tt }
@@ -309,6 +369,11 @@ held_ahead : (rest left : Option (List ℕ)) → IsHeldBack rest left → IsTake
 held_ahead None left held = tt
 held_ahead (Some rest) None held = absurd (let e = held.2 in cc)
 held_ahead (Some rest) (Some left) held = (held.0, omega (arith, held.1), let e = held.2 in cc)
+
+-- what is read behind a refusal: for a request what is held with it, and for a framing that is refused a message at most
+abbrev Reaches : Refused → Option ℕ → Option (List ℕ) → Option (List ℕ) → Type 0
+Reaches broken total rest left =
+    IsTakenAhead rest left × (is_unframed (refused broken) ≡ false → IsHeldBack rest left) × (is_unframed (refused broken) ≡ true → IsUnspent total rest)
 
 pub ahead_none : (left : Option (List ℕ)) → IsTakenAhead left left
 ahead_none None = tt
@@ -392,6 +457,7 @@ module _ {T W : Type 0} (moves : T → Ask → Result Answer DeskFault → T →
     said = Appends-nil (w.said at.out);
     stamped = Appends-nil (w.moments at.out);
     enough = All-nil IsNoLack;
+    framed = refl;
   }
 
   pub talked_then : (old mid new : Sides T W) (a b c : Option (List ℕ)) → Talked moves w old mid a b → Talked moves w mid new b c → Talked moves w old new a c
@@ -405,6 +471,7 @@ module _ {T W : Type 0} (moves : T → Ask → Result Answer DeskFault → T →
         said = said_then (w.said old.out) (w.said mid.out) (w.said new.out) x y first.said second.said;
         stamped = stamped_then (w.moments old.out) (w.moments mid.out) (w.moments new.out) x y first.stamped second.stamped;
         enough = enough_then x y first.enough second.enough;
+        framed = framed-append x y first.framed ∙ second.framed;
       }
 
   -- nothing was said
@@ -418,14 +485,18 @@ module _ {T W : Type 0} (moves : T → Ask → Result Answer DeskFault → T →
         let x = first.exchanges in
         let y = second.talk in
         let z = second.talk.spoken in
+        let heard = hears_then x z.exchanges a b z.rest z.closed first.heard y.heard in
+        let written = written_then total later totals end x z first.enough y.is_written in
         record {
           talk = record {
             spoken = spoken_after x z;
-            heard = hears_then x z.exchanges a b z.rest z.closed first.heard y.heard;
-            is_written = written_then total later totals end x z first.enough y.is_written;
+            heard = heard;
+            is_written = written;
             lacked = lacked_then end x z.exchanges first.enough y.lacked;
             ahead = y.ahead;
-            behind = λ is. y.behind (ends_later x z first.enough is);
+            behind = λ is. y.behind (ends_later x z first.enough first.framed is);
+            unframed = λ is. totals.unspent z.rest (y.unframed (sym (framed-append x z.exchanges first.framed) ∙ is));
+            of_whole = whole_of a z.rest (x ++ z.exchanges) z.closed end heard (ended_at total end (spoken_after x z) written);
             begun = y.begun;
           };
           moved = moved_then moves x z.exchanges old.teller mid.teller new.teller first.moved second.moved;
@@ -492,7 +563,10 @@ module _ {T W : Type 0} (moves : T → Ask → Result Answer DeskFault → T →
         is_written = is;
         lacked = lacked;
         ahead = held_ahead b remains held;
-        behind = λ is. held;
+        behind = λ _. held;
+        unframed = λ framed. absurd cc;
+        of_whole = whole_of a b (one_call ask said) last end (hears_one a b (answered (record { ask = ask; said = said })) last heard)
+            (ended_at total end (spoken_one (answered (record { ask = ask; said = said })) b last whole written) is);
         begun = λ is. absurd (other is);
       };
       moved = (new.teller, moved, refl);
@@ -521,6 +595,7 @@ module _ {T W : Type 0} (moves : T → Ask → Result Answer DeskFault → T →
           said = one_text old.out new.out exchange told.said.0;
           stamped = one_moment old.out new.out exchange told.said.1;
           enough = one_enough ask told.told told.said.2;
+          framed = refl;
         }
 
     -- its text was cut, or that of want of memory in its place
@@ -562,7 +637,7 @@ module _ {T W : Type 0} (moves : T → Ask → Result Answer DeskFault → T →
     one_refusal broken = refused broken ∷ []
 
     session_refused : (at : T) (oa ob : W) (a b : Option (List ℕ)) (total : Option ℕ) (broken : Refused) (last : Bool) (end : SessionEnd) (whole : List Exchange) (written : List ℕ)
-        → StandsItem a (refuses broken) last b → IsHeldBack b remains → Says w oa ob written → moments_of whole ≡ []
+        → StandsItem a (refuses broken) last b → Reaches broken total b remains → Says w oa ob written → moments_of whole ≡ []
         → IsWritten total end (spoken_one (refused broken) b last whole written) → LacksBy end (one_refusal broken)
         → (end ≡ ends.ReadFault → ⊥) → Session moves w (sides at oa) (sides at ob) (stream_ends a remains) total end
     session_refused at oa ob a b total broken last end whole written heard held says none is lacked other = record {
@@ -571,8 +646,10 @@ module _ {T W : Type 0} (moves : T → Ask → Result Answer DeskFault → T →
         heard = hears_one a b (refused broken) last heard;
         is_written = is;
         lacked = lacked;
-        ahead = held_ahead b remains held;
-        behind = λ is. held;
+        ahead = held.0;
+        behind = λ framed. held.1 framed.0;
+        unframed = held.2;
+        of_whole = whole_of a b (one_refusal broken) last end (hears_one a b (refused broken) last heard) (ended_at total end (spoken_one (refused broken) b last whole written) is);
         begun = λ is. absurd (other is);
       };
       moved = refl;
@@ -586,21 +663,22 @@ module _ {T W : Type 0} (moves : T → Ask → Result Answer DeskFault → T →
 
     -- it was answered, and the session goes on unless it was the last
     refused_on : (at : T) (oa ob : W) (a b : Option (List ℕ)) (total : Option ℕ) (broken : Refused) (last : Bool) (done result : Result Unit SessionEnd) → IsOk done → IsRefusedBy w oa ob broken done
-        → StandsItem a (refuses broken) last b → IsHeldBack b remains → (last ≡ false → IsOk result)
+        → StandsItem a (refuses broken) last b → Reaches broken total b remains → is_unframed (refused broken) ≡ false → (last ≡ false → IsOk result)
         → (last ≡ true → result ≡ Err ends.Ended) → Went moves w (sides at oa) (sides at ob) (stream_ends a remains) b total result
-    refused_on at oa ob a b total broken last (Err e) result ok told heard held goes stops = absurd cc
-    refused_on at oa ob a b total broken true (Ok x) result ok told heard held goes stops =
+    refused_on at oa ob a b total broken last (Err e) result ok told heard held framed goes stops = absurd cc
+    refused_on at oa ob a b total broken true (Ok x) result ok told heard held framed goes stops =
         subst (Went moves w (sides at oa) (sides at ob) (stream_ends a remains) b total) (sym (stops refl))
         (session_refused at oa ob a b total broken true ends.Ended (one_refusal broken) (texts (one_refusal broken)) heard held (refusal_says oa ob broken told) refl
         (inl (refl, record { whole = refl; written = refl })) (All-nil IsNoLack) (λ is. absurd cc))
-    refused_on at oa ob a b total broken false (Ok x) (Err e) ok told heard held goes stops = absurd (let e = goes refl in cc)
-    refused_on at oa ob a b total broken false (Ok x) (Ok y) ok told heard held goes stops = record {
+    refused_on at oa ob a b total broken false (Ok x) (Err e) ok told heard held framed goes stops = absurd (let e = goes refl in cc)
+    refused_on at oa ob a b total broken false (Ok x) (Ok y) ok told heard held framed goes stops = record {
       exchanges = one_refusal broken;
       moved = refl;
       heard = hears_one a b (refused broken) false heard;
       said = one_text oa ob (refused broken) told.said;
       stamped = no_moment oa ob told.moments;
       enough = All-nil IsNoLack;
+      framed = framed;
     }
 
     -- nothing was answered
@@ -613,7 +691,9 @@ module _ {T W : Type 0} (moves : T → Ask → Result Answer DeskFault → T →
         is_written = is;
         lacked = lacked;
         ahead = ahead;
-        behind = λ is. absurd (none_ends a written is);
+        behind = λ ends. absurd (none_ends a written ends);
+        unframed = λ framed. absurd cc;
+        of_whole = whole_of a a [] false end (hears_none a) (ended_at total end (spoken_none a written) is);
         begun = begun;
       };
       moved = refl;
@@ -627,14 +707,14 @@ module _ {T W : Type 0} (moves : T → Ask → Result Answer DeskFault → T →
     last_words at oa ob a total ends.NoMemory says ahead =
         session_here at oa ob a total ends.NoMemory no_memory_text says (inr (inr (All-nil IsNoLack, adds_none a no_memory_text))) (inl (All-nil IsNoLack)) ahead (λ is. absurd cc)
     last_words at oa ob a total ends.WriteFault (n, says) ahead =
-        session_here at oa ob a total ends.WriteFault (take n no_memory_text) says (inr (inr (inr (n, adds_none a (take n no_memory_text))))) (inl (All-nil IsNoLack)) ahead (λ is. absurd cc)
+        session_here at oa ob a total ends.WriteFault (take n no_memory_text) says (inr (inr (n, adds_none a (take n no_memory_text)))) (inl (All-nil IsNoLack)) ahead (λ is. absurd cc)
     last_words at oa ob a total ends.Ended says ahead = absurd says
     last_words at oa ob a total ends.ReadFault says ahead = absurd says
     last_words at oa ob a total ends.Spent says ahead = absurd says
 
     -- its text was cut, or there was no memory for it
     refused_end : (at : T) (oa ob : W) (a b : Option (List ℕ)) (total : Option ℕ) (broken : Refused) (last : Bool) (end : SessionEnd) → IsRefusedBy w oa ob broken (Err end)
-        → StandsItem a (refuses broken) last b → IsTakenAhead a remains → IsHeldBack b remains → Session moves w (sides at oa) (sides at ob) (stream_ends a remains) total end
+        → StandsItem a (refuses broken) last b → IsTakenAhead a remains → Reaches broken total b remains → Session moves w (sides at oa) (sides at ob) (stream_ends a remains) total end
     refused_end at oa ob a b total broken last ends.WriteFault (inl x) heard ahead held =
         session_refused at oa ob a b total broken last ends.WriteFault [] (take x.0 (bad_text broken)) heard held x.1 refl
         (inl (record { last = refused broken; n = x.0; are = refl; is = refl })) (inl (All-nil IsNoLack)) (λ is. absurd cc)
@@ -646,40 +726,34 @@ module _ {T W : Type 0} (moves : T → Ask → Result Answer DeskFault → T →
 
     -- ---- the end of a session
 
-    -- what stands there is not served, and it was answered
-    unbuilt_on : (at : T) (oa ob : W) (a b : Option (List ℕ)) (total : Option ℕ) (last : Bool) (done result : Result Unit SessionEnd) → IsOk done → IsRefusedBy w oa ob not_built done
-        → StandsUnbuilt a × (last ≡ true) → IsUnspent total a → IsTakenAhead a remains → (last ≡ true → result ≡ Err ends.Ended)
-        → Went moves w (sides at oa) (sides at ob) (stream_ends a remains) b total result
-    unbuilt_on at oa ob a b total last (Err e) result ok says stands within ahead stops = absurd cc
-    unbuilt_on at oa ob a b total last (Ok x) result ok says stands within ahead stops =
+    -- its framing is refused, and it was answered
+    unframed_on : (at : T) (oa ob : W) (a b : Option (List ℕ)) (total : Option ℕ) (bad : FramingRefusal) (last : Bool) (done result : Result Unit SessionEnd) → IsOk done
+        → IsRefusedBy w oa ob (in_framing bad) done → StandsItem a (refuses (in_framing bad)) last a × (last ≡ true) → IsUnspent total a → IsTakenAhead a remains
+        → (last ≡ true → result ≡ Err ends.Ended) → Went moves w (sides at oa) (sides at ob) (stream_ends a remains) b total result
+    unframed_on at oa ob a b total bad last (Err e) result ok told stands within ahead stops = absurd cc
+    unframed_on at oa ob a b total bad last (Ok x) result ok told stands within ahead stops =
         subst (Went moves w (sides at oa) (sides at ob) (stream_ends a remains) b total) (sym (stops stands.1))
-        (session_here at oa ob a total ends.Ended not_built_text says (inr (inr (stands.0, within, adds_none a not_built_text))) (All-nil IsNoLack) ahead (λ is. absurd cc))
-
-    unbuilt_end : (at : T) (oa ob : W) (a : Option (List ℕ)) (total : Option ℕ) (end : SessionEnd)
-        → IsRefusedBy w oa ob not_built (Err end) → StandsUnbuilt a → IsUnspent total a → IsTakenAhead a remains
-        → Session moves w (sides at oa) (sides at ob) (stream_ends a remains) total end
-    unbuilt_end at oa ob a total ends.WriteFault (inl x) stands within ahead =
-        session_here at oa ob a total ends.WriteFault (take x.0 not_built_text) x.1 (inr (inr (inl (x.0, (stands, within, adds_none a (take x.0 not_built_text))))))
-        (inl (All-nil IsNoLack)) ahead (λ is. absurd cc)
-    unbuilt_end at oa ob a total ends.WriteFault (inr x) stands within ahead = last_words at oa ob a total ends.WriteFault x ahead
-    unbuilt_end at oa ob a total ends.NoMemory says stands within ahead = last_words at oa ob a total ends.NoMemory says ahead
-    unbuilt_end at oa ob a total ends.Ended says stands within ahead = absurd says
-    unbuilt_end at oa ob a total ends.ReadFault says stands within ahead = absurd says
-    unbuilt_end at oa ob a total ends.Spent says stands within ahead = absurd says
+        (session_refused at oa ob a a total (in_framing bad) last ends.Ended (one_refusal (in_framing bad)) (texts (one_refusal (in_framing bad))) stands.0
+        (ahead, λ framed. absurd cc, λ _. within) (refusal_says oa ob (in_framing bad) told) refl
+        (inl (stands.1, record { whole = refl; written = refl })) (All-nil IsNoLack) (λ is. absurd cc))
 
     -- a message that asks nothing was answered
     pub bad_on : (at : T) (oa ob : W) (a b : Option (List ℕ)) (total : Option ℕ) (broken : Refused) (last : Bool) (done result : Result Unit SessionEnd) → IsOk done → IsRefusedBy w oa ob broken done
-        → TellsRefused a broken last b → IsUnspent total a → IsTakenAhead a remains → IfServed broken (IsHeldBack b remains)
+        → TellsRefused a broken last b → IsUnspent total a → IsTakenAhead a remains → IfFramed broken (IsHeldBack b remains)
         → (last ≡ false → IsOk result) → (last ≡ true → result ≡ Err ends.Ended)
         → Went moves w (sides at oa) (sides at ob) (stream_ends a remains) b total result
-    bad_on at oa ob a b total not_built last done result ok says tells within ahead held goes stops = unbuilt_on at oa ob a b total last done result ok says tells within ahead stops
-    bad_on at oa ob a b total broken last done result ok says tells within ahead held goes stops = refused_on at oa ob a b total broken last done result ok says tells held goes stops
+    bad_on at oa ob a b total (in_framing bad) last done result ok says tells within ahead held goes stops =
+        unframed_on at oa ob a b total bad last done result ok says tells within ahead stops
+    bad_on at oa ob a b total broken last done result ok says tells within ahead held goes stops =
+        refused_on at oa ob a b total broken last done result ok says tells (held_ahead b remains held, λ _. held, λ framed. absurd cc) refl goes stops
 
     pub bad_end : (at : T) (oa ob : W) (a b : Option (List ℕ)) (total : Option ℕ) (broken : Refused) (last : Bool) (end : SessionEnd) → IsRefusedBy w oa ob broken (Err end)
-        → TellsRefused a broken last b → IsUnspent total a → IsTakenAhead a remains → IfServed broken (IsHeldBack b remains)
+        → TellsRefused a broken last b → IsUnspent total a → IsTakenAhead a remains → IfFramed broken (IsHeldBack b remains)
         → Session moves w (sides at oa) (sides at ob) (stream_ends a remains) total end
-    bad_end at oa ob a b total not_built last end says tells within ahead held = unbuilt_end at oa ob a total end says tells.0 within ahead
-    bad_end at oa ob a b total broken last end says tells within ahead held = refused_end at oa ob a b total broken last end says tells ahead held
+    bad_end at oa ob a b total (in_framing bad) last end says tells within ahead held =
+        refused_end at oa ob a a total (in_framing bad) last end says tells.0 ahead (ahead, λ framed. absurd cc, λ _. within)
+    bad_end at oa ob a b total broken last end says tells within ahead held =
+        refused_end at oa ob a b total broken last end says tells ahead (held_ahead b remains held, λ _. held, λ framed. absurd cc)
 
     -- nothing was said
     silent : (at : T) (oa ob : W) (a : Option (List ℕ)) (total : Option ℕ) (end kind : SessionEnd) → (end ≡ kind) × (ob ≡ oa) → IsWritten total kind (spoken_none a []) → LacksBy kind []
@@ -711,21 +785,21 @@ module _ {T W : Type 0} (moves : T → Ask → Result Answer DeskFault → T →
     went_end old new a b total (Ok x) went = tt
     went_end old new a b total (Err end) went = went
 
-held_if : (broken : Refused) (P Q : Type 0) → (P → Q) → IfServed broken P → IfServed broken Q
-held_if not_built P Q f p = tt
+held_if : (broken : Refused) (P Q : Type 0) → (P → Q) → IfFramed broken P → IfFramed broken Q
+held_if (in_framing bad) P Q f p = tt
 held_if broken P Q f p = f p
 
 -- what is held behind an item
-pub held_back : (heard : Heard) (now : Held) (left : Option (List ℕ)) → OnItem {E = MessageStop} (Ok heard) (length now.bytes ≤ head_room)
-    → OnItem {E = MessageStop} (Ok heard) (IsHeldBack (prepend_known now.bytes left) left)
+pub held_back : (heard : Heard) (now : Held) (left : Option (List ℕ)) → OnFramed {E = MessageStop} (Ok heard) (length now.bytes ≤ head_room)
+    → OnFramed {E = MessageStop} (Ok heard) (IsHeldBack (prepend_known now.bytes left) left)
 held_back (heards.Asked ask last) now left short = (now.bytes, short, refl)
 held_back (heards.Bad bad last) now left short =
     IfSome_then (refused_of bad) short (λ (broken : Refused). held_if broken (length now.bytes ≤ head_room) (IsHeldBack (prepend_known now.bytes left) left) (λ few. (now.bytes, few, refl)))
 held_back heards.End now left short = tt
 
 -- a refusal after which the session goes on was an item
-pub item_refused : (a b : Option (List ℕ)) (broken : Refused) (last : Bool) (result : Result Unit SessionEnd) (P : Type 0) → TellsRefused a broken last b → IfServed broken P
+pub item_refused : (a b : Option (List ℕ)) (broken : Refused) (last : Bool) (result : Result Unit SessionEnd) (P : Type 0) → TellsRefused a broken last b → IfFramed broken P
     → (last ≡ true → result ≡ Err ends.Ended) → OnOk result P
 item_refused a b broken last (Err e) P tells item stops = tt
-item_refused a b not_built last (Ok x) P tells item stops = absurd (let e = stops tells.1 in cc)
+item_refused a b (in_framing bad) last (Ok x) P tells item stops = absurd (let e = stops tells.1 in cc)
 item_refused a b broken last (Ok x) P tells item stops = item

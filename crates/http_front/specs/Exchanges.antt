@@ -1,10 +1,11 @@
 -- The messages of a session, each with what came of it, and where they stand in the stream.
-use Rattle.std.specs.Prelude.{◌≡◌, ℕ, Bool, false, List, [], ◌∷◌, Option, Some, None, Result, Ok, Err, ⊤}
+use Rattle.std.specs.Prelude.{◌≡◌, ℕ, Bool, true, false, List, [], ◌∷◌, Option, Some, None, Result, Ok, Err, ⊤}
 use Rattle.std.specs.List.{flat_map}
 use Rattle.desk_core.specs.Answers.{Answer, Call}
 use Rattle.desk_core.specs.declared.fault.DeskFault.{DeskFault}
-use Rattle.http_asks.specs.Meaning.{Refused, Meant, asks, refuses}
-use Rattle.http_asks.specs.Streams.{IsItem}
+use Rattle.http_wire.specs.Messages.{Framed}
+use Rattle.http_asks.specs.Meaning.{Refused, in_framing, Meant, asks, refuses}
+use Rattle.http_asks.specs.Streams.{IsMeantBy, IsItem}
 
 -- a message that was asked, with what was said to it, or a message that was refused
 pub data Exchange : Type 0 where
@@ -36,6 +37,18 @@ exchange_moment (refused broken) = []
 abbrev pub moments_of : List Exchange → List ℕ
 moments_of exchanges = flat_map exchange_moment exchanges
 
+-- the message was refused for its framing
+abbrev pub is_unframed : Exchange → Bool
+is_unframed (answered call) = false
+is_unframed (refused (in_framing bad)) = true
+is_unframed (refused broken) = false
+
+-- the last of them was
+abbrev pub ends_unframed : List Exchange → Bool
+ends_unframed [] = false
+ends_unframed (exchange ∷ []) = is_unframed exchange
+ends_unframed (exchange ∷ next ∷ more) = ends_unframed (next ∷ more)
+
 -- From the stream on these messages stand one after another, and rest is left. Only the last one may be the last of its
 -- session, which is then closed.
 abbrev pub Goes : List ℕ → List Exchange → List ℕ → Bool → Type 0
@@ -44,7 +57,14 @@ Goes stream (exchange ∷ []) rest closed = IsItem stream (exchange_meant exchan
 Goes stream (exchange ∷ next ∷ more) rest closed =
     (mid : List ℕ) × IsItem stream (exchange_meant exchange) false mid × Goes mid (next ∷ more) rest closed
 
--- the same of a stream that may not be told
+-- the first of these messages are those that were exchanged, in order, and the others follow
+abbrev pub AreThen : List Framed → List Exchange → List Framed → Type 0
+AreThen messages [] others = messages ≡ others
+AreThen [] (exchange ∷ more) others = ⊥
+AreThen (found ∷ messages) (exchange ∷ more) others =
+    IsMeantBy found (exchange_meant exchange) × AreThen messages more others
+
+-- from a stream on that may not be told these messages stand one after another, and rest is left
 abbrev pub Hears : Option (List ℕ) → List Exchange → Option (List ℕ) → Bool → Type 0
 Hears None exchanges rest closed = ⊤
 Hears (Some stream) exchanges None closed = ⊥

@@ -1,6 +1,6 @@
 -- What a session does: its exchanges are the messages of the stream in order, and what was said are their texts.
 use Rattle.std.specs.Prelude.{◌≡◌, ◌⊎◌, ℕ, Bool, true, false, List, [], ◌∷◌, ◌++◌, take, All}
-use Rattle.std.specs.Prelude.{Option, Result, Ok, Err}
+use Rattle.std.specs.Prelude.{Option, Some, None, Result, Ok, Err, ⊤}
 use Rattle.std.specs.Io.KnownBytes.{Appends, IsAtEnd}
 use Rattle.office_types.specs.declared.command.Ask.{Ask}
 use Rattle.desk_core.specs.Answers.{Answer, Call}
@@ -8,13 +8,13 @@ use Rattle.desk_core.specs.Turns.{Moves}
 use Rattle.desk_core.specs.declared.fault.DeskFault.{DeskFault}
 use Rattle.desk_core.specs.declared.fault.DeskFault.TheVariants.{NoMemory}
 use Rattle.http_text.specs.Shorts.{IsShort}
-use Rattle.http_asks.specs.Streams.{StandsUnbuilt}
+use Rattle.http_wire.specs.Messages.{Framed, Messages}
 use Rattle.http_front.specs.declared.answering.SessionEnd.{SessionEnd}
 use Rattle.http_front.specs.declared.answering.SessionEnd.TheVariants as ends
 use Rattle.http_front.specs.declared.replies.Replies as sinks
 use Rattle.http_front.specs.Counts.{IsUnder, IsSpent, IsUnspent, StreamEnds, IsHeldBack, IsTakenAhead, SettlesNothing}
-use Rattle.http_front.specs.Exchanges.{Exchange, answered, calls_of, moments_of, Hears}
-use Rattle.http_front.specs.Texts.{exchange_text, texts, not_built_text, no_memory_text}
+use Rattle.http_front.specs.Exchanges.{Exchange, answered, calls_of, moments_of, ends_unframed, Hears, AreThen}
+use Rattle.http_front.specs.Texts.{exchange_text, texts, no_memory_text}
 
 -- ---- what the calls were told
 
@@ -76,10 +76,6 @@ EndsClosed spoken = (spoken.closed ≡ true) × IsSaidWhole spoken
 abbrev pub EndsWithStream : Option ℕ → Spoken → Type 0
 EndsWithStream total spoken = (spoken.closed ≡ false) × IsAtEnd spoken.rest × IsUnder total × IsSaidWhole spoken
 
--- a message that is not served stands behind the exchanges, and this text was said of it
-abbrev pub StopsUnbuilt : Option ℕ → Spoken → List ℕ → Type 0
-StopsUnbuilt total spoken text = StandsUnbuilt spoken.rest × IsUnspent total spoken.rest × AddsText spoken text
-
 -- a further message was sought and not read, and nothing was said of it
 abbrev pub StopsUnread : Spoken → Type 0
 StopsUnread spoken = (spoken.closed ≡ false) × IsSaidWhole spoken
@@ -107,10 +103,6 @@ pub record IsUnsaid (spoken : Spoken) (instead : List ℕ) : Type 0 where
 abbrev pub CutsUnsaid : Spoken → Type 0
 CutsUnsaid spoken = (n : ℕ) × IsUnsaid spoken (take n no_memory_text)
 
--- a message that is not served stands behind the exchanges, and a front of its text was said
-abbrev pub CutsUnbuilt : Option ℕ → Spoken → Type 0
-CutsUnbuilt total spoken = (n : ℕ) × StopsUnbuilt total spoken (take n not_built_text)
-
 -- memory ran out for a further message, and a front of the text that says so was said
 abbrev pub CutsLack : Spoken → Type 0
 CutsLack spoken = (n : ℕ) × AddsText spoken (take n no_memory_text)
@@ -127,22 +119,29 @@ LacksAtMessage spoken = NoneLacks (calls_of spoken.exchanges) × AddsText spoken
 -- whole, but for a last one that is cut or lacks memory for its text. Where it is closed, nothing is heard or said
 -- behind its last exchange.
 abbrev pub IsWritten : Option ℕ → SessionEnd → Spoken → Type 0
-IsWritten total ends.Ended spoken =
-    EndsClosed spoken ⊎ (EndsWithStream total spoken ⊎ StopsUnbuilt total spoken not_built_text)
+IsWritten total ends.Ended spoken = EndsClosed spoken ⊎ EndsWithStream total spoken
 IsWritten total ends.ReadFault spoken = StopsUnread spoken
 IsWritten total ends.Spent spoken = StopsSpent total spoken
-IsWritten total ends.WriteFault spoken =
-    CutsLast spoken ⊎ (CutsUnsaid spoken ⊎ (CutsUnbuilt total spoken ⊎ CutsLack spoken))
+IsWritten total ends.WriteFault spoken = CutsLast spoken ⊎ (CutsUnsaid spoken ⊎ CutsLack spoken)
 IsWritten total ends.NoMemory spoken =
     IsUnsaid spoken no_memory_text ⊎ (LacksAtAnswer spoken ⊎ LacksAtMessage spoken)
 
 -- ---- a session
 
--- The session ends with its last exchange: that closes it, or not all exchanges were said whole, or memory ran out for
--- an answer. Else it ends where a further message is sought.
-abbrev pub EndsWithExchange : Spoken → Type 0
-EndsWithExchange spoken =
-    (spoken.closed ≡ true) ⊎ ((spoken.whole ≡ spoken.exchanges → ⊥) ⊎ (NoneLacks (calls_of spoken.exchanges) → ⊥))
+-- The session ends with its last exchange, a request: that closes it, or not all exchanges were said whole, or memory
+-- ran out for an answer. Else it ends where a further message is sought, or with one whose end is not known.
+abbrev pub EndsWithRequest : Spoken → Type 0
+EndsWithRequest spoken =
+    (ends_unframed spoken.exchanges ≡ false)
+    × ((spoken.closed ≡ true)
+    ⊎ ((spoken.whole ≡ spoken.exchanges → ⊥) ⊎ (NoneLacks (calls_of spoken.exchanges) → ⊥)))
+
+-- the exchanges are the first messages of the whole stream, in order, and they are all where the session is Ended
+abbrev pub AreOfWhole : Option (List ℕ) → List Exchange → SessionEnd → Type 0
+AreOfWhole None exchanges end = ⊤
+AreOfWhole (Some stream) exchanges end =
+    (messages : List Framed) → Messages stream messages
+    → (others : List Framed) × AreThen messages exchanges others × (end ≡ ends.Ended → others ≡ [])
 
 -- The transcript of a session over what was read, of a source with so many bytes in all: what was spoken, and that it
 -- was heard in the stream and written.
@@ -153,8 +152,12 @@ pub record Transcript (total : Option ℕ) (read : StreamEnds) (end : SessionEnd
   pub lacked : LacksBy end spoken.exchanges
   -- behind the last exchange at most one message is read, with what is held behind it
   pub ahead : IsTakenAhead spoken.rest read.left
-  -- behind an exchange with which it ends nothing is read but what was held with it
-  pub behind : EndsWithExchange spoken → IsHeldBack spoken.rest read.left
+  -- behind a request with which it ends nothing is read but what was held with it
+  pub behind : EndsWithRequest spoken → IsHeldBack spoken.rest read.left
+  -- where a framing was refused, not as many bytes as the limit were taken, or they settle that
+  pub unframed : ends_unframed spoken.exchanges ≡ true → IsUnspent total spoken.rest
+  -- in the messages of the whole stream
+  pub of_whole : AreOfWhole read.stream spoken.exchanges end
   -- where the source failed, each message that had come whole is an exchange
   pub begun : end ≡ ends.ReadFault → SettlesNothing spoken.rest read.left
 

@@ -11,7 +11,7 @@ use Rattle.http_front.specs.declared.answering.SessionEnd.{SessionEnd}
 use Rattle.http_front.specs.declared.answering.SessionEnd.TheVariants as ends
 use Rattle.http_front.specs.declared.replies.Replies as sinks
 use Rattle.http_front.specs.Counts.{StreamEnds}
-use Rattle.http_front.specs.Exchanges.{Exchange, calls_of, moment_of, moments_of, Hears}
+use Rattle.http_front.specs.Exchanges.{Exchange, calls_of, moment_of, moments_of, ends_unframed, Hears}
 use Rattle.http_front.specs.Saying.{Says, SaysFront}
 use Rattle.http_front.specs.Session.{IsLong, NoneLacks, Sides, Session}
 use Rattle.http_front.specs.Texts.{text_of, bad_text, no_memory_text, texts}
@@ -66,6 +66,7 @@ module _ {T W : Type 0} (moves : T → Ask → Result Answer DeskFault → T →
     pub said : Appends (w.said old.out) (w.said new.out) (texts exchanges)
     pub stamped : Appends (w.moments old.out) (w.moments new.out) (moments_of exchanges)
     pub enough : NoneLacks (calls_of exchanges)
+    pub framed : ends_unframed exchanges ≡ false
 
   -- how a message went: the session goes on, or it ends
   abbrev pub Went : Sides T W → Sides T W → StreamEnds → Option (List ℕ) → Option ℕ → Result Unit SessionEnd → Type 0

@@ -17,7 +17,9 @@ use Rattle.http_bodies.specs.Flaws.{BodyFlaw, bad_body, bad_size, unsupported_cl
 use Rattle.http_text.specs.Replies.{whole_data, error_data, error_text, reply_with, answer_text}
 use Rattle.http_asks.specs.Faults.{refused_of}
 use Rattle.http_asks.specs.Meaning.{Refused, not_a_month, bad_bucket_name, bad_key, no_such_version, no_such_upload}
-use Rattle.http_asks.specs.Meaning.{bad_part, in_body, in_rules, in_tariff, not_built}
+use Rattle.http_asks.specs.Meaning.{bad_part, in_body, in_rules, in_tariff, in_framing, no_route, bad_method}
+use Rattle.http_wire.specs.declared.framing.FramingRefusal.{FramingRefusal}
+use Rattle.http_wire.specs.declared.framing.FramingRefusal.TheVariants as framings
 use Rattle.meter_journal.specs.declared.fault.OpenFault.{OpenFault}
 use Rattle.meter_journal.specs.declared.fault.OpenFault.TheVariants as opening
 use Rattle.desk_core.specs.Answers.{Answer}
@@ -34,10 +36,6 @@ error_reply status name number = reply_with status (error_text name number)
 -- the text of want of memory
 abbrev pub no_memory_text : List ℕ
 no_memory_text = error_reply 500 (codes "NoMemory") 115
-
--- the text of a message that is not served
-abbrev pub not_built_text : List ℕ
-not_built_text = error_reply 501 (codes "NotBuilt") 119
 
 -- ---- a message that is refused
 
@@ -120,8 +118,19 @@ tariff_flaw_body (tariffs.missing_class table class) = price_text (codes "Missin
 tariff_flaw_body (tariffs.bad_price table class) = price_text (codes "BadPrice") 72 table class
 tariff_flaw_body (tariffs.unknown_field name) = named_text (codes "UnknownField") 73 name
 
+-- the body of the refusal of a message for its framing
+abbrev pub framing_body : FramingRefusal → List ℕ
+framing_body framings.BadHead = error_text (codes "BadHead") 120
+framing_body framings.BodyTooLarge = error_text (codes "BodyTooLarge") 124
+framing_body framings.ChunkedBody = error_text (codes "ChunkedBody") 125
+framing_body framings.HeadTooLarge = error_text (codes "HeadTooLarge") 126
+framing_body framings.CutShort = error_text (codes "CutShort") 127
+
 -- the body of any refusal
 abbrev pub refused_body : Refused → List ℕ
+refused_body (in_framing bad) = framing_body bad
+refused_body no_route = error_text (codes "NoRoute") 121
+refused_body bad_method = error_text (codes "BadMethod") 122
 refused_body not_a_month = error_text (codes "NotAMonth") 4
 refused_body bad_bucket_name = error_text (codes "BadBucketName") 10
 refused_body bad_key = error_text (codes "BadKey") 11
@@ -131,14 +140,24 @@ refused_body bad_part = error_text (codes "BadPart") 61
 refused_body (in_body flaw) = flaw_body flaw
 refused_body (in_rules fault) = rules_fault_body fault
 refused_body (in_tariff flaw) = tariff_flaw_body flaw
-refused_body not_built = error_text (codes "NotBuilt") 119
 
--- Not Found, Conflict, Not Implemented, or Bad Request (RFC 9110, "Status Codes")
+-- Bad Request, Payload Too Large, Not Implemented (RFC 9110, "Status Codes"), or Request Header Fields Too Large (RFC
+-- 6585)
+abbrev pub framing_status : FramingRefusal → ℕ
+framing_status framings.BadHead = 400
+framing_status framings.BodyTooLarge = 413
+framing_status framings.ChunkedBody = 501
+framing_status framings.HeadTooLarge = 431
+framing_status framings.CutShort = 400
+
+-- Not Found, Method Not Allowed, Conflict, or Bad Request (RFC 9110, "Status Codes")
 abbrev pub refused_status : Refused → ℕ
+refused_status (in_framing bad) = framing_status bad
+refused_status no_route = 404
+refused_status bad_method = 405
 refused_status no_such_version = 404
 refused_status no_such_upload = 404
 refused_status bad_part = 409
-refused_status not_built = 501
 refused_status other = 400
 
 -- the text of a refusal

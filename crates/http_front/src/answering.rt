@@ -8,7 +8,7 @@ ghost use Rattle.http_wire.specs.Sources.{OnlyReads};
 ghost use Rattle.http_text.specs.Shorts.{IsShort};
 ghost use Rattle.http_asks.specs.Counts.{Given};
 ghost use Rattle.http_asks.specs.Faults.{refused_of};
-ghost use Rattle.http_asks.specs.Tells.{TellsHeard, OnItem};
+ghost use Rattle.http_asks.specs.Tells.{TellsHeard, OnFramed};
 ghost use Rattle.http_front.specs.Counts.{IsUnder, IsUnspent, IsHeldBack, IsTakenAhead, stream_ends, total_of};
 ghost use Rattle.http_front.specs.Saying.{OnlySays, Says, SaysFront};
 ghost use Rattle.http_front.specs.Session.{sides, Session};
@@ -212,11 +212,11 @@ fn answer_heard<W: Replies, T: Teller>(
     requires room { 16384 ≤ length room.old }
     ensures went { (stream rest left : Option (List ℕ)) (total : Option ℕ) → TellsHeard stream heard rest
         → (heard ≡ Heard.End → IsUnder total) → IsUnspent total stream
-        → IsTakenAhead stream left → OnItem {E = MessageStop} (Ok heard) (IsHeldBack rest left)
+        → IsTakenAhead stream left → OnFramed {E = MessageStop} (Ok heard) (IsHeldBack rest left)
         → Went T.moves W.Replies (sides teller.old out.old) (sides teller.new out.new)
         (stream_ends stream left) rest total result }
     ensures item { (stream rest : Option (List ℕ)) (few many : ℕ) → TellsHeard stream heard rest
-        → OnItem {E = MessageStop} (Ok heard) (few < many) → OnOk result (few < many) }
+        → OnFramed {E = MessageStop} (Ok heard) (few < many) → OnOk result (few < many) }
     ensures room { 16384 ≤ length room.new }
     ensures only_says { OnlySays W.Replies out.old out.new (IsErrOf result SessionEnd.WriteFault) }
     ensures not_read { IsErrOf result SessionEnd.ReadFault → ⊥ }

@@ -15,7 +15,7 @@ mod writer_replies;
 
 pub use answering::SessionEnd;
 pub use bad::Bad;
-pub use http_asks::{Heard, Reader};
+pub use http_asks::{Buffer, FramingRefusal, Heard, MessageStop, Reader};
 pub use http_wire::{MemorySource, ReaderSource, Source};
 pub use memory_replies::MemoryReplies;
 pub use printing::{NoRoom, print_fault, print_query, print_reply};

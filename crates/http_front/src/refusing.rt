@@ -7,6 +7,7 @@ ghost use Rattle.rules_json.specs.Faults.{told_fault};
 ghost use Rattle.tariff.specs.Faults.{tariff_flaw_of};
 ghost use Rattle.http_text.specs.Replies.{head_text};
 ghost use Rattle.http_text.specs.Room.{Puts};
+ghost use Rattle.http_front.specs.Texts.{framing_body, framing_status};
 ghost use Rattle.http_front.specs.Texts.{bad_text_of, told_body, told_status, told_text};
 ghost use Rattle.http_front.specs.Texts.{field_text, flaw_name, flaw_number, named_text, price_text, rule_text};
 
@@ -14,6 +15,7 @@ use crate::bad::Bad;
 use crate::printing::print_call;
 use class_rules::Class;
 use http::StatusCode;
+use http_asks::FramingRefusal;
 use http_bodies::BodyFault;
 use http_text::{put, put_error, put_head, put_number, put_quoted};
 use office_base::NoMemory;
@@ -22,12 +24,26 @@ use rules_json::RulesFault;
 use std::alloc::Global;
 use tariff::{TariffFault, TariffTable};
 
+fn framing_status(refusal: FramingRefusal) -> StatusCode
+    ensures { result ≡ framing_status refusal }
+{
+    match refusal {
+        FramingRefusal::BadHead | FramingRefusal::CutShort => StatusCode::BAD_REQUEST,
+        FramingRefusal::BodyTooLarge => StatusCode::PAYLOAD_TOO_LARGE,
+        FramingRefusal::ChunkedBody => StatusCode::NOT_IMPLEMENTED,
+        FramingRefusal::HeadTooLarge => StatusCode::REQUEST_HEADER_FIELDS_TOO_LARGE,
+    }
+}
+
 #[tactic(auto, using(crate::proofs::RefusalLemmas::bad_requests))]
 fn status(bad: &http_asks::Bad) -> StatusCode
     ensures { result ≡ told_status (refused_of bad.now) }
 {
     match bad {
-        http_asks::Bad::NoSuchVersion | http_asks::Bad::NoSuchUpload => StatusCode::NOT_FOUND,
+        http_asks::Bad::Framing(refusal) => framing_status(*refusal),
+        http_asks::Bad::NoRoute | http_asks::Bad::NoSuchVersion | http_asks::Bad::NoSuchUpload =>
+            StatusCode::NOT_FOUND,
+        http_asks::Bad::BadMethod => StatusCode::METHOD_NOT_ALLOWED,
         http_asks::Bad::BadPart => StatusCode::CONFLICT,
         http_asks::Bad::Body(fault) => match fault {
             BodyFault::NoMemory => StatusCode::INTERNAL_SERVER_ERROR,
@@ -41,8 +57,9 @@ fn status(bad: &http_asks::Bad) -> StatusCode
             TariffFault::NoMemory => StatusCode::INTERNAL_SERVER_ERROR,
             _ => StatusCode::BAD_REQUEST,
         },
-        http_asks::Bad::NotBuilt => StatusCode::NOT_IMPLEMENTED,
-        _ => StatusCode::BAD_REQUEST,
+        http_asks::Bad::NotAMonth | http_asks::Bad::BadBucketName | http_asks::Bad::BadKey => {
+            StatusCode::BAD_REQUEST
+        }
     }
 }
 
@@ -151,6 +168,18 @@ fn put_price(
     put(room, at, b"}")
 }
 
+fn put_framing(room: &mut [u8], at: usize, refusal: FramingRefusal) -> usize
+    ensures { Puts room.old at room.new result (framing_body refusal) }
+{
+    match refusal {
+        FramingRefusal::BadHead => put_error(room, at, "BadHead", 120),
+        FramingRefusal::BodyTooLarge => put_error(room, at, "BodyTooLarge", 124),
+        FramingRefusal::ChunkedBody => put_error(room, at, "ChunkedBody", 125),
+        FramingRefusal::HeadTooLarge => put_error(room, at, "HeadTooLarge", 126),
+        FramingRefusal::CutShort => put_error(room, at, "CutShort", 127),
+    }
+}
+
 fn put_body_fault(room: &mut [u8], at: usize, fault: &BodyFault) -> usize
     ensures { Puts room.old at room.new result (told_body (option_map in_body (body_flaw_of fault.now))) }
 {
@@ -202,6 +231,9 @@ fn put_body(room: &mut [u8], at: usize, bad: &http_asks::Bad) -> usize
     ensures { Puts room.old at room.new result (told_body (refused_of bad.now)) }
 {
     match bad {
+        http_asks::Bad::Framing(refusal) => put_framing(room, at, *refusal),
+        http_asks::Bad::NoRoute => put_error(room, at, "NoRoute", 121),
+        http_asks::Bad::BadMethod => put_error(room, at, "BadMethod", 122),
         http_asks::Bad::NotAMonth => put_error(room, at, "NotAMonth", 4),
         http_asks::Bad::BadBucketName => put_error(room, at, "BadBucketName", 10),
         http_asks::Bad::BadKey => put_error(room, at, "BadKey", 11),
@@ -211,7 +243,6 @@ fn put_body(room: &mut [u8], at: usize, bad: &http_asks::Bad) -> usize
         http_asks::Bad::Body(fault) => put_body_fault(room, at, fault),
         http_asks::Bad::Rules(fault) => put_rules_fault(room, at, fault),
         http_asks::Bad::Tariff(fault) => put_tariff_fault(room, at, fault),
-        http_asks::Bad::NotBuilt => put_error(room, at, "NotBuilt", 119),
     }
 }
 

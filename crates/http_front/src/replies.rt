@@ -1,9 +1,9 @@
 // Where texts go.
-ghost use Rattle.std.specs.Prelude.{◌≡◌, ◌⊎◌, ◌≤◌, ℕ, List, [], ◌∷◌, Option, OnOk, OnErr};
+ghost use Rattle.std.specs.Prelude.{◌≡◌, ◌≤◌, ℕ, List, [], ◌∷◌, Option, OnOk, OnErr};
 ghost use Rattle.std.specs.Io.KnownBytes.{Appends};
-ghost use Rattle.office_base.specs.Faults.{HasCause, Rose};
+ghost use Rattle.office_base.specs.Faults.{HasCause};
 ghost use Rattle.http_text.specs.Replies.{answer_text};
-ghost use Rattle.http_front.specs.Puts.{PutsOut};
+ghost use Rattle.http_front.specs.Puts.{PutsOut, NotesLine};
 ghost use Rattle.http_front.specs.Texts.{bad_text_of};
 
 use crate::bad::Bad;
@@ -69,11 +69,11 @@ pub trait Replies {
         ensures cause { HasCause (faults self.old) (faults self.new) result }
         ensures quiet { OnOk result (faults self.new ≡ faults self.old) };
 
-    /// Notes a text. One that is lost raises the count of faults.
+    /// Notes a line. Of one that is lost a front may have been noted, and the count of faults rose.
     fn note(&mut self, bytes: &[u8])
         ensures said { said self.new ≡ said self.old }
         ensures moments { moments self.new ≡ moments self.old }
         ensures texts { texts self.new ≡ texts self.old }
-        ensures noted { Appends (noted self.old) (noted self.new) bytes.now ⊎ Rose (faults self.old) (faults self.new) }
+        ensures noted { NotesLine (noted self.old) (noted self.new) bytes.now (faults self.old) (faults self.new) }
         ensures later { faults self.old ≤ faults self.new };
 }

@@ -45,8 +45,8 @@ fn go_on<R: Source, W: Replies, T: Teller>(
     }
 }
 
-/// Answers the messages of a stream in order, each before further bytes are awaited, up to the stream's end, to the
-/// last message of the session, or to the first one that is not served. A message that is refused is answered as
+/// Answers the messages of a stream in order, each before further bytes are awaited, up to the stream's end or to the
+/// last message of the session. A message that is refused is answered as
 /// the others are, and so is a call without an answer of the office; where memory ran out, its text is the last one
 /// of the session. It takes at most 2^40 = 1,099,511,627,776 bytes, and is `Spent` where it took as many, answered
 /// each message in them, and needs a further read. Takes its memory at the start, and for a message that of the

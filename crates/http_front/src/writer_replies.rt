@@ -4,7 +4,7 @@ ghost use Rattle.std.specs.Io.KnownBytes.{Appends};
 ghost use Rattle.std.specs.Result.{IsErr};
 ghost use Rattle.office_base.specs.Faults.{HasCause, Rose};
 ghost use Rattle.http_text.specs.Replies.{answer_text};
-ghost use Rattle.http_front.specs.Puts.{PutsOut};
+ghost use Rattle.http_front.specs.Puts.{PutsOut, NotesLine};
 ghost use Rattle.http_front.specs.Saying.{OnlySays};
 ghost use Rattle.http_front.specs.Texts.{bad_text_of};
 ghost use Rattle.http_front.specs.Writers.{notes_of, out_of};
@@ -140,9 +140,9 @@ impl<W: Write + Drop, N: Write + Drop> Replies for WriterReplies<W, N> {
             ≡ ⟦<WriterReplies<W, N> as Replies>⟧.moments self.old }
         ensures texts { ⟦<WriterReplies<W, N> as Replies>⟧.texts self.new
             ≡ ⟦<WriterReplies<W, N> as Replies>⟧.texts self.old }
-        ensures noted { Appends (⟦<WriterReplies<W, N> as Replies>⟧.noted self.old)
+        ensures noted { NotesLine (⟦<WriterReplies<W, N> as Replies>⟧.noted self.old)
             (⟦<WriterReplies<W, N> as Replies>⟧.noted self.new) bytes.now
-            ⊎ Rose (⟦<WriterReplies<W, N> as Replies>⟧.faults self.old)
+            (⟦<WriterReplies<W, N> as Replies>⟧.faults self.old)
             (⟦<WriterReplies<W, N> as Replies>⟧.faults self.new) }
         ensures later { ⟦<WriterReplies<W, N> as Replies>⟧.faults self.old
             ≤ ⟦<WriterReplies<W, N> as Replies>⟧.faults self.new }

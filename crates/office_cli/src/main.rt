@@ -1,7 +1,7 @@
 //! An office that keeps the records of an object store in a journal.
 #![tactic(auto)]
 
-use command_line::{CommandLine, read_line};
+use command_line::{CommandLine, LineFault, read_line};
 use desk_core::SystemClock;
 use disk_core::FileDisk;
 use http_front::WriterReplies;
@@ -10,74 +10,81 @@ use office_program::{office, refuse_words};
 use serving::{OpenGate, TcpPort};
 use std::alloc::{Alloc, Global};
 use std::fs::{self, File, OpenOptions};
+use std::io::{self, ErrorKind};
 use std::process::ExitCode;
 use std::rt::{Env, Files};
-use std::{env, io};
+use std::env;
 
 /// The folder of the program's files, in the folder where it is started.
 const FOLDER: &str = "office-data";
 
-fn open_file<R: Files>(rt: &R, path: &str) -> Option<R::File> {
+fn open_file<R: Files>(rt: &R, path: &str) -> io::Result<R::File> {
     let mut options = OpenOptions::new();
     options.read(true).write(true).create(true);
-    options.open(rt, path).ok()
+    options.open(rt, path)
 }
 
-// Makes the folder where it is not there.
-fn make_folder<R: Files>(rt: &R) -> Option<()> {
-    fs::create_dir_all(rt, FOLDER).ok()
+// A file that the disk can do without: there is none where it cannot be opened.
+fn open_spare<R: Files>(rt: &R, path: &str) -> io::Result<Option<R::File>> {
+    match open_file(rt, path) {
+        Ok(file) => Ok(Some(file)),
+        Err(e) if e.kind() == ErrorKind::OutOfMemory => Err(e),
+        Err(_) => Ok(None),
+    }
 }
 
 // Makes the names of the files and of their folder durable, so that a file which was made is found after a loss of
 // power.
-fn sync_names<R: Files<File = File>>(rt: &R) -> Option<()> {
-    File::open(rt, FOLDER).ok()?.sync_all().ok()?;
-    File::open(rt, ".").ok()?.sync_all().ok()
+fn sync_names<R: Files<File = File>>(rt: &R) -> io::Result<()> {
+    File::open(rt, FOLDER)?.sync_all()?;
+    File::open(rt, ".")?.sync_all()
 }
 
 // The journal's file, with the lock on it. The lock is that of the open file, so it ends where the file is closed or
 // the process ends. There is none where the file cannot be opened, or another process holds the lock.
-fn open_journal<R: Files<File = File>>(rt: &R) -> Option<File> {
+fn open_journal<R: Files<File = File>>(rt: &R) -> io::Result<File> {
     let file = open_file(rt, "office-data/journal")?;
-    match file.try_lock() {
-        Ok(()) => Some(file),
-        Err(_) => None,
-    }
+    file.try_lock()?;
+    Ok(file)
 }
 
 // The files of the folder, which is made where it is not there. There are none where the folder cannot be made, the
 // journal cannot be opened, or their names cannot be made durable.
-fn open_files<R: Files<File = File>>(rt: &R) -> Option<FileDisk> {
-    make_folder(rt)?;
+fn open_files<R: Files<File = File>>(rt: &R) -> io::Result<FileDisk> {
+    fs::create_dir_all(rt, FOLDER)?;
     let journal = open_journal(rt)?;
-    let first = open_file(rt, "office-data/check.0");
-    let second = open_file(rt, "office-data/check.1");
+    let first = open_spare(rt, "office-data/check.0")?;
+    let second = open_spare(rt, "office-data/check.1")?;
     sync_names(rt)?;
-    Some(FileDisk::new(Some(journal), first, second))
+    Ok(FileDisk::new(Some(journal), first, second))
 }
 
 // Whether the words ask for something that works on the files.
-fn asks_for_files<R: Alloc<A = Global>>(rt: &R, words: &[String]) -> bool {
+fn asks_for_files<R: Alloc<A = Global>>(rt: &R, words: &[String]) -> io::Result<bool> {
     match read_line(rt.alloc(), words) {
-        Ok(CommandLine::Gen { .. }) => false,
-        Ok(_) => true,
-        Err(_) => false,
+        Ok(CommandLine::Gen { .. }) | Err(LineFault::NotALine) => Ok(false),
+        Ok(_) => Ok(true),
+        Err(LineFault::NoMemory) => Err(ErrorKind::OutOfMemory.into()),
     }
 }
 
 // The disk of a command. It has no files where the words ask for none, a file might get the number of a standard
 // stream, or the files cannot be opened.
+//
+// # Errors
+//
+// Memory ran out.
 fn open_disk<R: Files<File = File> + Alloc<A = Global>>(
     rt: &R,
     words: &[String],
     held: bool,
-) -> FileDisk {
-    if !held || !asks_for_files(rt, words) {
-        return FileDisk::new(None, None, None);
+) -> io::Result<FileDisk> {
+    if !asks_for_files(rt, words)? || !held {
+        return Ok(FileDisk::new(None, None, None));
     }
     match open_files(rt) {
-        Some(disk) => disk,
-        None => FileDisk::new(None, None, None),
+        Err(e) if e.kind() != ErrorKind::OutOfMemory => Ok(FileDisk::new(None, None, None)),
+        opened => opened,
     }
 }
 
@@ -112,6 +119,10 @@ fn main(rt: HostRuntime) -> ExitCode {
         Ok(words) => words,
         Err(e) => return ExitCode::from(refuse_words(&mut out, e.kind())),
     };
+    let disk = match open_disk(&rt, &words, held.is_some()) {
+        Ok(disk) => disk,
+        Err(e) => return ExitCode::from(refuse_words(&mut out, e.kind())),
+    };
     let mut input = ReaderSource::new(rt.stdin());
     let mut port = TcpPort::new(&rt);
     let end = office(
@@ -120,7 +131,7 @@ fn main(rt: HostRuntime) -> ExitCode {
         &words,
         &mut input,
         &mut out,
-        open_disk(&rt, &words, held.is_some()),
+        disk,
         SystemClock::new(&rt),
         &mut port,
         &OpenGate,

@@ -14,6 +14,7 @@ use Rattle.desk_core.specs.Runs.{Outside, outside, AnswersCalls, stale_by}
 use Rattle.http_wire.specs.Held.{take_limit}
 use Rattle.http_front.specs.declared.replies.Replies as sinks
 use Rattle.http_front.specs.Counts.{GaveBytes, StreamEnds}
+use Rattle.http_front.specs.Puts.{NotesLine}
 use Rattle.http_front.specs.Exchanges.{calls_of, moments_of}
 use Rattle.http_front.specs.Session.{Transcript}
 use Rattle.http_front.specs.declared.answering.SessionEnd.{SessionEnd}
@@ -40,10 +41,11 @@ module _ {D C W : Type 0} where
   under s = outside s.disk s.clock
 
 module _ {W : Type 0} (w : sinks.Ghosts W) where
-  -- the line was noted, or it was lost, as the count of faults tells; where it is empty, no call was made
+  -- the line was noted, or it was lost but for a front of it, as the count of faults tells; where it is empty, no call
+  -- was made
   abbrev pub IsNoted : W → W → List ℕ → Type 0
   IsNoted old new text =
-      (text ≡ [] → new ≡ old) × (Appends (w.noted old) (w.noted new) text ⊎ Rose (w.faults old) (w.faults new))
+      (text ≡ [] → new ≡ old) × NotesLine (w.noted old) (w.noted new) text (w.faults old) (w.faults new)
 
   -- no reply was said
   abbrev pub SaysNoReply : W → W → Type 0

@@ -87,12 +87,7 @@ fn assert_requests(rt: &impl Abort, alloc: Global, rows: &[Row]) -> Result<(), F
             "{start} HTTP/1.1\r\nContent-Length: {}\r\n\r\n{body}{NEXT}",
             body.len()
         )?;
-        let ending = if *meaning == "NotBuilt" {
-            " last"
-        } else {
-            "; Bucket next; End"
-        };
-        let wanted = format!(in alloc; "{meaning}{ending}")?;
+        let wanted = format!(in alloc; "{meaning}; Bucket next; End")?;
         assert_heard(rt, alloc, &stream, CUTS, &wanted)?;
     }
     Ok(())
@@ -412,29 +407,32 @@ const MONTHS: &[Row] = &[
 ];
 
 const NOT_SERVED: &[Row] = &[
-    // Neither a route nor a method that is served.
-    ("put /buckets/logs", "", "NotBuilt"),
-    ("Get /buckets/logs", "", "NotBuilt"),
-    ("put /buckets/lo", "", "NotBuilt"),
-    ("DELETE /buckets/logs", "", "NotBuilt"),
-    ("GET /", "", "NotBuilt"),
-    ("GET /bucket/logs", "", "NotBuilt"),
-    ("GET /buckets/logs?list-type=2", "", "NotBuilt"),
-    ("GET /buckets/lo/versioning", "", "NotBuilt"),
-    ("POST /buckets/logs/lifecycle", "{}", "NotBuilt"),
-    ("POST /buckets/logs/objects/a", "", "NotBuilt"),
-    ("GET /buckets/logs/versions/0/a", "", "NotBuilt"),
-    ("GET /buckets/logs/tags/0/a", "", "NotBuilt"),
-    ("GET /buckets/logs/uploads/a", "", "NotBuilt"),
-    ("PUT /buckets/logs/upload/0", "", "NotBuilt"),
-    ("GET /buckets/logs/parts/0/x", "", "NotBuilt"),
-    ("GET /buckets/logs/act", "", "NotBuilt"),
-    ("POST /buckets/logs/due", "", "NotBuilt"),
-    ("PUT /buckets/logs/meters/2024-01", "", "NotBuilt"),
-    ("PUT /buckets/logs/objects/", "{\"size\":5}", "NotBuilt"),
-    ("DELETE /tariff", "", "NotBuilt"),
-    ("GET /months/2024-13/close", "", "NotBuilt"),
-    ("PUT /months/2024-01/report", "", "NotBuilt"),
+    // The method comes before the parts of the path, and the body is read and passed over.
+    ("put /buckets/logs", "", "BadMethod"),
+    ("Get /buckets/logs", "", "BadMethod"),
+    ("put /buckets/lo", "", "BadMethod"),
+    ("DELETE /buckets/logs", "", "BadMethod"),
+    ("GET /", "", "NoRoute"),
+    ("GET /bucket/logs", "", "NoRoute"),
+    ("GET /buckets/logs?list-type=2", "", "NoRoute"),
+    ("GET /buckets/lo/versioning", "", "BadMethod"),
+    ("POST /buckets/logs/lifecycle", "{}", "BadMethod"),
+    ("POST /buckets/logs/objects/a", "", "BadMethod"),
+    ("GET /buckets/logs/versions/0/a", "", "BadMethod"),
+    ("GET /buckets/logs/tags/0/a", "", "BadMethod"),
+    ("GET /buckets/logs/uploads/a", "", "BadMethod"),
+    ("PUT /buckets/logs/upload/0", "", "BadMethod"),
+    ("GET /buckets/logs/parts/0/x", "", "BadMethod"),
+    ("GET /buckets/logs/act", "", "BadMethod"),
+    ("POST /buckets/logs/due", "", "BadMethod"),
+    ("PUT /buckets/logs/meters/2024-01", "", "BadMethod"),
+    ("PUT /buckets/logs/objects/", "{\"size\":5}", "NoRoute"),
+    ("DELETE /tariff", "", "BadMethod"),
+    ("DELETE /tariff", "GET / HTTP/1.1\r\n\r\n", "BadMethod"),
+    ("GET buckets/logs", "", "NoRoute"),
+    ("PUT /buckets/logs/", "[", "NoRoute"),
+    ("GET /months/2024-13/close", "", "BadMethod"),
+    ("PUT /months/2024-01/report", "", "BadMethod"),
 ];
 
 #[test]
@@ -469,21 +467,61 @@ const ENDINGS: &[(&str, &str)] = &[
     ),
     (
         "PUT /buckets/logs HTTP/1.1\r\nContent-Length: 40\r\n\r\n012345678901234567890123456789012345678",
-        "NotBuilt last",
+        "CutShort last",
     ),
     (
         "PUT /buckets/logs HTTP/1.1\r\n\r\nPUT /buckets/logs HTTP/1.1\r\nHost",
-        "CreateBucket logs; NotBuilt last",
+        "CreateBucket logs; CutShort last",
     ),
     (
         "PUT /buckets/logs HTTP/1.1\r\nTransfer-Encoding: chunked\r\n\r\n0\r\n\r\n",
-        "NotBuilt last",
+        "ChunkedBody last",
     ),
     (
         "PUT /buckets/logs HTTP/1.1\r\nContent-Length: 1048577\r\n\r\n",
-        "NotBuilt last",
+        "BodyTooLarge last",
     ),
-    ("G(T", "NotBuilt last"),
+    ("G(T", "BadHead last"),
+    ("PUT /buckets\x01", "BadHead last"),
+    // Behind a message nothing may stand but another one.
+    (
+        "GET /buckets/logs HTTP/1.1\r\n\r\n\r\n",
+        "Bucket logs; CutShort last",
+    ),
+    ("GET / HTTP/1.0\r\n\r\nGET /", "NoRoute last"),
+    (
+        "DELETE /tariff HTTP/1.1\r\nConnection: keep-alive\r\nconnection: CLOSE\r\n\r\n",
+        "BadMethod last",
+    ),
+    // The refusals of a head come in their order, and before those of the target.
+    (
+        "GET / HTTP/1.1\r\nContent-Length: 1\r\nContent-Length: 1\r\ntransfer-encoding: gzip\r\n\r\n",
+        "ChunkedBody last",
+    ),
+    (
+        "GET / HTTP/1.1\r\nContent-Length: 9999999\r\ncontent-length: 9999999\r\n\r\n",
+        "BadHead last",
+    ),
+    (
+        "GET / HTTP/1.1\r\nContent-Length: +5\r\n\r\nhello",
+        "BadHead last",
+    ),
+    (
+        "GET / HTTP/1.1\r\nContent-Length:\r\n\r\n",
+        "BadHead last",
+    ),
+    (
+        "GET / HTTP/1.1\r\nContent-Length: 9999999999999999999999999999999999999999\r\n\r\n",
+        "BodyTooLarge last",
+    ),
+    (
+        "GET / HTTP/1.1\r\nContent-Length: 5\r\n\r\nhell",
+        "CutShort last",
+    ),
+    (
+        "GET / HTTP/1.1\r\nContent-Length: 0005\r\n\r\nhelloGET /tariff HTTP/1.1\r\n\r\n",
+        "NoRoute; Tariff; End",
+    ),
 ];
 
 #[test]
@@ -492,6 +530,35 @@ fn the_last_messages_of_a_session(rt: HostRuntime) -> Result<(), Fail> {
         assert_heard(&rt, rt.alloc(), *stream, CUTS, *wanted)?;
     }
     Ok(())
+}
+
+// The head of a request for a target of so many letters.
+fn long_target(alloc: Global, letters: usize) -> Result<String, Fail> {
+    let mut stream = String::new(alloc);
+    stream.push_str("GET /")?;
+    for _ in 0..letters {
+        stream.push('a')?;
+    }
+    Ok(stream)
+}
+
+#[test]
+fn a_head_has_at_most_so_many_bytes(rt: HostRuntime) -> Result<(), Fail> {
+    let alloc = rt.alloc();
+    let mut stream = long_target(alloc, 8_187)?;
+    assert_heard(&rt, alloc, &stream, &[500, 65_536], "HeadTooLarge last")?;
+    // A bad byte behind them changes nothing.
+    stream.push('\x01')?;
+    assert_heard(&rt, alloc, &stream, &[500, 65_536], "HeadTooLarge last")?;
+    stream = long_target(alloc, 8_186)?;
+    assert_heard(&rt, alloc, &stream, &[500, 65_536], "CutShort last")?;
+    stream.push('\x01')?;
+    assert_heard(&rt, alloc, &stream, &[500, 65_536], "BadHead last")?;
+    // The last of them ends the head.
+    stream = long_target(alloc, 8_174)?;
+    stream.push_str(" HTTP/1.1\r\n\r\n")?;
+    stream.push_str(NEXT)?;
+    assert_heard(&rt, alloc, &stream, &[500, 65_536], "NoRoute; Bucket next; End")
 }
 
 #[test]

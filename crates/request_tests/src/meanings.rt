@@ -1,6 +1,6 @@
 // What a message means, in words.
 use class_rules::Class;
-use http_asks::Bad;
+use http_asks::{Bad, FramingRefusal};
 use http_bodies::BodyFault;
 use moments::Month;
 use office_base::{BucketName, Key, Size, Tags, VersionId};
@@ -245,9 +245,22 @@ fn meant_by_tariff(fault: &TariffFault) -> Meaning<'_> {
     }
 }
 
+fn meant_by_framing(refusal: FramingRefusal) -> Meaning<'static> {
+    match refusal {
+        FramingRefusal::BadHead => ("BadHead", [NO, NO, NO, NO, NO]),
+        FramingRefusal::BodyTooLarge => ("BodyTooLarge", [NO, NO, NO, NO, NO]),
+        FramingRefusal::ChunkedBody => ("ChunkedBody", [NO, NO, NO, NO, NO]),
+        FramingRefusal::HeadTooLarge => ("HeadTooLarge", [NO, NO, NO, NO, NO]),
+        FramingRefusal::CutShort => ("CutShort", [NO, NO, NO, NO, NO]),
+    }
+}
+
 // The name of a refusal, and what it holds.
 pub(crate) fn meant_by_bad(bad: &Bad) -> Meaning<'_> {
     match bad {
+        Bad::Framing(refusal) => meant_by_framing(*refusal),
+        Bad::NoRoute => ("NoRoute", [NO, NO, NO, NO, NO]),
+        Bad::BadMethod => ("BadMethod", [NO, NO, NO, NO, NO]),
         Bad::NotAMonth => ("NotAMonth", [NO, NO, NO, NO, NO]),
         Bad::BadBucketName => ("BadBucketName", [NO, NO, NO, NO, NO]),
         Bad::BadKey => ("BadKey", [NO, NO, NO, NO, NO]),
@@ -257,7 +270,6 @@ pub(crate) fn meant_by_bad(bad: &Bad) -> Meaning<'_> {
         Bad::Body(fault) => meant_by_body(fault),
         Bad::Rules(fault) => meant_by_rules(fault),
         Bad::Tariff(fault) => meant_by_tariff(fault),
-        Bad::NotBuilt => ("NotBuilt", [NO, NO, NO, NO, NO]),
     }
 }
 

@@ -32,9 +32,33 @@ const LACKS: &[u8] =
     b"HTTP/1.1 500 Internal Server Error\r\ncontent-type: application/json\r\ncontent-length: 33\r\n\r\n\
 {\"error\":\"NoMemory\",\"number\":115}";
 
-const NOT_BUILT: &[u8] =
-    b"HTTP/1.1 501 Not Implemented\r\ncontent-type: application/json\r\ncontent-length: 33\r\n\r\n\
-{\"error\":\"NotBuilt\",\"number\":119}";
+const NO_METHOD: &[u8] =
+    b"HTTP/1.1 405 Method Not Allowed\r\ncontent-type: application/json\r\ncontent-length: 34\r\n\r\n\
+{\"error\":\"BadMethod\",\"number\":122}";
+
+const NO_ROUTE: &[u8] =
+    b"HTTP/1.1 404 Not Found\r\ncontent-type: application/json\r\ncontent-length: 32\r\n\r\n\
+{\"error\":\"NoRoute\",\"number\":121}";
+
+const NO_HEAD: &[u8] =
+    b"HTTP/1.1 400 Bad Request\r\ncontent-type: application/json\r\ncontent-length: 32\r\n\r\n\
+{\"error\":\"BadHead\",\"number\":120}";
+
+const LARGE_BODY: &[u8] =
+    b"HTTP/1.1 413 Payload Too Large\r\ncontent-type: application/json\r\ncontent-length: 37\r\n\r\n\
+{\"error\":\"BodyTooLarge\",\"number\":124}";
+
+const CODED: &[u8] =
+    b"HTTP/1.1 501 Not Implemented\r\ncontent-type: application/json\r\ncontent-length: 36\r\n\r\n\
+{\"error\":\"ChunkedBody\",\"number\":125}";
+
+const LARGE_HEAD: &[u8] =
+    b"HTTP/1.1 431 Request Header Fields Too Large\r\ncontent-type: application/json\r\n\
+content-length: 37\r\n\r\n{\"error\":\"HeadTooLarge\",\"number\":126}";
+
+const CUT: &[u8] =
+    b"HTTP/1.1 400 Bad Request\r\ncontent-type: application/json\r\ncontent-length: 33\r\n\r\n\
+{\"error\":\"CutShort\",\"number\":127}";
 
 const PUT: &[u8] = b"PUT /buckets/logs HTTP/1.1\r\nHost: x\r\n\r\n";
 
@@ -435,14 +459,40 @@ fn each_message_is_answered_once(rt: HostRuntime) -> Result<(), Fail> {
     Ok(())
 }
 
-const NOT_SERVED: &[&[u8]] = &[
-    b"GET / HTTP/1.1\r\n\r\n",
-    b"DELETE /buckets/logs HTTP/1.1\r\n\r\n",
-    b"PUT /bucket/logs HTTP/1.1\r\n\r\n",
-    b"PUT /buckets/logs HTTP/1.1\r\nTransfer-Encoding: chunked\r\n\r\n",
-    b"POST /buckets/logs HTTP/1.1\r\n\r\n",
-    b"PUT /buckets/logs HTTP/1.1\r\nHost:",
-    b"\x01\x02",
+// Messages whose framing is refused, each with its reply (RFC 9110, "Status Codes"; RFC 6585).
+const REFUSED_FRAMINGS: &[(&[u8], &[u8])] = &[
+    (
+        b"PUT /buckets/logs HTTP/1.1\r\nTransfer-Encoding: chunked\r\n\r\n",
+        CODED,
+    ),
+    (
+        b"GET / HTTP/1.1\r\nContent-Length: 1048577\r\n\r\n",
+        LARGE_BODY,
+    ),
+    (
+        b"GET / HTTP/1.1\r\nContent-Length: 0\r\nContent-Length: 0\r\n\r\n",
+        NO_HEAD,
+    ),
+    (b"PUT /buckets\x01", NO_HEAD),
+    (b"\x01\x02", NO_HEAD),
+    (b"PUT /buckets/logs HTTP/1.1\r\nHost:", CUT),
+    (
+        b"PUT /buckets/logs HTTP/1.1\r\nContent-Length: 5\r\n\r\nhell",
+        CUT,
+    ),
+    (b"\r\n", CUT),
+];
+
+// Messages that lead nowhere or have no method of where they lead, each with its reply.
+const NOT_SERVED: &[(&[u8], &[u8])] = &[
+    (b"GET / HTTP/1.1\r\n\r\n", NO_ROUTE),
+    (b"PUT /bucket/logs HTTP/1.1\r\n\r\n", NO_ROUTE),
+    (b"GET /tariff?a HTTP/1.1\r\n\r\n", NO_ROUTE),
+    (b"DELETE /tariff HTTP/1.1\r\n\r\n", NO_METHOD),
+    (
+        b"POST /buckets/lo HTTP/1.1\r\nContent-Length: 3\r\n\r\nGET",
+        NO_METHOD,
+    ),
 ];
 
 fn letters(alloc: Global, count: u64) -> Result<Vec<u8>, Fail> {
@@ -453,27 +503,50 @@ fn letters(alloc: Global, count: u64) -> Result<Vec<u8>, Fail> {
     Ok(all)
 }
 
-fn assert_last(rt: &impl Abort, alloc: Global, message: &[u8]) -> Result<(), Fail> {
-    assert_session(rt, alloc, &[message], 1000, NOTHING, (ENDED, &[NOT_BUILT]))?;
+fn assert_last(
+    rt: &impl Abort,
+    alloc: Global,
+    message: &[u8],
+    reply: &[u8],
+) -> Result<(), Fail> {
+    assert_session(rt, alloc, &[message], 1000, NOTHING, (ENDED, &[reply]))?;
     assert_session(
         rt,
         alloc,
         &[PUT, message],
         13,
         NOTHING,
-        (ENDED, &[FULL, NOT_BUILT]),
+        (ENDED, &[FULL, reply]),
     )
 }
 
 #[test]
-fn what_is_not_served_is_the_last(rt: HostRuntime) -> Result<(), Fail> {
+fn a_refused_framing_is_the_last(rt: HostRuntime) -> Result<(), Fail> {
     let alloc = rt.alloc();
-    for message in NOT_SERVED {
-        assert_last(&rt, alloc, *message)?;
+    for (message, reply) in REFUSED_FRAMINGS {
+        assert_last(&rt, alloc, *message, *reply)?;
     }
-    let letters = letters(alloc, 8188)?;
+    let letters = letters(alloc, 8187)?;
     let long = joined(alloc, &[b"GET /", &letters])?;
-    assert_last(&rt, alloc, &long)
+    assert_last(&rt, alloc, &long, LARGE_HEAD)
+}
+
+#[test]
+fn a_session_goes_on_after_what_is_not_served(rt: HostRuntime) -> Result<(), Fail> {
+    let alloc = rt.alloc();
+    for (message, reply) in NOT_SERVED {
+        for cut in [1, 17, 1000] {
+            assert_session(
+                &rt,
+                alloc,
+                &[*message, PUT],
+                cut,
+                NOTHING,
+                (ENDED, &[*reply, FULL]),
+            )?;
+        }
+    }
+    Ok(())
 }
 
 // A message that is refused, and the size and the text of the reply's body.
@@ -595,7 +668,7 @@ fn open_desk(alloc: Global) -> Result<Desk<MemoryDisk, ListClock>, Fail> {
 fn a_session_runs_over_readers_and_writers_of_std(rt: HostRuntime) -> Result<(), Fail> {
     let alloc = rt.alloc();
     let bytes = joined(alloc, &[PUT, PUT, b"DELETE /buckets/logs HTTP/1.1\r\n\r\n"])?;
-    let replies = joined(alloc, &[FULL, FULL, NOT_BUILT])?;
+    let replies = joined(alloc, &[FULL, FULL, NO_METHOD])?;
     let mut said: Vec<u8> = Vec::new(alloc);
     let mut noted: Vec<u8> = Vec::new(alloc);
     let mut source = ReaderSource::new(bytes.as_slice());
