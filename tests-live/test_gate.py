@@ -138,14 +138,16 @@ class All(live.Case):
         return self.ended([self.here / "all", self.program, *words], text=True)
 
     def test_each_kind_of_end(self):
-        self.script("well", "exit 0")
+        self.script("well", "echo '1 passed, 0 failed'")
+        self.script("early", "echo 'ok: one'; exit 0")
         self.script("wrong", "exit 1")
         self.script("lacks", "echo 'ok: one'; echo 'skipped: two: no such-tool'; exit 77")
         self.script("silent", "exit 77")
         done = self.all()
-        self.check("status, and the last line", (1, "1 passed, 2 failed, 1 skipped"), (done.returncode, last_line(done)))
+        self.check("status, and the last line", (1, "1 passed, 3 failed, 1 skipped"), (done.returncode, last_line(done)))
         self.check("what was left out", True, "skipped: lacks: two: no such-tool" in done.stdout.splitlines())
-        self.check("what failed, and why", True, {"FAILED: wrong: status 1", "FAILED: silent: status 77"} <= set(done.stdout.splitlines()))
+        self.check("what failed, and why", ["FAILED: early: status 0, and it does not say that all passed", "FAILED: silent: status 77",
+                                            "FAILED: wrong: status 1"], [it for it in done.stdout.splitlines() if it.startswith("FAILED")])
         done = self.all("well", "lacks")
         self.check("of those that are named, status and last line", (0, "1 passed, 0 failed, 1 skipped"), (done.returncode, last_line(done)))
         self.check("a name that is none, status", 1, self.all("none").returncode)

@@ -112,6 +112,8 @@ class ToolFaults(live.Case):
 
     def test_stopped_by_the_keyboard(self):
         """Somebody stops each tool while a server that says nothing is asked."""
+        # A shell lets what runs in the background ignore this signal, and its children with it.
+        self.addCleanup(signal.signal, signal.SIGINT, signal.signal(signal.SIGINT, signal.default_int_handler))
         with socket.create_server(("127.0.0.1", 0)) as door:
             for words in self.words_of(door.getsockname()[1]):
                 with subprocess.Popen([TOOLS / words[0], *words[1:]], cwd=self.folder, stderr=subprocess.PIPE, text=True) as tool:

@@ -59,7 +59,7 @@ start() {
 }
 
 # Ends that run, and sets `status`.
-finish() {
+finish_run() {
     exec 3>&-
     wait "$run" 2>/dev/null
     status=$?
@@ -92,7 +92,7 @@ while [ "$n" -le 10 ]; do
     check "copy $n has what was acknowledged" yes "$(is_between "$before" "${copied:--1}" $((5 + n * 50)))"
     n=$((n + 1))
 done
-finish
+finish_run
 check "the status of the run" 0 "$status"
 check "the acknowledged puts of the run" 505 "$(acked said)"
 check "the objects after it" 505 "$(objects .)"
@@ -102,7 +102,7 @@ start
 puts killed 0 5 >&3
 within 60 acked_at_least 5
 kill -9 "$run"
-finish
+finish_run
 puts next 0 5 | "$program" run >said_next 2>notes_next
 check "a run after a kill, status" 0 "$?"
 check "a run after a kill, puts" 5 "$(acked said_next)"
