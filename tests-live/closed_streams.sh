@@ -150,23 +150,27 @@ printf '#!/bin/sh\nexec unshare -r -m sh -c '\''mount -t tmpfs none /dev && exec
 printf '#!/bin/sh\nexec chroot --userspec=65534:65534 . /office "$@"\n' >"$work/shut"
 chmod +x "$work/bare" "$work/shut"
 
-begin
-if starts bare; then
-    outside=$program
-    program=$work/bare
-    close_each 'no /dev/null'
-    program=$outside
-else
-    skip 'no /dev/null' 'leave to mount an empty /dev'
+if has unshare 'no /dev/null'; then
+    begin
+    if starts bare; then
+        outside=$program
+        program=$work/bare
+        close_each 'no /dev/null'
+        program=$outside
+    else
+        skip 'no /dev/null' 'leave to mount an empty /dev'
+    fi
 fi
 
-begin
-"$program" init <in >out 2>notes
-enter_root
-if starts shut; then
-    refuse_each 'no / to open'
-else
-    skip 'no / to open' 'leave to change the root'
+if has chroot 'no / to open'; then
+    begin
+    "$program" init <in >out 2>notes
+    enter_root
+    if starts shut; then
+        refuse_each 'no / to open'
+    else
+        skip 'no / to open' 'leave to change the root'
+    fi
 fi
 
 finish

@@ -3,6 +3,7 @@
 import os
 import pathlib
 import shutil
+import subprocess
 import sys
 import time
 
@@ -159,12 +160,22 @@ class All(live.Case):
         self.check("why", True, "FAILED: lacks: left out: two: no sh, which --require names" in done.stdout.splitlines())
 
     def test_a_script_that_hangs(self):
-        self.script("hangs", "sleep 1000 & echo $! >child; cp child \"$0.child\"; wait")
+        self.script("hangs", "sleep 1000 & echo $! >child; mv child \"$0.child\"; wait")
         done = self.all("--limit", "1")
         self.check("status, and the last line", (1, "0 passed, 1 failed"), (done.returncode, last_line(done)))
         self.check("why", True, "FAILED: hangs: timed out after 1 s" in done.stdout.splitlines())
         child = int((self.here / "hangs.sh.child").read_text())
         self.check("what it started has ended", True, is_gone(child))
+
+    def test_a_run_that_is_stopped(self):
+        self.script("hangs", "sleep 1000 & echo $! >child; mv child \"$0.child\"; wait")
+        said, late = self.here / "hangs.sh.child", time.monotonic() + live.LIMIT
+        with subprocess.Popen([self.here / "all", self.program], stdout=subprocess.DEVNULL, cwd=self.folder) as run:
+            while not said.exists() and time.monotonic() < late:
+                time.sleep(0.05)
+            run.terminate()
+        self.check("status", 1, run.returncode)
+        self.check("what it started has ended", True, is_gone(int(said.read_text())))
 
     def test_no_script(self):
         done = self.all()
