@@ -3,8 +3,6 @@
 # unchanged.
 #
 #   bad_input.sh PROGRAM
-#
-# Prints one line a case, and 'N passed, M failed' last; ends with 1 where a case failed.
 set -u
 
 tools='cmp head tr sed awk'
@@ -169,5 +167,4 @@ sed 's/logs/data/' made >replies
 cat bad_head >>replies
 check 'garbage behind a request' replies longer
 
-echo "$passed passed, $failed failed"
-[ "$failed" -eq 0 ]
+finish

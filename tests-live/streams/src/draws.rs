@@ -28,12 +28,15 @@ impl Draws {
     fn of<'a>(&mut self, list: &[&'a [u8]]) -> &'a [u8] {
         list[self.below(list.len())]
     }
+
+    /// One of the odd ones once in `n` draws, else one of the usual.
+    fn mostly<'a>(&mut self, usual: &[&'a [u8]], odd: &[&'a [u8]], n: usize) -> &'a [u8] {
+        if self.one_in(n) { self.of(odd) } else { self.of(usual) }
+    }
 }
 
-const METHODS: &[&[u8]] = &[
-    b"GET", b"PUT", b"POST", b"DELETE", b"GET", b"PUT", b"POST", b"DELETE", b"HEAD", b"PATCH", b"get", b"OPTIONS", b"P", b"",
-    b"PU\x01T", b"M-SEARCH", b"G\xc3\xa9T",
-];
+const METHODS: &[&[u8]] = &[b"GET", b"PUT", b"POST", b"DELETE"];
+const ODD_METHODS: &[&[u8]] = &[b"HEAD", b"PATCH", b"get", b"OPTIONS", b"P", b"M-SEARCH", b"", b"PU\x01T", b"G\xc3\xa9T"];
 const BUCKETS: &[&[u8]] = &[
     b"logs", b"logs", b"logs", b"none", b"abc", b"ab", b"a.b-c", b"-ab", b"ab-", b".ab", b"Logs", b"l%6fgs", b"lo_gs", b"",
     b"a23456789012345678901234567890123456789012345678901234567890123", b"a234567890123456789012345678901234567890123456789012345678901234",
@@ -67,17 +70,18 @@ const BODIES: &[&[u8]] = &[
     b"{\"tags\":{\"1\":\"\",\"2\":\"\",\"3\":\"\",\"4\":\"\",\"5\":\"\",\"6\":\"\",\"7\":\"\",\"8\":\"\",\"9\":\"\",\"10\":\"\",\"11\":\"\"}}",
     b"{\"tags\":{\"1\":\"\",\"2\":\"\",\"3\":\"\",\"4\":\"\",\"5\":\"\",\"6\":\"\",\"7\":\"\",\"8\":\"\",\"9\":\"\",\"10\":\"\"}}",
 ];
-const FIELDS: &[&[u8]] = &[
-    b"Host: x", b"host:x", b"Accept: */*", b"Expect: 100-continue", b"X-Y:", b"Connection: keep-alive", b"Connection: close", b"connection: CLOSE", b"Connection: close, x",
+const FIELDS: &[&[u8]] = &[b"Host: x", b"host:x", b"Accept: */*", b"Expect: 100-continue", b"X-Y:", b"Connection: keep-alive"];
+const ODD_FIELDS: &[&[u8]] = &[
+    b"Connection: close", b"connection: CLOSE", b"Connection: close, x",
     b"Connection:  close ", b"Transfer-Encoding: chunked", b"transfer-encoding: identity", b"TRANSFER-ENCODING:", b"Content-Length: 0", b"Content_Length: 7", b"Content-Length : 3",
     b"Content-Length: +5", b"Content-Length: -1", b"Content-Length: 1048577", b"Content-Length: 1048576", b"Content-Length:", b"Content-Length: 5, 5", b"Content-Length: 0x5",
     b"Content-Length: 99999999999999999999999999999999", b"Content-Length: 0000000000000000000000000000000000000000", b": x", b"A B: c", b"X: \x00", b"X: \x7f", b"X: \x80\xff", b"X:\ty", b" folded",
     b"X\x01: y", b"Office-Token: t1", b"Content-Length:\t2", b"Content-Length: 2\t", b"(x): y",
 ];
-const ENDS: &[&[u8]] = &[b"\r\n", b"\r\n", b"\r\n", b"\r\n", b"\r\n", b"\r\n", b"\n", b"\r", b"\r\r\n", b""];
-const VERSIONS: &[&[u8]] = &[
-    b"HTTP/1.1", b"HTTP/1.1", b"HTTP/1.1", b"HTTP/1.1", b"HTTP/1.1", b"HTTP/1.1", b"HTTP/1.0", b"HTTP/1.2", b"HTTP/2.0", b"http/1.1", b"HTTP/1.1 ", b"HTTP/1", b"",
-];
+const ENDS: &[&[u8]] = &[b"\r\n"];
+const ODD_ENDS: &[&[u8]] = &[b"\n", b"\n", b"\n", b"\r", b"\r\r\n", b""];
+const VERSIONS: &[&[u8]] = &[b"HTTP/1.1"];
+const ODD_VERSIONS: &[&[u8]] = &[b"HTTP/1.0", b"HTTP/1.0", b"HTTP/1.2", b"HTTP/2.0", b"http/1.1", b"HTTP/1.1 ", b"HTTP/1", b""];
 
 fn push_target(draws: &mut Draws, out: &mut Vec<u8>) {
     match draws.below(24) {
@@ -118,38 +122,42 @@ fn push_target(draws: &mut Draws, out: &mut Vec<u8>) {
     }
 }
 
+fn push_end(draws: &mut Draws, out: &mut Vec<u8>) {
+    out.extend(draws.mostly(ENDS, ODD_ENDS, 40));
+}
+
 fn push_message(draws: &mut Draws, out: &mut Vec<u8>) {
-    for _ in 0..draws.below(12).saturating_sub(9) {
+    for _ in 0..draws.below(20).saturating_sub(17) {
         out.extend(draws.of(&[b"\r\n", b"\n"]));
     }
-    out.extend(draws.of(METHODS));
-    out.extend(draws.of(&[b" ", b" ", b" ", b" ", b" ", b" ", b" ", b" ", b"  ", b"\t", b""]));
+    out.extend(draws.mostly(METHODS, ODD_METHODS, 20));
+    out.extend(draws.mostly(&[b" "], &[b"  ", b"\t", b""], 100));
     push_target(draws, out);
-    out.extend(draws.of(&[b" ", b" ", b" ", b" ", b" ", b" ", b" ", b" ", b" ", b"  ", b""]));
-    out.extend(draws.of(VERSIONS));
-    out.extend(draws.of(ENDS));
+    out.extend(draws.mostly(&[b" "], &[b"  ", b"\t", b""], 100));
+    out.extend(draws.mostly(VERSIONS, ODD_VERSIONS, 30));
+    push_end(draws, out);
     let body = draws.of(BODIES);
-    if draws.one_in(200) {
+    if draws.one_in(400) {
         out.extend(b"X: ");
         let filler = 7_900 + draws.below(400);
         out.resize(out.len() + filler, b'a');
         out.extend(b"\r\n");
     }
     for _ in 0..draws.below(4) {
-        out.extend(if draws.one_in(3) { draws.of(FIELDS) } else { draws.of(&FIELDS[..6]) });
-        out.extend(draws.of(ENDS));
+        out.extend(draws.mostly(FIELDS, ODD_FIELDS, 15));
+        push_end(draws, out);
     }
     if !body.is_empty() || draws.one_in(10) {
-        let near = match draws.below(30) {
+        let near = match draws.below(60) {
             0 => body.len() + 1,
             1 => body.len().saturating_sub(1),
             _ => body.len(),
         };
         let zeros = if draws.one_in(10) { "000" } else { "" };
         out.extend(format!("Content-Length: {zeros}{near}").as_bytes());
-        out.extend(draws.of(ENDS));
+        push_end(draws, out);
     }
-    out.extend(draws.of(ENDS));
+    push_end(draws, out);
     out.extend(body);
 }
 
