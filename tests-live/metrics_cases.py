@@ -52,13 +52,13 @@ def compare(client, text):
     wrong = []
     for before, later in zip(BEFORE["classes"], after["classes"]):
         labels = f'bucket="logs",class="{before["class"]}",month="{MONTH}"'
-        found = byte_ms(samples["office_storage_byte_seconds_total", labels])
+        found = byte_ms(samples["office_month_storage_byte_seconds", labels])
         if not int(before["byte_ms"]) <= found <= int(later["byte_ms"]):
             wrong.append((before, found, later))
-        if byte_ms(samples["office_early_deletion_byte_seconds_total", labels]) != int(later["early_byte_ms"]):
+        if byte_ms(samples["office_month_early_deletion_byte_seconds", labels]) != int(later["early_byte_ms"]):
             wrong.append((before, labels))
     check("the meters are those of the server", [], wrong)
-    moves = [labels for name, labels in samples if name == "office_transitions_total" and 'bucket="logs"' in labels]
+    moves = [labels for name, labels in samples if name == "office_month_transitions" and 'bucket="logs"' in labels]
     check("all classes are there", 6, sum(MONTH in labels for labels in moves))
     check("versions of a bucket", "7", samples["office_bucket_versions", 'bucket="logs"'])
     check("the office is up", "1", samples["office_up", ""])
@@ -85,7 +85,7 @@ def by_file(server, to):
     size = (server.folder / "office-data/journal").stat().st_size
     check("the size of the journal", str(size), samples_of(text)["office_journal_size_bytes", ""])
     check("both buckets of the journal", 2, len(re.findall("^office_bucket_up{", text, re.M)))
-    check("an early quantity is told", True, byte_ms(samples_of(text)["office_early_deletion_byte_seconds_total",
+    check("an early quantity is told", True, byte_ms(samples_of(text)["office_month_early_deletion_byte_seconds",
           f'bucket="logs",class="STANDARD_IA",month="{MONTH}"']) > 2 ** 40 * 2_591_000_000)
     if shutil.which("promtool"):
         found = subprocess.run(["promtool", "check", "metrics"], input=text, capture_output=True, text=True, check=False)

@@ -4,8 +4,11 @@ What lies before the end gate of a journal never changes. A block is the bytes f
 begins at 0. Each line of the file has its block's bytes, number of entries and SHA-256, the moment of its last entry, and the
 chain: the SHA-256 of the chain of the line before and of this line. So a line that is changed shows without the journal.
 """
+import glob
 import hashlib
 import json
+import os
+import re
 import typing
 
 from asking import Stop
@@ -15,6 +18,7 @@ from journals import Journal
 
 ENTRIES = 16_384  # of a block at most
 PIECE = 1 << 20
+NAME = re.compile(r"journal-[0-9]{8}T[0-9]{6}Z")
 
 
 class Block(typing.NamedTuple):
@@ -115,3 +119,9 @@ def extended(file, blocks):
     for start, to, entries, ms in ends:
         found.append(linked(found, start, to, entries, ms, sum_of(file, start, to)))
     return found
+
+
+def copies(folder):
+    """The copies in a folder, oldest first."""
+    return sorted(it for it in glob.glob(os.path.join(glob.escape(folder), "journal-*Z"))
+                  if NAME.fullmatch(os.path.basename(it)) and os.path.isfile(it))
