@@ -98,9 +98,8 @@ def about(blocks, place):
 
 def extended(file, blocks):
     """These blocks and those of the entries behind them. Damaged, and where, if an entry is; status 5 if the file is no journal."""
-    journal, found = Journal(file), list(blocks)
-    if found:
-        journal.go_to(found[-1].to, sum(it.entries for it in found), found[-1].ms)
+    found = list(blocks)
+    journal = Journal(file, (found[-1].to, sum(it.entries for it in found), found[-1].ms) if found else None)
     start, first, ms = (found[-1].to if found else 0), journal.count, journal.ms
     ends = []
 

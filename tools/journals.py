@@ -20,23 +20,22 @@ def open_file(path):
 class Journal:
     """A file read gate by gate: `gate` is the offset of the one that is looked at, `count` the entries before."""
 
-    def __init__(self, file):
-        self.file, self.gate, self.count, self.last, self.ms = file, HEAD - 1, 0, None, 0
+    def __init__(self, file, place=None):
+        """From the front, or from a place: a gate, the number of entries before it, and the moment of the last of them."""
+        self.file, self.last = file, None
+        self.gate, self.count, self.ms = place or (HEAD - 1, 0, 0)
         about = os.fstat(file.fileno())
         if not stat.S_ISREG(about.st_mode):
             raise Stop(3, f"{file.name}: not a regular file")
-        file.seek(0)
+        file.seek(self.gate if place else 0)
+        if place:
+            return
         size, head = about.st_size, self.read(HEAD - 1)
         is_open = head[:1] == OPEN
         if size < HEAD or (size == HEAD and not is_open):
             raise Stop(5, "journal: not made")
         if not is_open or head[1:] != MARK:
             raise Stop(5, "journal: foreign")
-
-    def go_to(self, gate, count, ms):
-        """Goes on at a gate, behind so many entries, the last of which has this moment."""
-        self.file.seek(gate)
-        self.gate, self.count, self.ms = gate, count, ms
 
     def read(self, count):
         try:

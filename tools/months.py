@@ -39,8 +39,8 @@ def moment(ms):
     return (EPOCH + datetime.timedelta(milliseconds=ms)).isoformat(timespec="milliseconds") + "Z"
 
 
-def gib_months(byte_ms, month):
-    """Byte-milliseconds in GiB-months of this month, with nine digits behind the point."""
+def gib_months(byte_ms, month, digits=9):
+    """Byte-milliseconds in GiB-months of this month, rounded to so many digits behind the point."""
     start, end = bounds_of(month)
-    nano = round(fractions.Fraction(byte_ms * 10 ** 9, 2 ** 30 * (end - start)))
-    return f"{nano // 10 ** 9}.{nano % 10 ** 9:09}"
+    whole = round(fractions.Fraction(byte_ms * 10 ** digits, 2 ** 30 * (end - start)))
+    return f"{whole // 10 ** digits}.{whole % 10 ** digits:0{digits}}"
