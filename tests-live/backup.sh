@@ -3,8 +3,6 @@
 # that is damaged or was replaced, and of a folder that is full.
 #
 #   backup.sh PROGRAM
-#
-# Prints one line a case, and 'N passed, M failed' last; ends with 1 where a case failed.
 set -u
 
 tools='awk cat cmp cp dd find grep head ls python3 rm sed sleep sync'
@@ -110,5 +108,4 @@ check 'no folder, status' 4 "$("$backup" whole file >said 2>notes; echo $?)"
 check 'a full disk, status' 4 "$( (trap '' XFSZ; ulimit -f 1; "$backup" whole copies 2>&1) >/dev/null; echo $?)"
 check 'nothing is left of it' '0 2' "$(find copies -name '*part*' | grep -c .) $(copies)"
 
-echo "$passed passed, $failed failed"
-[ "$failed" -eq 0 ]
+finish

@@ -2,8 +2,6 @@
 # Sends what is no request that the program knows, and shows its answer, its status, and that the journal is unchanged.
 #
 #   bad_input.sh PROGRAM
-#
-# Prints one line a case, and 'N passed, M failed' last; ends with 1 where a case failed.
 set -u
 
 tools='cmp head tr sed awk'
@@ -145,5 +143,4 @@ sed 's/logs/data/' made >replies
 cat not_built >>replies
 check 'garbage behind a request' replies longer
 
-echo "$passed passed, $failed failed"
-[ "$failed" -eq 0 ]
+finish

@@ -5,9 +5,7 @@
 #
 # A program that opens its files while a standard stream is closed may get that stream's number for one of them, and
 # then writes its replies there. The same is shown where there is no /dev/null, as in a bare container, and, where even the
-# folder / cannot be opened, that the journal is not touched: these need leave to mount and to change the root, and are
-# skipped with a line where there is none. Prints one line a case, and 'N passed, M failed' last; ends with 1 where a case
-# failed.
+# folder / cannot be opened, that the journal is not touched: these need leave to mount and to change the root.
 set -u
 
 tools='cat od sed tr'
@@ -152,24 +150,27 @@ printf '#!/bin/sh\nexec unshare -r -m sh -c '\''mount -t tmpfs none /dev && exec
 printf '#!/bin/sh\nexec chroot --userspec=65534:65534 . /office "$@"\n' >"$work/shut"
 chmod +x "$work/bare" "$work/shut"
 
-begin
-if starts bare; then
-    outside=$program
-    program=$work/bare
-    close_each 'no /dev/null'
-    program=$outside
-else
-    echo 'skipped: an empty /dev cannot be mounted here'
+if has unshare 'no /dev/null'; then
+    begin
+    if starts bare; then
+        outside=$program
+        program=$work/bare
+        close_each 'no /dev/null'
+        program=$outside
+    else
+        skip 'no /dev/null' 'leave to mount an empty /dev'
+    fi
 fi
 
-begin
-"$program" init <in >out 2>notes
-enter_root
-if starts shut; then
-    refuse_each 'no / to open'
-else
-    echo 'skipped: the root cannot be changed here'
+if has chroot 'no / to open'; then
+    begin
+    "$program" init <in >out 2>notes
+    enter_root
+    if starts shut; then
+        refuse_each 'no / to open'
+    else
+        skip 'no / to open' 'leave to change the root'
+    fi
 fi
 
-echo "$passed passed, $failed failed"
-[ "$failed" -eq 0 ]
+finish

@@ -6,16 +6,15 @@
 #
 # No proof speaks of what a call of the operating system does: a program that leaves one out answers alike, until the power
 # fails. The first of the two makes the entry durable behind its closed gate, the second the gate that was opened. Needs leave
-# to trace a process, and is skipped with a line where there is none. Prints one line a case, and 'N passed, M failed' last;
-# ends with 1 where a case failed.
+# to trace a process.
 set -u
 
 tools='awk strace'
 . "$(dirname -- "$0")/common"
 cd "$work" || exit 1
 if ! strace -o probe true 2>/dev/null; then
-    echo "skipped: a process cannot be traced here"
-    exit 0
+    skip 'the syncs of a run' 'leave to trace a process'
+    finish
 fi
 
 # A request without a body, or with one.
@@ -77,5 +76,4 @@ check 'syncs before each reply to a query' '0 0 0' "$(syncs_before 200)"
 check 'syncs before the reply to a bucket that is there' 0 "$(syncs_before 409)"
 check 'syncs before the reply to a bucket that is not' 0 "$(syncs_before 404)"
 
-echo "$passed passed, $failed failed"
-[ "$failed" -eq 0 ]
+finish

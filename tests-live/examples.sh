@@ -2,8 +2,6 @@
 # Runs the sessions of examples/ and compares the bodies of their replies, but for moments, with what is written below.
 #
 #   examples.sh PROGRAM
-#
-# Prints one line a session, and 'N passed, M failed' last; ends with 1 where one failed.
 set -u
 
 tools='cmp grep sed tr'
@@ -68,5 +66,4 @@ session act.http <<'END'
 {"bucket":"backups","rules":1,"uploads":0,"versioning":"Unversioned","versions":0}
 END
 
-echo "$passed passed, $failed failed"
-[ "$failed" -eq 0 ]
+finish

@@ -1,6 +1,12 @@
-"""Random histories of the office: in the plain model, and as the entries of a journal."""
+"""Random histories of the office: each command is done in the plain model and written as an entry of a journal (docs/FORMATS.md).
+
+`Drawn` is what a command may be about, `KINDS` has a row for each kind of command, and `History` draws commands, does them in
+the model, and keeps the entries of those that were accepted.
+"""
 import json
 import random
+import typing
+import urllib.parse
 
 from model_words import configuration, stack_of
 from plain_office import CLASSES, DAY, Bucket, Refused, text_of, window
@@ -9,8 +15,10 @@ from plain_office import CLASSES, DAY, Bucket, Refused, text_of, window
 START = 1_893_456_000_000
 KEYS, NAMES = ("a", "b/c", "b/d", "\u00e9"), ("logs", "rest")
 TAGS = ({}, {"k": "v"}, {"k": "w", "a": "b"})
-# Parts of rules: expirations, transitions, noncurrent versions, markers, uploads.
-PARTS = (
+SIZES, PARTS, VERSIONS = (0, 5, 1_500, 131_072, 10**9), (1, 2, 10_001), ("null", "1", "2", "3")
+MODES = ("all_storage_classes_128K", "varies_by_storage_class")
+# Of rules what they do, and what they are about.
+ACTIONS = (
     {"moves": [(30, "STANDARD_IA"), (90, "GLACIER")], "days": 200}, {"days": 10}, {"date": START + 40 * DAY}, {"lone_marker": True},
     {"abort": 7}, {"noncurrent": (5, 1)}, {"noncurrent": (60, None), "noncurrent_moves": [(30, 2, "ONEZONE_IA"), (45, None, "DEEP_ARCHIVE")]},
     {"moves": [(31, "ONEZONE_IA")]}, {"moves": [(0, "DEEP_ARCHIVE")]}, {"noncurrent": (1, None), "abort": 1},
@@ -18,114 +26,249 @@ PARTS = (
 FILTERS = ({}, {"prefix": "b/"}, {"tags": [("k", "v")]}, {"greater": 1_000}, {"prefix": "a", "greater": 10, "less": 200_000})
 
 
-class Run:
-    """One history, in the model and as entries."""
+def number(value, count=8):
+    return value.to_bytes(count, "big")
+
+
+def text_field(text):
+    """A text with its length in bytes before it."""
+    return number(len(text.encode()), 2) + text.encode()
+
+
+def tags_field(tags):
+    return number(len(tags), 1) + b"".join(text_field(it) + text_field(tags[it]) for it in sorted(tags))
+
+
+def path_of(key):
+    return urllib.parse.quote(key)
+
+
+class Drawn(typing.NamedTuple):
+    """What a command may be about, at a moment. Each kind of command takes what it needs of it."""
+    now: int
+    name: str
+    key: str
+    storage_class: str
+    tags: dict
+    size: int
+    version: str
+    upload: int
+    part: int
+    is_enabled: bool
+    rules: list
+    mode: str
+
+    def status(self):
+        return "Enabled" if self.is_enabled else "Suspended"
+
+    def document(self):
+        return configuration(self.rules, self.mode)
+
+    # The fields of entries.
+
+    def key_field(self):
+        return text_field(self.key)
+
+    def class_field(self):
+        return number(CLASSES.index(self.storage_class), 1)
+
+    def version_field(self):
+        return self.key_field() + number(0 if self.version == "null" else int(self.version))
+
+    def document_field(self):
+        return number(len(self.document().encode()), 4) + self.document().encode()
+
+
+# What the model does for each kind of command, and what the program replies then.
+
+def make(history, it):
+    if it.name in history.buckets:
+        raise Refused("BucketExists", 80)
+    history.buckets[it.name] = Bucket(it.now)
+    return {"bucket": it.name}
+
+
+def set_versioning(bucket, it):
+    if not it.is_enabled and bucket.versioning == "Unversioned":
+        raise Refused("NotEnabledBefore", 83)
+    bucket.versioning, bucket.rules_since = it.status(), it.now
+    return {"versioning": it.status()}
+
+
+def set_rules(bucket, it):
+    bucket.rules, bucket.mode, bucket.rules_since = it.rules, it.mode, it.now
+    return {"rules": len(it.rules)}
+
+
+def drop_rules(bucket, it):
+    if bucket.rules is None:
+        raise Refused("NoRules", 82)
+    bucket.rules, bucket.rules_since = None, it.now
+    return {"rules": 0}
+
+
+def put(bucket, it):
+    return {"moment": text_of(it.now), "version": bucket.put(it.key, it.size, it.storage_class, it.tags, it.now)}
+
+
+def delete(bucket, it):
+    return bucket.delete(it.key, it.now)
+
+
+def delete_version(bucket, it):
+    bucket.stack(it.key)
+    bucket.remove(it.key, it.version, it.now)
+    return {"removed": it.version}
+
+
+def set_tags(bucket, it):
+    bucket.set_tags(it.key, it.version, it.tags, it.now)
+    return {"tags": len(it.tags)}
+
+
+def start_upload(bucket, it):
+    return {"upload": bucket.start(it.key, it.storage_class, it.tags, it.now)}
+
+
+def put_part(bucket, it):
+    bucket.put_part(it.upload, it.part, it.size, it.now)
+    return {"part": it.part}
+
+
+def complete(bucket, it):
+    return {"moment": text_of(it.now), "version": bucket.complete(it.upload, it.now)}
+
+
+def abort(bucket, it):
+    bucket.drop_upload(it.upload, it.now)
+    return {"aborted": it.upload}
+
+
+def act(bucket, it):
+    return bucket.act(it.now)
+
+
+class Kind(typing.NamedTuple):
+    """A kind of command: how often it is drawn, its request, its entry's fields behind the bucket, and what the model does."""
+    weight: int
+    method: str
+    target: str
+    body: typing.Callable
+    fields: typing.Callable
+    does: typing.Callable
+
+
+def nothing(_):
+    return None
+
+
+def no_fields(_):
+    return b""
+
+
+# In the order of their numbers in the journal, from 1 on.
+KINDS = (
+    Kind(2, "PUT", "", nothing, no_fields, make),
+    Kind(2, "PUT", "/versioning", lambda it: {"Status": it.status()}, lambda it: number(1 if it.is_enabled else 2, 1), set_versioning),
+    Kind(3, "PUT", "/lifecycle", lambda it: json.loads(it.document()), Drawn.document_field, set_rules),
+    Kind(1, "DELETE", "/lifecycle", nothing, no_fields, drop_rules),
+    Kind(20, "PUT", "/objects/{path}", lambda it: {"size": it.size, "class": it.storage_class, "tags": it.tags},
+         lambda it: it.key_field() + number(it.size) + it.class_field() + tags_field(it.tags), put),
+    Kind(8, "DELETE", "/objects/{path}", nothing, Drawn.key_field, delete),
+    Kind(8, "DELETE", "/versions/{version}/{path}", nothing, Drawn.version_field, delete_version),
+    Kind(4, "PUT", "/tags/{version}/{path}", lambda it: {"tags": it.tags}, lambda it: it.version_field() + tags_field(it.tags), set_tags),
+    Kind(5, "POST", "/uploads/{path}", lambda it: {"class": it.storage_class, "tags": it.tags},
+         lambda it: it.key_field() + it.class_field() + tags_field(it.tags), start_upload),
+    Kind(12, "PUT", "/parts/{upload}/{part}", lambda it: {"size": it.size}, lambda it: number(it.upload) + number(it.part, 4) + number(it.size),
+         put_part),
+    Kind(6, "POST", "/upload/{upload}", nothing, lambda it: number(it.upload), complete),
+    Kind(2, "DELETE", "/upload/{upload}", nothing, lambda it: number(it.upload), abort),
+    Kind(24, "POST", "/act", nothing, no_fields, act),
+)
+MAKE = 0
+
+
+class History:
+    """One random history: the buckets of the model, and the journal, whose last gate stays open until `closed`."""
 
     def __init__(self, seed):
-        self.draw, self.now, self.buckets, self.journal = random.Random(seed), START, {}, b"\xa5METERJRN1\xa5"
+        self.draw, self.now, self.last = random.Random(seed), START, START
+        self.buckets, self.journal = {}, b"\xa5METERJRN1\xa5"
 
-    def rules(self):
+    def append(self, moment, fields):
+        """Writes an entry: its kind and what follows."""
+        entry = number(moment) + fields
+        self.journal += number(len(entry), 4) + entry + b"\xa5"
+        self.last = moment
+
+    def closed(self):
+        """The journal with its last gate closed."""
+        return self.journal[:-1] + b"\0"
+
+    def fill(self):
+        """Some 20, 60 or 150 commands over a time that such a number takes."""
+        for _ in range(3):
+            self.command(MAKE)
+        for _ in range(self.draw.choice((20, 60, 150))):
+            self.now += self.draw.choice((0, 1, 3_600_000, DAY // 2, self.draw.randint(0, 12 * DAY)))
+            self.command()
+
+    def draw_rules(self):
         rules = []
         for place in range(self.draw.randint(1, 3)):
-            part, about = dict(self.draw.choice(PARTS)), dict(self.draw.choice(FILTERS))
-            if "abort" in part or "lone_marker" in part:
+            action, about = dict(self.draw.choice(ACTIONS)), dict(self.draw.choice(FILTERS))
+            if "abort" in action or "lone_marker" in action:
                 about = {"prefix": about.get("prefix", "")}
-            rules.append({"id": f"r{place}", "enabled": self.draw.random() < 0.9, "prefix": "", "tags": [], **about, **part})
-        return rules, self.draw.choice(("all_storage_classes_128K", "varies_by_storage_class"))
+            rules.append({"id": f"r{place}", "enabled": self.draw.random() < 0.9, "prefix": "", "tags": [], **about, **action})
+        return rules, self.draw.choice(MODES)
+
+    def draw_command(self, which):
+        """A kind of command, drawn where none is given, and what it is about."""
+        draw = self.draw
+        about = (draw.choice(NAMES), draw.choice(KEYS), draw.choice(CLASSES), draw.choice(TAGS), draw.choice(SIZES), draw.choice(VERSIONS),
+                 draw.randint(1, 4), draw.choice(PARTS))
+        if which is None:
+            which = draw.choices(range(len(KINDS)), [it.weight for it in KINDS])[0]
+        return which, Drawn(self.now, *about, draw.random() < 0.7, *self.draw_rules())
+
+    def reply_to(self, kind, it):
+        if kind.does is make:
+            return make(self, it)
+        if it.name not in self.buckets:
+            raise Refused("NoSuchBucket", 81)
+        return kind.does(self.buckets[it.name], it)
 
     def command(self, which=None):
-        """A request with its entry's kind and fields, and what does it in the model; the entry is written where it is accepted."""
-        draw, name = self.draw, self.draw.choice(NAMES)
-        bucket, key, cold, tags = self.buckets.get(name), draw.choice(KEYS), draw.choice(CLASSES), draw.choice(TAGS)
-        size, version, number = draw.choice((0, 5, 1_500, 131_072, 10**9)), draw.choice(("null", "1", "2", "3")), draw.randint(1, 4)
-        part, at, place = draw.choice((1, 2, 10_001)), f"/buckets/{name}", lambda text: len(text.encode()).to_bytes(2, "big") + text.encode()
-        path, id_bytes = key.replace("\u00e9", "%C3%A9"), (0 if version == "null" else int(version)).to_bytes(8, "big")
-        spelled = bytes([len(tags)]) + b"".join(place(it) + place(tags[it]) for it in sorted(tags))
-        rank, up = bytes([CLASSES.index(cold)]), number.to_bytes(8, "big")
-        now = self.now
-        which = draw.choices(range(13), (2, 2, 3, 1, 20, 8, 8, 4, 5, 12, 6, 2, 24))[0] if which is None else which
-
-        def made():
-            if bucket:
-                raise Refused("BucketExists", 80)
-            self.buckets[name] = Bucket(now)
-            return {"bucket": name}
-
-        def here():
-            if bucket is None:
-                raise Refused("NoSuchBucket", 81)
-            return bucket
-
-        def versioned():
-            enabled = draw_enabled
-            if not enabled and here().versioning == "Unversioned":
-                raise Refused("NotEnabledBefore", 83)
-            here().versioning, here().rules_since = ("Enabled" if enabled else "Suspended"), now
-            return {"versioning": bucket.versioning}
-
-        def ruled():
-            here().rules, bucket.mode, bucket.rules_since = *draw_rules, now
-            return {"rules": len(bucket.rules)}
-
-        def dropped():
-            if here().rules is None:
-                raise Refused("NoRules", 82)
-            bucket.rules, bucket.rules_since = None, now
-            return {"rules": 0}
-
-        def stored(version):
-            return {"moment": text_of(now), "version": version}
-
-        def gone(version):
-            here().stack(key)
-            bucket.remove(key, version, now)
-            return {"removed": version}
-        draw_enabled, draw_rules = draw.random() < 0.7, self.rules()
-        document = configuration(*draw_rules)
-        rows = (
-            ("PUT", at, None, 1, b"", made),
-            ("PUT", f"{at}/versioning", {"Status": "Enabled" if draw_enabled else "Suspended"}, 2, bytes([1 if draw_enabled else 2]), versioned),
-            ("PUT", f"{at}/lifecycle", json.loads(document), 3, len(document.encode()).to_bytes(4, "big") + document.encode(), ruled),
-            ("DELETE", f"{at}/lifecycle", None, 4, b"", dropped),
-            ("PUT", f"{at}/objects/{path}", {"size": size, "class": cold, "tags": tags}, 5, place(key) + size.to_bytes(8, "big") + rank + spelled,
-             lambda: stored(here().put(key, size, cold, tags, now))),
-            ("DELETE", f"{at}/objects/{path}", None, 6, place(key), lambda: here().delete(key, now)),
-            ("DELETE", f"{at}/versions/{version}/{path}", None, 7, place(key) + id_bytes, lambda: gone(version)),
-            ("PUT", f"{at}/tags/{version}/{path}", {"tags": tags}, 8, place(key) + id_bytes + spelled,
-             lambda: here().set_tags(key, version, tags, now) or {"tags": len(tags)}),
-            ("POST", f"{at}/uploads/{path}", {"class": cold, "tags": tags}, 9, place(key) + rank + spelled,
-             lambda: {"upload": here().start(key, cold, tags, now)}),
-            ("PUT", f"{at}/parts/{number}/{part}", {"size": size}, 10, up + part.to_bytes(4, "big") + size.to_bytes(8, "big"),
-             lambda: here().put_part(number, part, size, now) or {"part": part}),
-            ("POST", f"{at}/upload/{number}", None, 11, up, lambda: stored(here().complete(number, now))),
-            ("DELETE", f"{at}/upload/{number}", None, 12, up, lambda: {"aborted": here().drop_upload(number, now) and number}),
-            ("POST", f"{at}/act", None, 13, b"", lambda: here().act(now)),
-        )
-        method, target, body, kind, fields, does = rows[which]
+        """Does a command in the model, and writes its entry if it is accepted: the request, and what is replied to it."""
+        which, it = self.draw_command(which)
+        kind = KINDS[which]
+        target = f"/buckets/{it.name}" + kind.target.format(path=path_of(it.key), version=it.version, upload=it.upload, part=it.part)
         try:
-            reply = does()
+            reply = self.reply_to(kind, it)
+            if reply != {"action": "none"}:
+                self.append(self.now, number(which + 1, 1) + text_field(it.name) + kind.fields(it))
         except Refused as refusal:
-            return method, target, body, {"error": refusal.args[0], "number": refusal.args[1]}
-        if reply != {"action": "none"}:
-            entry = now.to_bytes(8, "big") + bytes([kind]) + place(name) + fields
-            self.journal += len(entry).to_bytes(4, "big") + entry + b"\xa5"
-            self.last = now
-        return method, target, body, reply
+            reply = {"error": refusal.args[0], "number": refusal.args[1]}
+        return kind.method, target, kind.body(it), reply
 
     def queries(self):
+        """Every query that is known, with what is replied to it now."""
         for name, bucket in sorted(self.buckets.items()):
-            at = f"/buckets/{name}"
-            yield at, {"bucket": name, "rules": len(bucket.rules or []), "uploads": len(bucket.uploads), "versioning": bucket.versioning,
-                       "versions": sum(len(it["versions"]) for it in bucket.stacks.values())}
-            yield f"{at}/lifecycle", (json.loads(configuration(bucket.rules, bucket.mode)) if bucket.rules is not None
-                                      else {"error": "NoRules", "number": 82})
-            yield f"{at}/due", bucket.shown(bucket.choice(self.now))
-            for key in KEYS:
-                yield f"{at}/objects/" + key.replace("\u00e9", "%C3%A9"), stack_of(bucket, key)
-            for number, upload in bucket.uploads.items():
-                yield f"{at}/upload/{number}", {
-                    "class": upload["class"], "key": upload["key"], "started": text_of(upload["started"]), "tags": upload["tags"], "upload": number,
-                    "parts": [{"part": part, "size": size} for part, size in sorted(upload["parts"].items())]}
-            for month in (f"{year}-{it:02}" for year in (2030, 2031) for it in range(1, 13)):
-                if window(month)[0] <= self.now:
-                    yield f"{at}/meters/{month}", {"bucket": name, "classes": bucket.meters(month, self.now), "month": month}
+            for target, reply in self.queries_of(name, bucket):
+                yield f"/buckets/{name}{target}", reply
+
+    def queries_of(self, name, bucket):
+        yield "", {"bucket": name, "rules": len(bucket.rules or []), "uploads": len(bucket.uploads), "versioning": bucket.versioning,
+                   "versions": sum(len(it["versions"]) for it in bucket.stacks.values())}
+        yield "/lifecycle", ({"error": "NoRules", "number": 82} if bucket.rules is None
+                             else json.loads(configuration(bucket.rules, bucket.mode)))
+        yield "/due", bucket.shown(bucket.choice(self.now))
+        for key in KEYS:
+            yield f"/objects/{path_of(key)}", stack_of(bucket, key)
+        for upload, it in bucket.uploads.items():
+            yield f"/upload/{upload}", {
+                "class": it["class"], "key": it["key"], "started": text_of(it["started"]), "tags": it["tags"], "upload": upload,
+                "parts": [{"part": part, "size": size} for part, size in sorted(it["parts"].items())]}
+        for month in (f"{year}-{it:02}" for year in (2030, 2031) for it in range(1, 13)):
+            if window(month)[0] <= self.now:
+                yield f"/meters/{month}", {"bucket": name, "classes": bucket.meters(month, self.now), "month": month}

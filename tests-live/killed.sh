@@ -5,8 +5,7 @@
 #
 # Each time another run gets the same requests from a folder of its own, each for a key of its own, and is killed a little
 # later than the one before. Then a run over the same journal is asked how many versions the bucket has: as many as were
-# acknowledged, or one more, since the command behind them may be in the journal or not. Prints 'N passed, M failed' last;
-# ends with 1 where a case failed.
+# acknowledged, or one more, since the command behind them may be in the journal or not.
 set -u
 
 tools='grep sed sleep awk'
@@ -62,5 +61,4 @@ if [ "$acked_in_all" = 0 ]; then
     echo "failed: no object was acknowledged before a kill"
 fi
 echo "acknowledged: $acked_in_all"
-echo "$passed passed, $failed failed"
-[ "$failed" = 0 ]
+finish

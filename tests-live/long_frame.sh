@@ -4,8 +4,7 @@
 #
 #   long_frame.sh PROGRAM
 #
-# The files are as long as their frames claim, but sparse; the memory of the program is limited to 512 MiB. Prints 'N passed,
-# M failed' last; ends with 1 where a case failed.
+# The files are as long as their frames claim, but sparse; the memory of the program is limited to 512 MiB.
 set -u
 
 tools='cat truncate'
@@ -19,8 +18,8 @@ limited() {
 
 limited
 if [ "$?" != 1 ]; then
-    echo "skipped: the program does not start with a limit on its memory"
-    exit 0
+    skip 'journals with a long frame' 'limit on memory under which the program starts'
+    finish
 fi
 
 # A made head, and an open gate with a length in four bytes; the file then ends at this place.
@@ -29,7 +28,7 @@ while read -r name size length; do
     # shellcheck disable=SC2059
     printf "\\245METERJRN1\\245$length" >office-data/journal
     if ! truncate -s "$size" office-data/journal 2>notes; then
-        echo "skipped: no file of $size bytes can be made here"
+        skip "$name" "room for a file of $size bytes"
         continue
     fi
     limited run
@@ -42,5 +41,4 @@ done <<'END'
 4,294,967,295-bytes 4294967311 \377\377\377\377
 END
 
-echo "$passed passed, $failed failed"
-[ "$failed" = 0 ]
+finish

@@ -3,9 +3,6 @@
 # they name is a command line of the program.
 #
 #   operator_files.sh PROGRAM
-#
-# A tool that is missing is skipped with a line. Prints one line a case, and 'N passed, M failed' last; ends with 1 where a
-# case failed.
 set -u
 
 tools='awk cp grep mkdir sed sleep sort timeout tr'
@@ -13,19 +10,17 @@ root=$(CDPATH='' cd -- "$(dirname -- "$0")/.." && pwd) || exit 1
 . "$root/tests-live/common"
 cd "$work" || exit 1
 
-has() {
-    command -v "$1" >/dev/null 2>&1 && return
-    echo "skipped: there is no command $1"
-    return 1
-}
-
 # The man page: no warnings, and each status that docs/FORMATS.md names.
 page=$root/docs/office.1
-if has mandoc; then
+if has mandoc 'mandoc -Tlint'; then
     check 'mandoc -Tlint' '' "$(mandoc -Tlint -W warning "$page" 2>&1)"
 fi
-if has man && man --warnings -l "$page" >shown 2>warned && grep -q . shown; then
-    check 'man --warnings' '' "$(cat warned)"
+if has man 'man --warnings'; then
+    if man --warnings -l "$page" >shown 2>warned && grep -q . shown; then
+        check 'man --warnings' '' "$(cat warned)"
+    else
+        skip 'man --warnings' 'man that shows a page'
+    fi
 fi
 check 'each status of docs/FORMATS.md is in the man page' \
     "$(sed -n '/^## Statuses/,/^## [A-RT-Z]/s/^| \([0-9][0-9]*\) |.*/\1/p' "$root/docs/FORMATS.md" | tr '\n' ' ')" \
@@ -34,11 +29,11 @@ check 'each status of docs/FORMATS.md is in the man page' \
 # The status of the program with these words, in a folder without a journal: 1 where they are no command line.
 status_of() {
     mkdir -p none
-    (cd none && timeout 5 "$program" "$@" </dev/null >/dev/null 2>&1)
+    (cd none && timeout 60 "$program" "$@" </dev/null >/dev/null 2>&1)
     echo $?
 }
 
-if has bash; then
+if has bash 'the completions of bash'; then
     # What bash completes behind these words, the last of which is under way.
     complete_bash() {
         # shellcheck disable=SC2016
@@ -85,10 +80,10 @@ if has bash; then
     check "the program knows $words" 5 "$(status_of $words)"
 fi
 
-if has zsh; then
+if has zsh 'the completions of zsh'; then
     # What zsh shows where it completes these words, up to a text that is wanted.
     shows() {
-        timeout 20 zsh -f "$root/tests-live/complete.zsh" "$root/tools/completion" "$@"
+        timeout 100 zsh -f "$root/tests-live/complete.zsh" "$root/tools/completion" "$@"
     }
     check 'zsh: words' 1 "$(shows '' 'serve    -- answer the requests' | grep -c -e 'serve    -- answer the requests')"
     check 'zsh: an option begun' 1 "$(shows 'serve --c' 'serve --connections' | grep -c -e 'serve --connections')"
@@ -103,19 +98,20 @@ done
 # shellcheck disable=SC2046
 check 'the unit gives words that the program knows' 5 "$(status_of serve $(sed -n 's/^Environment="OFFICE_OPTIONS=\(.*\)"/\1/p' \
     "$root/tools/systemd/office.service"))"
-if has systemd-analyze; then
+if has systemd-analyze 'the units of systemd'; then
     check 'systemd-analyze verify' '' "$(systemd-analyze --man=no verify units/* 2>&1)"
     systemd-analyze security --offline=yes --threshold=20 units/office.service >secure 2>&1
     check 'systemd-analyze security, at most 2.0' 0 $?
-    if has strace && strace -o trace true 2>/dev/null; then
+    if ! has strace 'the system calls of a unit'; then
+        :
+    elif ! strace -o trace true 2>/dev/null; then
+        skip 'the system calls of a unit' 'leave to trace a process'
+    else
         "$program" init >/dev/null
         printf 'PUT /buckets/logs HTTP/1.1\r\n\r\n' >asks
         strace -f -o trace "$program" run <asks >/dev/null 2>&1
-        timeout 10 strace -f -o served "$program" serve --listen 127.0.0.1:0 --workers 2 >/dev/null 2>&1 &
-        for _ in 1 2 3 4 5 6 7 8 9 10 11 12 13 14 15 16 17 18 19 20; do
-            grep -q 'accept4(' served 2>/dev/null && break
-            sleep 0.2
-        done
+        timeout 60 strace -f -o served "$program" serve --listen 127.0.0.1:0 --workers 2 >/dev/null 2>&1 &
+        within 60 grep -q 'accept4(' served 2>/dev/null
         kill $!
         wait
         # The calls of these groups of a filter, with the groups in them.
@@ -140,5 +136,4 @@ if has systemd-analyze; then
     fi
 fi
 
-echo "$passed passed, $failed failed"
-[ "$failed" -eq 0 ]
+finish

@@ -1,4 +1,4 @@
-"""What the cases of serve.sh share: a server of the program, requests over a socket, and the journal's entries."""
+"""What the cases of a server share: its process, requests over a socket, and the journal's entries."""
 import pathlib
 import signal
 import socket
@@ -8,6 +8,9 @@ import threading
 import time
 
 from free_port import HOST, free_port
+
+# Seconds to wait for what usually takes less than six: only a hang takes longer.
+LIMIT = 60
 
 
 def request(method, target, body="", version="1.1", fields=""):
@@ -24,16 +27,17 @@ def put_object(key, **more):
 class Client:
     """One connection, and what came by it and was not taken yet."""
 
-    def __init__(self, port, patience=10):
+    def __init__(self, port, patience=LIMIT):
         # A server that was just started may not listen yet.
-        for _ in range(500):
+        late = time.monotonic() + LIMIT
+        while True:
             try:
                 self.socket = socket.create_connection((HOST, port), patience)
                 break
             except ConnectionRefusedError:
+                if time.monotonic() > late:
+                    raise TimeoutError(f"timed out after {LIMIT} s: nobody listens on port {port}") from None
                 time.sleep(0.01)
-        else:
-            raise ConnectionRefusedError(f"nobody listens on port {port}")
         self.socket.setsockopt(socket.IPPROTO_TCP, socket.TCP_NODELAY, 1)
         self.held = b""
 
@@ -123,7 +127,7 @@ class Server:
     def stop(self, number=signal.SIGTERM):
         """Sends a signal and waits; answers the status, a signal's number negative."""
         self.process.send_signal(number)
-        return self.process.wait(10)
+        return self.process.wait(LIMIT)
 
     def keys(self):
         return keys_of(self.folder)

@@ -5,8 +5,7 @@
 #   two_writers.sh PROGRAM [ROUNDS]
 #
 # First beside a run that works: other runs and 'init' are refused, copies of the folder can be taken and opened, and once the
-# run has ended, or was killed by signal 9, the next one works at once. Then ROUNDS times six runs that start together. Prints
-# 'N passed, M failed' last; ends with 1 where a case failed.
+# run has ended, or was killed by signal 9, the next one works at once. Then ROUNDS times six runs that start together.
 set -u
 
 tools='awk cat cp grep kill mkfifo sed sleep'
@@ -33,13 +32,9 @@ acked() {
     grep -a -o 'HTTP/1.1 201 ' "$1" | grep -c .
 }
 
-# Waits until this many puts of the run are acknowledged.
-await() {
-    tries=0
-    while [ "$(acked said)" -lt "$1" ] && [ "$tries" -lt 200 ]; do
-        sleep 0.05
-        tries=$((tries + 1))
-    done
+# Whether this many puts of the run are acknowledged.
+acked_at_least() {
+    [ "$(acked said)" -ge "$1" ]
 }
 
 is_between() {
@@ -64,7 +59,7 @@ start() {
 }
 
 # Ends that run, and sets `status`.
-finish() {
+finish_run() {
     exec 3>&-
     wait "$run" 2>/dev/null
     status=$?
@@ -74,7 +69,7 @@ finish() {
 begin
 start
 puts first 0 5 >&3
-await 5
+within 60 acked_at_least 5
 for word in run init; do
     puts other 0 5 | "$program" "$word" >said_other 2>notes_other
     check "$word beside a run, status" 2 "$?"
@@ -93,11 +88,11 @@ while [ "$n" -le 10 ]; do
     cp -R office-data copy/
     copied=$(objects copy)
     wait "$feeder"
-    await $((5 + n * 50))
+    within 60 acked_at_least $((5 + n * 50))
     check "copy $n has what was acknowledged" yes "$(is_between "$before" "${copied:--1}" $((5 + n * 50)))"
     n=$((n + 1))
 done
-finish
+finish_run
 check "the status of the run" 0 "$status"
 check "the acknowledged puts of the run" 505 "$(acked said)"
 check "the objects after it" 505 "$(objects .)"
@@ -105,9 +100,9 @@ check "the objects after it" 505 "$(objects .)"
 # A run that is killed leaves no lock.
 start
 puts killed 0 5 >&3
-await 5
+within 60 acked_at_least 5
 kill -9 "$run"
-finish
+finish_run
 puts next 0 5 | "$program" run >said_next 2>notes_next
 check "a run after a kill, status" 0 "$?"
 check "a run after a kill, puts" 5 "$(acked said_next)"
@@ -146,5 +141,4 @@ done
 check "some were refused" yes "$(is_between 1 "$refused" $((rounds * 5)))"
 
 echo "of $((rounds * 6)) runs side by side $worked worked and $refused were refused"
-echo "$passed passed, $failed failed"
-[ "$failed" = 0 ]
+finish
