@@ -1,5 +1,6 @@
 #!/usr/bin/env -S python3 -B
 """Reads what tools/metrics reports of now: bytes, the charge so far, what is overdue, limits, months and the last runs."""
+import csv
 import datetime
 import json
 import re
@@ -63,6 +64,15 @@ class MetricsNow(live.Case):
             self.check(f"raw, turn {turn}", {it: str(count) for it, count in BILLED.items()},
                        {it: found.get(("office_bucket_billed_bytes", f'bucket="raw",class="{it}"')) for it in CLASSES})
             self.check(f"logs, turn {turn}", ["12345", "0"], [found["office_bucket_billed_bytes", f'bucket="{it}",class="STANDARD"'] for it in ("logs", "empty")])
+        self.server.stop()
+        stays = self.ended([self.program, "explain"], cwd=self.folder / "served", text=True)
+        if stays.returncode == 0:
+            now = {name: 0 for name in CLASSES}
+            for row in csv.DictReader(stays.stdout.splitlines()):
+                if (row["bucket"], row["to"]) == ("raw", "open"):
+                    now[row["class"]] += int(row["bytes"])
+            self.check("as the open stays of the program", BILLED, now)
+        self.start()
         self.ask("PUT", "/buckets/empty/objects/a", '{"size":987654321}')
         self.check("after a put", "987654321", self.of_journal()["office_bucket_billed_bytes", 'bucket="empty",class="STANDARD"'])
 
