@@ -39,7 +39,7 @@ puts() {
 puts 0 100 >asks
 "$program" run <asks >said
 check 'a copy, status' 0 "$("$backup" office-data/journal copies >name 2>notes; echo $?)"
-check 'its name is said' "$(ls copies)" "$(sed 's|copies/||' name)"
+check 'its name is said' "$(ls copies | grep Z)" "$(sed 's|copies/||' name)"
 first=$(cat name)
 check 'the program reads the copy' 100 "$(objects "$first")"
 
@@ -63,13 +63,16 @@ done
 wait "$run"
 check 'all copies are kept' yes "$([ "$(copies)" -ge 2 ] && echo yes || echo no)"
 check '--keep 1, status' 0 "$("$backup" --keep 1 office-data/journal copies >name 2>notes; echo $?)"
-check '--keep 1 leaves one copy' "1 $(sed 's|copies/||' name)" "$(copies) $(ls copies)"
+check '--keep 1 leaves one copy' "1 $(sed 's|copies/||' name)" "$(copies) $(ls copies | grep Z)"
 
-# A damaged journal is not kept, and costs no copy; one that was replaced is kept beside the other.
+# A journal whose front changed is not kept, and costs no copy. Nor is one that is damaged behind what was copied before.
 cp office-data/journal whole
 printf '\001' | dd of=office-data/journal bs=1 seek=15 conv=notrunc 2>/dev/null
-check 'a damaged journal, status' 5 "$("$backup" --keep 1 office-data/journal copies >said 2>notes; echo $?)"
-check 'a damaged journal, the copies' 1 "$(copies)"
+check 'a changed front, status' 6 "$("$backup" --keep 1 office-data/journal copies >said 2>notes; echo $?)"
+check 'a changed front, the block is named' 1 "$(grep -c 'block 1 of .* is not what it was; copies/journal-.*Z has it whole' notes)"
+check 'a changed front, the copies' 1 "$(copies)"
+check 'a damaged journal, status' 5 "$("$backup" office-data/journal others >said 2>notes; echo $?)"
+check 'a damaged journal, the copies' 0 "$(find others -name 'journal-*Z' | grep -c .)"
 
 # What docs/OPERATIONS.md does where no copy has as many entries: it closes the gate at which the damage is.
 count=$("$root/tools/journal-dump" whole | grep -c .)
@@ -85,7 +88,14 @@ rm -rf office-data
 "$program" init >said
 sleep 1
 check 'a journal that was replaced, status' 6 "$("$backup" --keep 1 office-data/journal copies >said 2>notes; echo $?)"
-check 'a journal that was replaced, the copies' 2 "$(copies)"
+check 'a journal that was replaced, the copies' 1 "$(copies)"
+check '--replaced, status' 0 "$("$backup" --replaced office-data/journal copies >said 2>notes; echo $?)"
+check '--replaced, the copies' 2 "$(copies)"
+check '--replaced, the sums of before are kept' 1 "$(find copies -name 'journal.digest-until-*' | grep -c .)"
+check 'once more, status' 0 "$("$backup" office-data/journal copies/a/b >said 2>notes; echo $?)"
+check 'a disk that is not mounted, status' 4 "$("$backup" --other-disk office-data/journal none/there >said 2>notes; echo $?)"
+check 'a disk that is not mounted, nothing is made' no "$([ -e none ] && echo yes || echo no)"
+rm -rf copies/a
 
 # Bad words, no journal, no folder, and a disk that is full.
 for words in '' 'one' '--keep 0 a b' '--keep x a b' '--none a b' 'a b c'; do

@@ -4,6 +4,7 @@ A file test_NAME.py is started by itself (`tests-live/test_NAME.py PROGRAM [word
 unittest's discovery with the program in OFFICE_PROGRAM. It ends with 0 if all passed, 1 if a test failed, and 77 if none failed
 and one was left out because a tool is missing.
 """
+import atexit
 import functools
 import os
 import pathlib
@@ -21,6 +22,10 @@ ROOT = pathlib.Path(__file__).resolve().parent.parent
 TOOLS = ROOT / "tools"
 CLASSES = ("STANDARD", "STANDARD_IA", "ONEZONE_IA", "GLACIER_IR", "GLACIER", "DEEP_ARCHIVE")
 LEFT_OUT = 77  # as automake and meson have it
+
+# The tools keep the places that they reached in journals here, and not in the caches of who runs the tests.
+os.environ["OFFICE_STATE"] = tempfile.mkdtemp()
+atexit.register(shutil.rmtree, os.environ["OFFICE_STATE"], ignore_errors=True)
 
 
 class NoProgram(AssertionError):

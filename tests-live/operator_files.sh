@@ -51,7 +51,8 @@ if has bash 'the completions of bash'; then
             "$root/tools/completion/office.bash" "$@"
     }
     check 'bash: words of a tool' 'get set add edit remove' "$(complete_tool office-lifecycle --bucket logs '' | tr -d '\n')"
-    for tool in act-all month-end lifecycle import-inventory; do
+    check 'bash: words of journal-digest' 'verify extend mend' "$(complete_tool office-journal-digest '' | tr -d '\n')"
+    for tool in act-all month-end lifecycle import-inventory bill usage usage-page metrics backup; do
         for option in $(complete_tool "office-$tool" --); do
             check "$tool knows $option" yes "$("$root/tools/$tool" --help | grep -q -e "$option" && echo yes)"
         done

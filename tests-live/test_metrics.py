@@ -79,13 +79,13 @@ class Metrics(live.Case):
         wrong = []
         for before, later in zip(self.before, after):
             labels = f'bucket="logs",class="{before["class"]}",month="{MONTH}"'
-            found = byte_ms(samples["office_storage_byte_seconds_total", labels])
+            found = byte_ms(samples["office_month_storage_byte_seconds", labels])
             if not int(before["byte_ms"]) <= found <= int(later["byte_ms"]):
                 wrong.append((before, found, later))
-            if byte_ms(samples["office_early_deletion_byte_seconds_total", labels]) != int(later["early_byte_ms"]):
+            if byte_ms(samples["office_month_early_deletion_byte_seconds", labels]) != int(later["early_byte_ms"]):
                 wrong.append((before, labels))
         self.check("the meters are those of the server", [], wrong)
-        moves = [labels for name, labels in samples if name == "office_transitions_total" and 'bucket="logs"' in labels]
+        moves = [labels for name, labels in samples if name == "office_month_transitions" and 'bucket="logs"' in labels]
         self.check("all classes are there", 6, sum(MONTH in labels for labels in moves))
         self.check("versions of a bucket", "7", samples["office_bucket_versions", 'bucket="logs"'])
         self.check("the office is up", "1", samples["office_up", ""])
@@ -98,7 +98,7 @@ class Metrics(live.Case):
         self.compare(text)
         self.check("the size of the journal", str(journal.stat().st_size), samples_of(text)["office_journal_size_bytes", ""])
         self.check("both buckets of the journal", 2, len(re.findall("^office_bucket_up{", text, re.M)))
-        self.check("an early quantity is told", True, byte_ms(samples_of(text)["office_early_deletion_byte_seconds_total",
+        self.check("an early quantity is told", True, byte_ms(samples_of(text)["office_month_early_deletion_byte_seconds",
                    f'bucket="logs",class="STANDARD_IA",month="{MONTH}"']) > 2 ** 40 * 2_591_000_000)
 
     @live.needs("promtool")

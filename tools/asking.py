@@ -74,6 +74,12 @@ def server_of(url):
     raise argparse.ArgumentTypeError(f"'{url}' is no address as http://127.0.0.1:8080 or https://LOGIN@office.example:8443")
 
 
+def add_server(words, required=True):
+    """The word that names the server. --to and --from are older names."""
+    words.add_argument("--server", "--to", "--from", dest="server", metavar="URL", type=server_of, required=required,
+                       help="a running server, as http://127.0.0.1:8080")
+
+
 def fields_of(login):
     """The field of a login. The password is not among the words, which every user of the machine can read."""
     if login is None:

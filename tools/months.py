@@ -1,8 +1,13 @@
-"""Months, as 2026-11, and quantities in GiB-months; for usage, month-end and usage-page."""
+"""Months, as 2026-11, moments, and quantities in GiB-months; for the tools that report a month."""
 import argparse
 import calendar
+import datetime
 import fractions
 import re
+
+from asking import Stop
+
+EPOCH = datetime.datetime(1970, 1, 1)
 
 
 def month_of(text):
@@ -12,9 +17,30 @@ def month_of(text):
     return text
 
 
-def gib_months(byte_ms, month):
-    """Byte-milliseconds in GiB-months of this month, with nine digits behind the point."""
+def bounds_of(month):
+    """The first moment of a month, and the first behind it, in milliseconds since 1970."""
     year, number = map(int, month.split("-"))
-    whole = 2 ** 30 * 86_400_000 * calendar.monthrange(year, number)[1]
-    nano = round(fractions.Fraction(byte_ms * 10 ** 9, whole))
-    return f"{nano // 10 ** 9}.{nano % 10 ** 9:09}"
+    start = calendar.timegm((year, number, 1, 0, 0, 0)) * 1000
+    return start, start + calendar.monthrange(year, number)[1] * 86_400_000
+
+
+def ms_of(text):
+    """A moment of a reply, as 2026-11-05T00:00:00.000Z, in milliseconds since 1970. Status 2 if it is none."""
+    try:
+        if not re.fullmatch(r"\d{4}-\d\d-\d\dT\d\d:\d\d:\d\d\.\d{3}Z", text, re.ASCII):
+            raise ValueError
+        return (datetime.datetime.fromisoformat(text[:-1]) - EPOCH) // datetime.timedelta(milliseconds=1)
+    except ValueError:
+        raise Stop(2, f"a reply is none of the program: its moment is {text[:40]!r}") from None
+
+
+def moment(ms):
+    """Milliseconds since 1970 as a text, as 2026-11-05T00:00:00.000Z."""
+    return (EPOCH + datetime.timedelta(milliseconds=ms)).isoformat(timespec="milliseconds") + "Z"
+
+
+def gib_months(byte_ms, month, digits=9):
+    """Byte-milliseconds in GiB-months of this month, rounded to so many digits behind the point."""
+    start, end = bounds_of(month)
+    whole = round(fractions.Fraction(byte_ms * 10 ** digits, 2 ** 30 * (end - start)))
+    return f"{whole // 10 ** digits}.{whole % 10 ** digits:0{digits}}"

@@ -3,6 +3,7 @@ import html
 
 from entries import CLASSES
 from months import gib_months
+from statement import NOT_BILLED
 
 STYLE = """\
 :root { color-scheme: light dark; font: 16px/1.4 system-ui, sans-serif }
@@ -13,6 +14,8 @@ th, td { border-bottom: 1px solid #8886; padding: .3rem .6rem; text-align: left;
 th.n, td.n { font-variant-numeric: tabular-nums; text-align: right; white-space: nowrap }
 tfoot th, tfoot td { border-top: 2px solid; font-weight: 600 }
 meter { width: 8rem }
+.state { border-left: .3rem solid #8886; padding-left: .8rem }
+.warning { border-left: .3rem solid #c60; padding-left: .8rem }
 @media print { body { margin: 0; max-width: none } }
 """
 
@@ -20,6 +23,12 @@ meter { width: 8rem }
 def grouped(number):
     """A number with its exact value beside it, for readers that are programs."""
     return f'<data value="{number}">{number:,}</data>'
+
+
+def money(charge, unit):
+    """A charge in the unit of the page."""
+    text = unit.text(charge)
+    return f'<data value="{text.replace(",", "")}">{text}</data>'
 
 
 def months(byte_ms, month):
@@ -60,22 +69,36 @@ def sums(names, of, report, meters):
     return found
 
 
-def summary(name, caption, column, found, total, month):
+def summary(name, caption, column, found, statement, unit):
     """A table of sums by name, with their own sum last."""
+    month, total = statement.month, statement.report.total
+
     def numbers(stored, early, moves, charge):
-        return [months(stored, month), months(early, month), grouped(moves), grouped(charge), share(charge, total)]
+        return [months(stored, month), months(early, month), grouped(moves), money(charge, unit), share(charge, total)]
     rows = [cells([it], numbers(*of)) for it, of in found.items()]
     whole = [sum(it[place] for it in found.values()) for place in range(4)]
-    return table(name, caption, [column], ["stored, GiB-months", "early, GiB-months", "moves", "charge", "share"],
+    return table(name, caption, [column], ["stored, GiB-months", "early, GiB-months", "moves", f"charge, {html.escape(unit.name)}", "share"],
                  rows, cells(["total"], numbers(*whole)))
 
 
-def page_of(month, report, meters):
+def about(statement, unit, buckets):
+    """What stands above the tables: the state of the month, its charge, warnings, and what is not billed here."""
+    state, words = statement.state()
+    warnings = "".join(f'<p class="warning">Warning: {html.escape(it)}</p>\n' for it in statement.warnings())
+    as_of = f' data-as-of="{statement.as_of}"' if statement.as_of else ""
+    return (f'<p class="state" id="state" data-state="{state}"{as_of}><strong>{state.capitalize()}.</strong> {html.escape(words)}</p>\n{warnings}'
+            f'<p>Charge: <strong id="total">{money(statement.report.total, unit)}</strong> {html.escape(unit.name)}. Buckets with use: {buckets}.</p>\n'
+            "<p>A GiB-month is 2<sup>30</sup> bytes for the days of this month. Early is what is owed for objects that left their class too early. "
+            f"Not billed here: {NOT_BILLED}.</p>\n")
+
+
+def page_of(statement, meters, unit):
     """The page, whole."""
+    month, report = statement.month, statement.report
     buckets = sorted({it for it, _ in meters}, key=str.encode)
     used = {it for _, it in meters}
     classes = [it for it in CLASSES if it in used] + sorted(used - set(CLASSES))
-    lines = [cells([line.bucket, line.kind, line.storage_class], map(grouped, (line.quantity, line.price, line.charge)))
+    lines = [cells([line.bucket, line.kind, line.storage_class], [grouped(line.quantity), money(line.price, unit), money(line.charge, unit)])
              for line in report.lines]
     by_bucket, by_class = (sums(names, of, report, meters) for of, names in enumerate((buckets, classes)))
     return (f'<!DOCTYPE html>\n<html lang="en">\n<head>\n<meta charset="utf-8">\n'
@@ -83,11 +106,10 @@ def page_of(month, report, meters):
             '<meta name="viewport" content="width=device-width, initial-scale=1">\n'
             f"<title>Storage in {month}</title>\n<style>\n{STYLE}</style>\n</head>\n<body>\n"
             f'<h1>Storage in <time datetime="{month}">{month}</time></h1>\n'
-            f'<p>Charge: <strong id="total">{grouped(report.total)}</strong> units. Buckets with use: {len(buckets)}. A GiB-month is '
-            "2<sup>30</sup> bytes for the days of this month; early is what is owed for objects that left their class too early.</p>\n"
-            + summary("buckets", "By bucket", "bucket", by_bucket, report.total, month)
-            + summary("classes", "By storage class", "class", by_class, report.total, month)
+            + about(statement, unit, len(buckets))
+            + summary("buckets", "By bucket", "bucket", by_bucket, statement, unit)
+            + summary("classes", "By storage class", "class", by_class, statement, unit)
             + table("lines", "Lines of the report", ["bucket", "line", "class"],
-                    ["quantity (byte-milliseconds, moves)", "price", "charge"], lines,
-                    cells(["total", "", ""], ["", "", grouped(report.total)]))
+                    ["quantity (byte-milliseconds, moves)", "price", f"charge, {html.escape(unit.name)}"], lines,
+                    cells(["total", "", ""], ["", "", money(report.total, unit)]))
             + "</body>\n</html>\n")

@@ -1,4 +1,5 @@
 """The program itself, asked over its standard input in place of a connection: `office run` in this folder."""
+import contextlib
 import subprocess
 
 from asking import Office, Stop
@@ -16,7 +17,8 @@ class Running(Office):
 
     def ended(self, method, target):
         """The program gave no reply: its note went to standard error."""
-        self.process.stdin.close()
+        with contextlib.suppress(OSError):  # what was not taken yet goes nowhere
+            self.process.stdin.close()
         raise Stop(2, f"no reply from {self.name} to {method} {target}: it ended with status {self.process.wait(60)}")
 
     def exchange(self, method, target, sent=None):

@@ -1,8 +1,8 @@
 """Sends the versions of a listing to a running server, each once over any number of tries, for import-inventory."""
-import os
 import urllib.parse
 
 from asking import Stop, reason
+from files import atomic_write
 from listings import MARKER
 
 
@@ -45,14 +45,7 @@ def is_begun(state, digest, where):
 
 def begin(state, digest, where):
     """Says in its file that the import is begun, before anything is sent; the file is whole or absent."""
-    part = f"{state}.part"
-    try:
-        with open(part, "w", encoding="utf-8") as file:
-            print(digest, where, file=file, flush=True)
-            os.fsync(file.fileno())
-        os.replace(part, state)
-    except OSError as fault:
-        raise Stop(4, f"{state}: {fault.strerror}") from None
+    atomic_write(state, f"{digest} {where}\n")
 
 
 def present(office, bucket):

@@ -5,7 +5,8 @@ import sys
 import time
 import urllib.parse
 
-from asking import Stop, reason
+from actions import line_of
+from asking import Stop, reason, say
 
 KINDS = ("remove", "transition", "marker", "abort")
 
@@ -13,8 +14,9 @@ KINDS = ("remove", "transition", "marker", "abort")
 class Sweep:
     """What is counted on the way over the buckets."""
 
-    def __init__(self, tool, names):
+    def __init__(self, tool, names, log=None, json_lines=False):
         self.tool, self.names, self.done, self.refused, self.left = tool, names, 0, 0, []
+        self.log, self.json_lines = log, json_lines
         self.counts, self.begun = dict.fromkeys(KINDS, 0), time.monotonic()
         self.told = self.begun
 
@@ -33,6 +35,15 @@ class Sweep:
             raise Stop(2, f"a reply is none of the program: {json.dumps(found)[:80]}")
         self.counts[found["action"]] += 1
 
+    def keep(self, name, found):
+        """Counts an action that was done, and writes its line."""
+        self.count(found)
+        text = line_of(name, found)
+        if self.log:
+            self.log.done(text)
+        if self.json_lines:
+            say(text)
+
     def told_now(self):
         """How far it is, in one line."""
         actions, seconds = sum(self.counts.values()), max(time.monotonic() - self.begun, 0.001)
@@ -47,35 +58,51 @@ class Sweep:
             self.note(self.told_now())
 
 
-def target_of(name, word):
-    return f"/buckets/{urllib.parse.quote(name, safe='')}/{word}"
+def target_of(name, word, rest=None):
+    """Where a bucket is asked for something, or for something of a key."""
+    target = f"/buckets/{urllib.parse.quote(name, safe='')}/{word}"
+    return target if rest is None else f"{target}/{urllib.parse.quote(rest, safe='/')}"
+
+
+def act_once(office, sweep, name):
+    """Does the first action that is due in a bucket. Returns the reply."""
+    if sweep.log:
+        status, found = sweep.log.intend(office, name)
+        if status != 200 or found.get("action") == "none":
+            return status, found
+    status, found = office.ask("POST", target_of(name, "act"))
+    if status == 200 and found.get("action") != "none":
+        sweep.keep(name, found)
+    return status, found
 
 
 def act(office, sweep, name, most):
     """Does what is due in one bucket, at most so many actions."""
     for done in range(most + 1):
         # At the bound it is only asked whether more is due.
-        status, found = office.ask(*(("POST", target_of(name, "act")) if done < most else ("GET", target_of(name, "due"))))
+        status, found = act_once(office, sweep, name) if done < most else office.ask("GET", target_of(name, "due"))
         if status != 200:
             return sweep.refuse(name, status, found)
         if found.get("action") == "none":
             break
         if done == most:
             sweep.left.append(name)
-        else:
-            sweep.count(found)
         sweep.tell()
     sweep.done += 1
 
 
 def act_on_all(office, sweep, most):
     """Does what is due in all buckets of the sweep, and says at the end, however it comes, what was done."""
+    if sweep.log and (note := sweep.log.settle(office)):
+        sweep.note(note)
     try:
         for name in sweep.names:
             act(office, sweep, name, most)
     finally:
         left = f"; more is due in {', '.join(sweep.left)}" if sweep.left else ""
         sweep.note(sweep.told_now() + left)
+    if sweep.log:
+        sweep.log.end({"buckets": len(sweep.names), "refused": sweep.refused, "left": sweep.left, "actions": sum(sweep.counts.values())})
 
 
 def count_of(text):

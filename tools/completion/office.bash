@@ -44,7 +44,7 @@ _office_tool() {
     local word=${COMP_WORDS[COMP_CWORD]} before=${COMP_WORDS[COMP_CWORD - 1]} choices=
     COMPREPLY=()
     case $before in
-    --to | --server)
+    --server | --to | --from)
         mapfile -t COMPREPLY < <(compgen -W 'http://127.0.0.1:8080' -- "$word")
         return
         ;;
@@ -52,14 +52,25 @@ _office_tool() {
         mapfile -t COMPREPLY < <(compgen -W 'url plain' -- "$word")
         return
         ;;
-    --bucket | --most | --resource | --schema | --suspended | = | :) return ;;
+    --bucket | --most | --resource | --schema | --suspended | --unit | --listen | --keep | = | :) return ;;
     esac
     case $word,$1 in
-    -*,office-act-all) choices='--to --run --bucket --buckets --journal --most --dry-run --help' ;;
-    -*,office-month-end) choices='--server --bucket --buckets --journal --most --folder --help' ;;
-    -*,office-lifecycle) choices='--to --bucket --resource --yes --help' ;;
+    -*,office-act-all) choices='--server --run --bucket --buckets --journal --most --json --log --dry-run --help' ;;
+    -*,office-month-end) choices='--server --bucket --buckets --journal --most --log --folder --help' ;;
+    -*,office-lifecycle) choices='--server --bucket --resource --yes --help' ;;
     -*,office-import-inventory)
-        choices='--to --out --schema --bucket --keys --current --suspended --names --state --help'
+        choices='--server --out --schema --bucket --keys --current --suspended --names --state --help'
+        ;;
+    -*,office-bill) choices='--server --report --bucket --buckets --journal --unit --out --help' ;;
+    -*,office-usage-page) choices='--server --report --meters --bucket --buckets --journal --unit --out --help' ;;
+    -*,office-usage) choices='--server --bucket --buckets --journal --out --help' ;;
+    -*,office-metrics) choices='--server --bucket --buckets --journal --log --backups --out --listen --help' ;;
+    -*,office-backup) choices='--keep --other-disk --replaced --help' ;;
+    *,office-journal-digest)
+        case " ${COMP_WORDS[*]} " in
+        *' verify '* | *' extend '* | *' mend '*) ;;
+        *) choices='verify extend mend' ;;
+        esac
         ;;
     *,office-lifecycle)
         case " ${COMP_WORDS[*]} " in
@@ -76,4 +87,5 @@ _office_tool() {
 }
 
 complete -F _office office
-complete -F _office_tool office-act-all office-month-end office-lifecycle office-import-inventory
+complete -F _office_tool office-act-all office-month-end office-lifecycle office-import-inventory office-bill office-usage \
+    office-usage-page office-metrics office-backup office-journal-digest
