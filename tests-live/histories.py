@@ -17,7 +17,7 @@ KEYS, NAMES = ("a", "b/c", "b/d", "\u00e9"), ("logs", "rest")
 TAGS = ({}, {"k": "v"}, {"k": "w", "a": "b"})
 SIZES, PARTS, VERSIONS = (0, 5, 1_500, 131_072, 10**9), (1, 2, 10_001), ("null", "1", "2", "3")
 MODES = ("all_storage_classes_128K", "varies_by_storage_class")
-# Of rules what they do, and what they are about.
+# What a rule does, and what it is about.
 ACTIONS = (
     {"moves": [(30, "STANDARD_IA"), (90, "GLACIER")], "days": 200}, {"days": 10}, {"date": START + 40 * DAY}, {"lone_marker": True},
     {"abort": 7}, {"noncurrent": (5, 1)}, {"noncurrent": (60, None), "noncurrent_moves": [(30, 2, "ONEZONE_IA"), (45, None, "DEEP_ARCHIVE")]},
@@ -149,7 +149,7 @@ def act(bucket, it):
 
 
 class Kind(typing.NamedTuple):
-    """A kind of command: how often it is drawn, its request, its entry's fields behind the bucket, and what the model does."""
+    """A kind of command: how often it is drawn, its request, its entry's fields after the bucket, and what the model does."""
     weight: int
     method: str
     target: str
@@ -206,7 +206,7 @@ class History:
         return self.journal[:-1] + b"\0"
 
     def fill(self):
-        """Some 20, 60 or 150 commands over a time that such a number takes."""
+        """Two buckets perhaps, and 20, 60 or 150 commands, up to twelve days apart."""
         for _ in range(3):
             self.command(MAKE)
         for _ in range(self.draw.choice((20, 60, 150))):
@@ -223,7 +223,7 @@ class History:
         return rules, self.draw.choice(MODES)
 
     def draw_command(self, which):
-        """A kind of command, drawn where none is given, and what it is about."""
+        """A kind of command, drawn if none is given, and what it is about."""
         draw = self.draw
         about = (draw.choice(NAMES), draw.choice(KEYS), draw.choice(CLASSES), draw.choice(TAGS), draw.choice(SIZES), draw.choice(VERSIONS),
                  draw.randint(1, 4), draw.choice(PARTS))
@@ -252,7 +252,7 @@ class History:
         return kind.method, target, kind.body(it), reply
 
     def queries(self):
-        """Every query that is known, with what is replied to it now."""
+        """Every query of every bucket: the target, and the reply of now."""
         for name, bucket in sorted(self.buckets.items()):
             for target, reply in self.queries_of(name, bucket):
                 yield f"/buckets/{name}{target}", reply

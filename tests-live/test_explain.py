@@ -11,7 +11,7 @@ import io
 
 import live
 from histories import START, History
-from plain_office import DAY, window
+from plain_office import window
 
 HEAD = ["bucket", "key", "item", "class", "bytes", "from", "to"]
 MONTHS = [f"{year}-{month:02}" for year in (2030, 2031, 2032) for month in range(1, 13)]

@@ -39,7 +39,7 @@ class Gate(live.Case):
         made(self.copy / "tests-live/one.sh", '#!/bin/sh\n. "$(dirname -- "$0")/common"\ncheck one 1 1\nfinish\n')
 
     def gate(self, builds):
-        """The gate where `rt` does this."""
+        """Runs the gate with an `rt` that does this."""
         made(self.bin / "rt", f'#!/bin/sh\necho "rt $*"\n{builds}\n')
         return self.ended([self.copy / ".ci/run"], text=True, env={**os.environ, "PATH": f"{self.bin}:{os.environ['PATH']}"})
 
@@ -90,7 +90,7 @@ class EachScript(live.Case):
 
 
 class LeftOut(live.Case):
-    """The real scripts where a tool is missing."""
+    """The real scripts, if a tool is missing."""
 
     def path_without(self, *tools):
         """A PATH that has each command of this one but these."""

@@ -5,7 +5,6 @@ import collections
 import csv
 import fractions
 import html.parser
-import os
 import shutil
 import subprocess
 

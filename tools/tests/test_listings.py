@@ -154,7 +154,7 @@ class InOrder(unittest.TestCase):
         self.assertEqual(["old", "now"], self.names(self.row("now", 1, True), self.row("old", 2)))
 
     def test_versions_of_one_moment(self):
-        """S3 lists the newest first; a marker stands behind an object."""
+        """S3 lists the newest first; a marker comes after an object."""
         self.assertEqual(["1", "2"], self.names(self.row("2", 1), self.row("1", 1)))
         self.assertEqual(["object", "marker"], self.names(self.row("marker", 1, kind=MARKER), self.row("object", 1)))
         self.assertEqual(["object", "marker"], self.names(self.row("object", 1), self.row("marker", 1, kind=MARKER)))

@@ -51,7 +51,7 @@ class Rules(unittest.TestCase):
                           {"NoncurrentDays": 60, "NewerNoncurrentVersions": 2, "StorageClass": "GLACIER"}], found["NoncurrentVersionTransitions"])
 
     def test_transitions(self):
-        """Where a date is set the provider writes 0 days beside it; 0 days alone are the day of the creation."""
+        """If a date is set, the provider writes 0 days beside it; 0 days without a date are the day of the creation."""
         self.assertEqual([{"Days": 0, "StorageClass": "GLACIER"}, {"Date": "2030-01-01T00:00:00Z", "StorageClass": "DEEP_ARCHIVE"}],
                          self.rule(transition=[{"days": 0, "date": "", "storage_class": "GLACIER"},
                                                {"days": 0, "date": "2030-01-01T00:00:00Z", "storage_class": "DEEP_ARCHIVE"}])["Transitions"])
