@@ -1,9 +1,6 @@
 -- The elements of a list, by recursion.
 use Rattle.std.proofs.Common.{◌≡◌, ℕ, ◌<◌, ◌⊎◌, inl, inr, List, [], ◌∷◌, ◌++◌, length, get_or, refl, sym, ap, ◌∙◌, subst, Bool, true, false, cond, filter, map, flat_map, arith, zero, suc}
-
-abbrev pub Among : {X : Type 0} → List X → X → Type 0
-Among [] x = ⊥
-Among (y ∷ ys) x = (y ≡ x) ⊎ Among ys x
+use Rattle.due_index.specs.Search.{Among}
 
 pub among_append : {X : Type 0} (xs ys : List X) (x : X) → Among (xs ++ ys) x → Among xs x ⊎ Among ys x
 among_append [] ys x h = inr h

@@ -27,7 +27,8 @@ use Rattle.due_core.proofs.Pass.{has_come}
 use Rattle.due_index.specs.Firsts.{asked_of_key, asked_of_upload, first_on_key, first_on_upload}
 use Rattle.due_index.specs.Queue.{slot_at, IsHead}
 use Rattle.due_index.specs.Index.{IndexRecord, slot_of, IsOwned, IsTied, StandsFor, IsBucket, due_by}
-use Rattle.due_index.proofs.Among.{Among, among_append, among_front, among_back, among_filter, filtered, among_flat_map, flat_mapped, among_at, place_of}
+use Rattle.due_index.specs.Search.{Among}
+use Rattle.due_index.proofs.Among.{among_append, among_front, among_back, among_filter, filtered, among_flat_map, flat_mapped, among_at, place_of}
 use Rattle.due_index.proofs.Ties.{IsOnKey, IsOnUpload, on_key, on_upload, tied_on_key, tied_on_upload, neither_before, tied_key, tied_age, tied_kind}
 
 pub candidate_order : IsStrictWeakOrder comes_before

@@ -3,7 +3,9 @@ pub mod Building
 pub mod ByRule
 pub mod Chosen
 pub mod Counting
-pub mod Covering
+pub mod Firsts
+pub mod Noncurrents
+pub mod Oldest
 pub mod Orders
 pub mod PlaceOrder
 pub mod Prefixes

@@ -34,7 +34,8 @@ use Rattle.due_core.specs.declared.action.Target.{Target}
 use Rattle.due_core.specs.declared.action.Target.TheVariants as target
 use Rattle.due_core.specs.declared.action.Candidate.{Candidate}
 use Rattle.due_core.proofs.Precedence.{precedence_total}
-use Rattle.due_index.proofs.Among.{Among, among_append, among_map, among_filter, among_flat_map}
+use Rattle.due_index.specs.Search.{Among}
+use Rattle.due_index.proofs.Among.{among_append, among_map, among_filter, among_flat_map}
 
 -- ---- what a tie says
 

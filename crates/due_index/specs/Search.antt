@@ -1,25 +1,35 @@
 -- How the first action on a key or an upload is searched: what is kept so far, with the next one looked at.
-use Rattle.std.specs.Prelude.{ℕ, ◌-◌, ◌==◌, ◌++◌, max, List, [], fold, flat_map, nat_lt, Option, Some, option_map, if◌then◌else◌}
+use Rattle.std.specs.Prelude.{◌≡◌, ◌⊎◌, ℕ, ◌-◌, ◌==◌, ◌≤◌, ◌++◌, ◌∷◌, max, List, [], fold, map, flat_map, nat_lt, option_to_list, Option, Some, None, option_map}
+use Rattle.std.specs.Prelude.{Bool, true, false, ◌&&◌, if◌then◌else◌}
 use Rattle.std.specs.List.{enumerate_from}
-use Rattle.moments.specs.Time.{end_of_time}
+use Rattle.moments.specs.Time.{end_of_time, due}
 use Rattle.rules_core.specs.Matching.{has_prefix, matches_upload}
 use Rattle.rules_core.specs.Configurations.{Configuration}
 use Rattle.rules_core.specs.declared.rule.Rule.{Rule}
+use Rattle.rules_core.specs.declared.rule.Filter.{Filter}
+use Rattle.rules_core.specs.declared.rule.SizeMode.{SizeMode}
+use Rattle.rules_core.specs.declared.rule.Noncurrent.{Noncurrent}
+use Rattle.rules_core.specs.declared.rule.NoncurrentMove.{NoncurrentMove}
 use Rattle.stacks.specs.Stacks.{StackRecord}
 use Rattle.stacks.specs.declared.version.Version.{Version}
+use Rattle.stacks.specs.declared.version.Kind.{Kind}
+use Rattle.stacks.specs.declared.version.Kind.TheVariants.{Object, Marker as DeleteMarker}
 use Rattle.uploads.specs.Uploads.{UploadRecord}
 use Rattle.due_core.specs.Buckets.{BucketRecord}
 use Rattle.due_core.specs.Candidates.{timely}
-use Rattle.due_core.specs.RuleActions.{DueAction, Placed, placed_from, object_actions, noncurrent_removals, noncurrent_transitions}
-use Rattle.due_core.specs.RuleActions.{version_actions, matches_version, upload_actions}
+use Rattle.due_core.specs.RuleActions.{DueAction, Placed, placed_from}
+use Rattle.due_core.specs.RuleActions.{version_actions, matches_version, upload_actions, admits_move, keeps_newer}
+use Rattle.due_core.specs.Choice.{comes_before}
+use Rattle.due_core.specs.declared.action.ActionKind.{ActionKind}
+use Rattle.due_core.specs.declared.action.ActionKind.TheVariants.{Remove, Transition, Marker, Abort}
 use Rattle.due_core.specs.Search.{sooner}
 use Rattle.due_core.specs.declared.action.Target.{Target}
 use Rattle.due_core.specs.declared.action.Target.TheVariants as target
 use Rattle.due_core.specs.declared.action.Candidate.{Candidate}
 use Rattle.due_index.specs.Places.{candidate_of}
 use Rattle.due_index.specs.declared.place.Place.{Place}
-use Rattle.due_index.specs.declared.asked.Held.{Held}
 use Rattle.due_index.specs.declared.asked.Setting.{Setting}
+use Rattle.due_index.specs.declared.noncurrent.Step.{Step}
 
 -- the action of a place, on this key
 abbrev pub on_key : List ℕ → Option Place → Option Candidate
@@ -62,20 +72,84 @@ with_due aim first due = if nat_lt due.1 end_of_time then with_one first (aimed 
 abbrev pub with_each_due : Aim → Option Candidate → List DueAction → Option Candidate
 with_each_due aim first asked = fold (with_due aim) first asked
 
+-- ---- what comes first, whatever the order of the search
+
+-- it stands in the list
+abbrev pub Among : {X : Type 0} → List X → X → Type 0
+Among [] x = ⊥
+Among (y ∷ ys) x = (y ≡ x) ⊎ Among ys x
+
+-- there is a first, and the candidate does not come before it
+abbrev pub IsNotBefore : Candidate → Option Candidate → Type 0
+IsNotBefore candidate None = ⊥
+IsNotBefore candidate (Some first) = comes_before candidate first ≡ false
+
+-- the new first is the old one or one of these, and neither the old one nor any of these comes before it
+pub record IsFirstOf (old : Option Candidate) (These : Candidate → Type 0) (new : Option Candidate) : Type 0 where
+  pub one : (candidate : Candidate) → new ≡ Some candidate → (old ≡ Some candidate) ⊎ These candidate
+  pub old_not_before : (candidate : Candidate) → old ≡ Some candidate → IsNotBefore candidate new
+  pub none_before : (candidate : Candidate) → These candidate → IsNotBefore candidate new
+
+-- the same of a list
+abbrev pub IsFirstOfList : Option Candidate → List Candidate → Option Candidate → Type 0
+IsFirstOfList old asked new = IsFirstOf old (Among asked) new
+
+-- the current version of a key, with so many older ones
+abbrev pub current_placed : Version → ℕ → Placed
+current_placed version older = record { version = version; newer = 0; older = older }
+
+-- ---- noncurrent versions
+
+-- the removal of noncurrent versions that a rule asks for, and each move
+abbrev pub removal_step : Noncurrent → Step
+removal_step expiration = record { kind = Remove; newer = expiration.newer; days = expiration.days }
+
+abbrev pub move_step : NoncurrentMove → Step
+move_step move = record { kind = Transition move.to; newer = move.newer; days = move.days }
+
+-- what a rule asks of noncurrent versions: its removal, and its moves
+abbrev pub steps_of : Rule → List Step
+steps_of rule = map removal_step (option_to_list rule.noncurrent_expiration) ++ map move_step rule.noncurrent_moves
+
+-- a version may be moved to a class only where it is an object that the class admits
+abbrev pub admits_step : SizeMode → Filter → ActionKind → Kind → Bool
+admits_step mode filter Remove kind = true
+admits_step mode filter Marker kind = true
+admits_step mode filter Abort kind = true
+admits_step mode filter (Transition to) (Object size class tags entered) = admits_move mode filter class size to
+admits_step mode filter (Transition to) DeleteMarker = false
+
+-- the rule's filter matches the version, which may be moved so
+abbrev pub takes_step : SizeMode → Filter → ActionKind → List ℕ → Version → Bool
+takes_step mode filter kind key version = matches_version filter key version && admits_step mode filter kind version.kind
+
+-- what a removal or a move asks of a noncurrent version
+abbrev pub step_of_version : Setting → List ℕ × StackRecord → ℕ × Rule → Step → Placed → List Candidate
+step_of_version setting (key, stack) numbered step placed =
+    if takes_step setting.mode numbered.1.filter step.kind key placed.version
+    then timely key (target.Version placed.version.id) numbered.0 placed.older (max stack.changed setting.rules_since)
+    ((step.kind, due placed.version.ceased step.days) ∷ []) else []
+
+-- a removal or a move asks it of a noncurrent version that is not kept
+pub record IsOfStep (setting : Setting) (entry : List ℕ × StackRecord) (numbered : ℕ × Rule) (step : Step) (c : Candidate) : Type 0 where
+  pub placed : Placed
+  pub there : Among (placed_from 0 entry.1.versions) placed
+  pub noncurrent : 1 ≤ placed.newer
+  pub kept : keeps_newer step.newer (placed.newer - 1) ≡ true
+  pub asked : Among (step_of_version setting entry numbered step placed) c
+
+-- one of these removals and moves asks it
+pub record IsOfSteps (setting : Setting) (entry : List ℕ × StackRecord) (numbered : ℕ × Rule) (steps : List Step) (c : Candidate) : Type 0 where
+  pub step : Step
+  pub one : Among steps step
+  pub asked : IsOfStep setting entry numbered step c
+
 -- ---- the candidates in the order of the search: each version, and each rule with its place from 1
 
 -- what of a bucket and its configuration bears on a search
 abbrev pub setting_of : BucketRecord → Configuration → Setting
 setting_of bucket rules =
     record { versioning = bucket.versioning; mode = rules.mode; rules_since = bucket.rules_since }
-
--- what a rule asks of an object with so many newer versions
-abbrev pub asked_of_object : Setting → Rule → Held → Version → ℕ → List DueAction
-asked_of_object setting rule object version newer =
-    if newer == 0
-    then object_actions setting.versioning setting.mode rule object.size object.class version.created
-    else noncurrent_removals rule (newer - 1) version.ceased
-    ++ noncurrent_transitions setting.mode rule object.size object.class (newer - 1) version.ceased
 
 -- what an enabled rule asks of a version that it matches, in a stack that changed last at this moment
 abbrev pub asked_of_version : Setting → List ℕ → ℕ → Placed → ℕ × Rule → List Candidate

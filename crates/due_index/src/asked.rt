@@ -1,19 +1,21 @@
 // What one rule asks of one version or upload.
-ghost use Rattle.std.specs.Prelude.{◌≡◌, ◌∷◌, ◌-◌, ◌==◌, ℕ, List, [], map, if◌then◌else◌};
+ghost use Rattle.std.specs.Prelude.{◌≡◌, ◌∷◌, ◌==◌, ℕ, List, [], map, max, if◌then◌else◌};
 ghost use Rattle.moments.specs.Time.{due, next_midnight};
 ghost use Rattle.due_core.specs.RuleActions.{expirations, expiring, expiration_actions, transition_actions};
-ghost use Rattle.due_core.specs.RuleActions.{noncurrent_removals, noncurrent_transitions, lone_marker_actions};
+ghost use Rattle.due_core.specs.RuleActions.{lone_marker_actions, object_actions, matches_version};
 ghost use Rattle.due_core.specs.RuleActions.{keeps_newer, admits_move, due_when, version_actions, upload_actions};
 ghost use Rattle.due_core.specs.Search.{sooner};
 ghost use Rattle.due_index.specs.Places.{candidate_of};
-ghost use Rattle.due_index.specs.Search.{on_key, with_each_due, asked_of_object};
+ghost use Rattle.due_index.specs.Search.{on_key, with_each_due, current_placed};
 
 use crate::place::Place;
 use class_rules::{Class, may_go};
 use due_core::{ActionKind, Target};
 use moments::{Moment, due_after, up};
 use office_base::{Key, Size};
-use rules_core::{Expiration, Rule, SizeMode, Transition, When, size_admits};
+use rules_core::{
+    Expiration, Filter, Rule, SizeMode, Transition, When, matches, matches_marker, size_admits,
+};
 use stacks::{Kind, Version, Versioning};
 use std::marker::Model;
 use uploads::Upload;
@@ -82,8 +84,25 @@ impl<'a> Model for Placed<'a> {
     ghost view = { λ p. record { version = p.version.now; newer = p.newer; older = p.older } };
 }
 
+// The later of two moments.
+pub(crate) fn later(a: Moment, b: Moment) -> Moment
+    ensures { result ≡ max a b }
+{
+    if a.ms() < b.ms() { b } else { a }
+}
+
+// The filter matches the version.
+pub(crate) fn matches_version(filter: &Filter, key: &Key, version: &Version) -> bool
+    ensures { result ≡ matches_version filter.now key.now version.now }
+{
+    match &version.kind {
+        Kind::Object { size, tags, .. } => matches(filter, key, tags, *size),
+        Kind::Marker => matches_marker(filter, key),
+    }
+}
+
 // At least as many newer versions are there as the rule keeps.
-fn keeps_newer(wanted: Option<u32>, newer: u64) -> bool
+pub(crate) fn keeps_newer(wanted: Option<u32>, newer: u64) -> bool
     ensures { result ≡ keeps_newer wanted newer }
 {
     wanted.unwrap_or(0) as u64 <= newer
@@ -131,7 +150,13 @@ impl<'a> Aim<'a> {
     }
 
     // Looks at an action that is due so many days after a moment.
-    fn in_days(&self, best: &mut Option<Place>, kind: ActionKind, from: Moment, days: u32)
+    pub(crate) fn in_days(
+        &self,
+        best: &mut Option<Place>,
+        kind: ActionKind,
+        from: Moment,
+        days: u32,
+    )
         ensures { on_key self.now.key best.new
             ≡ with_each_due self.now (on_key self.now.key best.old) ((kind, due from days) ∷ []) }
     {
@@ -205,43 +230,6 @@ impl<'a> Aim<'a> {
         }
     }
 
-    // Looks at the moves of a noncurrent object.
-    fn noncurrent_moves(
-        &self,
-        best: &mut Option<Place>,
-        mode: SizeMode,
-        rule: &Rule,
-        object: &Held,
-        newer: u64,
-        ceased: Moment,
-    )
-        ensures { on_key self.now.key best.new
-            ≡ with_each_due self.now (on_key self.now.key best.old)
-            (noncurrent_transitions mode rule.now object.now.size object.now.class newer ceased) }
-    {
-        for step in rule.noncurrent_moves.as_slice() {
-            if keeps_newer(step.newer, newer) && object.admits(mode, rule, step.to) {
-                let kind = ActionKind::Transition(step.to);
-                self.in_days(best, kind, ceased, step.days);
-            }
-        }
-    }
-
-    // Looks at the removal of a noncurrent version.
-    fn noncurrent_removal(&self, best: &mut Option<Place>, rule: &Rule, newer: u64, ceased: Moment)
-        ensures { on_key self.now.key best.new
-            ≡ with_each_due self.now (on_key self.now.key best.old) (noncurrent_removals rule.now newer ceased) }
-    {
-        match rule.noncurrent_expiration {
-            Some(expiration) => {
-                if keeps_newer(expiration.newer, newer) {
-                    self.in_days(best, ActionKind::Remove, ceased, expiration.days)
-                } else {}
-            }
-            None => {}
-        }
-    }
-
     // Looks at what ends a current object.
     fn expiration(
         &self,
@@ -286,70 +274,65 @@ impl<'a> Aim<'a> {
         }
     }
 
-    // Looks at all that a rule asks of an object with so many newer versions.
+    // Looks at all that a rule asks of a current object.
     fn object(
         &self,
         best: &mut Option<Place>,
         setting: &Setting,
         rule: &Rule,
         object: &Held,
-        version: &Version,
-        newer: u64,
+        created: Moment,
     )
         ensures { on_key self.now.key best.new
             ≡ with_each_due self.now (on_key self.now.key best.old)
-            (asked_of_object setting.now rule.now object.now version.now newer) }
+            (object_actions setting.now.versioning setting.now.mode rule.now object.now.size object.now.class created) }
     {
-        if newer == 0 {
-            self.expiration(best, setting.versioning, rule, version.created);
-            self.transitions(best, setting.mode, rule, object, version.created);
-            return;
-        }
-        let ceased = version.ceased;
-        self.noncurrent_removal(best, rule, newer - 1, ceased);
-        self.noncurrent_moves(best, setting.mode, rule, object, newer - 1, ceased)
+        self.expiration(best, setting.versioning, rule, created);
+        self.transitions(best, setting.mode, rule, object, created);
     }
 
-    // Looks at all that a rule asks of a delete marker.
-    fn marker(&self, best: &mut Option<Place>, rule: &Rule, placed: &Placed<'a>, changed: Moment)
-        ensures { on_key self.now.key best.new
-            ≡ with_each_due self.now (on_key self.now.key best.old)
-            (if placed.now.newer == 0
-            then (if placed.now.older == 0 then lone_marker_actions rule.now placed.now.version.created changed else [])
-            else noncurrent_removals rule.now (placed.now.newer - 1) placed.now.version.ceased) }
-    {
-        if placed.newer == 0 {
-            if placed.older == 0 {
-                self.lone_marker(best, rule, placed.version.created, changed)
-            } else {}
-        } else {
-            self.noncurrent_removal(best, rule, placed.newer - 1, placed.version.ceased)
-        }
-    }
-
-    /// Looks at all that a rule asks of a version.
-    #[tactic(auto, unfolding(due_core::specs::RuleActions::version_actions))]
-    pub(crate) fn version(
+    // Looks at all that a rule asks of a delete marker that is current.
+    fn marker(
         &self,
         best: &mut Option<Place>,
-        setting: &Setting,
         rule: &Rule,
-        placed: &Placed<'a>,
+        older: u64,
+        created: Moment,
         changed: Moment,
     )
         ensures { on_key self.now.key best.new
             ≡ with_each_due self.now (on_key self.now.key best.old)
-            (version_actions setting.now.versioning setting.now.mode changed rule.now placed.now) }
+            (if older == 0 then lone_marker_actions rule.now created changed else []) }
     {
-        match &placed.version.kind {
+        if older == 0 {
+            self.lone_marker(best, rule, created, changed)
+        } else {}
+    }
+
+    /// Looks at all that a rule asks of a current version.
+    #[tactic(auto, unfolding(due_core::specs::RuleActions::version_actions))]
+    pub(crate) fn current(
+        &self,
+        best: &mut Option<Place>,
+        setting: &Setting,
+        rule: &Rule,
+        version: &Version,
+        older: u64,
+        changed: Moment,
+    )
+        ensures { on_key self.now.key best.new
+            ≡ with_each_due self.now (on_key self.now.key best.old)
+            (version_actions setting.now.versioning setting.now.mode changed rule.now (current_placed version.now older)) }
+    {
+        match &version.kind {
             Kind::Object { size, class, .. } => {
                 let object = Held {
                     size: *size,
                     class: *class,
                 };
-                self.object(best, setting, rule, &object, placed.version, placed.newer)
+                self.object(best, setting, rule, &object, version.created)
             }
-            Kind::Marker => self.marker(best, rule, placed, changed),
+            Kind::Marker => self.marker(best, rule, older, version.created, changed),
         }
     }
 

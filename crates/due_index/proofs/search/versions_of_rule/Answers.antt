@@ -1,25 +1,24 @@
-use Rattle.std.proofs.Common.{ℕ, List, refl, ap, ◌∙◌, flat_map}
-use Rattle.due_core.specs.RuleActions.{Placed, placed_from}
-use Rattle.due_core.specs.declared.action.Candidate.{Candidate}
-use Rattle.due_core.proofs.Loops.{placed_turn, placed_end}
-use Rattle.due_core.proofs.Places.{placed, older_left}
-use Rattle.due_index.specs.Search.{on_key, with_each, with_one, asked_of_version}
+use Rattle.std.proofs.Common.{◌≡◌, ◌+◌, ◌-◌, length, get_or, ap, ◌∙◌, sym, arith}
+use Rattle.std.specs.Prelude.{option_copied}
+use Rattle.due_index.specs.Search.{on_key, with_each, asked_of_version, current_placed}
+use Rattle.due_index.proofs.Noncurrents.{no_versions, no_first, first_is, by_version}
 use Rattle.due_index.proofs.search.versions_of_rule.Goals as goal
 
-pub loop-i-preserved : goal.loop-i-preserved
-loop-i-preserved c =
-    let asked : Placed → List Candidate = λ p. asked_of_version c.args.setting.now c.args.key.now c.changed-changed.result p (c.args.number, c.args.rule.now) in
-    let versions = c.versions-versions.result.now in
-    let i = c.loop-i.i in
-    let older = older_left versions i in
-    placed_turn with_one asked placed_from placed
-    (λ _. refl) (λ _ _ _. refl) _ _ _ versions i i c.index-versions-i.result c.loop-i-test.true c.index-versions-i.is c.loop-i.invariant
-    (c.rule_of_version.ensures ∙ ap (λ n. with_each (on_key c.args.key.now c.loop-i.best) (asked (record { version = c.index-versions-i.result; newer = i; older = n }))) older)
+pub returns-in_default : goal.returns-in_default
+returns-in_default c =
+    no_versions c.args.setting.now c.args.key.now c.args.of_key.now (c.args.number, c.args.rule.now) (on_key c.args.key.now c.args.best.now)
+    (sym c.versions-versions.ensures.same ∙ no_first c.versions-versions.result.now (sym c.first.ensures.value ∙ ap option_copied c.in_default.is))
 
 pub returns : goal.returns
 returns c =
-    let asked : ℕ → Placed → List Candidate = λ changed p. asked_of_version c.args.setting.now c.args.key.now changed p (c.args.number, c.args.rule.now) in
-    placed_end with_one (asked c.changed-changed.result) placed_from placed
-    (λ _. refl) (λ _ _ _. refl) _ _ c.versions-versions.result.now c.loop-i.i c.loop-i.i c.loop-i-test.false c.loop-i.invariant
-    ∙ ap (λ changed. with_each (on_key c.args.key.now c.args.best.now) (flat_map (asked changed) (placed_from 0 c.versions-versions.result.now))) c.changed-changed.ensures
-    ∙ ap (λ versions. with_each (on_key c.args.key.now c.args.best.now) (flat_map (asked c.args.of_key.now.changed) (placed_from 0 versions))) c.versions-versions.ensures.same
+    let v = c.in-Some.current.now in
+    let size : length c.versions-versions.result.now ≡ length c.args.of_key.now.versions = ap length c.versions-versions.ensures.same in
+    let first = first_is c.versions-versions.result.now v (sym (ap option_copied c.in-Some.is) ∙ c.first.ensures.value) in
+    let here : v ≡ get_or c.args.of_key.now.versions 0 v = first.0 ∙ ap (λ vs. get_or vs 0 c.in-Some.current.now) c.versions-versions.ensures.same in
+    let some = first.1 in
+    let older = length c.versions-versions.result.now - 1 in
+    by_version c.args.setting.now c.args.key.now c.args.of_key.now (c.args.number, c.args.rule.now) c.requires.enabled v older here (omega arith)
+    (on_key c.args.key.now c.args.best.now) (on_key c.args.key.now c.rule_of_current.new.best) (on_key c.args.key.now c.noncurrent.new.best)
+    (c.rule_of_current.ensures ∙ ap (λ changed. with_each (on_key c.args.key.now c.args.best.now)
+    (asked_of_version c.args.setting.now c.args.key.now changed (current_placed c.in-Some.current.now (length c.versions-versions.result.now - 1)) (c.args.number, c.args.rule.now))) c.changed.ensures)
+    c.noncurrent.ensures

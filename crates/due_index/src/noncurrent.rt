@@ -1,0 +1,198 @@
+// What a rule asks of the noncurrent versions of a key, looked for from the oldest version on.
+ghost use Rattle.std.specs.Prelude.{◌≡◌, map, option_to_list};
+ghost use Rattle.due_core.specs.RuleActions.{matches_version, keeps_newer};
+ghost use Rattle.due_index.specs.Search.{on_key, with_each, IsFirstOf, IsOfStep, IsOfSteps, removal_step, move_step};
+ghost use Rattle.due_index.specs.Search.{admits_step, takes_step, step_of_version, steps_of};
+
+use crate::asked::{Aim, Placed, Setting, keeps_newer, later, matches_version};
+use crate::place::Place;
+use class_rules::may_go;
+use due_core::{ActionKind, Target};
+use office_base::Key;
+use rules_core::{Filter, Noncurrent, NoncurrentMove, Rule, SizeMode, size_admits};
+use stacks::{Kind, Stack, Version};
+
+/// A removal or a move that a rule asks of noncurrent versions.
+#[derive(Clone, Copy)]
+pub(crate) struct Step {
+    pub(crate) kind: ActionKind,
+    /// How many newer noncurrent versions are kept.
+    pub(crate) newer: Option<u32>,
+    /// So many days after the version became noncurrent.
+    pub(crate) days: u32,
+}
+
+fn removal_step(expiration: Noncurrent) -> Step
+    ensures { result ≡ removal_step expiration }
+{
+    Step {
+        kind: ActionKind::Remove,
+        newer: expiration.newer,
+        days: expiration.days,
+    }
+}
+
+fn move_step(step: NoncurrentMove) -> Step
+    ensures { result ≡ move_step step }
+{
+    Step {
+        kind: ActionKind::Transition(step.to),
+        newer: step.newer,
+        days: step.days,
+    }
+}
+
+// A version may be moved to a class only where it is an object that the class admits.
+fn admits_step(mode: SizeMode, filter: &Filter, kind: ActionKind, of: &Kind) -> bool
+    ensures { result ≡ admits_step mode filter.now kind of.now }
+{
+    match kind {
+        ActionKind::Transition(to) => match of {
+            Kind::Object { size, class, .. } => {
+                may_go(*class, to) && size_admits(mode, filter, to, *size)
+            }
+            Kind::Marker => false,
+        },
+        ActionKind::Remove | ActionKind::Marker | ActionKind::Abort => true,
+    }
+}
+
+// The rule's filter matches the version, which may be moved so.
+fn takes_step(
+    mode: SizeMode,
+    filter: &Filter,
+    kind: ActionKind,
+    key: &Key,
+    version: &Version,
+) -> bool
+    ensures { result ≡ takes_step mode filter.now kind key.now version.now }
+{
+    matches_version(filter, key, version) && admits_step(mode, filter, kind, &version.kind)
+}
+
+// Looks at what a removal or a move asks of a noncurrent version, and tells whether it takes the version.
+#[tactic(auto, using(crate::proofs::Searching::due_come))]
+fn step_of_version(
+    best: &mut Option<Place>,
+    setting: &Setting,
+    rule: &Rule,
+    number: u32,
+    key: &Key,
+    of_key: &Stack,
+    step: Step,
+    placed: &Placed<'_>,
+) -> bool
+    ensures takes { result ≡ takes_step setting.now.mode rule.now.filter step.kind key.now placed.now.version }
+    ensures first { on_key key.now best.new ≡ with_each (on_key key.now best.old)
+        (step_of_version setting.now (key.now, of_key.now) (number, rule.now) step placed.now) }
+{
+    if !takes_step(setting.mode, &rule.filter, step.kind, key, placed.version) {
+        return false;
+    }
+    let aim = Aim {
+        key,
+        target: Target::Version(placed.version.id),
+        age: placed.older,
+        rule: number,
+        not_before: later(of_key.changed(), setting.rules_since),
+    };
+    aim.in_days(best, step.kind, placed.version.ceased, step.days);
+    true
+}
+
+// Looks for what a removal or a move asks of the noncurrent versions of a key. Where they ceased in order, the oldest
+// one that it takes comes first.
+fn step_of_key(
+    best: &mut Option<Place>,
+    setting: &Setting,
+    rule: &Rule,
+    number: u32,
+    key: &Key,
+    of_key: &Stack,
+    step: Step,
+)
+    ensures { IsFirstOf (on_key key.now best.old) (IsOfStep setting.now (key.now, of_key.now) (number, rule.now) step)
+        (on_key key.now best.new) }
+{
+    let versions = of_key.versions();
+    let in_order = of_key.is_in_order();
+    let mut i = versions.len();
+    while i > 1 {
+        i -= 1;
+        if !keeps_newer(step.newer, i as u64 - 1) {
+            return;
+        }
+        let placed = Placed {
+            version: &versions[i],
+            newer: i as u64,
+            older: (versions.len() - i - 1) as u64,
+        };
+        let takes = step_of_version(best, setting, rule, number, key, of_key, step, &placed);
+        if takes && in_order {
+            return;
+        }
+    }
+}
+
+// Looks for the removal that the rule asks of the noncurrent versions of a key.
+fn removal(
+    best: &mut Option<Place>,
+    setting: &Setting,
+    rule: &Rule,
+    number: u32,
+    key: &Key,
+    of_key: &Stack,
+)
+    ensures { IsFirstOf (on_key key.now best.old)
+        (IsOfSteps setting.now (key.now, of_key.now) (number, rule.now)
+        (map removal_step (option_to_list rule.now.noncurrent_expiration)))
+        (on_key key.now best.new) }
+{
+    match rule.noncurrent_expiration {
+        Some(expiration) => step_of_key(
+            best,
+            setting,
+            rule,
+            number,
+            key,
+            of_key,
+            removal_step(expiration),
+        ),
+        None => {}
+    }
+}
+
+// Looks for the moves that the rule asks of the noncurrent versions of a key.
+fn moves(
+    best: &mut Option<Place>,
+    setting: &Setting,
+    rule: &Rule,
+    number: u32,
+    key: &Key,
+    of_key: &Stack,
+)
+    ensures { IsFirstOf (on_key key.now best.old)
+        (IsOfSteps setting.now (key.now, of_key.now) (number, rule.now) (map move_step rule.now.noncurrent_moves))
+        (on_key key.now best.new) }
+{
+    for asked in rule.noncurrent_moves.as_slice() {
+        step_of_key(best, setting, rule, number, key, of_key, move_step(*asked));
+    }
+}
+
+/// Looks for what the rule asks of the noncurrent versions of a key: its removal, and each of its moves.
+pub(crate) fn noncurrent(
+    best: &mut Option<Place>,
+    setting: &Setting,
+    rule: &Rule,
+    number: u32,
+    key: &Key,
+    of_key: &Stack,
+)
+    ensures { IsFirstOf (on_key key.now best.old)
+        (IsOfSteps setting.now (key.now, of_key.now) (number, rule.now) (steps_of rule.now))
+        (on_key key.now best.new) }
+{
+    removal(best, setting, rule, number, key, of_key);
+    moves(best, setting, rule, number, key, of_key);
+}
