@@ -129,8 +129,8 @@ class Build:
         self.jobs = min(len(os.sched_getaffinity(0)), self.room)
 
     def start(self):
-        """Starts what can be started: the crate with the longest chain, with a job for each processor, as far as half of
-        the memory goes; and others, with a share of as many jobs again, as far as the memory goes."""
+        """Starts what can be started: the crate with the longest chain, with a job for each processor, as far as half
+        of the memory goes; and others, with a share of as many jobs again, as far as the memory goes."""
         longest = max((it for it in self.names[:-1] if it not in self.done), key=self.chain.get)
         begun = [*self.done, *(it.name for it in self.running)]
         ready = [it for it in self.names[:-1] if it not in begun and {*self.uses[it]} <= {*self.done}]
