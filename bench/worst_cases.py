@@ -116,7 +116,7 @@ def reply(office):
 
 
 def due(office):
-    rules = [{"Status": "Enabled", "Filter": {"Prefix": f"k{i}"}, "Expiration": {"Days": 30}} for i in range(1_000)]
+    rules = [{"Status": "Enabled", "Filter": {"Prefix": ""}, "Expiration": {"Days": 30 + i}} for i in range(1_000)]
     begin = [message("PUT /buckets/aaa"), message("PUT /buckets/aaa/lifecycle", json.dumps({"Rules": rules}).encode())]
     office.run(begin + [message(f"PUT /buckets/aaa/objects/k{i}", b'{"size":5}') for i in range(100_000)])
     asked = message("GET /buckets/aaa/due")
