@@ -105,20 +105,20 @@ class ActLog(live.Case):
         with Odd(self.server.port) as odd:
             odd.replies = {("POST", "/buckets/logs/act"): LOSE_REPLY}
             self.act_all("--log", self.log, at=f"http://127.0.0.1:{odd.port}")
-        state, whole = (self.folder / "actions.jsonl.state"), None
+        state = self.folder / "actions.jsonl.state"
         kept = state.read_text("utf-8")
-        self.act_all("--log", self.log, "--most", "1")
-        whole = self.log.read_bytes()
-        first = whole.split(b"\n")[0] + b"\n"
+        self.check("one more is done", 6, self.act_all("--log", self.log, "--most", "1")[0])
+        first = self.log.read_bytes().split(b"\n")[0] + b"\n"
         self.complete("settled")
-        for count in (0, 1, len(first) // 2, len(first) - 1):
+        # The same stop again, with the file and its state as they were then; the actions behind it are done by now.
+        for count in (0, 1, len(first) // 2, len(first) - 1, len(first)):
             self.log.write_bytes(first[:count])
             state.write_text(kept)
-            # What the run after it did is lost with its lines here; the stop is one before it.
-            status, _, notes = self.act_all("--log", self.log, "--bucket", "logs", "--most", "1")
-            self.check(f"{count} bytes of the line", first, self.log.read_bytes()[:len(first)])
-        state.write_text(kept + kept.splitlines()[1][:30])
+            status, _, notes = self.act_all("--log", self.log, "--most", "1")
+            self.check(f"{count} bytes of the line", (True, first, count < len(first)), (status in (0, 6), self.log.read_bytes()[:len(first)],
+                                                                                          "its line is written now" in notes))
         self.log.write_bytes(b"")
+        state.write_text(kept + kept.splitlines()[1][:30])
         self.check("a part of a line of the state", (0, first), (self.act_all("--log", self.log)[0], self.log.read_bytes()[:len(first)]))
 
     def test_killed(self):

@@ -54,7 +54,7 @@ class Gate(live.Case):
     def test_nothing_is_built(self):
         done = self.gate("exit 0")
         self.check("status, and the last line", (1, "0 passed, 1 failed"), (done.returncode, last_line(done)))
-        self.check("why", True, "FAILED: there is no program 'crates/office_cli/out/office_cli'" in done.stdout.splitlines())
+        self.check("why", True, "FAILED: 'rt ci' built no crates/office_cli/out/office_cli" in done.stdout.splitlines())
 
     def test_a_program_of_an_earlier_run(self):
         made(self.built, "#!/bin/sh\nexit 1\n")

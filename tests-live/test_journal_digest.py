@@ -114,6 +114,12 @@ class JournalDigest(live.Case):
         self.check("--replaced", 0, self.backup("--replaced")[0])
         self.check("a journal of before is another one now", 6, self.run_tool("backup", self.file("old", journal(*BEGUN)), self.copies)[0])
 
+    def test_a_journal_that_is_shorter(self):
+        self.backup()
+        self.journal.write_bytes(journal(*BEGUN[:-1]))
+        status, _, note = self.backup()
+        self.check("an entry less", (6, True), (status, "block 2 of 2" in note and "is missing, the journal is shorter than it was" in note))
+
     def test_extend(self):
         self.check("extend makes it", 0, self.digest_tool("extend", "sums", self.journal)[0])
         self.journal.write_bytes(journal(*MORE))

@@ -36,6 +36,7 @@ HELP = {
 LIMITS = {"Buckets": 1_000, "Versions": 200_000, "Uploads": 20_000, "Parts": 500_000, "Names": 536_870_912, "Rules": 67_108_864,
           "Journal": 1_073_741_824}
 LEAST_WAIT = 0.05  # seconds between two readings of a meter
+PATIENCE = 1.0  # seconds in which buckets that change are read again; then the bytes are a mean of the time between two readings
 
 
 def label(text):
@@ -77,7 +78,7 @@ def rates(one, two):
             if all(it >= 0 and it % ms == 0 for it in grown)}
 
 
-def billed_now(office, target, one):
+def billed_now(office, target, one, until):
     """The bytes by class that are billed now, and whether the meter moved. Changes in between are waited out, a few times."""
     found, guess = None, None
     for _ in range(5):
@@ -91,6 +92,8 @@ def billed_now(office, target, one):
         guess = tuple(max(0, later - before) // middle for before, later in zip(one.stored, two.stored))
         if len(found) == 1:
             return found.pop(), two.stored != one.stored
+        if time.monotonic() > until:
+            break
         one = one if fit else two
     return guess, True
 
@@ -135,7 +138,8 @@ class Reading:
 
     def now(self, office):
         """What all buckets store now, from a second reading of their meters, and what the month costs."""
-        found = {name: billed_now(office, f"{target_of(name)}/meters/{one.found['month']}", one) for name, one in self.first.items()}
+        until = time.monotonic() + PATIENCE
+        found = {name: billed_now(office, f"{target_of(name)}/meters/{one.found['month']}", one, until) for name, one in self.first.items()}
         # Where no meter moves the clock of the office stands, since it was ahead once, and nothing can be said of now.
         if any(it and it[1] for it in found.values()):
             for name, it in found.items():

@@ -50,6 +50,8 @@ class Statement(typing.NamedTuple):
         if self.is_closed:
             return "closed", "The month is closed: this is final."
         end = moment(bounds_of(self.month)[1])
+        if self.as_of is None and self.is_closed is False:
+            return "open", f"The month is not closed. These are the figures of {self.source}, and they may change."
         if self.as_of is None:
             return "not known", f"These are the figures of {self.source}, which does not say whether the month is closed."
         if self.as_of < end:

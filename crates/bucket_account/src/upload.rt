@@ -161,7 +161,8 @@ pub(crate) fn put_part(
     })
 }
 
-/// Makes an object of the parts of an upload, which goes. What comes next is renewed on the key, and then on the upload.
+/// Makes an object of the parts of an upload, which goes. What comes next is renewed on the key first, and then on the
+/// upload.
 ///
 /// Rule: S3 User Guide, "Uploading and copying objects using multipart upload": completion. Own rule: the object is
 /// created at the moment.

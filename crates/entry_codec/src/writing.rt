@@ -17,12 +17,17 @@ use std::alloc::Global;
 /// next power of two. A reader can refuse what is longer before it takes memory for it.
 pub const ENTRY_LIMIT: u64 = 268_435_456;
 
+// The bytes that most entries stay below: a buffer of as many need not grow for one.
+const USUAL_BYTES: usize = 96;
+
 #[tactic(auto, unfolding(crate::specs::Spelling::spelling, crate::specs::Fields::moment_format))]
 fn written(alloc: Global, moment: Moment, command: &Command) -> Result<Vec<u8>, NoMemory>
     ensures bytes { IfOk result (λ bytes. bytes.items ≡ spelling (entry_at moment command.now)) }
     ensures fits { IfOk result (λ _. EntryFits (entry_at moment command.now)) }
 {
-    let mut out = Vec::new(alloc);
+    let Ok(mut out) = Vec::with_capacity(alloc, USUAL_BYTES) else {
+        return Err(NoMemory);
+    };
     if out.extend_from_slice(&moment.ms().to_be_bytes()).is_err() {
         return Err(NoMemory);
     }

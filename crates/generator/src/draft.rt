@@ -1,5 +1,5 @@
 // Commands in numbers, whose names and keys are not written out yet.
-ghost use Rattle.std.specs.Prelude.{◌≡◌, [], ◌∷◌, true, IfOk};
+ghost use Rattle.std.specs.Prelude.{◌≡◌, [], ◌∷◌, ◌++◌, decimal, string_bytes, true, IfOk};
 ghost use Rattle.generator.specs.Drafts.{name_of, key_named, drafted_id, prices, rule_named, rules_set, draft_command};
 
 use class_rules::Class;
@@ -59,11 +59,22 @@ pub(crate) enum Draft {
     },
 }
 
+// A text of these letters and a number behind them.
+fn numbered(alloc: Global, letters: &str, number: u64) -> Result<String, AllocError>
+    ensures { IfOk result (λ text. string_bytes text ≡ letters.now ++ decimal number) }
+{
+    let mut text = String::with_capacity(alloc, 24)?;
+    text.push_str(letters)?;
+    let mut digits = itoa::Buffer::new();
+    text.push_str(digits.format(number))?;
+    Ok(text)
+}
+
 // The name of a bucket.
 pub(crate) fn bucket_name(alloc: Global, bucket: u64) -> Result<BucketName, NoMemory>
     ensures { IfOk result (λ name. name ≡ name_of bucket) }
 {
-    let Ok(text) = format!(in alloc; "gen-{bucket}") else {
+    let Ok(text) = numbered(alloc, "gen-", bucket) else {
         return Err(NoMemory);
     };
     match BucketName::read(alloc, &text) {
@@ -75,7 +86,7 @@ pub(crate) fn bucket_name(alloc: Global, bucket: u64) -> Result<BucketName, NoMe
 fn key_of(alloc: Global, key: u64) -> Result<Key, NoMemory>
     ensures { IfOk result (λ named. named ≡ key_named key) }
 {
-    let Ok(text) = format!(in alloc; "k{key}") else {
+    let Ok(text) = numbered(alloc, "k", key) else {
         return Err(NoMemory);
     };
     match Key::read(alloc, text.as_bytes()) {

@@ -3,6 +3,7 @@ pub mod Framing
 pub mod Heads
 pub mod Held
 pub mod Headings
+pub mod MemorySources
 pub mod Messages
 pub mod Parts
 pub mod Read

@@ -106,8 +106,9 @@ impl Office {
         }
     }
 
-    /// Counts the keys and the uploads of a bucket that have an eligible action, which is what its queue of next actions
-    /// holds; None only where there is no bucket of this name, or no queue of it for want of memory. Takes no memory.
+    /// Counts the keys and the uploads of a bucket that have an eligible action, whenever it is due: the entries of the
+    /// bucket's queue of next actions. None where there is no bucket of this name, and where memory for its queue was
+    /// wanting. Takes no memory.
     ///
     /// Cost: one search of the buckets.
     pub fn queued(&self, bucket: &BucketName) -> Option<u64>

@@ -566,7 +566,12 @@ fn a_thousand_queued(rt: HostRuntime) -> Result<(), Fail> {
     assert_eq!(rt; tried.office.queued(&logs), Some(0));
     for number in 0u64..1_000 {
         let key = format!(in alloc; "object-{number}")?;
-        let said = tried.turn(&rt, alloc, put, Wish::Put("logs", &key, 1_000_000, STANDARD, 0))?;
+        let said = tried.turn(
+            &rt,
+            alloc,
+            put,
+            Wish::Put("logs", &key, 1_000_000, STANDARD, 0),
+        )?;
         assert_eq!(rt; said, Heard::Stored, "{key}");
     }
     assert_eq!(rt; tried.office.queued(&logs), Some(1_000));
