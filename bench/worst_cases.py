@@ -9,7 +9,7 @@ mark (VmHWM), seconds are of the processor. The cases, all of them if none is na
   json      PUT of a configuration of 1 MiB of nested objects
   reply     GET of a key with 30,000 versions, each with 10 tags of greatest length
   due       GET due of a bucket with 100,000 keys and 1,000 rules, nothing of which is due
-  opening   opening a journal with 20,000 lifecycle actions on one bucket
+  opening   opening a journal with 20,000 puts and 20,000 lifecycle actions on one bucket, and the table of its stays
   explain   the table of stays of a journal of 200,000 puts
 """
 import datetime
@@ -46,20 +46,26 @@ class Office:
         self.program, self.folder = program, folder
         subprocess.run([program, "init"], cwd=folder, check=True, stdout=subprocess.DEVNULL)
 
+    def call(self, word, path):
+        """Runs a command of the program on a file: its processor time, and its greatest memory in KiB."""
+        with open(path, "rb") as asked, open(os.devnull, "wb") as replies, \
+                subprocess.Popen([self.program, word], cwd=self.folder, stdin=asked, stdout=replies) as child:
+            _, status, usage = os.wait4(child.pid, 0)
+            child.returncode = os.waitstatus_to_exitcode(status)
+        if child.returncode != 0:
+            sys.exit(f"{word} ended with {child.returncode}")
+        return usage.ru_utime + usage.ru_stime, usage.ru_maxrss
+
     def run(self, messages):
-        """Sends the messages to `run`: the processor time, the greatest memory in KiB, and how many replies had which status."""
+        """Sends the messages to `run`."""
         path = pathlib.Path(self.folder, "in")
         with open(path, "wb") as file:
             for one in messages:
                 file.write(one)
-        before = resource.getrusage(resource.RUSAGE_CHILDREN).ru_utime
-        with open(path, "rb") as asked, open(os.devnull, "wb") as replies, \
-                subprocess.Popen([self.program, "run"], cwd=self.folder, stdin=asked, stdout=replies) as child:
-            _, status, usage = os.wait4(child.pid, 0)
-            child.returncode = os.waitstatus_to_exitcode(status)
-        if child.returncode != 0:
-            sys.exit(f"run ended with {child.returncode}")
-        return usage.ru_utime + usage.ru_stime, usage.ru_maxrss
+        return self.call("run", path)
+
+    def explain(self):
+        return self.call("explain", os.devnull)
 
     def serve(self, workers, requests, limit=None):
         """Sends each request over a connection of its own, all at once: the replies, and the server's greatest memory in KiB."""
@@ -130,16 +136,16 @@ def opening(office):
     puts = [message(f"PUT /buckets/aaa/objects/k{i}", b'{"size":5}') for i in range(20_000)]
     office.run([message("PUT /buckets/aaa"), message("PUT /buckets/aaa/lifecycle", rules), *puts, *[message("POST /buckets/aaa/act")] * 20_000])
     seconds, kib = office.run([])
-    print(f"opening, 20,000 puts and 20,000 acts: {seconds:.2f} s, memory {kib} KiB")
+    print(f"opening, 20,000 puts and 20,000 acts: {seconds:.2f} s, memory {kib} KiB", flush=True)
+    seconds, kib = office.explain()
+    print(f"explain, the same journal: {seconds:.2f} s, memory {kib} KiB")
 
 
 def explain(office):
     office.run([message("PUT /buckets/aaa"), *[message(f"PUT /buckets/aaa/objects/k{i}", b'{"size":5}') for i in range(199_999)]])
     size = pathlib.Path(office.folder, "office-data", "journal").stat().st_size
-    with open(os.devnull, "wb") as out, subprocess.Popen([office.program, "explain"], cwd=office.folder, stdout=out) as child:
-        _, _, usage = os.wait4(child.pid, 0)
-        child.returncode = 0
-    print(f"explain, a journal of {size} bytes: memory {usage.ru_maxrss} KiB")
+    seconds, kib = office.explain()
+    print(f"explain, a journal of {size} bytes: {seconds:.2f} s, memory {kib} KiB")
 
 
 CASES = {"tariff": tariff, "limited": limited, "json": nested, "reply": reply, "due": due, "opening": opening, "explain": explain}
