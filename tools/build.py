@@ -1,9 +1,9 @@
 #!/usr/bin/env python3
 """Builds a program with all processors busy: python3 tools/build.py CRATE
 
-Crates below CRATE are proved side by side, and then `rt run` builds the program. The crate with the longest chain above it
-starts at once, and the others work with what it leaves of the processors. How far it is goes to standard error, and what rt
-says to crates/CRATE/build.log. Status 3: not possible here.
+Crates below CRATE are proved side by side, and then `rt run` builds the program. The crate with the longest chain above
+it starts at once, and the others work with what it leaves of the processors. How far it is goes to standard error, and
+what rt says to crates/CRATE/build.log. Status 3: not possible here.
 
 A run of rt holds its crate and all below it, so two crates over a common one would wait for each other. Here each is
 proved in a tree of its own in .build/, with hard links to what is below it; its folder out/ is moved there and back.
@@ -68,7 +68,7 @@ def hold(names):
 
 
 class Run:
-    """A run of rt on one crate, whose folder is given. With `aside` it works with what others leave of the processors."""
+    """A run of rt on one crate, whose folder is given; with `aside`, on what others leave of the processors."""
 
     def __init__(self, name, folder, verb, jobs, log, aside=False):
         self.name, self.folder, self.jobs, self.log, self.started = name, folder, jobs, log, time.time()
@@ -129,8 +129,8 @@ class Build:
         self.jobs = min(len(os.sched_getaffinity(0)), self.room)
 
     def start(self):
-        """Starts what can be started: the crate with the longest chain with a job for each processor, as far as half of the
-        memory goes, and others with a share of the jobs that are left, one for each processor too."""
+        """Starts what can be started: the crate with the longest chain, with a job for each processor, as far as half
+        of the memory goes; and others, with a share of as many jobs again, as far as the memory goes."""
         longest = max((it for it in self.names[:-1] if it not in self.done), key=self.chain.get)
         begun = [*self.done, *(it.name for it in self.running)]
         ready = [it for it in self.names[:-1] if it not in begun and {*self.uses[it]} <= {*self.done}]

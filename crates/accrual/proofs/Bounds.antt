@@ -14,12 +14,13 @@ use Rattle.accrual.specs.Meters.{bytes_in_class}
 use Rattle.accrual.specs.Totals.{IsBilled, most_bookings}
 use Rattle.accrual.specs.Bounds.{IsBounded}
 use Rattle.accrual.specs.Sums.{IsSmall}
+use Rattle.accrual.specs.declared.rows.Before.{Before}
 use Rattle.accrual.specs.declared.rows.Numbers.{Numbers}
 use Rattle.accrual.specs.declared.rows.Rows.{Rows}
-use Rattle.accrual.specs.Rows.{nothing, kept_in, HasRoom, IsModest, IsWithin, IsBooked, IsEnded, IsAdded, running_each, arrived_each, running_to, arrived_to, departed_to, gross_in, excess_in, ended_in}
+use Rattle.accrual.specs.Rows.{nothing, kept_in, HasRoom, IsModest, IsWithin, IsBooked, IsEnded, IsAdded, IsBefore, running_each, arrived_each, running_to, arrived_to, departed_to, gross_in, excess_in, ended_in}
 use Rattle.accrual.proofs.Cases.{if_less}
 use Rattle.accrual.proofs.Changes.{lines_bytes}
-use Rattle.accrual.proofs.Prefixes.{sum_more, sum_booked, sum_same, sum_least, one_least, sum_empty, gross_same, excess_same, ended_same, gross_is, excess_is, ended_is, ended_plain}
+use Rattle.accrual.proofs.Prefixes.{sum_more, sum_booked, sum_same, sum_least, one_least, sum_empty, gross_same, excess_same, ended_same, gross_is, excess_is, ended_is, ended_plain, past_is}
 use Rattle.accrual.proofs.Summing.{nothing_small}
 
 -- ---- what one booking adds
@@ -465,16 +466,24 @@ ended_fits rows booked month class bounded short =
       exact = omega (arith, i, g, x);
     }
 
-pub computed_fits : (rows : Rows) (booked month : ℕ) (class : Class) (kept : Numbers) (arrived departed length : ℕ) → IsBounded rows booked → month_length month < 2 ^ 32
-    → kept ≡ kept_in rows month (rank_of class) → arrived ≡ arrived_to rows (rank_of class) month → departed ≡ departed_to rows (rank_of class) month → length ≡ month_length month
-    → EndedFits rows month (rank_of class) kept.edges arrived (departed + kept.departed) length
-computed_fits rows booked month class kept arrived departed length bounded short is_kept is_arrived is_departed is_length =
-    rw (is_kept, is_arrived, is_departed, is_length) (ended_fits rows booked month class bounded short)
+pub computed_fits : (rows : Rows) (booked month : ℕ) (class : Class) (kept : Numbers) (before : Before) (length : ℕ) → IsBounded rows booked → month_length month < 2 ^ 32
+    → kept ≡ kept_in rows month (rank_of class) → IsBefore rows month (rank_of class) before → length ≡ month_length month
+    → EndedFits rows month (rank_of class) kept.edges before.arrived (before.departed + kept.departed) length
+computed_fits rows booked month class kept before length bounded short is_kept sums is_length =
+    rw (is_kept, sums.arrived, sums.departed, is_length) (ended_fits rows booked month class bounded short)
 
--- the sum of what departed
-pub departures_fit : (rows : Rows) (booked month : ℕ) (class : Class) (kept : Numbers) (departed : ℕ) → IsBounded rows booked
-    → kept ≡ kept_in rows month (rank_of class) → departed ≡ departed_to rows (rank_of class) month → departed + kept.departed < 2 ^ 89
-departures_fit rows booked month class kept departed bounded is_kept is_departed =
-    let d = bounded_departed rows booked (month + 1) class bounded in
-    let m = sum_more (λ kept. kept.departed) rows (rank_of class) month in
-    rw (is_kept, is_departed) (omega (arith, d, m))
+-- the sums of what came before and of a month
+pub record PastFits (before : Before) (kept : Numbers) : Type 0 where
+  pub running : before.running + kept.running < 2 ^ 127
+  pub arrived : before.arrived + kept.arrived < 2 ^ 88
+  pub departed : before.departed + kept.departed < 2 ^ 88
+
+pub past_fits : (rows : Rows) (booked month : ℕ) (class : Class) (kept : Numbers) (before : Before) → IsBounded rows booked
+    → kept ≡ kept_in rows month (rank_of class) → IsBefore rows month (rank_of class) before → PastFits before kept
+past_fits rows booked month class kept before bounded is sums =
+    let p = past_is rows month (rank_of class) before kept is sums in
+    record {
+      running = let b = bounded_running rows booked (month + 1) class bounded in let e = p.running in omega (arith, b, e);
+      arrived = let b = bounded_arrived rows booked (month + 1) class bounded in let e = p.arrived in omega (arith, b, e);
+      departed = let b = bounded_departed rows booked (month + 1) class bounded in let e = p.departed in omega (arith, b, e);
+    }

@@ -1,11 +1,15 @@
 -- Sums over the months before one.
-use Rattle.std.proofs.Common.{◌≡◌, ◌≤◌, ◌+◌, ◌-◌, ◌*◌, ◌==◌, ℕ, suc, zero, length, false, refl, ap, sym, ◌∙◌, arith, subst, add-one}
-use Rattle.std.specs.Prelude.{nat_lt, min, max, if◌then◌else◌}
+use Rattle.std.proofs.Common.{◌≡◌, ◌≤◌, ◌+◌, ◌-◌, ◌*◌, ◌==◌, ℕ, suc, zero, length, false, refl, ap, sym, ◌∙◌, arith, subst, add-one, get_or}
+use Rattle.std.specs.Prelude.{nat_lt, min, max, replicate, if◌then◌else◌}
 use Rattle.std.proofs.lemmas.Bool.Decides.{nat_tests}
 use Rattle.moments.specs.Months.{months, month_length}
+use Rattle.class_rules.specs.Classes.{rank_of}
+use Rattle.class_rules.specs.declared.class.Class.{Class}
+use Rattle.class_rules.specs.declared.class.Class.TheVariants.{Standard, StandardIa, OnezoneIa, GlacierIr, Glacier, DeepArchive}
+use Rattle.accrual.specs.declared.rows.Before.{Before}
 use Rattle.accrual.specs.declared.rows.Numbers.{Numbers}
 use Rattle.accrual.specs.declared.rows.Rows.{Rows}
-use Rattle.accrual.specs.Rows.{nothing, kept_in, in_month, sum_to, arrived_to, departed_to, gross_in, excess_in, ended_in}
+use Rattle.accrual.specs.Rows.{nothing, kept_in, in_month, sum_to, arrived_to, departed_to, gross_in, excess_in, ended_in, IsBefore, AreBefore, none_before}
 use Rattle.accrual.proofs.Cases.{by_less, by_same}
 use Rattle.accrual.proofs.Places.{kept_before, kept_behind}
 
@@ -51,6 +55,43 @@ sum_whole f z rows rank month earlier from until =
     let e : earlier ≡ rows.first + length rows.rows.items = omega (arith, from, until, more, behind) in
     ap (λ n. sum_to f rows rank n) e
     ∙ sym (sum_all f z rows rank (rows.first + length rows.rows.items) month (omega arith) behind)))
+
+-- ---- the three sums together
+
+pub none_is : (rows : Rows) (rank n : ℕ) → n ≤ rows.first → IsBefore rows n rank none_before
+none_is rows rank n le = record {
+  running = sym (sum_none (λ kept. kept.running) refl rows rank n le);
+  arrived = sym (sum_none (λ kept. kept.arrived) refl rows rank n le);
+  departed = sym (sum_none (λ kept. kept.departed) refl rows rank n le);
+}
+
+pub past_is : (rows : Rows) (month rank : ℕ) (before : Before) (kept : Numbers) → kept ≡ kept_in rows month rank → IsBefore rows month rank before
+    → IsBefore rows (month + 1) rank (record { running = before.running + kept.running; arrived = before.arrived + kept.arrived; departed = before.departed + kept.departed })
+past_is rows month rank before kept is sums = record {
+  running = let m = sum_more (λ kept. kept.running) rows rank month in let k = ap (λ (k : Numbers). k.running) is in let s = sums.running in omega (arith, m, k, s);
+  arrived = let m = sum_more (λ kept. kept.arrived) rows rank month in let k = ap (λ (k : Numbers). k.arrived) is in let s = sums.arrived in omega (arith, m, k, s);
+  departed = let m = sum_more (λ kept. kept.departed) rows rank month in let k = ap (λ (k : Numbers). k.departed) is in let s = sums.departed in omega (arith, m, k, s);
+}
+
+pub whole_is : (rows : Rows) (month earlier rank : ℕ) (before : Before)
+    → min month (rows.first + length rows.rows.items) ≤ earlier → earlier ≤ max rows.first (min month (rows.first + length rows.rows.items))
+    → IsBefore rows earlier rank before → IsBefore rows month rank before
+whole_is rows month earlier rank before from until sums = record {
+  running = sums.running ∙ sum_whole (λ kept. kept.running) refl rows rank month earlier from until;
+  arrived = sums.arrived ∙ sum_whole (λ kept. kept.arrived) refl rows rank month earlier from until;
+  departed = sums.departed ∙ sum_whole (λ kept. kept.departed) refl rows rank month earlier from until;
+}
+
+none_of : (class : Class) → get_or (replicate 6 none_before) (rank_of class) none_before ≡ none_before
+none_of Standard = refl
+none_of StandardIa = refl
+none_of OnezoneIa = refl
+none_of GlacierIr = refl
+none_of Glacier = refl
+none_of DeepArchive = refl
+
+pub none_are : (rows : Rows) (n : ℕ) → n ≤ rows.first → AreBefore rows n (replicate 6 none_before)
+none_are rows n le class = subst (λ (b : Before). IsBefore rows n (rank_of class) b) (sym (none_of class)) (none_is rows (rank_of class) n le)
 
 -- ---- of other rows
 

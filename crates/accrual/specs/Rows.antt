@@ -7,6 +7,7 @@ use Rattle.class_rules.specs.Lines.{lines_of}
 use Rattle.class_rules.specs.declared.class.Class.{Class}
 use Rattle.class_rules.specs.declared.billing.Lines.{Lines}
 use Rattle.accrual.specs.Meters.{bytes_in_class}
+use Rattle.accrual.specs.declared.rows.Before.{Before}
 use Rattle.accrual.specs.declared.rows.Numbers.{Numbers}
 use Rattle.accrual.specs.declared.rows.Rows.{Rows}
 
@@ -102,7 +103,7 @@ weighed bytes each = record {
   moves = 0;
 }
 
--- no byte counts for more than itself, and for more than 2 ^ 32 milliseconds
+-- a byte counts for no more than itself, and for less than 2 ^ 32 milliseconds
 pub record IsShort (each : Numbers) : Type 0 where
   pub edges : each.edges < 2 ^ 32
   pub arrived : each.arrived ≤ 1
@@ -130,13 +131,16 @@ pub record IsBooked (old new : Rows) (lines : Lines) (month : ℕ) (each : Numbe
       ≡ (kept_in old m (rank_of class)).edges + in_month month m (bytes_in_class class (lines_of lines) * each.edges)
   pub arrived : (m : ℕ) (class : Class)
       → (kept_in new m (rank_of class)).arrived
-      ≡ (kept_in old m (rank_of class)).arrived + in_month month m (bytes_in_class class (lines_of lines) * each.arrived)
+      ≡ (kept_in old m (rank_of class)).arrived
+      + in_month month m (bytes_in_class class (lines_of lines) * each.arrived)
   pub departed : (m : ℕ) (class : Class)
       → (kept_in new m (rank_of class)).departed
-      ≡ (kept_in old m (rank_of class)).departed + in_month month m (bytes_in_class class (lines_of lines) * each.departed)
+      ≡ (kept_in old m (rank_of class)).departed
+      + in_month month m (bytes_in_class class (lines_of lines) * each.departed)
   pub running : (m : ℕ) (class : Class)
       → (kept_in new m (rank_of class)).running
-      ≡ (kept_in old m (rank_of class)).running + in_month month m (bytes_in_class class (lines_of lines) * each.running)
+      ≡ (kept_in old m (rank_of class)).running
+      + in_month month m (bytes_in_class class (lines_of lines) * each.running)
   pub lead : (m : ℕ) (class : Class)
       → (kept_in new m (rank_of class)).lead
       ≡ (kept_in old m (rank_of class)).lead + in_month month m (bytes_in_class class (lines_of lines) * each.lead)
@@ -174,11 +178,26 @@ arrived_to rows rank month = sum_to (λ kept. kept.arrived) rows rank month
 abbrev pub departed_to : Rows → ℕ → ℕ → ℕ
 departed_to rows rank month = sum_to (λ kept. kept.departed) rows rank month
 
--- the byte-milliseconds of a month if what arrived stayed to its end, and what arrived in an earlier one for all of it
+-- the sums of a class over the months before this one
+pub record IsBefore (rows : Rows) (month rank : ℕ) (before : Before) : Type 0 where
+  pub running : before.running ≡ running_to rows rank month
+  pub arrived : before.arrived ≡ arrived_to rows rank month
+  pub departed : before.departed ≡ departed_to rows rank month
+
+-- no sums
+abbrev pub none_before : Before
+none_before = record { running = 0; arrived = 0; departed = 0 }
+
+-- the sums of each class over the months before this one, by their ranks
+abbrev pub AreBefore : Rows → ℕ → List Before → Type 0
+AreBefore rows month sums =
+    (class : Class) → IsBefore rows month (rank_of class) (get_or sums (rank_of class) none_before)
+
+-- what is counted of a month: its edges, and the whole month for what arrived before it
 unfoldable pub gross_in : Rows → ℕ → ℕ → ℕ
 gross_in rows month rank = (kept_in rows month rank).edges + arrived_to rows rank month * month_length month
 
--- of them those that count a whole month of what had departed by its end
+-- what of that is too much: the whole month for what had departed by its end
 unfoldable pub excess_in : Rows → ℕ → ℕ → ℕ
 excess_in rows month rank = departed_to rows rank (month + 1) * month_length month
 
@@ -201,7 +220,8 @@ pub record IsEnded (old new : Rows) (lines : Lines) (ms : ℕ → ℕ) : Type 0 
   pub departed : (class : Class)
       → departed_to new (rank_of class) months
       ≡ departed_to old (rank_of class) months + bytes_in_class class (lines_of lines)
-  pub running : (m : ℕ) (class : Class) → (kept_in new m (rank_of class)).running ≡ (kept_in old m (rank_of class)).running
+  pub running : (m : ℕ) (class : Class)
+      → (kept_in new m (rank_of class)).running ≡ (kept_in old m (rank_of class)).running
   pub lead : (m : ℕ) (class : Class) → (kept_in new m (rank_of class)).lead ≡ (kept_in old m (rank_of class)).lead
   pub early : (m r : ℕ) → (kept_in new m r).early ≡ (kept_in old m r).early
   pub moves : (m r : ℕ) → (kept_in new m r).moves ≡ (kept_in old m r).moves

@@ -205,8 +205,9 @@ impl Meters {
         let (start, end) = month_window(month);
         let ms = t.ms().min(end).saturating_sub(start);
         let kept = self.rows.kept(month.number(), class);
-        let bytes = self.rows.before(month.number(), class).running + kept.running;
-        self.rows.ended(month, class) + (bytes * ms as u128).saturating_sub(kept.lead)
+        let sums = self.rows.before(month.number(), class);
+        let bytes = sums.running + kept.running;
+        self.rows.ended(month, class, sums) + (bytes * ms as u128).saturating_sub(kept.lead)
     }
 
     /// Reads the early quantities of a month and a class, in byte-milliseconds. Takes no memory.

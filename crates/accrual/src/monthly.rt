@@ -4,12 +4,12 @@ ghost use Rattle.std.specs.List.{list_all};
 ghost use Rattle.moments.specs.Months.{months};
 ghost use Rattle.class_rules.specs.Classes.{rank_of};
 ghost use Rattle.class_rules.specs.declared.class.Class.{Class};
-ghost use Rattle.accrual.specs.Rows.{nothing, kept_in, ended_in, HasRowIn};
+ghost use Rattle.accrual.specs.Rows.{nothing, kept_in, ended_in, HasRowIn, AreBefore};
 ghost use Rattle.accrual.specs.Bounds.{IsSound};
 ghost use Rattle.accrual.specs.Sums.{AreSumsIn, IsMonthOf, HasNoSum, HaveRisingMonths, IsSmallMonth, IsSmall};
 ghost use Rattle.accrual.specs.Sums.{is_nothing, is_zero, summed_numbers};
 
-use crate::rows::{NOTHING, Numbers, Rows};
+use crate::rows::{Before, NONE_BEFORE, NOTHING, Numbers, Rows};
 use class_rules::Class;
 use moments::Month;
 use std::alloc::{AllocError, Global};
@@ -45,25 +45,29 @@ impl Rows {
     {
         let mut all = Vec::new(*self.rows.allocator());
         let end = self.first + self.rows.len() as u64;
+        let mut before = [NONE_BEFORE; 6];
         for number in self.first..end {
-            if let Some(sums) = self.sums_in(number) {
+            let sums = self.sums_in(number, &before);
+            before = self.all_past(number, &before);
+            if let Some(sums) = sums {
                 all.push(sums)?;
             }
         }
         Ok(all)
     }
 
-    // Gives the sums of a month; None where all are 0.
-    fn sums_in(&self, month: u64) -> Option<MonthSums>
+    // Gives the sums of a month, by those before it; None where all are 0.
+    fn sums_in(&self, month: u64, before: &[Before; 6]) -> Option<MonthSums>
         requires row { HasRowIn self.now month }
         requires sound { IsSound self.now }
+        requires before { AreBefore self.now month before.now }
         ensures sums { IfSome result (λ sums. IsMonthOf self.now month sums) }
         ensures some { IfSome result (λ sums. IsFalse (is_nothing sums)) }
         ensures none { IfNone result ((class : Class) → HasNoSum self.now month (rank_of class)) }
     {
         let sums = sums_of(
             Month::numbered(month),
-            self.all_ended(Month::numbered(month)),
+            self.all_ended(Month::numbered(month), before),
             &self.rows[(month - self.first) as usize],
         );
         if sums.is_nothing() {
@@ -72,18 +76,35 @@ impl Rows {
         Some(sums)
     }
 
-    // Lists the byte-milliseconds, inside the month, of the stays that have ended.
-    fn all_ended(&self, month: Month) -> [u128; 6]
+    // Lists the byte-milliseconds, inside the month, of the stays that have ended, by the sums before it.
+    fn all_ended(&self, month: Month, before: &[Before; 6]) -> [u128; 6]
         requires sound { IsSound self.now }
+        requires before { AreBefore self.now month before.now }
         ensures { (class : Class) → get_or result (rank_of class) 0 ≡ ended_in self.now month (rank_of class) }
     {
         [
-            self.ended(month, Class::Standard),
-            self.ended(month, Class::StandardIa),
-            self.ended(month, Class::OnezoneIa),
-            self.ended(month, Class::GlacierIr),
-            self.ended(month, Class::Glacier),
-            self.ended(month, Class::DeepArchive),
+            self.ended(month, Class::Standard, before[0]),
+            self.ended(month, Class::StandardIa, before[1]),
+            self.ended(month, Class::OnezoneIa, before[2]),
+            self.ended(month, Class::GlacierIr, before[3]),
+            self.ended(month, Class::Glacier, before[4]),
+            self.ended(month, Class::DeepArchive, before[5]),
+        ]
+    }
+
+    // The sums before the next month, by those before this one.
+    fn all_past(&self, month: u64, before: &[Before; 6]) -> [Before; 6]
+        requires sound { IsSound self.now }
+        requires before { AreBefore self.now month before.now }
+        ensures { AreBefore self.now (month + 1) result }
+    {
+        [
+            self.past(month, Class::Standard, before[0]),
+            self.past(month, Class::StandardIa, before[1]),
+            self.past(month, Class::OnezoneIa, before[2]),
+            self.past(month, Class::GlacierIr, before[3]),
+            self.past(month, Class::Glacier, before[4]),
+            self.past(month, Class::DeepArchive, before[5]),
         ]
     }
 

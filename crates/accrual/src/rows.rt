@@ -3,7 +3,7 @@ ghost use Rattle.std.specs.Prelude.{OnOk, OnErr, ◌^◌, ◌≡◌, ◌<◌, �
 ghost use Rattle.class_rules.specs.Classes.{rank_of};
 ghost use Rattle.accrual.specs.Rows.{kept_in, HasRowIn, IsPut, IsRowPut, IsAdded, HasRoom, IsWithin, IsModest, IsShort};
 ghost use Rattle.accrual.specs.Rows.{HasBooked, IsBooked, weighed, running_each, arrived_each, departed_each};
-ghost use Rattle.accrual.specs.Rows.{running_to, arrived_to, departed_to, ended_in};
+ghost use Rattle.accrual.specs.Rows.{IsBefore, ended_in};
 ghost use Rattle.accrual.specs.Bounds.{IsSound};
 ghost use Rattle.class_rules.specs.declared.class.Class.{Class};
 ghost use Rattle.moments.specs.Months.{months};
@@ -33,7 +33,7 @@ pub(crate) struct Numbers {
     pub(crate) moves: u64,
 }
 
-/// Sums over the months before one.
+/// Sums over the months before one, of a class.
 #[derive(Clone, Copy)]
 pub(crate) struct Before {
     // The bytes of the stays without an end that began.
@@ -60,6 +60,12 @@ pub(crate) const NOTHING: Numbers = Numbers {
     lead: 0,
     early: 0,
     moves: 0,
+};
+
+pub(crate) const NONE_BEFORE: Before = Before {
+    running: 0,
+    arrived: 0,
+    departed: 0,
 };
 
 impl Rows {
@@ -166,39 +172,42 @@ impl Rows {
         }
     }
 
-    // The byte-milliseconds, inside the month, of the stays that have ended.
-    pub(crate) fn ended(&self, month: Month, class: Class) -> u128
+    // The byte-milliseconds, inside the month, of the stays that have ended, by the sums before it.
+    pub(crate) fn ended(&self, month: Month, class: Class, before: Before) -> u128
         requires sound { IsSound self.now }
+        requires before { IsBefore self.now month (rank_of class) before }
         ensures { result ≡ ended_in self.now month (rank_of class) }
     {
         let (start, end) = month_window(month);
         let length = (end - start) as u128;
-        let before = self.before(month.number(), class);
         let kept = self.kept(month.number(), class);
         let gross = kept.edges + before.arrived * length;
         gross - (before.departed + kept.departed) * length
     }
 
+    // The sums before the next month, by those before this one.
+    pub(crate) fn past(&self, month: u64, class: Class, before: Before) -> Before
+        requires sound { IsSound self.now }
+        requires before { IsBefore self.now month (rank_of class) before }
+        ensures { IsBefore self.now (month + 1) (rank_of class) result }
+    {
+        let kept = self.kept(month, class);
+        Before {
+            running: before.running + kept.running,
+            arrived: before.arrived + kept.arrived,
+            departed: before.departed + kept.departed,
+        }
+    }
+
     // Sums over the rows before the month.
     pub(crate) fn before(&self, month: u64, class: Class) -> Before
         requires sound { IsSound self.now }
-        ensures running { result.running ≡ running_to self.now (rank_of class) month }
-        ensures arrived { result.arrived ≡ arrived_to self.now (rank_of class) month }
-        ensures departed { result.departed ≡ departed_to self.now (rank_of class) month }
+        ensures { IsBefore self.now month (rank_of class) result }
     {
         let end = month.min(self.first + self.rows.len() as u64);
-        let mut sums = Before {
-            running: 0,
-            arrived: 0,
-            departed: 0,
-        };
+        let mut sums = NONE_BEFORE;
         for earlier in self.first..end {
-            let kept = self.kept(earlier, class);
-            sums = Before {
-                running: sums.running + kept.running,
-                arrived: sums.arrived + kept.arrived,
-                departed: sums.departed + kept.departed,
-            };
+            sums = self.past(earlier, class, sums);
         }
         sums
     }

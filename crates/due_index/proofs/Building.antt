@@ -1,5 +1,5 @@
 -- Taking up what comes first, key by key and upload by upload.
-use Rattle.std.proofs.Common.{◌≡◌, ℕ, inl, inr, List, [], ◌∷◌, refl, sym, ap, ◌∙◌, cond}
+use Rattle.std.proofs.Common.{◌≡◌, ℕ, inl, inr, List, [], ◌∷◌, refl, sym, ap, ◌∙◌, cond, subst}
 use Rattle.std.specs.Prelude.{Option, Some, None}
 use Rattle.office_base.specs.Maps.{at_name, at_number}
 use Rattle.rules_core.specs.Configurations.{Configuration}
@@ -9,13 +9,14 @@ use Rattle.due_core.specs.Buckets.{BucketRecord}
 use Rattle.due_core.specs.Choice.{comes_before, least}
 use Rattle.due_index.specs.Firsts.{asked_of_key, asked_of_upload, first_on_key, first_on_upload}
 use Rattle.due_index.specs.Index.{IndexRecord, next_on_key, next_on_upload, IsTied, SetsNextOnKey, SetsNextOnUpload, StandsFor}
-use Rattle.due_index.specs.Index.{HasNoKeys, HasNoUploads, StandsOnKeys, StandsOnUploads, KeepsKeys, KeepsUploads}
+use Rattle.due_index.specs.Index.{HasNoKeys, HasNoUploads, StandsOnKeys, StandsOnUploads, KeepsKeys, KeepsUploads, HasTable}
+use Rattle.due_index.specs.Table.{TableRecord, IsTable, rules_of}
 use Rattle.due_index.proofs.Tournaments.{decide}
 use Rattle.due_index.proofs.Renewing.{names, not_at}
 use Rattle.due_index.proofs.RenewingUploads.{not_at_number}
 
-pub empty_tied : IsTied (record { keys = []; uploads = []; slots = [] })
-empty_tied = record {
+pub empty_tied : (table : TableRecord) → IsTied (record { keys = []; uploads = []; table = table; slots = [] })
+empty_tied table = record {
   keys = λ k s is. absurd cc;
   uploads = λ n s is. absurd cc;
   owned = λ s c is. absurd cc;
@@ -45,9 +46,11 @@ no_upload bucket number none = ap (λ s. least comes_before (asked_of_upload buc
 pub record AreKeysLeft (start index : IndexRecord) (bucket : BucketRecord) (left : List (List ℕ × StackRecord)) : Type 0 where
   pub keys : (key : List ℕ) → at_name key left ≡ None → next_on_key index key ≡ first_on_key bucket key
   pub uploads : KeepsUploads start index
+  pub table : HasTable index bucket
 
-pub all_keys_left : (start : IndexRecord) (bucket : BucketRecord) → HasNoKeys start → AreKeysLeft start start bucket bucket.stacks
-all_keys_left start bucket none = record {
+pub all_keys_left : (start : IndexRecord) (bucket : BucketRecord) → HasNoKeys start → HasTable start bucket → AreKeysLeft start start bucket bucket.stacks
+all_keys_left start bucket none table = record {
+  table = table;
   keys = λ key absent. none key ∙ sym (no_stack bucket key absent);
   uploads = λ number. refl;
 }
@@ -55,6 +58,7 @@ all_keys_left start bucket none = record {
 pub one_key_less : (start old new : IndexRecord) (bucket : BucketRecord) (key : List ℕ) (stack : StackRecord) (left : List (List ℕ × StackRecord))
     → AreKeysLeft start old bucket ((key, stack) ∷ left) → SetsNextOnKey old new key (first_on_key bucket key) → AreKeysLeft start new bucket left
 one_key_less start old new bucket key stack left are sets = record {
+  table = subst (λ t. IsTable t (rules_of bucket.rules)) (sym sets.table) are.table;
   keys = λ k absent. elim (names k key) [
     | inl same ↦ ap (next_on_key new) same ∙ sets.here ∙ ap (first_on_key bucket) (sym same)
     | inr apart ↦ sets.others k apart ∙ are.keys k (
@@ -72,9 +76,11 @@ no_keys_left start index bucket are = λ key. are.keys key refl
 pub record AreUploadsLeft (start index : IndexRecord) (bucket : BucketRecord) (left : List (ℕ × UploadRecord)) : Type 0 where
   pub uploads : (number : ℕ) → at_number number left ≡ None → next_on_upload index number ≡ first_on_upload bucket number
   pub keys : KeepsKeys start index
+  pub table : HasTable index bucket
 
-pub all_uploads_left : (start : IndexRecord) (bucket : BucketRecord) → HasNoUploads start → AreUploadsLeft start start bucket bucket.uploads
-all_uploads_left start bucket none = record {
+pub all_uploads_left : (start : IndexRecord) (bucket : BucketRecord) → HasNoUploads start → HasTable start bucket → AreUploadsLeft start start bucket bucket.uploads
+all_uploads_left start bucket none table = record {
+  table = table;
   uploads = λ number absent. none number ∙ sym (no_upload bucket number absent);
   keys = λ key. refl;
 }
@@ -83,6 +89,7 @@ pub one_upload_less : (start old new : IndexRecord) (bucket : BucketRecord) (num
     → AreUploadsLeft start old bucket ((number, upload) ∷ left) → SetsNextOnUpload old new number (first_on_upload bucket number)
     → AreUploadsLeft start new bucket left
 one_upload_less start old new bucket number upload left are sets = record {
+  table = subst (λ t. IsTable t (rules_of bucket.rules)) (sym sets.table) are.table;
   uploads = λ n absent. elim (decide n number) [
     | inl same ↦ ap (next_on_upload new) same ∙ sets.here ∙ ap (first_on_upload bucket) (sym same)
     | inr apart ↦ sets.others n apart ∙ are.uploads n (
@@ -96,8 +103,8 @@ no_uploads_left start index bucket are = λ number. are.uploads number refl
 
 -- ---- both
 
-pub built : (keys both : IndexRecord) (bucket : BucketRecord) → StandsOnKeys keys bucket → StandsOnUploads both bucket → KeepsKeys keys both → StandsFor both bucket
-built keys both bucket on_keys on_uploads kept = record { keys = λ key. kept key ∙ on_keys key; uploads = on_uploads }
+pub built : (keys both : IndexRecord) (bucket : BucketRecord) → StandsOnKeys keys bucket → StandsOnUploads both bucket → KeepsKeys keys both → HasTable both bucket → StandsFor both bucket
+built keys both bucket on_keys on_uploads kept table = record { table = table; keys = λ key. kept key ∙ on_keys key; uploads = on_uploads }
 
 pub no_uploads_yet : (old new : IndexRecord) → HasNoUploads old → KeepsUploads old new → HasNoUploads new
 no_uploads_yet old new none kept = λ number. kept number ∙ none number

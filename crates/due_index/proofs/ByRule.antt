@@ -1,9 +1,9 @@
 -- A search may go rule by rule, and leave out the rules that are disabled or whose prefix does not begin the key.
 use Rattle.std.proofs.Common.{◌≡◌, ℕ, ◌+◌, ◌<◌, ◌≤◌, ◌⊎◌, inl, inr, List, [], ◌∷◌, length, get_or, refl, sym, ap, ◌∙◌, subst, Bool, true, false, cond, ◌&&◌, ◌||◌, not, flat_map, arith, zero, suc}
-use Rattle.std.specs.Prelude.{Option, Some, None}
+use Rattle.std.specs.Prelude.{Option, Some, None, slice_get}
 use Rattle.std.specs.List.{enumerate_from, list_all}
-use Rattle.std.proofs.lemmas.List.{get_or_default}
-use Rattle.rules_core.specs.Matching.{has_prefix, has_tag, has_tags, has_bound, is_above, is_below}
+use Rattle.std.proofs.lemmas.Option.{slice_get-get_or, slice_get_past, get_or_from_slice_get}
+use Rattle.rules_core.specs.Matching.{matches_upload, has_prefix, has_tag, has_tags, has_bound, is_above, is_below}
 use Rattle.rules_core.specs.Configurations.{Configuration}
 use Rattle.rules_core.specs.declared.rule.Rule.{Rule}
 use Rattle.rules_core.specs.declared.rule.Filter.{Filter}
@@ -11,20 +11,23 @@ use Rattle.stacks.specs.Stacks.{StackRecord}
 use Rattle.stacks.specs.declared.version.Kind.{Kind}
 use Rattle.stacks.specs.declared.version.Kind.TheVariants.{Object, Marker as DeleteMarker}
 use Rattle.office_base.specs.declared.version_id.VersionId.{VersionId}
+use Rattle.uploads.specs.Uploads.{UploadRecord}
 use Rattle.due_core.specs.Buckets.{BucketRecord}
-use Rattle.due_core.specs.Candidates.{stack_candidates}
+use Rattle.due_core.specs.Candidates.{stack_candidates, upload_candidates}
 use Rattle.due_core.specs.Choice.{comes_before, least}
 use Rattle.due_core.specs.RuleActions.{Placed, placed_from, matches_version}
 use Rattle.due_core.specs.declared.action.Candidate.{Candidate}
 use Rattle.due_index.specs.Search.{Among, IsFirstOf, IsFirstOfList, setting_of, asked_of_version, version_candidates, key_candidates, rule_candidates, asked_by_rule, asked_by_rules}
+use Rattle.due_index.specs.Search.{asked_of_place, asked_at, asked_of_one_upload, number_candidates}
+use Rattle.due_index.specs.Table.{enabled_of, prefix_of, is_enabled, prefix_at, begins}
 use Rattle.due_index.specs.declared.asked.Setting.{Setting}
 use Rattle.due_index.proofs.Among.{among_flat_map, flat_mapped}
-use Rattle.due_index.proofs.Firsts.{none_looked, then_looked, same_looked, first_least}
+use Rattle.due_index.proofs.Firsts.{none_looked, same_looked, first_least}
 use Rattle.due_index.proofs.Noncurrents.{hold}
 use Rattle.due_index.proofs.Oldest.{in_true}
-use Rattle.due_index.proofs.Searching.{same_versions}
-use Rattle.due_index.proofs.Ties.{on_key, tied_on_key, neither_before}
-use Rattle.due_index.proofs.Tournaments.{decide}
+use Rattle.due_index.proofs.Searching.{same_versions, same_upload}
+use Rattle.due_index.proofs.Tables.{IsAskedAt, below_or}
+use Rattle.due_index.proofs.Ties.{on_key, on_upload, tied_on_key, tied_on_upload, neither_before}
 
 -- ---- a rule that asks something is enabled, and its prefix begins the key
 
@@ -106,48 +109,71 @@ at_number_of m n number [] rule within at is = absurd (omega arith)
 at_number_of m zero number (r ∷ rs) rule within at is = let same : m ≡ number = omega arith in inl (ap (λ x. (x, r)) same ∙ ap (λ x. (number, x)) at)
 at_number_of m (suc n) number (r ∷ rs) rule within at is = inr (at_number_of (m + 1) n number rs rule (omega arith) at (omega arith))
 
--- ---- one after the other
+-- ---- each at its place
 
--- one of the first so many rules asks it
-pub record IsAskedBelow (setting : Setting) (entry : List ℕ × StackRecord) (rules : List Rule) (i : ℕ) (c : Candidate) : Type 0 where
-  pub n : ℕ
-  pub rule : Rule
-  pub below : n < i
-  pub within : n < length rules
-  pub at : get_or rules n rule ≡ rule
-  pub asked : Among (asked_by_rule setting entry (n + 1, rule)) c
+module _ (rules : List Rule) (asked : ℕ × Rule → List Candidate) where
+  asked_there : (place : ℕ) (c : Candidate) (o : Option Rule) → slice_get rules place ≡ o → Among (asked_of_place asked place o) c
+      → (length rules ≤ place) ⊎ (place < length rules) → Among (flat_map asked (enumerate_from 1 rules)) c
+  asked_there place c None at h over = absurd h
+  asked_there place c (Some rule) at h (inl over) = let gone : None ≡ Some rule = sym (slice_get_past rules place over) ∙ at in absurd cc
+  asked_there place c (Some rule) at h (inr less) = flat_mapped asked (enumerate_from 1 rules) (place + 1, rule) c
+      (at_number_of 1 place (place + 1) rules rule less (get_or_from_slice_get rules place rule rule at) (omega arith)) h
 
-module _ (setting : Setting) (entry : List ℕ × StackRecord) (rules : List Rule) (old : Option Candidate) where
-  abbrev Below : ℕ → Candidate → Type 0
-  Below i c = IsAskedBelow setting entry rules i c
+  pub in_rules : (c : Candidate) → IsAskedAt (asked_at asked rules) c → Among (flat_map asked (enumerate_from 1 rules)) c
+  in_rules c h = asked_there h.place c (slice_get rules h.place) refl h.one (below_or h.place (length rules))
 
-  pub no_rule : IsFirstOf old (Below 0) old
-  no_rule = none_looked old (Below 0) (λ c h. let below = h.below in absurd (omega arith))
-
-  pub one_rule : (i j : ℕ) (x : Rule) (mid new : Option Candidate) → i < length rules → x ≡ get_or rules i x → j ≡ i + 1 → IsFirstOf old (Below i) mid
-      → IsFirstOfList mid (asked_by_rule setting entry (i + 1, x)) new → IsFirstOf old (Below j) new
-  one_rule i j x mid new less here next a b = then_looked old mid new (Below i) (Among (asked_by_rule setting entry (i + 1, x))) (Below j) a b
-      (λ c h. record { n = h.n; rule = h.rule; below = let below = h.below in omega arith; within = h.within; at = h.at; asked = h.asked })
-      (λ c h. record { n = i; rule = x; below = omega arith; within = less; at = sym here; asked = h })
-      (λ c h. elim (decide h.n i) [
-        | inl same ↦
-            let at_i : get_or rules i h.rule ≡ h.rule = ap (λ k. get_or rules k h.rule) (sym same) ∙ h.at in
-            let one : h.rule ≡ x = sym at_i ∙ get_or_default rules i h.rule x less ∙ sym here in
-            inr (subst (λ r. Among (asked_by_rule setting entry (i + 1, r)) c) one (subst (λ k. Among (asked_by_rule setting entry (k + 1, h.rule)) c) same h.asked))
-        | inr apart ↦ inl (record { n = h.n; rule = h.rule; below = let below = h.below in omega arith; within = h.within; at = h.at; asked = h.asked })
-      ])
-
-  pub all_rules : (i : ℕ) (new : Option Candidate) → length rules ≤ i → IsFirstOf old (Below i) new → IsFirstOfList old (asked_by_rules setting rules entry) new
-  all_rules i new over first = same_looked old new (Below i) (Among (asked_by_rules setting rules entry)) first
-      (λ c h. flat_mapped (asked_by_rule setting entry) (enumerate_from 1 rules) (h.n + 1, h.rule) c (at_number_of 1 h.n (h.n + 1) rules h.rule h.within h.at (omega arith)) h.asked)
-      (λ c h.
-      let found = among_flat_map (asked_by_rule setting entry) (enumerate_from 1 rules) c h in
+  pub at_places : (c : Candidate) → Among (flat_map asked (enumerate_from 1 rules)) c → IsAskedAt (asked_at asked rules) c
+  at_places c h =
+      let found = among_flat_map asked (enumerate_from 1 rules) c h in
       let at = numbered_at 1 rules found.0 found.1 in
-      let number : found.0.0 ≡ at.n + 1 = let is = at.is in omega arith in record {
-        n = at.n;
-        rule = found.0.1;
-        below = let within = at.within in omega arith;
-        within = at.within;
-        at = at.at;
-        asked = subst (λ k. Among (asked_by_rule setting entry (k, found.0.1)) c) number found.2;
-      })
+      let number : found.0.0 ≡ at.n + 1 = let is = at.is in omega arith in
+      let there : slice_get rules at.n ≡ Some found.0.1 = slice_get-get_or rules at.n found.0.1 at.within ∙ ap Some at.at in record {
+        place = at.n;
+        one = subst (λ o. Among (asked_of_place asked at.n o) c) (sym there) (subst (λ k. Among (asked (k, found.0.1)) c) number found.2);
+      }
+
+  pub all_rules : (old new : Option Candidate) → IsFirstOf old (IsAskedAt (asked_at asked rules)) new → IsFirstOfList old (flat_map asked (enumerate_from 1 rules)) new
+  all_rules old new first = same_looked old new (IsAskedAt (asked_at asked rules)) (Among (flat_map asked (enumerate_from 1 rules))) first in_rules at_places
+
+-- a rule that asks something of a key is enabled, and its prefix begins the key
+stack_asks_by : (setting : Setting) (key : List ℕ) (stack : StackRecord) (place : ℕ) (o : Option Rule) (c : Candidate) → Among (asked_of_place (asked_by_rule setting (key, stack)) place o) c
+    → (enabled_of o ≡ true) × (begins (prefix_of o) key ≡ true)
+stack_asks_by setting key stack place None c h = absurd h
+stack_asks_by setting key stack place (Some rule) c h =
+    let enabled = in_true rule.enabled _ c h in (enabled.0, (in_true (has_prefix rule.filter key) _ c enabled.1).0)
+
+pub stack_asks : (setting : Setting) (rules : List Rule) (key : List ℕ) (stack : StackRecord) (place : ℕ) (c : Candidate)
+    → Among (asked_at (asked_by_rule setting (key, stack)) rules place) c → (is_enabled rules place ≡ true) × (begins (prefix_at rules place) key ≡ true)
+stack_asks setting rules key stack place c h = stack_asks_by setting key stack place (slice_get rules place) c h
+
+-- and of an upload
+upload_asks_by : (setting : Setting) (number : ℕ) (upload : UploadRecord) (place : ℕ) (o : Option Rule) (c : Candidate)
+    → Among (asked_of_place (asked_of_one_upload setting number upload) place o) c → (enabled_of o ≡ true) × (begins (prefix_of o) upload.key ≡ true)
+upload_asks_by setting number upload place None c h = absurd h
+upload_asks_by setting number upload place (Some rule) c h =
+    let enabled = in_true rule.enabled _ c h in (enabled.0, (in_true (matches_upload rule.filter upload.key) _ c enabled.1).0)
+
+pub upload_asks : (setting : Setting) (rules : List Rule) (number : ℕ) (upload : UploadRecord) (place : ℕ) (c : Candidate)
+    → Among (asked_at (asked_of_one_upload setting number upload) rules place) c → (is_enabled rules place ≡ true) × (begins (prefix_at rules place) upload.key ≡ true)
+upload_asks setting rules number upload place c h = upload_asks_by setting number upload place (slice_get rules place) c h
+
+-- ---- the rule at a place
+
+pub here_asked : (rules : List Rule) (asked : ℕ × Rule → List Candidate) (place : ℕ) (x : Rule) (old new : Option Candidate) → place < length rules → x ≡ get_or rules place x
+    → IsFirstOfList old (asked (place + 1, x)) new → IsFirstOfList old (asked_at asked rules place) new
+here_asked rules asked place x old new less here first =
+    let there : slice_get rules place ≡ Some x = slice_get-get_or rules place x less ∙ ap Some (sym here) in
+    subst (λ o. IsFirstOfList old (asked_of_place asked place o) new) (sym there) first
+
+pub nothing_asked : (rules : List Rule) (asked : ℕ × Rule → List Candidate) (place : ℕ) (old : Option Candidate) → length rules ≤ place → IsFirstOfList old (asked_at asked rules place) old
+nothing_asked rules asked place old over =
+    subst (λ o. IsFirstOfList old (asked_of_place asked place o) old) (sym (slice_get_past rules place over)) (none_looked old (Among []) (λ c h. h))
+
+-- ---- the first of an upload
+
+pub first_of_upload : (bucket : BucketRecord) (rules : Configuration) (number : ℕ) (upload : UploadRecord) (first : Option Candidate)
+    → IsFirstOfList None (number_candidates (setting_of bucket rules) rules.rules (number, upload)) first → first ≡ least comes_before (upload_candidates bucket rules (number, upload))
+first_of_upload bucket rules number upload first is =
+    first_least (upload_candidates bucket rules (number, upload))
+    (λ c d h k forth back. tied_on_upload number upload c d (on_upload bucket rules number upload c h) (on_upload bucket rules number upload d k) (neither_before c d forth back)) first
+    (subst (λ asked. IsFirstOfList None asked first) (same_upload bucket rules number upload) is)

@@ -12,6 +12,7 @@ pub mod Prefixes
 pub mod Renewing
 pub mod RenewingUploads
 pub mod Searching
+pub mod Tables
 pub mod Ties
 pub mod Touched
 pub mod Tournaments

@@ -10,13 +10,13 @@ use Rattle.std.specs.Ordering.{nat_cmp, ordering_then, is_lt}
 use Rattle.std.proofs.lemmas.Bool.Decides.{nat_tests}
 use Rattle.office_base.specs.Maps.{bytes_cmp}
 
-same_byte : (x z : ℕ) → nat_eq x z ≡ true → x ≡ z
+pub same_byte : (x z : ℕ) → nat_eq x z ≡ true → x ≡ z
 same_byte x z is = grind (arith, nat_tests)
 
 itself : (x : ℕ) → nat_eq x x ≡ true
 itself x = grind (arith, nat_tests)
 
-both : (a b : Bool) → (a && b) ≡ true → (a ≡ true) × (b ≡ true)
+pub both : (a b : Bool) → (a && b) ≡ true → (a ≡ true) × (b ≡ true)
 both true b is = (refl, is)
 both false b is = absurd cc
 

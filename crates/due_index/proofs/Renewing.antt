@@ -15,6 +15,7 @@ use Rattle.due_core.specs.declared.action.Target.TheVariants as target
 use Rattle.due_core.specs.declared.action.Candidate.{Candidate}
 use Rattle.due_index.specs.Firsts.{first_on_key}
 use Rattle.due_index.specs.Queue.{slot_at, IsPut}
+use Rattle.due_index.specs.Table.{IsTable, rules_of}
 use Rattle.due_index.specs.Index.{IndexRecord, next_on_key, slot_of, IsOwned, IsTied, IsOfKey, Stands, KeepsNext, SetsNextOnKey, StandsFor, StandsButKey}
 use Rattle.due_index.proofs.Chosen.{same_name}
 use Rattle.due_index.proofs.Tournaments.{decide}
@@ -61,7 +62,7 @@ module _ (index : IndexRecord) (tied : IsTied index) where
 module _ (index : IndexRecord) (tied : IsTied index) (key : List ℕ) (slot : ℕ) (at : at_name key index.keys ≡ Some slot)
     (slots : List (Option Candidate)) (c : Candidate) (of_key : IsOfKey key c) (put : IsPut index.slots slots slot (Some c)) where
   abbrev written : IndexRecord
-  written = record { keys = index.keys; uploads = index.uploads; slots = slots }
+  written = record { keys = index.keys; uploads = index.uploads; table = index.table; slots = slots }
 
   other_key_by : (k : List ℕ) (o : Option ℕ) → at_name k index.keys ≡ o → (k ≡ key → ⊥) → slot_of o slots ≡ slot_of o index.slots
   other_key_by k None is apart = refl
@@ -74,6 +75,7 @@ module _ (index : IndexRecord) (tied : IsTied index) (key : List ℕ) (slot : �
   pub sets_written : SetsNextOnKey index written key (Some c)
   sets_written = record {
     here = ap (λ o. slot_of o slots) at ∙ put.here;
+    table = refl;
     others = λ k apart. other_key_by k (at_name k index.keys) refl apart;
     uploads = λ number. other_upload_by number (at_number number index.uploads) refl;
   }
@@ -115,7 +117,7 @@ module _ (index : IndexRecord) (tied : IsTied index) (key : List ℕ) (slot : �
     (slots : List (Option Candidate)) (put : IsPut index.slots slots slot None) (keys : List (List ℕ × ℕ))
     (gone : at_name key keys ≡ None) (kept : (k : List ℕ) → (k ≡ key → ⊥) → at_name k keys ≡ at_name k index.keys) where
   abbrev emptied : IndexRecord
-  emptied = record { keys = keys; uploads = index.uploads; slots = slots }
+  emptied = record { keys = keys; uploads = index.uploads; table = index.table; slots = slots }
 
   left_key_by : (k : List ℕ) (o : Option ℕ) → at_name k index.keys ≡ o → (k ≡ key → ⊥) → slot_of o slots ≡ slot_of o index.slots
   left_key_by k None is apart = refl
@@ -128,6 +130,7 @@ module _ (index : IndexRecord) (tied : IsTied index) (key : List ℕ) (slot : �
   pub sets_emptied : SetsNextOnKey index emptied key None
   sets_emptied = record {
     here = ap (λ o. slot_of o slots) gone;
+    table = refl;
     others = λ k apart. ap (λ o. slot_of o slots) (kept k apart) ∙ left_key_by k (at_name k index.keys) refl apart;
     uploads = λ number. left_upload_by number (at_number number index.uploads) refl;
   }
@@ -164,7 +167,7 @@ module _ (index : IndexRecord) (tied : IsTied index) (key : List ℕ) (absent : 
     (put : IsPut index.slots slots slot (Some c)) (keys : List (List ℕ × ℕ))
     (at : at_name key keys ≡ Some slot) (kept : (k : List ℕ) → (k ≡ key → ⊥) → at_name k keys ≡ at_name k index.keys) where
   abbrev taken : IndexRecord
-  taken = record { keys = keys; uploads = index.uploads; slots = slots }
+  taken = record { keys = keys; uploads = index.uploads; table = index.table; slots = slots }
 
   not_empty : (s : ℕ) (P : Candidate → Type 0) → Stands index s P → s ≡ slot → ⊥
   not_empty s P h same = let both : None ≡ Some h.candidate = sym empty ∙ ap (λ n. slot_at n index.slots) (sym same) ∙ h.there in absurd (cc)
@@ -180,6 +183,7 @@ module _ (index : IndexRecord) (tied : IsTied index) (key : List ℕ) (absent : 
   pub sets_taken : SetsNextOnKey index taken key (Some c)
   sets_taken = record {
     here = ap (λ o. slot_of o slots) at ∙ put.here;
+    table = refl;
     others = λ k apart. ap (λ o. slot_of o slots) (kept k apart) ∙ more_key_by k (at_name k index.keys) refl;
     uploads = λ number. more_upload_by number (at_number number index.uploads) refl;
   }
@@ -222,6 +226,7 @@ module _ (index : IndexRecord) (tied : IsTied index) (key : List ℕ) (absent : 
 pub renewed : (old new : IndexRecord) (bucket : BucketRecord) (key : List ℕ) → StandsButKey old bucket key
     → SetsNextOnKey old new key (first_on_key bucket key) → StandsFor new bucket
 renewed old new bucket key but sets = record {
+  table = subst (λ t. IsTable t (rules_of bucket.rules)) (sym sets.table) but.table;
   keys = λ k. elim (names k key) [
     | inl same ↦ ap (next_on_key new) same ∙ sets.here ∙ ap (first_on_key bucket) (sym same)
     | inr apart ↦ sets.others k apart ∙ but.keys k apart
@@ -243,10 +248,10 @@ module _ (index : IndexRecord) (tied : IsTied index) (key : List ℕ) (slot : �
       let h = tied.keys key slot at in
       subst (λ k. IsPut index.slots slots slot (Some (candidate_of k place))) h.is.own (put h.candidate h.there)
 
-  pub sets_replaced : SetsNextOnKey index (record { keys = index.keys; uploads = index.uploads; slots = slots }) key (Some (candidate_of key place))
+  pub sets_replaced : SetsNextOnKey index (record { keys = index.keys; uploads = index.uploads; table = index.table; slots = slots }) key (Some (candidate_of key place))
   sets_replaced = sets_written index tied key slot at slots (candidate_of key place) (version_of key place on) put_own
 
-  pub tied_replaced : IsTied (record { keys = index.keys; uploads = index.uploads; slots = slots })
+  pub tied_replaced : IsTied (record { keys = index.keys; uploads = index.uploads; table = index.table; slots = slots })
   tied_replaced = tied_written index tied key slot at slots (candidate_of key place) (version_of key place on) put_own
 
 pub slot_there : (index : IndexRecord) (tied : IsTied index) (key : List ℕ) (slot : ℕ) → at_name key index.keys ≡ Some slot → IsSome (slot_at slot index.slots)
@@ -264,14 +269,14 @@ back_again index more less slot c empty put out k = elim (decide k slot) [
 
 module _ (index : IndexRecord) (tied : IsTied index) (slots : List (Option Candidate)) (same : (k : ℕ) → slot_at k slots ≡ slot_at k index.slots) where
   abbrev again : IndexRecord
-  again = record { keys = index.keys; uploads = index.uploads; slots = slots }
+  again = record { keys = index.keys; uploads = index.uploads; table = index.table; slots = slots }
 
   same_slot : (o : Option ℕ) → slot_of o slots ≡ slot_of o index.slots
   same_slot None = refl
   same_slot (Some s) = same s
 
   pub keeps_again : KeepsNext index again
-  keeps_again = record { keys = λ key. same_slot (at_name key index.keys); uploads = λ number. same_slot (at_number number index.uploads) }
+  keeps_again = record { table = refl; keys = λ key. same_slot (at_name key index.keys); uploads = λ number. same_slot (at_number number index.uploads) }
 
   stands_again : (s : ℕ) (P : Candidate → Type 0) → Stands index s P → Stands again s P
   stands_again s P h = record { candidate = h.candidate; there = same s ∙ h.there; is = h.is }
@@ -288,4 +293,4 @@ module _ (index : IndexRecord) (tied : IsTied index) (slots : List (Option Candi
   }
 
 pub keeps_itself : (index : IndexRecord) → KeepsNext index index
-keeps_itself index = record { keys = λ key. refl; uploads = λ number. refl }
+keeps_itself index = record { table = refl; keys = λ key. refl; uploads = λ number. refl }

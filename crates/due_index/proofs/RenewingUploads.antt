@@ -12,6 +12,7 @@ use Rattle.due_core.specs.declared.action.Target.TheVariants as target
 use Rattle.due_core.specs.declared.action.Candidate.{Candidate}
 use Rattle.due_index.specs.Firsts.{first_on_upload}
 use Rattle.due_index.specs.Queue.{slot_at, IsPut}
+use Rattle.due_index.specs.Table.{IsTable, rules_of}
 use Rattle.due_index.specs.Index.{IndexRecord, next_on_upload, slot_of, IsOwned, IsTied, IsOfKey, IsOnUpload, Stands, SetsNextOnUpload, StandsFor, StandsButUpload}
 use Rattle.due_index.proofs.Tournaments.{decide}
 use Rattle.due_index.proofs.Renewing.{apart_sides}
@@ -42,7 +43,7 @@ module _ (index : IndexRecord) (tied : IsTied index) where
 module _ (index : IndexRecord) (tied : IsTied index) (number slot : ℕ) (at : at_number number index.uploads ≡ Some slot)
     (slots : List (Option Candidate)) (c : Candidate) (on : IsOnUpload number c) (put : IsPut index.slots slots slot (Some c)) where
   abbrev written : IndexRecord
-  written = record { keys = index.keys; uploads = index.uploads; slots = slots }
+  written = record { keys = index.keys; uploads = index.uploads; table = index.table; slots = slots }
 
   other_key_by : (k : List ℕ) (o : Option ℕ) → at_name k index.keys ≡ o → slot_of o slots ≡ slot_of o index.slots
   other_key_by k None is = refl
@@ -55,6 +56,7 @@ module _ (index : IndexRecord) (tied : IsTied index) (number slot : ℕ) (at : a
   pub sets_written : SetsNextOnUpload index written number (Some c)
   sets_written = record {
     here = ap (λ o. slot_of o slots) at ∙ put.here;
+    table = refl;
     others = λ n apart. other_upload_by n (at_number n index.uploads) refl apart;
     keys = λ k. other_key_by k (at_name k index.keys) refl;
   }
@@ -95,7 +97,7 @@ module _ (index : IndexRecord) (tied : IsTied index) (number slot : ℕ) (at : a
     (slots : List (Option Candidate)) (put : IsPut index.slots slots slot None) (uploads : List (ℕ × ℕ))
     (gone : at_number number uploads ≡ None) (kept : (n : ℕ) → (n ≡ number → ⊥) → at_number n uploads ≡ at_number n index.uploads) where
   abbrev emptied : IndexRecord
-  emptied = record { keys = index.keys; uploads = uploads; slots = slots }
+  emptied = record { keys = index.keys; uploads = uploads; table = index.table; slots = slots }
 
   left_key_by : (k : List ℕ) (o : Option ℕ) → at_name k index.keys ≡ o → slot_of o slots ≡ slot_of o index.slots
   left_key_by k None is = refl
@@ -108,6 +110,7 @@ module _ (index : IndexRecord) (tied : IsTied index) (number slot : ℕ) (at : a
   pub sets_emptied : SetsNextOnUpload index emptied number None
   sets_emptied = record {
     here = ap (λ o. slot_of o slots) gone;
+    table = refl;
     others = λ n apart. ap (λ o. slot_of o slots) (kept n apart) ∙ left_upload_by n (at_number n index.uploads) refl apart;
     keys = λ k. left_key_by k (at_name k index.keys) refl;
   }
@@ -144,7 +147,7 @@ module _ (index : IndexRecord) (tied : IsTied index) (number : ℕ) (absent : at
     (put : IsPut index.slots slots slot (Some c)) (uploads : List (ℕ × ℕ))
     (at : at_number number uploads ≡ Some slot) (kept : (n : ℕ) → (n ≡ number → ⊥) → at_number n uploads ≡ at_number n index.uploads) where
   abbrev taken : IndexRecord
-  taken = record { keys = index.keys; uploads = uploads; slots = slots }
+  taken = record { keys = index.keys; uploads = uploads; table = index.table; slots = slots }
 
   not_empty : (s : ℕ) (P : Candidate → Type 0) → Stands index s P → s ≡ slot → ⊥
   not_empty s P h same = let both : None ≡ Some h.candidate = sym empty ∙ ap (λ n. slot_at n index.slots) (sym same) ∙ h.there in absurd (cc)
@@ -160,6 +163,7 @@ module _ (index : IndexRecord) (tied : IsTied index) (number : ℕ) (absent : at
   pub sets_taken : SetsNextOnUpload index taken number (Some c)
   sets_taken = record {
     here = ap (λ o. slot_of o slots) at ∙ put.here;
+    table = refl;
     others = λ n apart. ap (λ o. slot_of o slots) (kept n apart) ∙ more_upload_by n (at_number n index.uploads) refl;
     keys = λ k. more_key_by k (at_name k index.keys) refl;
   }
@@ -201,6 +205,7 @@ module _ (index : IndexRecord) (tied : IsTied index) (number : ℕ) (absent : at
 pub renewed_upload : (old new : IndexRecord) (bucket : BucketRecord) (number : ℕ) → StandsButUpload old bucket number
     → SetsNextOnUpload old new number (first_on_upload bucket number) → StandsFor new bucket
 renewed_upload old new bucket number but sets = record {
+  table = subst (λ t. IsTable t (rules_of bucket.rules)) (sym sets.table) but.table;
   keys = λ key. sets.keys key ∙ but.keys key;
   uploads = λ n. elim (decide n number) [
     | inl same ↦ ap (next_on_upload new) same ∙ sets.here ∙ ap (first_on_upload bucket) (sym same)
@@ -212,4 +217,4 @@ pub upload_there : (index : IndexRecord) (tied : IsTied index) (number slot : �
 upload_there index tied number slot at = let h = tied.uploads number slot at in subst IsSome (sym h.there) refl
 
 pub set_nothing : (index : IndexRecord) (number : ℕ) → at_number number index.uploads ≡ None → SetsNextOnUpload index index number None
-set_nothing index number absent = record { here = ap (λ o. slot_of o index.slots) absent; others = λ n apart. refl; keys = λ k. refl }
+set_nothing index number absent = record { here = ap (λ o. slot_of o index.slots) absent; table = refl; others = λ n apart. refl; keys = λ k. refl }

@@ -59,11 +59,6 @@ pub none_each : (xs : List Candidate) → with_each None xs ≡ least comes_befo
 none_each [] = refl
 none_each (x ∷ xs) = some_each x xs
 
-pub first_of_upload : (bucket : BucketRecord) (rules : Configuration) (number : ℕ) (upload : UploadRecord) (first : Option Candidate)
-    → first ≡ with_each None (number_candidates (setting_of bucket rules) rules.rules (number, upload)) → first ≡ least comes_before (upload_candidates bucket rules (number, upload))
-first_of_upload bucket rules number upload first is =
-    is ∙ ap (with_each None) (same_upload bucket rules number upload) ∙ none_each (upload_candidates bucket rules (number, upload))
-
 -- ---- what was found on a key is on a version
 
 on_version_by : (bucket : BucketRecord) (rules : Configuration) (key : List ℕ) (stack : StackRecord) (place : Option Place)

@@ -1,6 +1,6 @@
 -- Where a bucket changes in one place, the index still stands for all others. What comes first on a key reads the stack
 -- of that key, the rules, the versioning and the moment of their last change; on an upload, that upload in its stead.
-use Rattle.std.proofs.Common.{◌≡◌, ℕ, List, refl, sym, ap, ◌∙◌}
+use Rattle.std.proofs.Common.{◌≡◌, ℕ, List, refl, sym, ap, ◌∙◌, subst}
 use Rattle.std.specs.Prelude.{Option, Some, None}
 use Rattle.office_base.specs.Maps.{at_name, at_number}
 use Rattle.rules_core.specs.declared.rule.SizeMode.{SizeMode}
@@ -11,7 +11,8 @@ use Rattle.uploads.specs.Uploads.{UploadRecord}
 use Rattle.due_core.specs.Buckets.{BucketRecord}
 use Rattle.due_core.specs.Choice.{comes_before, least}
 use Rattle.due_index.specs.Firsts.{asked_of_key, asked_of_upload, first_on_key, first_on_upload}
-use Rattle.due_index.specs.Index.{IndexRecord, StandsFor, StandsButKey, StandsButUpload}
+use Rattle.due_index.specs.Index.{IndexRecord, StandsFor, StandsButKey, StandsButUpload, KeepsNext}
+use Rattle.due_index.specs.Table.{IsTable, rules_of}
 use Rattle.due_index.specs.Search.{setting_of, key_candidates, number_candidates}
 use Rattle.due_index.specs.declared.asked.Setting.{Setting}
 use Rattle.due_index.proofs.Searching.{same_versions, same_upload}
@@ -79,6 +80,7 @@ KeepsUploads before after = (number : ℕ) → at_number number after.uploads �
 pub stands_still : (index : IndexRecord) (before after : BucketRecord) → StandsFor index before → KeepsRules before after
     → KeepsStacks before after → KeepsUploads before after → StandsFor index after
 stands_still index before after stands kept stacks uploads = record {
+  table = subst (λ o. IsTable index.table (rules_of o)) (sym kept.rules) stands.table;
   keys = λ key. stands.keys key ∙ sym (same_first_on_key before after kept key (stacks key));
   uploads = λ number. stands.uploads number ∙ sym (same_first_on_upload before after kept number (uploads number));
 }
@@ -87,6 +89,7 @@ stands_still index before after stands kept stacks uploads = record {
 pub stands_but_key : (index : IndexRecord) (before after : BucketRecord) (key : List ℕ) → StandsFor index before → KeepsRules before after
     → KeepsOtherStacks key before after → KeepsUploads before after → StandsButKey index after key
 stands_but_key index before after key stands kept stacks uploads = record {
+  table = subst (λ o. IsTable index.table (rules_of o)) (sym kept.rules) stands.table;
   keys = λ k apart. stands.keys k ∙ sym (same_first_on_key before after kept k (stacks k apart));
   uploads = λ number. stands.uploads number ∙ sym (same_first_on_upload before after kept number (uploads number));
 }
@@ -95,6 +98,15 @@ stands_but_key index before after key stands kept stacks uploads = record {
 pub stands_but_upload : (index : IndexRecord) (before after : BucketRecord) (number : ℕ) → StandsFor index before → KeepsRules before after
     → KeepsStacks before after → KeepsOtherUploads number before after → StandsButUpload index after number
 stands_but_upload index before after number stands kept stacks uploads = record {
+  table = subst (λ o. IsTable index.table (rules_of o)) (sym kept.rules) stands.table;
   keys = λ key. stands.keys key ∙ sym (same_first_on_key before after kept key (stacks key));
   uploads = λ n apart. stands.uploads n ∙ sym (same_first_on_upload before after kept n (uploads n apart));
+}
+
+-- where memory ran out, the index stands for the bucket that it stood for
+pub stands_kept : (old new : IndexRecord) (bucket : BucketRecord) → StandsFor old bucket → KeepsNext old new → StandsFor new bucket
+stands_kept old new bucket stands kept = record {
+  table = subst (λ t. IsTable t (rules_of bucket.rules)) (sym kept.table) stands.table;
+  keys = λ key. kept.keys key ∙ stands.keys key;
+  uploads = λ number. kept.uploads number ∙ stands.uploads number;
 }

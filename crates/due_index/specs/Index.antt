@@ -10,17 +10,19 @@ use Rattle.due_core.specs.declared.action.Target.TheVariants.{Version, Upload}
 use Rattle.due_core.specs.declared.action.Candidate.{Candidate}
 use Rattle.due_index.specs.Firsts.{first_on_key, first_on_upload}
 use Rattle.due_index.specs.Queue.{slot_at}
+use Rattle.due_index.specs.Table.{TableRecord, IsTable, rules_of}
 
 -- a map's entry in the slots
 abbrev pub slot_of : Option ℕ → List (Option Candidate) → Option Candidate
 slot_of None slots = None
 slot_of (Some slot) slots = slot_at slot slots
 
--- what contracts see of an index: the slot of each key and of each upload that has an action, and what stands in each
--- slot
+-- what contracts see of an index: the slot of each key and of each upload that has an action, the enabled rules by their
+-- prefix, and what stands in each slot
 pub record IndexRecord : Type 0 where
   pub keys : List (List ℕ × ℕ)
   pub uploads : List (ℕ × ℕ)
+  pub table : TableRecord
   pub slots : List (Option Candidate)
 
 -- the action that comes next on a key
@@ -56,8 +58,10 @@ pub record IsTied (index : IndexRecord) : Type 0 where
   pub owned : (slot : ℕ) (candidate : Candidate) → slot_at slot index.slots ≡ Some candidate
       → IsOwned index slot candidate candidate.action.target
 
--- the index stands for a bucket: on each key and each upload comes next what comes first of all that the rules ask
+-- the index stands for a bucket: its table is that of the bucket's rules, and on each key and each upload comes next what
+-- comes first of all that the rules ask
 pub record StandsFor (index : IndexRecord) (bucket : BucketRecord) : Type 0 where
+  pub table : IsTable index.table (rules_of bucket.rules)
   pub keys : (key : List ℕ) → next_on_key index key ≡ first_on_key bucket key
   pub uploads : (number : ℕ) → next_on_upload index number ≡ first_on_upload bucket number
 
@@ -71,30 +75,35 @@ abbrev pub due_by : ℕ → Option Candidate → Option Action
 due_by t None = None
 due_by t (Some first) = if nat_le first.action.since t then Some first.action else None
 
--- on each key and each upload comes next what came before
+-- the table stays, and on each key and each upload comes next what came before
 pub record KeepsNext (old new : IndexRecord) : Type 0 where
+  pub table : new.table ≡ old.table
   pub keys : (key : List ℕ) → next_on_key new key ≡ next_on_key old key
   pub uploads : (number : ℕ) → next_on_upload new number ≡ next_on_upload old number
 
 -- on this key comes this next, and on all others what came before
 pub record SetsNextOnKey (old new : IndexRecord) (key : List ℕ) (next : Option Candidate) : Type 0 where
   pub here : next_on_key new key ≡ next
+  pub table : new.table ≡ old.table
   pub others : (k : List ℕ) → (k ≡ key → ⊥) → next_on_key new k ≡ next_on_key old k
   pub uploads : (number : ℕ) → next_on_upload new number ≡ next_on_upload old number
 
 -- the index stands for a bucket, but for one key
 pub record StandsButKey (index : IndexRecord) (bucket : BucketRecord) (key : List ℕ) : Type 0 where
+  pub table : IsTable index.table (rules_of bucket.rules)
   pub keys : (k : List ℕ) → (k ≡ key → ⊥) → next_on_key index k ≡ first_on_key bucket k
   pub uploads : (number : ℕ) → next_on_upload index number ≡ first_on_upload bucket number
 
 -- on this upload comes this next, and on all others and on all keys what came before
 pub record SetsNextOnUpload (old new : IndexRecord) (number : ℕ) (next : Option Candidate) : Type 0 where
   pub here : next_on_upload new number ≡ next
+  pub table : new.table ≡ old.table
   pub others : (n : ℕ) → (n ≡ number → ⊥) → next_on_upload new n ≡ next_on_upload old n
   pub keys : (key : List ℕ) → next_on_key new key ≡ next_on_key old key
 
 -- the index stands for a bucket, but for one upload
 pub record StandsButUpload (index : IndexRecord) (bucket : BucketRecord) (number : ℕ) : Type 0 where
+  pub table : IsTable index.table (rules_of bucket.rules)
   pub keys : (key : List ℕ) → next_on_key index key ≡ first_on_key bucket key
   pub uploads : (n : ℕ) → (n ≡ number → ⊥) → next_on_upload index n ≡ first_on_upload bucket n
 
@@ -115,6 +124,10 @@ StandsOnKeys index bucket = (key : List ℕ) → next_on_key index key ≡ first
 
 abbrev pub StandsOnUploads : IndexRecord → BucketRecord → Type 0
 StandsOnUploads index bucket = (number : ℕ) → next_on_upload index number ≡ first_on_upload bucket number
+
+-- the index has the table of these rules
+abbrev pub HasTable : IndexRecord → BucketRecord → Type 0
+HasTable index bucket = IsTable index.table (rules_of bucket.rules)
 
 -- on each key comes next what came before, and so on each upload
 abbrev pub KeepsKeys : IndexRecord → IndexRecord → Type 0

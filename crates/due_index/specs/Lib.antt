@@ -3,4 +3,5 @@ pub mod Index
 pub mod Places
 pub mod Queue
 pub mod Search
+pub mod Table
 pub mod Tournament

@@ -1,5 +1,5 @@
 -- How the first action on a key or an upload is searched: what is kept so far, with the next one looked at.
-use Rattle.std.specs.Prelude.{◌≡◌, ◌⊎◌, ℕ, ◌-◌, ◌==◌, ◌≤◌, ◌++◌, ◌∷◌, max, List, [], fold, map, flat_map, nat_lt, option_to_list, Option, Some, None, option_map}
+use Rattle.std.specs.Prelude.{◌≡◌, ◌⊎◌, ℕ, ◌+◌, ◌-◌, ◌==◌, ◌≤◌, ◌++◌, ◌∷◌, max, List, [], fold, map, flat_map, nat_lt, option_to_list, Option, Some, None, option_map, slice_get}
 use Rattle.std.specs.Prelude.{Bool, true, false, ◌&&◌, if◌then◌else◌}
 use Rattle.std.specs.List.{enumerate_from}
 use Rattle.moments.specs.Time.{end_of_time, due}
@@ -203,3 +203,11 @@ asked_of_one_upload setting number upload numbered =
 abbrev pub number_candidates : Setting → List Rule → ℕ × UploadRecord → List Candidate
 number_candidates setting rules (number, upload) =
     flat_map (asked_of_one_upload setting number upload) (enumerate_from 1 rules)
+
+-- what the rule at a place, from 0, asks; nothing where there is none
+abbrev pub asked_of_place : (ℕ × Rule → List Candidate) → ℕ → Option Rule → List Candidate
+asked_of_place asked place None = []
+asked_of_place asked place (Some rule) = asked (place + 1, rule)
+
+abbrev pub asked_at : (ℕ × Rule → List Candidate) → List Rule → ℕ → List Candidate
+asked_at asked rules place = asked_of_place asked place (slice_get rules place)

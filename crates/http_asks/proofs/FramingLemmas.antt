@@ -3,8 +3,7 @@ use Rattle.std.proofs.Common.{◌≡◌, ℕ, Bool, true, false, List, refl, ap,
 use Rattle.std.specs.Prelude.{if◌then◌else◌}
 use Rattle.office_base.specs.Keys.{is_key}
 use Rattle.office_base.specs.Names.{is_bucket_name}
-use Rattle.moments.specs.Dates.{is_month, year_in, month_in}
-use Rattle.moments.specs.Months.{month_number}
+use Rattle.moments.specs.Dates.{is_month}
 use Rattle.rules_core.specs.Configurations.{Configuration}
 use Rattle.rules_json.specs.Reading.{rules_of}
 use Rattle.rules_json.specs.declared.fault.RulesFault.{RulesFault}

@@ -3,3 +3,4 @@ mod Examples
 pub mod FramingLemmas
 pub mod HeardLemmas
 pub mod NumberLemmas
+mod Rules

@@ -49,32 +49,41 @@ pub(crate) enum Fault {
     NoMemory,
 }
 
-#[tactic(auto, using(crate::proofs::AskLemmas::body_told))]
-pub(crate) fn body_fault(fault: BodyFault) -> Fault
-    ensures { OnBroken result (λ broken. IsSomeAnd (body_flaw_of fault) (λ flaw. broken ≡ Some (in_body flaw))) }
-{
-    match fault {
-        BodyFault::NoMemory => Fault::NoMemory,
-        told => Fault::Bad(Bad::Body(told)),
+impl From<BodyFault> for Fault {
+    ghost from_gives = { λ fault told. OnBroken told
+        (λ broken. IsSomeAnd (body_flaw_of fault) (λ flaw. broken ≡ Some (in_body flaw))) };
+
+    #[tactic(auto, using(crate::proofs::AskLemmas::body_told))]
+    fn from(fault: BodyFault) -> Fault {
+        match fault {
+            BodyFault::NoMemory => Fault::NoMemory,
+            told => Fault::Bad(Bad::Body(told)),
+        }
     }
 }
 
-#[tactic(auto, using(crate::proofs::AskLemmas::rules_told))]
-pub(crate) fn rules_fault(fault: RulesFault) -> Fault
-    ensures { OnBroken result (λ broken. IsSomeAnd (told_fault fault) (λ told. broken ≡ Some (in_rules told))) }
-{
-    match fault {
-        RulesFault::NoMemory => Fault::NoMemory,
-        told => Fault::Bad(Bad::Rules(told)),
+impl From<RulesFault> for Fault {
+    ghost from_gives = { λ fault told. OnBroken told
+        (λ broken. IsSomeAnd (told_fault fault) (λ flaw. broken ≡ Some (in_rules flaw))) };
+
+    #[tactic(auto, using(crate::proofs::AskLemmas::rules_told))]
+    fn from(fault: RulesFault) -> Fault {
+        match fault {
+            RulesFault::NoMemory => Fault::NoMemory,
+            told => Fault::Bad(Bad::Rules(told)),
+        }
     }
 }
 
-#[tactic(auto, using(crate::proofs::AskLemmas::tariff_told))]
-pub(crate) fn tariff_fault(fault: TariffFault) -> Fault
-    ensures { OnBroken result (λ broken. IsSomeAnd (tariff_flaw_of fault) (λ flaw. broken ≡ Some (in_tariff flaw))) }
-{
-    match fault {
-        TariffFault::NoMemory => Fault::NoMemory,
-        told => Fault::Bad(Bad::Tariff(told)),
+impl From<TariffFault> for Fault {
+    ghost from_gives = { λ fault told. OnBroken told
+        (λ broken. IsSomeAnd (tariff_flaw_of fault) (λ flaw. broken ≡ Some (in_tariff flaw))) };
+
+    #[tactic(auto, using(crate::proofs::AskLemmas::tariff_told))]
+    fn from(fault: TariffFault) -> Fault {
+        match fault {
+            TariffFault::NoMemory => Fault::NoMemory,
+            told => Fault::Bad(Bad::Tariff(told)),
+        }
     }
 }

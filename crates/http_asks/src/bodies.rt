@@ -7,7 +7,7 @@ ghost use Rattle.rules_json.specs.Reading.{rules_of};
 ghost use Rattle.tariff.specs.Reading.{tariff_of};
 ghost use Rattle.http_asks.specs.Faults.{OnBroken, HasFault, HasPriceFlaw, IsFromBody};
 
-use crate::bad::{Fault, body_fault, rules_fault, tariff_fault};
+use crate::bad::Fault;
 use http_bodies::{PutBody, UploadBody, read_part, read_put, read_status, read_tags, read_upload};
 use office_base::Tags;
 use rules_core::RuleSet;
@@ -19,50 +19,35 @@ use tariff::Tariff;
 pub(crate) fn put_body(alloc: Global, bytes: &[u8]) -> Result<PutBody, Fault>
     ensures { IsFromBody (put_of bytes.now) result }
 {
-    match read_put(alloc, bytes) {
-        Ok(body) => Ok(body),
-        Err(fault) => Err(body_fault(fault)),
-    }
+    Ok(read_put(alloc, bytes)?)
 }
 
 #[tactic(auto, using(crate::proofs::AskLemmas::flaw_told))]
 pub(crate) fn status_body(alloc: Global, bytes: &[u8]) -> Result<bool, Fault>
     ensures { IsFromBody (versioning_of bytes.now) result }
 {
-    match read_status(alloc, bytes) {
-        Ok(enabled) => Ok(enabled),
-        Err(fault) => Err(body_fault(fault)),
-    }
+    Ok(read_status(alloc, bytes)?)
 }
 
 #[tactic(auto, using(crate::proofs::AskLemmas::flaw_told))]
 pub(crate) fn tags_body(alloc: Global, bytes: &[u8]) -> Result<Tags, Fault>
     ensures { IsFromBody (tagging_of bytes.now) result }
 {
-    match read_tags(alloc, bytes) {
-        Ok(tags) => Ok(tags),
-        Err(fault) => Err(body_fault(fault)),
-    }
+    Ok(read_tags(alloc, bytes)?)
 }
 
 #[tactic(auto, using(crate::proofs::AskLemmas::flaw_told))]
 pub(crate) fn upload_body(alloc: Global, bytes: &[u8]) -> Result<UploadBody, Fault>
     ensures { IsFromBody (upload_said bytes.now) result }
 {
-    match read_upload(alloc, bytes) {
-        Ok(body) => Ok(body),
-        Err(fault) => Err(body_fault(fault)),
-    }
+    Ok(read_upload(alloc, bytes)?)
 }
 
 #[tactic(auto, using(crate::proofs::AskLemmas::flaw_told))]
 pub(crate) fn part_body(alloc: Global, bytes: &[u8]) -> Result<u64, Fault>
     ensures { IsFromBody (part_of bytes.now) result }
 {
-    match read_part(alloc, bytes) {
-        Ok(size) => Ok(size),
-        Err(fault) => Err(body_fault(fault)),
-    }
+    Ok(read_part(alloc, bytes)?)
 }
 
 #[tactic(auto, using(crate::proofs::AskLemmas::fault_told))]
@@ -70,10 +55,7 @@ pub(crate) fn rules_body(alloc: Global, bytes: &[u8]) -> Result<RuleSet, Fault>
     ensures ok { IfOk result (λ rules. rules_of bytes.now ≡ Ok rules) }
     ensures err { IfErr result (λ fault. OnBroken fault (HasFault (rules_of bytes.now))) }
 {
-    match read_rules(alloc, bytes) {
-        Ok(rules) => Ok(rules),
-        Err(fault) => Err(rules_fault(fault)),
-    }
+    Ok(read_rules(alloc, bytes)?)
 }
 
 #[tactic(auto, using(crate::proofs::AskLemmas::price_flaw_told))]
@@ -81,8 +63,5 @@ pub(crate) fn tariff_body(alloc: Global, bytes: &[u8]) -> Result<Tariff, Fault>
     ensures ok { IfOk result (λ tariff. tariff_of bytes.now ≡ Ok tariff) }
     ensures err { IfErr result (λ fault. OnBroken fault (HasPriceFlaw (tariff_of bytes.now))) }
 {
-    match Tariff::read(alloc, bytes) {
-        Ok(tariff) => Ok(tariff),
-        Err(fault) => Err(tariff_fault(fault)),
-    }
+    Ok(Tariff::read(alloc, bytes)?)
 }

@@ -1,5 +1,6 @@
 pub mod Counts
 pub mod Exchanges
+pub mod MemorySinks
 pub mod Puts
 pub mod Saying
 pub mod Session

@@ -1,6 +1,10 @@
 // Replies in memory.
-ghost use Rattle.std.specs.Prelude.{◌≡◌, ◌≤◌, [], Some, map};
+ghost use Rattle.std.specs.Prelude.{◌≡◌, ◌+◌, ◌-◌, ◌^◌, ◌≤◌, ◌++◌, [], ◌∷◌, Some, map, min};
+ghost use Rattle.std.specs.Bool.{Decides};
+ghost use Rattle.std.specs.List.{Contains};
 ghost use Rattle.office_base.specs.Faults.{Rose};
+ghost use Rattle.http_text.specs.Replies.{answer_text};
+ghost use Rattle.http_front.specs.Texts.{bad_text_of};
 
 use crate::bad::Bad;
 use crate::replies::Replies;
@@ -22,6 +26,8 @@ pub struct MemoryReplies {
 }
 
 impl MemoryReplies {
+    ghost use Rattle.http_front.specs.MemorySinks.{sink_failing, sink_calls};
+
     /// Makes replies in which nothing was said. The calls of `say`, `say_bad` and `text` whose numbers are in
     /// `failing`, counted together from 1, fail, and nothing of them is kept; so does a call for which memory runs
     /// out.
@@ -31,6 +37,8 @@ impl MemoryReplies {
         ensures texts { ⟦<MemoryReplies as Replies>⟧.texts result ≡ Some [] }
         ensures noted { ⟦<MemoryReplies as Replies>⟧.noted result ≡ Some [] }
         ensures faults { ⟦<MemoryReplies as Replies>⟧.faults result ≡ 0 }
+        ensures failing { sink_failing result ≡ failing.items }
+        ensures calls { sink_calls result ≡ 0 }
     {
         MemoryReplies {
             replies: Vec::new(alloc),
@@ -66,7 +74,9 @@ impl MemoryReplies {
 
     // Whether this call is to fail.
     fn fails(&mut self) -> bool
-        ensures { self.new ≡ record self.old { calls = self.new.calls } }
+        ensures same { self.new ≡ record self.old { calls = self.new.calls } }
+        ensures counted { self.new.calls ≡ min (self.old.calls + 1) (2 ^ 64 - 1) }
+        ensures fails { Decides result (Contains self.old.failing.items self.new.calls) }
     {
         self.calls = self.calls.saturating_add(1);
         self.failing.contains(&self.calls)
@@ -84,6 +94,8 @@ impl MemoryReplies {
 }
 
 impl Replies for MemoryReplies {
+    ghost use Rattle.http_front.specs.MemorySinks.{IsSinkCall, kept_of};
+
     ghost said = { λ r. Some r.replies.items };
 
     ghost moments = { λ r. Some (map (λ answer. answer.value.disk_moment) r.answers.items) };
@@ -94,7 +106,13 @@ impl Replies for MemoryReplies {
 
     ghost faults = { λ r. r.faults };
 
-    fn say(&mut self, acked: &Acked, bytes: &[u8]) -> Result<(), Failed> {
+    fn say(&mut self, acked: &Acked, bytes: &[u8]) -> Result<(), Failed>
+        requires { bytes.now ≡ answer_text acked.now.reply }
+        ensures call { IsSinkCall self.old self.new (record (kept_of self.old) {
+          said = (kept_of self.old).said ++ bytes.now;
+          moments = (kept_of self.old).moments ++ acked.now.disk_moment ∷ [];
+        }) result }
+    {
         if self.fails() || self.answers.reserve(1).is_err() {
             return Err(self.fail());
         }
@@ -107,7 +125,11 @@ impl Replies for MemoryReplies {
         }
     }
 
-    fn say_bad(&mut self, _bad: &Bad, bytes: &[u8]) -> Result<(), Failed> {
+    fn say_bad(&mut self, bad: &Bad, bytes: &[u8]) -> Result<(), Failed>
+        requires { bytes.now ≡ bad_text_of bad.now }
+        ensures call { IsSinkCall self.old self.new
+            (record (kept_of self.old) { said = (kept_of self.old).said ++ bytes.now }) result }
+    {
         if self.fails() {
             return Err(self.fail());
         }
@@ -117,7 +139,10 @@ impl Replies for MemoryReplies {
         }
     }
 
-    fn text(&mut self, bytes: &[u8]) -> Result<(), Failed> {
+    fn text(&mut self, bytes: &[u8]) -> Result<(), Failed>
+        ensures call { IsSinkCall self.old self.new
+            (record (kept_of self.old) { texts = (kept_of self.old).texts ++ bytes.now }) result }
+    {
         if self.fails() {
             return Err(self.fail());
         }

@@ -86,8 +86,8 @@ pub(crate) fn tariff_line() -> &'static [u8]
     b"report: no tariff\n"
 }
 
-/// Gives the line that is noted of a session that ended so, with a desk that is stale then or not; it is empty where all
-/// was done. Takes no memory.
+/// Gives the line that is noted of a session that ended so, with a desk that is stale then or not; it is empty where
+/// all was done. Takes no memory.
 #[tactic(auto, unfolding(crate::specs::Lines::end_note))]
 pub fn end_line(end: SessionEnd, stale: bool) -> &'static [u8]
     ensures { result.now ≡ end_note end stale }

@@ -1,8 +1,16 @@
-use Rattle.due_index.specs.Search.{on_key, IsFirstOf}
-use Rattle.due_index.proofs.ByRule.{IsAskedBelow}
+use Rattle.std.proofs.Common.{◌≤◌, length}
+use Rattle.due_index.specs.Search.{on_key, IsFirstOf, asked_at, asked_by_rule}
+use Rattle.due_index.specs.Table.{IsNotBelow}
+use Rattle.due_index.proofs.Tables.{IsAskedFrom}
 use Rattle.due_index.proofs.search.stack.Given as goal
 
--- the rules so far were asked
-abbrev pub invariant-loop-i : goal.invariant-loop-i
-invariant-loop-i l =
-    IsFirstOf (on_key l.key l.fn.best) (IsAskedBelow l.setting (l.key, l.of_key) l.rules l.i) (on_key l.key l.best)
+-- the rules from there up were asked
+abbrev pub invariant-loop-next : goal.invariant-loop-next
+invariant-loop-next l = record {
+  within : l.next ≤ length l.table.order;
+  below : IsNotBelow l.rules l.table.order l.key l.next;
+  first : IsFirstOf (on_key l.key l.fn.best) (IsAskedFrom (asked_at (asked_by_rule l.setting (l.key, l.of_key)) l.rules) l.table.order l.next) (on_key l.key l.best);
+}
+
+abbrev pub decreases-loop-next : goal.decreases-loop-next
+decreases-loop-next l = l.next

@@ -48,21 +48,21 @@ bytes_small rows booked month class bounded here same earlier same_too =
 pub overflow_add-bytes : goal.overflow_add-bytes
 overflow_add-bytes c =
     let all = bytes_small c.self.inside.rows c.self.inside.booked c.args.month c.args.class c.self.invariant
-    c.kept-kept.ensures c.number.ensures.number c.before-2.ensures.running c.number-2.ensures.number in
+    c.kept-kept.ensures c.number.ensures.number c.before-sums.ensures.running c.number-2.ensures.number in
     omega (arith, all)
 
 pub overflow_mul-bytes : goal.overflow_mul-bytes
 overflow_mul-bytes c =
     let all = all_small c.self.inside.rows c.self.inside.booked c.args.month c.args.class c.self.invariant
-    c.kept-kept.ensures c.number.ensures.number c.before-2.ensures.running c.number-2.ensures.number c.ended.ensures in
-    let p = for_a_month (c.before-2.result.running + c.kept-kept.result.running) c.args.month c.args.t c.saturating_sub-ms.result cc in
+    c.kept-kept.ensures c.number.ensures.number c.before-sums.ensures.running c.number-2.ensures.number c.ended.ensures in
+    let p = for_a_month (c.before-sums.result.running + c.kept-kept.result.running) c.args.month c.args.t c.saturating_sub-ms.result cc in
     omega (arith, all, p)
 
 pub overflow_add-result : goal.overflow_add-result
 overflow_add-result c =
     let all = all_small c.self.inside.rows c.self.inside.booked c.args.month c.args.class c.self.invariant
-    c.kept-kept.ensures c.number.ensures.number c.before-2.ensures.running c.number-2.ensures.number c.ended.ensures in
-    let p = for_a_month (c.before-2.result.running + c.kept-kept.result.running) c.args.month c.args.t c.saturating_sub-ms.result cc in
+    c.kept-kept.ensures c.number.ensures.number c.before-sums.ensures.running c.number-2.ensures.number c.ended.ensures in
+    let p = for_a_month (c.before-sums.result.running + c.kept-kept.result.running) c.args.month c.args.t c.saturating_sub-ms.result cc in
     let s = c.saturating_sub.ensures in
     omega (arith, all, p, s)
 
@@ -73,7 +73,7 @@ by_kept k kept before b ms w rest ended now e f g h i = cc
 pub returns-clause-exact : goal.returns-clause-exact
 returns-clause-exact c book stands by =
     let here = kept_now c.self.inside.rows (rank_of c.args.class) c.args.month c.kept-kept.ensures c.number.ensures.number in
-    let earlier = before_now c.self.inside.rows (rank_of c.args.class) c.args.month c.before-2.ensures.running c.number-2.ensures.number in
+    let earlier = before_now c.self.inside.rows (rank_of c.args.class) c.args.month c.before-sums.ensures.running c.number-2.ensures.number in
     let ms : c.saturating_sub-ms.result ≡ min c.args.t (month_end c.args.month) - month_start c.args.month = cc in
     by_kept _ _ _ _ _ _ _ _ _ here earlier ms c.saturating_sub.ensures c.ended.ensures
     ∙ sym (meter_is (record { rows = c.self.inside.rows; booked = c.self.inside.booked }) book c.args.month c.args.class
@@ -82,7 +82,7 @@ returns-clause-exact c book stands by =
 pub returns-clause-small : goal.returns-clause-small
 returns-clause-small c =
     let all = all_small c.self.inside.rows c.self.inside.booked c.args.month c.args.class c.self.invariant
-    c.kept-kept.ensures c.number.ensures.number c.before-2.ensures.running c.number-2.ensures.number c.ended.ensures in
-    let p = for_a_month (c.before-2.result.running + c.kept-kept.result.running) c.args.month c.args.t c.saturating_sub-ms.result cc in
+    c.kept-kept.ensures c.number.ensures.number c.before-sums.ensures.running c.number-2.ensures.number c.ended.ensures in
+    let p = for_a_month (c.before-sums.result.running + c.kept-kept.result.running) c.args.month c.args.t c.saturating_sub-ms.result cc in
     let s = c.saturating_sub.ensures in
     omega (arith, all, p, s)

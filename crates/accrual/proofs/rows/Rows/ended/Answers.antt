@@ -7,9 +7,9 @@ use Rattle.accrual.specs.declared.rows.Before.{Before}
 use Rattle.accrual.specs.declared.rows.Numbers.{Numbers}
 use Rattle.accrual.specs.declared.rows.Rows.{Rows}
 use Rattle.accrual.specs.Bounds.{IsBounded}
-use Rattle.accrual.specs.Rows.{kept_in, arrived_to, departed_to}
+use Rattle.accrual.specs.Rows.{kept_in, IsBefore}
 use Rattle.accrual.proofs.Windows.{month_short, month_order}
-use Rattle.accrual.proofs.Bounds.{computed_fits, departures_fit, EndedFits}
+use Rattle.accrual.proofs.Bounds.{computed_fits, past_fits, EndedFits}
 use Rattle.accrual.proofs.rows.Rows.ended.Goals as goal
 
 pub overflow_sub-length : goal.overflow_sub-length
@@ -20,50 +20,40 @@ overflow_sub-length c =
 short : (month : ℕ) → month_length month < 2 ^ 32
 short month = let s = month_short month in omega (arith, s)
 
--- the numbers as they are read, each by the month's number
-fits : (rows : Rows) (booked month : ℕ) (class : Class) (kept : Numbers) (before : Before) (start end n k : ℕ) → IsBounded rows booked
-    → kept ≡ kept_in rows k (rank_of class) → before.arrived ≡ arrived_to rows (rank_of class) n → before.departed ≡ departed_to rows (rank_of class) n → n ≡ month → k ≡ month
-    → start ≡ month_start month → end ≡ month_end month
+-- the numbers as they are read, by the month's number
+fits : (rows : Rows) (booked month : ℕ) (class : Class) (kept : Numbers) (before : Before) (start end k : ℕ) → IsBounded rows booked
+    → kept ≡ kept_in rows k (rank_of class) → IsBefore rows month (rank_of class) before → k ≡ month → start ≡ month_start month → end ≡ month_end month
     → EndedFits rows month (rank_of class) kept.edges before.arrived (before.departed + kept.departed) (end - start)
-fits rows booked month class kept before start end n k bounded is_kept is_arrived is_departed is_n is_k begins ends =
-    computed_fits rows booked month class kept before.arrived before.departed (end - start) bounded (short month)
-    (is_kept ∙ ap (λ m. kept_in rows m (rank_of class)) is_k)
-    (is_arrived ∙ ap (λ m. arrived_to rows (rank_of class) m) is_n)
-    (is_departed ∙ ap (λ m. departed_to rows (rank_of class) m) is_n)
-    cc
-
-departed_fits : (rows : Rows) (booked month : ℕ) (class : Class) (kept : Numbers) (departed n k : ℕ) → IsBounded rows booked
-    → kept ≡ kept_in rows k (rank_of class) → departed ≡ departed_to rows (rank_of class) n → n ≡ month → k ≡ month → departed + kept.departed < 2 ^ 89
-departed_fits rows booked month class kept departed n k bounded is_kept is_departed is_n is_k =
-    departures_fit rows booked month class kept departed bounded
-    (is_kept ∙ ap (λ m. kept_in rows m (rank_of class)) is_k) (is_departed ∙ ap (λ m. departed_to rows (rank_of class) m) is_n)
+fits rows booked month class kept before start end k bounded is_kept sums is_k begins ends =
+    computed_fits rows booked month class kept before (end - start) bounded (short month) (is_kept ∙ ap (λ m. kept_in rows m (rank_of class)) is_k) sums cc
 
 pub overflow_mul-gross : goal.overflow_mul-gross
 overflow_mul-gross c =
-    let f = fits c.args.self.now c.requires.sound.0 c.args.month c.args.class c.kept-kept.result c.before-before.result c.month_window-start.result.0 c.month_window-start.result.1 c.number.result c.number-2.result c.requires.sound.1 c.kept-kept.ensures c.before-before.ensures.arrived c.before-before.ensures.departed c.number.ensures.number c.number-2.ensures.number c.month_window-start.ensures.begins c.month_window-start.ensures.ends in
+    let f = fits c.args.self.now c.requires.sound.0 c.args.month c.args.class c.kept-kept.result c.args.before c.month_window-start.result.0 c.month_window-start.result.1 c.number.result c.requires.sound.1 c.kept-kept.ensures c.requires.before c.number.ensures.number c.month_window-start.ensures.begins c.month_window-start.ensures.ends in
     omega (arith, f.arrivals)
 
 pub overflow_add-gross : goal.overflow_add-gross
 overflow_add-gross c =
-    let f = fits c.args.self.now c.requires.sound.0 c.args.month c.args.class c.kept-kept.result c.before-before.result c.month_window-start.result.0 c.month_window-start.result.1 c.number.result c.number-2.result c.requires.sound.1 c.kept-kept.ensures c.before-before.ensures.arrived c.before-before.ensures.departed c.number.ensures.number c.number-2.ensures.number c.month_window-start.ensures.begins c.month_window-start.ensures.ends in
+    let f = fits c.args.self.now c.requires.sound.0 c.args.month c.args.class c.kept-kept.result c.args.before c.month_window-start.result.0 c.month_window-start.result.1 c.number.result c.requires.sound.1 c.kept-kept.ensures c.requires.before c.number.ensures.number c.month_window-start.ensures.begins c.month_window-start.ensures.ends in
     omega (arith, f.gross)
 
 pub overflow_mul-result : goal.overflow_mul-result
 overflow_mul-result c =
-    let f = fits c.args.self.now c.requires.sound.0 c.args.month c.args.class c.kept-kept.result c.before-before.result c.month_window-start.result.0 c.month_window-start.result.1 c.number.result c.number-2.result c.requires.sound.1 c.kept-kept.ensures c.before-before.ensures.arrived c.before-before.ensures.departed c.number.ensures.number c.number-2.ensures.number c.month_window-start.ensures.begins c.month_window-start.ensures.ends in
+    let f = fits c.args.self.now c.requires.sound.0 c.args.month c.args.class c.kept-kept.result c.args.before c.month_window-start.result.0 c.month_window-start.result.1 c.number.result c.requires.sound.1 c.kept-kept.ensures c.requires.before c.number.ensures.number c.month_window-start.ensures.begins c.month_window-start.ensures.ends in
     omega (arith, f.departures)
 
 pub overflow_sub-result : goal.overflow_sub-result
 overflow_sub-result c =
-    let f = fits c.args.self.now c.requires.sound.0 c.args.month c.args.class c.kept-kept.result c.before-before.result c.month_window-start.result.0 c.month_window-start.result.1 c.number.result c.number-2.result c.requires.sound.1 c.kept-kept.ensures c.before-before.ensures.arrived c.before-before.ensures.departed c.number.ensures.number c.number-2.ensures.number c.month_window-start.ensures.begins c.month_window-start.ensures.ends in
+    let f = fits c.args.self.now c.requires.sound.0 c.args.month c.args.class c.kept-kept.result c.args.before c.month_window-start.result.0 c.month_window-start.result.1 c.number.result c.requires.sound.1 c.kept-kept.ensures c.requires.before c.number.ensures.number c.month_window-start.ensures.begins c.month_window-start.ensures.ends in
     omega (arith, f.covered)
 
 pub overflow_add-result : goal.overflow_add-result
 overflow_add-result c =
-    let f = departed_fits c.args.self.now c.requires.sound.0 c.args.month c.args.class c.kept-kept.result c.before-before.result.departed c.number.result c.number-2.result c.requires.sound.1 c.kept-kept.ensures c.before-before.ensures.departed c.number.ensures.number c.number-2.ensures.number in
-    omega (arith, f)
+    let f = past_fits c.args.self.now c.requires.sound.0 c.args.month c.args.class c.kept-kept.result c.args.before c.requires.sound.1
+    (c.kept-kept.ensures ∙ ap (λ m. kept_in c.args.self.now m (rank_of c.args.class)) c.number.ensures.number) c.requires.before in
+    omega (arith, f.departed)
 
 pub returns : goal.returns
 returns c =
-    let f = fits c.args.self.now c.requires.sound.0 c.args.month c.args.class c.kept-kept.result c.before-before.result c.month_window-start.result.0 c.month_window-start.result.1 c.number.result c.number-2.result c.requires.sound.1 c.kept-kept.ensures c.before-before.ensures.arrived c.before-before.ensures.departed c.number.ensures.number c.number-2.ensures.number c.month_window-start.ensures.begins c.month_window-start.ensures.ends in
+    let f = fits c.args.self.now c.requires.sound.0 c.args.month c.args.class c.kept-kept.result c.args.before c.month_window-start.result.0 c.month_window-start.result.1 c.number.result c.requires.sound.1 c.kept-kept.ensures c.requires.before c.number.ensures.number c.month_window-start.ensures.begins c.month_window-start.ensures.ends in
     f.exact

@@ -8,23 +8,23 @@ use Rattle.due_index.proofs.index.DueIndex.empty_upload.Goals as goal
 
 pub clear-requires : goal.clear-requires
 clear-requires c =
-    let index : IndexRecord = record { keys = c.self.inside.keys.entries; uploads = c.self.inside.uploads.entries; slots = c.self.inside.queue } in
+    let index : IndexRecord = record { keys = c.self.inside.keys.entries; uploads = c.self.inside.uploads.entries; table = c.self.inside.table; slots = c.self.inside.queue } in
     let at = subst (λ (i : IndexRecord). at_number c.args.number i.uploads ≡ Some c.args.slot) (sym c.self.view_is) c.requires in
     let held = some_of _ (upload_there index c.self.invariant c.args.number c.args.slot at) in
     slot_within c.self.inside.queue c.args.slot held.0 held.1
 
 pub invariant_of-self : goal.invariant_of-self
 invariant_of-self c =
-    let index : IndexRecord = record { keys = c.self.inside.keys.entries; uploads = c.self.inside.uploads.entries; slots = c.self.inside.queue } in
+    let index : IndexRecord = record { keys = c.self.inside.keys.entries; uploads = c.self.inside.uploads.entries; table = c.self.inside.table; slots = c.self.inside.queue } in
     let at = subst (λ (i : IndexRecord). at_number c.args.number i.uploads ≡ Some c.args.slot) (sym c.self.view_is) c.requires in
     tied_emptied index c.self.invariant c.args.number c.args.slot at c.clear.new.self c.clear.ensures c.remove.new.self.entries c.remove.ensures.updates.1
     (λ n apart. c.remove.ensures.updates.2 n (not_at_number c.args.number n apart))
 
 pub returns : goal.returns
 returns c =
-    let index : IndexRecord = record { keys = c.self.inside.keys.entries; uploads = c.self.inside.uploads.entries; slots = c.self.inside.queue } in
+    let index : IndexRecord = record { keys = c.self.inside.keys.entries; uploads = c.self.inside.uploads.entries; table = c.self.inside.table; slots = c.self.inside.queue } in
     let at = subst (λ (i : IndexRecord). at_number c.args.number i.uploads ≡ Some c.args.slot) (sym c.self.view_is) c.requires in
-    let after : IndexRecord = record { keys = c.self.inside.keys.entries; uploads = c.remove.new.self.entries; slots = c.clear.new.self } in
+    let after : IndexRecord = record { keys = c.self.inside.keys.entries; uploads = c.remove.new.self.entries; table = c.self.inside.table; slots = c.clear.new.self } in
     subst (λ i. SetsNextOnUpload i after c.args.number None) c.self.view_is
     (sets_emptied index c.self.invariant c.args.number c.args.slot at c.clear.new.self c.clear.ensures c.remove.new.self.entries c.remove.ensures.updates.1
     (λ n apart. c.remove.ensures.updates.2 n (not_at_number c.args.number n apart)))

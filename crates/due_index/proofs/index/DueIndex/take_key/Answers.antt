@@ -9,7 +9,7 @@ use Rattle.due_index.proofs.index.DueIndex.take_key.Goals as goal
 
 pub invariant_of-self-in-Ok : goal.invariant_of-self-in-Ok
 invariant_of-self-in-Ok c =
-    let index : IndexRecord = record { keys = c.self.inside.keys.entries; uploads = c.self.inside.uploads.entries; slots = c.self.inside.queue } in
+    let index : IndexRecord = record { keys = c.self.inside.keys.entries; uploads = c.self.inside.uploads.entries; table = c.self.inside.table; slots = c.self.inside.queue } in
     let absent = subst (λ (i : IndexRecord). at_name c.args.key.now i.keys ≡ None) (sym c.self.view_is) c.requires.absent in
     let found = c.in_ok-on_key.ensures in
     let of_key : IsOfKey c.args.key.now c.in_ok-on_key.field-0 = subst (λ d. IsOfKey c.args.key.now d) (sym found) (version_of c.args.key.now c.args.place c.requires.version) in
@@ -21,13 +21,13 @@ invariant_of-self-in-Ok c =
 
 pub returns-in-Ok-clause-ok : goal.returns-in-Ok-clause-ok
 returns-in-Ok-clause-ok c =
-    let index : IndexRecord = record { keys = c.self.inside.keys.entries; uploads = c.self.inside.uploads.entries; slots = c.self.inside.queue } in
+    let index : IndexRecord = record { keys = c.self.inside.keys.entries; uploads = c.self.inside.uploads.entries; table = c.self.inside.table; slots = c.self.inside.queue } in
     let absent = subst (λ (i : IndexRecord). at_name c.args.key.now i.keys ≡ None) (sym c.self.view_is) c.requires.absent in
     let found = c.in_ok-on_key.ensures in
     let of_key : IsOfKey c.args.key.now c.in_ok-on_key.field-0 = subst (λ d. IsOfKey c.args.key.now d) (sym found) (version_of c.args.key.now c.args.place c.requires.version) in
     let at : at_name c.args.key.now c.insert.new.self.entries ≡ Some c.in_ok-slot.slot =
     subst (λ k. at_name k c.insert.new.self.entries ≡ Some c.in_ok-slot.slot) c.in_ok-known.ensures c.in-Ok.ensures.updates.1 in
-    let after : IndexRecord = record { keys = c.insert.new.self.entries; uploads = c.self.inside.uploads.entries; slots = c.add.new.self } in
+    let after : IndexRecord = record { keys = c.insert.new.self.entries; uploads = c.self.inside.uploads.entries; table = c.self.inside.table; slots = c.add.new.self } in
     subst (λ d. SetsNextOnKey c.args.self.now after c.args.key.now (Some d)) found
     (subst (λ i. SetsNextOnKey i after c.args.key.now (Some c.in_ok-on_key.field-0)) c.self.view_is
     (sets_taken index c.self.invariant c.args.key.now absent c.in_ok-slot.slot c.in_ok-slot.ensures.ok.0 c.add.new.self c.in_ok-on_key.field-0 of_key c.in_ok-slot.ensures.ok.1
@@ -39,15 +39,15 @@ clear-requires c = slot_within c.add.new.self c.in_ok-slot.slot c.in_ok-on_key.f
 
 pub invariant_of-self-in-Err : goal.invariant_of-self-in-Err
 invariant_of-self-in-Err c =
-    let index : IndexRecord = record { keys = c.self.inside.keys.entries; uploads = c.self.inside.uploads.entries; slots = c.self.inside.queue } in
+    let index : IndexRecord = record { keys = c.self.inside.keys.entries; uploads = c.self.inside.uploads.entries; table = c.self.inside.table; slots = c.self.inside.queue } in
     let same = back_again index c.add.new.self c.clear.new.self c.in_ok-slot.slot c.in_ok-on_key.field-0 c.in_ok-slot.ensures.ok.0 c.in_ok-slot.ensures.ok.1 c.clear.ensures in
-    subst (λ ks. IsTied (record { keys = ks; uploads = c.self.inside.uploads.entries; slots = c.clear.new.self })) (sym c.in-Err.ensures.err)
+    subst (λ ks. IsTied (record { keys = ks; uploads = c.self.inside.uploads.entries; table = c.self.inside.table; slots = c.clear.new.self })) (sym c.in-Err.ensures.err)
     (tied_again index c.self.invariant c.clear.new.self same)
 
 pub returns-in-Err-clause-err : goal.returns-in-Err-clause-err
 returns-in-Err-clause-err c =
-    let index : IndexRecord = record { keys = c.self.inside.keys.entries; uploads = c.self.inside.uploads.entries; slots = c.self.inside.queue } in
+    let index : IndexRecord = record { keys = c.self.inside.keys.entries; uploads = c.self.inside.uploads.entries; table = c.self.inside.table; slots = c.self.inside.queue } in
     let same = back_again index c.add.new.self c.clear.new.self c.in_ok-slot.slot c.in_ok-on_key.field-0 c.in_ok-slot.ensures.ok.0 c.in_ok-slot.ensures.ok.1 c.clear.ensures in
-    subst (λ i. KeepsNext i (record { keys = c.insert.new.self.entries; uploads = c.self.inside.uploads.entries; slots = c.clear.new.self })) c.self.view_is
-    (subst (λ ks. KeepsNext index (record { keys = ks; uploads = c.self.inside.uploads.entries; slots = c.clear.new.self })) (sym c.in-Err.ensures.err)
+    subst (λ i. KeepsNext i (record { keys = c.insert.new.self.entries; uploads = c.self.inside.uploads.entries; table = c.self.inside.table; slots = c.clear.new.self })) c.self.view_is
+    (subst (λ ks. KeepsNext index (record { keys = ks; uploads = c.self.inside.uploads.entries; table = c.self.inside.table; slots = c.clear.new.self })) (sym c.in-Err.ensures.err)
     (keeps_again index c.self.invariant c.clear.new.self same))

@@ -7,7 +7,7 @@ pub loop-number-init : goal.loop-number-init
 loop-number-init c =
     let all : c.args.bucket.now.uploads ≡ c.into_iter-number-iterator.result = search rules in
     subst (λ left. AreUploadsLeft c.args.self.now c.args.self.now c.args.bucket.now left) all
-    (all_uploads_left c.args.self.now c.args.bucket.now c.requires)
+    (all_uploads_left c.args.self.now c.args.bucket.now c.requires.none c.requires.table)
 
 pub loop-number-preserved : goal.loop-number-preserved
 loop-number-preserved c =

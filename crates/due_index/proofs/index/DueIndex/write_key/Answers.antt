@@ -8,20 +8,20 @@ use Rattle.due_index.proofs.index.DueIndex.write_key.Goals as goal
 
 pub replace-requires : goal.replace-requires
 replace-requires c =
-    let index : IndexRecord = record { keys = c.self.inside.keys.entries; uploads = c.self.inside.uploads.entries; slots = c.self.inside.queue } in
+    let index : IndexRecord = record { keys = c.self.inside.keys.entries; uploads = c.self.inside.uploads.entries; table = c.self.inside.table; slots = c.self.inside.queue } in
     let at = subst (λ (i : IndexRecord). at_name c.args.key.now i.keys ≡ Some c.args.slot) (sym c.self.view_is) c.requires.at in
     slot_there index c.self.invariant c.args.key.now c.args.slot at
 
 pub invariant_of-self : goal.invariant_of-self
 invariant_of-self c =
-    let index : IndexRecord = record { keys = c.self.inside.keys.entries; uploads = c.self.inside.uploads.entries; slots = c.self.inside.queue } in
+    let index : IndexRecord = record { keys = c.self.inside.keys.entries; uploads = c.self.inside.uploads.entries; table = c.self.inside.table; slots = c.self.inside.queue } in
     let at = subst (λ (i : IndexRecord). at_name c.args.key.now i.keys ≡ Some c.args.slot) (sym c.self.view_is) c.requires.at in
     tied_replaced index c.self.invariant c.args.key.now c.args.slot at c.args.place c.requires.version c.replace.new.self c.replace.ensures
 
 pub returns : goal.returns
 returns c =
-    let index : IndexRecord = record { keys = c.self.inside.keys.entries; uploads = c.self.inside.uploads.entries; slots = c.self.inside.queue } in
+    let index : IndexRecord = record { keys = c.self.inside.keys.entries; uploads = c.self.inside.uploads.entries; table = c.self.inside.table; slots = c.self.inside.queue } in
     let at = subst (λ (i : IndexRecord). at_name c.args.key.now i.keys ≡ Some c.args.slot) (sym c.self.view_is) c.requires.at in
-    let after : IndexRecord = record { keys = c.self.inside.keys.entries; uploads = c.self.inside.uploads.entries; slots = c.replace.new.self } in
+    let after : IndexRecord = record { keys = c.self.inside.keys.entries; uploads = c.self.inside.uploads.entries; table = c.self.inside.table; slots = c.replace.new.self } in
     subst (λ i. SetsNextOnKey i after c.args.key.now (Some (candidate_of c.args.key.now c.args.place))) c.self.view_is
     (sets_replaced index c.self.invariant c.args.key.now c.args.slot at c.args.place c.requires.version c.replace.new.self c.replace.ensures)

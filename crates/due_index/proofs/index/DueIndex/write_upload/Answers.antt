@@ -8,21 +8,21 @@ use Rattle.due_index.proofs.index.DueIndex.write_upload.Goals as goal
 
 pub write-requires : goal.write-requires
 write-requires c =
-    let index : IndexRecord = record { keys = c.self.inside.keys.entries; uploads = c.self.inside.uploads.entries; slots = c.self.inside.queue } in
+    let index : IndexRecord = record { keys = c.self.inside.keys.entries; uploads = c.self.inside.uploads.entries; table = c.self.inside.table; slots = c.self.inside.queue } in
     let at = subst (λ (i : IndexRecord). at_number c.args.number i.uploads ≡ Some c.args.slot) (sym c.self.view_is) c.requires.at in
     let held = some_of _ (upload_there index c.self.invariant c.args.number c.args.slot at) in
     slot_within c.self.inside.queue c.args.slot held.0 held.1
 
 pub invariant_of-self : goal.invariant_of-self
 invariant_of-self c =
-    let index : IndexRecord = record { keys = c.self.inside.keys.entries; uploads = c.self.inside.uploads.entries; slots = c.self.inside.queue } in
+    let index : IndexRecord = record { keys = c.self.inside.keys.entries; uploads = c.self.inside.uploads.entries; table = c.self.inside.table; slots = c.self.inside.queue } in
     let at = subst (λ (i : IndexRecord). at_number c.args.number i.uploads ≡ Some c.args.slot) (sym c.self.view_is) c.requires.at in
     tied_written index c.self.invariant c.args.number c.args.slot at c.write.new.self c.args.next c.requires.own c.write.ensures
 
 pub returns : goal.returns
 returns c =
-    let index : IndexRecord = record { keys = c.self.inside.keys.entries; uploads = c.self.inside.uploads.entries; slots = c.self.inside.queue } in
+    let index : IndexRecord = record { keys = c.self.inside.keys.entries; uploads = c.self.inside.uploads.entries; table = c.self.inside.table; slots = c.self.inside.queue } in
     let at = subst (λ (i : IndexRecord). at_number c.args.number i.uploads ≡ Some c.args.slot) (sym c.self.view_is) c.requires.at in
-    let after : IndexRecord = record { keys = c.self.inside.keys.entries; uploads = c.self.inside.uploads.entries; slots = c.write.new.self } in
+    let after : IndexRecord = record { keys = c.self.inside.keys.entries; uploads = c.self.inside.uploads.entries; table = c.self.inside.table; slots = c.write.new.self } in
     subst (λ i. SetsNextOnUpload i after c.args.number (Some c.args.next)) c.self.view_is
     (sets_written index c.self.invariant c.args.number c.args.slot at c.write.new.self c.args.next c.requires.own c.write.ensures)

@@ -1,0 +1,111 @@
+"""The cases of refused_memory.sh: python3 refused_memory_cases.py PROGRAM FOLDER. Ends with 1 where one failed.
+
+A run with a refused allocation ends with status 0, or with 6 and its line. Its replies are a front of those of the whole run, with
+the refusal for want of memory behind them where it has one, and the journal holds the commands that were accepted, and no other. A
+report and a table of stays are whole, or a front of them was said."""
+import os
+import pathlib
+import shutil
+import subprocess
+import sys
+
+PROGRAM, FOLDER = sys.argv[1], pathlib.Path(sys.argv[2])
+COUNTED, DATA = FOLDER / "counted", FOLDER / "run" / "office-data"
+LACKS = b'HTTP/1.1 500 Internal Server Error\r\ncontent-type: application/json\r\ncontent-length: 33\r\n\r\n{"error":"NoMemory","number":115}'
+BODIES = (b"", b'{"size":200000,"class":"STANDARD_IA","tags":{"team":"a"}}', b'{"size":1}', b"")
+STARTS = (b"PUT /buckets/logs", b"PUT /buckets/logs/objects/a", b"PUT /buckets/logs/objects/b", b"DELETE /buckets/logs/objects/b")
+counts = {True: 0, False: 0}
+
+
+def check(name, wanted, found):
+    counts[wanted == found] += 1
+    if wanted != found:
+        print(f"FAILED: {name}: wanted {wanted!r}, found {found!r}", flush=True)
+
+
+def message(start, body):
+    return start + b" HTTP/1.1\r\nHost: office\r\nContent-Length: %d\r\n\r\n" % len(body) + body
+
+
+def office(words, sent=b"", refused=0):
+    """Runs the program, which allocates without the allocation of this number."""
+    COUNTED.unlink(missing_ok=True)
+    rest = {"LD_PRELOAD": str(FOLDER / "refused_memory.so"), "REFUSED": str(refused), "COUNTED": str(COUNTED)}
+    ended = subprocess.run([PROGRAM, *words], cwd=FOLDER / "run", input=sent, capture_output=True, timeout=60, check=False,
+                           env={**os.environ, **rest})
+    return ended.returncode, ended.stdout, ended.stderr
+
+
+def commands():
+    """The commands of the journal, without their moments: behind a head of ten bytes each has an open gate, its length in four
+    bytes, and eight bytes of a moment."""
+    journal, at, found = (DATA / "journal").read_bytes(), 10, []
+    while journal[at] == 0xA5:
+        size = int.from_bytes(journal[at + 1:at + 5], "big")
+        found.append(journal[at + 13:at + 5 + size])
+        at += 5 + size
+    return found
+
+
+def replies(said):
+    """The replies in what was said, each without its moment of the day."""
+    found = []
+    while said:
+        head, _, rest = said.partition(b"\r\n\r\n")
+        size = int(head.rpartition(b" ")[2])
+        body = rest[:size]
+        found.append((head, body.split(b'"moment"')[0] + body[-20:] if b'"moment"' in body else body))
+        said = rest[size:]
+    return found
+
+
+def anew(saved):
+    shutil.rmtree(FOLDER / "run", ignore_errors=True)
+    shutil.copytree(saved, FOLDER / "run")
+
+
+def refuse_each(name, saved, words, sent, look):
+    """Refuses each allocation of a command in turn, and looks at what it then did."""
+    anew(saved)
+    whole = office(words, sent)
+    check(f"{name}: status with nothing refused", (0, b""), (whole[0], whole[2]))
+    total, ends = int(COUNTED.read_text()), {}
+    kept = commands()
+    for refused in range(1, total + 1):
+        anew(saved)
+        status, said, notes = office(words, sent, refused)
+        ends[status] = ends.get(status, 0) + 1
+        what = f"{name}: allocation {refused}"
+        check(f"{what}: its note", {0: b"", 6: b"memory: refused\n"}.get(status, "status 0 or 6"), notes)
+        look(what, status, said, whole[1], kept)
+    print(f"{name}: {total} allocations, each refused once: " + ", ".join(f"status {status} {n} times" for status, n in sorted(ends.items())))
+
+
+def look_at_run(what, status, said, whole, kept):
+    lacks = said.endswith(LACKS)
+    told = replies(said[:-len(LACKS)] if lacks else said)
+    check(f"{what}: its replies", replies(whole)[:len(told)], told)
+    check(f"{what}: what the journal holds", kept[:len(told)], commands())
+    if status == 0:
+        check(f"{what}: each message is answered", (len(kept), False), (len(told), lacks))
+
+
+def look_at_text(what, status, said, whole, kept):
+    check(f"{what}: its text", whole if status == 0 else whole[:len(said)], said)
+    check(f"{what}: what the journal holds", kept, commands())
+
+
+(FOLDER / "run").mkdir()
+office(["init"])
+shutil.copytree(FOLDER / "run", FOLDER / "made")
+SENT = b"".join(map(message, STARTS, BODIES))
+refuse_each("run", FOLDER / "made", ["run"], SENT, look_at_run)
+anew(FOLDER / "made")
+TARIFF = b"[storage]\n%s[transition]\n%s" % ((b"".join(b"%s = 1\n" % name for name in (
+    b"STANDARD", b"STANDARD_IA", b"ONEZONE_IA", b"GLACIER_IR", b"GLACIER", b"DEEP_ARCHIVE")),) * 2)
+office(["run"], SENT + message(b"PUT /tariff", TARIFF))
+shutil.copytree(FOLDER / "run", FOLDER / "filled")
+refuse_each("report", FOLDER / "filled", ["report", "2024-01"], b"", look_at_text)
+refuse_each("explain", FOLDER / "filled", ["explain", "--workers", "1"], b"", look_at_text)
+print(f"{counts[True]} passed, {counts[False]} failed")
+sys.exit(1 if counts[False] else 0)
