@@ -79,4 +79,5 @@ def main():
         print(f"workers {workers} idle_kib {before} small_bodies_kib {small} large_bodies_kib {large} date {datetime.date.today()}")
 
 
-main()
+if __name__ == "__main__":
+    main()

@@ -22,8 +22,8 @@ if has man 'man --warnings'; then
         skip 'man --warnings' 'man that shows a page'
     fi
 fi
-check 'each status of docs/FORMATS.md is in the man page' \
-    "$(sed -n '/^## Statuses/,/^## [A-RT-Z]/s/^| \([0-9][0-9]*\) |.*/\1/p' "$root/docs/FORMATS.md" | tr '\n' ' ')" \
+check 'each exit code of docs/FORMATS.md is in the man page' \
+    "$(sed -n '/^## Exit codes/,/^## [A-DF-Z]/s/^| \([0-9][0-9]*\) |.*/\1/p' "$root/docs/FORMATS.md" | tr '\n' ' ')" \
     "$(sed -n 's/^\.It \([0-9][0-9]*\)$/\1/p' "$page" | tr '\n' ' ')"
 
 # The status of the program with these words, in a folder without a journal: 1 where they are no command line.

@@ -1,0 +1,145 @@
+#!/usr/bin/env python3
+"""The documents: links lead somewhere, named files exist, and the commands of README.md and docs/OPERATIONS.md run as they are shown.
+
+    tests-live/test_documents.py PROGRAM
+"""
+import datetime
+import os
+import re
+
+import live
+from free_port import free_port
+
+DOCUMENTS = [live.ROOT / "README.md", live.ROOT / "CHANGELOG.md", *sorted((live.ROOT / "docs").glob("*.md")),
+             live.ROOT / "bench" / "README.md", *sorted((live.ROOT / "crates").glob("*/README.md"))]
+
+# Blocks of commands that are not run here, by a word of theirs, and why.
+LEFT_OUT = {
+    "apt-get": "needs root, and a package: package.sh",
+    "list-object-versions": "needs a store: test_import_versions.py, test_lifecycle_tool.py",
+    "dd of=": "needs a damaged journal: backup.sh",
+}
+
+
+def prose(text):
+    """A document without its blocks of code."""
+    return re.sub(r"^```.*?^```", "", text, flags=re.DOTALL | re.MULTILINE)
+
+
+def blocks(text):
+    """The blocks of shell commands of a document."""
+    return re.findall(r"^```sh\n(.*?)^```", text, flags=re.DOTALL | re.MULTILINE)
+
+
+def anchor(heading):
+    """The anchor of a heading, as the usual renderers of Markdown make it."""
+    kept = (c for c in heading.strip().replace("`", "").replace("*", "").lower() if c.isalnum() or c in " -_")
+    return "".join(kept).replace(" ", "-")
+
+
+def anchors(path):
+    return {anchor(heading) for heading in re.findall(r"^#+ (.*)$", prose(path.read_text("utf-8")), flags=re.MULTILINE)}
+
+
+class Links(live.Case):
+    def test_links_lead_somewhere(self):
+        for document in DOCUMENTS:
+            for link in re.findall(r"\]\(([^)\s]+)\)", prose(document.read_text("utf-8"))):
+                if re.match(r"[a-z]+:", link):
+                    continue
+                path, _, place = link.partition("#")
+                target = (document.parent / path).resolve() if path else document
+                with self.subTest(document=document.name, link=link):
+                    self.assertTrue(target.exists())
+                    if place:
+                        self.assertIn(place, anchors(target))
+
+    def test_named_files_exist(self):
+        for document in DOCUMENTS:
+            if document.name == "CHANGELOG.md":
+                continue
+            text = document.read_text("utf-8")
+            for name in set(re.findall(r"(?<![\w/.-])(?:tools|bench|tests-live|examples)/[A-Za-z0-9_/.-]*[A-Za-z0-9_]", text)):
+                with self.subTest(document=document.name, file=name):
+                    self.assertTrue((live.ROOT / name).exists())
+
+
+@live.needs("bash")
+@live.needs("curl")
+@live.needs("jq")
+class Commands(live.Case):
+    def setUp(self):
+        super().setUp()
+        self.port = free_port()
+        last = datetime.datetime.now(datetime.timezone.utc).replace(day=1) - datetime.timedelta(days=1)
+        self.changed = {
+            "./office": self.program, "8080": str(self.port), "2026-11-": f"{last:%Y-%m}-", "2026-11.": f"{last:%Y-%m}.",
+            " 2026-11 ": f" {last:%Y-%m} ", " 2026-11\n": f" {last:%Y-%m}\n", "/backup/office": "backup/office", "/srv/reports": "reports",
+            "--listen 9101": "--out metrics.prom",
+        }
+        for name in ("tools", "examples"):
+            os.symlink(live.ROOT / name, self.folder / name)
+        (self.folder / "tariff.toml").write_bytes((live.ROOT / "examples" / "tariff.toml").read_bytes())
+        (self.folder / "reports").mkdir()
+
+    def shell(self, commands, name):
+        """Runs a block with this test's port, month and folders; each command has to succeed. A server may not listen yet."""
+        for shown, here in self.changed.items():
+            commands = commands.replace(shown, here)
+        begin = "set -e\ncurl() { command curl -sS --retry 50 --retry-delay 0 --retry-connrefused --retry-max-time 60 \"$@\"; }\n"
+        done = self.ended(["bash", "-m", "-c", begin + commands], text=True)
+        self.check(name, (0, ""), (done.returncode, "".join(line for line in done.stderr.splitlines(True) if "retry" not in line)
+                                   if done.returncode else ""))
+        return done.stdout
+
+    def runnable(self, document):
+        for block in blocks((live.ROOT / document).read_text("utf-8")):
+            if not any(word in block for word in LEFT_OUT):
+                yield block
+
+    def test_readme(self):
+        quick, rules = self.runnable("README.md")
+        said = self.shell(quick, "quick start")
+        self.check("the office is made", True, said.startswith("made\n"))
+        self.check("the meters of this month", 1, len(re.findall(r'"byte_ms":"[1-9][0-9]*","class":"STANDARD_IA"', said)))
+        serving = f"{self.program} serve --listen 127.0.0.1:8080 &\ntrap 'kill %1' EXIT\n"
+        said = self.shell(serving + rules, "a lifecycle configuration")
+        self.check("three rules, nothing is due", '{"rules":3}{"action":"none"}', said)
+
+    def test_readme_bill(self):
+        """The bill has the lines that the README shows; the amounts depend on how long the objects were there."""
+        shown = re.search(r"^```text\n(backups .*?)^```", (live.ROOT / "README.md").read_text("utf-8"), flags=re.DOTALL | re.MULTILINE)[1]
+        month = f"{datetime.datetime.now(datetime.timezone.utc):%Y-%m}"
+        self.office("init")
+        for name in ("first-bill.http", "bill.http"):
+            self.office("run", sent=(live.ROOT / "examples" / name).read_bytes().replace(b"2026-11", month.encode()))
+        found = self.office("report", month, "--text").stdout.decode()
+        self.check("the lines of the bill", [re.sub(r" +[0-9]+", " N", line) for line in shown.splitlines()],
+                   [re.sub(r" +[0-9]+", " N", line) for line in found.splitlines()
+                    if not re.match(r"backups +storage +STANDARD_IA ", line)])
+
+    def test_operations(self):
+        self.office("init")
+        serving = f"{self.program} serve --listen 127.0.0.1:{self.port} --workers 4 &\ntrap 'kill %1' EXIT\n"
+        rules = '{"Rules":[{"Status":"Enabled","Filter":{},"Expiration":{"Date":"2024-01-01T00:00:00.000Z"}}]}'
+        begin = "".join(f"curl -X PUT -H Expect: {words} http://127.0.0.1:8080/buckets/logs{path} >made\n" for words, path in (
+            ("", ""), (f"-d '{rules}'", "/lifecycle"), ("-d '{\"size\":5}'", "/objects/old")))
+        commands = []
+        for block in self.runnable("docs/OPERATIONS.md"):
+            # The server is the one of this test, and behind the proxy there is none here.
+            lines = [line for line in block.splitlines(True) if not line.startswith("office serve") and "https://" not in line]
+            commands.append("".join(lines))
+        self.assertGreater(len(commands), 6)
+        said = self.shell(serving + begin + "".join(commands), "the commands of OPERATIONS")
+        self.check("what was removed", 1, said.count("logs\told\tnull\n"))
+        self.check("the page and the report", [True, True], [any(self.folder.glob("20*.html")), any(self.folder.glob("reports/*-report.csv"))])
+        self.check("metrics", True, "office_up 1\n" in (self.folder / "metrics.prom").read_text("utf-8"))
+
+    def test_each_block_left_out_is_there(self):
+        text = "".join((live.ROOT / name).read_text("utf-8") for name in ("README.md", "docs/OPERATIONS.md"))
+        for word in LEFT_OUT:
+            self.check(word, True, any(word in block for block in blocks(text)))
+
+
+if __name__ == "__main__":
+    live.main()
