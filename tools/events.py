@@ -23,6 +23,7 @@ class Event(typing.NamedTuple):
     version: typing.Optional[str]
     sequencer: str
     raw: dict
+    etag: typing.Optional[str] = None
 
 
 class Bad(Exception):
@@ -112,7 +113,7 @@ def event_of(raw):
         raise Bad(f"its size is {json.dumps(size)}")
     if what in (PUT, MARKER, REMOVE) and not re.fullmatch("[0-9A-Fa-f]+", sequencer or ""):
         raise Bad(f"its sequencer is {json.dumps(sequencer)}, so nothing tells what came before it")
-    return Event(bucket, about["key"], what, size, class_in(outer), version or None, order_of(sequencer or ""), raw)
+    return Event(bucket, about["key"], what, size, class_in(outer), version or None, order_of(sequencer or ""), raw, str(about.get("eTag") or about.get("etag") or "") or None)
 
 
 def order_of(sequencer):

@@ -211,9 +211,10 @@ class Follow:
             return self.bury(event.raw, f"refused: {reason(status, found)}")
         else:
             self.counts[event.what] += 1
-            if event.version and event.what != REMOVE:
-                number = found.get("version") if event.what == PUT else found.get("marker") or found.get("removed")
-                self.ids.keep(event.bucket, event.key, event.version, number, event.size if event.what == PUT else None)
+            if event.what == PUT:
+                self.ids.keep(event.bucket, event.key, event.version or "null", found.get("version"), event.size, event.etag)
+            elif event.what == MARKER and event.version:
+                self.ids.keep(event.bucket, event.key, event.version, found.get("marker"))
         self.ids.do("insert or replace into sequencers values (?, ?, max(?, coalesce((select sequencer from sequencers where bucket = ? "
                     "and key = ?), '')))", event.bucket, event.key, event.sequencer, event.bucket, event.key)
         self.ids.do("delete from dead where event = ?", text_of(event.raw))

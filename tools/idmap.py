@@ -12,7 +12,7 @@ from asking import Stop
 VERSION = 1
 TABLES = """
 create table if not exists about (name text primary key, value text not null);
-create table if not exists versions (bucket text, key text, id text, number text, size integer, primary key (bucket, key, id));
+create table if not exists versions (bucket text, key text, id text, number text, size integer, etag text, primary key (bucket, key, id));
 create index if not exists versions_by_number on versions (bucket, key, number);
 create table if not exists uploads (bucket text, id text, key text not null, number integer, primary key (bucket, id));
 create table if not exists sequencers (bucket text, key text, sequencer text not null, primary key (bucket, key));
@@ -81,20 +81,17 @@ class IdMap:
 
     # ---- versions and uploads
 
-    def keep(self, bucket, key, version, number, size=None):
+    def keep(self, bucket, key, version, number, size=None, etag=None):
         """Notes the number of a version of the store; `size` is nothing for a delete marker."""
-        self.do("insert or replace into versions values (?, ?, ?, ?, ?)", bucket, key, version, number, size)
-
-    def drop(self, bucket, key, version):
-        self.do("delete from versions where bucket = ? and key = ? and id = ?", bucket, key, version)
+        self.do("insert or replace into versions values (?, ?, ?, ?, ?, ?)", bucket, key, version, number, size, etag and etag.strip('"'))
 
     def number_of(self, bucket, key, version):
         """The number of a version of the store; nothing if it is unknown."""
         return self.one("select number from versions where bucket = ? and key = ? and id = ?", bucket, key, version)
 
     def version_of(self, bucket, key, number):
-        """The store's id of a version and its size; nothing if it is unknown."""
-        return self.do("select id, size from versions where bucket = ? and key = ? and number = ?", bucket, key, number).fetchone()
+        """The store's id of a version, its size and its ETag; nothing if it is unknown."""
+        return self.do("select id, size, etag from versions where bucket = ? and key = ? and number = ?", bucket, key, number).fetchone()
 
     def keep_upload(self, bucket, version, key, number):
         self.do("insert or replace into uploads values (?, ?, ?, ?)", bucket, version, key, number)

@@ -30,6 +30,7 @@ class Row(typing.NamedTuple):
     moment: typing.Optional[datetime.datetime] = None
     latest: bool = True
     tags: typing.Optional[dict] = None
+    etag: typing.Optional[str] = None
 
     def is_of_a_version(self):
         """Whether its bucket has versions: it is not current, or has an id other than null."""
@@ -126,7 +127,8 @@ def read_csv(path, text, given):
             key = bytes_of_key(field["key"], given.keys or "url")
             named = field.get("storageclass", "").strip() or None
             yield Row(bucket, key, *((None, None) if kind == MARKER else (int(size), named)), kind, where,
-                      field.get("versionid", "").strip() or None, moment_of(field.get("lastmodifieddate"), where), latest)
+                      field.get("versionid", "").strip() or None, moment_of(field.get("lastmodifieddate"), where), latest,
+                      etag=field.get("etag") or None)
     except csv.Error as fault:
         raise Stop(3, f"{path}:{lines.line_num}: no CSV: {fault}") from None
 
@@ -152,8 +154,8 @@ def read_json(path, text, given):
             where = f"{path}: {part} {place}"
             if not isinstance(it, dict) or not isinstance(it.get("Key"), str):
                 raise Stop(3, f"{where}: without a Key")
-            if not all(isinstance(it.get(name) or "", str) for name in ("VersionId", "StorageClass")):
-                raise Stop(3, f"{where}: its VersionId or StorageClass is no text")
+            if not all(isinstance(it.get(name) or "", str) for name in ("VersionId", "StorageClass", "ETag")):
+                raise Stop(3, f"{where}: its VersionId, StorageClass or ETag is no text")
             latest = it.get("IsLatest") is not False
             kind = MARKER if part == "DeleteMarkers" else CURRENT if latest else NONCURRENT
             size = it.get("Size")
@@ -164,7 +166,7 @@ def read_json(path, text, given):
             except UnicodeEncodeError:
                 raise Stop(3, f"{where}: the key is no text") from None
             yield Row(bucket, key, *((None, None) if kind == MARKER else (size, it.get("StorageClass"))), kind, where,
-                      it.get("VersionId"), moment_of(it.get("LastModified"), where), latest)
+                      it.get("VersionId"), moment_of(it.get("LastModified"), where), latest, etag=it.get("ETag"))
 
 
 def size_of(found, where):
@@ -201,7 +203,8 @@ def read_mc(path, text, given):
         newest.add(key)
         kind = MARKER if found.get("isDeleteMarker") else CURRENT if latest else NONCURRENT
         told = (None, None) if kind == MARKER else (size_of(found.get("size"), where), found.get("storageClass") or None)
-        yield Row(given.bucket, key, *told, kind, where, found.get("versionId") or None, moment_of(found.get("lastModified"), where), latest)
+        yield Row(given.bucket, key, *told, kind, where, found.get("versionId") or None, moment_of(found.get("lastModified"), where), latest,
+                  etag=str(found.get("etag") or "") or None)
 
 
 def read_rclone(path, text, given):
