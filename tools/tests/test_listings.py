@@ -177,7 +177,7 @@ class Json(Listing):
                          (5, ": Versions 1: without a Key"), ({"Key": "a"}, ": Versions 1: the size is null"),
                          ({"Key": "a", "Size": -1}, ": Versions 1: the size is -1"), ({"Key": "a", "Size": True}, ": Versions 1: the size is true"),
                          ({"Key": "a", "Size": "5"}, ': Versions 1: the size is "5"'), ({"Key": "\ud800", "Size": 1}, ": Versions 1: the key is no text"),
-                         ({"Key": "a", "Size": 1, "VersionId": 5}, ": Versions 1: its VersionId or StorageClass is no text"),
+                         ({"Key": "a", "Size": 1, "VersionId": 5}, ": Versions 1: its VersionId, StorageClass or ETag is no text"),
                          ({"Key": "a", "Size": 1, "LastModified": 5}, ": Versions 1: the moment is 5")):
             with self.subTest(why):
                 self.assertEqual(why, self.stopped(json.dumps({"Versions": [row]}), bucket="logs"))
