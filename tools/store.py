@@ -1,5 +1,6 @@
 """Asks an object store by boto3 or the aws command, whichever is there; for follow and apply. No other tool needs one of them."""
 import datetime
+import email.utils
 import json
 import re
 import shutil
@@ -73,9 +74,10 @@ class Store:
 
 
 def moment_of(found):
-    """A moment of the store, in UTC."""
+    """A moment of the store, in UTC: of boto3, of the aws command, or of a field of HTTP, which that prints as it is."""
     if isinstance(found, str):
-        found = datetime.datetime.fromisoformat(found.replace("Z", "+00:00"))
+        is_of_http = not found[:4].isdigit()
+        found = email.utils.parsedate_to_datetime(found) if is_of_http else datetime.datetime.fromisoformat(found.replace("Z", "+00:00"))
     return found.astimezone(datetime.timezone.utc)
 
 
