@@ -1,5 +1,5 @@
 -- How the first action on a key or an upload is searched: what is kept so far, with the next one looked at.
-use Rattle.std.specs.Prelude.{◌≡◌, ◌⊎◌, ℕ, ◌+◌, ◌-◌, ◌==◌, ◌≤◌, ◌++◌, ◌∷◌, max, List, [], fold, map, flat_map, nat_lt, option_to_list, Option, Some, None, option_map, slice_get}
+use Rattle.std.specs.Prelude.{◌≡◌, ◌⊎◌, ℕ, ◌+◌, ◌-◌, ◌≤◌, ◌++◌, ◌∷◌, max, List, [], fold, map, flat_map, nat_lt, option_to_list, Option, Some, None, option_map, slice_get}
 use Rattle.std.specs.Prelude.{Bool, true, false, ◌&&◌, if◌then◌else◌}
 use Rattle.std.specs.List.{enumerate_from}
 use Rattle.moments.specs.Time.{end_of_time, due}
