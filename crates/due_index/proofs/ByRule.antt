@@ -17,7 +17,7 @@ use Rattle.due_core.specs.Candidates.{stack_candidates, upload_candidates}
 use Rattle.due_core.specs.Choice.{comes_before, least}
 use Rattle.due_core.specs.RuleActions.{Placed, placed_from, matches_version}
 use Rattle.due_core.specs.declared.action.Candidate.{Candidate}
-use Rattle.due_index.specs.Search.{Among, IsFirstOf, IsFirstOfList, setting_of, asked_of_version, version_candidates, key_candidates, rule_candidates, asked_by_rule, asked_by_rules}
+use Rattle.due_index.specs.Search.{Among, IsFirstOf, IsFirstOfList, setting_of, asked_of_version, version_candidates, key_candidates, asked_by_rule, asked_by_rules}
 use Rattle.due_index.specs.Search.{asked_of_place, asked_at, asked_of_one_upload, number_candidates}
 use Rattle.due_index.specs.Table.{enabled_of, prefix_of, is_enabled, prefix_at, begins}
 use Rattle.due_index.specs.declared.asked.Setting.{Setting}

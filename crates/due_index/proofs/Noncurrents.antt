@@ -1,6 +1,6 @@
 -- What a rule asks of the versions of a key is what it asks of the current one, and what its removal and each of its
 -- moves ask of the others.
-use Rattle.std.proofs.Common.{◌≡◌, ℕ, ◌+◌, ◌-◌, ◌<◌, ◌≤◌, ◌⊎◌, inl, inr, List, [], ◌∷◌, ◌++◌, length, get_or, refl, sym, ap, ◌∙◌, subst, Bool, true, false, cond, ◌&&◌, filter, map, flat_map, take, arith, zero, suc}
+use Rattle.std.proofs.Common.{◌≡◌, ℕ, ◌+◌, ◌-◌, ◌<◌, ◌≤◌, ◌⊎◌, inl, inr, List, [], ◌∷◌, ◌++◌, length, get_or, refl, sym, ap, ◌∙◌, subst, Bool, true, false, cond, ◌&&◌, filter, map, take, arith, suc}
 use Rattle.std.specs.Prelude.{◌==◌, max, nat_lt, Option, Some, None, option_to_list, slice_get}
 use Rattle.std.proofs.lemmas.Bool.Decides.{nat_tests}
 use Rattle.std.proofs.Math.Seq.{take-suc}
@@ -8,7 +8,6 @@ use Rattle.std.proofs.lemmas.List.{get_or_default}
 use Rattle.class_rules.specs.declared.class.Class.TheVariants.{Standard}
 use Rattle.moments.specs.Time.{due, end_of_time}
 use Rattle.office_base.specs.declared.version_id.VersionId.{VersionId}
-use Rattle.rules_core.specs.declared.rule.Filter.{Filter}
 use Rattle.rules_core.specs.declared.rule.Rule.{Rule}
 use Rattle.rules_core.specs.declared.rule.SizeMode.{SizeMode}
 use Rattle.rules_core.specs.declared.rule.Noncurrent.{Noncurrent}
@@ -20,17 +19,16 @@ use Rattle.stacks.specs.declared.version.Version.{Version}
 use Rattle.stacks.specs.declared.version.Versioning.{Versioning}
 use Rattle.due_core.specs.Candidates.{timely}
 use Rattle.due_core.specs.RuleActions.{DueAction, Placed, placed_from, keeps_newer, admits_move, matches_version, version_actions, noncurrent_removals, noncurrent_transitions}
-use Rattle.due_core.specs.declared.action.ActionKind.{ActionKind}
-use Rattle.due_core.specs.declared.action.ActionKind.TheVariants.{Remove, Transition, Marker, Abort}
+use Rattle.due_core.specs.declared.action.ActionKind.TheVariants.{Remove, Transition}
 use Rattle.due_core.specs.declared.action.Target.TheVariants as target
 use Rattle.due_core.specs.declared.action.Candidate.{Candidate}
 use Rattle.due_index.specs.Search.{Among, IsFirstOf, IsFirstOfList, IsOfStep, IsOfSteps, asked_of_version, rule_candidates, current_placed, with_each}
-use Rattle.due_index.specs.Search.{step_of_version, takes_step, admits_step, steps_of, removal_step, move_step}
+use Rattle.due_index.specs.Search.{step_of_version, admits_step, steps_of, removal_step, move_step}
 use Rattle.due_index.specs.declared.asked.Setting.{Setting}
 use Rattle.due_index.specs.declared.noncurrent.Step.{Step}
 use Rattle.due_index.proofs.Among.{among_append, among_front, among_back, among_map, mapped, among_filter, filtered, among_flat_map, flat_mapped}
 use Rattle.due_index.proofs.Firsts.{none_looked, then_looked, same_looked, folded}
-use Rattle.due_index.proofs.Oldest.{IsPlaced, is_placed, placed_so, placed_there, same_at, in_true, IsTaken, in_step, to_step, stepped}
+use Rattle.due_index.proofs.Oldest.{is_placed, placed_there, same_at, in_true, in_step, to_step}
 use Rattle.due_index.proofs.Tournaments.{decide}
 
 -- ---- what a rule asks of a noncurrent version

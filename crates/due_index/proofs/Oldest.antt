@@ -1,7 +1,7 @@
 -- A removal or a move is looked for from the oldest version on, and no further than to the first that it takes where
 -- the versions ceased in order: a newer one is due no earlier, and stands behind it where it is due at once.
-use Rattle.std.proofs.Common.{◌≡◌, ℕ, ◌+◌, ◌-◌, ◌<◌, ◌≤◌, ◌⊎◌, inl, inr, List, [], ◌∷◌, length, get_or, refl, sym, ap, ◌∙◌, subst, Bool, true, false, cond, ◌&&◌, filter, map, arith, zero, suc}
-use Rattle.std.specs.Prelude.{max, nat_lt, nat_le, Option, Some, None, unwrap_or}
+use Rattle.std.proofs.Common.{◌≡◌, ℕ, ◌+◌, ◌-◌, ◌<◌, ◌≤◌, ◌⊎◌, inl, inr, List, [], ◌∷◌, length, get_or, refl, sym, ◌∙◌, subst, Bool, true, false, cond, ◌&&◌, filter, map, arith, zero, suc}
+use Rattle.std.specs.Prelude.{max, nat_lt, nat_le, Option, unwrap_or}
 use Rattle.std.specs.Cmp.{ranked, tied_itself}
 use Rattle.std.specs.declared.cmp.Ordering.{Ordering}
 use Rattle.std.specs.declared.cmp.Ordering.TheVariants.{Less, Equal, Greater}
@@ -14,8 +14,7 @@ use Rattle.rules_core.specs.declared.rule.Rule.{Rule}
 use Rattle.stacks.specs.Ceasing.{cease_until, cease_in_order}
 use Rattle.stacks.specs.Stacks.{StackRecord}
 use Rattle.stacks.specs.declared.version.Version.{Version}
-use Rattle.due_core.specs.Candidates.{timely}
-use Rattle.due_core.specs.Choice.{comes_before, precedence, kind_place, coldness}
+use Rattle.due_core.specs.Choice.{comes_before, kind_place}
 use Rattle.due_core.specs.RuleActions.{Placed, placed_from, keeps_newer}
 use Rattle.due_core.specs.declared.action.ActionKind.{ActionKind}
 use Rattle.due_core.specs.declared.action.Target.{Target}

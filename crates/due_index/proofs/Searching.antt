@@ -1,5 +1,5 @@
 -- One pass over what the rules ask of a key or an upload finds the first of it.
-use Rattle.std.proofs.Common.{◌≡◌, ℕ, List, [], ◌∷◌, refl, sym, ap, ◌∙◌, Bool, true, false, cond, map, filter}
+use Rattle.std.proofs.Common.{◌≡◌, ℕ, List, [], ◌∷◌, refl, sym, Bool, true, false, cond, map, filter}
 use Rattle.std.specs.Prelude.{max, Option, Some, None, IfSome, nat_lt}
 use Rattle.std.specs.List.{best_of, enumerate_from}
 use Rattle.moments.specs.Time.{end_of_time}

@@ -1,6 +1,6 @@
 -- The order of the candidates is total on those of a bucket: two of which none comes before the other are the same.
-use Rattle.std.proofs.Common.{◌≡◌, ℕ, ◌<◌, ◌⊎◌, inl, inr, List, refl, sym, ap, ◌∙◌, subst, false, flat_map, arith}
-use Rattle.std.specs.Prelude.{Option, Some, None, Result, Ok, Err, IfOk, option_map}
+use Rattle.std.proofs.Common.{◌≡◌, ℕ, ◌⊎◌, inl, inr, List, sym, ap, ◌∙◌, subst, flat_map, arith}
+use Rattle.std.specs.Prelude.{Option, Some, None, Result, Ok, Err, IfOk}
 use Rattle.std.specs.Ordering.{nat_cmp}
 use Rattle.std.specs.declared.cmp.Ordering.TheVariants.{Equal}
 use Rattle.std.specs.FinMap.{nat_cmp-IsAntisymmetric}
@@ -41,17 +41,17 @@ module _ (bucket : BucketRecord) (whole : IsBucket bucket) where
   stands_on_by (Some rules) c h =
       elim (among_append (flat_map (stack_candidates bucket rules) bucket.stacks) (flat_map (upload_candidates bucket rules) bucket.uploads) c h) [
         | inl a ↦ let found = among_flat_map (stack_candidates bucket rules) bucket.stacks c a in inl (record {
-            key = found.0.0;
-            stack = found.0.1;
-            at = there_found bytes_cmp nat_list_cmp_total same_name found.0.0 found.0.1 bucket.stacks whole.stacks found.1;
-            on = on_key bucket rules found.0.0 found.0.1 c found.2;
-          })
+          key = found.0.0;
+          stack = found.0.1;
+          at = there_found bytes_cmp nat_list_cmp_total same_name found.0.0 found.0.1 bucket.stacks whole.stacks found.1;
+          on = on_key bucket rules found.0.0 found.0.1 c found.2;
+        })
         | inr b ↦ let found = among_flat_map (upload_candidates bucket rules) bucket.uploads c b in inr (record {
-            number = found.0.0;
-            upload = found.0.1;
-            at = there_found nat_cmp nat_cmp_total nat_cmp-IsAntisymmetric found.0.0 found.0.1 bucket.uploads whole.uploads found.1;
-            on = on_upload bucket rules found.0.0 found.0.1 c found.2;
-          })
+          number = found.0.0;
+          upload = found.0.1;
+          at = there_found nat_cmp nat_cmp_total nat_cmp-IsAntisymmetric found.0.0 found.0.1 bucket.uploads whole.uploads found.1;
+          on = on_upload bucket rules found.0.0 found.0.1 c found.2;
+        })
       ]
 
   stands_on : (c : Candidate) → Among (eligible bucket) c → IsOnStack bucket c ⊎ IsOnNumber bucket c

@@ -19,8 +19,8 @@ abbrev pub slot_of : Option ℕ → List (Option Candidate) → Option Candidate
 slot_of None slots = None
 slot_of (Some slot) slots = slot_at slot slots
 
--- what contracts see of an index: the slot of each key and of each upload that has an action, the enabled rules by their
--- prefix, and what stands in each slot
+-- what contracts see of an index: the slot of each key and of each upload that has an action, the enabled rules by
+-- their prefix, and what stands in each slot
 pub record IndexRecord : Type 0 where
   pub keys : List (List ℕ × ℕ)
   pub uploads : List (ℕ × ℕ)
@@ -60,8 +60,8 @@ pub record IsTied (index : IndexRecord) : Type 0 where
   pub owned : (slot : ℕ) (candidate : Candidate) → slot_at slot index.slots ≡ Some candidate
       → IsOwned index slot candidate candidate.action.target
 
--- the index stands for a bucket: its table is that of the bucket's rules, and on each key and each upload comes next what
--- comes first of all that the rules ask
+-- the index stands for a bucket: its table is that of the bucket's rules, and on each key and each upload comes next
+-- what comes first of all that the rules ask
 pub record StandsFor (index : IndexRecord) (bucket : BucketRecord) : Type 0 where
   pub table : IsTable index.table (rules_of bucket.rules)
   pub keys : (key : List ℕ) → next_on_key index key ≡ first_on_key bucket key
@@ -79,7 +79,8 @@ due_by t (Some first) = if nat_le first.action.since t then Some first.action el
 
 -- of these candidates, two of which none comes before the other are the same
 abbrev pub IsTotalOn : List Candidate → Type 0
-IsTotalOn asked = (c d : Candidate) → Contains asked c → Contains asked d → comes_before c d ≡ false → comes_before d c ≡ false → c ≡ d
+IsTotalOn asked = (c d : Candidate) → Contains asked c → Contains asked d
+    → comes_before c d ≡ false → comes_before d c ≡ false → c ≡ d
 
 -- it is the action of a candidate at this moment before which none comes; None: there is no candidate
 abbrev pub IsLeastAction : BucketRecord → ℕ → Option Action → Type 0

@@ -26,4 +26,5 @@ pub record IsPut (old new : List (Option Candidate)) (slot : ℕ) (held : Option
 
 -- the action of a candidate that stands first; None: all slots are empty
 abbrev pub IsFirstAction : List (Option Candidate) → Option Action → Type 0
-IsFirstAction slots action = (head : Option Candidate) × IsHead slots head × (option_map (λ candidate. candidate.action) head ≡ action)
+IsFirstAction slots action =
+    (head : Option Candidate) × IsHead slots head × (option_map (λ candidate. candidate.action) head ≡ action)

@@ -1,5 +1,5 @@
 -- How the first action on a key or an upload is searched: what is kept so far, with the next one looked at.
-use Rattle.std.specs.Prelude.{◌≡◌, ◌⊎◌, ℕ, ◌+◌, ◌-◌, ◌==◌, ◌≤◌, ◌++◌, ◌∷◌, max, List, [], fold, map, flat_map, nat_lt, option_to_list, Option, Some, None, option_map, slice_get}
+use Rattle.std.specs.Prelude.{◌≡◌, ◌⊎◌, ℕ, ◌+◌, ◌-◌, ◌≤◌, ◌++◌, ◌∷◌, max, List, [], fold, map, flat_map, nat_lt, option_to_list, Option, Some, None, option_map, slice_get}
 use Rattle.std.specs.Prelude.{Bool, true, false, ◌&&◌, if◌then◌else◌}
 use Rattle.std.specs.List.{enumerate_from}
 use Rattle.moments.specs.Time.{end_of_time, due}
@@ -121,7 +121,8 @@ admits_step mode filter (Transition to) DeleteMarker = false
 
 -- the rule's filter matches the version, which may be moved so
 abbrev pub takes_step : SizeMode → Filter → ActionKind → List ℕ → Version → Bool
-takes_step mode filter kind key version = matches_version filter key version && admits_step mode filter kind version.kind
+takes_step mode filter kind key version =
+    matches_version filter key version && admits_step mode filter kind version.kind
 
 -- what a removal or a move asks of a noncurrent version
 abbrev pub step_of_version : Setting → List ℕ × StackRecord → ℕ × Rule → Step → Placed → List Candidate
@@ -131,7 +132,8 @@ step_of_version setting (key, stack) numbered step placed =
     ((step.kind, due placed.version.ceased step.days) ∷ []) else []
 
 -- a removal or a move asks it of a noncurrent version that is not kept
-pub record IsOfStep (setting : Setting) (entry : List ℕ × StackRecord) (numbered : ℕ × Rule) (step : Step) (c : Candidate) : Type 0 where
+pub record IsOfStep (setting : Setting) (entry : List ℕ × StackRecord) (numbered : ℕ × Rule) (step : Step)
+    (c : Candidate) : Type 0 where
   pub placed : Placed
   pub there : Among (placed_from 0 entry.1.versions) placed
   pub noncurrent : 1 ≤ placed.newer
@@ -139,7 +141,8 @@ pub record IsOfStep (setting : Setting) (entry : List ℕ × StackRecord) (numbe
   pub asked : Among (step_of_version setting entry numbered step placed) c
 
 -- one of these removals and moves asks it
-pub record IsOfSteps (setting : Setting) (entry : List ℕ × StackRecord) (numbered : ℕ × Rule) (steps : List Step) (c : Candidate) : Type 0 where
+pub record IsOfSteps (setting : Setting) (entry : List ℕ × StackRecord) (numbered : ℕ × Rule) (steps : List Step)
+    (c : Candidate) : Type 0 where
   pub step : Step
   pub one : Among steps step
   pub asked : IsOfStep setting entry numbered step c

@@ -48,7 +48,8 @@ pub record AreEnabled (rules : List Rule) (order : List ℕ) : Type 0 where
 
 -- their prefixes do not fall
 abbrev pub IsByPrefix : List Rule → List ℕ → Type 0
-IsByPrefix rules order = (i j : ℕ) → i ≤ j → j < length order → is_lt (bytes_cmp (prefix_in rules order j) (prefix_in rules order i)) ≡ false
+IsByPrefix rules order = (i j : ℕ) → i ≤ j → j < length order
+    → is_lt (bytes_cmp (prefix_in rules order j) (prefix_in rules order i)) ≡ false
 
 -- the prefixes below this place do not stand behind the text
 abbrev pub IsNotBelow : List Rule → List ℕ → List ℕ → ℕ → Type 0
@@ -61,7 +62,8 @@ NoneBegins rules order text from end = (k : ℕ) → from ≤ k → k < end → 
 -- from each rule the parents lead down to all rules before it whose prefix begins its own
 pub record IsLinked (rules : List Rule) (order parents : List ℕ) : Type 0 where
   pub down : (i : ℕ) → i < length parents → slice_index_or parents i 0 ≤ i
-  pub begun : (i : ℕ) → i < length parents → NoneBegins rules order (prefix_in rules order i) (slice_index_or parents i 0) i
+  pub begun : (i : ℕ) → i < length parents
+      → NoneBegins rules order (prefix_in rules order i) (slice_index_or parents i 0) i
 
 -- the table is that of these rules
 pub record IsTable (table : TableRecord) (rules : List Rule) : Type 0 where

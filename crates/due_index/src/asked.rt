@@ -322,7 +322,8 @@ impl<'a> Aim<'a> {
     )
         ensures { on_key self.now.key best.new
             ≡ with_each_due self.now (on_key self.now.key best.old)
-            (version_actions setting.now.versioning setting.now.mode changed rule.now (current_placed version.now older)) }
+            (version_actions setting.now.versioning setting.now.mode changed rule.now
+            (current_placed version.now older)) }
     {
         match &version.kind {
             Kind::Object { size, class, .. } => {

@@ -1,4 +1,4 @@
-use Rattle.std.proofs.Common.{◌+◌, refl, map, subst, sym, ap, ◌∙◌}
+use Rattle.std.proofs.Common.{◌+◌, refl, map, subst, ◌∙◌}
 use Rattle.std.proofs.lemmas.List.{take_all}
 use Rattle.due_index.specs.Search.{on_key, IsFirstOf, IsOfStep, IsOfSteps, move_step}
 use Rattle.due_index.proofs.Noncurrents.{no_step, one_move, element_at}

@@ -1,6 +1,5 @@
-use Rattle.std.proofs.Common.{◌≡◌, ℕ, ◌+◌, ◌-◌, ◌≤◌, length, get_or, ap, ◌∙◌, sym, subst, arith}
+use Rattle.std.proofs.Common.{◌≡◌, ℕ, ◌+◌, ◌-◌, length, get_or, ap, ◌∙◌, sym, subst, arith}
 use Rattle.rules_core.specs.declared.rule.Rule.{Rule}
-use Rattle.stacks.specs.declared.version.Version.{Version}
 use Rattle.due_index.specs.Search.{on_key, IsFirstOf}
 use Rattle.due_index.proofs.Oldest.{IsFrom, before_oldest, none_newer, one_newer, oldest_first, to_newest}
 use Rattle.due_index.proofs.noncurrent.step_of_key.Goals as goal

@@ -1,4 +1,4 @@
-use Rattle.std.proofs.Common.{◌≡◌, ◌-◌, ◌<◌, ◌≤◌, get_or, length, subst, sym, ap, arith}
+use Rattle.std.proofs.Common.{◌-◌, ◌≤◌, get_or, length, subst, sym, arith}
 use Rattle.due_index.specs.Search.{Among, on_key, IsFirstOf, asked_by_rule, asked_at}
 use Rattle.due_index.specs.Table.{IsNotBelow, NoneBegins}
 use Rattle.due_index.proofs.ByRule.{all_rules, stack_asks}

@@ -1,4 +1,4 @@
-use Rattle.std.proofs.Common.{◌≡◌, ◌+◌, ◌-◌, length, get_or, ap, ◌∙◌, sym, arith}
+use Rattle.std.proofs.Common.{◌≡◌, ◌-◌, length, get_or, ap, ◌∙◌, sym, arith}
 use Rattle.std.specs.Prelude.{option_copied}
 use Rattle.due_index.specs.Search.{on_key, with_each, asked_of_version, current_placed}
 use Rattle.due_index.proofs.Noncurrents.{no_versions, no_first, first_is, by_version}
