@@ -11,6 +11,7 @@ from asking import Stop
 from terraform import configuration_of, resources_of
 
 CLASSES = ("STANDARD_IA", "ONEZONE_IA", "GLACIER_IR", "GLACIER", "DEEP_ARCHIVE")
+ACTIONS = ("Expiration", "Transitions", "NoncurrentVersionExpiration", "NoncurrentVersionTransitions", "AbortIncompleteMultipartUpload")
 MODE, DEFAULT_MODE = "TransitionDefaultMinimumObjectSize", "all_storage_classes_128K"
 # What a request or a reply has around a configuration: boto3, the AWS command line, and its --cli-input-json.
 ENVELOPE = ("ResponseMetadata", "Bucket", "ExpectedBucketOwner", "ChecksumAlgorithm", "ContentMD5")
@@ -141,16 +142,41 @@ def missing(found, place=""):
             yield from missing(it, f"{place}[{number}]")
     for name, it in found.items() if isinstance(found, dict) else ():
         at = f"{place}.{name}".lstrip(".")
-        if name == "StorageClass" and isinstance(it, str) and it not in CLASSES:
-            why = {"INTELLIGENT_TIERING": "objects move in it by reads, which are not seen here",
-                   "STANDARD": "nothing moves to it"}.get(it, f"the classes to move to are {', '.join(CLASSES)}")
+        if (why := why_missing(name, it)) is not None:
             yield f"{line_of(it)}{at}: {it!r}: {why}"
-        elif name == "Date" and isinstance(it, str) and re.match(r"(2[1-9]|[3-9]\d)\d\d-", it):
-            yield f"{line_of(it)}{at}: {it!r}: the last day is 2099-12-31"
         elif name in ("Transition", "NoncurrentVersionTransition"):
             yield f"{at}: of the older XML API; write the list {name}s"
         else:
             yield from missing(it, at)
+
+
+def why_missing(name, it):
+    """Why the program does not have what a field says; nothing if it has."""
+    if name == "StorageClass" and isinstance(it, str) and it not in CLASSES:
+        return {"INTELLIGENT_TIERING": "objects move in it by reads, which are not seen here",
+                "STANDARD": "nothing moves to it"}.get(it, f"the classes to move to are {', '.join(CLASSES)}")
+    if name == "Date" and isinstance(it, str) and re.match(r"(2[1-9]|[3-9]\d)\d\d-", it):
+        return "the last day is 2099-12-31"
+    return None
+
+
+def without_missing(document):
+    """The configuration without what the program does not have: such transitions and expirations, and then rules without an action."""
+    rules = []
+    for rule in document["Rules"]:
+        kept = dict(rule)
+        for name in ("Transition", "NoncurrentVersionTransition"):
+            kept.pop(name, None)
+        for name in ("Transitions", "NoncurrentVersionTransitions"):
+            if isinstance(kept.get(name), list):
+                kept[name] = [it for it in kept[name] if not list(missing(it))]
+                if not kept[name]:
+                    del kept[name]
+        if list(missing(kept.get("Expiration") or {})):
+            del kept["Expiration"]
+        if any(name in kept for name in ACTIONS) or not list(missing(rule)):
+            rules.append(kept)
+    return {**document, "Rules": rules}
 
 
 def date_of(text):

@@ -1,4 +1,5 @@
-"""Reads S3 Inventories in CSV and what `aws s3api list-object-versions` prints, for import-inventory."""
+"""Reads listings of object stores: S3 Inventories in CSV or Parquet, and what `aws s3api list-object-versions`, `mc ls --json` and
+`rclone lsjson` print; for import-inventory and compare."""
 import csv
 import datetime
 import gzip
@@ -14,7 +15,7 @@ CURRENT, NONCURRENT, MARKER, SECOND = "objects", "noncurrent versions", "delete 
 LEFT_OUT = (NONCURRENT, MARKER, SECOND)
 FIRST = datetime.datetime(1, 1, 1, tzinfo=datetime.timezone.utc)
 PARTS = ("Versions", "Contents", "DeleteMarkers")
-OTHER_FORMATS = {b"ORC": "ORC", b"PAR1": "Parquet", b"PK": "a zip archive"}
+OTHER_FORMATS = {b"ORC": "ORC", b"PK": "a zip archive"}
 
 
 class Row(typing.NamedTuple):
@@ -28,6 +29,8 @@ class Row(typing.NamedTuple):
     version: typing.Optional[str] = None
     moment: typing.Optional[datetime.datetime] = None
     latest: bool = True
+    tags: typing.Optional[dict] = None
+    etag: typing.Optional[str] = None
 
     def is_of_a_version(self):
         """Whether its bucket has versions: it is not current, or has an id other than null."""
@@ -48,10 +51,31 @@ def text_of(path):
     for front, name in OTHER_FORMATS.items():
         if data.startswith(front):
             raise Stop(3, f"{path}: this is {name}; ask for the inventory in CSV")
+    if data.startswith(b"PAR1"):
+        return text_of_parquet(path)
     try:
         return data.decode("utf-8-sig")
     except UnicodeDecodeError as fault:
         raise Stop(3, f"{path}: not UTF-8 at byte {fault.start}") from None
+
+
+def text_of_parquet(path):
+    """An inventory in Parquet as CSV with a first line, by the library pyarrow if it is here. Keys are not URL-encoded there."""
+    try:
+        import pyarrow.parquet
+    except ImportError:
+        raise Stop(3, f"{path}: this is Parquet, which needs the Python library pyarrow; or ask for the inventory in CSV") from None
+    try:
+        text, table = io.StringIO(), pyarrow.parquet.read_table(path)
+    except (OSError, ValueError) as fault:
+        raise Stop(3, f"{path}: no Parquet: {fault}") from None
+    names = [name.replace("_", "") for name in table.column_names]
+    lines = csv.writer(text)
+    lines.writerow(names)
+    for row in zip(*(column.to_pylist() for column in table.columns)):
+        fields = ("" if it is None else str(it) for it in row)
+        lines.writerow([urllib.parse.quote(it, safe="/") if name == "key" else it for name, it in zip(names, fields)])
+    return text.getvalue()
 
 
 def bytes_of_key(key, spelled):
@@ -103,7 +127,8 @@ def read_csv(path, text, given):
             key = bytes_of_key(field["key"], given.keys or "url")
             named = field.get("storageclass", "").strip() or None
             yield Row(bucket, key, *((None, None) if kind == MARKER else (int(size), named)), kind, where,
-                      field.get("versionid", "").strip() or None, moment_of(field.get("lastmodifieddate"), where), latest)
+                      field.get("versionid", "").strip() or None, moment_of(field.get("lastmodifieddate"), where), latest,
+                      etag=field.get("etag") or None)
     except csv.Error as fault:
         raise Stop(3, f"{path}:{lines.line_num}: no CSV: {fault}") from None
 
@@ -129,8 +154,8 @@ def read_json(path, text, given):
             where = f"{path}: {part} {place}"
             if not isinstance(it, dict) or not isinstance(it.get("Key"), str):
                 raise Stop(3, f"{where}: without a Key")
-            if not all(isinstance(it.get(name) or "", str) for name in ("VersionId", "StorageClass")):
-                raise Stop(3, f"{where}: its VersionId or StorageClass is no text")
+            if not all(isinstance(it.get(name) or "", str) for name in ("VersionId", "StorageClass", "ETag")):
+                raise Stop(3, f"{where}: its VersionId, StorageClass or ETag is no text")
             latest = it.get("IsLatest") is not False
             kind = MARKER if part == "DeleteMarkers" else CURRENT if latest else NONCURRENT
             size = it.get("Size")
@@ -141,14 +166,83 @@ def read_json(path, text, given):
             except UnicodeEncodeError:
                 raise Stop(3, f"{where}: the key is no text") from None
             yield Row(bucket, key, *((None, None) if kind == MARKER else (size, it.get("StorageClass"))), kind, where,
-                      it.get("VersionId"), moment_of(it.get("LastModified"), where), latest)
+                      it.get("VersionId"), moment_of(it.get("LastModified"), where), latest, etag=it.get("ETag"))
+
+
+def size_of(found, where):
+    if not (isinstance(found, int) and not isinstance(found, bool) and found >= 0):
+        raise Stop(3, f"{where}: the size is {json.dumps(found)}")
+    return found
+
+
+def field_of(found, name, where, kind=str):
+    """A field that has to be there, and of this kind."""
+    if not isinstance(found, dict) or not isinstance(found.get(name), kind):
+        raise Stop(3, f"{where}: without a field {name}")
+    return found[name]
+
+
+def read_mc(path, text, given):
+    """The rows of what `mc ls --recursive --json`, with --versions or without, prints of a bucket."""
+    if not given.bucket:
+        raise Stop(3, f"{path}: which bucket? mc does not name it; give --bucket NAME")
+    yield Row(given.bucket, None, None, None, CURRENT, path)
+    newest = set()
+    for number, line in enumerate(text.splitlines(), 1):
+        where = f"{path}:{number}"
+        try:
+            found = json.loads(line)
+        except (ValueError, RecursionError) as fault:
+            raise Stop(3, f"{where}: no JSON: {fault}") from None
+        if not isinstance(found, dict) or found.get("status") != "success":
+            raise Stop(3, f"{where}: mc could not list all: {json.dumps(found)[:120]}")
+        if found.get("type") == "folder":
+            raise Stop(3, f"{where}: the listing has folders and not what is in them; list again with --recursive")
+        key = bytes_of_key(field_of(found, "key", where), given.keys or "plain")
+        latest = key not in newest  # the newest version of a key comes first
+        newest.add(key)
+        kind = MARKER if found.get("isDeleteMarker") else CURRENT if latest else NONCURRENT
+        told = (None, None) if kind == MARKER else (size_of(found.get("size"), where), found.get("storageClass") or None)
+        yield Row(given.bucket, key, *told, kind, where, found.get("versionId") or None, moment_of(found.get("lastModified"), where), latest,
+                  etag=str(found.get("etag") or "") or None)
+
+
+def read_rclone(path, text, given):
+    """The rows of what `rclone lsjson -R` prints of a bucket: current objects alone."""
+    if not given.bucket:
+        raise Stop(3, f"{path}: which bucket? rclone does not name it; give --bucket NAME")
+    try:
+        found = json.loads(text)
+    except (ValueError, RecursionError) as fault:
+        raise Stop(3, f"{path}: no JSON: {fault}") from None
+    yield Row(given.bucket, None, None, None, CURRENT, path)
+    for place, it in enumerate(found, 1):
+        where = f"{path}: entry {place}"
+        key = bytes_of_key(field_of(it, "Path", where), given.keys or "plain")
+        if not it.get("IsDir"):
+            yield Row(given.bucket, key, size_of(it.get("Size"), where), it.get("Tier") or None, CURRENT, where, None,
+                      moment_of(it.get("ModTime"), where))
+
+
+def reader_of(text):
+    """How a file is read, by its front."""
+    front = text.lstrip()[:1]
+    if front == "[":
+        return read_rclone
+    if front == "{":
+        try:
+            first = json.loads(text.lstrip().partition("\n")[0])
+        except (ValueError, RecursionError):
+            return read_json
+        return read_mc if "key" in first and "status" in first else read_json
+    return read_csv
 
 
 def rows_of(given):
     """The rows of all files, in their order."""
     for path in given.files:
         text = text_of(path)
-        yield from (read_json if text.lstrip()[:1] == "{" else read_csv)(path, text, given)
+        yield from reader_of(text)(path, text, given)
 
 
 def in_order(rows):

@@ -23,7 +23,8 @@ def method_of(row):
 def body_of(row):
     if row.kind == MARKER:
         return None
-    return {"size": row.size} if row.storage_class is None else {"size": row.size, "class": row.storage_class}
+    named = {} if row.storage_class is None else {"class": row.storage_class}
+    return {"size": row.size, **named, **({"tags": row.tags} if row.tags else {})}
 
 
 def is_begun(state, digest, where):
@@ -59,13 +60,13 @@ def present(office, bucket):
 
 
 def put(office, work, row, nowhere=None):
-    """Asks for one version. Whether the program takes it; a row that it refuses for its text is named."""
+    """Asks for one version. Its number, empty if nothing is put, or nothing where the program refuses the row for its text."""
     status, found = office.ask(method_of(row), target_of(row, nowhere), body_of(row))
     if status == 400:
         work.leave(row, "refused", f"refused: {found.get('error')}")
     elif status != (404 if nowhere else 200 if row.kind == MARKER else 201):
         raise Stop(2, f"{row.where}: {reason(status, found)}")
-    return status != 400
+    return None if status == 400 else found.get("marker" if row.kind == MARKER else "version") or ""
 
 
 def set_versioning(office, bucket, wanted):
@@ -99,9 +100,14 @@ def send(work, office, state):
     accepted, nowhere = dict.fromkeys(work.buckets, 0), f"not-made-{work.digest[:32]}"
     for place, row in enumerate(work.rows, 1):
         is_there = accepted[row.bucket] < there[row.bucket]
-        taken = put(office, work, row, nowhere if is_there else None)
+        number = put(office, work, row, nowhere if is_there else None)
+        taken = number is not None
         accepted[row.bucket] += taken
         work.count(row, taken)
+        work.there += taken and is_there
+        if taken:
+            # Numbers count from 1 in a bucket, and only this import put something there.
+            work.keep(row, number or (str(accepted[row.bucket]) if row.bucket in work.versioned else "null"))
         work.tell(place)
     for bucket, count in accepted.items():
         if (found := present(office, bucket)[0]) != count:

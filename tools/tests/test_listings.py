@@ -1,11 +1,14 @@
 """Listings of objects as S3 Inventory writes them (CSV) and as `aws s3api list-object-versions` prints them (JSON)."""
+import datetime
 import gzip
+import importlib.util
 import json
 import pathlib
 import sys
 import tempfile
 import types
 import unittest
+import unittest.mock
 
 sys.path.insert(0, str(pathlib.Path(__file__).resolve().parent.parent))
 import listings  # noqa: E402
@@ -85,12 +88,56 @@ class Csv(Listing):
         self.assertEqual(":1: the bucket is 'logs', and --bucket is 'rest'", self.stopped("logs,a,5\n", schema="Bucket, Key, Size", bucket="rest"))
         self.assertEqual(":1: the moment is 'today'", self.stopped("logs,a,5,today\n", schema="Bucket, Key, Size, LastModifiedDate"))
 
+    def test_parquet_without_its_reader(self):
+        with unittest.mock.patch.dict(sys.modules, {"pyarrow": None}):
+            self.assertEqual(": this is Parquet, which needs the Python library pyarrow; or ask for the inventory in CSV", self.stopped(b"PAR1.."))
+
+    @unittest.skipUnless(importlib.util.find_spec("pyarrow"), "no pyarrow")
+    def test_parquet(self):
+        import pyarrow
+        import pyarrow.parquet
+        path = pathlib.Path(self.folder.name, "parquet")
+        table = {"bucket": ["photos"], "key": ["a+b c"], "version_id": ["v2"], "is_latest": [True], "is_delete_marker": [False], "size": [5],
+                 "last_modified_date": [datetime.datetime(2024, 1, 3, tzinfo=datetime.timezone.utc)], "storage_class": ["GLACIER"]}
+        pyarrow.parquet.write_table(pyarrow.table(table), path)
+        row, = self.rows(path.read_bytes())
+        self.assertEqual(("photos", b"a+b c", 5, "GLACIER", CURRENT, "v2"), (row.bucket, row.key, row.size, row.storage_class, row.kind, row.version))
+
     def test_files_of_other_kinds(self):
-        for data, why in ((b"PAR1..", ": this is Parquet; ask for the inventory in CSV"), (b"ORC..", ": this is ORC; ask for the inventory in CSV"),
+        for data, why in ((b"ORC..", ": this is ORC; ask for the inventory in CSV"),
                           (b"PK..", ": this is a zip archive; ask for the inventory in CSV"), (b"logs,\xff,5\n", ": not UTF-8 at byte 5"),
                           (gzip.compress(b"logs,a,5\n" * 99)[:30], ": the compressed file is cut short or damaged")):
             with self.subTest(why):
                 self.assertEqual(why, self.stopped(data, schema="Bucket, Key, Size"))
+
+
+# After the documents of mc (`mc ls --json`) and rclone (`rclone lsjson`).
+MC = """{"status":"success","type":"file","lastModified":"2024-01-03T00:00:00Z","size":5,"key":"a/b c","etag":"x","versionId":"v2","versionOrdinal":2,"storageClass":"STANDARD"}
+{"status":"success","type":"file","lastModified":"2024-01-01T00:00:00Z","size":4,"key":"a/b c","etag":"x","versionId":"v1","versionOrdinal":1,"storageClass":"STANDARD"}
+{"status":"success","type":"file","lastModified":"2024-01-02T00:00:00Z","size":0,"key":"gone","etag":"","versionId":"m","versionOrdinal":1,"isDeleteMarker":true}
+"""
+RCLONE = [{"Path": "a", "Name": "a", "Size": -1, "MimeType": "inode/directory", "ModTime": "2024-01-01T00:00:00.000000000Z", "IsDir": True},
+          {"Path": "a/b+c", "Name": "b+c", "Size": 6, "MimeType": "text/plain", "ModTime": "2024-01-01T00:00:00Z", "IsDir": False, "Tier": "GLACIER"}]
+
+
+class Others(Listing):
+    def test_mc(self):
+        bucket, *rows = self.rows(MC, bucket="photos")
+        self.assertEqual(("photos", None), (bucket.bucket, bucket.key))
+        self.assertEqual([(b"a/b c", 5, CURRENT, "v2", True), (b"a/b c", 4, NONCURRENT, "v1", False), (b"gone", None, MARKER, "m", True)],
+                         [(it.key, it.size, it.kind, it.version, it.latest) for it in rows])
+
+    def test_rclone(self):
+        _, row = self.rows(json.dumps(RCLONE), bucket="photos")
+        self.assertEqual((b"a/b+c", 6, "GLACIER", CURRENT, None), (row.key, row.size, row.storage_class, row.kind, row.version))
+
+    def test_what_is_not_whole(self):
+        self.assertEqual(True, self.stopped(MC[:-40], bucket="photos").startswith(":3: no JSON"))
+        self.assertEqual(True, self.stopped(MC + '{"status":"error","error":{"message":"timeout"}}\n', bucket="photos").startswith(":4: mc could not list all"))
+        self.assertEqual(True, self.stopped('{"status":"success","type":"folder","key":"a/","size":0}\n', bucket="photos").startswith(":1: the listing has folders"))
+        self.assertEqual(True, self.stopped(json.dumps(RCLONE)[:-9], bucket="photos").startswith(": no JSON"))
+        for text in (MC, json.dumps(RCLONE)):
+            self.assertEqual(True, self.stopped(text).startswith(": which bucket?"))
 
 
 class Json(Listing):
@@ -130,7 +177,7 @@ class Json(Listing):
                          (5, ": Versions 1: without a Key"), ({"Key": "a"}, ": Versions 1: the size is null"),
                          ({"Key": "a", "Size": -1}, ": Versions 1: the size is -1"), ({"Key": "a", "Size": True}, ": Versions 1: the size is true"),
                          ({"Key": "a", "Size": "5"}, ': Versions 1: the size is "5"'), ({"Key": "\ud800", "Size": 1}, ": Versions 1: the key is no text"),
-                         ({"Key": "a", "Size": 1, "VersionId": 5}, ": Versions 1: its VersionId or StorageClass is no text"),
+                         ({"Key": "a", "Size": 1, "VersionId": 5}, ": Versions 1: its VersionId, StorageClass or ETag is no text"),
                          ({"Key": "a", "Size": 1, "LastModified": 5}, ": Versions 1: the moment is 5")):
             with self.subTest(why):
                 self.assertEqual(why, self.stopped(json.dumps({"Versions": [row]}), bucket="logs"))

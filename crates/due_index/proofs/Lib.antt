@@ -14,5 +14,6 @@ pub mod RenewingUploads
 pub mod Searching
 pub mod Tables
 pub mod Ties
+pub mod Total
 pub mod Touched
 pub mod Tournaments

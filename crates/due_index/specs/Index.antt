@@ -1,9 +1,11 @@
 -- What an index of the next actions stands for.
-use Rattle.std.specs.Prelude.{◌≡◌, ℕ, List, Option, Some, None, nat_le, if◌then◌else◌}
+use Rattle.std.specs.Prelude.{◌≡◌, ℕ, List, Contains, false, Option, Some, None, option_map, nat_le, if◌then◌else◌}
 use Rattle.office_base.specs.Maps.{bytes_cmp, at_name, at_number, Rises}
 use Rattle.std.specs.Ordering.{nat_cmp}
 use Rattle.office_base.specs.declared.version_id.VersionId.{VersionId}
 use Rattle.due_core.specs.Buckets.{BucketRecord}
+use Rattle.due_core.specs.Candidates.{candidates}
+use Rattle.due_core.specs.Choice.{comes_before, IsLeast}
 use Rattle.due_core.specs.declared.action.Action.{Action}
 use Rattle.due_core.specs.declared.action.Target.{Target}
 use Rattle.due_core.specs.declared.action.Target.TheVariants.{Version, Upload}
@@ -74,6 +76,15 @@ pub record IsBucket (bucket : BucketRecord) : Type 0 where
 abbrev pub due_by : ℕ → Option Candidate → Option Action
 due_by t None = None
 due_by t (Some first) = if nat_le first.action.since t then Some first.action else None
+
+-- of these candidates, two of which none comes before the other are the same
+abbrev pub IsTotalOn : List Candidate → Type 0
+IsTotalOn asked = (c d : Candidate) → Contains asked c → Contains asked d → comes_before c d ≡ false → comes_before d c ≡ false → c ≡ d
+
+-- it is the action of a candidate at this moment before which none comes; None: there is no candidate
+abbrev pub IsLeastAction : BucketRecord → ℕ → Option Action → Type 0
+IsLeastAction bucket t action = (first : Option Candidate) × IsLeast comes_before (candidates bucket t) first
+    × (option_map (λ candidate. candidate.action) first ≡ action)
 
 -- the table stays, and on each key and each upload comes next what came before
 pub record KeepsNext (old new : IndexRecord) : Type 0 where

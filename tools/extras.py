@@ -1,0 +1,137 @@
+"""Tags and unfinished uploads as the aws command prints them; for import-inventory."""
+import json
+import typing
+
+from asking import Stop, number_in, reason
+from listings import field_of, size_of, text_of
+from sending import bucket_target
+from sweeping import target_of
+
+
+class Upload(typing.NamedTuple):
+    """An unfinished upload: its id at the store, and the size of each part by its number."""
+    bucket: str
+    key: str
+    name: str
+    storage_class: typing.Optional[str]
+    parts: dict
+    where: str
+
+
+def objects_in(path):
+    """The JSON objects of a file, one text or one a line, each with its place."""
+    text = text_of(path)
+    try:
+        found = json.loads(text)
+        return [(it, path) for it in (found if isinstance(found, list) else [found])]
+    except (ValueError, RecursionError):
+        pass
+    found = []
+    for number, line in enumerate(text.splitlines(), 1):
+        try:
+            found.append((json.loads(line), f"{path}:{number}"))
+        except (ValueError, RecursionError) as fault:
+            raise Stop(3, f"{path}:{number}: no JSON: {fault}") from None
+    return found
+
+
+def bucket_in(found, given, where):
+    bucket = found.get("Bucket") or given.bucket
+    if not isinstance(bucket, str) or (given.bucket and bucket != given.bucket):
+        raise Stop(3, f"{where}: " + (f"the bucket is {bucket!r}" if bucket else "which bucket? Give --bucket NAME"))
+    return bucket
+
+
+def tags_of(given):
+    """The tags of versions: by bucket, key and version id, and without the id those of the current version."""
+    tags = {}
+    for path in given.tags:
+        for found, where in objects_in(path):
+            key, version = field_of(found, "Key", where), found.get("VersionId")
+            pairs = [(field_of(it, "Key", where), field_of(it, "Value", where)) for it in field_of(found, "TagSet", where, list)]
+            tags[bucket_in(found, given, where), key.encode(), version] = dict(pairs)
+    return tags
+
+
+def tags_for(tags, row):
+    """The tags of a row of a listing."""
+    by_id = tags.pop((row.bucket, row.key, row.version), None) if row.version else None
+    return by_id if by_id is not None else tags.pop((row.bucket, row.key, None), {}) if row.latest else {}
+
+
+def uploads_of(given):
+    """The uploads of all files, in the order in which they were begun, with their parts."""
+    parts, found = {}, []
+    for path in given.parts:
+        for it, where in objects_in(path):
+            them = parts.setdefault(field_of(it, "UploadId", where), {})
+            for part in it.get("Parts") or []:
+                them[field_of(part, "PartNumber", where, int)] = size_of(part.get("Size"), where)
+    for path in given.uploads:
+        for it, where in objects_in(path):
+            if not isinstance(it, dict) or it.get("IsTruncated") or not isinstance(it.get("Uploads", []), list):
+                raise Stop(3, f"{where}: this is no whole list of uploads")
+            for one in it.get("Uploads", []):
+                name = field_of(one, "UploadId", where)
+                found.append((str(one.get("Initiated", "")), Upload(bucket_in(it, given, where), field_of(one, "Key", where), name,
+                                                                   one.get("StorageClass"), parts.pop(name, {}), where)))
+    if parts:
+        raise Stop(3, f"there are parts of an upload that no list has: {min(parts)}")
+    return [it for _, it in sorted(found, key=lambda it: it[0])]
+
+
+def send_uploads(work, office, ids):
+    """Starts the uploads and puts their parts, each once over any number of tries. Needs that nobody else starts one meanwhile.
+
+    The map has the number of each upload that was begun. If a reply was lost, the program has one upload more than the map.
+    """
+    more = {}
+    for it in work.uploads:
+        number = ids.one("select number from uploads where bucket = ? and id = ?", it.bucket, it.name)
+        if number is None and it.bucket not in more:
+            there, mapped = count_of(office, it.bucket), ids.one("select count(*) from uploads where bucket = ?", it.bucket)
+            if not mapped <= there <= mapped + 1:
+                raise Stop(6, f"bucket {it.bucket} has {there} uploads, and the map {mapped}; nobody else may start or end one meanwhile")
+            more[it.bucket] = there - mapped
+        if number is None and more[it.bucket]:
+            number, more[it.bucket] = (ids.one("select max(number) from uploads where bucket = ?", it.bucket) or 0) + 1, 0
+            ids.keep_upload(it.bucket, it.name, it.key, number)
+        elif number is None:
+            body = {"class": it.storage_class} if it.storage_class else {}
+            status, found = office.ask("POST", target_of(it.bucket, "uploads", it.key), body)
+            if status in (400, 404, 409):
+                work.refuse(it, found)
+                continue
+            if status != 201:
+                raise Stop(2, f"{it.where}: {reason(status, found)}")
+            number = number_in(found, "upload")
+            ids.keep_upload(it.bucket, it.name, it.key, number)
+        work.counts["uploads"] += 1
+        send_parts(work, office, it, number)
+
+
+def send_parts(work, office, upload, number):
+    """Puts the parts that are not there yet."""
+    status, found = office.ask("GET", f"{bucket_target(upload.bucket)}/upload/{number}")
+    if status == 404:
+        return  # it was begun by an earlier try, and aborted since
+    if status != 200 or found.get("key") != upload.key:
+        raise Stop(6, f"{upload.where}: upload {number} of bucket {upload.bucket} is another one: {reason(status, found)}")
+    known = {it.get("part"): it.get("size") for it in found.get("parts") or []}
+    for part, size in sorted(upload.parts.items()):
+        if known.get(part) != size:
+            status, found = office.ask("PUT", f"{bucket_target(upload.bucket)}/parts/{number}/{part}", {"size": size})
+            if status in (400, 409):
+                work.refuse(upload, found)
+            elif status != 200:
+                raise Stop(2, f"{upload.where}: part {part}: {reason(status, found)}")
+        work.counts["parts"] += 1
+
+
+def count_of(office, bucket):
+    status, found = office.ask("GET", bucket_target(bucket))
+    if status in (400, 404):
+        return 0
+    if status != 200:
+        raise Stop(2, f"bucket {bucket}: {reason(status, found)}")
+    return number_in(found, "uploads")

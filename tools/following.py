@@ -1,0 +1,309 @@
+"""Does in the program what events of a store say, each event once over any number of stops; for follow.
+
+Before a group of events is asked for, they are kept in the map with the place that the journal has then, synced. After a stop the
+entries of the journal behind that place tell which of them were done; the others are asked for first. That holds while nobody
+else puts and deletes in these buckets.
+"""
+import collections
+import datetime
+import json
+import os
+import sys
+import typing
+
+from asking import Stop, reason
+from entries import CLASSES
+from events import MARKER, PUT, REMOVE, Bad, Event, event_of, name_of, records_of, text_of
+from files import atomic_write
+from sending import bucket_target
+from sweeping import target_of
+from tail import ACT, Tail, open_journal, read_tail, sample_of
+
+GROUP = 100
+TWICE, GONE = "sent twice or late", "gone already"
+
+
+class Dead(Exception):
+    """Why an event is not asked for."""
+
+
+class Later(Exception):
+    """The event needs the number of a version that is put in this group: the group is ended before it."""
+
+
+class Ask(typing.NamedTuple):
+    """A request, and the journal's entry that it makes: its kind and its fields behind the bucket."""
+    method: str
+    target: str
+    body: typing.Optional[dict]
+    kind: int
+    fields: bytes
+
+
+def field(text):
+    data = text.encode()
+    return len(data).to_bytes(2, "big") + data
+
+
+def ask_put(event, storage_class, tags):
+    body = {"size": event.size, "class": storage_class, **({"tags": tags} if tags else {})}
+    rank = CLASSES.index(storage_class) if storage_class in CLASSES else 255
+    fields = field(event.key) + event.size.to_bytes(8, "big") + bytes([rank]) if event.size < 1 << 64 else b""
+    return Ask("PUT", target_of(event.bucket, "objects", event.key), body, 0x05, fields)
+
+
+def ask_delete(event):
+    return Ask("DELETE", target_of(event.bucket, "objects", event.key), None, 0x06, field(event.key))
+
+
+def ask_remove(event, number):
+    written = 0 if number == "null" else int(number)
+    return Ask("DELETE", target_of(event.bucket, f"versions/{number}", event.key), None, 0x07, field(event.key) + written.to_bytes(8, "big"))
+
+
+class Follow:
+    """What is kept over the events of one run."""
+
+    def __init__(self, given, office, ids, store=None):
+        self.given, self.office, self.ids, self.store = given, office, ids, store
+        self.tail, self.journal = read_tail(given.journal), open_journal(given.journal)
+        self.counts, self.mapped, self.states = collections.Counter(), collections.Counter(), {}
+        self.last, self.new = {}, set()
+
+    # ---- which request an event asks for
+
+    def versioning(self, bucket):
+        """The versioning of a bucket here."""
+        if bucket not in self.states:
+            status, found = self.office.ask("GET", bucket_target(bucket))
+            if status in (400, 404):
+                raise Dead(f"there is no bucket {bucket!r} here")
+            if status != 200:
+                raise Stop(2, f"bucket {bucket}: {reason(status, found)}")
+            self.states[bucket] = found.get("versioning")
+        return self.states[bucket]
+
+    def class_of(self, event):
+        """The class of a new object, and its tags: as the event says, or the store, or the words."""
+        named, tags = event.storage_class, {}
+        if self.store:
+            named, tags = self.store.about(event.bucket, event.key, event.version)
+        named = named or self.given.storage_class
+        if named not in CLASSES and self.given.nearest:
+            self.mapped[named] += 1
+            named = self.given.nearest
+        return named, tags
+
+    def asks_of(self, event):
+        """The requests that an event asks for, the last of which makes it done; none if it is done already."""
+        bucket, key, version = event.bucket, event.key, event.version
+        if self.given.bucket and bucket not in self.given.bucket:
+            raise Dead(f"bucket {bucket!r} is not followed")
+        here, is_real = self.versioning(bucket), version not in (None, "null")
+        if event.what in (PUT, MARKER) and is_real and here != "Enabled":
+            raise Dead(f"the store keeps versions, and here the versioning of the bucket is {here}")
+        if event.what == REMOVE and is_real and here == "Unversioned":
+            raise Dead(f"the store keeps versions, and here the versioning of the bucket is {here}")
+        if not is_real and here == "Enabled" and not (event.what == REMOVE and version):
+            raise Dead("the event names no version, and here the versioning of the bucket is Enabled")
+        if (bucket, key, version) in self.new:
+            raise Later
+        known = self.ids.number_of(bucket, key, version) if version else None
+        is_late = event.sequencer <= self.last_of(bucket, key)
+        if event.what == REMOVE and version:
+            if is_real and known is None:
+                raise Dead("this version id is not in the map")
+            return [ask_remove(event, known or "null")]
+        if is_real and known is not None:
+            return []
+        if is_late and is_real:
+            raise Dead("a later event of this key was done already, so this version has no place below it any more")
+        if is_late:
+            return []
+        if event.what == REMOVE:
+            return [ask_delete(event)]
+        # In a suspended bucket the null version that an import brought has a number, and is replaced too.
+        first = [ask_remove(event, known)] if known not in (None, "null") else []
+        return [*first, ask_put(event, *self.class_of(event)) if event.what == PUT else ask_delete(event)]
+
+    def last_of(self, bucket, key):
+        """The sequencer of the latest event of a key that was done."""
+        kept = self.last.get((bucket, key))
+        return kept if kept is not None else self.ids.one("select sequencer from sequencers where bucket = ? and key = ?", bucket, key) or ""
+
+    # ---- doing
+
+    def run(self, found):
+        """Does these events and dead letters, in their order."""
+        group = []
+        for it in found:
+            while True:
+                try:
+                    if self.prepare(it, group):
+                        break
+                except Later:
+                    pass
+                self.finish(group)
+                group = []
+        self.finish(group)
+
+    def prepare(self, it, group):
+        """Adds an event to the group, or notes why it is not asked for. False if the group is full."""
+        if len(group) >= GROUP:
+            return False
+        if not isinstance(it, Event):
+            self.bury(*it)
+            return True
+        if it.what not in (PUT, MARKER, REMOVE):
+            self.counts[it.what] += 1
+            return True
+        try:
+            asks = self.asks_of(it)
+        except Dead as why:
+            self.bury(it.raw, str(why))
+            return True
+        if not asks:
+            self.counts[TWICE] += 1
+            self.ids.do("delete from dead where event = ?", text_of(it.raw))
+            return True
+        group.append((it, asks))
+        self.last[it.bucket, it.key] = max(it.sequencer, self.last_of(it.bucket, it.key))
+        if it.what != REMOVE:
+            self.new.add((it.bucket, it.key, it.version))
+        return True
+
+    def finish(self, group):
+        """Keeps what is asked for next, asks for it, and keeps what came of it."""
+        if not group:
+            return
+        self.tail.read(self.journal)
+        with self.ids.change():
+            before = sample_of(self.journal, self.tail.gate)
+            for place, (it, asks) in enumerate(group):
+                self.ids.do("insert into intents values (?, ?, ?, ?)", place, self.tail.gate, before,
+                            json.dumps({"event": it.raw, "last": [asks[-1].kind, asks[-1].fields.hex()]}))
+        done = []
+        try:
+            for it, asks in group:
+                done.append((it, self.ask(it, asks)))
+        finally:
+            with self.ids.change():
+                for place, (it, said) in enumerate(done):
+                    self.settle(it, *said)
+                    self.ids.do("delete from intents where place = ?", place)
+            self.last, self.new = {}, set()
+
+    def ask(self, event, asks):
+        """The status and the body of the reply to the last request of an event."""
+        for it in asks:
+            # Here, and nowhere else, a token of the request would be sent: name_of(event.raw) is the same for each copy of an
+            # event. The program has no tokens yet; until then the journal tells after a stop what was done.
+            status, found = self.office.ask(it.method, it.target, it.body)
+            if status in (500, 503, 507):
+                raise Stop(2, f"bucket {event.bucket}: {reason(status, found)}; the same words go on")
+        return status, found
+
+    def settle(self, event, status, found):
+        """Keeps what came of an event."""
+        if status == 404 and event.what == REMOVE:
+            self.counts[GONE] += 1
+        elif status not in (200, 201):
+            return self.bury(event.raw, f"refused: {reason(status, found)}")
+        else:
+            self.counts[event.what] += 1
+            if event.what == PUT:
+                self.ids.keep(event.bucket, event.key, event.version or "null", found.get("version"), event.size, event.etag)
+            elif event.what == MARKER and event.version:
+                self.ids.keep(event.bucket, event.key, event.version, found.get("marker"))
+        self.ids.do("insert or replace into sequencers values (?, ?, max(?, coalesce((select sequencer from sequencers where bucket = ? "
+                    "and key = ?), '')))", event.bucket, event.key, event.sequencer, event.bucket, event.key)
+        self.ids.do("delete from dead where event = ?", text_of(event.raw))
+
+    def bury(self, raw, why):
+        """Puts an event among the dead letters, once."""
+        self.counts["dead letters"] += 1
+        where = f"{raw['s3']['bucket']['name']}: " if isinstance(raw, dict) and isinstance(raw.get("s3"), dict) and why.startswith("refused") else ""
+        self.note(f"{name_of(raw)}: {where}{why}")
+        self.ids.do("insert into dead (event, why) values (?, ?) on conflict (event) do update set why = excluded.why", text_of(raw), why)
+
+    def note(self, text):
+        if self.counts["dead letters"] <= 5:
+            print(f"follow: {text}", file=sys.stderr, flush=True)
+
+    # ---- after a stop
+
+    def resume(self):
+        """Finds in the journal which events of the last run were done, and does the others."""
+        rows = self.ids.do("select place, gate, before, event from intents order by place").fetchall()
+        if not rows:
+            return
+        gate, before = rows[0][1:3]
+        if sample_of(self.journal, gate) != before:
+            raise Stop(3, f"{self.ids.path}: its last run was beside another journal than {self.given.journal}")
+        entries, tail = [], Tail(self.given.journal)
+        tail.gate, tail.count = gate, 1
+        tail.read(self.journal, lambda _, moment, kind, fields: kind < ACT and entries.append((moment, kind, fields)))
+        left, at, found = [], 0, 0
+        for place, _, _, text in rows:
+            kept = json.loads(text)
+            event, (kind, fields) = event_of(kept["event"]), kept["last"]
+            wanted = (kind, field(event.bucket) + bytes.fromhex(fields))
+            place_of_it = next((it for it in range(at, len(entries)) if entries[it][1] == wanted[0] and entries[it][2].startswith(wanted[1])), None)
+            if place_of_it is None:
+                left.append(event)
+            else:
+                at, found = place_of_it + 1, found + 1
+                self.found(place, event, entries[place_of_it][0])
+        print(f"follow: the last run was stopped: of {len(rows)} events {found} were done and {len(left)} were not", file=sys.stderr)
+        with self.ids.change():
+            self.ids.do("delete from intents")
+            for it in left:  # kept as dead letters, so that they are not lost if this run is stopped too
+                self.ids.do("insert or ignore into dead (event, why) values (?, 'not done when the run was stopped')", text_of(it.raw))
+        self.run(left)
+
+    def found(self, place, event, moment):
+        """Keeps an event whose reply was lost, with the number that its version has."""
+        status, stack = self.office.ask("GET", target_of(event.bucket, "objects", event.key))
+        kind = "object" if event.what == PUT else "marker"
+        numbers = [it.get("version") for it in (stack.get("versions") if status == 200 else None) or []
+                   if it.get("kind") == kind and ms_of(it.get("created")) == moment and it.get("size") == (event.size if kind == "object" else None)]
+        taken = {number for number, in self.ids.do("select number from versions where bucket = ? and key = ?", event.bucket, event.key)}
+        number = min((it for it in numbers if it == "null" or it not in taken), key=lambda it: 0 if it == "null" else int(it), default=None)
+        with self.ids.change():
+            self.settle(event, 200, {"version": number, "marker": number})
+            self.ids.do("delete from intents where place = ?", place)
+
+    def dead(self):
+        """The events among the dead letters, to try them again."""
+        return list(events_in([json.loads(it) for it, in self.ids.do("select event from dead order by place")]))
+
+    def write_dead(self, path):
+        """Writes the dead letters to their file, a line each, or removes a file that has none any more."""
+        rows = self.ids.do("select why, event from dead order by place").fetchall()
+        if rows or os.path.exists(path):
+            atomic_write(path, (json.dumps({"why": why, "event": json.loads(it)}, ensure_ascii=False) + "\n" for why, it in rows))
+        return len(rows)
+
+
+def ms_of(text):
+    """A moment of a reply in milliseconds."""
+    try:
+        found = datetime.datetime.fromisoformat(text.replace("Z", "+00:00")) - datetime.datetime.fromtimestamp(0, datetime.timezone.utc)
+    except (AttributeError, TypeError, ValueError):
+        return None
+    return found // datetime.timedelta(milliseconds=1)
+
+
+def events_in(found):
+    """The events in what was sent; what is none comes with the reason, to be a dead letter."""
+    for it in found if isinstance(found, list) else [found]:
+        try:
+            raws = list(records_of(it))
+        except Bad as why:
+            yield it, str(why)
+            continue
+        for raw in raws:
+            try:
+                yield event_of(raw)
+            except Bad as why:
+                yield raw, str(why)
