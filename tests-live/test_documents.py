@@ -9,6 +9,8 @@ import re
 
 import live
 from free_port import free_port
+from serve_client import request
+from spelled import GIB, create, journal, put
 
 DOCUMENTS = [live.ROOT / "README.md", live.ROOT / "CHANGELOG.md", *sorted((live.ROOT / "docs").glob("*.md")),
              live.ROOT / "bench" / "README.md", *sorted((live.ROOT / "crates").glob("*/README.md"))]
@@ -17,6 +19,7 @@ DOCUMENTS = [live.ROOT / "README.md", live.ROOT / "CHANGELOG.md", *sorted((live.
 LEFT_OUT = {
     "apt-get": "needs root, and a package: package.sh",
     "list-object-versions": "needs a store: test_import_versions.py, test_lifecycle_tool.py",
+    "photos.map": "needs a store: test_beside_a_store.py",
     "dd of=": "needs a damaged journal: backup.sh",
 }
 
@@ -117,6 +120,20 @@ class Commands(live.Case):
         self.check("the lines of the bill", [re.sub(r" +[0-9]+", " N", line) for line in shown.splitlines()],
                    [re.sub(r" +[0-9]+", " N", line) for line in found.splitlines()
                     if not re.match(r"backups +storage +STANDARD_IA ", line)])
+
+    def test_operations_bill(self):
+        """The bill that OPERATIONS shows: 500 GiB, 40 and then 41 GiB under one key, and 2,000 GiB in an archive, all in January 2024."""
+        shown = re.search(r"^```text\n(Object storage in .*?)^```", (live.ROOT / "docs" / "OPERATIONS.md").read_text("utf-8"),
+                          flags=re.DOTALL | re.MULTILINE)[1]
+        data = self.new_folder("served") / "office-data" / "journal"
+        data.write_bytes(journal(create(1, "logs"), create(1, "media"), put(1, "logs", "2023.tar", 500 * GIB),
+                                 put(3, "logs", "jan.tar", 40 * GIB, "STANDARD_IA"), put(10, "media", "film", 2000 * GIB, "GLACIER"),
+                                 put(13, "logs", "jan.tar", 41 * GIB, "STANDARD_IA")))
+        server = self.serve()
+        server.client().ask(request("PUT", "/tariff", (live.ROOT / "examples" / "tariff.toml").read_text("ascii")))
+        status, found, notes = self.run_tool("bill", "--server", f"http://127.0.0.1:{server.port}", "--journal", data,
+                                             "--unit", "EUR=1000000", "2024-01")
+        self.check("the bill", (0, "", re.sub("as of [0-9TZ:-]+", "as of", shown)), (status, notes, re.sub("as of [0-9TZ:-]+", "as of", found)))
 
     def test_operations(self):
         self.office("init")
