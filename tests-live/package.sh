@@ -41,7 +41,9 @@ check 'office-metrics without a server, status' 2 "$("$bin/office-metrics" --fro
 check 'office-act-all without a server, status' 2 "$("$bin/office-act-all" --to http://127.0.0.1:1 --bucket logs 2>notes; echo $?)"
 check 'office-lifecycle without a server, status' 2 "$("$bin/office-lifecycle" --to http://127.0.0.1:1 --bucket logs get 2>notes; echo $?)"
 check 'office-month-end without a server, status' 2 "$("$bin/office-month-end" --server http://127.0.0.1:1 --bucket logs 2026-11 2>notes; echo $?)"
-for tool in journal-dump journal-digest import-inventory lifecycle act-all month-end bill metrics usage usage-page merge-reports backup; do
+check 'office-compare without a server, status' 2 "$("$bin/office-compare" --server http://127.0.0.1:1 listing.csv 2>notes; echo $?)"
+check 'office-apply without a map, status' 3 "$("$bin/office-apply" --map none listing.csv 2>notes; echo $?)"
+for tool in journal-dump journal-digest import-inventory lifecycle act-all month-end bill metrics usage usage-page merge-reports backup follow compare apply; do
     check "office-$tool --help" 0 "$("$bin/office-$tool" --help >said 2>&1; echo $?)"
 done
 cd .. || exit 1

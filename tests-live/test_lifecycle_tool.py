@@ -129,6 +129,20 @@ class Lifecycle(live.Case):
                                           for value in ("INTELLIGENT", "COLD", "2100")], [[int(it.split()[2][:-1])] for it in notes[:3]])
         self.check("nothing was sent", 404, self.rules("logs"))
 
+    def test_the_rest_is_sent(self):
+        wrong = {"Rules": [{**RULE, "Transitions": [{"Days": 1, "StorageClass": "INTELLIGENT_TIERING"}, {"Days": 2, "StorageClass": "GLACIER"}]},
+                           {**RULE, "ID": "b", "Expiration": {"Date": "2100-01-01T00:00:00Z"}},
+                           {**RULE, "ID": "c", "Expiration": {"Date": "2100-01-01T00:00:00Z"}, "AbortIncompleteMultipartUpload": {"DaysAfterInitiation": 3}},
+                           {"ID": "d", "Status": "Enabled", "Filter": {"Prefix": ""}, "Transition": {"Days": 3, "StorageClass": "GLACIER"}}]}
+        status, _, notes = self.run_it("logs", "--yes", "--leave-out", "set", self.json("wrong.json", wrong))
+        self.check(f"status: {notes}", 0, status)
+        self.check("what is left out is named", (4, True), (sum(it.startswith("lifecycle: line 1: Rules[") or "Rules[3].Transition:" in it for it in notes.splitlines()),
+                                                            "lifecycle: left out: these 4, and 2 rules without another action" in notes))
+        self.check("the rest", [("logs", {"Days": 9}, [{"Days": 2, "StorageClass": "GLACIER"}], None), ("c", None, None, {"DaysAfterInitiation": 3})],
+                   [(it["ID"], it.get("Expiration"), it.get("Transitions"), it.get("AbortIncompleteMultipartUpload")) for it in self.rules("logs")])
+        self.check("nothing is left", 6, self.run_it("old", "--yes", "--leave-out", "set", self.json("none.json", {"Rules": wrong["Rules"][1:2]}))[0])
+        self.check("and nothing was sent", 404, self.rules("old"))
+
     def test_refusals(self):
         refused = (({"ID": "a", "Status": "Enabled"}, "rule 'a', the 1. of 1: it has no action (400 NoAction, number 23)"),
                    ({**RULE, "Expire": {}}, "in rule 'logs': there is no field 'Expire' (400 UnknownField, number 41)"),

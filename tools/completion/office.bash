@@ -48,19 +48,32 @@ _office_tool() {
         mapfile -t COMPREPLY < <(compgen -W 'http://127.0.0.1:8080' -- "$word")
         return
         ;;
+    --client)
+        mapfile -t COMPREPLY < <(compgen -W 'boto3 aws' -- "$word")
+        return
+        ;;
+    --nearest | --class)
+        mapfile -t COMPREPLY < <(compgen -W 'STANDARD STANDARD_IA ONEZONE_IA GLACIER_IR GLACIER DEEP_ARCHIVE' -- "$word")
+        return
+        ;;
     --keys)
         mapfile -t COMPREPLY < <(compgen -W 'url plain' -- "$word")
         return
         ;;
-    --bucket | --most | --resource | --schema | --suspended | --unit | --listen | --keep | = | :) return ;;
+    --bucket | --most | --limit | --queue | --endpoint-url | --resource | --schema | --suspended | --unit | --listen | --keep | = | :) return ;;
     esac
     case $word,$1 in
     -*,office-act-all) choices='--server --run --bucket --buckets --journal --most --json --log --dry-run --help' ;;
     -*,office-month-end) choices='--server --bucket --buckets --journal --most --log --folder --help' ;;
-    -*,office-lifecycle) choices='--server --bucket --resource --yes --help' ;;
+    -*,office-lifecycle) choices='--server --bucket --resource --leave-out --yes --help' ;;
     -*,office-import-inventory)
-        choices='--server --out --schema --bucket --keys --current --suspended --names --state --help'
+        choices='--server --out --schema --bucket --keys --current --suspended --names --state --map --nearest --tags --uploads --parts --help'
         ;;
+    -*,office-follow)
+        choices='--server --journal --map --bucket --class --nearest --dead --retry --listen --queue --ask-store --endpoint-url --client --help'
+        ;;
+    -*,office-compare) choices='--server --journal --map --current --nearest --schema --keys --names --json --help' ;;
+    -*,office-apply) choices='--map --endpoint-url --client --bucket --yes --limit --report --help' ;;
     -*,office-bill) choices='--server --report --bucket --buckets --journal --unit --out --help' ;;
     -*,office-usage-page) choices='--server --report --meters --bucket --buckets --journal --unit --out --help' ;;
     -*,office-usage) choices='--server --bucket --buckets --journal --out --help' ;;
@@ -88,4 +101,4 @@ _office_tool() {
 
 complete -F _office office
 complete -F _office_tool office-act-all office-month-end office-lifecycle office-import-inventory office-bill office-usage \
-    office-usage-page office-metrics office-backup office-journal-digest
+    office-usage-page office-metrics office-backup office-journal-digest office-follow office-compare office-apply

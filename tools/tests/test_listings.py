@@ -1,7 +1,5 @@
 """Listings of objects as S3 Inventory writes them (CSV) and as `aws s3api list-object-versions` prints them (JSON)."""
-import datetime
 import gzip
-import importlib.util
 import json
 import pathlib
 import sys
@@ -91,17 +89,6 @@ class Csv(Listing):
     def test_parquet_without_its_reader(self):
         with unittest.mock.patch.dict(sys.modules, {"pyarrow": None}):
             self.assertEqual(": this is Parquet, which needs the Python library pyarrow; or ask for the inventory in CSV", self.stopped(b"PAR1.."))
-
-    @unittest.skipUnless(importlib.util.find_spec("pyarrow"), "no pyarrow")
-    def test_parquet(self):
-        import pyarrow
-        import pyarrow.parquet
-        path = pathlib.Path(self.folder.name, "parquet")
-        table = {"bucket": ["photos"], "key": ["a+b c"], "version_id": ["v2"], "is_latest": [True], "is_delete_marker": [False], "size": [5],
-                 "last_modified_date": [datetime.datetime(2024, 1, 3, tzinfo=datetime.timezone.utc)], "storage_class": ["GLACIER"]}
-        pyarrow.parquet.write_table(pyarrow.table(table), path)
-        row, = self.rows(path.read_bytes())
-        self.assertEqual(("photos", b"a+b c", 5, "GLACIER", CURRENT, "v2"), (row.bucket, row.key, row.size, row.storage_class, row.kind, row.version))
 
     def test_files_of_other_kinds(self):
         for data, why in ((b"ORC..", ": this is ORC; ask for the inventory in CSV"),
