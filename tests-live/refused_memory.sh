@@ -1,5 +1,5 @@
 #!/bin/sh
-# Refuses each allocation of the program in turn, one a run: in a run of four messages, a report and a table of stays.
+# Refuses each allocation of the program in turn, one a run: in a run of four messages, a run with lifecycle actions, a report and a table of stays.
 #
 #   refused_memory.sh PROGRAM
 #
@@ -16,7 +16,8 @@ if [ -d /dev/shm ] && [ -w /dev/shm ]; then
 fi
 . "$here/common"
 if ! cc -O2 -shared -fPIC -o "$work/refused_memory.so" "$here/refused_memory.c" 2>"$work/notes"; then
-    echo "skipped: cc does not build refused_memory.c"
-    exit 0
+    cat "$work/notes"
+    check 'cc builds refused_memory.c' yes no
+    finish
 fi
 python3 -B "$here/refused_memory_cases.py" "$program" "$work"

@@ -14,6 +14,13 @@ COUNTED, DATA = FOLDER / "counted", FOLDER / "run" / "office-data"
 LACKS = b'HTTP/1.1 500 Internal Server Error\r\ncontent-type: application/json\r\ncontent-length: 33\r\n\r\n{"error":"NoMemory","number":115}'
 BODIES = (b"", b'{"size":200000,"class":"STANDARD_IA","tags":{"team":"a"}}', b'{"size":1}', b"")
 STARTS = (b"PUT /buckets/logs", b"PUT /buckets/logs/objects/a", b"PUT /buckets/logs/objects/b", b"DELETE /buckets/logs/objects/b")
+# Lifecycle actions: a renewal of the queue of what is due that finds no memory drops the queue, and the actions stay the same ones.
+RULES = (b'{"Rules":[{"Status":"Enabled","Filter":{"Prefix":""},"Expiration":{"Date":"2020-01-01"},'
+         b'"AbortIncompleteMultipartUpload":{"DaysAfterInitiation":1}}]}')
+DUE_BODIES = (b"", RULES, b'{"size":1}', b'{"size":2}', b"", b'{"size":3}', b"", b"", RULES, b"")
+DUE_STARTS = (b"PUT /buckets/logs", b"PUT /buckets/logs/lifecycle", b"PUT /buckets/logs/objects/a", b"PUT /buckets/logs/objects/b",
+              b"POST /buckets/logs/uploads/c", b"PUT /buckets/logs/parts/1/1", b"POST /buckets/logs/upload/1", b"POST /buckets/logs/act",
+              b"PUT /buckets/logs/lifecycle", b"POST /buckets/logs/act")
 counts = {True: 0, False: 0}
 
 
@@ -100,6 +107,7 @@ office(["init"])
 shutil.copytree(FOLDER / "run", FOLDER / "made")
 SENT = b"".join(map(message, STARTS, BODIES))
 refuse_each("run", FOLDER / "made", ["run"], SENT, look_at_run)
+refuse_each("run with lifecycle actions", FOLDER / "made", ["run"], b"".join(map(message, DUE_STARTS, DUE_BODIES)), look_at_run)
 anew(FOLDER / "made")
 TARIFF = b"[storage]\n%s[transition]\n%s" % ((b"".join(b"%s = 1\n" % name for name in (
     b"STANDARD", b"STANDARD_IA", b"ONEZONE_IA", b"GLACIER_IR", b"GLACIER", b"DEEP_ARCHIVE")),) * 2)

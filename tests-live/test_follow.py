@@ -126,7 +126,7 @@ class Follow(live.Case):
             ("the store keeps versions", "Unversioned"), ("the event names no version", "Enabled")))
         wanted = ["there is no bucket 'other' here", "this is no event", "this is no event of a bucket", "refused: 400 BadSize", unversioned, enabled,
                   "this version id is not in the map", "refused: 400 UnsupportedClass", "there is no bucket 'Bad_Name' here", "refused: 400 BadKey",
-                  "refused: 501 NotBuilt", "its sequencer is null, so nothing tells what came before it"]
+                  "refused: 404 NoRoute", "its sequencer is null, so nothing tells what came before it"]
         self.check("the reasons", sorted(wanted), sorted(it["why"] for it in self.dead()))
         self.check("a class that is not here", ["refused: 400 UnsupportedClass"], [it["why"] for it in self.dead() if it["event"] == bad[5]])
         self.check("the first are told, and where all are", True, "dead letters 12" in notes and "store.map.dead" in notes)

@@ -205,7 +205,7 @@ class Follow:
 
     def settle(self, event, status, found):
         """Keeps what came of an event."""
-        if status == 404 and event.what == REMOVE:
+        if status == 404 and event.what == REMOVE and found.get("error") != "NoRoute":
             self.counts[GONE] += 1
         elif status not in (200, 201):
             return self.bury(event.raw, f"refused: {reason(status, found)}")
