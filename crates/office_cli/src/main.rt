@@ -9,11 +9,11 @@ use http_wire::ReaderSource;
 use office_program::{office, refuse_words};
 use serving::{OpenGate, TcpPort};
 use std::alloc::{Alloc, Global};
+use std::env;
 use std::fs::{self, File, OpenOptions};
 use std::io::{self, ErrorKind};
 use std::process::ExitCode;
 use std::rt::{Env, Files};
-use std::env;
 
 /// The folder of the program's files, in the folder where it is started.
 const FOLDER: &str = "office-data";

@@ -506,10 +506,7 @@ const ENDINGS: &[(&str, &str)] = &[
         "GET / HTTP/1.1\r\nContent-Length: +5\r\n\r\nhello",
         "BadHead last",
     ),
-    (
-        "GET / HTTP/1.1\r\nContent-Length:\r\n\r\n",
-        "BadHead last",
-    ),
+    ("GET / HTTP/1.1\r\nContent-Length:\r\n\r\n", "BadHead last"),
     (
         "GET / HTTP/1.1\r\nContent-Length: 9999999999999999999999999999999999999999\r\n\r\n",
         "BodyTooLarge last",
@@ -558,7 +555,13 @@ fn a_head_has_at_most_so_many_bytes(rt: HostRuntime) -> Result<(), Fail> {
     stream = long_target(alloc, 8_174)?;
     stream.push_str(" HTTP/1.1\r\n\r\n")?;
     stream.push_str(NEXT)?;
-    assert_heard(&rt, alloc, &stream, &[500, 65_536], "NoRoute; Bucket next; End")
+    assert_heard(
+        &rt,
+        alloc,
+        &stream,
+        &[500, 65_536],
+        "NoRoute; Bucket next; End",
+    )
 }
 
 #[test]

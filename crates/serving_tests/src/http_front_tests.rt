@@ -503,12 +503,7 @@ fn letters(alloc: Global, count: u64) -> Result<Vec<u8>, Fail> {
     Ok(all)
 }
 
-fn assert_last(
-    rt: &impl Abort,
-    alloc: Global,
-    message: &[u8],
-    reply: &[u8],
-) -> Result<(), Fail> {
+fn assert_last(rt: &impl Abort, alloc: Global, message: &[u8], reply: &[u8]) -> Result<(), Fail> {
     assert_session(rt, alloc, &[message], 1000, NOTHING, (ENDED, &[reply]))?;
     assert_session(
         rt,
