@@ -76,7 +76,7 @@ def refuse_each(name, saved, words, sent, look):
     anew(saved)
     whole = office(words, sent)
     check(f"{name}: status with nothing refused", (0, b""), (whole[0], whole[2]))
-    total, ends = int(COUNTED.read_text()), {}
+    total, ends = int.from_bytes(COUNTED.read_bytes(), sys.byteorder), {}
     kept = commands()
     for refused in range(1, total + 1):
         anew(saved)
@@ -109,8 +109,9 @@ SENT = b"".join(map(message, STARTS, BODIES))
 refuse_each("run", FOLDER / "made", ["run"], SENT, look_at_run)
 refuse_each("run with lifecycle actions", FOLDER / "made", ["run"], b"".join(map(message, DUE_STARTS, DUE_BODIES)), look_at_run)
 anew(FOLDER / "made")
-TARIFF = b"[storage]\n%s[transition]\n%s" % ((b"".join(b"%s = 1\n" % name for name in (
-    b"STANDARD", b"STANDARD_IA", b"ONEZONE_IA", b"GLACIER_IR", b"GLACIER", b"DEEP_ARCHIVE")),) * 2)
+CLASSES = (b"STANDARD", b"STANDARD_IA", b"ONEZONE_IA", b"GLACIER_IR", b"GLACIER", b"DEEP_ARCHIVE")
+TARIFF = b"[storage]\n" + b"".join(b"%s = 1\n" % name for name in CLASSES) + b"[transition]\n" + b"".join(
+    b"%s = 1\n" % name for name in CLASSES[1:])
 office(["run"], SENT + message(b"PUT /tariff", TARIFF))
 shutil.copytree(FOLDER / "run", FOLDER / "filled")
 refuse_each("report", FOLDER / "filled", ["report", "2024-01"], b"", look_at_text)
