@@ -359,7 +359,8 @@ fn is_in_token(c: u8) -> bool {
 /// Reads a head with room for so many fields, or None if it has more.
 ///
 /// The program goes by httparse 1.10, and the distribution has 1.8, which is wider in a method (any visible byte, or none) and narrower
-/// in a target (ASCII alone, where 1.10 takes UTF-8, and looks at it once the target has ended). Both are read here.
+/// in a target (no `<`, no `>`, ASCII alone; 1.10 takes all visible bytes, and looks for UTF-8 once the target has ended). So these two
+/// are read here, and 1.8 is given a target of letters in their place.
 fn head_with(front: &[u8], fields: usize) -> Option<Head> {
     let (method, place) = request_line(front);
     let target = std::str::from_utf8(&front[place.clone()]);
@@ -368,9 +369,7 @@ fn head_with(front: &[u8], fields: usize) -> Option<Head> {
         return Some(Head::Broken);
     }
     let mut ascii = front.to_vec();
-    for c in &mut ascii[place] {
-        *c = if c.is_ascii() { *c } else { b'u' };
-    }
+    ascii[place].fill(b'u');
     let mut room = vec![MaybeUninit::<Header>::uninit(); fields];
     let mut request = Request::new(&mut []);
     Some(match request.parse_with_uninit_headers(&ascii, &mut room) {
