@@ -22,5 +22,4 @@ pub mod Tagged
 pub mod Told
 pub mod Touches
 pub mod Under
-pub mod Whole
 pub mod WholePut

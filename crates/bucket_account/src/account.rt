@@ -44,7 +44,7 @@ pub struct Account {
 
 impl Model for Account {
     ghost use Rattle.std.specs.Prelude.{◌≡◌, IfSome};
-    ghost use Rattle.due_index.specs.Index.{StandsFor, IsBucket};
+    ghost use Rattle.due_index.specs.Index.{StandsFor};
     ghost use Rattle.plain_office.specs.Counts.{version_count, rules_bytes};
     ghost use Rattle.bucket_account.specs.Counting.{AccountRecord};
 

@@ -4,11 +4,11 @@ ghost use Rattle.office_base.specs.Maps.{at_number};
 ghost use Rattle.uploads.specs.Uploads.{UploadRecord};
 ghost use Rattle.due_core.specs.Choice.{choice};
 ghost use Rattle.due_index.specs.Firsts.{entry_count};
-ghost use Rattle.due_index.specs.Index.{StandsFor, StandsButKey, StandsButUpload, IsBucket};
+ghost use Rattle.due_index.specs.Index.{StandsFor, StandsButKey, StandsButUpload};
 ghost use Rattle.bucket_account.specs.Touching.{touched, touched_at, StandsBut};
 
 use due_core::{Action, Bucket, Target, chosen};
-use due_index::DueIndex;
+use due_index::{DueIndex, see_order};
 use moments::Moment;
 use office_base::{Key, NoMemory};
 use office_types::Command;
@@ -104,14 +104,6 @@ pub(crate) fn build_where_none(index: &mut Option<DueIndex>, alloc: Global, buck
     }
 }
 
-/// Tells that the keys of a bucket's stacks and the numbers of its uploads rise, as they do in every map.
-#[tactic(auto, using(crate::proofs::Whole::rises_of))]
-fn see_order(bucket: &Bucket)
-    ensures { IsBucket bucket.now }
-{
-    let _ = (bucket.stacks.len(), bucket.uploads.len());
-}
-
 /// Counts the entries of an index of this bucket.
 pub(crate) fn entries_of(index: &DueIndex, bucket: &Bucket) -> u64
     requires stands { StandsFor index.now bucket.now }
@@ -131,10 +123,7 @@ pub(crate) fn first_of(
     ensures exact { IfOk result (λ action. action ≡ choice bucket.now t) }
 {
     match index {
-        Some(index) => {
-            see_order(bucket);
-            index.chosen(bucket, t)
-        }
+        Some(index) => index.chosen(bucket, t),
         None => chosen(bucket, t),
     }
 }

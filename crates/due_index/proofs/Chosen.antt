@@ -19,13 +19,14 @@ use Rattle.uploads.specs.Uploads.{UploadRecord}
 use Rattle.due_core.specs.Buckets.{BucketRecord}
 use Rattle.due_core.specs.Candidates.{eligible, eligible_by, candidates, stack_candidates, upload_candidates}
 use Rattle.due_core.specs.Choice.{precedence, comes_before, kind_place, coldness, least, IsLeast, choice}
+use Rattle.due_core.specs.declared.action.Action.{Action}
 use Rattle.due_core.specs.declared.action.Target.{Target}
 use Rattle.due_core.specs.declared.action.Target.TheVariants as target
 use Rattle.due_core.specs.declared.action.Candidate.{Candidate}
 use Rattle.due_core.proofs.Precedence.{precedence_total, first_candidate}
 use Rattle.due_core.proofs.Pass.{has_come}
 use Rattle.due_index.specs.Firsts.{asked_of_key, asked_of_upload, first_on_key, first_on_upload}
-use Rattle.due_index.specs.Queue.{slot_at, IsHead}
+use Rattle.due_index.specs.Queue.{slot_at, IsHead, IsFirstAction}
 use Rattle.due_index.specs.Index.{IndexRecord, slot_of, IsOwned, IsTied, StandsFor, IsBucket, due_by}
 use Rattle.due_index.specs.Search.{Among}
 use Rattle.due_index.proofs.Among.{among_append, among_front, among_back, among_filter, filtered, among_flat_map, flat_mapped, among_at, place_of}
@@ -296,9 +297,13 @@ module _ (index : IndexRecord) (bucket : BucketRecord) (whole : IsBucket bucket)
     by_come t false come = ap (option_map (λ (c : Candidate). c.action)) (none_come t come)
 
   -- the choice of the bucket
-  pub choice_of_head : (t : ℕ) (head : Option Candidate) → IsHead index.slots head → choice bucket t ≡ due_by t head
+  choice_of_head : (t : ℕ) (head : Option Candidate) → IsHead index.slots head
+      → choice bucket t ≡ due_by t (option_map (λ (c : Candidate). c.action) head)
   unfolding choice candidates
   choice_of_head t None heads =
       ap (option_map (λ (c : Candidate). c.action)) (no_least (filter (has_come t) (eligible bucket)) (λ x h.
       let l = led x (among_filter (has_come t) (eligible bucket) x h).0 in absurd (heads l.slot l.lead l.holds)))
   choice_of_head t (Some head) heads = by_come head heads t (has_come t head) refl
+
+  pub choice_of_first : (t : ℕ) (first : Option Action) → IsFirstAction index.slots first → choice bucket t ≡ due_by t first
+  choice_of_first t first (head, heads, is) = choice_of_head t head heads ∙ ap (due_by t) is

@@ -17,3 +17,4 @@ pub mod Ties
 pub mod Total
 pub mod Touched
 pub mod Tournaments
+pub mod Whole

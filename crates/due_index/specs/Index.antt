@@ -72,10 +72,10 @@ pub record IsBucket (bucket : BucketRecord) : Type 0 where
   pub stacks : Rises bytes_cmp bucket.stacks
   pub uploads : Rises nat_cmp bucket.uploads
 
--- the action that is due first at a moment, where this candidate is the first of all
-abbrev pub due_by : ℕ → Option Candidate → Option Action
+-- the action that is due first at a moment, where this is the first of all
+abbrev pub due_by : ℕ → Option Action → Option Action
 due_by t None = None
-due_by t (Some first) = if nat_le first.action.since t then Some first.action else None
+due_by t (Some first) = if nat_le first.since t then Some first else None
 
 -- of these candidates, two of which none comes before the other are the same
 abbrev pub IsTotalOn : List Candidate → Type 0
