@@ -335,11 +335,45 @@ fn framing(headers: &[Header]) -> Read<usize> {
     if length > BODY_LIMIT { refusal(413, "BodyTooLarge", 124) } else { Ok(length) }
 }
 
+/// Where the method stands, and the request target behind it, up to what no target has.
+fn request_line(front: &[u8]) -> (std::ops::Range<usize>, std::ops::Range<usize>) {
+    let mut from = 0;
+    while front[from..].starts_with(b"\r\n") || front[from..].starts_with(b"\n") {
+        from += if front[from] == b'\n' { 1 } else { 2 };
+    }
+    // A CR alone may be the first half of an empty line.
+    if &front[from..] == b"\r" {
+        return (front.len()..front.len(), front.len()..front.len());
+    }
+    let space = front[from..].iter().position(|&c| c == b' ').map_or(front.len(), |n| from + n);
+    let start = (space + 1).min(front.len());
+    let length = front[start..].iter().position(|&c| c <= b' ' || c == 0x7f).unwrap_or(front.len() - start);
+    (from..space, start..start + length)
+}
+
+/// A character of a token (RFC 9110, "Tokens").
+fn is_in_token(c: u8) -> bool {
+    c.is_ascii_alphanumeric() || b"!#$%&'*+-.^_`|~".contains(&c)
+}
+
 /// Reads a head with room for so many fields, or None if it has more.
+///
+/// The program goes by httparse 1.10, and the distribution has 1.8, which is wider in a method (any visible byte, or none) and narrower
+/// in a target (ASCII alone, where 1.10 takes UTF-8, and looks at it once the target has ended). Both are read here.
 fn head_with(front: &[u8], fields: usize) -> Option<Head> {
+    let (method, place) = request_line(front);
+    let target = std::str::from_utf8(&front[place.clone()]);
+    let no_method = method.is_empty() && method.end < front.len();
+    if no_method || !front[method].iter().all(|&c| is_in_token(c)) || target.is_err() && front.get(place.end) == Some(&b' ') {
+        return Some(Head::Broken);
+    }
+    let mut ascii = front.to_vec();
+    for c in &mut ascii[place] {
+        *c = if c.is_ascii() { *c } else { b'u' };
+    }
     let mut room = vec![MaybeUninit::<Header>::uninit(); fields];
     let mut request = Request::new(&mut []);
-    Some(match request.parse_with_uninit_headers(front, &mut room) {
+    Some(match request.parse_with_uninit_headers(&ascii, &mut room) {
         Err(Error::TooManyHeaders) => return None,
         Err(_) => Head::Broken,
         Ok(Status::Partial) => Head::Partial,
@@ -348,7 +382,7 @@ fn head_with(front: &[u8], fields: usize) -> Option<Head> {
             Head::Whole {
                 length,
                 method: request.method.unwrap_or("").to_owned(),
-                target: request.path.unwrap_or("").to_owned(),
+                target: target.unwrap_or("").to_owned(),
                 framing: framing(request.headers),
                 is_last: request.version == Some(0) || request.headers.iter().any(closes),
             }
