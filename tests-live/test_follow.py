@@ -195,6 +195,24 @@ class Follow(live.Case):
         self.check("the same words go on", 0, self.follow(path)[0])
         self.check_all("killed", records)
 
+    def test_two_at_once(self):
+        tool = subprocess.Popen([live.TOOLS / "follow", *self.words("-")], stdin=subprocess.PIPE, cwd=self.folder, stderr=subprocess.DEVNULL)
+        self.addCleanup(tool.wait)
+        self.addCleanup(tool.kill)
+        late = time.monotonic() + LIMIT
+        while not self.map.with_name("store.map.lock").exists() and time.monotonic() < late:
+            time.sleep(0.01)
+        tool.stdin.write(lines(*self.some(1)).encode())
+        tool.stdin.flush()
+        while not self.done() and time.monotonic() < late:
+            time.sleep(0.01)
+        self.check("standard input is done as it comes", 1, len(self.done()))
+        status, notes = self.follow(self.file("more", lines(*self.some(3))))
+        self.check("a second one ends", (2, True, 1), (status, "works with this map" in notes, len(self.done())))
+        tool.stdin.close()
+        self.check("the first one ends with its input", 0, tool.wait(LIMIT))
+        self.check("and the second one goes on", (0, 3), (self.follow("more")[0], len(self.done())))
+
     def test_webhook(self):
         port = free_port()
         with Odd(self.server.port) as odd:

@@ -110,7 +110,7 @@ class Apply:
             raise No(f"the object was put at {moment_of(found['LastModified']).isoformat()}, after the action stands")
         etag = (found.get("ETag") or "").strip('"')
         if known and (known[1] != found.get("ContentLength") or known[2] not in (None, etag)):
-            raise No(f"another object is there: {found.get('ContentLength')} bytes and ETag {etag}, and in the map {known[1]} and {known[2]}")
+            raise No(f"another object is there: {found.get('ContentLength')} bytes, ETag {etag}; in the map {known[1]}, {known[2]}")
         # With a version id S3 removes the null version of a bucket with versions; without one it would put a delete marker there.
         self.call("delete-object", Bucket=it["bucket"], Key=it["key"], **({"VersionId": "null"} if found.get("VersionId") else {}),
                   **({"IfMatch": found["ETag"]} if etag else {}))

@@ -56,6 +56,8 @@ def records_of(found):
         return
     if not isinstance(found, dict):
         raise Bad("this is no event")
+    if found.get("Type") == "SubscriptionConfirmation":
+        raise Bad("this is no event: the topic asks to confirm the subscription, at its SubscribeURL")
     for name in ("Records", "Messages"):
         if isinstance(found.get(name), list):
             yield from records_of(found[name])
@@ -76,7 +78,8 @@ def parts_of(raw):
     """The name, bucket and object of an event, with the key as it is."""
     if "detail-type" not in raw:
         about, name = raw["s3"], re.sub("^s3:", "", raw["eventName"])
-        return name, about["bucket"]["name"], {**about["object"], "key": urllib.parse.unquote_plus(about["object"]["key"], errors="strict")}, about
+        key = urllib.parse.unquote_plus(about["object"]["key"], errors="strict")
+        return name, about["bucket"]["name"], {**about["object"], "key": key}, about
     kind, detail = raw["detail-type"], raw["detail"]
     name = BRIDGE.get(kind, kind)
     if kind == "Object Deleted":
@@ -113,7 +116,8 @@ def event_of(raw):
         raise Bad(f"its size is {json.dumps(size)}")
     if what in (PUT, MARKER, REMOVE) and not re.fullmatch("[0-9A-Fa-f]+", sequencer or ""):
         raise Bad(f"its sequencer is {json.dumps(sequencer)}, so nothing tells what came before it")
-    return Event(bucket, about["key"], what, size, class_in(outer), version or None, order_of(sequencer or ""), raw, str(about.get("eTag") or about.get("etag") or "") or None)
+    etag = str(about.get("eTag") or about.get("etag") or "") or None
+    return Event(bucket, about["key"], what, size, class_in(outer), version or None, order_of(sequencer or ""), raw, etag)
 
 
 def order_of(sequencer):

@@ -13,13 +13,13 @@ import typing
 
 from asking import Stop, reason
 from entries import CLASSES
-from events import MARKER, PUT, REMOVE, Bad, Event, event_of, name_of, records_of, text_of
+from events import MARKER, PUT, REMOVE, Bad, Event, event_of, records_of, text_of
 from files import atomic_write
 from sending import bucket_target
 from sweeping import target_of
 from tail import ACT, Tail, open_journal, read_tail, sample_of
 
-GROUP = 100
+GROUP, SHOWN = 100, 5
 TWICE, GONE = "sent twice or late", "gone already"
 
 
@@ -58,7 +58,8 @@ def ask_delete(event):
 
 def ask_remove(event, number):
     written = 0 if number == "null" else int(number)
-    return Ask("DELETE", target_of(event.bucket, f"versions/{number}", event.key), None, 0x07, field(event.key) + written.to_bytes(8, "big"))
+    fields = field(event.key) + written.to_bytes(8, "big")
+    return Ask("DELETE", target_of(event.bucket, f"versions/{number}", event.key), None, 0x07, fields)
 
 
 class Follow:
@@ -68,7 +69,7 @@ class Follow:
         self.given, self.office, self.ids, self.store = given, office, ids, store
         self.tail, self.journal = read_tail(given.journal), open_journal(given.journal)
         self.counts, self.mapped, self.states = collections.Counter(), collections.Counter(), {}
-        self.last, self.new = {}, set()
+        self.last, self.new, self.buried = {}, set(), []
 
     # ---- which request an event asks for
 
@@ -128,8 +129,9 @@ class Follow:
 
     def last_of(self, bucket, key):
         """The sequencer of the latest event of a key that was done."""
-        kept = self.last.get((bucket, key))
-        return kept if kept is not None else self.ids.one("select sequencer from sequencers where bucket = ? and key = ?", bucket, key) or ""
+        if (kept := self.last.get((bucket, key))) is not None:
+            return kept
+        return self.ids.one("select sequencer from sequencers where bucket = ? and key = ?", bucket, key) or ""
 
     # ---- doing
 
@@ -174,6 +176,9 @@ class Follow:
 
     def finish(self, group):
         """Keeps what is asked for next, asks for it, and keeps what came of it."""
+        if self.buried:
+            with self.ids.change():
+                self.keep_buried()
         if not group:
             return
         self.tail.read(self.journal)
@@ -191,13 +196,14 @@ class Follow:
                 for place, (it, said) in enumerate(done):
                     self.settle(it, *said)
                     self.ids.do("delete from intents where place = ?", place)
+                self.keep_buried()
             self.last, self.new = {}, set()
 
     def ask(self, event, asks):
         """The status and the body of the reply to the last request of an event."""
         for it in asks:
-            # Here, and nowhere else, a token of the request would be sent: name_of(event.raw) is the same for each copy of an
-            # event. The program has no tokens yet; until then the journal tells after a stop what was done.
+            # Here, and nowhere else, a token of the request would be sent: events.name_of(event.raw) is the same for each copy of
+            # an event. The program has no tokens yet; until then the journal tells after a stop what was done.
             status, found = self.office.ask(it.method, it.target, it.body)
             if status in (500, 503, 507):
                 raise Stop(2, f"bucket {event.bucket}: {reason(status, found)}; the same words go on")
@@ -220,15 +226,16 @@ class Follow:
         self.ids.do("delete from dead where event = ?", text_of(event.raw))
 
     def bury(self, raw, why):
-        """Puts an event among the dead letters, once."""
+        """Puts an event among the dead letters, once; they are kept with what comes next."""
         self.counts["dead letters"] += 1
-        where = f"{raw['s3']['bucket']['name']}: " if isinstance(raw, dict) and isinstance(raw.get("s3"), dict) and why.startswith("refused") else ""
-        self.note(f"{name_of(raw)}: {where}{why}")
-        self.ids.do("insert into dead (event, why) values (?, ?) on conflict (event) do update set why = excluded.why", text_of(raw), why)
+        if self.counts["dead letters"] <= SHOWN:
+            print(f"follow: dead letter: {why}: {text_of(raw)[:200]}", file=sys.stderr, flush=True)
+        self.buried.append((text_of(raw), why))
 
-    def note(self, text):
-        if self.counts["dead letters"] <= 5:
-            print(f"follow: {text}", file=sys.stderr, flush=True)
+    def keep_buried(self):
+        for text, why in self.buried:
+            self.ids.do("insert into dead (event, why) values (?, ?) on conflict (event) do update set why = excluded.why", text, why)
+        self.buried = []
 
     # ---- after a stop
 
@@ -247,13 +254,13 @@ class Follow:
         for place, _, _, text in rows:
             kept = json.loads(text)
             event, (kind, fields) = event_of(kept["event"]), kept["last"]
-            wanted = (kind, field(event.bucket) + bytes.fromhex(fields))
-            place_of_it = next((it for it in range(at, len(entries)) if entries[it][1] == wanted[0] and entries[it][2].startswith(wanted[1])), None)
-            if place_of_it is None:
+            wanted = field(event.bucket) + bytes.fromhex(fields)
+            entry = next((it for it in range(at, len(entries)) if entries[it][1] == kind and entries[it][2].startswith(wanted)), None)
+            if entry is None:
                 left.append(event)
             else:
-                at, found = place_of_it + 1, found + 1
-                self.found(place, event, entries[place_of_it][0])
+                at, found = entry + 1, found + 1
+                self.found(place, event, entries[entry][0])
         print(f"follow: the last run was stopped: of {len(rows)} events {found} were done and {len(left)} were not", file=sys.stderr)
         with self.ids.change():
             self.ids.do("delete from intents")
@@ -264,9 +271,9 @@ class Follow:
     def found(self, place, event, moment):
         """Keeps an event whose reply was lost, with the number that its version has."""
         status, stack = self.office.ask("GET", target_of(event.bucket, "objects", event.key))
-        kind = "object" if event.what == PUT else "marker"
+        wanted = ("object", event.size, moment) if event.what == PUT else ("marker", None, moment)
         numbers = [it.get("version") for it in (stack.get("versions") if status == 200 else None) or []
-                   if it.get("kind") == kind and ms_of(it.get("created")) == moment and it.get("size") == (event.size if kind == "object" else None)]
+                   if (it.get("kind"), it.get("size"), ms_of(it.get("created"))) == wanted]
         taken = {number for number, in self.ids.do("select number from versions where bucket = ? and key = ?", event.bucket, event.key)}
         number = min((it for it in numbers if it == "null" or it not in taken), key=lambda it: 0 if it == "null" else int(it), default=None)
         with self.ids.change():

@@ -4,6 +4,7 @@ The program numbers versions and uploads by itself, and knows no ids of the stor
 one was removed, looks it up here. The file also keeps how far `follow` and `apply` are.
 """
 import contextlib
+import fcntl
 import os
 import sqlite3
 
@@ -54,9 +55,21 @@ class IdMap:
 
     def same(self, name, wanted, otherwise):
         """Keeps a value with which the file was made, or finds it there."""
-        self.do("insert or ignore into about values (?, ?)", name, wanted)
-        if self.one("select value from about where name = ?", name) != wanted:
+        if (found := self.one("select value from about where name = ?", name)) is None:
+            self.do("insert or ignore into about values (?, ?)", name, wanted)
+            found = self.one("select value from about where name = ?", name)
+        if found != wanted:
             raise Stop(3, f"{self.path} {otherwise}")
+
+    def alone(self):
+        """Ends the tool if another one asks the program by this map: each would do again what the other has under way."""
+        try:
+            self.lock = open(f"{self.path}.lock", "w", encoding="utf-8")
+            fcntl.flock(self.lock, fcntl.LOCK_EX | fcntl.LOCK_NB)
+        except BlockingIOError:
+            raise Stop(2, f"{self.path}: another follow or import-inventory works with this map") from None
+        except OSError as fault:
+            raise Stop(4, f"{self.path}.lock: {fault.strerror}") from None
 
     def do(self, text, *values):
         with self.faults():

@@ -83,7 +83,8 @@ def moment_of(found):
 
 def add_store(words):
     """The words that name the store."""
-    words.add_argument("--endpoint-url", metavar="URL", help="the store, as http://127.0.0.1:9000; that of the aws configuration if not given")
+    words.add_argument("--endpoint-url", metavar="URL",
+                       help="the store, as http://127.0.0.1:9000; that of the aws configuration if not given")
     words.add_argument("--client", choices=("boto3", "aws"), help="ask the store by this; boto3, or else aws, if not given")
 
 
