@@ -112,8 +112,8 @@ class Office:
             self.link.close()
             how = getattr(fault, "strerror", None) or str(fault) or type(fault).__name__
             raise Stop(2, f"no reply from {self.name} to {method} {target}: {how}") from None
-        # The program ends the connection after a message whose framing it refuses; a new one costs little.
-        if reply.status in (400, 413, 431, 501):
+        # The program ends the connection after a message whose framing it refuses (BadHead, CutShort, and the three statuses).
+        if reply.status in (413, 431, 501) or said.endswith((b'"number":120}', b'"number":127}')):
             self.link.close()
         return reply.status, reply.getheader("content-type", ""), said
 
