@@ -38,5 +38,19 @@ class OfficeLink(live.Case):
             os.environ["PATH"] = before
 
 
+    def test_words_of_the_script(self):
+        shutil.copytree(live.ROOT / "tools", self.repository / "tools")
+        shutil.copy(live.ROOT / "CHANGELOG.md", self.repository / "CHANGELOG.md")
+        done = self.ended([self.repository / "office", "--help"], text=True)
+        said = [line.split()[1] for line in done.stdout.splitlines() if line.startswith("office ") and "meters" not in line]
+        usage = self.ended([live.program()], text=True).stderr.removeprefix("usage: office ")
+        self.check("--help has the program's commands", [it.split()[0] for it in usage.split("; ")] + ["--help", "--version"], said)
+        newest = next(line.split()[1].rstrip(",") for line in (live.ROOT / "CHANGELOG.md").read_text("utf-8").splitlines() if line.startswith("## "))
+        done = self.ended([self.repository / "office", "--version"], text=True)
+        self.check("--version", (0, f"office {newest}\n"), (done.returncode, done.stdout))
+        done = self.ended([self.repository / "office", "--help", "run"], text=True)
+        self.check("other words are the program's", "program --help run\n", done.stdout)
+
+
 if __name__ == "__main__":
     live.main()
