@@ -245,7 +245,7 @@ fn meant_by_tariff(fault: &TariffFault) -> Meaning<'_> {
     }
 }
 
-fn meant_by_framing(refusal: FramingRefusal) -> Meaning<'static> {
+fn meant_by_framing(refusal: &FramingRefusal) -> Meaning<'_> {
     match refusal {
         FramingRefusal::BadHead => ("BadHead", [NO, NO, NO, NO, NO]),
         FramingRefusal::BodyTooLarge => ("BodyTooLarge", [NO, NO, NO, NO, NO]),
@@ -258,7 +258,7 @@ fn meant_by_framing(refusal: FramingRefusal) -> Meaning<'static> {
 // The name of a refusal, and what it holds.
 pub(crate) fn meant_by_bad(bad: &Bad) -> Meaning<'_> {
     match bad {
-        Bad::Framing(refusal) => meant_by_framing(*refusal),
+        Bad::Framing(refusal) => meant_by_framing(refusal),
         Bad::NoRoute => ("NoRoute", [NO, NO, NO, NO, NO]),
         Bad::BadMethod => ("BadMethod", [NO, NO, NO, NO, NO]),
         Bad::NotAMonth => ("NotAMonth", [NO, NO, NO, NO, NO]),
