@@ -19,7 +19,7 @@ DOCUMENTS = [live.ROOT / "README.md", live.ROOT / "CHANGELOG.md", *sorted((live.
 LEFT_OUT = {
     "apt-get": "needs root, and a package: package.sh",
     "list-object-versions": "needs a store: test_import_versions.py, test_lifecycle_tool.py",
-    "photos.map": "needs a store: test_beside_a_store.py",
+    "store.map": "needs a store: test_beside_a_store.py",
     "dd of=": "needs a damaged journal: backup.sh",
 }
 
