@@ -271,6 +271,14 @@ class Follow(live.Case):
             self.check(f"--ask-store by {client}: {notes}", 0, status)
             newest = self.ask("GET", "/buckets/many/objects/cold")[1]["versions"][0]
             self.check(f"the class and the tags that {client} told", ("STANDARD_IA", {"a": "b"}), (newest["class"], newest["tags"]))
+        store.s3.put_object_tagging(Bucket="many", Key="cold", VersionId=made["VersionId"], Tagging={"TagSet": [{"Key": "c", "Value": "d"}]})
+        path, count = self.file("tagged", lines(event("ObjectTagging:Put", "many", "cold", version=made["VersionId"]))), len(entries_of(self.server.folder))
+        for turn, more in (("once", 1), ("again", 1)):
+            path.touch()
+            self.map.with_name("again").write_bytes(path.read_bytes())
+            status, notes = self.follow("--ask-store", "--endpoint-url", store.url, path if turn == "once" else "again")
+            newest = self.ask("GET", "/buckets/many/objects/cold")[1]["versions"][0]
+            self.check(f"new tags, {turn}: {notes}", (0, {"c": "d"}, count + more), (status, newest["tags"], len(entries_of(self.server.folder))))
 
 
 if __name__ == "__main__":

@@ -13,7 +13,7 @@ import typing
 
 from asking import Stop, reason
 from entries import CLASSES
-from events import MARKER, PUT, REMOVE, Bad, Event, event_of, records_of, text_of
+from events import MARKER, PUT, REMOVE, TAGS, Bad, Event, event_of, records_of, text_of
 from files import atomic_write
 from sending import bucket_target
 from sweeping import target_of
@@ -89,6 +89,7 @@ class Follow:
         named, tags = event.storage_class, {}
         if self.store:
             named, tags = self.store.about(event.bucket, event.key, event.version)
+            tags = tags or {}
         named = named or self.given.storage_class
         if named not in CLASSES and self.given.nearest:
             self.mapped[named] += 1
@@ -110,6 +111,8 @@ class Follow:
         if (bucket, key, version) in self.new:
             raise Later
         known = self.ids.number_of(bucket, key, version) if version else None
+        if event.what == TAGS:
+            return self.asks_of_tags(event, known or (None if is_real else "null"))
         is_late = event.sequencer <= self.last_of(bucket, key)
         if event.what == REMOVE and version:
             if is_real and known is None:
@@ -126,6 +129,18 @@ class Follow:
         # In a suspended bucket the null version that an import brought has a number, and is replaced too.
         first = [ask_remove(event, known)] if known not in (None, "null") else []
         return [*first, ask_put(event, *self.class_of(event)) if event.what == PUT else ask_delete(event)]
+
+    def asks_of_tags(self, event, number):
+        """The tags that a version has at the store now, if it has others here."""
+        if number is None:
+            raise Dead("this version id is not in the map")
+        tags = self.store.about(event.bucket, event.key, event.version)[1]
+        status, stack = self.office.ask("GET", target_of(event.bucket, "objects", event.key))
+        here = [it.get("tags") for it in (stack.get("versions") if status == 200 else None) or [] if it.get("version") == number]
+        if tags is None or not here or here[0] == tags:
+            return []
+        fields = field(event.key) + (0 if number == "null" else int(number)).to_bytes(8, "big")
+        return [Ask("PUT", target_of(event.bucket, f"tags/{number}", event.key), {"tags": tags}, 0x08, fields)]
 
     def last_of(self, bucket, key):
         """The sequencer of the latest event of a key that was done."""
@@ -156,7 +171,7 @@ class Follow:
         if not isinstance(it, Event):
             self.bury(*it)
             return True
-        if it.what not in (PUT, MARKER, REMOVE):
+        if it.what not in (PUT, MARKER, REMOVE) and not (it.what == TAGS and self.store):
             self.counts[it.what] += 1
             return True
         try:
@@ -169,8 +184,9 @@ class Follow:
             self.ids.do("delete from dead where event = ?", text_of(it.raw))
             return True
         group.append((it, asks))
-        self.last[it.bucket, it.key] = max(it.sequencer, self.last_of(it.bucket, it.key))
-        if it.what != REMOVE:
+        if it.what != TAGS:
+            self.last[it.bucket, it.key] = max(it.sequencer, self.last_of(it.bucket, it.key))
+        if it.what in (PUT, MARKER):
             self.new.add((it.bucket, it.key, it.version))
         return True
 
@@ -211,7 +227,7 @@ class Follow:
 
     def settle(self, event, status, found):
         """Keeps what came of an event."""
-        if status == 404 and event.what == REMOVE:
+        if status == 404 and event.what in (REMOVE, TAGS):
             self.counts[GONE] += 1
         elif status not in (200, 201):
             return self.bury(event.raw, f"refused: {reason(status, found)}")
@@ -221,9 +237,11 @@ class Follow:
                 self.ids.keep(event.bucket, event.key, event.version or "null", found.get("version"), event.size, event.etag)
             elif event.what == MARKER and event.version:
                 self.ids.keep(event.bucket, event.key, event.version, found.get("marker"))
+        self.ids.do("delete from dead where event = ?", text_of(event.raw))
+        if event.what == TAGS:
+            return
         self.ids.do("insert or replace into sequencers values (?, ?, max(?, coalesce((select sequencer from sequencers where bucket = ? "
                     "and key = ?), '')))", event.bucket, event.key, event.sequencer, event.bucket, event.key)
-        self.ids.do("delete from dead where event = ?", text_of(event.raw))
 
     def bury(self, raw, why):
         """Puts an event among the dead letters, once; they are kept with what comes next."""
