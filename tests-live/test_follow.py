@@ -195,6 +195,26 @@ class Follow(live.Case):
         self.check("the same words go on", 0, self.follow(path)[0])
         self.check_all("killed", records)
 
+    def test_an_older_journal(self):
+        """A copy of the journal is brought back: what was done since is lost, and its numbers are given to others."""
+        records = self.some(10)
+        self.check("before the copy", 0, self.follow(self.file("first", lines(*records[:6])))[0])
+        copy = self.journal.read_bytes()
+        self.check("behind the copy", 0, self.follow(self.file("second", lines(*records[6:])))[0])
+        self.server.stop()
+        self.journal.write_bytes(copy)
+        port = self.server.port
+        self.server = self.serve()
+        with sqlite3.connect(self.map) as link:
+            link.execute("update about set value = replace(value, ?, ?) where name = 'office'", (f":{port}", f":{self.server.port}"))
+        self.at = f"http://127.0.0.1:{self.server.port}"
+        again = self.file("again", lines(*records[6:]))
+        self.check("is refused", (3, 6), (self.follow(again)[0], len(self.done())))
+        status, notes = self.follow("--restored", again)
+        self.check(f"--restored: {notes}", (0, True), (status, "of 10 versions in the map 4 are not here" in notes))
+        self.check_all("brought back", records)
+        self.check("and goes on", (0, 10), (self.follow(again)[0], len(self.done())))
+
     def test_two_at_once(self):
         tool = subprocess.Popen([live.TOOLS / "follow", *self.words("-")], stdin=subprocess.PIPE, cwd=self.folder, stderr=subprocess.DEVNULL)
         self.addCleanup(tool.wait)

@@ -89,7 +89,7 @@ class Apply:
         if it["version"] == "null" and (known is None or known[0] == "null"):
             return self.remove_null(it, known)
         if known is None:
-            raise No(f"the map has no id for version {it['version']}")
+            raise No(f"the map has no id for version {it['version']}, or two")
         version, size, _ = known
         found = self.head(it, version)
         if found is None:

@@ -199,10 +199,10 @@ class Follow:
             return
         self.tail.read(self.journal)
         with self.ids.change():
-            before = sample_of(self.journal, self.tail.gate)
+            self.ids.do("insert or replace into place values (0, ?, ?)", self.tail.gate, sample_of(self.journal, self.tail.gate))
             for place, (it, asks) in enumerate(group):
-                self.ids.do("insert into intents values (?, ?, ?, ?)", place, self.tail.gate, before,
-                            json.dumps({"event": it.raw, "last": [asks[-1].kind, asks[-1].fields.hex()]}))
+                last = [asks[-1].kind, asks[-1].fields.hex()]
+                self.ids.do("insert into intents values (?, ?, ?)", place, self.tail.gate, json.dumps({"event": it.raw, "last": last}))
         done = []
         try:
             for it, asks in group:
@@ -213,6 +213,7 @@ class Follow:
                     self.settle(it, *said)
                     self.ids.do("delete from intents where place = ?", place)
                 self.keep_buried()
+                self.keep_place()
             self.last, self.new = {}, set()
 
     def ask(self, event, asks):
@@ -257,19 +258,49 @@ class Follow:
 
     # ---- after a stop
 
+    def check_journal(self):
+        """Ends the tool if the journal has not what it had when the map was last kept: numbers of the map may be others' then."""
+        found = self.ids.do("select gate, before from place").fetchone()
+        if found and sample_of(self.journal, found[0]) != found[1]:
+            raise Stop(3, f"{self.given.journal} is not the journal of the last run, or an older copy of it was brought back; see --restored")
+
+    def forget(self):
+        """Takes the journal as it is: what the map knows and the program has not is forgotten."""
+        rows = self.ids.do("select bucket, key, id, number, size from versions order by bucket, key").fetchall()
+        gone, key_before, here = [], None, set()
+        for bucket, key, version, number, size in rows:
+            if (bucket, key) != key_before:
+                key_before = (bucket, key)
+                status, stack = self.office.ask("GET", target_of(bucket, "objects", key))
+                if status not in (200, 400, 404):
+                    raise Stop(2, f"bucket {bucket}: {reason(status, stack)}")
+                here = {(it.get("version"), it.get("size")) for it in stack.get("versions") or []}
+            if (number, size) not in here:
+                gone.append((bucket, key, version))
+        with self.ids.change():
+            for bucket, key, version in gone:
+                self.ids.do("delete from versions where bucket = ? and key = ? and id = ?", bucket, key, version)
+                self.ids.do("delete from sequencers where bucket = ? and key = ?", bucket, key)
+            for table in ("intents", "place"):
+                self.ids.do(f"delete from {table}")
+        print(f"follow: of {len(rows)} versions in the map {len(gone)} are not here, and were forgotten", file=sys.stderr)
+
+    def keep_place(self):
+        """Notes what the journal has now."""
+        self.tail.read(self.journal)
+        self.ids.do("insert or replace into place values (0, ?, ?)", self.tail.gate, sample_of(self.journal, self.tail.gate))
+
     def resume(self):
         """Finds in the journal which events of the last run were done, and does the others."""
-        rows = self.ids.do("select place, gate, before, event from intents order by place").fetchall()
+        rows = self.ids.do("select place, gate, event from intents order by place").fetchall()
         if not rows:
             return
-        gate, before = rows[0][1:3]
-        if sample_of(self.journal, gate) != before:
-            raise Stop(3, f"{self.ids.path}: its last run was beside another journal than {self.given.journal}")
+        gate = rows[0][1]
         entries, tail = [], Tail(self.given.journal)
         tail.gate, tail.count = gate, 1
         tail.read(self.journal, lambda _, moment, kind, fields: kind < ACT and entries.append((moment, kind, fields)))
         left, at, found = [], 0, 0
-        for place, _, _, text in rows:
+        for place, _, text in rows:
             kept = json.loads(text)
             event, (kind, fields) = event_of(kept["event"]), kept["last"]
             wanted = field(event.bucket) + bytes.fromhex(fields)
