@@ -282,6 +282,9 @@ class Follow(live.Case):
             self.check("its messages are not deleted", True, int(about["ApproximateNumberOfMessages"]) + int(about["ApproximateNumberOfMessagesNotVisible"]) == 25)
             self.check("the others", 0, self.follow(*words, at=f"http://127.0.0.1:{odd.port}")[0])
         self.check("they were done, too, though the queue has them still", True, len(self.done()) == len({it[1:] for it in self.done()}) == 25)
+        for client in ("boto3", "aws") if live.has("aws") else ("boto3",):
+            status, notes = self.follow("--queue", f"{queue}-none", "--client", client, "--endpoint-url", store.url, at=f"http://127.0.0.1:{odd.port}")
+            self.check(f"no such queue, by {client}: {notes}", (2, True), (status, "the queue refuses receive-message" in notes))
         store.bucket("many", "Enabled")
         made = store.s3.put_object(Bucket="many", Key="cold", Body=b"x", StorageClass="STANDARD_IA", Tagging="a=b")
         for client in ("boto3", "aws") if live.has("aws") else ("boto3",):

@@ -51,7 +51,7 @@ class Store:
                  "--cli-input-json", json.dumps(fields)]
         done = subprocess.run(words, stdin=subprocess.DEVNULL, capture_output=True, text=True, check=False)
         if done.returncode:
-            code = re.search(r"An error occurred \((\w+)\)", done.stderr)
+            code = re.search(r"An error occurred \(([\w.]+)\)", done.stderr)
             if code:
                 raise Refused(code[1])
             raise Stop(2, f"the store gave no reply to {operation}: {done.stderr.strip().splitlines()[-1:]}")
