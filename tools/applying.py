@@ -1,6 +1,7 @@
 """Does at an object store what the lines of act-all --log say, each line once; for apply.
 
-A line is compared with the store before it is done: what a client put there since is never removed or hidden.
+A line is compared with the store before it is done, and refused if a client put something there since. A put in the moment between
+the look and a delete marker comes below that marker: hidden, and not lost. A removal names a version, or the ETag that was seen.
 """
 import collections
 import json
