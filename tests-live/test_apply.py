@@ -120,9 +120,13 @@ class Apply(live.Case):
         self.write(line("many", "k", "marker", version="1", marker="9"), line("plain", "late", "remove", version="null", since=BEFORE),
                    line("plain", "other", "remove", version="null"), line("many", "size", "remove", version="2"), line("many", "k", "remove", version="7"),
                    line("many", "k", "abort", upload=5), line("many", "k", "unknown"))
+        twice = self.put("many", "twice", 3, "8")
+        self.ids.keep("many", "twice", "another id with this number", "8", 3)
+        self.write(self.log.read_text("utf-8"), line("many", "twice", "remove", version="8"))
         before = (self.has("many"), self.has("plain"))
         status, how, notes = self.apply("--yes")
-        self.check(f"all are refused: {notes}", (5, ["refused"] * 7, before), (status, how, (self.has("many"), self.has("plain"))))
+        self.check(f"a number that two ids have: {twice}", True, "refused 8" in notes)
+        self.check(f"all are refused: {notes}", (5, ["refused"] * 8, before), (status, how, (self.has("many"), self.has("plain"))))
         self.store.remove("many", "k", old)
         self.write(line("many", "k", "remove", version="1"), line("plain", "none", "remove", version="null"))
         self.check("what is gone already", (0, ["there already"] * 2), self.apply("--yes")[:2])

@@ -195,6 +195,26 @@ class Follow(live.Case):
         self.check("the same words go on", 0, self.follow(path)[0])
         self.check_all("killed", records)
 
+    def test_an_older_journal(self):
+        """A copy of the journal is brought back: what was done since is lost, and its numbers are given to others."""
+        records = self.some(10)
+        self.check("before the copy", 0, self.follow(self.file("first", lines(*records[:6])))[0])
+        copy = self.journal.read_bytes()
+        self.check("behind the copy", 0, self.follow(self.file("second", lines(*records[6:])))[0])
+        self.server.stop()
+        self.journal.write_bytes(copy)
+        port = self.server.port
+        self.server = self.serve()
+        with sqlite3.connect(self.map) as link:
+            link.execute("update about set value = replace(value, ?, ?) where name = 'office'", (f":{port}", f":{self.server.port}"))
+        self.at = f"http://127.0.0.1:{self.server.port}"
+        again = self.file("again", lines(*records[6:]))
+        self.check("is refused", (3, 6), (self.follow(again)[0], len(self.done())))
+        status, notes = self.follow("--restored", again)
+        self.check(f"--restored: {notes}", (0, True), (status, "of 10 versions in the map 4 are not here" in notes))
+        self.check_all("brought back", records)
+        self.check("and goes on", (0, 10), (self.follow(again)[0], len(self.done())))
+
     def test_two_at_once(self):
         tool = subprocess.Popen([live.TOOLS / "follow", *self.words("-")], stdin=subprocess.PIPE, cwd=self.folder, stderr=subprocess.DEVNULL)
         self.addCleanup(tool.wait)
@@ -262,6 +282,9 @@ class Follow(live.Case):
             self.check("its messages are not deleted", True, int(about["ApproximateNumberOfMessages"]) + int(about["ApproximateNumberOfMessagesNotVisible"]) == 25)
             self.check("the others", 0, self.follow(*words, at=f"http://127.0.0.1:{odd.port}")[0])
         self.check("they were done, too, though the queue has them still", True, len(self.done()) == len({it[1:] for it in self.done()}) == 25)
+        for client in ("boto3", "aws") if live.has("aws") else ("boto3",):
+            status, notes = self.follow("--queue", f"{queue}-none", "--client", client, "--endpoint-url", store.url, at=f"http://127.0.0.1:{odd.port}")
+            self.check(f"no such queue, by {client}: {notes}", (2, True), (status, "the queue refuses receive-message" in notes))
         store.bucket("many", "Enabled")
         made = store.s3.put_object(Bucket="many", Key="cold", Body=b"x", StorageClass="STANDARD_IA", Tagging="a=b")
         for client in ("boto3", "aws") if live.has("aws") else ("boto3",):
@@ -271,6 +294,14 @@ class Follow(live.Case):
             self.check(f"--ask-store by {client}: {notes}", 0, status)
             newest = self.ask("GET", "/buckets/many/objects/cold")[1]["versions"][0]
             self.check(f"the class and the tags that {client} told", ("STANDARD_IA", {"a": "b"}), (newest["class"], newest["tags"]))
+        store.s3.put_object_tagging(Bucket="many", Key="cold", VersionId=made["VersionId"], Tagging={"TagSet": [{"Key": "c", "Value": "d"}]})
+        path, count = self.file("tagged", lines(event("ObjectTagging:Put", "many", "cold", version=made["VersionId"]))), len(entries_of(self.server.folder))
+        for turn, more in (("once", 1), ("again", 1)):
+            path.touch()
+            self.map.with_name("again").write_bytes(path.read_bytes())
+            status, notes = self.follow("--ask-store", "--endpoint-url", store.url, path if turn == "once" else "again")
+            newest = self.ask("GET", "/buckets/many/objects/cold")[1]["versions"][0]
+            self.check(f"new tags, {turn}: {notes}", (0, {"c": "d"}, count + more), (status, newest["tags"], len(entries_of(self.server.folder))))
 
 
 if __name__ == "__main__":

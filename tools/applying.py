@@ -1,6 +1,7 @@
 """Does at an object store what the lines of act-all --log say, each line once; for apply.
 
-A line is compared with the store before it is done: what a client put there since is never removed or hidden.
+A line is compared with the store before it is done, and refused if a client put something there since. A put in the moment between
+the look and a delete marker comes below that marker: hidden, and not lost. A removal names a version, or the ETag that was seen.
 """
 import collections
 import json
@@ -89,7 +90,7 @@ class Apply:
         if it["version"] == "null" and (known is None or known[0] == "null"):
             return self.remove_null(it, known)
         if known is None:
-            raise No(f"the map has no id for version {it['version']}")
+            raise No(f"the map has no id for version {it['version']}, or two")
         version, size, _ = known
         found = self.head(it, version)
         if found is None:

@@ -13,7 +13,7 @@ import typing
 
 from asking import Stop, reason
 from entries import CLASSES
-from events import MARKER, PUT, REMOVE, Bad, Event, event_of, records_of, text_of
+from events import MARKER, PUT, REMOVE, TAGS, Bad, Event, event_of, records_of, text_of
 from files import atomic_write
 from sending import bucket_target
 from sweeping import target_of
@@ -89,6 +89,7 @@ class Follow:
         named, tags = event.storage_class, {}
         if self.store:
             named, tags = self.store.about(event.bucket, event.key, event.version)
+            tags = tags or {}
         named = named or self.given.storage_class
         if named not in CLASSES and self.given.nearest:
             self.mapped[named] += 1
@@ -110,6 +111,8 @@ class Follow:
         if (bucket, key, version) in self.new:
             raise Later
         known = self.ids.number_of(bucket, key, version) if version else None
+        if event.what == TAGS:
+            return self.asks_of_tags(event, known or (None if is_real else "null"))
         is_late = event.sequencer <= self.last_of(bucket, key)
         if event.what == REMOVE and version:
             if is_real and known is None:
@@ -126,6 +129,18 @@ class Follow:
         # In a suspended bucket the null version that an import brought has a number, and is replaced too.
         first = [ask_remove(event, known)] if known not in (None, "null") else []
         return [*first, ask_put(event, *self.class_of(event)) if event.what == PUT else ask_delete(event)]
+
+    def asks_of_tags(self, event, number):
+        """The tags that a version has at the store now, if it has others here."""
+        if number is None:
+            raise Dead("this version id is not in the map")
+        tags = self.store.about(event.bucket, event.key, event.version)[1]
+        status, stack = self.office.ask("GET", target_of(event.bucket, "objects", event.key))
+        here = [it.get("tags") for it in (stack.get("versions") if status == 200 else None) or [] if it.get("version") == number]
+        if tags is None or not here or here[0] == tags:
+            return []
+        fields = field(event.key) + (0 if number == "null" else int(number)).to_bytes(8, "big")
+        return [Ask("PUT", target_of(event.bucket, f"tags/{number}", event.key), {"tags": tags}, 0x08, fields)]
 
     def last_of(self, bucket, key):
         """The sequencer of the latest event of a key that was done."""
@@ -156,7 +171,7 @@ class Follow:
         if not isinstance(it, Event):
             self.bury(*it)
             return True
-        if it.what not in (PUT, MARKER, REMOVE):
+        if it.what not in (PUT, MARKER, REMOVE) and not (it.what == TAGS and self.store):
             self.counts[it.what] += 1
             return True
         try:
@@ -169,8 +184,9 @@ class Follow:
             self.ids.do("delete from dead where event = ?", text_of(it.raw))
             return True
         group.append((it, asks))
-        self.last[it.bucket, it.key] = max(it.sequencer, self.last_of(it.bucket, it.key))
-        if it.what != REMOVE:
+        if it.what != TAGS:
+            self.last[it.bucket, it.key] = max(it.sequencer, self.last_of(it.bucket, it.key))
+        if it.what in (PUT, MARKER):
             self.new.add((it.bucket, it.key, it.version))
         return True
 
@@ -183,10 +199,10 @@ class Follow:
             return
         self.tail.read(self.journal)
         with self.ids.change():
-            before = sample_of(self.journal, self.tail.gate)
+            self.ids.do("insert or replace into place values (0, ?, ?)", self.tail.gate, sample_of(self.journal, self.tail.gate))
             for place, (it, asks) in enumerate(group):
-                self.ids.do("insert into intents values (?, ?, ?, ?)", place, self.tail.gate, before,
-                            json.dumps({"event": it.raw, "last": [asks[-1].kind, asks[-1].fields.hex()]}))
+                last = [asks[-1].kind, asks[-1].fields.hex()]
+                self.ids.do("insert into intents values (?, ?, ?)", place, self.tail.gate, json.dumps({"event": it.raw, "last": last}))
         done = []
         try:
             for it, asks in group:
@@ -197,6 +213,7 @@ class Follow:
                     self.settle(it, *said)
                     self.ids.do("delete from intents where place = ?", place)
                 self.keep_buried()
+                self.keep_place()
             self.last, self.new = {}, set()
 
     def ask(self, event, asks):
@@ -211,7 +228,7 @@ class Follow:
 
     def settle(self, event, status, found):
         """Keeps what came of an event."""
-        if status == 404 and event.what == REMOVE and found.get("error") != "NoRoute":
+        if status == 404 and event.what in (REMOVE, TAGS) and found.get("error") != "NoRoute":
             self.counts[GONE] += 1
         elif status not in (200, 201):
             return self.bury(event.raw, f"refused: {reason(status, found)}")
@@ -221,9 +238,11 @@ class Follow:
                 self.ids.keep(event.bucket, event.key, event.version or "null", found.get("version"), event.size, event.etag)
             elif event.what == MARKER and event.version:
                 self.ids.keep(event.bucket, event.key, event.version, found.get("marker"))
+        self.ids.do("delete from dead where event = ?", text_of(event.raw))
+        if event.what == TAGS:
+            return
         self.ids.do("insert or replace into sequencers values (?, ?, max(?, coalesce((select sequencer from sequencers where bucket = ? "
                     "and key = ?), '')))", event.bucket, event.key, event.sequencer, event.bucket, event.key)
-        self.ids.do("delete from dead where event = ?", text_of(event.raw))
 
     def bury(self, raw, why):
         """Puts an event among the dead letters, once; they are kept with what comes next."""
@@ -239,19 +258,49 @@ class Follow:
 
     # ---- after a stop
 
+    def check_journal(self):
+        """Ends the tool if the journal has not what it had when the map was last kept: numbers of the map may be others' then."""
+        found = self.ids.do("select gate, before from place").fetchone()
+        if found and sample_of(self.journal, found[0]) != found[1]:
+            raise Stop(3, f"{self.given.journal} is not the journal of the last run, or an older copy of it was brought back; see --restored")
+
+    def forget(self):
+        """Takes the journal as it is: what the map knows and the program has not is forgotten."""
+        rows = self.ids.do("select bucket, key, id, number, size from versions order by bucket, key").fetchall()
+        gone, key_before, here = [], None, set()
+        for bucket, key, version, number, size in rows:
+            if (bucket, key) != key_before:
+                key_before = (bucket, key)
+                status, stack = self.office.ask("GET", target_of(bucket, "objects", key))
+                if status not in (200, 400, 404):
+                    raise Stop(2, f"bucket {bucket}: {reason(status, stack)}")
+                here = {(it.get("version"), it.get("size")) for it in stack.get("versions") or []}
+            if (number, size) not in here:
+                gone.append((bucket, key, version))
+        with self.ids.change():
+            for bucket, key, version in gone:
+                self.ids.do("delete from versions where bucket = ? and key = ? and id = ?", bucket, key, version)
+                self.ids.do("delete from sequencers where bucket = ? and key = ?", bucket, key)
+            for table in ("intents", "place"):
+                self.ids.do(f"delete from {table}")
+        print(f"follow: of {len(rows)} versions in the map {len(gone)} are not here, and were forgotten", file=sys.stderr)
+
+    def keep_place(self):
+        """Notes what the journal has now."""
+        self.tail.read(self.journal)
+        self.ids.do("insert or replace into place values (0, ?, ?)", self.tail.gate, sample_of(self.journal, self.tail.gate))
+
     def resume(self):
         """Finds in the journal which events of the last run were done, and does the others."""
-        rows = self.ids.do("select place, gate, before, event from intents order by place").fetchall()
+        rows = self.ids.do("select place, gate, event from intents order by place").fetchall()
         if not rows:
             return
-        gate, before = rows[0][1:3]
-        if sample_of(self.journal, gate) != before:
-            raise Stop(3, f"{self.ids.path}: its last run was beside another journal than {self.given.journal}")
+        gate = rows[0][1]
         entries, tail = [], Tail(self.given.journal)
         tail.gate, tail.count = gate, 1
         tail.read(self.journal, lambda _, moment, kind, fields: kind < ACT and entries.append((moment, kind, fields)))
         left, at, found = [], 0, 0
-        for place, _, _, text in rows:
+        for place, _, text in rows:
             kept = json.loads(text)
             event, (kind, fields) = event_of(kept["event"]), kept["last"]
             wanted = field(event.bucket) + bytes.fromhex(fields)

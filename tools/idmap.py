@@ -17,7 +17,8 @@ create table if not exists versions (bucket text, key text, id text, number text
 create index if not exists versions_by_number on versions (bucket, key, number);
 create table if not exists uploads (bucket text, id text, key text not null, number integer, primary key (bucket, id));
 create table if not exists sequencers (bucket text, key text, sequencer text not null, primary key (bucket, key));
-create table if not exists intents (place integer primary key, gate integer not null, before text not null, event text not null);
+create table if not exists intents (place integer primary key, gate integer not null, event text not null);
+create table if not exists place (one integer primary key, gate integer not null, before text not null);
 create table if not exists dead (place integer primary key autoincrement, event text unique, why text not null);
 create table if not exists files (path text primary key, file text not null, offset integer not null, before text not null);
 create table if not exists applied (action text primary key, how text not null);
@@ -103,8 +104,9 @@ class IdMap:
         return self.one("select number from versions where bucket = ? and key = ? and id = ?", bucket, key, version)
 
     def version_of(self, bucket, key, number):
-        """The store's id of a version, its size and its ETag; nothing if it is unknown."""
-        return self.do("select id, size, etag from versions where bucket = ? and key = ? and number = ?", bucket, key, number).fetchone()
+        """The store's id of a version, its size and its ETag; nothing if it is unknown, or if two ids have this number."""
+        rows = self.do("select id, size, etag from versions where bucket = ? and key = ? and number = ?", bucket, key, number).fetchall()
+        return rows[0] if len(rows) == 1 else None
 
     def keep_upload(self, bucket, version, key, number):
         self.do("insert or replace into uploads values (?, ?, ?, ?)", bucket, version, key, number)

@@ -51,7 +51,7 @@ class Store:
                  "--cli-input-json", json.dumps(fields)]
         done = subprocess.run(words, stdin=subprocess.DEVNULL, capture_output=True, text=True, check=False)
         if done.returncode:
-            code = re.search(r"An error occurred \((\w+)\)", done.stderr)
+            code = re.search(r"An error occurred \(([\w.]+)\)", done.stderr)
             if code:
                 raise Refused(code[1])
             raise Stop(2, f"the store gave no reply to {operation}: {done.stderr.strip().splitlines()[-1:]}")
@@ -61,14 +61,14 @@ class Store:
             raise Stop(2, f"aws {operation} printed no JSON") from None
 
     def about(self, bucket, key, version):
-        """The class and the tags of an object now; nothing and no tags if it is gone."""
+        """The class and the tags of an object now; nothing if it is gone."""
         one = {"Bucket": bucket, "Key": key, **({"VersionId": version} if version else {})}
         try:
             named = self.call("s3api", "head-object", **one).get("StorageClass") or "STANDARD"
             tags = self.call("s3api", "get-object-tagging", **one).get("TagSet") or []
         except Refused as why:
             if str(why) in ("404", "405", "NoSuchKey", "NoSuchVersion", "MethodNotAllowed"):
-                return None, {}
+                return None, None
             raise Stop(2, f"the store refuses to tell of bucket {bucket}: {why}") from None
         return named, {it["Key"]: it["Value"] for it in tags}
 

@@ -70,7 +70,7 @@ _office_tool() {
         choices='--server --out --schema --bucket --keys --current --suspended --names --state --map --nearest --tags --uploads --parts --help'
         ;;
     -*,office-follow)
-        choices='--server --journal --map --bucket --class --nearest --dead --retry --listen --queue --ask-store --endpoint-url --client --help'
+        choices='--server --journal --map --bucket --class --nearest --dead --retry --restored --listen --queue --ask-store --endpoint-url --client --help'
         ;;
     -*,office-compare) choices='--server --journal --map --current --nearest --schema --keys --names --json --help' ;;
     -*,office-apply) choices='--map --endpoint-url --client --bucket --yes --limit --report --help' ;;
