@@ -1,8 +1,8 @@
 use Rattle.std.proofs.Common.{sym, subst}
 use Rattle.meter_journal.specs.declared.fault.OpenFault.{OpenFault}
-use Rattle.office_program.specs.Lines.{fault_note}
-use Rattle.office_program.specs.Running.{IsNoted}
-use Rattle.office_program.proofs.lines.note_fault.Goals as goal
+use Rattle.office_commands.specs.Lines.{fault_note}
+use Rattle.office_commands.specs.Running.{IsNoted}
+use Rattle.office_commands.proofs.lines.note_fault.Goals as goal
 
 pub returns-in-NotMade-clause-noted : goal.returns-in-NotMade-clause-noted
 unfolding fault_note
