@@ -16,13 +16,14 @@ use Rattle.desk_core.proofs.Serving.{rose_later}
 use Rattle.http_wire.specs.declared.source.Source as sources
 use Rattle.http_wire.specs.Answers.{Gave as GaveTo, TakesFew}
 use Rattle.http_wire.specs.Held.{Held, head_room, take_limit}
-use Rattle.http_wire.specs.Messages.{Framed, IsUnsettled, Messages}
+use Rattle.http_wire.specs.Messages as wire
+use Rattle.http_wire.specs.Messages.{Framed, IsUnsettled, ends_session, Messages}
 use Rattle.http_wire.specs.declared.framing.FramingRefusal.{FramingRefusal}
 use Rattle.http_wire.proofs.Unique.{messages_unique}
 use Rattle.http_wire.proofs.MessageLemmas.{unsettled_front}
 use Rattle.http_asks.specs.Counts.{Given, AreEnough}
 use Rattle.http_asks.specs.Meaning.{Refused, in_framing, asks, refuses}
-use Rattle.http_asks.specs.Streams.{IsItem, StandsItem, BeginWith}
+use Rattle.http_asks.specs.Streams.{IsItem, StandsItem, IsFirst, BeginWith}
 use Rattle.http_asks.proofs.HeardLemmas.{items_are_messages}
 use Rattle.http_asks.specs.Faults.{refused_of}
 use Rattle.http_asks.specs.Tells.{TellsRefused, IfFramed, OnFramed}
@@ -123,12 +124,38 @@ others_none closed rest others (inl how) ended = how.1
 others_none closed rest others (inr how) (inl ended) = absurd (let e = sym ended ∙ how.0 in cc)
 others_none closed rest others (inr how) (inr ended) = none_left rest others ended how.1
 
+-- the message that stands first, and those behind it
+item_then : (stream : List ℕ) (found : Framed) (rest : List ℕ) (later : List Framed) → IsFirst stream found rest
+    → ((ends_session found ≡ true) × (later ≡ [])) ⊎ ((ends_session found ≡ false) × Messages rest later) → Messages stream (found ∷ later)
+item_then stream (wire.request r) rest later first how = inl (rest, first, how)
+item_then stream (wire.refused bad) rest later first (inr how) = absurd (let e = how.0 in cc)
+item_then stream (wire.refused bad) rest later (inl stands, same) (inl how) = inl ([], stands, inl how)
+item_then stream (wire.refused bad) rest later (inr cut, same) (inl how) = inr (cut.0, ap wire.refused cut.1, how.1)
+
+-- exchanges that close the session, or have nothing behind them, are all messages of the stream
+goes_all : (stream : List ℕ) (exchanges : List Exchange) (rest : List ℕ) (closed : Bool) → Goes stream exchanges rest closed → (closed ≡ true) ⊎ IsAtEnd (Some rest)
+    → (messages : List Framed) × Messages stream messages × AreThen messages exchanges []
+goes_all stream [] rest closed (same, going) (inl ended) = absurd (let e = sym ended ∙ going in cc)
+goes_all stream [] rest closed (same, going) (inr ended) = ([], sym same ∙ ended, refl)
+goes_all stream (exchange ∷ []) rest closed item (inl ended) =
+    (item.found ∷ [], item_then stream item.found rest [] item.first (inl (sym item.ends ∙ ended, refl)), (item.means, refl))
+goes_all stream (exchange ∷ []) rest true item (inr ended) =
+    (item.found ∷ [], item_then stream item.found rest [] item.first (inl (sym item.ends, refl)), (item.means, refl))
+goes_all stream (exchange ∷ []) rest false item (inr ended) =
+    (item.found ∷ [], item_then stream item.found rest [] item.first (inr (sym item.ends, ended)), (item.means, refl))
+goes_all stream (exchange ∷ next ∷ more) rest closed (mid, item, later) ended =
+    let x = goes_all mid (next ∷ more) rest closed later ended in
+    (item.found ∷ x.0, item_then stream item.found mid x.0 item.first (inr (sym item.ends, x.1)), (item.means, x.2))
+
 pub whole_of : (stream rest : Option (List ℕ)) (exchanges : List Exchange) (closed : Bool) (end : SessionEnd) → Hears stream exchanges rest closed
     → (end ≡ ends.Ended → (closed ≡ true) ⊎ IsAtEnd rest) → AreOfWhole stream exchanges end
 whole_of None rest exchanges closed end hears ended = tt
 whole_of (Some stream) None exchanges closed end hears ended = absurd hears
-whole_of (Some stream) (Some rest) exchanges closed end hears ended = λ messages are.
-    let x = goes_whole stream exchanges rest closed messages hears are in (x.0, x.1, λ is. others_none closed rest x.0 x.2 (ended is))
+whole_of (Some stream) (Some rest) exchanges closed end hears ended = record {
+  first = λ messages are.
+      let x = goes_whole stream exchanges rest closed messages hears are in (x.0, x.1, λ is. others_none closed rest x.0 x.2 (ended is));
+  has = λ is. goes_all stream exchanges rest closed hears (ended is);
+}
 
 -- a session that is Ended is closed, or at the end of its stream
 pub ended_at : (total : Option ℕ) (end : SessionEnd) (spoken : Spoken) → IsWritten total end spoken → end ≡ ends.Ended → (spoken.closed ≡ true) ⊎ IsAtEnd spoken.rest

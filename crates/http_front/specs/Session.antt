@@ -136,12 +136,18 @@ EndsWithRequest spoken =
     × ((spoken.closed ≡ true)
     ⊎ ((spoken.whole ≡ spoken.exchanges → ⊥) ⊎ (NoneLacks (calls_of spoken.exchanges) → ⊥)))
 
--- the exchanges are the first messages of the whole stream, in order, and they are all where the session is Ended
+-- The exchanges are the first messages of the whole stream, in order. Where the session is Ended, they are all, and the
+-- stream has them.
+pub record AreOfStream (stream : List ℕ) (exchanges : List Exchange) (end : SessionEnd) : Type 0 where
+  pub first : (messages : List Framed) → Messages stream messages
+      → (others : List Framed) × AreThen messages exchanges others × (end ≡ ends.Ended → others ≡ [])
+  pub has : end ≡ ends.Ended
+      → (messages : List Framed) × Messages stream messages × AreThen messages exchanges []
+
+-- the same of a stream that may not be told
 abbrev pub AreOfWhole : Option (List ℕ) → List Exchange → SessionEnd → Type 0
 AreOfWhole None exchanges end = ⊤
-AreOfWhole (Some stream) exchanges end =
-    (messages : List Framed) → Messages stream messages
-    → (others : List Framed) × AreThen messages exchanges others × (end ≡ ends.Ended → others ≡ [])
+AreOfWhole (Some stream) exchanges end = AreOfStream stream exchanges end
 
 -- The transcript of a session over what was read, of a source with so many bytes in all: what was spoken, and that it
 -- was heard in the stream and written.

@@ -4,6 +4,7 @@ ghost use Rattle.std.specs.Bool.{Decides};
 ghost use Rattle.std.specs.List.{Contains};
 ghost use Rattle.office_base.specs.Faults.{Rose};
 ghost use Rattle.http_text.specs.Replies.{answer_text};
+ghost use Rattle.http_front.specs.Puts.{NotesLine};
 ghost use Rattle.http_front.specs.Texts.{bad_text_of};
 
 use crate::bad::Bad;
@@ -94,7 +95,7 @@ impl MemoryReplies {
 }
 
 impl Replies for MemoryReplies {
-    ghost use Rattle.http_front.specs.MemorySinks.{IsSinkCall, kept_of};
+    ghost use Rattle.http_front.specs.MemorySinks.{IsSinkCall, kept_of, sink_faults, sink_failing, sink_calls};
 
     ghost said = { λ r. Some r.replies.items };
 
@@ -152,7 +153,17 @@ impl Replies for MemoryReplies {
         }
     }
 
-    fn note(&mut self, bytes: &[u8]) {
+    fn note(&mut self, bytes: &[u8])
+        ensures said { ⟦<MemoryReplies as Replies>⟧.said self.new ≡ ⟦<MemoryReplies as Replies>⟧.said self.old }
+        ensures moments { ⟦<MemoryReplies as Replies>⟧.moments self.new
+            ≡ ⟦<MemoryReplies as Replies>⟧.moments self.old }
+        ensures texts { ⟦<MemoryReplies as Replies>⟧.texts self.new ≡ ⟦<MemoryReplies as Replies>⟧.texts self.old }
+        ensures noted { NotesLine (⟦<MemoryReplies as Replies>⟧.noted self.old)
+            (⟦<MemoryReplies as Replies>⟧.noted self.new) bytes.now (sink_faults self.old) (sink_faults self.new) }
+        ensures later { sink_faults self.old ≤ sink_faults self.new }
+        ensures calls { sink_calls self.new ≡ sink_calls self.old }
+        ensures failing { sink_failing self.new ≡ sink_failing self.old }
+    {
         match self.notes.extend_from_slice(bytes) {
             Ok(()) => {}
             Err(_) => self.faults = self.faults.saturating_add(1),
