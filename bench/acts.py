@@ -1,9 +1,10 @@
 #!/usr/bin/env python3
 """What it costs to find the next lifecycle action: python3 bench/acts.py PROGRAM [ROUNDS] [FOLDER]
 
-Over journals in a new folder below FOLDER (/dev/shm) with a bucket of 100 and of 10,000 objects under one rule: questions
-what is due where nothing is, and acts that each remove one object. Prints for each the median of the rounds, in
-microseconds a call; the time of a run without calls is taken off.
+Over journals in a new folder below FOLDER (/dev/shm) with a bucket of 100, of 10,000 and of 200,000 objects under one rule: questions
+what is due where nothing is, and acts that each remove one object. Prints for each the median of the rounds, in microseconds a call; the
+time of a run without calls is taken off. Last comes a sweep of 200,000 objects, and the opening of the journal that it leaves beside
+the opening of the journal of puts alone, in entries a second.
 """
 import json
 import statistics
@@ -13,7 +14,7 @@ import tempfile
 import time
 from pathlib import Path
 
-DAY, MOMENT, DUE, ACTS = 86_400_000, 1_704_067_200_000, 400, 50
+DAY, MOMENT, DUE, ACTS = 86_400_000, 1_704_067_200_000, 20_000, 5_000
 
 
 def place(text):
@@ -51,12 +52,29 @@ def micros(program, file, message, count, answer, below):
     return (taken - empty) / count * 1e6
 
 
+def sweep(program, count, below):
+    """Does all that is due in a bucket, and opens the journals from before and after."""
+    entries = count + 2
+    with tempfile.TemporaryDirectory(dir=below) as folder:
+        Path(folder, "office-data").mkdir()
+        place = Path(folder, "office-data/journal")
+        place.write_bytes(journal(count, {"Days": 1}))
+        taken = []
+        for sent in (b"", b"POST /buckets/logs/act HTTP/1.1\r\n\r\n" * count, b""):
+            started = time.monotonic()
+            subprocess.run([program, "run"], cwd=folder, input=sent, stdout=subprocess.DEVNULL, check=True)
+            taken.append(time.monotonic() - started)
+    puts, acts, both = taken
+    print(f"sweep {count} acts_s {acts - puts:.2f} puts_opened_a_second {entries / puts:.0f} puts_and_acts_opened_a_second {(entries + count) / both:.0f}")
+
+
 def main(program, rounds, below):
-    for count in (100, 10_000):
-        never, now = journal(count, {"Days": 365 * 70}), journal(count, {"Days": 1})
+    for count in (100, 10_000, 200_000):
+        never, now, acts_made = journal(count, {"Days": 365 * 70}), journal(count, {"Days": 1}), min(count - 10, ACTS)
         asks = [micros(program, never, b"GET /buckets/logs/due HTTP/1.1\r\n\r\n", DUE, b'{"action":"none"}', below) for _ in range(rounds)]
-        acts = [micros(program, now, b"POST /buckets/logs/act HTTP/1.1\r\n\r\n", ACTS, b'{"action":"remove"', below) for _ in range(rounds)]
-        print(f"objects {count} nothing_due_us {statistics.median(asks):.0f} act_us {statistics.median(acts):.0f}")
+        acts = [micros(program, now, b"POST /buckets/logs/act HTTP/1.1\r\n\r\n", acts_made, b'{"action":"remove"', below) for _ in range(rounds)]
+        print(f"objects {count} nothing_due_us {statistics.median(asks):.1f} act_us {statistics.median(acts):.1f}")
+    sweep(program, 200_000, below)
 
 
 if __name__ == "__main__":
