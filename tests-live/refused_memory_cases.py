@@ -6,8 +6,10 @@ report and a table of stays are whole, or a front of them was said."""
 import os
 import pathlib
 import shutil
+import socket
 import subprocess
 import sys
+import time
 
 PROGRAM, FOLDER = sys.argv[1], pathlib.Path(sys.argv[2])
 COUNTED, DATA = FOLDER / "counted", FOLDER / "run" / "office-data"
@@ -34,13 +36,39 @@ def message(start, body):
     return start + b" HTTP/1.1\r\nHost: office\r\nContent-Length: %d\r\n\r\n" % len(body) + body
 
 
-def office(words, sent=b"", refused=0):
-    """Runs the program, which allocates without the allocation of this number."""
+def surroundings(refused):
+    """The environment in which the program allocates without the allocation of this number."""
     COUNTED.unlink(missing_ok=True)
-    rest = {"LD_PRELOAD": str(FOLDER / "refused_memory.so"), "REFUSED": str(refused), "COUNTED": str(COUNTED)}
+    return {**os.environ, "LD_PRELOAD": str(FOLDER / "refused_memory.so"), "REFUSED": str(refused), "COUNTED": str(COUNTED)}
+
+
+def office(words, sent=b"", refused=0):
+    """Runs the program on an input: its status, what it said, and its notes."""
     ended = subprocess.run([PROGRAM, *words], cwd=FOLDER / "run", input=sent, capture_output=True, timeout=60, check=False,
-                           env={**os.environ, **rest})
+                           env=surroundings(refused))
     return ended.returncode, ended.stdout, ended.stderr
+
+
+def served(words, sent=b"", refused=0):
+    """The same of a server of one connection, on which the messages are sent."""
+    with socket.create_server(("127.0.0.1", 0)) as free:
+        port = free.getsockname()[1]
+    words, until, said = [*words, "--listen", f"127.0.0.1:{port}"], time.monotonic() + 60, b""
+    with subprocess.Popen([PROGRAM, *words], cwd=FOLDER / "run", stdout=subprocess.PIPE, stderr=subprocess.PIPE, env=surroundings(refused)) as server:
+        while server.poll() is None and time.monotonic() < until:
+            try:
+                with socket.create_connection(("127.0.0.1", port), timeout=60) as client:
+                    client.sendall(sent)
+                    client.shutdown(socket.SHUT_WR)
+                    while piece := client.recv(65_536):
+                        said += piece
+                break
+            except ConnectionRefusedError:
+                time.sleep(0.002)
+            except OSError:
+                break  # it ended with the connection
+        _, notes = server.communicate(timeout=60)
+        return server.returncode, said, notes
 
 
 def commands():
@@ -71,16 +99,16 @@ def anew(saved):
     shutil.copytree(saved, FOLDER / "run")
 
 
-def refuse_each(name, saved, words, sent, look):
+def refuse_each(name, saved, words, sent, look, start=office):
     """Refuses each allocation of a command in turn, and looks at what it then did."""
     anew(saved)
-    whole = office(words, sent)
+    whole = start(words, sent)
     check(f"{name}: status with nothing refused", (0, b""), (whole[0], whole[2]))
     total, ends = int.from_bytes(COUNTED.read_bytes(), sys.byteorder), {}
     kept = commands()
     for refused in range(1, total + 1):
         anew(saved)
-        status, said, notes = office(words, sent, refused)
+        status, said, notes = start(words, sent, refused)
         ends[status] = ends.get(status, 0) + 1
         what = f"{name}: allocation {refused}"
         check(f"{what}: its note", {0: b"", 6: b"memory: refused\n"}.get(status, "status 0 or 6"), notes)
@@ -97,6 +125,11 @@ def look_at_run(what, status, said, whole, kept):
         check(f"{what}: each message is answered", (len(kept), False), (len(told), lacks))
 
 
+def look_at_server(what, status, said, whole, kept):
+    """As of a run, but a connection that ends for want of memory gives the server no status."""
+    look_at_run(what, status if not said.endswith(LACKS) else 6, said, whole, kept)
+
+
 def look_at_text(what, status, said, whole, kept):
     check(f"{what}: its text", whole if status == 0 else whole[:len(said)], said)
     check(f"{what}: what the journal holds", kept, commands())
@@ -108,6 +141,7 @@ shutil.copytree(FOLDER / "run", FOLDER / "made")
 SENT = b"".join(map(message, STARTS, BODIES))
 refuse_each("run", FOLDER / "made", ["run"], SENT, look_at_run)
 refuse_each("run with lifecycle actions", FOLDER / "made", ["run"], b"".join(map(message, DUE_STARTS, DUE_BODIES)), look_at_run)
+refuse_each("serve", FOLDER / "made", ["serve", "--workers", "1", "--connections", "1"], SENT, look_at_server, served)
 anew(FOLDER / "made")
 CLASSES = (b"STANDARD", b"STANDARD_IA", b"ONEZONE_IA", b"GLACIER_IR", b"GLACIER", b"DEEP_ARCHIVE")
 TARIFF = b"[storage]\n" + b"".join(b"%s = 1\n" % name for name in CLASSES) + b"[transition]\n" + b"".join(
