@@ -10,6 +10,7 @@ import os
 import pathlib
 import select
 import shutil
+import signal
 import socket
 import subprocess
 import sys
@@ -23,6 +24,8 @@ TOOLS = ROOT / "tools"
 CLASSES = ("STANDARD", "STANDARD_IA", "ONEZONE_IA", "GLACIER_IR", "GLACIER", "DEEP_ARCHIVE")
 LEFT_OUT = 77  # as automake and meson have it
 
+# A shell has what it runs in the background ignore the keyboard's signal, and all that this starts would too.
+signal.signal(signal.SIGINT, signal.default_int_handler)
 # The tools keep the places that they reached in journals here, and not in the caches of who runs the tests.
 os.environ["OFFICE_STATE"] = tempfile.mkdtemp()
 atexit.register(shutil.rmtree, os.environ["OFFICE_STATE"], ignore_errors=True)
