@@ -1,4 +1,8 @@
+mod Examples
 pub mod Amounts
 pub mod DocumentLemmas
-mod Examples
 pub mod PriceLemmas
+pub mod RoomLemmas
+pub mod SixPrices
+pub mod TierLemmas
+pub mod TierReading

@@ -12,42 +12,43 @@ use Rattle.tariff.specs.declared.fault.TariffTable.{TariffTable}
 use Rattle.tariff.specs.declared.fault.TariffFault.{TariffFault}
 use Rattle.tariff.specs.Faults.{TariffFlaw, bad_price, tariff_flaw_of, TariffGives}
 use Rattle.tariff.specs.Prices.{is_price}
-use Rattle.tariff.specs.Reading.{price_of, price_at, price_in, prices_in}
+use Rattle.tariff.specs.Reading.{price_of, price_at, price_in, each_of}
 
-prices_from : (t : TariffTable) (ms : Members) (classes : List Class) (i : ℕ) (d : Class) → i < length classes
-    → prices_in t ms (drop i classes) ≡ (price_in t ms (get_or classes i d) >>= λ price. prices_in t ms (drop (i + 1) classes) >>= λ prices. Ok (price ∷ prices))
-prices_from t ms classes i d inside = ap (prices_in t ms) (drop_more classes i d inside)
+module _ {X : Type 0} (read : Class → Result X TariffFlaw) where
+  each_from : (classes : List Class) (i : ℕ) (d : Class) → i < length classes
+      → each_of read (drop i classes) ≡ (read (get_or classes i d) >>= λ x. each_of read (drop (i + 1) classes) >>= λ xs. Ok (x ∷ xs))
+  each_from classes i d inside = ap (each_of read) (drop_more classes i d inside)
 
--- a price was read
-pub prices_on : (t : TariffTable) (ms : Members) (classes : List Class) (i : ℕ) (d : Class) (xs : List ℕ) (x : ℕ) → i < length classes
-    → price_in t ms (get_or classes i d) ≡ Ok x → joined xs (prices_in t ms (drop i classes)) ≡ joined (xs ++ x ∷ []) (prices_in t ms (drop (i + 1) classes))
-prices_on t ms classes i d xs x inside read =
-    ap (joined xs) (prices_from t ms classes i d inside ∙ ap (λ r. r >>= λ price. prices_in t ms (drop (i + 1) classes) >>= λ prices. Ok (price ∷ prices)) read)
-    ∙ joined-push xs x (prices_in t ms (drop (i + 1) classes))
+  -- one was read
+  pub each_on : (classes : List Class) (i : ℕ) (d : Class) (xs : List X) (x : X) → i < length classes
+      → read (get_or classes i d) ≡ Ok x → joined xs (each_of read (drop i classes)) ≡ joined (xs ++ x ∷ []) (each_of read (drop (i + 1) classes))
+  each_on classes i d xs x inside is =
+      ap (joined xs) (each_from classes i d inside ∙ ap (λ r. r >>= λ x. each_of read (drop (i + 1) classes) >>= λ xs. Ok (x ∷ xs)) is)
+      ∙ joined-push xs x (each_of read (drop (i + 1) classes))
 
--- a price was refused
-pub prices_refused : (t : TariffTable) (ms : Members) (classes : List Class) (i : ℕ) (d : Class) (xs : List ℕ) (flaw : TariffFlaw) → i < length classes
-    → price_in t ms (get_or classes i d) ≡ Err flaw → joined xs (prices_in t ms (drop i classes)) ≡ Err flaw
-unfolding joined
-prices_refused t ms classes i d xs flaw inside refused =
-    ap (joined xs) (prices_from t ms classes i d inside ∙ ap (λ r. r >>= λ price. prices_in t ms (drop (i + 1) classes) >>= λ prices. Ok (price ∷ prices)) refused)
+  -- one was refused
+  pub each_refused : (classes : List Class) (i : ℕ) (d : Class) (xs : List X) (flaw : TariffFlaw) → i < length classes
+      → read (get_or classes i d) ≡ Err flaw → joined xs (each_of read (drop i classes)) ≡ Err flaw
+  unfolding joined
+  each_refused classes i d xs flaw inside refused =
+      ap (joined xs) (each_from classes i d inside ∙ ap (λ r. r >>= λ x. each_of read (drop (i + 1) classes) >>= λ xs. Ok (x ∷ xs)) refused)
+
+  -- all were read
+  pub each_read : (classes : List Class) (xs : List X) → joined xs (each_of read (drop (length classes) classes)) ≡ Ok xs
+  unfolding joined
+  each_read classes xs =
+      ap (λ cs. joined xs (each_of read cs)) (drop_all (length classes) classes (omega arith)) ∙ ap Ok (append-nil xs)
 
 -- a fault is passed on
 pub passed_on : {X Y X' Y' : Type 0} (see : X → Y) (see' : X' → Y') (fault : TariffFault) (part : Result Y TariffFlaw) (whole : Result Y' TariffFlaw)
     → ((flaw : TariffFlaw) → part ≡ Err flaw → whole ≡ Err flaw) → TariffGives see (Err fault) part → TariffGives see' (Err fault) whole
 passed_on see see' fault part whole pass is = told_on (tariff_flaw_of fault) part whole pass is
 
--- all were read
-pub prices_read : (t : TariffTable) (ms : Members) (classes : List Class) (xs : List ℕ) → joined xs (prices_in t ms (drop (length classes) classes)) ≡ Ok xs
-unfolding joined
-prices_read t ms classes xs =
-    ap (λ cs. joined xs (prices_in t ms cs)) (drop_all (length classes) classes (omega arith)) ∙ ap Ok (append-nil xs)
-
 in_range : (b : Bool) (p q : ℕ) → is_price p ≡ b → cond b (Some p) None ≡ Some q → is_price q ≡ true
 in_range true p q ok is = let same : p ≡ q = cc in rw (← same) ok
 in_range false p q ok is = absurd cc
 
-price_of_range : (d : Data) (q : ℕ) → price_of d ≡ Some q → is_price q ≡ true
+pub price_of_range : (d : Data) (q : ℕ) → price_of d ≡ Some q → is_price q ≡ true
 price_of_range (integer (pos p)) q is = in_range (is_price p) p q refl is
 price_of_range (integer (negsuc p)) q is = absurd cc
 price_of_range (string s) q is = absurd cc
@@ -72,7 +73,7 @@ range_on (Ok q) (Err flaw) ps first later is = absurd cc
 range_on (Err flaw) rest ps first later is = absurd cc
 
 -- prices that were read are in range
-pub prices_range : (t : TariffTable) (ms : Members) (classes : List Class) (ps : List ℕ) → prices_in t ms classes ≡ Ok ps → list_all is_price ps ≡ true
+pub prices_range : (t : TariffTable) (ms : Members) (classes : List Class) (ps : List ℕ) → each_of (price_in t ms) classes ≡ Ok ps → list_all is_price ps ≡ true
 prices_range t ms [] ps is = let same : [] ≡ ps = cc in rw (← same) refl
 prices_range t ms (class ∷ classes) ps is =
-    range_on (price_in t ms class) (prices_in t ms classes) ps (price_at_range t class (get_member (class_name class) ms)) (prices_range t ms classes) is
+    range_on (price_in t ms class) (each_of (price_in t ms) classes) ps (price_at_range t class (get_member (class_name class) ms)) (prices_range t ms classes) is

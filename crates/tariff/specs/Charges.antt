@@ -1,20 +1,42 @@
--- What a quantity costs: storage by the GiB-month, and moves by the thousand.
-use Rattle.std.specs.Prelude.{ℕ, ◌+◌, ◌*◌, ◌/◌, ◌^◌, ◌<◌, ◌≤◌}
+-- What a quantity costs: storage by the GiB-month, through the tiers of its class, and moves by the thousand.
+use Rattle.std.specs.Prelude.{ℕ, ◌+◌, ◌-◌, ◌*◌, ◌/◌, ◌^◌, ◌<◌, ◌≤◌, min, sum_by, List, [], ◌∷◌, Option, Some, None, option_map, unwrap_or}
 use Rattle.moments.specs.Months.{month_length}
+use Rattle.tariff.specs.declared.tiers.Tier.{Tier}
 
 -- the byte-milliseconds of a GiB-month: 2^30 bytes for the whole month (S3 User Guide, "Understanding your AWS billing
 -- and usage reports for Amazon S3")
 abbrev pub gib_month : ℕ → ℕ
 gib_month month = 2 ^ 30 * month_length month
 
--- the charge of a quantity in byte-milliseconds, at a price for a GiB-month: the whole part of the exact amount (own)
-abbrev pub charge_of : ℕ → ℕ → ℕ → ℕ
-charge_of quantity price month = quantity * price / gib_month month
+-- how much of a quantity lies from here on, and below the end where there is one
+abbrev pub part_between : ℕ → Option ℕ → ℕ → ℕ
+part_between begin None quantity = quantity - begin
+part_between begin (Some end) quantity = min end quantity - begin
+
+-- A part of a quantity for each tier, and the tier's price. The first tier begins at the given number of GiB-months, and
+-- each other one where the one before it ends; the last has no end. A GiB-month is that many byte-milliseconds (own).
+abbrev pub parts_from : ℕ → ℕ → ℕ → List Tier → List (ℕ × ℕ)
+parts_from begin unit quantity [] = []
+parts_from begin unit quantity (tier ∷ tiers) =
+    (part_between (begin * unit) (option_map (λ upto. upto * unit) tier.upto) quantity, tier.price)
+    ∷ parts_from (unwrap_or tier.upto begin) unit quantity tiers
+
+-- all parts, each times its price; as prices are for a GiB-month, this is the amount times the unit
+abbrev pub priced : List (ℕ × ℕ) → ℕ
+priced parts = sum_by (λ part. part.0 * part.1) parts
+
+-- the parts of a month's quantity in byte-milliseconds: the first tier begins at 0 (own)
+abbrev pub parts_of : ℕ → List Tier → ℕ → List (ℕ × ℕ)
+parts_of quantity tiers month = parts_from 0 (gib_month month) quantity tiers
+
+-- the charge of a quantity: the whole part of the exact amount (own)
+abbrev pub charge_of : ℕ → List Tier → ℕ → ℕ
+charge_of quantity tiers month = priced (parts_of quantity tiers month) / gib_month month
 
 -- the property that it has: the greatest whole number that is not above the exact amount
-pub record IsCharge (quantity price month charge : ℕ) : Type 0 where
-  pub not_above : charge * gib_month month ≤ quantity * price
-  pub greatest : quantity * price < (charge + 1) * gib_month month
+pub record IsCharge (quantity : ℕ) (tiers : List Tier) (month charge : ℕ) : Type 0 where
+  pub not_above : charge * gib_month month ≤ priced (parts_of quantity tiers month)
+  pub greatest : priced (parts_of quantity tiers month) < (charge + 1) * gib_month month
 
 -- the charge of moves to a class, at a price for 1,000: the whole part (own)
 abbrev pub move_charge_of : ℕ → ℕ → ℕ

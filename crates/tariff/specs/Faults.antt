@@ -4,7 +4,7 @@ use Rattle.office_base.specs.Results.{GivesBy}
 use Rattle.class_rules.specs.declared.class.Class.{Class}
 use Rattle.tariff.specs.declared.fault.TariffTable.{TariffTable}
 use Rattle.tariff.specs.declared.fault.TariffFault.{TariffFault}
-use Rattle.tariff.specs.declared.fault.TariffFault.TheVariants.{NotToml, MissingClass, BadPrice, UnknownField, NoMemory}
+use Rattle.tariff.specs.declared.fault.TariffFault.TheVariants.{NotToml, MissingClass, BadPrice, UnknownField, BadTiers, BadFrom, NoMemory}
 
 -- the faults of a text, with names as bytes
 pub data TariffFlaw : Type 0 where
@@ -12,6 +12,8 @@ pub data TariffFlaw : Type 0 where
   missing_class : TariffTable → Class → TariffFlaw
   bad_price : TariffTable → Class → TariffFlaw
   unknown_field : List ℕ → TariffFlaw
+  bad_tiers : Class → TariffFlaw
+  bad_from : TariffFlaw
 
 -- the flaw that a fault tells of; none where memory ran out
 abbrev pub tariff_flaw_of : TariffFault → Option TariffFlaw
@@ -19,6 +21,8 @@ tariff_flaw_of NotToml = Some not_toml
 tariff_flaw_of (MissingClass table class) = Some (missing_class table class)
 tariff_flaw_of (BadPrice table class) = Some (bad_price table class)
 tariff_flaw_of (UnknownField name) = Some (unknown_field (string_bytes name))
+tariff_flaw_of (BadTiers class) = Some (bad_tiers class)
+tariff_flaw_of BadFrom = Some bad_from
 tariff_flaw_of NoMemory = None
 
 -- an answer, seen by view, is what reading gives, unless memory ran out

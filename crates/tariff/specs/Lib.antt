@@ -2,3 +2,4 @@ pub mod Charges
 pub mod Faults
 pub mod Prices
 pub mod Reading
+pub mod Rooms

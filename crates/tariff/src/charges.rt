@@ -1,27 +1,62 @@
 // Charges.
-ghost use Rattle.std.specs.Prelude.{◌≡◌, ℕ};
-ghost use Rattle.tariff.specs.Charges.{charge_of, move_charge_of, IsCharge};
+ghost use Rattle.std.specs.Prelude.{◌≡◌, ℕ, ◌+◌, ◌*◌, ◌/◌, ◌<◌, ◌≤◌, ◌^◌, List, true, sum_by};
+ghost use Rattle.tariff.specs.declared.tiers.Tier.{Tier};
+ghost use Rattle.tariff.specs.Prices.{rise_from, are_tiers, one_tier};
+ghost use Rattle.tariff.specs.Charges.{charge_of, move_charge_of, IsCharge, priced, parts_from, parts_of, gib_month};
 
+use crate::tiers::{Tier, Tiers};
 use moments::{Month, month_window};
 
 /// The bytes of a GiB.
 const GIB: u128 = 1_073_741_824;
 
-/// Gives the charge of a month's quantity in byte-milliseconds, at a price for a GiB-month: the whole part of the exact
-/// amount.
-/// Takes no memory.
-///
-/// A GiB-month is 2^30 bytes for the whole month (S3 User Guide, "Understanding your AWS billing and usage reports for
-/// Amazon
-/// S3"). Own rule: no amount is rounded up.
-#[tactic(auto, using(crate::proofs::Amounts::split_amount, crate::proofs::Amounts::month_bounds))]
-pub fn charge(byte_ms: u128, price: u32, month: Month) -> u128
-    ensures { result ≡ charge_of byte_ms price month }
+// The byte-milliseconds of a GiB-month.
+#[tactic(auto, using(crate::proofs::Amounts::month_bounds))]
+fn unit_of(month: Month) -> u128
+    ensures unit { result ≡ gib_month month }
+    ensures large { 2 ^ 60 ≤ result }
+    ensures fits { result < 2 ^ 62 }
 {
     let (begin, end) = month_window(month);
-    let unit = GIB * (end - begin) as u128;
-    // The product of the quantity and the price may be above 2^128.
-    byte_ms / unit * price as u128 + byte_ms % unit * price as u128 / unit
+    GIB * (end - begin) as u128
+}
+
+// The charge of so many whole units and a rest.
+fn charge_through(tiers: &[Tier], whole: u128, rest: u128, unit: u128) -> u128
+    requires rise { rise_from 0 tiers.now ≡ true }
+    requires whole_fits { whole < 2 ^ 68 }
+    requires unit_fits { unit < 2 ^ 62 }
+    requires rest_below { rest < unit }
+    ensures { result ≡ priced (parts_from 0 unit (whole * unit + rest) tiers.now) / unit }
+{
+    let mut charge = 0;
+    let mut begin = 0;
+    for tier in tiers {
+        let price = tier.price as u128;
+        match tier.upto {
+            // All of the tier is taken up: whole units.
+            Some(upto) if upto as u128 <= whole => {
+                charge += (upto as u128 - begin) * price;
+                begin = upto as u128;
+            }
+            _ => return charge + (whole - begin) * price + rest * price / unit,
+        }
+    }
+    charge
+}
+
+/// Gives the charge of a month's quantity in byte-milliseconds, through the tiers of its class: the whole part of the
+/// exact amount. Takes no memory.
+///
+/// A GiB-month is 2^30 bytes for the whole month (S3 User Guide, "Understanding your AWS billing and usage reports for
+/// Amazon S3"). Own rules: the quantity goes through the tiers in order, from the first on; no amount is rounded up.
+/// Cost: one pass over the tiers. As they end at whole GiB-months, no product is above 2^128, whatever the quantity is.
+#[tactic(auto, using(crate::proofs::TierLemmas::few_units, crate::proofs::TierLemmas::put_together))]
+pub fn charge(byte_ms: u128, tiers: &Tiers, month: Month) -> u128
+    ensures { result ≡ charge_of byte_ms tiers.now month }
+{
+    let unit = unit_of(month);
+    charge_through(tiers.list(), byte_ms / unit, byte_ms % unit, unit)
 }
 
 /// Gives the charge of moves to a class, at a price for 1,000: the whole part of the exact amount. Takes no memory.
@@ -34,5 +69,15 @@ pub fn move_charge(moves: u64, price: u32) -> u128
 /// States that the charge is the greatest whole number that is not above the exact amount.
 #[tactic(auto, using(crate::proofs::Amounts::whole_part))]
 pub fn a_charge_is_the_whole_part()
-    ensures { (quantity price month : ℕ) → IsCharge quantity price month (charge_of quantity price month) }
+    ensures { (quantity : ℕ) (tiers : List Tier) (month : ℕ)
+        → IsCharge quantity tiers month (charge_of quantity tiers month) }
+{}
+
+/// States that nothing of a quantity is left out and nothing is charged twice: its parts are the quantity together. With
+/// one tier the amount is the quantity times the price.
+pub fn the_tiers_share_a_quantity()
+    ensures shared { (quantity : ℕ) (tiers : List Tier) (month : ℕ) → are_tiers tiers ≡ true
+        → sum_by (λ part. part.0) (parts_of quantity tiers month) ≡ quantity }
+    ensures one { (quantity price month : ℕ)
+        → charge_of quantity (one_tier price) month ≡ quantity * price / gib_month month }
 {}

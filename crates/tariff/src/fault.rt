@@ -39,18 +39,27 @@ pub enum TariffFault {
         /// The first such class, from the warmest on.
         class: Class,
     },
-    /// 72: what a table has for a class is no whole number from 0 to `MOST_PRICE`.
+    /// 72: what a table has for a class is no whole number from 0 to `MOST_PRICE`, or one of its tiers has such a price.
     BadPrice {
         /// The table.
         table: TariffTable,
         /// The first such class, from the warmest on.
         class: Class,
     },
-    /// 73: the document has a field that is none of the two tables, or a table has a name that is none of its classes.
+    /// 73: the document has a field that is none of the two tables and not `from`, or a table has a name that is none of
+    /// its classes.
     UnknownField {
         /// The first such name, in the order of the names' bytes.
         name: String,
     },
+    /// 74: what `storage` has for a class is a list, but not of one to eight tables with a price and, but for the last,
+    /// an end that is a whole number of GiB-months above the one before it.
+    BadTiers {
+        /// The first such class, from the warmest on.
+        class: Class,
+    },
+    /// 75: the first month is no text `YYYY-MM` from 1970-01 to 2099-12.
+    BadFrom,
     /// Memory ran out.
     NoMemory,
 }

@@ -1,9 +1,11 @@
 // Tariffs.
-ghost use Rattle.std.specs.Prelude.{◌≡◌, IfSome, IfNone, true, false};
+ghost use Rattle.std.specs.Prelude.{◌≡◌, ◌∷◌, [], map, IfSome, IfNone, true, false};
 ghost use Rattle.std.specs.List.{list_all};
-ghost use Rattle.tariff.specs.Prices.{Prices, is_price, are_prices, storage_price, move_price};
+ghost use Rattle.tariff.specs.Prices.{Prices, is_price, are_prices, one_tier, storage_tiers, move_price};
 
+use crate::tiers::Tiers;
 use class_rules::{Class, rank};
+use moments::Month;
 use std::marker::Model;
 
 /// The largest price, in whole units.
@@ -12,46 +14,67 @@ pub const MOST_PRICE: u32 = 1_048_576;
 /// The prices of the storage classes, in whole units, each at most `MOST_PRICE`.
 #[derive(Clone, Copy, Debug, PartialEq, Eq)]
 pub struct Tariff {
+    /// The first month in which the tariff holds.
+    pub from: Month,
     /// For a GiB that is stored for a month, by rank from STANDARD on.
-    pub storage: [u32; 6],
+    pub storage: [Tiers; 6],
     /// For 1,000 moves to a class, by rank from STANDARD_IA on.
     pub transition: [u32; 5],
 }
 
 impl Model for Tariff {
     ghost use Rattle.std.specs.Bool.{IsTrue};
-    ghost use Rattle.tariff.specs.Prices.{Prices, are_prices};
+    ghost use Rattle.std.specs.List.{list_all};
+    ghost use Rattle.tariff.specs.Prices.{Prices, is_price};
 
     ghost Value = { Prices };
 
-    ghost view = { λ t. record { storage = t.storage; transition = t.transition } };
+    ghost view = { λ t. record { from = t.from; storage = t.storage; transition = t.transition } };
 
-    ghost invariant = { λ t. IsTrue (are_prices t.storage t.transition) };
+    ghost invariant = { λ t. IsTrue (list_all is_price t.transition) };
 
-    ghost inverse = { λ t. record { storage = t.storage; transition = t.transition } };
+    ghost inverse = { λ t. record { from = t.from; storage = t.storage; transition = t.transition } };
+}
+
+// A tier for each of these prices.
+fn flat_tiers(prices: &[u32; 6]) -> Option<[Tiers; 6]>
+    ensures some { IfSome result (λ tiers. (tiers ≡ map one_tier prices.now) × (list_all is_price prices.now ≡ true)) }
+    ensures none { IfNone result (list_all is_price prices.now ≡ false) }
+{
+    let a = Tiers::one(prices[0])?;
+    let b = Tiers::one(prices[1])?;
+    let c = Tiers::one(prices[2])?;
+    let d = Tiers::one(prices[3])?;
+    let e = Tiers::one(prices[4])?;
+    let f = Tiers::one(prices[5])?;
+    Some([a, b, c, d, e, f])
 }
 
 impl Tariff {
-    /// Gives the tariff of these prices; None where one is above `MOST_PRICE`. Takes no memory.
+    /// Gives the tariff of these prices from January 1970 on, each for any quantity; None where one is above
+    /// `MOST_PRICE`. Takes no memory.
     pub fn of(storage: [u32; 6], transition: [u32; 5]) -> Option<Tariff>
-        ensures some { IfSome result (λ tariff. (tariff ≡ record { storage = storage; transition = transition })
+        ensures some { IfSome result (λ tariff.
+            (tariff ≡ record { from = 0; storage = map one_tier storage; transition = transition })
             × (are_prices storage transition ≡ true)) }
         ensures none { IfNone result (are_prices storage transition ≡ false) }
     {
-        if are_all_prices(&storage) && are_all_prices(&transition) {
-            return Some(Tariff {
-                storage,
-                transition,
-            });
+        if !are_all_prices(&transition) {
+            return None;
         }
-        None
+        let storage = flat_tiers(&storage)?;
+        Some(Tariff {
+            from: Month::numbered(0),
+            storage,
+            transition,
+        })
     }
 
-    /// Reads the price of a GiB that is stored in a class for a month.
-    pub fn storage_price(&self, class: Class) -> u32
-        ensures { result ≡ storage_price self.now class }
+    /// Reads the tiers of a class.
+    pub fn storage_tiers(&self, class: Class) -> &Tiers
+        ensures { result.now ≡ storage_tiers self.now class }
     {
-        self.storage[rank(class) as usize]
+        &self.storage[rank(class) as usize]
     }
 
     /// Reads the price of 1,000 moves to a class: 0 for STANDARD, to which none goes.

@@ -3,15 +3,20 @@ ghost use Rattle.std.specs.Prelude.{◌≡◌, length, option_map, option_and_th
 ghost use Rattle.std.specs.List.{list_any};
 ghost use Rattle.std.specs.Str.{bytes_eq};
 ghost use Rattle.toml.specs.Data.{as_table, get_member};
-ghost use Rattle.toml.specs.View.{view, table_view};
+ghost use Rattle.toml.specs.View.{view, items_view, table_view};
 ghost use Rattle.class_rules.specs.Classes.{class_name};
 ghost use Rattle.tariff.specs.Faults.{TariffGives, not_toml};
+ghost use Rattle.tariff.specs.Prices.{one_tier};
 ghost use Rattle.tariff.specs.Reading.{document_of, table_name, classes_of, is_field, is_class_name, first_other};
-ghost use Rattle.tariff.specs.Reading.{with_tables, with_classes, price_of, price_in, prices_in, tariff_of};
+ghost use Rattle.tariff.specs.Reading.{with_fields, with_classes, from_name, from_of, month_said, price_of, price_in, each_of};
+ghost use Rattle.tariff.specs.Reading.{upto_of, end_said, is_tier_name, tier_by, tier_said, tiers_said, in_range};
+ghost use Rattle.tariff.specs.Reading.{tier_among, tiers_of, tiers_in, tariff_of};
 
 use crate::fault::{TariffFault, TariffTable, unknown};
 use crate::prices::{MOST_PRICE, Tariff};
+use crate::tiers::{Tier, Tiers, have_ends};
 use class_rules::Class;
+use moments::{Month, read_month};
 use std::alloc::Global;
 use toml::{Table, Value};
 
@@ -28,36 +33,42 @@ const STORED_IN: [Class; 6] = [
 impl Tariff {
     /// Reads a tariff from a TOML document with the tables `storage`, which has a price for the name of each class, and
     /// `transition`, which has one for each but STANDARD: a price of a GiB that is stored for a month, and of 1,000
-    /// moves to the class, in whole units.
+    /// moves to the class, in whole units. In `storage` a class may have a list of tiers in place of a price, as
+    /// `[{ upto = 50, price = 23 }, { price = 22 }]`, the ends in GiB-months. The field `from` is the first month in
+    /// which the tariff holds, as `"2024-01"`.
     ///
-    /// Rule: TOML v1.1.0. Own rules: the names of the tables and the order of the faults; a table that is missing is
-    /// empty; a price is an integer, not `1.0`; a document nests at most 80 deep and has integers of 64 bits.
+    /// Rule: TOML v1.1.0. Own rules: the names and the order of the faults; a table that is missing is empty; without
+    /// `from` the tariff holds from January 1970 on; a price is an integer, not `1.0`; a document nests at most 80 deep
+    /// and has integers of 64 bits.
     /// Cost: one pass over the bytes, and memory for their values.
     ///
     /// # Errors
     ///
     /// The first of these that is so. `NotToml` (70): the bytes are no TOML document. `UnknownField` (73): the document
-    /// has another field than the two, or one of the two is no table (the first in the order of their bytes); or, then,
-    /// a table has a name that is none of its classes (`storage` first, in the order of the names' bytes). Then, for
-    /// `storage` and then `transition`, class by class from the warmest on: `MissingClass` (71): the table has no price
-    /// for the class; `BadPrice` (72): what it has is no whole number from 0 to `MOST_PRICE`. `NoMemory`: memory ran
-    /// out.
+    /// has another field than the three, or one of the two tables is none (the first in the order of their bytes).
+    /// `BadFrom` (75): `from` is no text `YYYY-MM` from 1970-01 to 2099-12. `UnknownField` again: a table has a name
+    /// that is none of its classes (`storage` first, in the order of the names' bytes). Then, for `storage` and then
+    /// `transition`, class by class from the warmest on: `MissingClass` (71): the table has nothing for the class;
+    /// `BadTiers` (74): what `storage` has for it is a list, but not of one to eight tables with a `price` and, but for
+    /// the last, an `upto` that is a whole number from 1 to 2^32 - 1 above the one before it; `BadPrice` (72): a price is
+    /// no whole number from 0 to `MOST_PRICE`. `NoMemory`: memory ran out.
     #[tactic(auto, unfolding(crate::specs::Reading::tariff_of), using(crate::proofs::PriceLemmas::prices_range))]
     pub fn read(alloc: Global, bytes: &[u8]) -> Result<Tariff, TariffFault>
         ensures exact { TariffGives (λ tariff. tariff) result (tariff_of bytes.now) }
     {
         let document = read_document(alloc, bytes)?;
         check_fields(alloc, &document)?;
+        let from = read_from(&document)?;
         let empty = Table::new(alloc);
         let storage = members(&document, TariffTable::Storage, &empty);
         let transition = members(&document, TariffTable::Transition, &empty);
         check_classes(alloc, TariffTable::Storage, storage)?;
         check_classes(alloc, TariffTable::Transition, transition)?;
-        let mut stored = [0; 6];
+        let stored = read_storage(alloc, storage)?;
         let mut moved = [0; 5];
-        read_prices(TariffTable::Storage, storage, &mut stored)?;
         read_prices(TariffTable::Transition, transition, &mut moved)?;
         Ok(Tariff {
+            from,
             storage: stored,
             transition: moved,
         })
@@ -104,7 +115,7 @@ fn members<'d>(document: &'d Table, table: TariffTable, empty: &'d Table) -> &'d
 fn is_field(name: &str, value: &Value) -> bool
     ensures { result ≡ is_field name.now (view value.now) }
 {
-    (name == "storage" || name == "transition") && value.is_table()
+    name == "from" || (name == "storage" || name == "transition") && value.is_table()
 }
 
 fn other_field(document: &Table) -> Option<&str>
@@ -118,13 +129,39 @@ fn other_field(document: &Table) -> Option<&str>
     None
 }
 
-// Refuses a field that is none of the two tables.
+// Refuses a field that is none of the two tables and not the first month.
 fn check_fields(alloc: Global, document: &Table) -> Result<(), TariffFault>
-    ensures { TariffGives (λ _. table_view document.now) result (with_tables (table_view document.now)) }
+    ensures { TariffGives (λ _. table_view document.now) result (with_fields (table_view document.now)) }
 {
     match other_field(document) {
         Some(name) => unknown(alloc, name),
         None => Ok(()),
+    }
+}
+
+// The month that a value says.
+fn month_of(value: &Value) -> Option<Month>
+    ensures { result ≡ month_said (view value.now) }
+{
+    match value {
+        Value::String(text) => match read_month(text.as_str()) {
+            Ok(month) => Some(month),
+            Err(_) => None,
+        },
+        _ => None,
+    }
+}
+
+// The first month.
+fn read_from(document: &Table) -> Result<Month, TariffFault>
+    ensures { TariffGives (λ month. month) result (from_of (get_member from_name (table_view document.now))) }
+{
+    match found(document, "from") {
+        Some(value) => match month_of(value) {
+            Some(month) => Ok(month),
+            None => Err(TariffFault::BadFrom),
+        },
+        None => Ok(Month::numbered(0)),
     }
 }
 
@@ -199,10 +236,176 @@ fn read_price(table: TariffTable, members: &Table, class: Class) -> Result<u32, 
 // Reads the prices that a table has for its classes, into a place for each.
 fn read_prices(table: TariffTable, members: &Table, prices: &mut [u32]) -> Result<(), TariffFault>
     requires { length prices.old ≡ length (classes_of table) }
-    ensures { TariffGives (λ _. prices.new) result (prices_in table (table_view members.now) (classes_of table)) }
+    ensures { TariffGives (λ _. prices.new) result
+        (each_of (price_in table (table_view members.now)) (classes_of table)) }
 {
     for (place, class) in table.classes().iter().enumerate() {
         prices[place] = read_price(table, members, *class)?;
     }
     Ok(())
+}
+
+// The end of a tier that a value is.
+fn upto_of(value: &Value) -> Option<u32>
+    ensures { result ≡ upto_of (view value.now) }
+{
+    match value {
+        Value::Integer(number) => {
+            if *number < 1 || *number > 4_294_967_295 {
+                None
+            } else {
+                Some(*number as u32)
+            }
+        }
+        _ => None,
+    }
+}
+
+// The end of a tier, which may be missing.
+fn end_said(value: Option<&Value>) -> Option<Option<u32>>
+    ensures { result ≡ end_said (option_map (λ value. view value.now) value.entry) }
+{
+    match value {
+        Some(value) => match upto_of(value) {
+            Some(upto) => Some(Some(upto)),
+            None => None,
+        },
+        None => Some(None),
+    }
+}
+
+// A tier by what is said of it.
+fn tier_by(price: Option<&Value>, end: Option<Option<u32>>) -> Option<Tier>
+    ensures { result ≡ tier_by (option_map (λ value. view value.now) price.entry) end }
+{
+    match (price, end) {
+        (Some(value), Some(upto)) => {
+            let price = price_of(value).unwrap_or(MOST_PRICE + 1);
+            Some(Tier { upto, price })
+        }
+        _ => None,
+    }
+}
+
+fn other_in_tier(members: &Table) -> Option<&str>
+    ensures { option_map (λ name. name.now) result ≡ first_other is_tier_name (table_view members.now) }
+{
+    for (name, _) in members {
+        if name.as_str() != "price" && name.as_str() != "upto" {
+            return Some(name.as_str());
+        }
+    }
+    None
+}
+
+// The tier that a table says.
+fn tier_among(members: &Table) -> Option<Tier>
+    ensures { result ≡ tier_among (table_view members.now) }
+{
+    if other_in_tier(members).is_some() {
+        return None;
+    }
+    tier_by(found(members, "price"), end_said(found(members, "upto")))
+}
+
+// The tier that an element of a list says.
+fn tier_said(element: &Value) -> Option<Tier>
+    ensures { result ≡ tier_said (view element.now) }
+{
+    match element.as_table() {
+        Some(members) => tier_among(members),
+        None => None,
+    }
+}
+
+// The tiers that a list says, whatever their ends and prices.
+fn tiers_said(alloc: Global, class: Class, elements: &[Value]) -> Result<Vec<Tier>, TariffFault>
+    ensures { TariffGives (λ tiers. tiers.items) result (tiers_said class (items_view elements.now)) }
+{
+    let mut tiers = Vec::new(alloc);
+    for element in elements {
+        let Some(tier) = tier_said(element) else {
+            return Err(TariffFault::BadTiers { class });
+        };
+        if tiers.push(tier).is_err() {
+            return Err(TariffFault::NoMemory);
+        }
+    }
+    Ok(tiers)
+}
+
+// The tiers of a class, if they are.
+fn in_range(class: Class, tiers: Vec<Tier>) -> Result<Tiers, TariffFault>
+    ensures { TariffGives (λ tiers. tiers) result (in_range class tiers.items) }
+{
+    if !have_ends(&tiers) {
+        return Err(TariffFault::BadTiers { class });
+    }
+    match Tiers::of(tiers) {
+        Some(tiers) => Ok(tiers),
+        None => Err(TariffFault::BadPrice {
+            table: TariffTable::Storage,
+            class,
+        }),
+    }
+}
+
+// One tier with the price that a value is.
+fn one_of(value: &Value) -> Option<Tiers>
+    ensures { result ≡ option_map one_tier (price_of (view value.now)) }
+{
+    match price_of(value) {
+        Some(price) => Tiers::one(price),
+        None => None,
+    }
+}
+
+// The tiers that a value says for a class.
+fn tiers_of(alloc: Global, class: Class, value: &Value) -> Result<Tiers, TariffFault>
+    ensures { TariffGives (λ tiers. tiers) result (tiers_of class (view value.now)) }
+{
+    if let Value::Array(elements) = value {
+        return in_range(class, tiers_said(alloc, class, elements)?);
+    }
+    match one_of(value) {
+        Some(tiers) => Ok(tiers),
+        None => Err(TariffFault::BadPrice {
+            table: TariffTable::Storage,
+            class,
+        }),
+    }
+}
+
+// The tiers that the table of storage has for a class.
+fn read_tiers(alloc: Global, members: &Table, class: Class) -> Result<Tiers, TariffFault>
+    ensures { TariffGives (λ tiers. tiers) result (tiers_in (table_view members.now) class) }
+{
+    match found(members, class.name()) {
+        Some(value) => tiers_of(alloc, class, value),
+        None => Err(TariffFault::MissingClass {
+            table: TariffTable::Storage,
+            class,
+        }),
+    }
+}
+
+// Reads the tiers that the table of storage has for each class.
+fn read_storage(alloc: Global, members: &Table) -> Result<[Tiers; 6], TariffFault>
+    ensures { TariffGives (λ tiers. tiers) result
+        (each_of (tiers_in (table_view members.now)) (classes_of TariffTable.Storage)) }
+{
+    let standard = read_tiers(alloc, members, Class::Standard)?;
+    let standard_ia = read_tiers(alloc, members, Class::StandardIa)?;
+    let onezone_ia = read_tiers(alloc, members, Class::OnezoneIa)?;
+    let glacier_ir = read_tiers(alloc, members, Class::GlacierIr)?;
+    let glacier = read_tiers(alloc, members, Class::Glacier)?;
+    let deep_archive = read_tiers(alloc, members, Class::DeepArchive)?;
+    Ok([
+        standard,
+        standard_ia,
+        onezone_ia,
+        glacier_ir,
+        glacier,
+        deep_archive,
+    ])
 }

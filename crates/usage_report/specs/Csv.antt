@@ -5,17 +5,17 @@ use Rattle.csv.specs.Writing.{row_text, default_writer}
 use Rattle.class_rules.specs.Classes.{class_name}
 use Rattle.office_types.specs.declared.reply.ReportLine.{ReportLine}
 use Rattle.office_types.specs.Reports.{charges}
-use Rattle.usage_report.specs.Lines.{line_name}
+use Rattle.usage_report.specs.Lines.{line_name, price_text}
 
 -- the names of the columns
 abbrev pub report_header : List (List ℕ)
 report_header = codes "bucket" ∷ codes "line" ∷ codes "class" ∷ codes "quantity" ∷ codes "price" ∷ codes "charge" ∷ []
 
--- a line of the report: what is charged of a bucket and a class, how much of it, at which price, and the charge
+-- a line of the report: what is charged of a bucket and a class, how much of it, at what, and the charge
 abbrev pub report_row : ReportLine → List (List ℕ)
 report_row line =
     line.bucket ∷ line_name line.kind ∷ class_name line.class
-    ∷ decimal line.quantity ∷ decimal line.price ∷ decimal line.charge ∷ []
+    ∷ decimal line.quantity ∷ price_text line.price ∷ decimal line.charge ∷ []
 
 -- the sum of the charges, in a row without a bucket
 abbrev pub total_row : ℕ → List (List ℕ)

@@ -6,7 +6,7 @@ ghost use Rattle.csv.specs.Writing.{default_writer, row_text};
 ghost use Rattle.usage_report.specs.Csv.{report_row, report_csv, total_row};
 ghost use Rattle.csv_sheet.specs.Sheets.{IsAtRowStart, bytes_written};
 
-use crate::names::line_name;
+use crate::names::{line_name, price_text};
 use csv_sheet::{Sheet, finish, put_row, start};
 use office_base::NoMemory;
 use office_types::ReportLine;
@@ -47,13 +47,14 @@ fn put_line(sheet: &mut Sheet, line: &ReportLine) -> Result<(), NoMemory>
     ensures bytes { OnOk result (bytes_written sheet.new
         ≡ append_known (bytes_written sheet.old) (row_text default_writer (report_row line.now))) }
 {
+    let mut digits = itoa::Buffer::new();
     put_texts(
         sheet,
         line.bucket.text(),
         line_name(line.kind),
         line.class.name(),
         itoa::Buffer::new().format(line.quantity),
-        itoa::Buffer::new().format(line.price),
+        price_text(&mut digits, line.price),
         itoa::Buffer::new().format(line.charge),
     )
 }

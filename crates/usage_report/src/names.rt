@@ -1,8 +1,8 @@
-// How the lines of a report are called.
+// What the lines of a report are called, and their prices.
 ghost use Rattle.std.specs.Prelude.{◌≡◌};
-ghost use Rattle.usage_report.specs.Lines.{line_name};
+ghost use Rattle.usage_report.specs.Lines.{line_name, price_text};
 
-use office_types::LineKind;
+use office_types::{LineKind, Price};
 
 pub(crate) fn line_name(kind: LineKind) -> &'static str
     ensures { result.now ≡ line_name kind }
@@ -11,5 +11,15 @@ pub(crate) fn line_name(kind: LineKind) -> &'static str
         LineKind::Storage => "storage",
         LineKind::Early => "early",
         LineKind::Transitions => "transitions",
+    }
+}
+
+// A price as its digits, which stand in the buffer.
+pub(crate) fn price_text(digits: &mut itoa::Buffer, price: Price) -> &str
+    ensures { result.now ≡ price_text price }
+{
+    match price {
+        Price::One(price) => digits.format(price),
+        Price::Tiered => "tiered",
     }
 }

@@ -1,12 +1,11 @@
 use Rattle.std.proofs.Common.{refl}
 use Rattle.toml.specs.View.{table_view}
 use Rattle.tariff.specs.Reading.{classes_of}
-use Rattle.tariff.specs.declared.fault.TariffTable.TheVariants.{Storage, Transition}
+use Rattle.tariff.specs.declared.fault.TariffTable.TheVariants.{Transition}
 use Rattle.tariff.proofs.PriceLemmas.{prices_range}
 use Rattle.tariff.proofs.prices.Tariff.read.Goals as goal
 
 pub invariant_of-result : goal.invariant_of-result
 invariant_of-result c =
-    let storage = prices_range Storage (table_view c.members-storage.result.now) (classes_of Storage) c.read_prices.new.prices c.in_ok-read_prices.ensures in
-    let transition = prices_range Transition (table_view c.members-transition.result.now) (classes_of Transition) c.read_prices-2.new.prices c.in_ok-read_prices-2.ensures in
-    rw (storage, transition) refl
+    let transition = prices_range Transition (table_view c.members-transition.result.now) (classes_of Transition) c.read_prices.new.prices c.in_ok-read_prices.ensures in
+    rw transition refl

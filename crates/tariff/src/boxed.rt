@@ -1,0 +1,45 @@
+// A tariff behind one box.
+ghost use Rattle.std.specs.Prelude.{◌≡◌, IfOk};
+
+use crate::prices::Tariff;
+use std::alloc::{AllocError, Global};
+use std::marker::Model;
+
+/// A tariff on the heap. It is eight bytes where a `Tariff` is some 630, so what may hold a tariff stays small.
+#[derive(Drop)]
+pub struct BoxedTariff {
+    inner: Box<Tariff>,
+}
+
+impl Model for BoxedTariff {
+    ghost use Rattle.tariff.specs.Prices.{Prices};
+
+    ghost Value = { Prices };
+
+    ghost view = { λ b. b.inner.value };
+}
+
+impl BoxedTariff {
+    /// Puts a tariff on the heap. Fails only for want of memory.
+    pub fn new(alloc: Global, tariff: Tariff) -> Result<BoxedTariff, AllocError>
+        ensures { IfOk result (λ boxed. boxed ≡ tariff) }
+    {
+        Ok(BoxedTariff {
+            inner: Box::new(alloc, tariff)?,
+        })
+    }
+
+    /// Reads the tariff. Takes no memory.
+    pub fn get(&self) -> &Tariff
+        ensures { result.now ≡ self.now }
+    {
+        &self.inner
+    }
+
+    /// Copies it. Fails only for want of memory.
+    pub fn copy(&self) -> Result<BoxedTariff, AllocError>
+        ensures { IfOk result (λ boxed. boxed ≡ self.now) }
+    {
+        BoxedTariff::new(*Box::allocator(&self.inner), *self.get())
+    }
+}
