@@ -26,7 +26,7 @@ use Rattle.accrual.specs.Books.{IsBookedBy}
 use Rattle.plain_office.specs.Orderly.{IsOrderlyStack, IsOrderlyBucket, HasOpenStays, current_is_object, current_objects, size_of}
 use Rattle.plain_office.specs.Step.{with_rules}
 use Rattle.office_types.specs.declared.refusal.What.{What}
-use Rattle.office_types.specs.declared.refusal.What.TheVariants.{Buckets, Versions, Uploads, Parts, Names, Rules}
+use Rattle.office_types.specs.declared.refusal.What.TheVariants.{Buckets, Versions, Uploads, Parts, Names, Rules, Tariffs}
 use Rattle.office_laws.proofs.Ids.{adding}
 use Rattle.office_laws.proofs.Lists.{every_weaker, added_length, added_sum, replaced_length, replaced_sum}
 use Rattle.office_laws.proofs.Maps.{by_number, added, replaced, removed}
@@ -49,6 +49,7 @@ measure Uploads bucket = length bucket.uploads
 measure Parts bucket = part_count bucket
 measure Names bucket = name_bytes bucket
 measure Rules bucket = rules_bytes bucket.rules
+measure Tariffs bucket = 0
 
 abbrev pub Listed : What → List What → Type 0
 Listed what [] = ⊥

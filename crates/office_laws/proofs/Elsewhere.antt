@@ -8,8 +8,9 @@ use Rattle.office_base.specs.Maps.{at_name, with_name}
 use Rattle.office_base.specs.Results.{◌>>=◌}
 use Rattle.due_core.specs.declared.action.Action.{Action}
 use Rattle.plain_office.specs.Office.{Office, Account}
+use Rattle.plain_office.specs.Charges.{in_force}
 use Rattle.plain_office.specs.Counts.{first_full}
-use Rattle.plain_office.specs.Step.{Change, Outcome, refuse_if, unless_full, within_limits, on_bucket, new_account, create_bucket, month_to_close, due_before, unless_due, settled, outcome, step}
+use Rattle.plain_office.specs.Step.{Change, Outcome, refuse_if, unless_full, within_limits, on_bucket, new_account, create_bucket, month_to_close, due_before, unless_due, set_tariff, settled, outcome, step}
 use Rattle.plain_office.specs.Step.{put_object, delete, set_versioning, set_rules, drop_rules, delete_version, set_tags, start_upload, put_part, complete, abort, act}
 use Rattle.tariff.specs.Prices.{Prices}
 use Rattle.office_types.specs.declared.command.Command.{Command}
@@ -19,7 +20,7 @@ use Rattle.office_types.specs.declared.reply.Reply.TheVariants as reply
 use Rattle.office_types.specs.declared.refusal.Refusal.{Refusal}
 use Rattle.office_types.specs.declared.refusal.Refusal.TheVariants.{NoSuchBucket, BucketExists, NoTariff}
 use Rattle.office_types.specs.declared.refusal.What.{What}
-use Rattle.office_types.specs.declared.refusal.What.TheVariants.{Buckets, Versions, Uploads, Parts, Names, Rules}
+use Rattle.office_types.specs.declared.refusal.What.TheVariants.{Buckets, Versions, Uploads, Parts, Names, Rules, Tariffs}
 use Rattle.office_laws.specs.Commands.{IsElsewhere}
 use Rattle.office_laws.proofs.Maps.{by_name, other_names, bytes_same, at_other}
 
@@ -97,9 +98,9 @@ module _ (name : List ℕ) (p : Office) where
   outcome_leaves t (command.Complete other upload) h = within_leaves (Versions ∷ Names ∷ []) _ (bucket_leaves other (differs other h) (complete t upload))
   outcome_leaves t (command.Abort other upload) h = bucket_leaves other (differs other h) (abort t upload)
   outcome_leaves t (command.Act other) h = bucket_leaves other (differs other h) (act t)
-  outcome_leaves t (command.SetTariff tariff) h = refl
+  outcome_leaves t (command.SetTariff tariff) h = within_leaves (Tariffs ∷ []) (set_tariff tariff p) refl
   outcome_leaves t (command.Close month) h =
-      err_or (nat_lt t (month_end month)) _ _ (err_or (nat_lt month (month_to_close t p)) _ _ (err_or (nat_lt (month_to_close t p) month) _ _ (tariff_leaves t month p.tariff)))
+      err_or (nat_lt t (month_end month)) _ _ (err_or (nat_lt month (month_to_close t p)) _ _ (err_or (nat_lt (month_to_close t p) month) _ _ (tariff_leaves t month (in_force month p.tariffs))))
 
   reply_leaves : (t : ℕ) (after : Office) (answer : Reply) → at_name name after.accounts ≡ at_name name p.accounts
       → at_name name (settled t p (Ok (after, answer))).0.accounts ≡ at_name name p.accounts

@@ -16,7 +16,7 @@ use Rattle.plain_office.specs.Orderly.{IsOrderlyBucket, HasOpenStays, FollowEach
 use Rattle.plain_office.specs.Run.{is_not_before}
 use Rattle.tariff.specs.Prices.{Prices}
 use Rattle.office_types.specs.declared.refusal.What.{What}
-use Rattle.office_types.specs.declared.refusal.What.TheVariants.{Buckets, Versions, Uploads, Parts, Names, Rules}
+use Rattle.office_types.specs.declared.refusal.What.TheVariants.{Buckets, Versions, Uploads, Parts, Names, Rules, Tariffs}
 use Rattle.office_laws.proofs.Lists.{every_weaker, sum_most, Replaced, replaced_length, replaced_sum}
 use Rattle.office_laws.proofs.Maps.{by_name, found_every}
 use Rattle.office_laws.proofs.Booked.{booked_later}
@@ -135,9 +135,14 @@ room_of p h = record {
   rules = h.counts.1.1.1.1.0;
 }
 
-pub counts_of : (p : Office) → HasRoom p.accounts → AllByRecursion (λ what. count_of what p ≤ limit_of what) (Buckets ∷ Uploads ∷ Parts ∷ Names ∷ Rules ∷ [])
+pub few_tariffs : (p : Office) → IsOrderlyRecords p → length p.tariffs ≤ 100
 unfolding count_of
-counts_of p room = (room.buckets, (room.uploads, (room.parts, (room.names, (room.rules, tt)))))
+few_tariffs p h = h.counts.1.1.1.1.1.0
+
+pub counts_of : (p : Office) → HasRoom p.accounts → length p.tariffs ≤ 100
+    → AllByRecursion (λ what. count_of what p ≤ limit_of what) (Buckets ∷ Uploads ∷ Parts ∷ Names ∷ Rules ∷ Tariffs ∷ [])
+unfolding count_of
+counts_of p room few = (room.buckets, (room.uploads, (room.parts, (room.names, (room.rules, (few, tt))))))
 
 -- these counts are within their limits
 abbrev pub Within : List What → Office → Type 0

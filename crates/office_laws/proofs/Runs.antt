@@ -1,7 +1,7 @@
 -- What holds after a run of entries.
-use Rattle.std.proofs.Common.{◌≡◌, ℕ, ◌≤◌, List, [], ◌∷◌, refl, ◌∙◌, subst, Bool, true, false, ◌&&◌, cond}
+use Rattle.std.proofs.Common.{◌≡◌, ℕ, ◌≤◌, List, [], ◌∷◌, refl, ◌∙◌, ap, subst, true}
 use Rattle.std.proofs.lemmas.Option.{same_Some}
-use Rattle.std.specs.Prelude.{Option, Some, None}
+use Rattle.std.specs.Prelude.{Option, Some, None, Result}
 use Rattle.std.specs.List.{AllByRecursion}
 use Rattle.moments.specs.Months.{month_end}
 use Rattle.office_base.specs.Maps.{at_name, at_number}
@@ -9,28 +9,28 @@ use Rattle.plain_office.specs.Office.{Office, Account, empty_office}
 use Rattle.plain_office.specs.Answers.{answer}
 use Rattle.plain_office.specs.Orderly.{IsOrderly, closed_until, SizeFits}
 use Rattle.plain_office.specs.Run.{is_not_before, accept, run_from, run}
-use Rattle.plain_office.specs.Step.{step, is_accepted}
+use Rattle.plain_office.specs.Once.{step_with}
+use Rattle.plain_office.proofs.Runs.{accepted_was, step_new}
 use Rattle.tariff.specs.Prices.{Prices}
 use Rattle.office_types.specs.declared.command.Entry.{Entry}
 use Rattle.office_types.specs.declared.command.Query.TheVariants as query
-use Rattle.office_laws.proofs.Steps.{empty_orderly, step_orderly, step_keeps, closed_same}
+use Rattle.office_types.specs.declared.reply.Reply.{Reply}
+use Rattle.office_types.specs.declared.refusal.Refusal.{Refusal}
+use Rattle.office_laws.proofs.Once.{with_orderly, with_keeps}
+use Rattle.office_laws.proofs.Steps.{empty_orderly, closed_same}
 use Rattle.office_laws.proofs.ClosedMonths.{month_over, meters_answer, report_answer}
 
-accepted_is : (later accepted : Bool) (next q : Office) → cond (later && accepted) (Some next) None ≡ Some q → (later ≡ true) × (next ≡ q)
-accepted_is true true next q h = (refl, cc)
-accepted_is true false next q h = absurd cc
-accepted_is false accepted next q h = absurd cc
-
-accept_is : (p q : Office) (e : Entry) → accept p e ≡ Some q → (is_not_before p.last e.moment ≡ true) × ((step e.moment e.command p).0 ≡ q)
-unfolding accept
-accept_is p q e is = accepted_is (is_not_before p.last e.moment) (is_accepted (step e.moment e.command p).1) (step e.moment e.command p).0 q is
+accept_is : (p q : Office) (e : Entry) → accept p e ≡ Some q → (is_not_before p.last e.moment ≡ true) × ((step_with e.moment e.token e.command p).0 ≡ q)
+accept_is p q e is =
+    let was = accepted_was p q e is in
+    (was.later, ap (λ (x : Office × Result Reply Refusal). x.0) (step_new e.moment e.token e.command p was.new ∙ was.is))
 
 pub none_from : (entries : List Entry) (p : Office) → run_from None entries ≡ Some p → ⊥
 none_from [] p h = absurd cc
 none_from (e ∷ entries) p h = none_from entries p h
 
 -- what each accepted entry keeps holds after the run
-module _ (P : Office → Type 0) (keeps : (p : Office) (e : Entry) → SizeFits e.command → P p → is_not_before p.last e.moment ≡ true → P (step e.moment e.command p).0) where
+module _ (P : Office → Type 0) (keeps : (p : Office) (e : Entry) → SizeFits e.command → P p → is_not_before p.last e.moment ≡ true → P (step_with e.moment e.token e.command p).0) where
   pub run_keeps : (entries : List Entry) (p q : Office) → AllByRecursion (λ (e : Entry). SizeFits e.command) entries → P p → run_from (Some p) entries ≡ Some q → P q
   run_keeps [] p q fits h is = subst P (same_Some p q is) h
   run_keeps (e ∷ entries) p q fits h is = by (accept p e) refl is (λ next. run_keeps entries next q fits.1) where
@@ -40,7 +40,7 @@ module _ (P : Office → Type 0) (keeps : (p : Office) (e : Entry) → SizeFits 
 
 pub run_orderly : (entries : List Entry) (p : Office) → AllByRecursion (λ (e : Entry). SizeFits e.command) entries → run entries ≡ Some p → IsOrderly p
 unfolding run
-run_orderly entries p fits is = run_keeps IsOrderly (λ p e small h later. step_orderly e.moment e.command p small h later) entries empty_office p fits empty_orderly is
+run_orderly entries p fits is = run_keeps IsOrderly (λ p e small h later. with_orderly e.moment e.token e.command p small h later) entries empty_office p fits empty_orderly is
 
 -- a month that was closed when the office was this one
 module _ (first : Office) (month : ℕ) (tariff : Prices) (u v : ℕ) (le_u : month_end month ≤ u) (le_v : month_end month ≤ v) where
@@ -51,18 +51,18 @@ module _ (first : Office) (month : ℕ) (tariff : Prices) (u v : ℕ) (le_u : mo
     pub meters : (name : List ℕ) (account : Account) → at_name name first.accounts ≡ Some account
         → (after : Account) × (at_name name q.accounts ≡ Some after) × (answer v (query.Meters name month) q ≡ answer u (query.Meters name month) first)
 
-  answers_kept : (p : Office) (e : Entry) → SizeFits e.command → AnswersStay p → is_not_before p.last e.moment ≡ true → AnswersStay (step e.moment e.command p).0
+  answers_kept : (p : Office) (e : Entry) → SizeFits e.command → AnswersStay p → is_not_before p.last e.moment ≡ true → AnswersStay (step_with e.moment e.token e.command p).0
   answers_kept p e fits h later =
-      let after = step_keeps e.moment e.command p fits h.orderly later in
+      let after = with_keeps e.moment e.token e.command p fits h.orderly later in
       let over = month_over p month tariff h.orderly h.closed in
       record {
         orderly = after.orderly;
         closed = after.closed.closed month tariff h.closed;
-        report = report_answer p (step e.moment e.command p).0 after.closed month tariff over h.closed v v le_v le_v ∙ h.report;
+        report = report_answer p (step_with e.moment e.token e.command p).0 after.closed month tariff over h.closed v v le_v le_v ∙ h.report;
         meters = λ name account is.
             let before = h.meters name account is in
             let there = after.closed.accounts name before.0 before.1 in
-            (there.0, there.1, meters_answer p (step e.moment e.command p).0 after.closed month tariff over h.closed v v le_v le_v name before.0 before.1 ∙ before.2);
+            (there.0, there.1, meters_answer p (step_with e.moment e.token e.command p).0 after.closed month tariff over h.closed v v le_v le_v name before.0 before.1 ∙ before.2);
       }
 
   begins : IsOrderly first → at_number month first.closed ≡ Some tariff → AnswersStay first

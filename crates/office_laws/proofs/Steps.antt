@@ -20,11 +20,11 @@ use Rattle.due_core.proofs.Loops.{same_flat}
 use Rattle.plain_office.specs.Office.{Office, Account, Books, of_version, of_part, empty_books, empty_office, book_of}
 use Rattle.accrual.specs.Books.{Book}
 use Rattle.accrual.specs.Meters.{meter, early_quantity, move_count}
-use Rattle.plain_office.specs.Charges.{class_lines, report_lines}
+use Rattle.plain_office.specs.Charges.{class_lines, report_lines, in_force}
 use Rattle.plain_office.specs.Counts.{limit_of, count_of, first_full}
-use Rattle.plain_office.specs.Orderly.{IsOrderlyBucket, HasOpenStays, FollowEachOther, last_end, closed_until, IsOrderly, SizeFits}
+use Rattle.plain_office.specs.Orderly.{IsOrderlyBucket, HasOpenStays, FollowEachOther, last_end, closed_until, FirstMonthsRise, IsOrderly, SizeFits}
 use Rattle.plain_office.specs.Run.{is_not_before}
-use Rattle.plain_office.specs.Step.{Change, Outcome, refuse_if, unless_full, within_limits, on_bucket, new_bucket, new_account, month_to_close, due_before, unless_due, adds_marker, is_unversioned}
+use Rattle.plain_office.specs.Step.{Change, Outcome, refuse_if, unless_full, within_limits, on_bucket, new_bucket, new_account, month_to_close, due_before, unless_due, adds_marker, is_unversioned, with_tariff, set_tariff}
 use Rattle.plain_office.specs.Step.{accepted, settled, outcome, step, put_object, delete, set_versioning, set_rules, drop_rules, delete_version, set_tags, start_upload, put_part, complete, abort, act}
 use Rattle.tariff.specs.Prices.{Prices}
 use Rattle.office_types.specs.declared.command.Command.{Command}
@@ -34,15 +34,16 @@ use Rattle.office_types.specs.declared.reply.Reply.TheVariants as reply
 use Rattle.office_types.specs.declared.reply.ReportLine.{ReportLine}
 use Rattle.office_types.specs.declared.refusal.Refusal.TheVariants.{NoSuchBucket, BucketExists, MonthNotOver, AlreadyClosed, EarlierMonthOpen, NoTariff}
 use Rattle.office_types.specs.declared.refusal.What.{What}
-use Rattle.office_types.specs.declared.refusal.What.TheVariants.{Buckets, Versions, Uploads, Parts, Names, Rules}
+use Rattle.office_types.specs.declared.refusal.What.TheVariants.{Buckets, Versions, Uploads, Parts, Names, Rules, Tariffs}
 use Rattle.office_laws.proofs.Lists.{every_weaker, Added, Replaced, added_sum}
 use Rattle.office_laws.proofs.Maps.{by_name, other_names, bytes_same, at_written, at_other, added, replaced, rises_written, every_written}
+use Rattle.office_laws.proofs.Tariffs.{rise_with}
 use Rattle.office_laws.proofs.Buckets.{IsTimely}
 use Rattle.office_laws.proofs.Chosen.{timely_from_choice}
 use Rattle.office_laws.proofs.Closed.{KeepsBooks, keeps_same}
 use Rattle.office_laws.proofs.Changes.{measure, IsKept, Keeps}
 use Rattle.office_laws.proofs.Commands.{Done, versioning_done, rules_done, drop_done, put_done, delete_done, delete_version_done, tags_done, start_done, part_done, abort_done, complete_done, act_done}
-use Rattle.office_laws.proofs.Offices.{NamedAccount, HasStays, buckets_now, closed_now, months_now, kept_now, HasRoom, room_of, counts_of, Within, room_after, booked_now, IsBookedUntil}
+use Rattle.office_laws.proofs.Offices.{NamedAccount, HasStays, buckets_now, closed_now, months_now, kept_now, HasRoom, room_of, few_tariffs, counts_of, Within, room_after, booked_now, IsBookedUntil}
 
 -- ---- the lines of a report
 
@@ -115,7 +116,7 @@ pub record IsMade (t : ℕ) (p after : Office) : Type 0 where
   pub orderly : IsOrderly (accepted t after)
   pub closed : KeepsClosed (closed_until p) p after
 
-abbrev Makes : ℕ → Office → Outcome → Type 0
+abbrev pub Makes : ℕ → Office → Outcome → Type 0
 Makes t p (Ok done) = IsMade t p done.0
 Makes t p (Err refusal) = Unit {0}
 
@@ -210,18 +211,21 @@ module _ (t : ℕ) (p : Office) (h : IsOrderly p) (later : is_not_before p.last 
   with_buckets : (accounts : List NamedAccount) → Rises bytes_cmp accounts → AllByRecursion OrderlyNow accounts
       → AllByRecursion TimelyNow accounts → AllByRecursion HasStays accounts → AllByRecursion (IsBookedUntil t) accounts
       → HasRoom accounts
-      → (tariff : Option Prices) → IsOrderly (accepted t (record p { accounts = accounts; tariff = tariff }))
-  with_buckets accounts names buckets timely stays booked room tariff = record {
+      → (tariffs : List Prices) → FirstMonthsRise tariffs → length tariffs ≤ 100
+      → IsOrderly (accepted t (record p { accounts = accounts; tariffs = tariffs }))
+  with_buckets accounts names buckets timely stays booked room tariffs rise few = record {
     records = record {
       names = names;
       moments = record { first_month = refl; buckets = buckets; closed = closed_now t p h later };
+      tariffs = rise;
       months = months_now t p h later;
       nothing_due_in_closed_months = timely;
       versions = room.versions;
-      counts = counts_of (accepted t (record p { accounts = accounts; tariff = tariff })) room;
+      counts = counts_of (accepted t (record p { accounts = accounts; tariffs = tariffs })) room few;
     };
     stays = stays;
     booked = booked;
+    kept = h.kept;
   }
 
   others_there : (name other : List ℕ) (before after account : Account) (b : Bool) → bytes_eq other name ≡ b
@@ -251,7 +255,7 @@ module _ (t : ℕ) (p : Office) (h : IsOrderly p) (later : is_not_before p.last 
             (every_written by_name name after HasStays p.accounts h.records.names k.account.stays h.stays)
             (every_written by_name name after (IsBookedUntil t) p.accounts h.records.names k.account.booked (booked_now t p h later))
             (room_after p (with_account name after) name before after one whats within (room_of p h.records) k.grows)
-            p.tariff;
+            p.tariffs h.records.tariffs (few_tariffs p h.records);
         closed = record {
           accounts = λ other account is. others_there name other before after account (bytes_eq other name) refl held k.books is;
           report = λ tariff month le. lines_replaced tariff month name before after (closed_until p) k.books le p.accounts (with_name name after p.accounts) one;
@@ -326,7 +330,7 @@ module _ (t : ℕ) (p : Office) (h : IsOrderly p) (later : is_not_before p.last 
             (every_written by_name name (new_account t) HasStays p.accounts h.records.names new_stays h.stays)
             (every_written by_name name (new_account t) (IsBookedUntil t) p.accounts h.records.names (record { stays = tt; early = tt; moves = tt }) (booked_now t p h later))
             (room_added name none within)
-            p.tariff;
+            p.tariffs h.records.tariffs (few_tariffs p h.records);
         closed = record {
           accounts = λ other account is. old_there name other account (bytes_eq other name) refl none is;
           report = λ tariff month le. lines_added tariff month name (new_account t) refl p.accounts (with_name name (new_account t) p.accounts) one;
@@ -341,10 +345,12 @@ module _ (t : ℕ) (p : Office) (h : IsOrderly p) (later : is_not_before p.last 
 
   -- ---- a tariff
 
-  tariff_makes : (tariff : Prices) → IsMade t p (record p { tariff = Some tariff })
-  tariff_makes tariff = record {
-    orderly = with_buckets p.accounts h.records.names (buckets_now t p h later) h.records.nothing_due_in_closed_months h.stays (booked_now t p h later) (room_of p h.records) (Some tariff);
-    closed = closed_same (closed_until p) p (record p { tariff = Some tariff }) refl refl;
+  tariff_makes : (tariff : Prices) → Promises t p (Tariffs ∷ []) (set_tariff tariff p)
+  unfolding count_of
+  tariff_makes tariff within = record {
+    orderly = with_buckets p.accounts h.records.names (buckets_now t p h later) h.records.nothing_due_in_closed_months h.stays (booked_now t p h later) (room_of p h.records)
+        (with_tariff tariff p.tariffs) (rise_with tariff p.tariffs h.records.tariffs) within.0;
+    closed = closed_same (closed_until p) p (record p { tariffs = with_tariff tariff p.tariffs }) refl refl;
   }
 
   -- ---- the close of a month
@@ -366,15 +372,17 @@ module _ (t : ℕ) (p : Office) (h : IsOrderly p) (later : is_not_before p.last 
             records = record {
               names = h.records.names;
               moments = record { first_month = refl; buckets = buckets_now t p h later; closed = omega (arith, end, over) };
+              tariffs = h.records.tariffs;
               months = follow_more (unwrap_or p.first_month (month_at t)) p.closed month tariff next (months_now t p h later);
               nothing_due_in_closed_months = subst (λ (n : ℕ). AllByRecursion (λ (entry : NamedAccount). IsTimely n entry.1.bucket) p.accounts) (sym end)
                   (every_weaker (NoneBefore t (month_end month)) (λ (entry : NamedAccount). IsTimely (month_end month) entry.1.bucket)
                   (λ entry is. timely_from_choice (month_end month) t entry.1.bucket over is) p.accounts none);
               versions = h.records.versions;
-              counts = counts_of (accepted t (record p { closed = p.closed ++ (month, tariff) ∷ [] })) (room_of p h.records);
+              counts = counts_of (accepted t (record p { closed = p.closed ++ (month, tariff) ∷ [] })) (room_of p h.records) (few_tariffs p h.records);
             };
             stays = h.stays;
             booked = booked_now t p h later;
+            kept = h.kept;
           };
           closed = closing_kept tariff;
         }
@@ -392,7 +400,7 @@ module _ (t : ℕ) (p : Office) (h : IsOrderly p) (later : is_not_before p.last 
     tariff_by (Some tariff) = due_by tariff (due_before t (month_end month) p.accounts) refl
 
   abbrev closing : ℕ → Outcome
-  closing month = ok_or p.tariff NoTariff >>= λ tariff. unless_due (due_before t (month_end month) p.accounts) (record p { closed = p.closed ++ (month, tariff) ∷ [] }, reply.Closed month)
+  closing month = ok_or (in_force month p.tariffs) NoTariff >>= λ tariff. unless_due (due_before t (month_end month) p.accounts) (record p { closed = p.closed ++ (month, tariff) ∷ [] }, reply.Closed month)
 
   close_by : (month : ℕ) (a b c : Bool) → nat_lt t (month_end month) ≡ a → nat_lt month (month_to_close t p) ≡ b → nat_lt (month_to_close t p) month ≡ c
       → Makes t p (cond a (Err (MonthNotOver (month_end month))) (cond b (Err AlreadyClosed) (cond c (Err (EarlierMonthOpen (month_to_close t p))) (closing month))))
@@ -403,7 +411,7 @@ module _ (t : ℕ) (p : Office) (h : IsOrderly p) (later : is_not_before p.last 
       let over = ltb-false t (month_end month) is_a in
       let not_closed = ltb-false month (month_to_close t p) is_b in
       let none_open = ltb-false (month_to_close t p) month is_c in
-      tariff_by month over (omega (arith, not_closed, none_open)) p.tariff
+      tariff_by month over (omega (arith, not_closed, none_open)) (in_force month p.tariffs)
 
   -- ---- a deletion
 
@@ -415,7 +423,7 @@ module _ (t : ℕ) (p : Office) (h : IsOrderly p) (later : is_not_before p.last 
       (λ account is kept. subst (λ (b : Bool). Done t (closed_until p) (cond b (Versions ∷ Names ∷ []) (Names ∷ [])) account (delete t key account))
       (sym (adds_is name account is)) (delete_done t (closed_until p) account kept le key))
 
-  outcome_makes : (c : Command) → SizeFits c → Makes t p (outcome t c p)
+  pub outcome_makes : (c : Command) → SizeFits c → Makes t p (outcome t c p)
   unfolding outcome
   outcome_makes (command.CreateBucket name) fits = within_makes t p (Buckets ∷ []) _ (create_by name (at_name name p.accounts) refl)
   outcome_makes (command.SetVersioning name enabled) fits =
@@ -445,7 +453,7 @@ module _ (t : ℕ) (p : Office) (h : IsOrderly p) (later : is_not_before p.last 
       within_makes t p (Versions ∷ Names ∷ []) _ (bucket_promises name (Versions ∷ Names ∷ []) (complete t upload) (λ account is kept. complete_done t (closed_until p) account kept le upload))
   outcome_makes (command.Abort name upload) fits = plainly t p _ (bucket_promises name [] (abort t upload) (λ account is kept. abort_done t (closed_until p) account kept le upload))
   outcome_makes (command.Act name) fits = plainly t p _ (bucket_promises name [] (act t) (λ account is kept. act_done t (closed_until p) account kept le))
-  outcome_makes (command.SetTariff tariff) fits = tariff_makes tariff
+  outcome_makes (command.SetTariff tariff) fits = within_makes t p (Tariffs ∷ []) (set_tariff tariff p) (tariff_makes tariff)
   outcome_makes (command.Close month) fits = close_by month _ _ _ refl refl refl
 
 -- ---- a step
@@ -455,7 +463,7 @@ pub record StepKeeps (p q : Office) : Type 0 where
   pub orderly : IsOrderly q
   pub closed : KeepsClosed (closed_until p) p q
 
-nothing_done : (p : Office) → IsOrderly p → StepKeeps p p
+pub nothing_done : (p : Office) → IsOrderly p → StepKeeps p p
 nothing_done p h = record { orderly = h; closed = closed_same (closed_until p) p p refl refl }
 
 done_by : (t : ℕ) (p after : Office) (answer : Reply) → IsOrderly p → IsMade t p after → StepKeeps p (settled t p (Ok (after, answer))).0
@@ -478,12 +486,14 @@ unfolding count_of
 empty_orderly = record {
   records = record {
     names = tt;
-    moments = record { accounts = refl; tariff = refl; closed = refl; first_month = refl };
+    moments = record { accounts = refl; tariffs = refl; closed = refl; first_month = refl; kept = refl };
+    tariffs = tt;
     months = tt;
     nothing_due_in_closed_months = tt;
     versions = omega arith;
-    counts = (omega arith, (omega arith, (omega arith, (omega arith, (omega arith, tt)))));
+    counts = (omega arith, (omega arith, (omega arith, (omega arith, (omega arith, (omega arith, tt))))));
   };
   stays = tt;
   booked = tt;
+  kept = record { few = omega arith; differ = tt };
 }

@@ -1,5 +1,5 @@
 -- What acts do to a bucket is part of its sweep at any later moment.
-use Rattle.std.proofs.Common.{◌≡◌, ℕ, ◌≤◌, List, [], ◌∷◌, ◌++◌, refl, ap, sym, ◌∙◌, subst, Bool, true, false, ◌&&◌, cond, inl, inr}
+use Rattle.std.proofs.Common.{◌≡◌, ℕ, ◌≤◌, List, [], ◌∷◌, ◌++◌, refl, ap, sym, ◌∙◌, subst, inl, inr}
 use Rattle.std.proofs.lemmas.Option.{same_Some}
 use Rattle.std.specs.Prelude.{Option, Some, None, option_map, Result, Ok, ◌↔◌}
 use Rattle.std.specs.List.{AllByRecursion}
@@ -13,8 +13,9 @@ use Rattle.due_core.specs.declared.action.Action.{Action}
 use Rattle.due_core.proofs.Later.{choice_stays}
 use Rattle.plain_office.specs.Office.{Office, Account}
 use Rattle.plain_office.specs.Changes.{effect}
-use Rattle.plain_office.specs.Run.{is_not_before, accept, run_from}
-use Rattle.plain_office.specs.Step.{Change, Outcome, settled, outcome, step, shown_action, marker_made, is_accepted}
+use Rattle.plain_office.specs.Run.{accept, run_from}
+use Rattle.plain_office.proofs.Runs.{accepted_was, step_new}
+use Rattle.plain_office.specs.Step.{Change, Outcome, settled, outcome, step, shown_action, marker_made}
 use Rattle.plain_office.specs.Sweep.{IsSwept}
 use Rattle.office_types.specs.declared.command.Command.{Command}
 use Rattle.office_types.specs.declared.command.Command.TheVariants as command
@@ -27,6 +28,7 @@ use Rattle.plain_office.specs.Answers.{answer, due_shown}
 use Rattle.office_laws.specs.Commands.{OnlyActs}
 use Rattle.office_laws.proofs.Maps.{by_name, at_written}
 use Rattle.office_laws.proofs.Elsewhere.{step_leaves}
+use Rattle.office_laws.proofs.Once.{with_accounts}
 use Rattle.office_laws.proofs.Runs.{none_from}
 
 -- ---- sweeping twice
@@ -143,14 +145,11 @@ act_swept t u le account after (Some action) is others h = (action ∷ others, (
 
 -- ---- runs
 
-accepted_is : (later accepted : Bool) (next q : Office) → cond (later && accepted) (Some next) None ≡ Some q → next ≡ q
-accepted_is true true next q h = cc
-accepted_is true false next q h = absurd cc
-accepted_is false accepted next q h = absurd cc
-
-accept_is : (p q : Office) (e : Entry) → accept p e ≡ Some q → (step e.moment e.command p).0 ≡ q
-unfolding accept
-accept_is p q e is = accepted_is (is_not_before p.last e.moment) (is_accepted (step e.moment e.command p).1) (step e.moment e.command p).0 q is
+accept_is : (p q : Office) (e : Entry) → accept p e ≡ Some q → (step e.moment e.command p).0.accounts ≡ q.accounts
+accept_is p q e is =
+    let was = accepted_was p q e is in
+    sym (with_accounts e.moment e.token e.command p was.new)
+    ∙ ap (λ (x : Office × Result Reply Refusal). x.0.accounts) (step_new e.moment e.token e.command p was.new ∙ was.is)
 
 module _ (name : List ℕ) (u : ℕ) where
   -- the account after one entry, and what its sweep is
@@ -181,6 +180,6 @@ module _ (name : List ℕ) (u : ℕ) where
       by None was runs more = absurd (none_from entries q runs)
       by (Some next) was runs more = λ others end k.
           let one = one_entry e p before only.0 is in
-          let middle_there = ap (λ (o : Office). at_name name o.accounts) (sym (accept_is p next e was)) ∙ one.1 in
+          let middle_there = ap (at_name name) (sym (accept_is p next e was)) ∙ one.1 in
           let rest = more next one.0 runs middle_there there others end k in
           one.2 rest.0 end rest.1

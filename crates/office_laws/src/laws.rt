@@ -1,5 +1,5 @@
 // What holds of every office, as calls that do nothing.
-ghost use Rattle.std.specs.Prelude.{◌≡◌, ◌↔◌, ℕ, ◌≤◌, ◌++◌, ◌∷◌, List, [], Some, Ok, true, filter, is_none};
+ghost use Rattle.std.specs.Prelude.{◌≡◌, ◌↔◌, ℕ, ◌<◌, ◌≤◌, ◌++◌, ◌∷◌, List, [], Option, Some, None, Ok, true, filter, is_none};
 ghost use Rattle.std.specs.List.{AllByRecursion};
 ghost use Rattle.office_base.specs.Maps.{at_name, at_number};
 ghost use Rattle.office_base.specs.declared.version_id.VersionId.{VersionId};
@@ -20,8 +20,10 @@ ghost use Rattle.office_types.specs.declared.reply.Reply.TheVariants.{NothingDue
 ghost use Rattle.plain_office.specs.Office.{Office, Account, Booked, of_version, of_part, empty_office, book_of};
 ghost use Rattle.plain_office.specs.Books.{is_open_stay};
 ghost use Rattle.plain_office.specs.Changes.{versions_of, effect};
+ghost use Rattle.plain_office.specs.Charges.{in_force};
 ghost use Rattle.plain_office.specs.Orderly.{IsOrderly, SizeFits, HasOpenStays, stays_expected, stay_of_version};
 ghost use Rattle.plain_office.specs.Orderly.{stay_of_part};
+ghost use Rattle.plain_office.specs.Once.{step_with};
 ghost use Rattle.plain_office.specs.Step.{step, shown_action, marker_made};
 ghost use Rattle.plain_office.specs.Answers.{answer};
 ghost use Rattle.plain_office.specs.Run.{is_not_before, run_from, run};
@@ -29,12 +31,14 @@ ghost use Rattle.plain_office.specs.Sweep.{IsSwept};
 ghost use Rattle.office_laws.specs.Commands.{SizesFit, IsElsewhere, OnlyActs};
 ghost use Rattle.office_laws.specs.ClosedMonths.{IsClosedMonth, ReadsSame};
 ghost use Rattle.office_laws.specs.Bound.{most_actions, HasSweepWithin};
+ghost use Rattle.office_laws.specs.Tariffs.{IsInForce};
 
-/// States that the empty office is orderly, that each command keeps an office orderly, and that so does each run.
+/// States that the empty office is orderly, that each command keeps an office orderly, with a token or without, and that
+/// so does each run.
 pub fn steps_are_orderly()
     ensures begins { IsOrderly empty_office }
-    ensures keeps { (t : ℕ) (c : Command) (p : Office) → SizeFits c → IsOrderly p → is_not_before p.last t ≡ true
-        → IsOrderly (step t c p).0 }
+    ensures keeps { (t : ℕ) (token : Option (List ℕ)) (c : Command) (p : Office)
+        → SizeFits c → IsOrderly p → is_not_before p.last t ≡ true → IsOrderly (step_with t token c p).0 }
     ensures runs { (entries : List Entry) (p : Office) → SizesFit entries → run entries ≡ Some p → IsOrderly p }
 {}
 
@@ -54,26 +58,27 @@ pub fn open_stays_are_those_of_the_records()
         ≡ stay_of_part number upload place part ∷ [] }
 {}
 
-/// States that a closed month stays closed, with its prices, and that no later command changes what is answered of its
+/// States that a closed month stays closed, with its tariff, and that no later command changes what is answered of its
 /// meters, early quantities and moves, nor its report.
 ///
 /// Own rule: a month is closed by a command.
 pub fn closed_months_stay()
-    ensures closed { (t : ℕ) (c : Command) (p : Office) (month : ℕ) (tariff : Prices)
+    ensures closed { (t : ℕ) (token : Option (List ℕ)) (c : Command) (p : Office) (month : ℕ) (tariff : Prices)
         → SizeFits c → IsOrderly p → is_not_before p.last t ≡ true → at_number month p.closed ≡ Some tariff
-        → at_number month (step t c p).0.closed ≡ Some tariff }
-    ensures readings { (t u v : ℕ) (c : Command) (p : Office) (month : ℕ) (name : List ℕ) (class : Class)
-        (before after : Account)
+        → at_number month (step_with t token c p).0.closed ≡ Some tariff }
+    ensures readings { (t u v : ℕ) (token : Option (List ℕ)) (c : Command) (p : Office) (month : ℕ) (name : List ℕ)
+        (class : Class) (before after : Account)
         → SizeFits c → is_not_before p.last t ≡ true → IsClosedMonth month u v p
-        → at_name name p.accounts ≡ Some before → at_name name (step t c p).0.accounts ≡ Some after
+        → at_name name p.accounts ≡ Some before → at_name name (step_with t token c p).0.accounts ≡ Some after
         → ReadsSame month class u v (book_of before.books) (book_of after.books) }
-    ensures meters { (t u v : ℕ) (c : Command) (p : Office) (month : ℕ) (name : List ℕ) (account : Account)
+    ensures meters { (t u v : ℕ) (token : Option (List ℕ)) (c : Command) (p : Office) (month : ℕ) (name : List ℕ)
+        (account : Account)
         → SizeFits c → is_not_before p.last t ≡ true → IsClosedMonth month u v p
         → at_name name p.accounts ≡ Some account
-        → answer v (query.Meters name month) (step t c p).0 ≡ answer u (query.Meters name month) p }
-    ensures report { (t u v : ℕ) (c : Command) (p : Office) (month : ℕ)
+        → answer v (query.Meters name month) (step_with t token c p).0 ≡ answer u (query.Meters name month) p }
+    ensures report { (t u v : ℕ) (token : Option (List ℕ)) (c : Command) (p : Office) (month : ℕ)
         → SizeFits c → is_not_before p.last t ≡ true → IsClosedMonth month u v p
-        → answer v (query.Report month) (step t c p).0 ≡ answer u (query.Report month) p }
+        → answer v (query.Report month) (step_with t token c p).0 ≡ answer u (query.Report month) p }
 {}
 
 /// States the same of any number of later commands.
@@ -87,10 +92,22 @@ pub fn closed_months_stay_for_good()
         → answer v (query.Report month) q ≡ answer u (query.Report month) p }
 {}
 
+/// States that the tariff in force in a month is, of those set, the one with the greatest first month that is not after
+/// the month, and that where none is in force each of them begins later.
+///
+/// Own rule: a tariff holds from its first month on, up to the first month of the next one.
+#[tactic(auto, using(crate::proofs::Tariffs::none_holds))]
+pub fn the_latest_tariff_is_in_force()
+    ensures found { (p : Office) (month : ℕ) (tariff : Prices) → IsOrderly p
+        → in_force month p.tariffs ≡ Some tariff → IsInForce month tariff p.tariffs }
+    ensures none { (p : Office) (month : ℕ) → in_force month p.tariffs ≡ None
+        → AllByRecursion (λ other. month < other.from) p.tariffs }
+{}
+
 /// States that a command leaves every bucket that it does not name, records and books.
 pub fn other_buckets_stay()
-    ensures { (t : ℕ) (c : Command) (p : Office) (name : List ℕ) → IsElsewhere name c
-        → at_name name (step t c p).0.accounts ≡ at_name name p.accounts }
+    ensures { (t : ℕ) (token : Option (List ℕ)) (c : Command) (p : Office) (name : List ℕ) → IsElsewhere name c
+        → at_name name (step_with t token c p).0.accounts ≡ at_name name p.accounts }
 {}
 
 /// States that an act does the choice and answers it, and that an act and the question what is due answer that nothing

@@ -1,9 +1,10 @@
 // What the office is asked.
+use crate::token::Token;
 use class_rules::Class;
 use moments::{Moment, Month};
 use office_base::{BucketName, Key, Size, Tags, VersionId};
 use rules_core::RuleSet;
-use tariff::Tariff;
+use tariff::BoxedTariff;
 
 /// A change that the office is asked to make. A command that it accepts becomes an entry of the journal.
 #[derive(Drop)]
@@ -80,9 +81,9 @@ pub enum Command {
     Act {
         bucket: BucketName,
     },
-    /// Sets the prices.
+    /// Sets a tariff, in the place of the one with the same first month.
     SetTariff {
-        tariff: Tariff,
+        tariff: BoxedTariff,
     },
     /// Closes a month: what was used in it and what that costs are settled.
     Close {
@@ -105,7 +106,7 @@ pub enum Query {
     Due(BucketName),
     /// What a bucket used in a month, by class.
     Meters(BucketName, Month),
-    /// The prices.
+    /// The tariffs that were set.
     Tariff,
     /// What a month costs, by bucket and class.
     Report(Month),
@@ -116,6 +117,8 @@ pub enum Query {
 pub enum Ask {
     /// A change.
     Command(Command),
+    /// A change that is done once, however often it is asked with this token.
+    Once { token: Token, command: Command },
     /// A question.
     Query(Query),
 }
@@ -125,5 +128,7 @@ pub enum Ask {
 pub struct Entry {
     /// The moment of the command, not before that of the entry before it.
     pub moment: Moment,
+    /// The token with which it was asked, if any.
+    pub token: Option<Token>,
     pub command: Command,
 }

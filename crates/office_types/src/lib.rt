@@ -2,9 +2,15 @@
 #![tactic(auto)]
 
 mod command;
+mod commands;
+mod kept;
 mod refusal;
 mod reply;
+mod token;
 
 pub use command::{Ask, Command, Entry, Query};
+pub use commands::commands_that_are_the_same;
+pub use kept::{Kept, marker_told, number_told};
 pub use refusal::{Refusal, What};
-pub use reply::{ClassMeters, LineKind, Reply, ReportLine};
+pub use reply::{ClassMeters, LineKind, Price, Reply, ReportLine};
+pub use token::Token;

@@ -18,6 +18,8 @@ pub enum What {
     Names,
     /// 67,108,864 bytes of printed lifecycle configurations in all buckets together.
     Rules,
+    /// 100 tariffs.
+    Tariffs,
 }
 
 /// Why an ask was not done. The office is then as before.
@@ -53,7 +55,7 @@ pub enum Refusal {
     EarlierMonthOpen {
         month: Month,
     },
-    /// 88: no prices were set.
+    /// 88: no tariff is in force in the month; or, where no month is asked for, none was set.
     NoTariff,
     /// 85: in this bucket a lifecycle action on this target stands before the month's end, and was not done.
     DueActions {
@@ -69,6 +71,10 @@ pub enum Refusal {
     /// 91: the ask's moment, in milliseconds, is not below the end of time. Only a desk answers this.
     ClockEnd {
         moment: u64,
+    },
+    /// 92: the token was used for another command, of this kind; its reply is kept.
+    TokenReused {
+        kind: u8,
     },
     /// 115: memory ran out.
     NoMemory,

@@ -31,6 +31,15 @@ pub enum LineKind {
     Transitions,
 }
 
+/// At what a line of a report is charged.
+#[derive(Clone, Copy, Debug, PartialEq, Eq)]
+pub enum Price {
+    /// At one price: units for a GiB-month, or for 1,000 transitions.
+    One(u32),
+    /// At the prices of several tiers.
+    Tiered,
+}
+
 /// A line of a month's report.
 #[derive(Drop)]
 pub struct ReportLine {
@@ -39,8 +48,7 @@ pub struct ReportLine {
     pub class: Class,
     /// Byte-milliseconds, or a number of transitions; never 0.
     pub quantity: u128,
-    /// Units for a GiB-month, or for 1,000 transitions.
-    pub price: u32,
+    pub price: Price,
     /// Whole units.
     pub charge: u128,
 }
@@ -101,7 +109,7 @@ pub enum Reply {
     },
     /// No lifecycle action is due.
     NothingDue,
-    /// The prices were set.
+    /// The tariff was set.
     TariffSet,
     /// The month was closed.
     Closed {
@@ -133,11 +141,11 @@ pub enum Reply {
     MetersShown {
         bucket: BucketName,
         month: Month,
-        classes: [ClassMeters; 6],
+        classes: Items<ClassMeters>,
     },
-    /// The prices.
+    /// The tariffs that were set, by their first months.
     TariffShown {
-        tariff: Tariff,
+        tariffs: Items<Tariff>,
     },
     /// What the month costs, by bucket and class.
     Report {

@@ -44,11 +44,12 @@ use Rattle.plain_office.specs.Counts.{count_of, tag_bytes_of}
 use Rattle.plain_office.specs.Step.{step, outcome, new_account, new_bucket}
 use Rattle.plain_office.specs.Answers.{answer}
 use Rattle.plain_office.specs.Charges.{report_lines}
+use Rattle.plain_office.specs.Once.{step_with}
 use Rattle.plain_office.specs.Run.{accept, run}
 
 -- what an example unfolds to compute
 unfoldable pub to_compute : ⊤
-unfolding run accept step outcome count_of answer report_lines effect choice candidates eligible version_actions
+unfolding run accept step_with step outcome count_of answer report_lines effect choice candidates eligible version_actions
     meter early_quantity move_count first_day months_over days_of_months digits moment_text
     printed configuration_data rule_data filter_data single_data conjunction_data tag_data transition_data
     noncurrent_move_data expiration_data noncurrent_data abort_data serde_json_on_literals
@@ -124,10 +125,11 @@ rules_of rules = record { rules = rules; mode = mode.All128K }
 in_order : run (entry_at new_year (command.CreateBucket logs) ∷ entry_at (new_year + 2) (command.CreateBucket (codes "data")) ∷ [])
     ≡ Some (record {
       last = Some (new_year + 2);
-      tariff = None;
+      tariffs = [];
       first_month = Some january;
       closed = [];
       accounts = (codes "data", new_account (new_year + 2)) ∷ (logs, new_account new_year) ∷ [];
+      kept = [];
     })
 unfolding to_compute
 in_order = refl

@@ -5,6 +5,7 @@ use Rattle.class_rules.specs.Classes.{all_classes}
 use Rattle.office_base.specs.Maps.{at_name, at_number}
 use Rattle.office_base.specs.Results.{◌>>=◌}
 use Rattle.rules_core.specs.Configurations.{Configuration}
+use Rattle.rules_core.specs.Matching.{is_empty}
 use Rattle.tariff.specs.Prices.{Prices}
 use Rattle.due_core.specs.Buckets.{BucketRecord}
 use Rattle.due_core.specs.Choice.{choice}
@@ -20,7 +21,7 @@ use Rattle.plain_office.specs.Office.{Office, Account, book_of}
 use Rattle.plain_office.specs.Counts.{version_count}
 use Rattle.plain_office.specs.Charges.{tariff_for, report_lines}
 pub use Rattle.plain_office.specs.Charges.{class_meters}
-use Rattle.plain_office.specs.Step.{account_at, shown_action}
+use Rattle.plain_office.specs.Step.{account_at, refuse_if, shown_action}
 
 -- ---- what a bucket tells of itself
 
@@ -61,9 +62,9 @@ due_told t bucket = Ok (due_shown t bucket)
 
 -- ---- what the office tells
 
--- the prices of now
-abbrev pub prices_told : Option Prices → Result Reply Refusal
-prices_told tariff = ok_or tariff NoTariff >>= λ prices. Ok (TariffShown prices)
+-- the tariffs that were set, by their first months
+abbrev pub tariffs_told : List Prices → Result Reply Refusal
+tariffs_told tariffs = refuse_if (is_empty tariffs) NoTariff (TariffShown tariffs)
 
 -- the reply to a query at this moment, for a moment that is not before the last one
 unfoldable pub answer : ℕ → Query → Office → Result Reply Refusal
@@ -85,7 +86,7 @@ answer t (query.Due name) office = do
 answer t (query.Meters name month) office = do
   account ← account_at name office
   Ok (MetersShown name month (map (class_meters month t (book_of account.books)) all_classes))
-answer t query.Tariff office = prices_told office.tariff
+answer t query.Tariff office = tariffs_told office.tariffs
 answer t (query.Report month) office = do
   tariff ← ok_or (tariff_for month office) NoTariff
   Ok (Report (report_lines tariff month t office))

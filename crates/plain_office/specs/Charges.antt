@@ -1,28 +1,37 @@
 -- What a month costs, line by line.
-use Rattle.std.specs.Prelude.{ℕ, Bool, not, ◌==◌, List, [], ◌∷◌, filter, flat_map, Option, Some, None}
+use Rattle.std.specs.Prelude.{ℕ, Bool, not, ◌==◌, nat_le, List, [], ◌∷◌, filter, find, reverse, flat_map, Option, Some, None}
 use Rattle.class_rules.specs.Classes.{all_classes}
 use Rattle.class_rules.specs.declared.class.Class.{Class}
 use Rattle.office_base.specs.Maps.{at_number}
-use Rattle.tariff.specs.Prices.{Prices, storage_price, move_price}
+use Rattle.tariff.specs.Prices.{Prices, storage_tiers, move_price}
+use Rattle.tariff.specs.declared.tiers.Tier.{Tier}
 use Rattle.tariff.specs.Charges.{charge_of, move_charge_of}
 use Rattle.accrual.specs.Books.{Book}
 use Rattle.accrual.specs.Meters.{meter, early_quantity, move_count}
 use Rattle.office_types.specs.declared.reply.ClassMeters.{ClassMeters}
 use Rattle.office_types.specs.declared.reply.LineKind.{LineKind}
 use Rattle.office_types.specs.declared.reply.LineKind.TheVariants.{Storage, Early, Transitions}
+use Rattle.office_types.specs.declared.reply.Price.{Price}
+use Rattle.office_types.specs.declared.reply.Price.TheVariants.{One, Tiered}
 use Rattle.office_types.specs.declared.reply.ReportLine.{ReportLine}
 use Rattle.plain_office.specs.Office.{Office, book_of}
 
+-- what a line tells of the tiers of a class: the price of one, and of several only that there are several (own)
+abbrev pub price_told : List Tier → Price
+price_told (tier ∷ []) = One tier.price
+price_told tiers = Tiered
+
 -- a quantity of byte-milliseconds (S3 User Guide, "Understanding your AWS billing and usage reports for Amazon
--- S3"), also an early one, at the price of storage (own)
+-- S3"), also an early one, at the prices of storage: it goes through the tiers of the class by itself, from the first on
+-- (own)
 abbrev pub storage_line : LineKind → Prices → ℕ → List ℕ → Class → ℕ → ReportLine
-storage_line kind tariff month name class quantity = let price = storage_price tariff class in record {
+storage_line kind tariff month name class quantity = let tiers = storage_tiers tariff class in record {
   bucket = name;
   kind = kind;
   class = class;
   quantity = quantity;
-  price = price;
-  charge = charge_of quantity price month;
+  price = price_told tiers;
+  charge = charge_of quantity tiers month;
 }
 
 -- lifecycle transitions to a class, at its price for them (S3 User Guide, "Transitioning objects using Amazon S3
@@ -33,7 +42,7 @@ transition_line tariff name class moves = let price = move_price tariff class in
   kind = Transitions;
   class = class;
   quantity = moves;
-  price = price;
+  price = One price;
   charge = move_charge_of moves price;
 }
 
@@ -63,14 +72,18 @@ metered_lines tariff month name used = filter has_quantity (
 abbrev pub class_lines : Prices → ℕ → ℕ → List ℕ → Book → Class → List ReportLine
 class_lines tariff month t name book class = metered_lines tariff month name (class_meters month t book class)
 
--- the prices of a closing, or else those of now
-abbrev pub kept_prices : Option Prices → Option Prices → Option Prices
-kept_prices None tariff = tariff
-kept_prices (Some prices) tariff = Some prices
+-- the tariff in force in a month: of those set, the last by first months whose first month is not after it (own)
+abbrev pub in_force : ℕ → List Prices → Option Prices
+in_force month tariffs = find (λ tariff. nat_le tariff.from month) (reverse tariffs)
 
--- a closed month keeps the prices of its closing (own)
+-- the tariff of a closing, or else the one in force
+abbrev pub kept_or : Option Prices → Option Prices → Option Prices
+kept_or None tariff = tariff
+kept_or (Some kept) tariff = Some kept
+
+-- a closed month keeps the tariff of its closing (own)
 abbrev pub tariff_for : ℕ → Office → Option Prices
-tariff_for month office = kept_prices (at_number month office.closed) office.tariff
+tariff_for month office = kept_or (at_number month office.closed) (in_force month office.tariffs)
 
 -- the lines of a month's report, as seen at the moment: buckets in the byte order of their names, classes from the
 -- warmest (own order)

@@ -8,7 +8,7 @@ use Rattle.stacks.specs.declared.version.Kind.TheVariants.{Object, Marker}
 use Rattle.stacks.specs.declared.version.Version.{Version}
 use Rattle.due_core.specs.Buckets.{BucketRecord}
 use Rattle.office_types.specs.declared.refusal.What.{What}
-use Rattle.office_types.specs.declared.refusal.What.TheVariants.{Buckets, Versions, Uploads, Parts, Names, Rules}
+use Rattle.office_types.specs.declared.refusal.What.TheVariants.{Buckets, Versions, Uploads, Parts, Names, Rules, Tariffs}
 use Rattle.plain_office.specs.Office.{Account, Office}
 
 -- the limit of each kind, of names and rules in bytes (own)
@@ -19,6 +19,7 @@ limit_of Uploads = 20_000
 limit_of Parts = 500_000
 limit_of Names = 536_870_912
 limit_of Rules = 67_108_864
+limit_of Tariffs = 100
 
 -- ---- in a bucket
 
@@ -66,6 +67,7 @@ count_of Uploads office = over_buckets (λ bucket. length bucket.uploads) office
 count_of Parts office = over_buckets part_count office
 count_of Names office = over_buckets name_bytes office
 count_of Rules office = over_buckets (λ bucket. rules_bytes bucket.rules) office
+count_of Tariffs office = length office.tariffs
 
 -- the first of these that is above its limit
 abbrev pub first_full : List What → Office → Option What

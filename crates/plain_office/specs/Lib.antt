@@ -4,6 +4,7 @@ pub mod Changes
 pub mod Charges
 pub mod Counts
 pub mod Office
+pub mod Once
 pub mod Orderly
 pub mod Run
 pub mod Step

@@ -5,6 +5,8 @@ use Rattle.office_base.specs.declared.version_id.VersionId.{VersionId}
 use Rattle.tariff.specs.Prices.{Prices}
 use Rattle.accrual.specs.Books.{Stay, Early, Move, Book}
 use Rattle.due_core.specs.Buckets.{BucketRecord}
+use Rattle.office_types.specs.declared.command.Command.{Command}
+use Rattle.office_types.specs.declared.reply.Reply.{Reply}
 
 -- what is stored: a version by its id, or a part of an upload by both numbers
 pub data Item : Type 0 where
@@ -32,14 +34,22 @@ pub record Account : Type 0 where
   pub bucket : BucketRecord
   pub books : Books
 
--- the moment of the last accepted command, the prices where any were set, the month of the first accepted command,
--- the closed months with the prices of their closing, and the buckets in the byte order of their names
+-- a command that was accepted with a token, and the reply that it got
+pub record KeptReply : Type 0 where
+  pub token : List ℕ
+  pub command : Command
+  pub reply : Reply
+
+-- the moment of the last accepted command, the tariffs that were set by their first months, the month of the first
+-- accepted command, the closed months with the tariff of their closing, the buckets in the byte order of their names,
+-- and the kept replies, oldest first
 pub record Office : Type 0 where
   pub last : Option ℕ
-  pub tariff : Option Prices
+  pub tariffs : List Prices
   pub first_month : Option ℕ
   pub closed : List (ℕ × Prices)
   pub accounts : List (List ℕ × Account)
+  pub kept : List KeptReply
 
 -- the books of a bucket of which nothing was booked yet
 abbrev pub empty_books : Books
@@ -47,7 +57,7 @@ empty_books = record { stays = []; early = []; moves = [] }
 
 -- the office before the first command
 abbrev pub empty_office : Office
-empty_office = record { last = None; tariff = None; first_month = None; closed = []; accounts = [] }
+empty_office = record { last = None; tariffs = []; first_month = None; closed = []; accounts = []; kept = [] }
 
 -- the stay itself, without whose it is
 abbrev pub stay_in : Booked → Stay

@@ -24,11 +24,12 @@ use Rattle.due_core.specs.Candidates.{eligible}
 use Rattle.accrual.specs.Books.{open_stay, IsBookedBy}
 use Rattle.office_types.specs.declared.command.Command.{Command}
 use Rattle.office_types.specs.declared.command.Command.TheVariants as command
-use Rattle.office_types.specs.declared.refusal.What.TheVariants.{Buckets, Uploads, Parts, Names, Rules}
-use Rattle.plain_office.specs.Office.{Office, Account, Item, Booked, book_of, of_version, of_part}
+use Rattle.office_types.specs.declared.refusal.What.TheVariants.{Buckets, Uploads, Parts, Names, Rules, Tariffs}
+use Rattle.plain_office.specs.Office.{Office, Account, Item, Booked, KeptReply, book_of, of_version, of_part}
 use Rattle.plain_office.specs.Books.{lines_of_kind, is_open_stay}
 use Rattle.plain_office.specs.Changes.{versions_of}
 use Rattle.plain_office.specs.Counts.{count_of, limit_of, over_buckets, version_count}
+use Rattle.plain_office.specs.Once.{most_kept, kept_at}
 
 -- ---- a stack
 
@@ -138,6 +139,11 @@ abbrev pub FollowEachOther : ℕ → List ℕ → Type 0
 FollowEachOther month [] = Unit {0}
 FollowEachOther month (first ∷ others) = (first ≡ month) × FollowEachOther (month + 1) others
 
+-- the first months of tariffs strictly rise, so that no two have the same
+abbrev pub FirstMonthsRise : List Prices → Type 0
+FirstMonthsRise [] = Unit {0}
+FirstMonthsRise (tariff ∷ others) = AllByRecursion (λ other. tariff.from < other.from) others × FirstMonthsRise others
+
 -- the end of the last closed month, and 0 where there is none
 abbrev pub last_end : List (ℕ × Prices) → ℕ
 last_end [] = 0
@@ -160,9 +166,10 @@ current_objects bucket = count_by (λ stack. current_is_object stack.1.versions)
 -- before the first accepted command there is nothing
 pub record IsBlank (office : Office) : Type 0 where
   pub accounts : office.accounts ≡ []
-  pub tariff : office.tariff ≡ None
+  pub tariffs : office.tariffs ≡ []
   pub closed : office.closed ≡ []
   pub first_month : office.first_month ≡ None
+  pub kept : office.kept ≡ []
 
 -- from it on there is a first month, and no moment and no closed month is above the last moment
 pub record IsOrderlyUntil (last : ℕ) (office : Office) : Type 0 where
@@ -175,20 +182,33 @@ pub record IsOrderlyUntil (last : ℕ) (office : Office) : Type 0 where
 pub record IsOrderlyRecords (office : Office) : Type 0 where
   pub names : Rises bytes_cmp office.accounts
   pub moments : MatchOption office.last (IsBlank office) (λ last. IsOrderlyUntil last office)
+  pub tariffs : FirstMonthsRise office.tariffs
   pub months : IfSome office.first_month (λ first. FollowEachOther first (map (λ month. month.0) office.closed))
   pub nothing_due_in_closed_months : AllByRecursion (λ account.
       AllByRecursion (λ candidate. closed_until office ≤ candidate.action.since) (eligible account.1.bucket))
       office.accounts
   pub versions : over_buckets (λ bucket. version_count bucket + current_objects bucket) office ≤ 400_000
   pub counts : AllByRecursion (λ what. count_of what office ≤ limit_of what)
-      (Buckets ∷ Uploads ∷ Parts ∷ Names ∷ Rules ∷ [])
+      (Buckets ∷ Uploads ∷ Parts ∷ Names ∷ Rules ∷ Tariffs ∷ [])
 
--- and the open stays are those that the records ask for, and no moment that is booked is above the last one
+-- no two are kept under one token
+abbrev pub TokensDiffer : List KeptReply → Type 0
+TokensDiffer [] = Unit {0}
+TokensDiffer (first ∷ kept) = (kept_at first.token kept ≡ None) × TokensDiffer kept
+
+-- the kept replies are not too many, and each has a token of its own
+pub record AreKept (kept : List KeptReply) : Type 0 where
+  pub few : length kept ≤ most_kept
+  pub differ : TokensDiffer kept
+
+-- and the open stays are those that the records ask for, no moment that is booked is above the last one, and the kept
+-- replies are in order
 pub record IsOrderly (office : Office) : Type 0 where
   pub records : IsOrderlyRecords office
   pub stays : AllByRecursion (λ account. HasOpenStays account.1) office.accounts
   pub booked : IfSome office.last (λ last.
       AllByRecursion (λ account. IsBookedBy last (book_of account.1.books)) office.accounts)
+  pub kept : AreKept office.kept
 
 -- a put's size is up to the largest, as in every command of the program
 abbrev pub SizeFits : Command → Type 0

@@ -1,19 +1,26 @@
 -- The office after a list of entries.
-use Rattle.std.specs.Prelude.{ℕ, Bool, true, ◌&&◌, List, [], ◌∷◌, nat_le, Option, Some, None, option_and_then, if◌then◌else◌}
+use Rattle.std.specs.Prelude.{ℕ, Bool, true, ◌&&◌, List, [], ◌∷◌, nat_le, Option, Some, None, is_none, option_and_then, if◌then◌else◌}
 use Rattle.office_types.specs.declared.command.Entry.{Entry}
 use Rattle.plain_office.specs.Office.{Office, empty_office}
-use Rattle.plain_office.specs.Step.{step, is_accepted}
+use Rattle.plain_office.specs.Step.{is_accepted}
+use Rattle.plain_office.specs.Once.{kept_for, step_with}
 
 -- time does not go back
 abbrev pub is_not_before : Option ℕ → ℕ → Bool
 is_not_before None t = true
 is_not_before (Some last) t = nat_le last t
 
--- the office after one more entry, where its moment is not before the last one and its command is accepted there
+-- no reply is kept under the token, if there is one
+abbrev pub is_new : Option (List ℕ) → Office → Bool
+is_new token office = is_none (kept_for token office)
+
+-- the office after one more entry, where its moment is not before the last one, its token is new, and its command is
+-- accepted there
 unfoldable pub accept : Office → Entry → Option Office
 accept office entry =
-    let next = step entry.moment entry.command office in
-    if is_not_before office.last entry.moment && is_accepted next.1 then Some next.0 else None
+    let next = step_with entry.moment entry.token entry.command office in
+    if is_not_before office.last entry.moment && is_new entry.token office && is_accepted next.1 then Some next.0
+    else None
 
 -- entries in order from an office on; None where one is not accepted at its place
 abbrev pub run_from : Option Office → List Entry → Option Office

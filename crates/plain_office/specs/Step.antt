@@ -1,5 +1,5 @@
 -- What each command answers and does, at a moment.
-use Rattle.std.specs.Prelude.{ℕ, ◌+◌, ◌-◌, Bool, true, false, not, ◌&&◌, List, [], ◌∷◌, ◌++◌, length, nat_lt, slice_get, Option, Some, None}
+use Rattle.std.specs.Prelude.{ℕ, ◌+◌, ◌-◌, Bool, true, false, not, ◌&&◌, List, [], ◌∷◌, ◌++◌, length, filter, nat_lt, slice_get, Option, Some, None}
 use Rattle.std.specs.Prelude.{is_some, unwrap_or, option_map, Result, Ok, Err, if◌then◌else◌}
 use Rattle.std.specs.Option.{ok_or}
 use Rattle.moments.specs.Months.{month_at, month_end}
@@ -36,9 +36,10 @@ use Rattle.office_types.specs.declared.refusal.Refusal.TheVariants.{BucketExists
 use Rattle.office_types.specs.declared.refusal.Refusal.TheVariants.{NoSuchVersion, IsMarker, NoSuchUpload, BadPart, NoParts, MonthNotOver}
 use Rattle.office_types.specs.declared.refusal.Refusal.TheVariants.{AlreadyClosed, EarlierMonthOpen, NoTariff, DueActions, Full}
 use Rattle.office_types.specs.declared.refusal.What.{What}
-use Rattle.office_types.specs.declared.refusal.What.TheVariants.{Buckets, Versions, Uploads, Parts, Names, Rules}
+use Rattle.office_types.specs.declared.refusal.What.TheVariants.{Buckets, Versions, Uploads, Parts, Names, Rules, Tariffs}
 use Rattle.plain_office.specs.Office.{Office, Account, empty_books}
 use Rattle.plain_office.specs.Changes.{with_stack, next_id, add_version, remove_version, with_upload, add_part, remove_upload, effect}
+use Rattle.plain_office.specs.Charges.{in_force}
 use Rattle.plain_office.specs.Counts.{limit_of, first_full}
 
 -- refused where the test holds
@@ -232,9 +233,14 @@ create_bucket t name office =
     refuse_if (is_some (at_name name office.accounts)) BucketExists
     (record office { accounts = with_name name (new_account t) office.accounts }, BucketMade name)
 
--- the prices of now, in place of those before (own)
+-- a tariff among others by their first months, in the place of the one with the same first month (own)
+abbrev pub with_tariff : Prices → List Prices → List Prices
+with_tariff tariff others =
+    filter (λ other. nat_lt other.from tariff.from) others ++ tariff ∷ filter (λ other. nat_lt tariff.from other.from) others
+
+-- a tariff is set: it holds from its first month on, up to the first month of the next one (own)
 abbrev pub set_tariff : Prices → Office → Outcome
-set_tariff tariff office = Ok (record office { tariff = Some tariff }, TariffSet)
+set_tariff tariff office = Ok (record office { tariffs = with_tariff tariff office.tariffs }, TariffSet)
 
 -- the first month that does not count as closed (own: months before the first accepted command do, and before there
 -- is one, all months before the moment's)
@@ -254,15 +260,15 @@ abbrev pub unless_due : Option (List ℕ × Action) → Office × Reply → Outc
 unless_due None done = Ok done
 unless_due (Some (name, action)) done = Err (DueActions name action.key action.target)
 
--- months are closed in order, once they are over, once all that is due in them is done, and with the prices of now
--- (own)
+-- months are closed in order, once they are over, once all that is due in them is done, and with the tariff in force in
+-- them (own)
 abbrev pub close : ℕ → ℕ → Office → Outcome
 close t month office =
     if nat_lt t (month_end month) then Err (MonthNotOver (month_end month))
     else if nat_lt month (month_to_close t office) then Err AlreadyClosed
     else if nat_lt (month_to_close t office) month then Err (EarlierMonthOpen (month_to_close t office))
     else do
-      tariff ← ok_or office.tariff NoTariff
+      tariff ← ok_or (in_force month office.tariffs) NoTariff
       unless_due (due_before t (month_end month) office.accounts)
           (record office { closed = office.closed ++ (month, tariff) ∷ [] }, Closed month)
 
@@ -296,7 +302,7 @@ outcome t (command.Complete name upload) office =
     within_limits (Versions ∷ Names ∷ []) (on_bucket name (complete t upload) office)
 outcome t (command.Abort name upload) office = on_bucket name (abort t upload) office
 outcome t (command.Act name) office = on_bucket name (act t) office
-outcome t (command.SetTariff tariff) office = set_tariff tariff office
+outcome t (command.SetTariff tariff) office = within_limits (Tariffs ∷ []) (set_tariff tariff office)
 outcome t (command.Close month) office = close t month office
 
 -- ---- a step
@@ -311,8 +317,8 @@ settled t before (Err refusal) = (before, Err refusal)
 settled t before (Ok (after, NothingDue)) = (before, Ok NothingDue)
 settled t before (Ok (after, reply)) = (accepted t after, Ok reply)
 
--- the office after a command at this moment, and the answer, for a moment that is not before the last one and below
--- the end of time
+-- the office after a command without a token at this moment, and the answer, for a moment that is not before the last
+-- one and below the end of time
 unfoldable pub step : ℕ → Command → Office → Office × Result Reply Refusal
 step t command office = settled t office (outcome t command office)
 
