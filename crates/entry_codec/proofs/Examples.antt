@@ -1,33 +1,37 @@
 -- Worked examples, computed.
-use Rattle.std.proofs.Common.{◌≡◌, ℕ, ◌-◌, ◌^◌, false, List, [], ◌∷◌, ◌++◌, take, drop, refl}
+use Rattle.std.proofs.Common.{◌≡◌, ℕ, ◌-◌, ◌^◌, false, List, [], ◌∷◌, ◌++◌, length, take, drop, Some, None, refl}
 use Rattle.std.specs.Prelude.{Ok, Err, codes, ⊤}
 use Rattle.std.specs.List.{repeat}
 use Rattle.std.specs.Str.{is_utf8, chars}
 use Rattle.std.proofs.Math.Utf8.{encode}
 use Rattle.office_types.specs.declared.command.Command.TheVariants as command
+use Rattle.office_types.specs.Entries.{entry_at, entry_with}
+use Rattle.office_types.specs.Tokens.{is_token}
 use Rattle.office_types.specs.declared.command.Entry.{Entry}
 use Rattle.class_rules.specs.declared.class.Class.TheVariants.{Glacier}
+use Rattle.tariff.specs.declared.tiers.Tier.{Tier}
+use Rattle.tariff.specs.Prices.{Prices, one_tier}
 use Rattle.office_base.specs.Names.{is_bucket_name}
 use Rattle.office_base.specs.Keys.{is_key}
 use Rattle.office_base.specs.Tags.{is_tag}
 use Rattle.office_base.specs.declared.version_id.VersionId.TheVariants.{Null, Number}
 use Rattle.entry_codec.specs.Formats.{front_items}
-use Rattle.entry_codec.specs.Fields.{format, moment_format, utf8_text, tag_format}
-use Rattle.entry_codec.specs.Kinds.{kind_format, fields_of}
+use Rattle.entry_codec.specs.Fields.{format, moment_format, token_format, utf8_text, tag_format, tier_format}
+use Rattle.entry_codec.specs.Kinds.{head_format, fields_of}
 use Rattle.entry_codec.specs.declared.kinds.Kind.TheVariants as kind
-use Rattle.entry_codec.specs.Spelling.{command_spelling, spelling}
-use Rattle.entry_codec.specs.Reading.{value_at, values_at, kind_at, command_at, entry_of}
+use Rattle.entry_codec.specs.Spelling.{fields_spelling, head_spelling, command_spelling, spelling}
+use Rattle.entry_codec.specs.Reading.{value_at, values_at, kind_at, token_at, command_at, entry_of}
 
 -- what an example unfolds to compute
 unfoldable to_compute : ⊤
-unfolding entry_of command_at kind_at value_at spelling command_spelling moment_format kind_format format front_items tag_format utf8_text
-    is_bucket_name is_key is_tag is_utf8 chars encode
+unfolding entry_of command_at token_at kind_at value_at spelling command_spelling head_spelling fields_spelling moment_format head_format token_format
+    format front_items tag_format tier_format utf8_text is_token is_bucket_name is_key is_tag is_utf8 chars encode
 to_compute = tt
 
 -- ---- a bucket is made at 2024-01-01 00:00 UTC
 
 abbrev logs_made : Entry
-logs_made = record { moment = 1_704_067_200_000; command = command.CreateBucket (codes "logs") }
+logs_made = entry_at 1_704_067_200_000 (command.CreateBucket (codes "logs"))
 
 -- 2024-01-01 00:00 UTC in ms
 abbrev moment_bytes : List ℕ
@@ -84,15 +88,86 @@ kind_00 : entry_of (moment_bytes ++ 0x00 ∷ name_bytes) ≡ Err 8
 unfolding to_compute
 kind_00 = refl
 
-kind_10 : entry_of (moment_bytes ++ 0x10 ∷ name_bytes) ≡ Err 8
+kind_11 : entry_of (moment_bytes ++ 0x11 ∷ name_bytes) ≡ Err 8
 unfolding to_compute
-kind_10 = refl
+kind_11 = refl
+
+-- ---- the same with the token `t1`
+
+abbrev once_made : Entry
+once_made = entry_with 1_704_067_200_000 (Some (codes "t1")) (command.CreateBucket (codes "logs"))
+
+-- the kind is 80 higher, and the token stands behind it
+abbrev once_bytes : List ℕ
+once_bytes = moment_bytes ++ 0x81 ∷ 0x02 ∷ 0x74 ∷ 0x31 ∷ name_bytes
+
+once_spelled : spelling once_made ≡ once_bytes
+unfolding to_compute
+once_spelled = refl
+
+once_read : entry_of once_bytes ≡ Ok once_made
+unfolding to_compute
+once_read = refl
+
+-- an empty token, one with a space, and one that is cut off are faults where the length stands
+token_empty : entry_of (moment_bytes ++ 0x81 ∷ 0x00 ∷ name_bytes) ≡ Err 9
+unfolding to_compute
+token_empty = refl
+
+token_space : entry_of (moment_bytes ++ 0x81 ∷ 0x02 ∷ 0x74 ∷ 0x20 ∷ name_bytes) ≡ Err 9
+unfolding to_compute
+token_space = refl
+
+token_cut : entry_of (take 11 once_bytes) ≡ Err 9
+unfolding to_compute
+token_cut = refl
+
+no_token : entry_of (take 9 once_bytes) ≡ Err 9
+unfolding to_compute
+no_token = refl
+
+-- the name behind the token is a field of its own
+once_shorter : entry_of (take 17 once_bytes) ≡ Err 12
+unfolding to_compute
+once_shorter = refl
+
+-- a token of 64 bytes is one, and of 65 none
+longest : entry_of (moment_bytes ++ 0x81 ∷ 0x40 ∷ repeat 64 (0x61 ∷ []) ++ name_bytes)
+    ≡ Ok (entry_with 1_704_067_200_000 (Some (repeat 64 (0x61 ∷ []))) (command.CreateBucket (codes "logs")))
+unfolding to_compute
+longest = refl
+
+too_long : entry_of (moment_bytes ++ 0x81 ∷ 0x41 ∷ repeat 65 (0x61 ∷ []) ++ name_bytes) ≡ Err 9
+unfolding to_compute
+too_long = refl
+
+-- rules, acts and prices carry none, and no kind is 80 or 90
+rules_once : entry_of (moment_bytes ++ 0x83 ∷ 0x02 ∷ 0x74 ∷ 0x31 ∷ name_bytes) ≡ Err 8
+unfolding to_compute
+rules_once = refl
+
+act_once : entry_of (moment_bytes ++ 0x8D ∷ 0x02 ∷ 0x74 ∷ 0x31 ∷ name_bytes) ≡ Err 8
+unfolding to_compute
+act_once = refl
+
+prices_once : entry_of (moment_bytes ++ 0x8E ∷ 0x02 ∷ 0x74 ∷ 0x31 ∷ name_bytes) ≡ Err 8
+unfolding to_compute
+prices_once = refl
+
+kind_80 : entry_of (moment_bytes ++ 0x80 ∷ 0x02 ∷ 0x74 ∷ 0x31 ∷ name_bytes) ≡ Err 8
+unfolding to_compute
+kind_80 = refl
+
+kind_90 : entry_of (moment_bytes ++ 0x90 ∷ 0x02 ∷ 0x74 ∷ 0x31 ∷ name_bytes) ≡ Err 8
+unfolding to_compute
+kind_90 = refl
 
 -- ---- 1,000 bytes are put at that moment under the key `a`, in GLACIER, with the tags keep: no and kind: raw
 
 abbrev a_put : Entry
 a_put = record {
   moment = 1_704_067_200_000;
+  token = None;
   command = command.Put (codes "logs") (codes "a") 1_000 Glacier ((codes "keep", codes "no") ∷ (codes "kind", codes "raw") ∷ []);
 }
 
@@ -193,21 +268,21 @@ all_ones = repeat 8 (0xFF ∷ [])
 
 -- ---- the other kinds, each in an entry of that moment
 
-suspended : command_spelling (command.SetVersioning (codes "logs") false) ≡ 0x02 ∷ name_bytes ++ 0x02 ∷ []
+suspended : command_spelling None (command.SetVersioning (codes "logs") false) ≡ 0x02 ∷ name_bytes ++ 0x02 ∷ []
 unfolding to_compute
 suspended = refl
 
-null_deleted : command_spelling (command.DeleteVersion (codes "logs") (codes "a") Null)
+null_deleted : command_spelling None (command.DeleteVersion (codes "logs") (codes "a") Null)
     ≡ 0x07 ∷ name_bytes ++ 0x00 ∷ 0x01 ∷ 0x61 ∷ 0x00 ∷ 0x00 ∷ 0x00 ∷ 0x00 ∷ 0x00 ∷ 0x00 ∷ 0x00 ∷ 0x00 ∷ []
 unfolding to_compute
 null_deleted = refl
 
-third_deleted : command_spelling (command.DeleteVersion (codes "logs") (codes "a") (Number 3))
+third_deleted : command_spelling None (command.DeleteVersion (codes "logs") (codes "a") (Number 3))
     ≡ 0x07 ∷ name_bytes ++ 0x00 ∷ 0x01 ∷ 0x61 ∷ 0x00 ∷ 0x00 ∷ 0x00 ∷ 0x00 ∷ 0x00 ∷ 0x00 ∷ 0x00 ∷ 0x03 ∷ []
 unfolding to_compute
 third_deleted = refl
 
-part_put : command_spelling (command.PutPart (codes "logs") 1 5 1_000)
+part_put : command_spelling None (command.PutPart (codes "logs") 1 5 1_000)
     ≡ 0x0A ∷ name_bytes ++ (0x00 ∷ 0x00 ∷ 0x00 ∷ 0x00 ∷ 0x00 ∷ 0x00 ∷ 0x00 ∷ 0x01 ∷ []) ++ (0x00 ∷ 0x00 ∷ 0x00 ∷ 0x05 ∷ []) ++ size_bytes
 unfolding to_compute
 part_put = refl
@@ -218,36 +293,36 @@ one_bytes = 0x00 ∷ 0x00 ∷ 0x00 ∷ 0x00 ∷ 0x00 ∷ 0x00 ∷ 0x00 ∷ 0x01 
 abbrev key_a : List ℕ
 key_a = 0x00 ∷ 0x01 ∷ 0x61 ∷ []
 
-dropped : command_spelling (command.DropRules (codes "logs")) ≡ 0x04 ∷ name_bytes
+dropped : command_spelling None (command.DropRules (codes "logs")) ≡ 0x04 ∷ name_bytes
 unfolding to_compute
 dropped = refl
 
-deleted : command_spelling (command.Delete (codes "logs") (codes "a")) ≡ 0x06 ∷ name_bytes ++ key_a
+deleted : command_spelling None (command.Delete (codes "logs") (codes "a")) ≡ 0x06 ∷ name_bytes ++ key_a
 unfolding to_compute
 deleted = refl
 
-tagged : command_spelling (command.SetTags (codes "logs") (codes "a") (Number 1) []) ≡ 0x08 ∷ name_bytes ++ key_a ++ one_bytes ++ 0x00 ∷ []
+tagged : command_spelling None (command.SetTags (codes "logs") (codes "a") (Number 1) []) ≡ 0x08 ∷ name_bytes ++ key_a ++ one_bytes ++ 0x00 ∷ []
 unfolding to_compute
 tagged = refl
 
-started : command_spelling (command.StartUpload (codes "logs") (codes "a") Glacier []) ≡ 0x09 ∷ name_bytes ++ key_a ++ 0x04 ∷ 0x00 ∷ []
+started : command_spelling None (command.StartUpload (codes "logs") (codes "a") Glacier []) ≡ 0x09 ∷ name_bytes ++ key_a ++ 0x04 ∷ 0x00 ∷ []
 unfolding to_compute
 started = refl
 
-completed : command_spelling (command.Complete (codes "logs") 1) ≡ 0x0B ∷ name_bytes ++ one_bytes
+completed : command_spelling None (command.Complete (codes "logs") 1) ≡ 0x0B ∷ name_bytes ++ one_bytes
 unfolding to_compute
 completed = refl
 
-aborted : command_spelling (command.Abort (codes "logs") 1) ≡ 0x0C ∷ name_bytes ++ one_bytes
+aborted : command_spelling None (command.Abort (codes "logs") 1) ≡ 0x0C ∷ name_bytes ++ one_bytes
 unfolding to_compute
 aborted = refl
 
-acted : command_spelling (command.Act (codes "logs")) ≡ 0x0D ∷ name_bytes
+acted : command_spelling None (command.Act (codes "logs")) ≡ 0x0D ∷ name_bytes
 unfolding to_compute
 acted = refl
 
 -- 2024-01 is the month of this number
-january_closed : command_spelling (command.Close 648) ≡ 0x0F ∷ 0x07 ∷ 0xE8 ∷ 0x01 ∷ []
+january_closed : command_spelling None (command.Close 648) ≡ 0x0F ∷ 0x07 ∷ 0xE8 ∷ 0x01 ∷ []
 unfolding to_compute
 january_closed = refl
 
@@ -279,3 +354,65 @@ part_read = refl
 status_3 : values_at (fields_of kind.SetVersioning) 16 (name_bytes ++ 0x03 ∷ []) ≡ Err 15
 unfolding to_compute
 status_3 = refl
+
+-- ---- tariffs
+
+-- storage in STANDARD in tiers from a month on, all else at one price for any quantity
+abbrev tiered : ℕ → List Tier → Prices
+tiered from tiers = record {
+  from = from;
+  storage = tiers ∷ one_tier 1 ∷ one_tier 2 ∷ one_tier 3 ∷ one_tier 4 ∷ one_tier 5 ∷ [];
+  transition = 6 ∷ 7 ∷ 8 ∷ 9 ∷ 10 ∷ [];
+}
+
+-- the first GiB-month at 23,000 (0x59D8), all others at 20,000 (0x4E20)
+abbrev two_prices : List Tier
+two_prices = record { upto = Some 1; price = 23_000 } ∷ record { upto = None; price = 20_000 } ∷ []
+
+abbrev four : ℕ → List ℕ
+four n = 0x00 ∷ 0x00 ∷ 0x00 ∷ n ∷ []
+
+-- one tier in nine bytes: one, no end, and the price
+abbrev flat_tier : ℕ → List ℕ
+flat_tier price = 0x01 ∷ four 0x00 ++ four price
+
+abbrev other_tiers : List ℕ
+other_tiers = flat_tier 1 ++ flat_tier 2 ++ flat_tier 3 ++ flat_tier 4 ++ flat_tier 5
+
+abbrev move_prices : List ℕ
+move_prices = four 6 ++ four 7 ++ four 8 ++ four 9 ++ four 10
+
+abbrev tiered_bytes : List ℕ
+tiered_bytes =
+    0x10 ∷ 0x07 ∷ 0xE8 ∷ 0x01 ∷ 0x02 ∷ four 0x01 ++ 0x00 ∷ 0x00 ∷ 0x59 ∷ 0xD8 ∷ four 0x00 ++ 0x00 ∷ 0x00 ∷ 0x4E ∷ 0x20 ∷ other_tiers ++ move_prices
+
+tiers_spelled : command_spelling None (command.SetTariff (tiered 648 two_prices)) ≡ tiered_bytes
+unfolding to_compute
+tiers_spelled = refl
+
+tiers_read : command_at 94 tiered_bytes ≡ Ok (None, command.SetTariff (tiered 648 two_prices))
+unfolding to_compute
+tiers_read = refl
+
+-- an entry of it has 94 bytes
+tiers_long : length (moment_bytes ++ tiered_bytes) ≡ 94
+tiers_long = refl
+
+-- with one tier a class a tariff from January 1970 on has the shorter kind, and a later one has not
+plain_spelled : command_spelling None (command.SetTariff (tiered 0 (one_tier 11))) ≡ 0x0E ∷ four 11 ++ four 1 ++ four 2 ++ four 3 ++ four 4 ++ four 5 ++ move_prices
+unfolding to_compute
+plain_spelled = refl
+
+later_spelled : command_spelling None (command.SetTariff (tiered 1 (one_tier 11))) ≡ 0x10 ∷ 0x07 ∷ 0xB2 ∷ 0x02 ∷ flat_tier 11 ++ other_tiers ++ move_prices
+unfolding to_compute
+later_spelled = refl
+
+-- so the longer kind of the first one is a fault of the kind, which stands in front of the 77 bytes
+plain_in_tiers : command_at 86 (0x10 ∷ 0x07 ∷ 0xB2 ∷ 0x01 ∷ flat_tier 11 ++ other_tiers ++ move_prices) ≡ Err 8
+unfolding to_compute
+plain_in_tiers = refl
+
+-- the tiers of a class are one field: here those of the second one end twice at the same place
+second_tiers : command_at 102 (0x10 ∷ 0x07 ∷ 0xE8 ∷ 0x01 ∷ flat_tier 11 ++ 0x03 ∷ four 5 ++ four 1 ++ four 5 ++ four 1 ++ four 0 ++ four 1 ++ take 36 other_tiers ++ move_prices) ≡ Err 21
+unfolding to_compute
+second_tiers = refl

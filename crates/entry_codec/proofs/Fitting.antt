@@ -16,7 +16,6 @@ use Rattle.rules_core.specs.Configurations.{Configuration}
 use Rattle.office_types.specs.declared.command.Command.TheVariants as command
 use Rattle.entry_codec.specs.Fields.{Name, Key, Size, Rank, Tags, Rules, Status, Id, Number4, Number8, Year, Month, format, id_code, is_id, utf8_text, tag_format}
 use Rattle.entry_codec.specs.Spelling.{CommandFits}
-use Rattle.entry_codec.proofs.FieldLaws.{few}
 use Rattle.entry_codec.proofs.Sizes.{tag_parts_small}
 
 pub name_has : (t : List ℕ) → IsBucketName t → (format Name).has t ≡ true

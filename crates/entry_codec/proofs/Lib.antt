@@ -7,7 +7,10 @@ pub mod Items
 pub mod Laws
 pub mod MonthLemmas
 pub mod PriceLemmas
+pub mod Repeated
 pub mod Rising
 pub mod RulesTexts
 pub mod Sizes
 pub mod TagLemmas
+pub mod TierLemmas
+pub mod TierSpelling

@@ -1,6 +1,6 @@
 -- How long an entry is.
-use Rattle.std.proofs.Common.{◌≡◌, ℕ, ◌+◌, ◌*◌, ◌^◌, ◌<◌, ◌≤◌, true, ◌&&◌, List, [], ◌∷◌, ◌++◌, length, refl, ap, arith, length-append}
-use Rattle.std.specs.Prelude.{nat_le}
+use Rattle.std.proofs.Common.{◌≡◌, ℕ, ◌+◌, ◌*◌, ◌^◌, ◌<◌, ◌≤◌, true, false, ◌&&◌, List, [], ◌∷◌, ◌++◌, length, refl, ap, arith, length-append}
+use Rattle.std.specs.Prelude.{nat_le, Option, Some, None, IfSome}
 use Rattle.std.specs.List.{list_all, flat_map}
 use Rattle.std.proofs.lemmas.Bool.Decides.{nat_tests}
 use Rattle.std.proofs.lemmas.Bool.{and_parts}
@@ -8,16 +8,20 @@ use Rattle.office_base.specs.Tags.{Tag, is_tag, keys_rise}
 use Rattle.office_base.proofs.Sizes.{name_small, key_small}
 use Rattle.office_types.specs.declared.command.Command.{Command}
 use Rattle.office_types.specs.declared.command.Entry.{Entry}
-use Rattle.office_types.specs.Entries.{entry_at}
+use Rattle.office_types.specs.Entries.{entry_with}
+use Rattle.office_types.specs.Tokens.{IsToken}
+use Rattle.office_types.proofs.Small.{token_small}
 use Rattle.rules_json.proofs.ShortTexts.{printed_most, long_text}
 use Rattle.std.specs.Int.{w8}
 use Rattle.entry_codec.specs.Formats.{number}
-use Rattle.entry_codec.specs.Fields.{Field, Name, Key, Size, Rank, Tags, Rules, Status, Id, Number4, Number8, Price, Year, Month, ValueOf, format, moment_format, tag_format, utf8_text}
+use Rattle.entry_codec.specs.Fields.{Field, Name, Key, Size, Rank, Tags, Rules, Status, Id, Number4, Number8, Price, Tiers, Year, Month, ValueOf, format, moment_format, token_format, tag_format, tier_format, utf8_text}
 use Rattle.entry_codec.specs.declared.kinds.Kind.{Kind}
-use Rattle.entry_codec.specs.Kinds.{Values, kind_format, fields_of, parts_of}
+use Rattle.entry_codec.specs.Kinds.{Values, Head, head_format, fields_of, parts_of}
 use Rattle.entry_codec.specs.declared.kinds.Kind.TheVariants as kind
-use Rattle.entry_codec.specs.Spelling.{written_values, are_values, command_spelling, CommandFits, IsEntry, EntryFits, entry_limit, spelling}
-use Rattle.entry_codec.proofs.FieldLaws.{few, kept}
+use Rattle.entry_codec.specs.Spelling.{written_values, are_values, fields_spelling, head_spelling, command_spelling, CommandFits, IsEntry, EntryFits, entry_limit, spelling}
+use Rattle.tariff.specs.Prices.{are_tiers}
+use Rattle.tariff.specs.declared.tiers.Tier.{Tier}
+use Rattle.entry_codec.proofs.FieldLaws.{few, up_to_eight, kept}
 
 -- ---- fields
 
@@ -40,6 +44,14 @@ all_small (t ∷ tags) all =
     let parts = and_parts (is_tag t) (list_all is_tag tags) all in
     omega (arith, length-append (tag_format.written t) (flat_map tag_format.written tags), tag_small t parts.0, all_small tags parts.1)
 
+tier_small : (t : Tier) → length (tier_format.written t) ≡ 8
+unfolding tier_format
+tier_small t = refl
+
+tiers_small : (tiers : List Tier) → length (flat_map tier_format.written tiers) ≡ 8 * length tiers
+tiers_small [] = refl
+tiers_small (t ∷ tiers) = omega (arith, length-append (tier_format.written t) (flat_map tier_format.written tiers), tier_small t, tiers_small tiers)
+
 -- the most bytes that each field has
 abbrev most : Field → ℕ
 most Name = 65
@@ -53,6 +65,7 @@ most Id = 8
 most Number4 = 4
 most Number8 = 8
 most Price = 4
+most Tiers = 65
 most Year = 2
 most Month = 1
 
@@ -74,6 +87,12 @@ value_small Id value has = omega arith
 value_small Number4 value has = omega arith
 value_small Number8 value has = omega arith
 value_small Price value has = omega arith
+value_small Tiers value has =
+    let parts = and_parts (up_to_eight.has (length value) && list_all tier_format.has value) (are_tiers value) has in
+    let count = and_parts (up_to_eight.has (length value)) (list_all tier_format.has value) parts.0 in
+    let eight : nat_le (length value) 8 ≡ true = (and_parts ((number w8).has (length value)) (nat_le (length value) 8) count.0).1 in
+    let at_most : length value ≤ 8 = grind (arith, nat_tests) in
+    omega (arith, at_most, tiers_small value)
 value_small Year value has = omega arith
 value_small Month value has = omega arith
 
@@ -89,25 +108,41 @@ values_small (field ∷ fields) values has =
     let parts = and_parts ((format field).has values.0) (are_values fields values.1) has in
     omega (arith, length-append ((format field).written values.0) (written_values fields values.1), value_small field values.0 parts.0, values_small fields values.1 parts.1)
 
-kind_small : (k : Kind) → length (kind_format.written k) ≡ 1
-unfolding kind_format
-kind_small k = refl
+head_small : (head : Head) → length (head_format.written head) ≡ 1
+unfolding head_format
+head_small head = refl
+
+-- a kind has one byte, and a token with its length at most 65
+heads_small : (token : Option (List ℕ)) (k : Kind) → IfSome token IsToken → length (head_spelling token k) ≤ 66
+unfolding head_spelling token_format
+heads_small None k is = omega (arith, head_small (k, false))
+heads_small (Some token) k is =
+    omega (arith, head_small (k, true), length-append (head_format.written (k, true)) (token_format.written token), length-append ((number w8).written (length token)) token, token_small token is)
+
+heads_long : (token : Option (List ℕ)) (k : Kind) → 1 ≤ length (head_spelling token k)
+unfolding head_spelling
+heads_long None k = omega (arith, head_small (k, false))
+heads_long (Some token) k = omega (arith, head_small (k, true), length-append (head_format.written (k, true)) (token_format.written token))
 
 moment_small : (moment : ℕ) → length (moment_format.written moment) ≡ 8
 unfolding moment_format
 moment_small moment = refl
 
-by_fields : (e : Entry) → CommandFits e.command → length (spelling e) ≤ 9 + most_of (fields_of (parts_of e.command).kind)
+fields_small : (c : Command) → CommandFits c → length (fields_spelling c) ≤ most_of (fields_of (parts_of c).kind)
+unfolding fields_spelling
+fields_small c fits = values_small (fields_of (parts_of c).kind) (parts_of c).values fits.values
+
+by_fields : (e : Entry) → EntryFits e → length (spelling e) ≤ 74 + most_of (fields_of (parts_of e.command).kind)
 unfolding spelling command_spelling
 by_fields e fits =
     let parts = parts_of e.command in
     omega (
       arith,
-      length-append (moment_format.written e.moment) (kind_format.written parts.kind ++ written_values (fields_of parts.kind) parts.values),
-      length-append (kind_format.written parts.kind) (written_values (fields_of parts.kind) parts.values),
+      length-append (moment_format.written e.moment) (head_spelling e.token parts.kind ++ fields_spelling e.command),
+      length-append (head_spelling e.token parts.kind) (fields_spelling e.command),
       moment_small e.moment,
-      kind_small parts.kind,
-      values_small (fields_of parts.kind) parts.values fits.values,
+      heads_small e.token parts.kind fits.token,
+      fields_small e.command fits.command,
     )
 
 -- the most bytes of each row
@@ -127,9 +162,10 @@ row_most kind.Abort = omega arith
 row_most kind.Act = omega arith
 row_most kind.SetTariff = omega arith
 row_most kind.Close = omega arith
+row_most kind.SetTiers = omega arith
 
-spelling_most : (e : Entry) → EntryFits e → length (spelling e) ≤ 170_001_728
-spelling_most e fits = omega (arith, by_fields e fits.command, row_most (parts_of e.command).kind)
+spelling_most : (e : Entry) → EntryFits e → length (spelling e) ≤ 170_001_793
+spelling_most e fits = omega (arith, by_fields e fits, row_most (parts_of e.command).kind)
 
 pub spelling_short : (e : Entry) → EntryFits e → length (spelling e) ≤ entry_limit
 spelling_short e fits = omega (arith, spelling_most e fits)
@@ -156,9 +192,10 @@ other_most kind.Abort other = omega arith
 other_most kind.Act other = omega arith
 other_most kind.SetTariff other = omega arith
 other_most kind.Close other = omega arith
+other_most kind.SetTiers other = omega arith
 
-pub other_small : (e : Entry) → EntryFits e → ((parts_of e.command).kind ≡ kind.SetRules → ⊥) → length (spelling e) ≤ 16_510
-other_small e fits other = omega (arith, by_fields e fits.command, other_most (parts_of e.command).kind other)
+pub other_small : (e : Entry) → EntryFits e → ((parts_of e.command).kind ≡ kind.SetRules → ⊥) → length (spelling e) ≤ 16_575
+other_small e fits other = omega (arith, by_fields e fits, other_most (parts_of e.command).kind other)
 
 -- a moment and a kind
 pub spelling_long : (e : Entry) → 9 ≤ length (spelling e)
@@ -167,13 +204,13 @@ spelling_long e =
     let parts = parts_of e.command in
     omega (
       arith,
-      length-append (moment_format.written e.moment) (kind_format.written parts.kind ++ written_values (fields_of parts.kind) parts.values),
-      length-append (kind_format.written parts.kind) (written_values (fields_of parts.kind) parts.values),
+      length-append (moment_format.written e.moment) (head_spelling e.token parts.kind ++ fields_spelling e.command),
+      length-append (head_spelling e.token parts.kind) (fields_spelling e.command),
       moment_small e.moment,
-      kind_small parts.kind,
+      heads_long e.token parts.kind,
     )
 
 -- a moment has eight bytes, whichever it is
-pub same_length : (t u : ℕ) (c : Command) → length (spelling (entry_at t c)) ≡ length (spelling (entry_at u c))
+pub same_length : (t u : ℕ) (token : Option (List ℕ)) (c : Command) → length (spelling (entry_with t token c)) ≡ length (spelling (entry_with u token c))
 unfolding spelling moment_format
-same_length t u c = refl
+same_length t u token c = refl

@@ -1,5 +1,5 @@
 -- The fields of entries, each with its format (own).
-use Rattle.std.specs.Prelude.{ℕ, Bool, true, false, ◌&&◌, nat_lt, nat_le, ◌==◌, List, Option, Some, None, option_and_then, if◌then◌else◌}
+use Rattle.std.specs.Prelude.{ℕ, Bool, true, false, ◌&&◌, nat_lt, nat_le, ◌==◌, List, Option, Some, None, option_and_then, option_map, unwrap_or, if◌then◌else◌}
 use Rattle.std.specs.Prelude.{is_none}
 use Rattle.std.specs.Result.{result_ok}
 use Rattle.std.specs.Int.{w8, w16, w32, w64}
@@ -18,7 +18,9 @@ use Rattle.rules_core.specs.Conditions.{first_flaw}
 use Rattle.rules_core.specs.Configurations.{Configuration, has_name, has_midnights, has_texts}
 use Rattle.rules_json.specs.Printing.{printed}
 use Rattle.rules_json.specs.Reading.{rules_of}
-use Rattle.tariff.specs.Prices.{is_price}
+use Rattle.tariff.specs.Prices.{is_price, are_tiers}
+use Rattle.tariff.specs.declared.tiers.Tier.{Tier}
+use Rattle.office_types.specs.Tokens.{is_token}
 use Rattle.entry_codec.specs.Formats.{Format, number, counted_text, ◌such_that◌, pair, list, Code, coded}
 
 -- ---- values that are written as numbers, and configurations, which are written as their texts
@@ -62,6 +64,26 @@ id_value n = Some (if n == 0 then version.Null else version.Number n)
 abbrev pub ids : Code ℕ VersionId
 ids = record { code = id_code; has = is_id; value = id_value }
 
+-- a tier as two numbers: where it ends, 0 where it has no end, and its price
+abbrev pub tier_code : Tier → ℕ × ℕ
+tier_code tier = (unwrap_or tier.upto 0, tier.price)
+
+-- a tier that is written so: where it ends, it does not end at 0
+abbrev pub is_tier : Tier → Bool
+is_tier tier = unwrap_or (option_map (nat_lt 0) tier.upto) true
+
+-- the tier that two numbers are
+abbrev pub tier_value : ℕ × ℕ → Option Tier
+tier_value numbers = Some (record { upto = (if numbers.0 == 0 then None else Some numbers.0); price = numbers.1 })
+
+-- tiers, written as such numbers
+abbrev pub tier_numbers : Code (ℕ × ℕ) Tier
+tier_numbers = record { code = tier_code; has = is_tier; value = tier_value }
+
+-- a tier: its end and its price
+unfoldable pub tier_format : Format Tier
+tier_format = coded (pair (number w32) (number w32)) tier_numbers
+
 -- a text in UTF-8 behind two bytes of length
 unfoldable pub utf8_text : Format (List ℕ)
 utf8_text = counted_text (number w16) such_that is_utf8
@@ -98,7 +120,7 @@ rules_texts = record {
 
 -- what stands in an entry behind its kind; the numbers have four and eight bytes
 pub data Field : Type 0 where
-  Name Key Size Rank Tags Rules Status Id Number4 Number8 Price Year Month : Field
+  Name Key Size Rank Tags Rules Status Id Number4 Number8 Price Tiers Year Month : Field
 
 -- what a field holds
 abbrev pub ValueOf : Field → Type 0
@@ -113,6 +135,7 @@ ValueOf Id = VersionId
 ValueOf Number4 = ℕ
 ValueOf Number8 = ℕ
 ValueOf Price = ℕ
+ValueOf Tiers = List Tier
 ValueOf Year = ℕ
 ValueOf Month = ℕ
 
@@ -129,9 +152,14 @@ format Id = coded (number w64) ids
 format Number4 = number w32
 format Number8 = number w64
 format Price = number w32 such_that is_price
+format Tiers = list (number w8 such_that λ n. nat_le n 8) tier_format such_that are_tiers
 format Year = number w16 such_that λ year. nat_le 1970 year && nat_le year 2099
 format Month = number w8 such_that λ month. nat_le 1 month && nat_le month 12
 
 -- the moment at which an entry begins, in ms
 unfoldable pub moment_format : Format ℕ
 moment_format = number w64 such_that λ moment. nat_lt moment end_of_time
+
+-- a token behind one byte of length
+unfoldable pub token_format : Format (List ℕ)
+token_format = counted_text (number w8) such_that is_token

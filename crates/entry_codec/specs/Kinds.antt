@@ -1,21 +1,23 @@
 -- The kinds of entries. Each has a number and fields (own), and stands for one command.
-use Rattle.std.specs.Prelude.{ℕ, ◌==◌, true, List, [], ◌∷◌, slice_index}
+use Rattle.std.specs.Prelude.{ℕ, ◌+◌, ◌-◌, ◌==◌, nat_lt, Bool, true, false, not, ◌&&◌, List, [], ◌∷◌, ◌++◌, length, map, slice_index, get_or, Option, Some, None, if◌then◌else◌}
 use Rattle.std.specs.Int.{w8}
-use Rattle.std.specs.List.{find, repeat}
+use Rattle.std.specs.List.{find, repeat, list_all}
 use Rattle.moments.specs.Months.{year_of, month_of_year, month_number}
+use Rattle.tariff.specs.Prices.{Prices, one_tier}
+use Rattle.tariff.specs.declared.tiers.Tier.{Tier}
 use Rattle.office_types.specs.declared.command.Command.{Command}
 use Rattle.office_types.specs.declared.command.Command.TheVariants as command
 use Rattle.entry_codec.specs.declared.kinds.Kind.{Kind}
 use Rattle.entry_codec.specs.declared.kinds.Kind.TheVariants.{CreateBucket, SetVersioning, SetRules, DropRules, Put, Delete, DeleteVersion}
-use Rattle.entry_codec.specs.declared.kinds.Kind.TheVariants.{SetTags, StartUpload, PutPart, Complete, Abort, Act, SetTariff, Close}
+use Rattle.entry_codec.specs.declared.kinds.Kind.TheVariants.{SetTags, StartUpload, PutPart, Complete, Abort, Act, SetTariff, Close, SetTiers}
 use Rattle.entry_codec.specs.Formats.{Format, number, Code, coded}
-use Rattle.entry_codec.specs.Fields.{Field, Name, Key, Size, Rank, Tags, Rules, Status, Id, Number4, Number8, Price, Year, Month, ValueOf}
+use Rattle.entry_codec.specs.Fields.{Field, Name, Key, Size, Rank, Tags, Rules, Status, Id, Number4, Number8, Price, Tiers, Year, Month, ValueOf}
 
 -- all kinds
 abbrev pub all_kinds : List Kind
 all_kinds =
     CreateBucket ∷ SetVersioning ∷ SetRules ∷ DropRules ∷ Put ∷ Delete ∷ DeleteVersion ∷ SetTags
-    ∷ StartUpload ∷ PutPart ∷ Complete ∷ Abort ∷ Act ∷ SetTariff ∷ Close ∷ []
+    ∷ StartUpload ∷ PutPart ∷ Complete ∷ Abort ∷ Act ∷ SetTariff ∷ Close ∷ SetTiers ∷ []
 
 -- the number of each kind, and its fields
 abbrev pub row : Kind → ℕ × List Field
@@ -34,6 +36,7 @@ row Abort = (0x0C, Name ∷ Number8 ∷ [])
 row Act = (0x0D, Name ∷ [])
 row SetTariff = (0x0E, repeat 11 (Price ∷ []))
 row Close = (0x0F, Year ∷ Month ∷ [])
+row SetTiers = (0x10, Year ∷ Month ∷ repeat 6 (Tiers ∷ []) ++ repeat 5 (Price ∷ []))
 
 -- the columns of the table
 abbrev pub kind_number : Kind → ℕ
@@ -51,9 +54,44 @@ kinds = record {
   value = λ n. find (λ kind. kind_number kind == n) all_kinds;
 }
 
--- the kind of an entry
-unfoldable pub kind_format : Format Kind
-kind_format = coded (number w8) kinds
+-- the kinds whose commands may carry a token (own)
+abbrev pub carries_token : Kind → Bool
+carries_token SetRules = false
+carries_token Act = false
+carries_token SetTariff = false
+carries_token SetTiers = false
+carries_token other = true
+
+-- with what an entry's command begins: its kind, and whether a token stands behind it
+abbrev pub Head : Type 0
+Head = Kind × Bool
+
+-- a kind by its number, and with a token by 80 more (own)
+abbrev pub head_number : Head → ℕ
+head_number (kind, false) = kind_number kind
+head_number (kind, true) = kind_number kind + 0x80
+
+-- a token stands behind a kind that carries one alone
+abbrev pub is_head : Head → Bool
+is_head (kind, false) = true
+is_head (kind, true) = carries_token kind
+
+-- the head of a kind that was read, if there is such a head
+abbrev pub head_of : Bool → Option Kind → Option Head
+head_of token None = None
+head_of token (Some kind) = if is_head (kind, token) then Some (kind, token) else None
+
+-- heads by their numbers
+abbrev pub heads : Code ℕ Head
+heads = record {
+  code = head_number;
+  has = is_head;
+  value = λ n. if nat_lt n 0x80 then head_of false (kinds.value n) else head_of true (kinds.value (n - 0x80));
+}
+
+-- the head of a command
+unfoldable pub head_format : Format Head
+head_format = coded (number w8) heads
 
 -- ---- commands
 
@@ -66,6 +104,46 @@ Values (field ∷ fields) = ValueOf field × Values fields
 pub record CommandParts : Type 0 where
   pub kind : Kind
   pub values : Values (fields_of kind)
+
+-- ---- tariffs, which have two kinds
+
+-- one tier for any quantity
+abbrev pub has_one : List Tier → Bool
+has_one tiers = length tiers == 1
+
+-- a tariff that holds at all times, with one price for each class: it has the shorter kind, and no other tariff has (own)
+abbrev pub is_plain : Prices → Bool
+is_plain tariff = (tariff.from == 0) && list_all has_one tariff.storage
+
+-- the price of the one tier
+abbrev pub first_price : List Tier → ℕ
+first_price [] = 0
+first_price (tier ∷ tiers) = tier.price
+
+-- the prices of storage and of moves
+abbrev pub plain_values : Prices → Values (fields_of SetTariff)
+plain_values tariff =
+    let s = slice_index (map first_price tariff.storage) in
+    let t = slice_index tariff.transition in
+    (s 0, (s 1, (s 2, (s 3, (s 4, (s 5, (t 0, (t 1, (t 2, (t 3, (t 4, tt)))))))))))
+
+-- the first month, the tiers of storage, and the prices of moves
+abbrev pub tiered_values : Prices → Values (fields_of SetTiers)
+tiered_values tariff =
+    let s = λ (i : ℕ). get_or tariff.storage i [] in
+    let t = slice_index tariff.transition in (
+      year_of tariff.from,
+      (
+        month_of_year tariff.from,
+        (s 0, (s 1, (s 2, (s 3, (s 4, (s 5, (t 0, (t 1, (t 2, (t 3, (t 4, tt))))))))))),
+      ),
+    )
+
+-- the parts of a tariff, under its kind
+abbrev pub tariff_parts : Prices → CommandParts
+tariff_parts tariff =
+    if is_plain tariff then record { kind = SetTariff; values = plain_values tariff }
+    else record { kind = SetTiers; values = tiered_values tariff }
 
 -- the parts of a command, each value under its field
 abbrev pub parts_of : Command → CommandParts
@@ -85,13 +163,7 @@ parts_of (command.PutPart bucket upload part size) =
 parts_of (command.Complete bucket upload) = record { kind = Complete; values = (bucket, (upload, tt)) }
 parts_of (command.Abort bucket upload) = record { kind = Abort; values = (bucket, (upload, tt)) }
 parts_of (command.Act bucket) = record { kind = Act; values = (bucket, tt) }
-parts_of (command.SetTariff tariff) =
-    let s = slice_index tariff.storage in
-    let t = slice_index tariff.transition in
-    record {
-      kind = SetTariff;
-      values = (s 0, (s 1, (s 2, (s 3, (s 4, (s 5, (t 0, (t 1, (t 2, (t 3, (t 4, tt)))))))))));
-    }
+parts_of (command.SetTariff tariff) = tariff_parts tariff
 parts_of (command.Close month) = record { kind = Close; values = (year_of month, (month_of_year month, tt)) }
 
 -- the command of a kind with these values
@@ -110,5 +182,25 @@ command_of Complete (bucket, (upload, none)) = command.Complete bucket upload
 command_of Abort (bucket, (upload, none)) = command.Abort bucket upload
 command_of Act (bucket, none) = command.Act bucket
 command_of SetTariff (a, (b, (c, (d, (e, (f, (g, (h, (i, (j, (k, none))))))))))) =
-    command.SetTariff (record { storage = a ∷ b ∷ c ∷ d ∷ e ∷ f ∷ []; transition = g ∷ h ∷ i ∷ j ∷ k ∷ [] })
+    command.SetTariff (record {
+      from = 0;
+      storage = map one_tier (a ∷ b ∷ c ∷ d ∷ e ∷ f ∷ []);
+      transition = g ∷ h ∷ i ∷ j ∷ k ∷ [];
+    })
 command_of Close (year, (month, none)) = command.Close (month_number year month)
+command_of SetTiers (year, (month, (a, (b, (c, (d, (e, (f, (g, (h, (i, (j, (k, none))))))))))))) =
+    command.SetTariff (record {
+      from = month_number year month;
+      storage = a ∷ b ∷ c ∷ d ∷ e ∷ f ∷ [];
+      transition = g ∷ h ∷ i ∷ j ∷ k ∷ [];
+    })
+
+-- the command of these values has no other kind: the longer kind of a tariff has none that the shorter one has (own)
+abbrev pub is_plain_command : Command → Bool
+is_plain_command (command.SetTariff tariff) = is_plain tariff
+is_plain_command other = true
+
+-- a kind has the values of no other one
+abbrev pub is_own : (kind : Kind) → Values (fields_of kind) → Bool
+is_own SetTiers values = not (is_plain_command (command_of SetTiers values))
+is_own other values = true

@@ -1,7 +1,7 @@
 -- Reading bytes from left to right, by the fields of the kind. A fault is the place at which the first field begins
 -- that breaks the format, in bytes from the first byte of the entry; bytes behind the last field break it where they
 -- begin (own).
-use Rattle.std.specs.Prelude.{◌≡◌, ℕ, zero, suc, ◌-◌, List, [], ◌∷◌, length, Option, Some, None, option_map, Result, Ok, Err, ok_or, ◌==◌}
+use Rattle.std.specs.Prelude.{◌≡◌, ℕ, zero, suc, ◌-◌, Bool, true, false, List, [], ◌∷◌, length, Option, Some, None, option_map, Result, Ok, Err, ok_or, ◌==◌}
 use Rattle.std.specs.Prelude.{if◌then◌else◌}
 use Rattle.office_base.specs.Results.{◌>>=◌, GivesBy}
 use Rattle.office_types.specs.declared.command.Command.{Command}
@@ -9,9 +9,9 @@ use Rattle.office_types.specs.declared.command.Entry.{Entry}
 use Rattle.entry_codec.specs.declared.fault.EntryFault.{EntryFault}
 use Rattle.entry_codec.specs.declared.fault.EntryFault.TheVariants as faults
 use Rattle.entry_codec.specs.Formats.{Format}
-use Rattle.entry_codec.specs.Fields.{Field, format, moment_format}
+use Rattle.entry_codec.specs.Fields.{Field, format, moment_format, token_format}
 use Rattle.entry_codec.specs.declared.kinds.Kind.{Kind}
-use Rattle.entry_codec.specs.Kinds.{kind_format, fields_of, Values, command_of}
+use Rattle.entry_codec.specs.Kinds.{head_format, fields_of, Values, command_of, is_own}
 
 -- the place that a fault tells of; none where memory ran out
 abbrev pub fault_place : EntryFault → Option ℕ
@@ -51,22 +51,31 @@ values_at (field ∷ fields) total bytes = do
   others ← values_at fields total first.1
   Ok ((first.0, others.0), others.1)
 
--- the command of a kind whose fields are these, and what is left behind them
+-- the command of a kind whose fields are these, and what is left behind them; where they are those of another kind, the
+-- kind, which is the byte in front of them, breaks the format (own)
 unfoldable pub kind_at : Kind → ℕ → List ℕ → Result (Command × List ℕ) ℕ
 kind_at kind total bytes = do
   read ← values_at (fields_of kind) total bytes
-  Ok (command_of kind read.0, read.1)
+  if is_own kind read.0 then Ok (command_of kind read.0, read.1) else Err (place total bytes - 1)
 
--- a command by its kind, and nothing behind it
-unfoldable pub command_at : ℕ → List ℕ → Result Command ℕ
+-- the token behind a head that says that there is one, and what is left then
+unfoldable pub token_at : Bool → ℕ → List ℕ → Result (Option (List ℕ) × List ℕ) ℕ
+token_at false total bytes = Ok (None, bytes)
+token_at true total bytes = do
+  read ← value_at token_format total bytes
+  Ok (Some read.0, read.1)
+
+-- a command by its head, its token and its fields, and nothing behind them
+unfoldable pub command_at : ℕ → List ℕ → Result (Option (List ℕ) × Command) ℕ
 command_at total bytes = do
-  kind ← value_at kind_format total bytes
-  command ← kind_at kind.0 total kind.1
-  if length command.1 == 0 then Ok command.0 else Err (place total command.1)
+  head ← value_at head_format total bytes
+  token ← token_at head.0.1 total head.1
+  command ← kind_at head.0.0 total token.1
+  if length command.1 == 0 then Ok (token.0, command.0) else Err (place total command.1)
 
 -- the entry of all the bytes
 unfoldable pub entry_of : List ℕ → Result Entry ℕ
 entry_of bytes = do
   moment ← value_at moment_format (length bytes) bytes
   command ← command_at (length bytes) moment.1
-  Ok (record { moment = moment.0; command = command })
+  Ok (record { moment = moment.0; token = command.0; command = command.1 })

@@ -1,18 +1,22 @@
 // Reading commands, a function for each kind. Each takes the fields of its kind from the front of the bytes that are
 // left of an entry of `total` bytes, and gives what is left then.
-ghost use Rattle.entry_codec.specs.Reading.{EntryGives, kind_at};
+ghost use Rattle.std.specs.Prelude.{◌≡◌, ◌-◌, IfOk, IfErr};
+ghost use Rattle.office_types.specs.declared.command.Command.TheVariants as command;
+ghost use Rattle.entry_codec.specs.declared.fault.EntryFault.TheVariants.{BadEntry, NoMemory};
+ghost use Rattle.entry_codec.specs.Reading.{EntryGives, kind_at, place};
 
 use crate::fault::EntryFault;
 use crate::field_readers::{
-    class_of, id_of, key_of, name_of, size_of, status_of, tags_of, u32_of, u64_of,
+    class_of, fault_at, id_of, key_of, name_of, size_of, status_of, tags_of, u32_of, u64_of,
 };
 use crate::kinds::Kind;
 use crate::months::{read_month, read_year};
 use crate::prices::prices_of;
 use crate::rules::rules_of;
+use crate::tiers::{free, is_plain, storage_of};
 use office_types::Command;
 use std::alloc::Global;
-use tariff::Tariff;
+use tariff::{BoxedTariff, Tariff};
 
 #[tactic(auto, unfolding(crate::specs::Reading::kind_at))]
 fn create_bucket(alloc: Global, total: usize, bytes: &[u8]) -> Result<(Command, &[u8]), EntryFault>
@@ -181,9 +185,23 @@ fn act(alloc: Global, total: usize, bytes: &[u8]) -> Result<(Command, &[u8]), En
     Ok((Command::Act { bucket }, rest))
 }
 
+fn boxed(alloc: Global, tariff: Tariff) -> Result<BoxedTariff, EntryFault>
+    ensures ok { IfOk result (λ boxed. boxed ≡ tariff) }
+    ensures err { IfErr result (λ e. e ≡ NoMemory) }
+{
+    match BoxedTariff::new(alloc, tariff) {
+        Ok(boxed) => Ok(boxed),
+        Err(_) => Err(EntryFault::NoMemory),
+    }
+}
+
 // The prices of storage, and then those of moves.
-fn set_tariff(total: usize, bytes: &[u8]) -> Result<(Command, &[u8]), EntryFault>
-    ensures { EntryGives (λ x. (x.0, x.1.now)) result (kind_at Kind.SetTariff total bytes.now) }
+fn plain_tariff(
+    alloc: Global,
+    total: usize,
+    bytes: &[u8],
+) -> Result<(BoxedTariff, &[u8]), EntryFault>
+    ensures { EntryGives (λ x. (command.SetTariff x.0, x.1.now)) result (kind_at Kind.SetTariff total bytes.now) }
 {
     let mut storage = [0; 6];
     let mut transition = [0; 5];
@@ -191,16 +209,74 @@ fn set_tariff(total: usize, bytes: &[u8]) -> Result<(Command, &[u8]), EntryFault
         Ok(rest) => rest,
         Err(e) => return Err(e),
     };
-    match prices_of(total, rest, &mut transition) {
-        Ok(rest) => {
-            let tariff = Tariff {
-                storage,
-                transition,
-            };
-            Ok((Command::SetTariff { tariff }, rest))
-        }
-        Err(e) => Err(e),
+    let rest = match prices_of(total, rest, &mut transition) {
+        Ok(rest) => rest,
+        Err(e) => return Err(e),
+    };
+    match Tariff::of(storage, transition) {
+        Some(tariff) => Ok((boxed(alloc, tariff)?, rest)),
+        None => Err(fault_at(total, bytes)),
     }
+}
+
+// The fault of the kind, which stands in front of these bytes.
+fn kind_fault(total: usize, bytes: &[u8]) -> EntryFault
+    ensures { result ≡ BadEntry (place total bytes.now - 1) }
+{
+    EntryFault::BadEntry {
+        offset: total.saturating_sub(bytes.len()).saturating_sub(1) as u64,
+    }
+}
+
+// The first month, the tiers of storage, and then the prices of moves.
+fn tiered_tariff(
+    alloc: Global,
+    total: usize,
+    bytes: &[u8],
+) -> Result<(BoxedTariff, &[u8]), EntryFault>
+    ensures { EntryGives (λ x. (command.SetTariff x.0, x.1.now)) result (kind_at Kind.SetTiers total bytes.now) }
+{
+    let (year, rest) = match read_year(total, bytes) {
+        Ok(read) => read,
+        Err(e) => return Err(e),
+    };
+    let (from, rest) = match read_month(total, year, rest) {
+        Ok(read) => read,
+        Err(e) => return Err(e),
+    };
+    let mut storage = [free(); 6];
+    let rest = match storage_of(total, rest, &mut storage) {
+        Ok(rest) => rest,
+        Err(e) => return Err(e),
+    };
+    let mut transition = [0; 5];
+    let rest = match prices_of(total, rest, &mut transition) {
+        Ok(rest) => rest,
+        Err(e) => return Err(e),
+    };
+    let tariff = Tariff {
+        from,
+        storage,
+        transition,
+    };
+    if is_plain(&tariff) {
+        return Err(kind_fault(total, bytes));
+    }
+    Ok((boxed(alloc, tariff)?, rest))
+}
+
+fn set_tariff(alloc: Global, total: usize, bytes: &[u8]) -> Result<(Command, &[u8]), EntryFault>
+    ensures { EntryGives (λ x. (x.0, x.1.now)) result (kind_at Kind.SetTariff total bytes.now) }
+{
+    let (tariff, rest) = plain_tariff(alloc, total, bytes)?;
+    Ok((Command::SetTariff { tariff }, rest))
+}
+
+fn set_tiers(alloc: Global, total: usize, bytes: &[u8]) -> Result<(Command, &[u8]), EntryFault>
+    ensures { EntryGives (λ x. (x.0, x.1.now)) result (kind_at Kind.SetTiers total bytes.now) }
+{
+    let (tariff, rest) = tiered_tariff(alloc, total, bytes)?;
+    Ok((Command::SetTariff { tariff }, rest))
 }
 
 #[tactic(auto, unfolding(crate::specs::Reading::kind_at))]
@@ -237,7 +313,8 @@ pub(crate) fn fields_of_kind(
         Kind::Complete => complete(alloc, total, bytes),
         Kind::Abort => abort(alloc, total, bytes),
         Kind::Act => act(alloc, total, bytes),
-        Kind::SetTariff => set_tariff(total, bytes),
+        Kind::SetTariff => set_tariff(alloc, total, bytes),
         Kind::Close => close(total, bytes),
+        Kind::SetTiers => set_tiers(alloc, total, bytes),
     }
 }

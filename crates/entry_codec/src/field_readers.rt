@@ -4,13 +4,14 @@ ghost use Rattle.std.specs.Prelude.{◌≡◌, Some, None, if◌then◌else◌};
 ghost use Rattle.office_base.specs.Names.{is_bucket_name};
 ghost use Rattle.entry_codec.specs.declared.fault.EntryFault.TheVariants.{BadEntry};
 ghost use Rattle.entry_codec.specs.Fields as field;
-ghost use Rattle.entry_codec.specs.Fields.{ranks, statuses, ids, format};
+ghost use Rattle.entry_codec.specs.Fields.{ranks, statuses, ids, format, token_format};
 ghost use Rattle.entry_codec.specs.Reading.{EntryGives, Finds, place, value_at};
 
 use crate::fault::EntryFault;
-use crate::fields::{counted_in, tags_in, u8_in, u32_in, u64_in};
+use crate::fields::{counted_in, short_counted_in, tags_in, u8_in, u32_in, u64_in};
 use class_rules::Class;
 use office_base::{BucketName, Key, NameRefusal, NoMemory, Nth, Size, Tags, VersionId};
+use office_types::Token;
 use std::alloc::Global;
 
 // The fault of the field with which the bytes begin that are left of an entry of `total` bytes.
@@ -184,5 +185,24 @@ pub(crate) fn u64_of(total: usize, bytes: &[u8]) -> Result<(u64, &[u8]), EntryFa
     match u64_in(bytes) {
         Some(read) => Ok(read),
         None => Err(fault_at(total, bytes)),
+    }
+}
+
+// A length in one byte, and a token of so many bytes.
+#[tactic(auto, unfolding(crate::specs::Reading::value_at, crate::specs::Fields::token_format))]
+pub(crate) fn token_of(
+    alloc: Global,
+    total: usize,
+    bytes: &[u8],
+) -> Result<(Token, &[u8]), EntryFault>
+    ensures { EntryGives (λ x. (x.0, x.1.now)) result (value_at token_format total bytes.now) }
+{
+    let Some((token, rest)) = short_counted_in(bytes) else {
+        return Err(fault_at(total, bytes));
+    };
+    match Token::read(alloc, token) {
+        Ok(Some(token)) => Ok((token, rest)),
+        Ok(None) => Err(fault_at(total, bytes)),
+        Err(_) => Err(EntryFault::NoMemory),
     }
 }

@@ -1,13 +1,17 @@
 // Writing fields. A writer adds a value as its field stands in an entry.
-ghost use Rattle.std.specs.Prelude.{◌≡◌, ◌++◌, ◌<◌, ◌^◌, length, true, IsTrue, OnOk};
+ghost use Rattle.std.specs.Prelude.{◌≡◌, ◌++◌, ◌<◌, ◌^◌, length, true, IsTrue, IfSome, OnOk, option_copied};
 ghost use Rattle.std.specs.Int.{w16, w32};
 ghost use Rattle.office_base.specs.Tags.{is_tag, tag_of};
+ghost use Rattle.office_types.specs.Tokens.{IsToken};
 ghost use Rattle.entry_codec.specs.Formats.{number, counted_text};
+ghost use Rattle.entry_codec.specs.Spelling.{head_spelling};
 ghost use Rattle.entry_codec.specs.Fields as field;
 ghost use Rattle.entry_codec.specs.Fields.{tag_format, format, id_code, is_id};
 
+use crate::kinds::Kind;
 use class_rules::{Class, rank};
 use office_base::{BucketName, Key, Size, Tags, VersionId};
+use office_types::Token;
 use std::alloc::AllocError;
 
 fn put_text(out: &mut Vec<u8>, bytes: &[u8]) -> Result<(), AllocError>
@@ -24,6 +28,30 @@ pub(crate) fn put_long_text(out: &mut Vec<u8>, bytes: &[u8]) -> Result<(), Alloc
 {
     out.extend_from_slice(&(bytes.len() as u32).to_be_bytes())?;
     out.extend_from_slice(bytes)
+}
+
+// A kind, and the token behind it, if there is one.
+#[tactic(auto, unfolding(crate::specs::Spelling::head_spelling, crate::specs::Kinds::head_format, crate::specs::Fields::token_format))]
+pub(crate) fn put_head(
+    out: &mut Vec<u8>,
+    kind: Kind,
+    token: Option<&Token>,
+) -> Result<(), AllocError>
+    ensures bytes { OnOk result (out.new.items ≡ out.old.items ++ head_spelling (option_copied token.entry) kind) }
+    ensures token { OnOk result (IfSome (option_copied token.entry) IsToken) }
+{
+    match token {
+        Some(token) => {
+            out.push(kind.head(true))?;
+            let bytes = token.bytes();
+            out.push(bytes.len() as u8)?;
+            out.extend_from_slice(bytes)
+        }
+        None => {
+            out.push(kind.head(false))?;
+            Ok(())
+        }
+    }
 }
 
 #[tactic(auto, unfolding(crate::specs::Fields::tag_format, crate::specs::Fields::utf8_text))]

@@ -60,6 +60,17 @@ pub(crate) fn u64_in(bytes: &[u8]) -> Option<(u64, &[u8])>
     Some((number, rest))
 }
 
+// A length in one byte, and so many bytes.
+pub(crate) fn short_counted_in(bytes: &[u8]) -> Option<(&[u8], &[u8])>
+    ensures { option_map (λ x. (x.0.now, x.1.now)) result ≡ (counted_text (number w8)).front bytes.now }
+{
+    let (len, rest) = u8_in(bytes)?;
+    if rest.len() < len as usize {
+        return None;
+    }
+    Some(rest.split_at(len as usize))
+}
+
 // A length in two bytes, and so many bytes.
 pub(crate) fn counted_in(bytes: &[u8]) -> Option<(&[u8], &[u8])>
     ensures { option_map (λ x. (x.0.now, x.1.now)) result ≡ (counted_text (number w16)).front bytes.now }

@@ -1,8 +1,11 @@
 // The kinds of entries.
 ghost use Rattle.std.specs.Prelude.{◌≡◌};
-ghost use Rattle.entry_codec.specs.Kinds.{kinds, kind_number};
+ghost use Rattle.entry_codec.specs.Kinds.{kinds, kind_number, carries_token, head_number, heads, parts_of};
 
-// What an entry's command does: a kind for each command, by its name.
+use crate::tiers::is_plain;
+use office_types::Command;
+
+// What an entry's command does: a kind for each command, by its name, and a second one for tariffs.
 #[derive(Clone, Copy)]
 pub enum Kind {
     CreateBucket,
@@ -20,6 +23,7 @@ pub enum Kind {
     Act,
     SetTariff,
     Close,
+    SetTiers,
 }
 
 impl Kind {
@@ -43,6 +47,7 @@ impl Kind {
             0x0D => Some(Kind::Act),
             0x0E => Some(Kind::SetTariff),
             0x0F => Some(Kind::Close),
+            0x10 => Some(Kind::SetTiers),
             _ => None,
         }
     }
@@ -66,6 +71,79 @@ impl Kind {
             Kind::Act => 0x0D,
             Kind::SetTariff => 0x0E,
             Kind::Close => 0x0F,
+            Kind::SetTiers => 0x10,
+        }
+    }
+
+    // The kind of a command.
+    pub(crate) fn of_command(command: &Command) -> Kind
+        ensures { result ≡ (parts_of command.now).kind }
+    {
+        match command {
+            Command::CreateBucket { .. } => Kind::CreateBucket,
+            Command::SetVersioning { .. } => Kind::SetVersioning,
+            Command::SetRules { .. } => Kind::SetRules,
+            Command::DropRules { .. } => Kind::DropRules,
+            Command::Put { .. } => Kind::Put,
+            Command::Delete { .. } => Kind::Delete,
+            Command::DeleteVersion { .. } => Kind::DeleteVersion,
+            Command::SetTags { .. } => Kind::SetTags,
+            Command::StartUpload { .. } => Kind::StartUpload,
+            Command::PutPart { .. } => Kind::PutPart,
+            Command::Complete { .. } => Kind::Complete,
+            Command::Abort { .. } => Kind::Abort,
+            Command::Act { .. } => Kind::Act,
+            Command::SetTariff { tariff } => {
+                if is_plain(tariff.get()) {
+                    Kind::SetTariff
+                } else {
+                    Kind::SetTiers
+                }
+            }
+            Command::Close { .. } => Kind::Close,
+        }
+    }
+
+    // A token may stand behind the kind.
+    fn carries_token(self) -> bool
+        ensures { result ≡ carries_token self }
+    {
+        match self {
+            Kind::SetRules | Kind::Act | Kind::SetTariff | Kind::SetTiers => false,
+            _ => true,
+        }
+    }
+
+    // The number of the kind, with a token behind it or without.
+    pub(crate) fn head(self, token: bool) -> u8
+        ensures { result ≡ head_number (self, token) }
+    {
+        if token {
+            self.number() + 0x80
+        } else {
+            self.number()
+        }
+    }
+
+    // The kind with which a command of this number begins, and whether a token stands behind it.
+    pub(crate) fn of_head(number: u8) -> Option<(Kind, bool)>
+        ensures { result ≡ heads.value number }
+    {
+        if number < 0x80 {
+            return match Kind::of(number) {
+                Some(kind) => Some((kind, false)),
+                None => None,
+            };
+        }
+        match Kind::of(number - 0x80) {
+            Some(kind) => {
+                if kind.carries_token() {
+                    Some((kind, true))
+                } else {
+                    None
+                }
+            }
+            None => None,
         }
     }
 }

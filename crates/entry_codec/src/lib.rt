@@ -12,9 +12,10 @@ mod months;
 mod prices;
 mod reading;
 mod rules;
+mod tiers;
 mod writing;
 
 pub use fault::EntryFault;
-pub use office_types::{Command, Entry};
+pub use office_types::{Command, Entry, Token};
 pub use reading::{decode, each_row_reads_back, one_spelling};
 pub use writing::{ENTRY_LIMIT, encode, encode_command, short_spelling};

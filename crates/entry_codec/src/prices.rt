@@ -49,7 +49,7 @@ pub(crate) fn prices_of<'a>(
 }
 
 #[tactic(auto, unfolding(crate::specs::Fields::format))]
-fn put_price(out: &mut Vec<u8>, price: u32) -> Result<(), AllocError>
+pub(crate) fn put_price(out: &mut Vec<u8>, price: u32) -> Result<(), AllocError>
     ensures { OnOk result (out.new.items ≡ out.old.items ++ (format field.Price).written price) }
 {
     out.extend_from_slice(&price.to_be_bytes())

@@ -2,43 +2,68 @@
 ghost use Rattle.std.specs.Prelude.{◌≡◌, ◌<◌, ◌++◌, ℕ, true, List, slice_index, option_map, IfOk, Ok};
 ghost use Rattle.office_types.specs.declared.command.Entry.{Entry};
 ghost use Rattle.entry_codec.specs.Fields.{moment_format};
-ghost use Rattle.entry_codec.specs.Kinds.{Values, kind_format, fields_of, parts_of, command_of};
+ghost use Rattle.entry_codec.specs.Kinds.{Values, head_format, fields_of, parts_of, command_of, is_own};
 ghost use Rattle.entry_codec.specs.Spelling.{EntryFits, written_values, are_values, spelling};
-ghost use Rattle.entry_codec.specs.Reading.{EntryGives, value_at, values_at, command_at, entry_of};
+ghost use Rattle.entry_codec.specs.Reading.{EntryGives, value_at, values_at, token_at, command_at, entry_of};
 
 use crate::command_readers::fields_of_kind;
 use crate::fault::EntryFault;
-use crate::field_readers::fault_at;
+use crate::field_readers::{fault_at, token_of};
 use crate::fields::{u8_in, u64_in};
 use crate::kinds::Kind;
 use moments::Moment;
-use office_types::{Command, Entry};
+use office_types::{Command, Entry, Token};
 use std::alloc::Global;
 
-#[tactic(auto, unfolding(crate::specs::Reading::value_at, crate::specs::Kinds::kind_format))]
-fn kind_in(total: usize, bytes: &[u8]) -> Result<(Kind, &[u8]), EntryFault>
-    ensures { EntryGives (λ x. (x.0, x.1.now)) result (value_at kind_format total bytes.now) }
+// The kind of a command, and whether a token stands behind it.
+#[tactic(auto, unfolding(crate::specs::Reading::value_at, crate::specs::Kinds::head_format))]
+fn head_in(total: usize, bytes: &[u8]) -> Result<((Kind, bool), &[u8]), EntryFault>
+    ensures { EntryGives (λ x. (x.0, x.1.now)) result (value_at head_format total bytes.now) }
 {
     let Some((number, rest)) = u8_in(bytes) else {
         return Err(fault_at(total, bytes));
     };
-    match Kind::of(number) {
-        Some(kind) => Ok((kind, rest)),
+    match Kind::of_head(number) {
+        Some(head) => Ok((head, rest)),
         None => Err(fault_at(total, bytes)),
     }
 }
 
-// A kind, the fields that it has, and nothing behind them.
+// The token behind a kind that says that there is one.
+#[tactic(auto, unfolding(crate::specs::Reading::token_at))]
+fn token_in(
+    alloc: Global,
+    carried: bool,
+    total: usize,
+    bytes: &[u8],
+) -> Result<(Option<Token>, &[u8]), EntryFault>
+    ensures { EntryGives (λ x. (x.0, x.1.now)) result (token_at carried total bytes.now) }
+{
+    if !carried {
+        return Ok((None, bytes));
+    }
+    match token_of(alloc, total, bytes) {
+        Ok((token, rest)) => Ok((Some(token), rest)),
+        Err(e) => Err(e),
+    }
+}
+
+// A kind, the token behind it, the fields that it has, and nothing behind them.
 #[tactic(auto, unfolding(crate::specs::Reading::command_at))]
-fn command_in(alloc: Global, total: usize, bytes: &[u8]) -> Result<Command, EntryFault>
+fn command_in(
+    alloc: Global,
+    total: usize,
+    bytes: &[u8],
+) -> Result<(Option<Token>, Command), EntryFault>
     ensures { EntryGives (λ c. c) result (command_at total bytes.now) }
 {
-    let (kind, rest) = kind_in(total, bytes)?;
+    let ((kind, carried), rest) = head_in(total, bytes)?;
+    let (token, rest) = token_in(alloc, carried, total, rest)?;
     let (command, rest) = fields_of_kind(alloc, kind, total, rest)?;
     if !rest.is_empty() {
         return Err(fault_at(total, rest));
     }
-    Ok(command)
+    Ok((token, command))
 }
 
 // The moment at which an entry begins.
@@ -61,8 +86,12 @@ fn whole_entry(alloc: Global, bytes: &[u8]) -> Result<Entry, EntryFault>
     let Some((moment, rest)) = moment_in(bytes) else {
         return Err(fault_at(total, bytes));
     };
-    let command = command_in(alloc, total, rest)?;
-    Ok(Entry { moment, command })
+    let (token, command) = command_in(alloc, total, rest)?;
+    Ok(Entry {
+        moment,
+        token,
+        command,
+    })
 }
 
 /// Reads the entry that the bytes spell, all of the bytes.
@@ -87,13 +116,12 @@ pub fn decode(alloc: Global, bytes: &[u8]) -> Result<Entry, EntryFault>
 }
 
 /// States that a spelling is that of one entry.
-#[tactic(auto, using(crate::proofs::Laws::spelling_tells))]
 pub fn one_spelling()
     ensures same { (a b : Entry) → EntryFits a → EntryFits b → spelling a ≡ spelling b → a ≡ b }
 {}
 
 /// States of each row of the table that the values of its fields are read again from what is written of them, that
-/// nothing else is read, and that they are those of the row's command.
+/// nothing else is read, and that, where they are not those of another kind, they are those of the row's command.
 pub fn each_row_reads_back()
     ensures again { (kind : Kind) (values : Values (fields_of kind)) (total : ℕ) (rest : List ℕ)
         → are_values (fields_of kind) values ≡ true
@@ -102,5 +130,5 @@ pub fn each_row_reads_back()
         → ((i : ℕ) → slice_index bytes i < 256) → values_at (fields_of kind) total bytes ≡ Ok read
         → (bytes ≡ written_values (fields_of kind) read.0 ++ read.1) × (are_values (fields_of kind) read.0 ≡ true) }
     ensures parts { (kind : Kind) (values : Values (fields_of kind)) → are_values (fields_of kind) values ≡ true
-        → parts_of (command_of kind values) ≡ record { kind = kind; values = values } }
+        → is_own kind values ≡ true → parts_of (command_of kind values) ≡ record { kind = kind; values = values } }
 {}

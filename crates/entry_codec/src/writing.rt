@@ -1,16 +1,18 @@
 // Writing an entry.
-ghost use Rattle.std.specs.Prelude.{◌≡◌, ◌≤◌, length, IfOk};
+ghost use Rattle.std.specs.Prelude.{◌≡◌, ◌≤◌, ◌++◌, length, IfOk, OnOk, IfSome, option_copied};
 ghost use Rattle.office_types.specs.declared.command.Entry.{Entry};
-ghost use Rattle.office_types.specs.Entries.{entry_at};
+ghost use Rattle.office_types.specs.Entries.{entry_with};
+ghost use Rattle.office_types.specs.Tokens.{IsToken, MayCarry};
 ghost use Rattle.entry_codec.specs.Kinds.{parts_of};
-ghost use Rattle.entry_codec.specs.Spelling.{EntryFits, IsEntry, entry_limit, spelling};
+ghost use Rattle.entry_codec.specs.Spelling.{CommandFits, EntryFits, IsEntry, entry_limit, command_spelling, spelling};
 
-use crate::command_writers::put_command;
+use crate::command_writers::put_fields;
+use crate::field_writers::put_head;
 use crate::kinds::Kind;
 use moments::Moment;
 use office_base::NoMemory;
-use office_types::{Command, Entry};
-use std::alloc::Global;
+use office_types::{Command, Entry, Token};
+use std::alloc::{AllocError, Global};
 
 /// The most bytes of an entry's spelling: 256 MiB. Own rule: the longest entry sets a bucket's rules, whose text has at
 /// most 170,001,650 bytes (1,000 rules of 170,000 each); with the bucket's name it has 170,001,728, and this is the
@@ -20,10 +22,32 @@ pub const ENTRY_LIMIT: u64 = 268_435_456;
 // The bytes that most entries stay below: a buffer of as many need not grow for one.
 const USUAL_BYTES: usize = 96;
 
+#[tactic(auto, unfolding(crate::specs::Spelling::command_spelling))]
+fn put_command(
+    out: &mut Vec<u8>,
+    token: Option<&Token>,
+    command: &Command,
+) -> Result<(), AllocError>
+    ensures bytes { OnOk result (out.new.items
+        ≡ out.old.items ++ command_spelling (option_copied token.entry) command.now) }
+    ensures token { OnOk result (IfSome (option_copied token.entry) IsToken) }
+    ensures fits { OnOk result (CommandFits command.now) }
+{
+    put_head(out, Kind::of_command(command), token)?;
+    put_fields(out, command)
+}
+
 #[tactic(auto, unfolding(crate::specs::Spelling::spelling, crate::specs::Fields::moment_format))]
-fn written(alloc: Global, moment: Moment, command: &Command) -> Result<Vec<u8>, NoMemory>
-    ensures bytes { IfOk result (λ bytes. bytes.items ≡ spelling (entry_at moment command.now)) }
-    ensures fits { IfOk result (λ _. EntryFits (entry_at moment command.now)) }
+fn written(
+    alloc: Global,
+    moment: Moment,
+    token: Option<&Token>,
+    command: &Command,
+) -> Result<Vec<u8>, NoMemory>
+    requires { MayCarry (option_copied token) command.now }
+    ensures bytes { IfOk result
+        (λ bytes. bytes.items ≡ spelling (entry_with moment (option_copied token.entry) command.now)) }
+    ensures fits { IfOk result (λ _. EntryFits (entry_with moment (option_copied token.entry) command.now)) }
 {
     let Ok(mut out) = Vec::with_capacity(alloc, USUAL_BYTES) else {
         return Err(NoMemory);
@@ -31,27 +55,37 @@ fn written(alloc: Global, moment: Moment, command: &Command) -> Result<Vec<u8>, 
     if out.extend_from_slice(&moment.ms().to_be_bytes()).is_err() {
         return Err(NoMemory);
     }
-    match put_command(&mut out, command) {
+    match put_command(&mut out, token, command) {
         Ok(()) => Ok(out),
         Err(_) => Err(NoMemory),
     }
 }
 
-/// Writes the one spelling of the entry that a command has at a moment.
+/// Writes the one spelling of the entry that a command has at a moment, with a token or without. A command that carries
+/// a token may carry one.
 ///
 /// Own rule: the moment in ms in eight bytes, the kind of the command in one, then its fields, most significant byte
-/// first; so an entry can be found again from its bytes alone. Cost: one pass over the fields, and memory for the
+/// first; so an entry can be found again from its bytes alone. With a token the kind is 80 (hexadecimal) higher, and
+/// the token stands behind it, after its length in one byte. Cost: one pass over the fields, and memory for the
 /// bytes; rules are printed, which takes memory for their JSON.
 ///
 /// # Errors
 ///
 /// `NoMemory`: memory ran out.
-pub fn encode_command(alloc: Global, moment: Moment, command: &Command) -> Result<Vec<u8>, NoMemory>
-    ensures bytes { IfOk result (λ bytes. bytes.items ≡ spelling (entry_at moment command.now)) }
+pub fn encode_command(
+    alloc: Global,
+    moment: Moment,
+    token: Option<&Token>,
+    command: &Command,
+) -> Result<Vec<u8>, NoMemory>
+    requires carries { MayCarry (option_copied token) command.now }
+    ensures bytes { IfOk result
+        (λ bytes. bytes.items ≡ spelling (entry_with moment (option_copied token.entry) command.now)) }
     // They are an entry's, which decoding gives back.
-    ensures entry { IfOk result (λ bytes. EntryFits (entry_at moment command.now) × IsEntry bytes.items) }
+    ensures entry { IfOk result
+        (λ bytes. EntryFits (entry_with moment (option_copied token.entry) command.now) × IsEntry bytes.items) }
 {
-    written(alloc, moment, command)
+    written(alloc, moment, token, command)
 }
 
 /// Writes the one spelling of an entry, as `encode_command` does.
@@ -60,18 +94,18 @@ pub fn encode_command(alloc: Global, moment: Moment, command: &Command) -> Resul
 ///
 /// `NoMemory`: memory ran out.
 pub fn encode(alloc: Global, entry: &Entry) -> Result<Vec<u8>, NoMemory>
+    requires carries { MayCarry entry.now.token entry.now.command }
     ensures bytes { IfOk result (λ bytes. bytes.items ≡ spelling entry.now) }
     // They are an entry's, which decoding gives back.
     ensures entry { IfOk result (λ bytes. EntryFits entry.now × IsEntry bytes.items) }
 {
-    encode_command(alloc, entry.moment, &entry.command)
+    encode_command(alloc, entry.moment, entry.token.as_ref(), &entry.command)
 }
 
 /// States that no entry has a spelling of more than `ENTRY_LIMIT` bytes.
-#[tactic(auto, using(crate::proofs::Sizes::spelling_short, crate::proofs::Sizes::other_small))]
 pub fn short_spelling()
     ensures short { (e : Entry) → EntryFits e → length (spelling e) ≤ entry_limit }
-    // One that sets no rules has far fewer: at most ten of the longest tags.
+    // One that sets no rules has far fewer: at most ten of the longest tags, and a token.
     ensures other { (e : Entry) → EntryFits e → ((parts_of e.command).kind ≡ Kind.SetRules → ⊥)
-        → length (spelling e) ≤ 16_510 }
+        → length (spelling e) ≤ 16_575 }
 {}

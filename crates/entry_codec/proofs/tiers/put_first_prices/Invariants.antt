@@ -1,0 +1,12 @@
+use Rattle.std.proofs.Common.{◌≡◌, ◌++◌, take, map, true}
+use Rattle.std.specs.List.{flat_map, list_all}
+use Rattle.tariff.specs.Prices.{are_tiers}
+use Rattle.entry_codec.specs.Fields.{Price, format}
+use Rattle.entry_codec.specs.Kinds.{first_price}
+use Rattle.entry_codec.proofs.tiers.put_first_prices.Given as goal
+
+abbrev pub invariant-loop-tiers : goal.invariant-loop-tiers
+invariant-loop-tiers l = record {
+  bytes : l.out.items ≡ l.fn.out.items ++ flat_map (format Price).written (map first_price (take l.tiers-index l.storage));
+  are : list_all are_tiers (take l.tiers-index l.storage) ≡ true;
+}
