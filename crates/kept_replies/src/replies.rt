@@ -1,0 +1,280 @@
+// The kept replies.
+ghost use Rattle.std.specs.Prelude.{◌≡◌, ◌⊎◌, ℕ, ◌<◌, ◌≤◌, ◌^◌, ◌+◌, [], IsSome, IfSome, IfOk, OnOk, OnErr, Ok, Err, Some, None, length, drop, option_copied};
+ghost use Rattle.std.specs.VecDeque.{deque_len, deque_capacity};
+ghost use Rattle.office_base.specs.Maps.{at_name, with_name};
+ghost use Rattle.plain_office.specs.Once.{kept_at, recalled};
+ghost use Rattle.kept_replies.specs.Queue.{ReplyQueue, plain_reply, plain_replies, kept_in, kept_of, with_kept};
+ghost use Rattle.kept_replies.specs.Indexed.{IsIndexed, without_held, found_at};
+
+use moments::Moment;
+use office_base::NoMemory;
+use office_types::{Command, Kept, Refusal, Reply, Token, marker_told, number_told};
+use std::alloc::Global;
+use std::collections::{BTreeMap, VecDeque};
+use std::marker::Model;
+
+/// So many replies are kept. Own rule.
+pub const MOST_KEPT: usize = 10_000;
+
+/// The replies to the last commands that were accepted with a token, each under its token.
+///
+/// A reply is kept in two steps, so that nothing is wanting once its command was done: `hold` takes the memory, and
+/// `keep` puts the reply there.
+#[derive(Drop)]
+pub struct KeptReplies {
+    // The number of each token's reply, counted over all that were ever kept. A token that is not in the queue may
+    // stand here too: a number tells where to look.
+    numbers: BTreeMap<Token, u64>,
+    // Oldest first.
+    queue: VecDeque<Kept>,
+    // How many were dropped, which is the number of the oldest one.
+    dropped: u64,
+    // A token and its command whose reply is not known yet.
+    held: Option<(Token, Command)>,
+}
+
+impl Model for KeptReplies {
+    ghost use Rattle.std.specs.Prelude.{◌+◌, ◌<◌, ◌≤◌, length, IsSome};
+    ghost use Rattle.std.specs.VecDeque.{deque_len, deque_capacity};
+    ghost use Rattle.kept_replies.specs.Queue.{ReplyQueue};
+    ghost use Rattle.kept_replies.specs.Indexed.{IsIndexed, IsHeld};
+
+    ghost Value = { ReplyQueue };
+
+    ghost view = { λ k. record { queue = k.queue.items; dropped = k.dropped; held = k.held } };
+
+    ghost invariant = { λ k. IsIndexed k.dropped k.numbers.entries k.queue.items
+        × IsHeld (k.dropped + length k.queue.items) k.numbers.entries k.held
+        × (IsSome k.held → deque_len k.queue < deque_capacity k.queue)
+        × (length k.queue.items ≤ 10_000) };
+}
+
+impl KeptReplies {
+    /// Keeps no reply yet. Takes no memory.
+    pub fn new(alloc: Global) -> KeptReplies
+        ensures { result ≡ record { queue = []; dropped = 0; held = None } }
+    {
+        KeptReplies {
+            numbers: BTreeMap::new(alloc),
+            queue: VecDeque::new(alloc),
+            dropped: 0,
+            held: None,
+        }
+    }
+
+    /// Finds what is kept under a token; None where nothing is. Takes no memory.
+    ///
+    /// Cost: one search of the tokens.
+    pub fn find(&self, token: &Token) -> Option<&Kept>
+        ensures { option_copied result ≡ kept_in token.now self.now.queue }
+    {
+        let number = number_under(&self.numbers, token);
+        reply_at(&self.queue, self.dropped, number, token)
+    }
+
+    /// Recalls the reply to a command that carries a token; None where no reply is kept under the token.
+    ///
+    /// Cost: one search of the tokens; where a reply is kept, a pass over both commands.
+    ///
+    /// # Errors
+    ///
+    /// `TokenReused`: the token is kept with another command. `NoMemory`: memory ran out.
+    pub fn recall(&self, token: &Token, command: &Command) -> Result<Option<Reply>, Refusal>
+        ensures { (result ≡ recalled (kept_at token.now (plain_replies self.now.queue)) command.now)
+            ⊎ (result ≡ Err Refusal.NoMemory) }
+    {
+        match self.find(token) {
+            Some(kept) => told_again(kept, command),
+            None => Ok(None),
+        }
+    }
+
+    /// Takes the memory to keep the reply to a command under its token, under which none is kept.
+    ///
+    /// Cost: one search of the tokens. The command is copied once, the token twice: into the queue and to find it.
+    ///
+    /// # Errors
+    ///
+    /// `NoMemory`: memory ran out; nothing is held.
+    pub fn hold(&mut self, token: &Token, command: &Command) -> Result<(), NoMemory>
+        requires new { kept_in token.now self.old.queue ≡ None }
+        requires free { self.old.held ≡ None }
+        requires few { self.old.dropped + 10_001 < 2 ^ 64 }
+        ensures ok { OnOk result (self.new ≡ record self.old { held = Some (token.now, command.now) }) }
+        ensures err { OnErr result (self.new ≡ self.old) }
+    {
+        let (mine, key, command) = copies_of(token, command)?;
+        make_room(&mut self.queue)?;
+        let number = self.dropped + self.queue.len() as u64;
+        put_number(&mut self.numbers, key, number)?;
+        self.held = Some((mine, command));
+        Ok(())
+    }
+
+    /// Lets go what is held, where the command was not accepted. Takes no memory.
+    ///
+    /// Cost: one search of the tokens.
+    pub fn let_go(&mut self)
+        ensures { self.new ≡ record self.old { held = None } }
+    {
+        let held = self.held.take();
+        drop_number(&mut self.numbers, &held);
+    }
+
+    /// Keeps the reply to the command that is held, which was accepted at the moment; where too many are kept then, the
+    /// oldest goes. Takes no memory.
+    ///
+    /// Cost: where the oldest goes, one search of the tokens.
+    pub fn keep(&mut self, moment: Moment, reply: &Reply)
+        requires held { IsSome self.old.held }
+        requires few { self.old.dropped + 10_001 < 2 ^ 64 }
+        ensures queue { IfSome self.old.held
+            (λ held. self.new.queue ≡ with_kept (kept_of moment reply.now held) self.old.queue) }
+        ensures free { self.new.held ≡ None }
+        ensures count { self.new.dropped + length self.new.queue ≡ self.old.dropped + length self.old.queue + 1 }
+    {
+        let Some((token, command)) = self.held.take() else {
+            unreachable!()
+        };
+        let kept = Kept {
+            token,
+            moment,
+            marker: marker_told(reply),
+            told: number_told(reply),
+            command,
+        };
+        self.dropped = push(&mut self.numbers, &mut self.queue, self.dropped, kept);
+    }
+}
+
+// A token twice, and its command.
+fn copies_of(token: &Token, command: &Command) -> Result<(Token, Token, Command), NoMemory>
+    ensures { IfOk result (λ x. (x.0 ≡ token.now) × (x.1 ≡ token.now) × (x.2 ≡ command.now)) }
+{
+    let Ok(first) = token.copy() else {
+        return Err(NoMemory);
+    };
+    let Ok(second) = token.copy() else {
+        return Err(NoMemory);
+    };
+    match command.copy() {
+        Ok(command) => Ok((first, second, command)),
+        Err(_) => Err(NoMemory),
+    }
+}
+
+// Room for one more.
+fn make_room(queue: &mut VecDeque<Kept>) -> Result<(), NoMemory>
+    ensures same { queue.new.items ≡ queue.old.items }
+    ensures room { OnOk result (deque_len queue.new < deque_capacity queue.new) }
+    ensures still { deque_len queue.old < deque_capacity queue.old → deque_len queue.new < deque_capacity queue.new }
+{
+    match queue.reserve(1) {
+        Ok(()) => Ok(()),
+        Err(_) => Err(NoMemory),
+    }
+}
+
+fn put_number(numbers: &mut BTreeMap<Token, u64>, token: Token, number: u64) -> Result<(), NoMemory>
+    ensures put { OnOk result (numbers.new.entries ≡ with_name token number numbers.old.entries) }
+    ensures same { OnErr result (numbers.new.entries ≡ numbers.old.entries) }
+{
+    match numbers.insert(token, number) {
+        Ok(_) => Ok(()),
+        Err(_) => Err(NoMemory),
+    }
+}
+
+fn drop_number(numbers: &mut BTreeMap<Token, u64>, held: &Option<(Token, Command)>)
+    ensures { numbers.new.entries ≡ without_held held.now numbers.old.entries }
+{
+    if let Some(held) = held {
+        numbers.remove(&held.0);
+    }
+}
+
+// One reply more, without the oldest where there are too many; how many were dropped then.
+fn push(
+    numbers: &mut BTreeMap<Token, u64>,
+    queue: &mut VecDeque<Kept>,
+    dropped: u64,
+    kept: Kept,
+) -> u64
+    requires room { deque_len queue.old < deque_capacity queue.old }
+    requires few { length queue.old.items ≤ 10_000 }
+    requires count { dropped + 10_001 < 2 ^ 64 }
+    requires indexed { IsIndexed dropped numbers.old.entries queue.old.items }
+    requires under { at_name kept.token numbers.old.entries ≡ Some (dropped + length queue.old.items) }
+    ensures queue { queue.new.items ≡ with_kept kept queue.old.items }
+    ensures indexed { IsIndexed result numbers.new.entries queue.new.items }
+    ensures few { length queue.new.items ≤ 10_000 }
+    ensures count { result + length queue.new.items ≡ dropped + length queue.old.items + 1 }
+{
+    queue.push_back_reserved(kept);
+    if queue.len() > MOST_KEPT {
+        drop_oldest(numbers, queue);
+        return dropped + 1;
+    }
+    dropped
+}
+
+fn number_under(numbers: &BTreeMap<Token, u64>, token: &Token) -> Option<u64>
+    ensures { result ≡ at_name token.now numbers.now.entries }
+{
+    match numbers.get(token) {
+        Some(number) => Some(*number),
+        None => None,
+    }
+}
+
+// The reply of this number, where it is the token's; the first one has the number `first`.
+fn reply_at<'a>(
+    queue: &'a VecDeque<Kept>,
+    first: u64,
+    number: Option<u64>,
+    token: &Token,
+) -> Option<&'a Kept>
+    ensures { option_copied result ≡ found_at first token.now queue.now.items number }
+{
+    let Some(number) = number else {
+        return None;
+    };
+    if number < first {
+        return None;
+    }
+    match queue.get((number - first) as usize) {
+        Some(kept) => {
+            if kept.token == *token {
+                Some(kept)
+            } else {
+                None
+            }
+        }
+        None => None,
+    }
+}
+
+fn told_again(kept: &Kept, command: &Command) -> Result<Option<Reply>, Refusal>
+    ensures { (result ≡ recalled (Some (plain_reply kept.now)) command.now) ⊎ (result ≡ Err Refusal.NoMemory) }
+{
+    if !kept.command.is_same(command) {
+        return Err(Refusal::TokenReused {
+            kind: kept.command.kind(),
+        });
+    }
+    match kept.reply() {
+        Ok(reply) => Ok(Some(reply)),
+        Err(_) => Err(Refusal::NoMemory),
+    }
+}
+
+// The oldest reply goes, and its token with it.
+fn drop_oldest(numbers: &mut BTreeMap<Token, u64>, queue: &mut VecDeque<Kept>)
+    ensures queue { queue.new.items ≡ drop 1 queue.old.items }
+    ensures numbers { (first : ℕ) → 0 < length queue.old.items → IsIndexed first numbers.old.entries queue.old.items
+        → IsIndexed (first + 1) numbers.new.entries queue.new.items }
+{
+    if let Some(oldest) = queue.pop_front() {
+        numbers.remove(&oldest.token);
+    }
+}
