@@ -15,7 +15,7 @@ use Rattle.plain_office.specs.Office.{Account, book_of}
 use Rattle.plain_office.specs.Changes.{remove_upload, remove_upload_at}
 use Rattle.plain_office.specs.Counts.{tag_bytes}
 use Rattle.plain_office.specs.Orderly.{IsOrderlyUpload, IsOrderlyBucket, HasOpenStays}
-use Rattle.office_types.specs.declared.refusal.What.TheVariants.{Buckets, Versions, Uploads, Parts, Names, Rules}
+use Rattle.office_types.specs.declared.refusal.What.TheVariants.{Buckets, Versions, Uploads, Parts, Names, Rules, Tariffs}
 use Rattle.office_laws.proofs.Lists.{every_true, every_weaker, added_length, added_sum}
 use Rattle.office_laws.proofs.Maps.{by_number, each_found, removed}
 use Rattle.office_laws.proofs.OneStay.{part_stands}
@@ -88,6 +88,7 @@ module _ (account : Account) (last number : ℕ) (upload : UploadRecord) (orderl
     moved_without Parts = let some = some_parts in let less = fewer weigh_parts in omega (arith, some, less)
     moved_without Names = let some = some_names in let less = fewer weigh_names in omega (arith, some, less)
     moved_without Rules = refl
+    moved_without Tariffs = refl
 
     pub over_without : AreCountsOver (record account.bucket { uploads = without_number number account.bucket.uploads }) (counts_without upload counts)
     over_without Buckets = over Buckets
@@ -96,6 +97,7 @@ module _ (account : Account) (last number : ℕ) (upload : UploadRecord) (orderl
     over_without Parts = let o = over Parts in let less = fewer weigh_parts in (omega (arith, o.0, less), omega (arith, o.1))
     over_without Names = let o = over Names in let less = fewer weigh_names in (omega (arith, o.0, less), omega (arith, o.1))
     over_without Rules = over Rules
+    over_without Tariffs = over Tariffs
 
     at_is : (at : ℕ) → remove_upload_at number at account ≡ remove_upload number upload at account
     at_is at = rw there refl

@@ -12,7 +12,7 @@ use Rattle.accrual.specs.Totals.{Totals, AreTotalsOf}
 use Rattle.due_core.specs.Buckets.{BucketRecord}
 use Rattle.plain_office.specs.Office.{Account, Books, book_of}
 use Rattle.plain_office.specs.Changes.{stacks_with, books_moved, move_version}
-use Rattle.office_types.specs.declared.refusal.What.TheVariants.{Buckets, Versions, Uploads, Parts, Names, Rules}
+use Rattle.office_types.specs.declared.refusal.What.TheVariants.{Buckets, Versions, Uploads, Parts, Names, Rules, Tariffs}
 use Rattle.office_laws.proofs.Buckets.{stack_orderly, weight_with, not_empty}
 use Rattle.office_laws.proofs.Versions.{tags_moved}
 use Rattle.bucket_account.specs.declared.counts.Counts.{Counts}
@@ -91,6 +91,7 @@ module _ (b : BucketRecord) (books : Books) (key : List ℕ) (id : VersionId) (t
       let tags = tags_moved id to at versions in
       omega (arith, sum, before, left, tags)
   counts_stay counts Rules = refl
+  counts_stay counts Tariffs = refl
 
   -- ---- what the bucket stands for
 

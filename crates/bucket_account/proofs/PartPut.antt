@@ -16,7 +16,7 @@ use Rattle.office_types.specs.declared.reply.Reply.TheVariants.{PartStored}
 use Rattle.office_types.specs.declared.refusal.Refusal.{Refusal}
 use Rattle.office_types.specs.declared.refusal.Refusal.TheVariants.{NoMemory, BadPart}
 use Rattle.office_types.specs.declared.refusal.What.{What}
-use Rattle.office_types.specs.declared.refusal.What.TheVariants.{Buckets, Versions, Uploads, Parts, Names, Rules}
+use Rattle.office_types.specs.declared.refusal.What.TheVariants.{Buckets, Versions, Uploads, Parts, Names, Rules, Tariffs}
 use Rattle.office_laws.proofs.Lists.{added_length, replaced_length, replaced_sum}
 use Rattle.office_laws.proofs.Maps.{by_number, added, replaced, bytes_itself}
 use Rattle.office_laws.proofs.Stays.{open_of}
@@ -78,6 +78,7 @@ module _ (account : Account) (number place size t : ℕ) (upload : UploadRecord)
     part_moved Parts = let sum = sums (λ (upload : ℕ × UploadRecord). length upload.1.parts) in let one = more in omega (arith, sum, one)
     part_moved Names = let sum = sums (λ (upload : ℕ × UploadRecord). length upload.1.key + tag_bytes upload.1.tags) in omega (arith, sum)
     part_moved Rules = refl
+    part_moved Tariffs = refl
 
     -- ---- what is told
 

@@ -19,7 +19,7 @@ use Rattle.plain_office.specs.Orderly.{IsNumberBelow}
 use Rattle.office_types.specs.declared.refusal.Refusal.{Refusal}
 use Rattle.office_types.specs.declared.refusal.Refusal.TheVariants.{NoMemory}
 use Rattle.office_types.specs.declared.refusal.What.{What}
-use Rattle.office_types.specs.declared.refusal.What.TheVariants.{Buckets, Versions, Uploads, Parts, Names, Rules}
+use Rattle.office_types.specs.declared.refusal.What.TheVariants.{Buckets, Versions, Uploads, Parts, Names, Rules, Tariffs}
 use Rattle.office_laws.proofs.Buckets.{not_empty, stack_orderly, weight_of, weight_with}
 use Rattle.office_laws.proofs.Versions.{replaced_is}
 use Rattle.bucket_account.specs.declared.counts.Counts.{Counts}
@@ -156,6 +156,7 @@ module _ (b : BucketRecord) (books : Books) (key : List ℕ) (kind : Kind) (at :
         let cons = sum_by-cons tag_bytes_of new below in
         omega (arith, sum, before, left, is, most, n.0, cons)
     have_moved Rules = refl
+    have_moved Tariffs = refl
 
     -- ---- what the bucket stands for
 

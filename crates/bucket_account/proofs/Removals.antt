@@ -17,7 +17,7 @@ use Rattle.plain_office.specs.Counts.{tag_bytes_of, name_bytes}
 use Rattle.office_types.specs.declared.refusal.Refusal.{Refusal}
 use Rattle.office_types.specs.declared.refusal.Refusal.TheVariants.{NoMemory}
 use Rattle.office_types.specs.declared.refusal.What.{What}
-use Rattle.office_types.specs.declared.refusal.What.TheVariants.{Buckets, Versions, Uploads, Parts, Names, Rules}
+use Rattle.office_types.specs.declared.refusal.What.TheVariants.{Buckets, Versions, Uploads, Parts, Names, Rules, Tariffs}
 use Rattle.office_laws.proofs.Buckets.{stack_orderly, weight_of, weight_with}
 use Rattle.bucket_account.specs.declared.counts.Counts.{Counts}
 use Rattle.bucket_account.specs.Booking.{leaving_of, MayHaveStay, stack_under, lost_bytes, counts_from, AreTakable, MayGo}
@@ -166,6 +166,7 @@ module _ (b : BucketRecord) (books : Books) (key : List ℕ) (id : VersionId) (a
         let n = over Names in
         omega (arith, sum, before, left, tags, is, most, n.0)
     have_moved Rules = refl
+    have_moved Tariffs = refl
 
     -- ---- what the bucket stands for
 

@@ -13,7 +13,7 @@ use Rattle.plain_office.specs.Counts.{tag_bytes}
 use Rattle.plain_office.specs.Step.{Change, start_upload, abort}
 use Rattle.office_types.specs.declared.reply.Reply.TheVariants.{UploadStarted, Aborted}
 use Rattle.office_types.specs.declared.refusal.Refusal.{Refusal}
-use Rattle.office_types.specs.declared.refusal.What.TheVariants.{Buckets, Versions, Uploads, Parts, Names, Rules}
+use Rattle.office_types.specs.declared.refusal.What.TheVariants.{Buckets, Versions, Uploads, Parts, Names, Rules, Tariffs}
 use Rattle.office_laws.proofs.Lists.{added_length, added_sum}
 use Rattle.office_laws.proofs.Maps.{by_number, added}
 use Rattle.office_laws.proofs.Uploads.{upload_orderly, fresh_number}
@@ -56,6 +56,7 @@ module _ (account : Account) (t : ℕ) (key : List ℕ) (class : Class) (tags : 
   moved_started Parts = let sum = more (λ (upload : ℕ × UploadRecord). length upload.1.parts) in omega (arith, sum)
   moved_started Names = let sum = more (λ (upload : ℕ × UploadRecord). length upload.1.key + tag_bytes upload.1.tags) in omega (arith, sum)
   moved_started Rules = refl
+  moved_started Tariffs = refl
 
   abbrev Told : AccountRecord → Result Done Refusal → Type 0
   Told after result = DoesTold (Uploads ∷ Names ∷ []) (start_upload t key class tags account) account counts after result

@@ -27,7 +27,7 @@ use Rattle.plain_office.specs.Step.{Change, of_stack, set_tags}
 use Rattle.office_types.specs.declared.reply.Reply.TheVariants.{TagsSet}
 use Rattle.office_types.specs.declared.refusal.Refusal.{Refusal}
 use Rattle.office_types.specs.declared.refusal.Refusal.TheVariants.{NoMemory, NoSuchKey}
-use Rattle.office_types.specs.declared.refusal.What.TheVariants.{Buckets, Versions, Uploads, Parts, Names, Rules}
+use Rattle.office_types.specs.declared.refusal.What.TheVariants.{Buckets, Versions, Uploads, Parts, Names, Rules, Tariffs}
 use Rattle.office_laws.proofs.Buckets.{weight_with}
 use Rattle.office_laws.proofs.Versions.{tags_change, changed_length}
 use Rattle.bucket_account.specs.declared.change.Done.{Done}
@@ -139,6 +139,7 @@ module _ (b : BucketRecord) (books : Books) (key : List ℕ) (id : VersionId) (t
           let n = over Names in
           omega (arith, sum, old, new, bytes, most, n.0)
       have_moved Rules = refl
+      have_moved Tariffs = refl
 
   module _ (counts : Counts) (over : AreCountsOver b counts) where
     pub taggable : AreTaggable id under counts

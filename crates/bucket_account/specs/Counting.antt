@@ -7,7 +7,7 @@ use Rattle.plain_office.specs.Counts.{limit_of, version_count, part_count, name_
 use Rattle.office_types.specs.declared.refusal.Refusal.{Refusal}
 use Rattle.office_types.specs.declared.refusal.Refusal.TheVariants.{Full}
 use Rattle.office_types.specs.declared.refusal.What.{What}
-use Rattle.office_types.specs.declared.refusal.What.TheVariants.{Buckets, Versions, Uploads, Parts, Names, Rules}
+use Rattle.office_types.specs.declared.refusal.What.TheVariants.{Buckets, Versions, Uploads, Parts, Names, Rules, Tariffs}
 use Rattle.bucket_account.specs.declared.change.Done.{Done}
 use Rattle.bucket_account.specs.declared.counts.Counts.{Counts}
 
@@ -28,6 +28,7 @@ amount Uploads counts = counts.uploads
 amount Parts counts = counts.parts
 amount Names counts = counts.names
 amount Rules counts = counts.rules
+amount Tariffs counts = counts.tariffs
 
 -- how much of it is one bucket's
 abbrev pub in_bucket : What → BucketRecord → ℕ
@@ -37,6 +38,7 @@ in_bucket Uploads bucket = length bucket.uploads
 in_bucket Parts bucket = part_count bucket
 in_bucket Names bucket = name_bytes bucket
 in_bucket Rules bucket = rules_bytes bucket.rules
+in_bucket Tariffs bucket = 0
 
 -- the counts include this bucket, and are not above twice their limits
 abbrev pub AreCountsOver : BucketRecord → Counts → Type 0

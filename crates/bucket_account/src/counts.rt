@@ -5,7 +5,7 @@ ghost use Rattle.bucket_account.specs.Counting.{amount, first_over, IsFullOf};
 
 use office_types::{Refusal, What};
 
-/// How much there is of each kind that has a limit, in all buckets together.
+/// How much there is of each kind that has a limit, in all buckets together, and tariffs.
 #[derive(Clone, Copy)]
 pub struct Counts {
     pub buckets: u64,
@@ -17,6 +17,7 @@ pub struct Counts {
     pub names: u64,
     /// The bytes of printed configurations.
     pub rules: u64,
+    pub tariffs: u64,
 }
 
 /// Nothing at all.
@@ -27,6 +28,7 @@ pub const NOTHING: Counts = Counts {
     parts: 0,
     names: 0,
     rules: 0,
+    tariffs: 0,
 };
 
 /// The most of a kind in all buckets together. Own rule: the limits keep every sum of the meters below 2^128.
@@ -40,6 +42,7 @@ fn limit(what: What) -> u64
         What::Parts => 500_000,
         What::Names => 536_870_912,
         What::Rules => 67_108_864,
+        What::Tariffs => 100,
     }
 }
 
@@ -55,6 +58,7 @@ impl Counts {
             What::Parts => self.parts,
             What::Names => self.names,
             What::Rules => self.rules,
+            What::Tariffs => self.tariffs,
         }
     }
 

@@ -1,5 +1,5 @@
 -- What a step leaves of the office before it.
-use Rattle.std.proofs.Common.{◌≡◌, ◌⊎◌, inl, inr, ℕ, ◌≤◌, List, refl, ap, sym, ◌∙◌, subst, true}
+use Rattle.std.proofs.Common.{◌≡◌, ◌⊎◌, inl, inr, ℕ, ◌≤◌, List, refl, ap, sym, ◌∙◌, subst, true, false}
 use Rattle.std.proofs.lemmas.Option.{same_Some}
 use Rattle.std.specs.Prelude.{Option, Some, None, Ok, Err, ◌↔◌}
 use Rattle.office_base.specs.Maps.{at_name}
@@ -9,8 +9,10 @@ use Rattle.plain_office.specs.Office.{Office, Account}
 use Rattle.plain_office.specs.Answers.{answer}
 use Rattle.plain_office.specs.Orderly.{IsOrderly, SizeFits, closed_until}
 use Rattle.plain_office.specs.Run.{is_not_before}
+use Rattle.plain_office.specs.Once.{step_with}
 use Rattle.plain_office.specs.Step.{step}
 use Rattle.plain_office.specs.Sweep.{IsSwept}
+use Rattle.office_types.specs.Tokens.{takes_token, MayCarry}
 use Rattle.office_types.specs.declared.command.Command.{Command}
 use Rattle.office_types.specs.declared.command.Command.TheVariants as command
 use Rattle.office_types.specs.declared.command.Query.{Query}
@@ -18,14 +20,13 @@ use Rattle.office_types.specs.declared.command.Query.TheVariants as query
 use Rattle.office_types.specs.declared.reply.Reply.TheVariants.{NothingDue}
 use Rattle.office_types.specs.declared.refusal.Refusal.TheVariants.{NoSuchBucket, NoMemory}
 use Rattle.office_laws.proofs.ClosedMonths.{some_is, month_over, meters_answer, report_answer}
-use Rattle.office_laws.proofs.Elsewhere.{step_leaves}
+use Rattle.office_laws.proofs.Once.{with_keeps, with_leaves}
 use Rattle.office_laws.proofs.Ends.{office_sweeps, one_sweep}
-use Rattle.office_laws.proofs.Steps.{KeepsClosed, closed_same, step_keeps, step_orderly}
+use Rattle.office_laws.proofs.Steps.{KeepsClosed, closed_same, step_orderly}
 use Rattle.office_laws.proofs.Sweeps.{acted, act_found, act_nothing, act_swept}
-use Rattle.office_machine.specs.Standing.{Records, StandsForOffice, Does}
-use Rattle.office_machine.specs.Lateness.{SweepEndsIn, LeavesLaterSweeps, HasEmptySweep, LeavesOthers, AsksClosedMonth, KeepsClosedMonths}
-use Rattle.plain_office.proofs.Runs.{Answer}
-use Rattle.office_machine.proofs.Offices.{later_plain}
+use Rattle.office_machine.specs.Once.{OfficeView, StandsFor, DoesOnce}
+use Rattle.office_machine.specs.Lateness.{SweepEndsIn, LeavesLaterSweeps, HasEmptySweep, AsksClosedMonth, KeepsClosedMonths, Leaves}
+use Rattle.plain_office.proofs.Runs.{Answer, step_plain}
 use Rattle.office_machine.proofs.Steps.{step_missing}
 
 -- ---- later sweeps
@@ -99,50 +100,51 @@ months_kept p q kept = record { closed = kept.closed; answers = by } where
 pub months_stay : (p : Office) → KeepsClosedMonths p p
 months_stay p = months_kept p p (closed_same (closed_until p) p p refl refl)
 
--- ---- what the office in memory stands for afterwards
+-- ---- what a command leaves
 
-module _ (expected : Office × Answer) (before : Office) (after : Records) (result : Answer) where
-  -- it has what both offices have for which it may stand
-  stands_by : Does expected before after result → (Has : Office → Type 0) → Has expected.0 → Has before → (q : Office) × StandsForOffice after q × Has q
-  stands_by (inl done) Has there here = (expected.0, done.1, there)
-  stands_by (inr wanting) Has there here = (before, wanting.1, here)
+-- where nothing is done
+leaves_all : (t : ℕ) (asked : Command) (p : Office) → IsOrderly p → Leaves t asked p p
+leaves_all t asked p orderly = record {
+  orderly = orderly;
+  late = λ name is u end le. ((λ h. h), (λ h. h));
+  elsewhere = λ name elsewhere. refl;
+  closed = months_stay p;
+}
 
-  told_nothing : Does expected before after result → result ≡ Ok NothingDue → (expected.1 ≡ Ok NothingDue) × StandsForOffice after expected.0
-  told_nothing (inl done) is = (sym done.0 ∙ is, done.1)
-  told_nothing (inr wanting) is = let wants = wanting.0 in absurd cc
+module _ (t : ℕ) (token : Option (List ℕ)) (asked : Command) (p : Office) (orderly : IsOrderly p) (later : is_not_before p.last t ≡ true) where
+  -- an act carries no token
+  act_plain : (name : List ℕ) → asked ≡ command.Act name → MayCarry token asked → step_with t token asked p ≡ step t (command.Act name) p
+  act_plain name is carries = by token carries where
+    by : (token : Option (List ℕ)) → MayCarry token asked → step_with t token asked p ≡ step t (command.Act name) p
+    by None none = step_plain t asked p ∙ ap (λ (c : Command). step t c p) is
+    by (Some token) takes = absurd (let none : takes_token asked ≡ false = ap takes_token is in cc)
 
-module _ (t : ℕ) (asked : Command) (p : Office) (before after : Records) (result : Answer) (stands : StandsForOffice before p) (does_it : Does (step t asked p) p after result) where
-  module _ (name : List ℕ) (is : asked ≡ command.Act name) where
-    acts : Does (step t (command.Act name) p) p after result
-    acts = subst (λ (c : Command). Does (step t c p) p after result) is does_it
+  late_step : MayCarry token asked → (name : List ℕ) → asked ≡ command.Act name → LeavesLaterSweeps name t p (step_with t token asked p).0
+  late_step carries name is =
+      subst (λ (x : Office × Answer). LeavesLaterSweeps name t p x.0) (sym (act_plain name is carries)) (act_leaves t name p orderly later)
 
-    pub late_next : is_not_before before.last t ≡ true → (q : Office) × StandsForOffice after q × LeavesLaterSweeps name t p q
-    late_next later =
-        stands_by (step t (command.Act name) p) p after result acts (LeavesLaterSweeps name t p)
-        (act_leaves t name p stands.orderly (later_plain before p stands t later))
-        (λ u end le. ((λ h. h), (λ h. h)))
+  leaves_step : SizeFits asked → MayCarry token asked → Leaves t asked p (step_with t token asked p).0
+  leaves_step fits carries =
+      let keeps = with_keeps t token asked p fits orderly later in
+      record {
+        orderly = keeps.orderly;
+        late = late_step carries;
+        elsewhere = λ name elsewhere. with_leaves name p t token asked elsewhere;
+        closed = months_kept p (step_with t token asked p).0 keeps.closed;
+      }
 
-    pub nothing_next : result ≡ Ok NothingDue → StandsForOffice after p × HasEmptySweep name t p
-    nothing_next told =
-        let nothing = told_nothing (step t (command.Act name) p) p after result acts told in
-        let empty = nothing_by t name p nothing.0 (at_name name p.accounts) refl in
-        (subst (StandsForOffice after) empty.0 nothing.1, empty.1)
+  module _ (carries : MayCarry token asked) (after : OfficeView) (result : Answer) where
+    pub leaves_next : SizeFits asked → DoesOnce (step_with t token asked p) p after result → (q : Office) × StandsFor after q × Leaves t asked p q
+    leaves_next fits (inl done) = ((step_with t token asked p).0, done.1, leaves_step fits carries)
+    leaves_next fits (inr wanting) = (p, wanting.1, leaves_all t asked p orderly)
 
-  pub elsewhere_next : (q : Office) × StandsForOffice after q × LeavesOthers asked p q
-  elsewhere_next =
-      stands_by (step t asked p) p after result does_it (LeavesOthers asked p) (λ name elsewhere. step_leaves name p t asked elsewhere) (λ name elsewhere. refl)
-
-  module _ (fits : SizeFits asked) (later : is_not_before before.last t ≡ true) where
-    pub closed_next : (q : Office) × StandsForOffice after q × KeepsClosedMonths p q
-    closed_next =
-        stands_by (step t asked p) p after result does_it (KeepsClosedMonths p)
-        (months_kept p (step t asked p).0 (step_keeps t asked p fits stands.orderly (later_plain before p stands t later)).closed) (months_stay p)
-
-  pub orderly_next : (q : Office) × StandsForOffice after q × IsOrderly q
-  orderly_next = by does_it where
-    by : Does (step t asked p) p after result → (q : Office) × StandsForOffice after q × IsOrderly q
-    by (inl done) = ((step t asked p).0, done.1, done.1.orderly)
-    by (inr wanting) = (p, wanting.1, wanting.1.orderly)
+    pub nothing_next : (name : List ℕ) → asked ≡ command.Act name → result ≡ Ok NothingDue → DoesOnce (step_with t token asked p) p after result
+        → StandsFor after p × HasEmptySweep name t p
+    nothing_next name is told (inr wanting) = let wants = wanting.0 in absurd cc
+    nothing_next name is told (inl done) =
+        let plain = act_plain name is carries in
+        let nothing = nothing_by t name p (sym (ap (λ (x : Office × Answer). x.1) plain) ∙ sym done.0 ∙ told) (at_name name p.accounts) refl in
+        (subst (StandsFor after) (ap (λ (x : Office × Answer). x.0) plain ∙ nothing.0) done.1, nothing.1)
 
 -- ---- a reply on a closed month
 

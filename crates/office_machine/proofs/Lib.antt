@@ -1,8 +1,10 @@
 pub mod Accounts
+pub mod ByMonths
 pub mod Charges
 pub mod Lateness
 pub mod Months
 pub mod Offices
+pub mod Repeats
 pub mod Room
 pub mod Rows
 pub mod Seen

@@ -1,6 +1,6 @@
 -- What the office in memory stands for after each command, and the replies to queries.
 use Rattle.std.proofs.Common.{◌≡◌, ◌⊎◌, inl, inr, ℕ, ◌+◌, ◌≤◌, List, [], ◌∷◌, ◌++◌, length, map, refl, ap, sym, ◌∙◌, Bool, true, false, subst, arith, flat_map}
-use Rattle.std.specs.Prelude.{Result, Option, Some, None, Ok, Err, is_some, unwrap_or}
+use Rattle.std.specs.Prelude.{Result, Option, Some, None, Ok, Err, is_some, ◌==◌, unwrap_or}
 use Rattle.std.specs.List.{AllByRecursion}
 use Rattle.std.specs.Map.{set_value}
 use Rattle.std.specs.BTreeMap.{is_at}
@@ -14,18 +14,18 @@ use Rattle.plain_office.specs.Office.{Office, Account, empty_office, book_of}
 use Rattle.plain_office.specs.Counts.{count_of, limit_of, version_count}
 use Rattle.plain_office.specs.Orderly.{IsOrderly, SizeFits}
 use Rattle.plain_office.specs.Run.{is_not_before}
-use Rattle.plain_office.specs.Step.{Change, close, step, accepted, is_accepted, new_account}
-use Rattle.plain_office.specs.Answers.{answer, class_meters, rule_count, rules_told, stack_told, upload_told, due_told, prices_told}
+use Rattle.plain_office.specs.Step.{Change, close, refuse_if, step, accepted, is_accepted, new_account, with_tariff}
+use Rattle.plain_office.specs.Answers.{answer, rule_count, rules_told, stack_told, upload_told, due_told, tariffs_told}
 use Rattle.office_types.specs.declared.command.Command.{Command}
 use Rattle.office_types.specs.declared.command.Command.TheVariants as command
 use Rattle.office_types.specs.declared.command.Query.TheVariants as query
 use Rattle.office_types.specs.declared.reply.Reply.{Reply}
-use Rattle.office_types.specs.declared.reply.Reply.TheVariants.{BucketMade, NothingDue, TariffSet, Closed, BucketShown, MetersShown, Report}
+use Rattle.office_types.specs.declared.reply.Reply.TheVariants.{BucketMade, NothingDue, TariffSet, Closed, BucketShown, MetersShown, TariffShown, Report}
 use Rattle.office_types.specs.declared.reply.ReportLine.{ReportLine}
 use Rattle.office_types.specs.declared.refusal.Refusal.{Refusal}
 use Rattle.office_types.specs.declared.refusal.Refusal.TheVariants.{BucketExists, NoSuchBucket, NoTariff, Full}
 use Rattle.office_types.specs.declared.refusal.What.{What}
-use Rattle.office_types.specs.declared.refusal.What.TheVariants.{Buckets, Versions, Uploads, Parts, Names, Rules}
+use Rattle.office_types.specs.declared.refusal.What.TheVariants.{Buckets, Versions, Uploads, Parts, Names, Rules, Tariffs}
 use Rattle.office_laws.proofs.Lists.{Added, Replaced}
 use Rattle.office_laws.proofs.Maps.{by_name, added, replaced}
 use Rattle.office_laws.proofs.Offices.{kept_now, booked_now}
@@ -41,18 +41,25 @@ use Rattle.office_types.specs.Fits.{RefusalFits}
 use Rattle.office_machine.proofs.Accounts.{StandsForOption, stand_length, stand_at, stand_with, stand_set, stand_one}
 use Rattle.office_machine.proofs.Rows.{closed_is}
 use Rattle.office_machine.proofs.Sums.{AreCountsOf, full_is, moved_is, added_is, counts_over, same_counts}
-use Rattle.plain_office.specs.Charges.{kept_prices, tariff_for, report_lines}
+use Rattle.plain_office.specs.Charges.{class_meters, in_force, kept_or, tariff_for, report_lines}
 use Rattle.office_machine.specs.AnswerParts.{closed_at, entry_lines, IsBookedIn}
 use Rattle.office_machine.specs.Closing.{closing_with, first_due, due_refusal}
 use Rattle.office_machine.proofs.Months.{closed_office, close_refused, close_due, close_done, due_same, due_of, none_due}
 use Rattle.plain_office.proofs.Runs.{Answer}
-use Rattle.office_machine.proofs.Steps.{step_missing, step_refused, step_full, step_done, step_nothing, placed, made, create_exists, create_full, create_made, priced, tariff_told}
+use Rattle.office_machine.proofs.Steps.{step_missing, step_refused, step_full, step_done, step_nothing, placed, made, create_exists, create_full, create_made, priced, tariff_full, tariff_set}
 
 -- ---- an answer that is the step's
 
 pub does : (expected : Office × Answer) (before q : Office) (after : Records) (result : Answer) → expected ≡ (q, result) → StandsForOffice after q → Does expected before after result
 does expected before q after result is stands =
     inl (sym (ap (λ (x : Office × Answer). x.1) is), subst (StandsForOffice after) (sym (ap (λ (x : Office × Answer). x.0) is)) stands)
+
+-- the tariffs that are told
+pub none_told : (tariffs : List Prices) → (length tariffs == 0) ≡ true → tariffs_told tariffs ≡ Err NoTariff
+none_told tariffs is = ap (λ (b : Bool). refuse_if b NoTariff (TariffShown tariffs)) is
+
+pub some_told : (tariffs : List Prices) → (length tariffs == 0) ≡ false → tariffs_told tariffs ≡ Ok (TariffShown tariffs)
+some_told tariffs is = ap (λ (b : Bool). refuse_if b NoTariff (TariffShown tariffs)) is
 
 -- the reply that is not accepted
 pub nothing_of : (r : Reply) → is_accepted (Ok r) ≡ false → r ≡ NothingDue
@@ -83,7 +90,7 @@ is_some_none (Some x) h = absurd cc
 abbrev pub accepted_records : ℕ → Records → List (List ℕ × AccountRecord) → Counts → ℕ → Records
 accepted_records t records accounts counts number = record {
   last = Some t;
-  tariff = records.tariff;
+  tariffs = records.tariffs;
   first_month = Some (unwrap_or records.first_month (month_at t));
   closed = records.closed;
   accounts = accounts;
@@ -100,7 +107,7 @@ module _ (records : Records) (p : Office) (stands : StandsForOffice records p) w
   still accounts same = record {
     orderly = stands.orderly;
     last = stands.last;
-    tariff = stands.tariff;
+    tariffs = stands.tariffs;
     first_month = stands.first_month;
     closed = stands.closed;
     accounts = same;
@@ -112,44 +119,73 @@ module _ (records : Records) (p : Office) (stands : StandsForOffice records p) w
     later_plain = subst (λ (last : Option ℕ). is_not_before last t ≡ true) stands.last later
 
     -- an accepted command that changed accounts and counts alone
-    moved_on : (q : Office) (accounts : List (List ℕ × AccountRecord)) (counts : Counts) (number : ℕ) → q.tariff ≡ p.tariff → q.first_month ≡ p.first_month → q.closed ≡ p.closed
+    moved_on : (q : Office) (accounts : List (List ℕ × AccountRecord)) (counts : Counts) (number : ℕ) → q.tariffs ≡ p.tariffs → q.first_month ≡ p.first_month → q.closed ≡ p.closed
         → StandForAccounts accounts q.accounts → AreCountsOf (accepted t q) counts → IsOrderly (accepted t q)
         → StandsForOffice (accepted_records t records accounts counts number) (accepted t q)
     moved_on q accounts counts number tariff first closed same are orderly = record {
       orderly = orderly;
       last = refl;
-      tariff = stands.tariff ∙ sym tariff;
+      tariffs = stands.tariffs ∙ sym tariff;
       first_month = ap (λ (month : Option ℕ). Some (unwrap_or month (month_at t))) (stands.first_month ∙ sym first);
       closed = stands.closed ∙ sym closed;
       accounts = same;
       counts = are;
     }
 
-    -- an accepted command that changed the prices or the closed months alone
-    office_on : (q : Office) (tariff : Option Prices) (closed : List (ℕ × Prices)) (number : ℕ) → tariff ≡ q.tariff
-        → q.first_month ≡ p.first_month → closed ≡ q.closed → q.accounts ≡ p.accounts → IsOrderly (accepted t q)
-        → StandsForOffice (accepted_records t (record records { tariff = tariff; closed = closed }) records.accounts records.counts number) (accepted t q)
-    office_on q tariff closed number priced first months same orderly = record {
+    -- an accepted command that changed the tariffs or the closed months alone
+    office_on : (q : Office) (tariffs : List Prices) (closed : List (ℕ × Prices)) (counts : Counts) (number : ℕ) → tariffs ≡ q.tariffs
+        → q.first_month ≡ p.first_month → closed ≡ q.closed → q.accounts ≡ p.accounts → AreCountsOf (accepted t q) counts → IsOrderly (accepted t q)
+        → StandsForOffice (accepted_records t (record records { tariffs = tariffs; closed = closed }) records.accounts counts number) (accepted t q)
+    office_on q tariffs closed counts number set first months same are orderly = record {
       orderly = orderly;
       last = refl;
-      tariff = priced;
+      tariffs = set;
       first_month = ap (λ (month : Option ℕ). Some (unwrap_or month (month_at t))) (stands.first_month ∙ sym first);
       closed = months;
       accounts = subst (λ (l : List (List ℕ × Account)). StandForAccounts records.accounts l) (sym same) stands.accounts;
-      counts = λ what. stands.counts what ∙ same_counts what p (accepted t q) (sym same);
+      counts = are;
     }
 
-    pub does_price : (tariff : Prices) (number : ℕ)
-        → Does (step t (command.SetTariff tariff) p) p
-        (accepted_records t (record records { tariff = Some tariff }) records.accounts records.counts number)
-        (Ok TariffSet)
-    does_price tariff number =
-        let told = tariff_told t p tariff in
-        does (step t (command.SetTariff tariff) p) p (accepted t (priced t p tariff))
-        (accepted_records t (record records { tariff = Some tariff }) records.accounts records.counts number)
-        (Ok TariffSet) told
-        (office_on (priced t p tariff) (Some tariff) records.closed number refl refl stands.closed refl
-        (subst IsOrderly (ap (λ (x : Office × Answer). x.0) told) (step_orderly t (command.SetTariff tariff) p tt stands.orderly later_plain)))
+    -- ---- a tariff is set
+
+    module _ (tariff : Prices) (tariffs : List Prices) (is : tariffs ≡ with_tariff tariff records.tariffs) where
+      set_plain : tariffs ≡ with_tariff tariff p.tariffs
+      set_plain = is ∙ ap (with_tariff tariff) stands.tariffs
+
+      abbrev counted : Counts
+      counted = record records.counts { tariffs = length tariffs }
+
+      priced_counts : AreCountsOf (priced t p tariff) counted
+      unfolding count_of
+      priced_counts Buckets = stands.counts Buckets
+      priced_counts Versions = stands.counts Versions
+      priced_counts Uploads = stands.counts Uploads
+      priced_counts Parts = stands.counts Parts
+      priced_counts Names = stands.counts Names
+      priced_counts Rules = stands.counts Rules
+      priced_counts Tariffs = ap (λ (l : List Prices). length l) set_plain
+
+      accepted_counts : AreCountsOf (accepted t (priced t p tariff)) counted
+      accepted_counts what = priced_counts what ∙ same_counts what (priced t p tariff) (accepted t (priced t p tariff)) refl refl
+
+      pub does_overprice : (what : What) → first_over (Tariffs ∷ []) counted ≡ Some what → Does (step t (command.SetTariff tariff) p) p records (Err (Full what (limit_of what)))
+      does_overprice what full =
+          does (step t (command.SetTariff tariff) p) p p records (Err (Full what (limit_of what)))
+          (tariff_full t p tariff what (full_is (Tariffs ∷ []) (priced t p tariff) counted priced_counts ∙ full)) stands
+
+      pub does_price : (counts : Counts) → counts ≡ counted → first_over (Tariffs ∷ []) counts ≡ None → (number : ℕ)
+          → Does (step t (command.SetTariff tariff) p) p
+          (accepted_records t (record records { tariffs = tariffs }) records.accounts counts number)
+          (Ok TariffSet)
+      does_price counts same free number =
+          let none = subst (λ (k : Counts). first_over (Tariffs ∷ []) k ≡ None) same free in
+          let told = tariff_set t p tariff (full_is (Tariffs ∷ []) (priced t p tariff) counted priced_counts ∙ none) in
+          does (step t (command.SetTariff tariff) p) p (accepted t (priced t p tariff))
+          (accepted_records t (record records { tariffs = tariffs }) records.accounts counts number)
+          (Ok TariffSet) told
+          (office_on (priced t p tariff) tariffs records.closed counts number set_plain refl stands.closed refl
+          (subst (λ (k : Counts). AreCountsOf (accepted t (priced t p tariff)) k) (sym same) accepted_counts)
+          (subst IsOrderly (ap (λ (x : Office × Answer). x.0) told) (step_orderly t (command.SetTariff tariff) p tt stands.orderly later_plain)))
 
     -- ---- a month is closed
 
@@ -173,7 +209,8 @@ module _ (records : Records) (p : Office) (stands : StandsForOffice records p) w
             does (step t (command.Close month) p) p (accepted t (closed_office t month p tariff))
             (accepted_records t (record records { closed = closed }) records.accounts records.counts number)
             (Ok (Closed month)) told
-            (office_on (closed_office t month p tariff) records.tariff closed number stands.tariff refl (pushed ∙ ap (λ (l : List (ℕ × Prices)). l ++ (month, tariff) ∷ []) stands.closed) refl
+            (office_on (closed_office t month p tariff) records.tariffs closed records.counts number stands.tariffs refl (pushed ∙ ap (λ (l : List (ℕ × Prices)). l ++ (month, tariff) ∷ []) stands.closed) refl
+            (λ what. stands.counts what ∙ same_counts what p (accepted t (closed_office t month p tariff)) refl refl)
             (subst IsOrderly (ap (λ (x : Office × Answer). x.0) told) (step_orderly t (command.Close month) p tt stands.orderly later_plain)))
 
   module _ (name : List ℕ) where
@@ -201,7 +238,7 @@ module _ (records : Records) (p : Office) (stands : StandsForOffice records p) w
         one = added by_name name (new_account t) p.accounts (absent (is_some_none (at_name name records.accounts) none))
 
         made_counts : AreCountsOf (made t p name) counts
-        made_counts = added_is p (made t p name) name (new_account t) one records.counts counts stands.counts more
+        made_counts = added_is p (made t p name) name (new_account t) one refl records.counts counts stands.counts more
 
         pub does_fill : (what : What) → first_over (Buckets ∷ []) counts ≡ Some what → Does (step t (command.CreateBucket name) p) p records (Err (Full what (limit_of what)))
         does_fill what full =
@@ -219,7 +256,7 @@ module _ (records : Records) (p : Office) (stands : StandsForOffice records p) w
             (subst (λ (l : List (List ℕ × AccountRecord)). StandForAccounts l
             (with_name name (new_account t) p.accounts)) (sym is)
             (stand_with name held (new_account t) same records.accounts p.accounts stands.accounts))
-            (added_is p (accepted t (made t p name)) name (new_account t) one records.counts counts stands.counts more)
+            (added_is p (accepted t (made t p name)) name (new_account t) one refl records.counts counts stands.counts more)
             (subst IsOrderly (ap (λ (x : Office × Answer). x.0) told) (step_orderly t (command.CreateBucket name) p tt stands.orderly (later_plain t later))))
 
     -- ---- a command on the bucket
@@ -275,7 +312,7 @@ module _ (records : Records) (p : Office) (stands : StandsForOffice records p) w
           one_after after = replaced by_name name after account p.accounts stands.orderly.records.names there
 
           counts_are : (after : Account) (moved : Counts) → HaveMoved account.bucket after.bucket records.counts moved → AreCountsOf (placed t p name after) moved
-          counts_are after moved follow = moved_is p (placed t p name after) name account after (one_after after) records.counts moved stands.counts follow
+          counts_are after moved follow = moved_is p (placed t p name after) name account after (one_after after) refl records.counts moved stands.counts follow
 
           done_by : (told : Change) (done : Done) (number : ℕ) → change_of t asked account ≡ told → SizeFits asked
               → is_accepted (Ok done.reply) ≡ true → DoesTold whats told account records.counts written (Ok done)
@@ -287,7 +324,7 @@ module _ (records : Records) (p : Office) (stands : StandsForOffice records p) w
               does (step t asked p) p (accepted t (placed t p name after)) (accepted_records t records accounts done.counts number) (Ok done.reply)
               (stepped ∙ ap (λ (r : Reply). (accepted t (placed t p name after), Ok r)) (sym h.0))
               (moved_on t later (placed t p name after) accounts done.counts number refl refl refl (set_standing after h.1)
-              (moved_is p (accepted t (placed t p name after)) name account after (one_after after) records.counts done.counts stands.counts h.2)
+              (moved_is p (accepted t (placed t p name after)) name account after (one_after after) refl records.counts done.counts stands.counts h.2)
               (subst IsOrderly (ap (λ (x : Office × Answer). x.0) stepped) (step_orderly t asked p fits stands.orderly (later_plain t later))))
 
           -- a change that was done
@@ -414,19 +451,19 @@ module _ (records : Records) (p : Office) (stands : StandsForOffice records p) w
 module _ (records : Records) (p : Office) (stands : StandsForOffice records p) where
   -- ---- queries on the whole office
 
-  pub shows_tariff : (t : ℕ) → answer t query.Tariff p ≡ prices_told records.tariff
+  pub shows_tariff : (t : ℕ) → answer t query.Tariff p ≡ tariffs_told records.tariffs
   unfolding answer
-  shows_tariff t = ap prices_told (sym stands.tariff)
+  shows_tariff t = ap tariffs_told (sym stands.tariffs)
 
-  prices_by : (month : ℕ) (o : Option Prices) → at_number month p.closed ≡ o → tariff_for month p ≡ kept_prices o p.tariff
+  prices_by : (month : ℕ) (o : Option Prices) → at_number month p.closed ≡ o → tariff_for month p ≡ kept_or o (in_force month p.tariffs)
   prices_by month None is = rw is refl
   prices_by month (Some prices) is = rw is refl
 
-  pub shows_prices : (month : ℕ) → tariff_for month p ≡ kept_prices (closed_at month records.closed) records.tariff
+  pub shows_prices : (month : ℕ) → tariff_for month p ≡ kept_or (closed_at month records.closed) (in_force month records.tariffs)
   shows_prices month =
       prices_by month (closed_at month p.closed) (sym (closed_is month p.closed))
-      ∙ ap (λ (closed : List (ℕ × Prices)). kept_prices (closed_at month closed) p.tariff) (sym stands.closed)
-      ∙ ap (kept_prices (closed_at month records.closed)) (sym stands.tariff)
+      ∙ ap (λ (closed : List (ℕ × Prices)). kept_or (closed_at month closed) (in_force month p.tariffs)) (sym stands.closed)
+      ∙ ap (λ (tariffs : List Prices). kept_or (closed_at month records.closed) (in_force month tariffs)) (sym stands.tariffs)
 
   pub shows_report : (t month : ℕ) (prices : Prices) → tariff_for month p ≡ Some prices → answer t (query.Report month) p ≡ Ok (Report (report_lines prices month t p))
   unfolding answer
@@ -458,13 +495,14 @@ none_counted Uploads = refl
 none_counted Parts = refl
 none_counted Names = refl
 none_counted Rules = refl
+none_counted Tariffs = refl
 
-pub empty_stands : (closed : List (ℕ × Prices)) (accounts : List (List ℕ × AccountRecord)) (counts : Counts) (number : ℕ) → closed ≡ [] → accounts ≡ [] → ((what : What) → amount what counts ≡ 0)
-    → StandsForOffice (record { last = None; tariff = None; first_month = None; closed = closed; accounts = accounts; counts = counts; accepted = number }) empty_office
-empty_stands closed accounts counts number no_month no_account none = record {
+pub empty_stands : (tariffs : List Prices) (closed : List (ℕ × Prices)) (accounts : List (List ℕ × AccountRecord)) (counts : Counts) (number : ℕ) → tariffs ≡ [] → closed ≡ [] → accounts ≡ [] → ((what : What) → amount what counts ≡ 0)
+    → StandsForOffice (record { last = None; tariffs = tariffs; first_month = None; closed = closed; accounts = accounts; counts = counts; accepted = number }) empty_office
+empty_stands tariffs closed accounts counts number no_tariff no_month no_account none = record {
   orderly = empty_orderly;
   last = refl;
-  tariff = refl;
+  tariffs = no_tariff;
   first_month = refl;
   closed = no_month;
   accounts = subst (λ (l : List (List ℕ × AccountRecord)). StandForAccounts l []) (sym no_account) tt;
@@ -485,11 +523,11 @@ kept_on expected before after result does_it room =
     let stands = stands_on expected before after result does_it in
     record { office = stands.0; stands = stands.1; room = room }
 
-pub empty_kept : (closed : List (ℕ × Prices)) (accounts : List (List ℕ × AccountRecord)) (counts : Counts) (number : ℕ) → closed ≡ [] → accounts ≡ [] → ((what : What) → amount what counts ≡ 0)
-    → IsOfAnOffice (record { last = None; tariff = None; first_month = None; closed = closed; accounts = accounts; counts = counts; accepted = number })
-empty_kept closed accounts counts number no_month no_account none = record {
+pub empty_kept : (tariffs : List Prices) (closed : List (ℕ × Prices)) (accounts : List (List ℕ × AccountRecord)) (counts : Counts) (number : ℕ) → tariffs ≡ [] → closed ≡ [] → accounts ≡ [] → ((what : What) → amount what counts ≡ 0)
+    → IsOfAnOffice (record { last = None; tariffs = tariffs; first_month = None; closed = closed; accounts = accounts; counts = counts; accepted = number })
+empty_kept tariffs closed accounts counts number no_tariff no_month no_account none = record {
   office = empty_office;
-  stands = empty_stands closed accounts counts number no_month no_account none;
+  stands = empty_stands tariffs closed accounts counts number no_tariff no_month no_account none;
   room = subst (λ (l : List (List ℕ × AccountRecord)). AllByRecursion (λ account. IsWithinBy number account.1) l) (sym no_account) tt;
 }
 
@@ -503,12 +541,13 @@ one_more counts t Uploads = omega arith
 one_more counts t Parts = omega arith
 one_more counts t Names = omega arith
 one_more counts t Rules = omega arith
+one_more counts t Tariffs = omega arith
 
 -- the first month that a call gives
 pub with_month : (t : ℕ) (records : Records) (accounts : List (List ℕ × AccountRecord)) (counts : Counts)
     (number month : ℕ)
     → month ≡ unwrap_or records.first_month (month_at t) → (P : Records → Type 0)
     → P (accepted_records t records accounts counts number)
-    → P (record { last = Some t; tariff = records.tariff; first_month = Some month; closed = records.closed; accounts = accounts; counts = counts; accepted = number })
+    → P (record { last = Some t; tariffs = records.tariffs; first_month = Some month; closed = records.closed; accounts = accounts; counts = counts; accepted = number })
 with_month t records accounts counts number month is P h =
-    subst (λ (m : ℕ). P (record { last = Some t; tariff = records.tariff; first_month = Some m; closed = records.closed; accounts = accounts; counts = counts; accepted = number })) (sym is) h
+    subst (λ (m : ℕ). P (record { last = Some t; tariffs = records.tariffs; first_month = Some m; closed = records.closed; accounts = accounts; counts = counts; accepted = number })) (sym is) h

@@ -12,8 +12,7 @@ use Rattle.accrual.specs.Totals.{AreTotalsOf}
 use Rattle.office_base.specs.Maps.{at_number}
 use Rattle.tariff.specs.Prices.{Prices}
 use Rattle.plain_office.specs.Office.{Account, book_of}
-use Rattle.plain_office.specs.Charges.{class_lines, metered_lines}
-use Rattle.plain_office.specs.Answers.{class_meters}
+use Rattle.plain_office.specs.Charges.{class_lines, class_meters, metered_lines}
 use Rattle.office_types.specs.declared.reply.ClassMeters.{ClassMeters}
 use Rattle.office_types.specs.declared.reply.ReportLine.{ReportLine}
 use Rattle.bucket_account.specs.Counting.{AccountRecord}

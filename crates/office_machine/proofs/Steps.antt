@@ -5,7 +5,7 @@ use Rattle.office_base.specs.Maps.{at_name, with_name}
 use Rattle.tariff.specs.Prices.{Prices}
 use Rattle.plain_office.specs.Office.{Office, Account}
 use Rattle.plain_office.specs.Counts.{limit_of, first_full}
-use Rattle.plain_office.specs.Step.{Change, Outcome, on_bucket, within_limits, unless_full, settled, accepted, outcome, step, is_accepted, new_account, adds_marker, is_unversioned, set_versioning}
+use Rattle.plain_office.specs.Step.{Change, Outcome, on_bucket, within_limits, unless_full, settled, accepted, outcome, step, is_accepted, new_account, adds_marker, is_unversioned, set_versioning, with_tariff}
 use Rattle.plain_office.specs.Step.{set_rules, drop_rules, put_object, delete, delete_version, set_tags, start_upload, put_part, complete, abort, act}
 use Rattle.office_types.specs.declared.command.Command.{Command}
 use Rattle.office_types.specs.declared.command.Command.TheVariants as command
@@ -14,7 +14,7 @@ use Rattle.office_types.specs.declared.reply.Reply.TheVariants as reply
 use Rattle.office_types.specs.declared.refusal.Refusal.{Refusal}
 use Rattle.office_types.specs.declared.refusal.Refusal.TheVariants.{NoSuchBucket, BucketExists, Full}
 use Rattle.office_types.specs.declared.refusal.What.{What}
-use Rattle.office_types.specs.declared.refusal.What.TheVariants.{Buckets, Versions, Uploads, Parts, Names, Rules}
+use Rattle.office_types.specs.declared.refusal.What.TheVariants.{Buckets, Versions, Uploads, Parts, Names, Rules, Tariffs}
 use Rattle.bucket_account.specs.Changing.{change_of, limits_of, IsOnBucket}
 
 swapped : (b : Bool) (x y : List What) → cond (not b) x y ≡ cond b y x
@@ -171,8 +171,15 @@ module _ (t : ℕ) (p : Office) where
 
   module _ (tariff : Prices) where
     abbrev pub priced : Office
-    priced = record p { tariff = Some tariff }
+    priced = record p { tariffs = with_tariff tariff p.tariffs }
 
-    pub tariff_told : step t (command.SetTariff tariff) p ≡ (accepted t priced, Ok reply.TariffSet)
+    tariff_told : (o : Option What) → first_full (Tariffs ∷ []) priced ≡ o
+        → step t (command.SetTariff tariff) p ≡ settled t p (unless_full o (priced, reply.TariffSet))
     unfolding step outcome
-    tariff_told = refl
+    tariff_told o is = ap (λ (o : Option What). settled t p (unless_full o (priced, reply.TariffSet))) is
+
+    pub tariff_full : (what : What) → first_full (Tariffs ∷ []) priced ≡ Some what → step t (command.SetTariff tariff) p ≡ (p, Err (Full what (limit_of what)))
+    tariff_full what full = tariff_told (Some what) full
+
+    pub tariff_set : first_full (Tariffs ∷ []) priced ≡ None → step t (command.SetTariff tariff) p ≡ (accepted t priced, Ok reply.TariffSet)
+    tariff_set free = tariff_told None free

@@ -1,13 +1,14 @@
 -- The running counts and the plain office's.
-use Rattle.std.proofs.Common.{◌≡◌, ℕ, ◌+◌, ◌*◌, ◌≤◌, List, [], ◌∷◌, length, refl, ap, sym, ◌∙◌, arith}
+use Rattle.std.proofs.Common.{◌≡◌, ℕ, ◌+◌, ◌*◌, ◌≤◌, List, [], ◌∷◌, length, refl, ap, ap₂, sym, ◌∙◌, arith}
 use Rattle.std.specs.Prelude.{Some, sum_by}
 use Rattle.std.proofs.lemmas.List.Sums.{sum_by-cons, sum_by-append}
 use Rattle.office_base.specs.Maps.{at_name}
+use Rattle.tariff.specs.Prices.{Prices}
 use Rattle.plain_office.specs.Office.{Office, Account}
 use Rattle.plain_office.specs.Counts.{limit_of, count_of, first_full, version_count}
 use Rattle.plain_office.specs.Orderly.{IsOrderlyRecords, current_objects}
 use Rattle.office_types.specs.declared.refusal.What.{What}
-use Rattle.office_types.specs.declared.refusal.What.TheVariants.{Buckets, Versions, Uploads, Parts, Names, Rules}
+use Rattle.office_types.specs.declared.refusal.What.TheVariants.{Buckets, Versions, Uploads, Parts, Names, Rules, Tariffs}
 use Rattle.office_laws.proofs.Lists.{Held, Added, Replaced, added_sum, replaced_sum, sum_most}
 use Rattle.office_laws.proofs.Maps.{by_name, found}
 use Rattle.bucket_account.specs.declared.counts.Counts.{Counts}
@@ -30,19 +31,36 @@ one_each (entry ∷ accounts) =
     let cons = sum_by-cons (in_entry Buckets) entry accounts in
     omega (arith, rest, cons)
 
--- a count is a sum over the buckets
-pub count_is : (what : What) (p : Office) → count_of what p ≡ sum_by (in_entry what) p.accounts
-unfolding count_of
-count_is Buckets p = one_each p.accounts
-count_is Versions p = refl
-count_is Uploads p = refl
-count_is Parts p = refl
-count_is Names p = refl
-count_is Rules p = refl
+none_each : (accounts : List Entry) → sum_by (in_entry Tariffs) accounts ≡ 0
+none_each [] = refl
+none_each (entry ∷ accounts) =
+    let rest = none_each accounts in
+    let cons = sum_by-cons (in_entry Tariffs) entry accounts in
+    omega (arith, rest, cons)
 
--- it goes by the accounts alone
-pub same_counts : (what : What) (p q : Office) → p.accounts ≡ q.accounts → count_of what p ≡ count_of what q
-same_counts what p q same = count_is what p ∙ ap (λ (l : List Entry). sum_by (in_entry what) l) same ∙ sym (count_is what q)
+-- what is counted beside the buckets
+abbrev pub beside : What → List Prices → ℕ
+beside Tariffs tariffs = length tariffs
+beside other tariffs = 0
+
+none_more : (n : ℕ) → n ≡ 0 + n
+none_more n = omega arith
+
+-- a count is that and a sum over the buckets
+pub count_is : (what : What) (p : Office) → count_of what p ≡ beside what p.tariffs + sum_by (in_entry what) p.accounts
+unfolding count_of
+count_is Buckets p = one_each p.accounts ∙ none_more (sum_by (in_entry Buckets) p.accounts)
+count_is Versions p = none_more (sum_by (in_entry Versions) p.accounts)
+count_is Uploads p = none_more (sum_by (in_entry Uploads) p.accounts)
+count_is Parts p = none_more (sum_by (in_entry Parts) p.accounts)
+count_is Names p = none_more (sum_by (in_entry Names) p.accounts)
+count_is Rules p = none_more (sum_by (in_entry Rules) p.accounts)
+count_is Tariffs p = let none = none_each p.accounts in omega (arith, none)
+
+-- it goes by the accounts and the tariffs alone
+pub same_counts : (what : What) (p q : Office) → p.accounts ≡ q.accounts → p.tariffs ≡ q.tariffs → count_of what p ≡ count_of what q
+same_counts what p q same set =
+    count_is what p ∙ ap₂ (λ (l : List Prices) (m : List Entry). beside what l + sum_by (in_entry what) m) set same ∙ sym (count_is what q)
 
 -- the first that is full
 pub full_is : (whats : List What) (p : Office) (counts : Counts) → AreCountsOf p counts → first_full whats p ≡ first_over whats counts
@@ -54,7 +72,7 @@ full_is (what ∷ whats) p counts same =
 
 -- ---- a bucket changed
 
-module _ (p q : Office) (name : List ℕ) (before after : Account) (one : Replaced (name, before) (name, after) p.accounts q.accounts) (counts moved : Counts) where
+module _ (p q : Office) (name : List ℕ) (before after : Account) (one : Replaced (name, before) (name, after) p.accounts q.accounts) (set : p.tariffs ≡ q.tariffs) (counts moved : Counts) where
   pub moved_is : AreCountsOf p counts → HaveMoved before.bucket after.bucket counts moved → AreCountsOf q moved
   moved_is were follow what =
       let sum = replaced_sum (name, before) (name, after) p.accounts q.accounts one (in_entry what) in
@@ -62,11 +80,12 @@ module _ (p q : Office) (name : List ℕ) (before after : Account) (one : Replac
       let has = follow what in
       let a = count_is what p in
       let b = count_is what q in
-      omega (arith, sum, was, has, a, b)
+      let others = ap (beside what) set in
+      omega (arith, sum, was, has, a, b, others)
 
 -- ---- a bucket more
 
-module _ (p q : Office) (name : List ℕ) (new : Account) (one : Added (name, new) p.accounts q.accounts) (counts moved : Counts) where
+module _ (p q : Office) (name : List ℕ) (new : Account) (one : Added (name, new) p.accounts q.accounts) (set : p.tariffs ≡ q.tariffs) (counts moved : Counts) where
   pub added_is : AreCountsOf p counts → ((what : What) → amount what moved ≡ amount what counts + in_bucket what new.bucket) → AreCountsOf q moved
   added_is were more what =
       let sum = added_sum (name, new) p.accounts q.accounts one (in_entry what) in
@@ -74,7 +93,8 @@ module _ (p q : Office) (name : List ℕ) (new : Account) (one : Added (name, ne
       let has = more what in
       let a = count_is what p in
       let b = count_is what q in
-      omega (arith, sum, was, has, a, b)
+      let others = ap (beside what) set in
+      omega (arith, sum, was, has, a, b, others)
 
 -- ---- what is known of the counts
 
@@ -103,6 +123,7 @@ counts_small p h Uploads = twice _ _ h.counts.1.0
 counts_small p h Parts = twice _ _ h.counts.1.1.0
 counts_small p h Names = twice _ _ h.counts.1.1.1.0
 counts_small p h Rules = twice _ _ h.counts.1.1.1.1.0
+counts_small p h Tariffs = twice _ _ h.counts.1.1.1.1.1.0
 
 pub counts_over : (p : Office) (counts : Counts) (name : List ℕ) (account : Account) → IsOrderlyRecords p
     → AreCountsOf p counts → at_name name p.accounts ≡ Some account → AreCountsOver account.bucket counts

@@ -1,5 +1,5 @@
 -- What the parts of a query's answer give, in the words of the plain office.
-use Rattle.std.specs.Prelude.{◌≡◌, ◌⊎◌, ℕ, ◌==◌, Option, option_map, Result, Err, List, flat_map}
+use Rattle.std.specs.Prelude.{◌≡◌, ◌⊎◌, ℕ, ◌==◌, nat_le, Option, Some, option_map, Result, Err, List, [], ◌∷◌, flat_map, if◌then◌else◌}
 use Rattle.std.specs.List.{find}
 use Rattle.accrual.specs.Books.{IsBookedBy}
 use Rattle.class_rules.specs.Classes.{all_classes}
@@ -20,6 +20,11 @@ IsAnswer expected result = (result ≡ expected) ⊎ (result ≡ Err NoMemory)
 -- the prices of a month's closing
 abbrev pub closed_at : ℕ → List (ℕ × Prices) → Option Prices
 closed_at month closed = option_map (λ entry. entry.1) (find (λ entry. entry.0 == month) closed)
+
+-- the last of these tariffs that begins by a month, or else the one that was found before
+abbrev pub latest : ℕ → Option Prices → List Prices → Option Prices
+latest month found [] = found
+latest month found (tariff ∷ tariffs) = latest month (if nat_le tariff.from month then Some tariff else found) tariffs
 
 -- the lines of a bucket of the plain office
 abbrev pub entry_lines : Prices → ℕ → ℕ → List ℕ × Account → List ReportLine

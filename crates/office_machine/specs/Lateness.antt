@@ -7,6 +7,8 @@ use Rattle.plain_office.specs.Office.{Office, Account}
 use Rattle.plain_office.specs.Answers.{answer}
 use Rattle.plain_office.specs.Sweep.{IsSwept}
 use Rattle.office_types.specs.declared.command.Command.{Command}
+use Rattle.office_types.specs.declared.command.Command.TheVariants.{Act}
+use Rattle.plain_office.specs.Orderly.{IsOrderly}
 use Rattle.office_types.specs.declared.command.Query.{Query}
 use Rattle.office_types.specs.declared.command.Query.TheVariants as query
 use Rattle.office_laws.specs.Commands.{IsElsewhere}
@@ -56,3 +58,13 @@ pub record KeepsClosedMonths (before after : Office) : Type 0 where
       → at_number month before.closed ≡ Some tariff → at_number month after.closed ≡ Some tariff
   pub answers : (asked : Query) (u v : ℕ) → AsksClosedMonth u v asked before
       → answer v asked after ≡ answer u asked before
+
+-- ---- together
+
+-- what a command at t leaves of the office before it: the office is orderly again, no later sweep of the bucket of an
+-- act ends otherwise, the other buckets and the closed months stay
+pub record Leaves (t : ℕ) (asked : Command) (before after : Office) : Type 0 where
+  pub orderly : IsOrderly after
+  pub late : (name : List ℕ) → asked ≡ Act name → LeavesLaterSweeps name t before after
+  pub elsewhere : LeavesOthers asked before after
+  pub closed : KeepsClosedMonths before after

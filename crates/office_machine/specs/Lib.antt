@@ -2,5 +2,6 @@ pub mod AnswerParts
 pub mod Closing
 pub mod Lateness
 pub mod Lines
+pub mod Once
 pub mod Queued
 pub mod Standing

@@ -14,12 +14,12 @@ use Rattle.bucket_account.specs.declared.counts.Counts.{Counts}
 use Rattle.bucket_account.specs.Counting.{amount, AccountRecord, IsWithinBy}
 use Rattle.bucket_account.specs.Standing.{StandsForAccount}
 
--- what contracts see of an office: the moment of the last accepted command, the tariff, the month of the first accepted
+-- what contracts see of an office: the moment of the last accepted command, the tariffs, the month of the first accepted
 -- command, the closed months, its buckets in byte order of their names, the running counts, and how many commands were
 -- accepted
 pub record Records : Type 0 where
   pub last : Option ℕ
-  pub tariff : Option Prices
+  pub tariffs : List Prices
   pub first_month : Option ℕ
   pub closed : List (ℕ × Prices)
   pub accounts : List (List ℕ × AccountRecord)
@@ -44,7 +44,7 @@ StandForAccounts (records ∷ others) (account ∷ accounts) =
 pub record StandsForOffice (records : Records) (office : Office) : Type 0 where
   pub orderly : IsOrderly office
   pub last : records.last ≡ office.last
-  pub tariff : records.tariff ≡ office.tariff
+  pub tariffs : records.tariffs ≡ office.tariffs
   pub first_month : records.first_month ≡ office.first_month
   pub closed : records.closed ≡ office.closed
   pub accounts : StandForAccounts records.accounts office.accounts

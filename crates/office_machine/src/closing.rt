@@ -11,7 +11,8 @@ ghost use Rattle.office_machine.specs.Closing.{closing_with, first_due, due_refu
 ghost use Rattle.office_machine.specs.Standing.{StandsForOffice, Does, accepted_after};
 
 use crate::commands::{copy_of, first_of};
-use crate::office::Office;
+use crate::machine::Machine;
+use crate::tariffs::in_force;
 use bucket_account::Account;
 use due_core::Action;
 use moments::{Moment, Month, month_window};
@@ -20,8 +21,8 @@ use office_types::{Refusal, Reply};
 use std::collections::BTreeMap;
 use tariff::Tariff;
 
-impl Office {
-    /// Closes a month, and keeps the prices of now for it.
+impl Machine {
+    /// Closes a month, and keeps the tariff in force in it.
     ///
     /// Own rule: months are closed in order, once they are over and all that is due in them is done.
     pub(crate) fn close(&mut self, t: Moment, month: Month) -> Result<Reply, Refusal>
@@ -46,7 +47,8 @@ impl Office {
         Ok(Reply::Closed { month })
     }
 
-    /// Gives the prices with which a month may be closed: it is over, it is the first that is open, and prices are set.
+    /// Gives the prices with which a month may be closed: it is over, it is the first that is open, and a tariff is in
+    /// force in it.
     fn closing_tariff(&self, t: Moment, month: Month) -> Result<Tariff, Refusal>
         ensures tests { (p : plain.Office) → StandsForOffice self.now p
             → close t month p ≡ closing_with t month p result }
@@ -66,7 +68,7 @@ impl Office {
                 month: Month::numbered(open),
             });
         }
-        match self.tariff {
+        match in_force(&self.tariffs, month) {
             Some(tariff) => Ok(tariff),
             None => Err(Refusal::NoTariff),
         }

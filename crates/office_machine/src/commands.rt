@@ -11,14 +11,15 @@ ghost use Rattle.bucket_account.specs.Changing.{IsOnBucket};
 ghost use Rattle.bucket_account.specs.Standing.{most_commands};
 ghost use Rattle.office_machine.specs.Standing.{StandsForOffice, Does, accepted_after};
 
-use crate::office::Office;
+use crate::machine::Machine;
+use crate::tariffs::with_tariff;
 use bucket_account::{Account, Counts};
 use moments::{Moment, Month, month_of};
 use office_base::BucketName;
 use office_types::{Command, Refusal, Reply, What};
 use tariff::Tariff;
 
-impl Office {
+impl Machine {
     pub(crate) fn create_bucket(&mut self, t: Moment, name: &BucketName) -> Result<Reply, Refusal>
         requires later { IsTrue (is_not_before self.old.last t) }
         requires few { self.old.accepted < most_commands }
@@ -81,16 +82,23 @@ impl Office {
         Ok(done.reply)
     }
 
-    /// Sets the prices, in place of those before.
-    pub(crate) fn set_tariff(&mut self, t: Moment, tariff: Tariff) -> Result<Reply, Refusal>
+    /// Sets a tariff, in the place of the one with the same first month.
+    pub(crate) fn set_tariff(&mut self, t: Moment, tariff: &Tariff) -> Result<Reply, Refusal>
         requires later { IsTrue (is_not_before self.old.last t) }
         requires few { self.old.accepted < most_commands }
         ensures step { (p : plain.Office) → StandsForOffice self.old p
-            → Does (step t (command.SetTariff tariff) p) p self.new result }
+            → Does (step t (command.SetTariff tariff.now) p) p self.new result }
         ensures accepted { self.new.accepted ≡ accepted_after result self.old.accepted }
         ensures fits { AnswerFits result }
     {
-        self.tariff = Some(tariff);
+        let tariffs = with_tariff(self.alloc, tariff, &self.tariffs)?;
+        let counts = Counts {
+            tariffs: tariffs.len() as u64,
+            ..self.counts
+        };
+        let counts = counts.within(&[What::Tariffs])?;
+        self.tariffs = tariffs;
+        self.counts = counts;
         self.last = Some(t);
         self.first_month = Some(first_of(self.first_month, t));
         self.accepted += 1;
@@ -99,7 +107,7 @@ impl Office {
 }
 
 /// Tells whether this is the reply to an accepted command: every one but that nothing is due.
-fn is_accepted(reply: &Reply) -> bool
+pub(crate) fn is_accepted(reply: &Reply) -> bool
     ensures { result ≡ is_accepted (Ok reply.now) }
 {
     !matches!(reply, Reply::NothingDue)

@@ -1,10 +1,12 @@
-//! The office in memory: its buckets, its tariff and its closed months, changed by commands.
+//! The office in memory: its buckets, its tariffs and its closed months, changed by commands.
 #![tactic(auto)]
 
 mod closing;
 mod commands;
+mod machine;
 mod office;
 mod queries;
 mod reports;
+mod tariffs;
 
 pub use office::Office;

@@ -1,96 +1,68 @@
-// The office.
-ghost use Rattle.std.specs.Prelude.{◌≡◌, ◌⊎◌, ◌<◌, ℕ, List, Ok, Err, IsTrue, option_copied, option_map, IfSome};
+// The office with the replies that it keeps, so that a command with a token is done once.
+ghost use Rattle.std.specs.Prelude.{◌≡◌, ◌⊎◌, ◌<◌, ℕ, List, true, Ok, Err, Some, None, IsTrue, IfSome, option_copied, option_map};
 ghost use Rattle.office_base.specs.Maps.{at_name};
+ghost use Rattle.kept_replies.specs.Queue.{kept_in};
 ghost use Rattle.plain_office.specs.Office as plain;
 ghost use Rattle.plain_office.specs.Office.{empty_office};
-ghost use Rattle.plain_office.specs.Step.{step};
+ghost use Rattle.plain_office.specs.Once.{kept_at, recalled, step_with};
 ghost use Rattle.plain_office.specs.Answers.{answer};
 ghost use Rattle.plain_office.specs.Run.{is_not_before};
-ghost use Rattle.plain_office.specs.Orderly.{IsOrderly, SizeFits};
 ghost use Rattle.office_types.specs.Fits.{AnswerFits};
+ghost use Rattle.office_types.specs.Tokens.{takes_token, MayCarry};
 ghost use Rattle.bucket_account.specs.Counting.{AccountRecord};
 ghost use Rattle.bucket_account.specs.Standing.{most_commands};
+ghost use Rattle.plain_office.specs.Orderly.{SizeFits};
+ghost use Rattle.office_types.specs.declared.command.Command.{Command};
+ghost use Rattle.office_types.specs.declared.reply.Reply.{Reply};
+ghost use Rattle.office_machine.specs.Lateness.{Leaves, HasEmptySweep, AsksClosedMonth};
 ghost use Rattle.office_machine.specs.Queued.{AreQueuedIn};
-ghost use Rattle.office_machine.specs.Standing.{StandsForOffice, Does, accepted_after};
-ghost use Rattle.office_machine.specs.Lateness.{LeavesLaterSweeps, HasEmptySweep, LeavesOthers};
-ghost use Rattle.office_machine.specs.Lateness.{AsksClosedMonth, KeepsClosedMonths};
+ghost use Rattle.office_machine.specs.Standing.{accepted_after};
+ghost use Rattle.office_machine.specs.Once.{OfficeView, StandsFor, DoesOnce};
 
-use bucket_account::{Account, Counts, NOTHING};
+use crate::commands::is_accepted;
+use crate::machine::Machine;
 use due_core::Bucket;
-use moments::{Moment, Month};
+use kept_replies::KeptReplies;
+use moments::Moment;
 use office_base::BucketName;
-use office_types::{Command, Query, Refusal, Reply};
+use office_types::{Command, Query, Refusal, Reply, Token};
 use std::alloc::Global;
-use std::collections::BTreeMap;
 use std::marker::Model;
-use tariff::Tariff;
 
-/// The office in memory: its buckets with their records and meters, the tariff and the closed months.
+/// The office in memory: its records, and the replies to the last commands that carried a token.
 #[derive(Drop)]
 pub struct Office {
-    pub(crate) alloc: Global,
-    // The moment of the last accepted command.
-    pub(crate) last: Option<Moment>,
-    pub(crate) tariff: Option<Tariff>,
-    // The month of the first accepted command.
-    pub(crate) first_month: Option<Month>,
-    // The closed months, each with the tariff of its closing.
-    pub(crate) closed: Vec<(Month, Tariff)>,
-    pub(crate) accounts: BTreeMap<BucketName, Account>,
-    pub(crate) counts: Counts,
-    // How many commands were accepted.
-    pub(crate) accepted: u64,
+    machine: Machine,
+    kept: KeptReplies,
 }
 
 impl Model for Office {
-    ghost use Rattle.office_machine.specs.Standing.{Records, IsOfAnOffice};
+    ghost use Rattle.office_machine.specs.Once.{OfficeView, IsAnOffice};
 
-    ghost Value = { Records };
+    ghost Value = { OfficeView };
 
-    ghost view = { λ o. record {
-      last = o.last;
-      tariff = o.tariff;
-      first_month = o.first_month;
-      closed = o.closed.items;
-      accounts = o.accounts.entries;
-      counts = o.counts;
-      accepted = o.accepted;
-    } };
+    ghost view = { λ o. record { records = o.machine; kept = o.kept } };
 
-    ghost invariant = { λ o. IsOfAnOffice (record {
-      last = o.last;
-      tariff = o.tariff;
-      first_month = o.first_month;
-      closed = o.closed.items;
-      accounts = o.accounts.entries;
-      counts = o.counts;
-      accepted = o.accepted;
-    }) };
+    ghost invariant = { λ o. IsAnOffice (record { records = o.machine; kept = o.kept }) };
 }
 
 impl Office {
     /// Gives the office before the first command. Takes no memory.
     pub fn new(alloc: Global) -> Office
-        ensures stands { StandsForOffice result empty_office }
-        ensures accepted { result.accepted ≡ 0 }
+        ensures stands { StandsFor result empty_office }
+        ensures accepted { result.records.accepted ≡ 0 }
     {
         Office {
-            alloc,
-            last: None,
-            tariff: None,
-            first_month: None,
-            closed: Vec::new(alloc),
-            accounts: BTreeMap::new(alloc),
-            counts: NOTHING,
-            accepted: 0,
+            machine: Machine::new(alloc),
+            kept: KeptReplies::new(alloc),
         }
     }
 
     /// Reads the moment of the last accepted command; none before the first.
     pub fn last(&self) -> Option<Moment>
-        ensures same { result ≡ self.now.last }
+        ensures same { result ≡ self.now.records.last }
     {
-        self.last
+        self.machine.last()
     }
 
     /// Reads the records of a bucket; None where there is none of this name. Takes no memory.
@@ -98,12 +70,9 @@ impl Office {
     /// Cost: one search of the buckets.
     pub fn bucket(&self, name: &BucketName) -> Option<&Bucket>
         ensures records { option_copied result
-            ≡ option_map (λ (account : AccountRecord). account.bucket) (at_name name.now self.now.accounts) }
+            ≡ option_map (λ (account : AccountRecord). account.bucket) (at_name name.now self.now.records.accounts) }
     {
-        match self.accounts.get(name) {
-            Some(account) => Some(account.bucket()),
-            None => None,
-        }
+        self.machine.bucket(name)
     }
 
     /// Counts the keys and the uploads of a bucket that have an eligible action, whenever it is due: the entries of the
@@ -112,75 +81,105 @@ impl Office {
     ///
     /// Cost: one search of the buckets.
     pub fn queued(&self, bucket: &BucketName) -> Option<u64>
-        ensures exact { IfSome result (λ entries. AreQueuedIn entries (at_name bucket.now self.now.accounts)) }
+        ensures exact { IfSome result (λ entries. AreQueuedIn entries (at_name bucket.now self.now.records.accounts)) }
     {
-        match self.accounts.get(bucket) {
-            Some(account) => account.queued(),
-            None => None,
-        }
+        self.machine.queued(bucket)
     }
 
-    /// Does a command at a moment, and answers it. `t` is not before the moment of the last accepted command.
+    /// Recalls the reply to a command that carries a token; None where no reply is kept under the token.
     ///
-    /// Cost: one search of the buckets and one of what the command names in its bucket; `Act` takes
-    /// the first of its bucket's queue of next actions, and `Close` reads the first of each bucket's. `SetRules`,
-    /// `DropRules` and `SetVersioning` read all versions and uploads of the bucket, and so does an `Act` or a `Close`
-    /// where there is no queue for want of memory. Memory for copies of names, keys and tags, and for the months
-    /// since what is removed or replaced came. Nothing is counted again.
+    /// Cost: one search of the tokens; where a reply is kept, a pass over both commands.
+    ///
+    /// # Errors
+    ///
+    /// `TokenReused`: the token is kept with another command. `NoMemory`: memory ran out.
+    pub fn recall(&self, token: &Token, command: &Command) -> Result<Option<Reply>, Refusal>
+        ensures exact { (p : plain.Office) → StandsFor self.now p
+            → (result ≡ recalled (kept_at token.now p.kept) command.now) ⊎ (result ≡ Err Refusal.NoMemory) }
+        ensures new { result ≡ Ok None → kept_in token.now self.now.kept.queue ≡ None }
+    {
+        self.kept.recall(token, command)
+    }
+
+    /// Does a command at a moment, and answers it; where it carries a token and is accepted, the reply is kept. `t` is
+    /// not before the moment of the last accepted command, the command may carry the token, and no reply is kept
+    /// under it.
+    ///
+    /// Cost: one search of the buckets and one of what the command names in its bucket; `Act` takes the first of its
+    /// bucket's queue of next actions, and `Close` reads the first of each bucket's. `SetRules`, `DropRules` and
+    /// `SetVersioning` read all versions and uploads of the bucket, and so does an `Act` or a `Close` where there is no
+    /// queue for want of memory. Memory for copies of names, keys and tags, and for the months since what is removed or
+    /// replaced came. Nothing is counted again. With a token two searches of the tokens, and memory for copies of the
+    /// token and the command.
     ///
     /// # Errors
     ///
     /// Each is the refusal that the plain office gives, tested in its order; or `NoMemory`: memory ran out. The office
     /// then stands for what it stood for, and so it does after the reply `NothingDue`.
-    pub fn apply(&mut self, t: Moment, command: &Command) -> Result<Reply, Refusal>
-        requires later { IsTrue (is_not_before self.old.last t) }
-        requires few { self.old.accepted < most_commands }
-        ensures step { (p : plain.Office) → StandsForOffice self.old p → Does (step t command.now p) p self.new result }
-        ensures accepted { self.new.accepted ≡ accepted_after result self.old.accepted }
+    pub fn apply(
+        &mut self,
+        t: Moment,
+        token: Option<&Token>,
+        command: &Command,
+    ) -> Result<Reply, Refusal>
+        requires later { IsTrue (is_not_before self.old.records.last t) }
+        requires few { self.old.records.accepted < most_commands }
+        requires carries { MayCarry (option_copied token) command.now }
+        requires new { IfSome (option_copied token) (λ one. kept_in one self.old.kept.queue ≡ None) }
+        ensures step { (p : plain.Office) → StandsFor self.old p
+            → DoesOnce (step_with t (option_copied token.entry) command.now p) p self.new result }
+        ensures accepted { self.new.records.accepted ≡ accepted_after result self.old.records.accepted }
         ensures fits { AnswerFits result }
-        ensures late { (p : plain.Office) (name : List ℕ) → StandsForOffice self.old p → command.now ≡ Command.Act name
-            → (q : plain.Office) × StandsForOffice self.new q × LeavesLaterSweeps name t p q }
-        ensures nothing_due { (p : plain.Office) (name : List ℕ) → StandsForOffice self.old p
+        ensures leaves { (p : plain.Office) → StandsFor self.old p
+            → (q : plain.Office) × StandsFor self.new q × Leaves t command.now p q }
+        ensures nothing_due { (p : plain.Office) (name : List ℕ) → StandsFor self.old p
             → command.now ≡ Command.Act name → result ≡ Ok Reply.NothingDue
-            → StandsForOffice self.new p × HasEmptySweep name t p }
-        ensures elsewhere { (p : plain.Office) → StandsForOffice self.old p
-            → (q : plain.Office) × StandsForOffice self.new q × LeavesOthers command.now p q }
-        ensures closed { (p : plain.Office) → StandsForOffice self.old p
-            → (q : plain.Office) × StandsForOffice self.new q × KeepsClosedMonths p q }
-        ensures orderly { (p : plain.Office) → StandsForOffice self.old p
-            → (q : plain.Office) × StandsForOffice self.new q × IsOrderly q }
+            → StandsFor self.new p × HasEmptySweep name t p }
     {
-        self.do_command(t, command)
+        know_size(command);
+        match token {
+            Some(token) => self.apply_once(t, token, command),
+            None => self.apply_plain(t, command),
+        }
     }
 
-    fn do_command(&mut self, t: Moment, command: &Command) -> Result<Reply, Refusal>
-        requires later { IsTrue (is_not_before self.old.last t) }
-        requires few { self.old.accepted < most_commands }
-        ensures step { (p : plain.Office) → StandsForOffice self.old p → Does (step t command.now p) p self.new result }
-        ensures accepted { self.new.accepted ≡ accepted_after result self.old.accepted }
+    fn apply_plain(&mut self, t: Moment, command: &Command) -> Result<Reply, Refusal>
+        requires later { IsTrue (is_not_before self.old.records.last t) }
+        requires few { self.old.records.accepted < most_commands }
+        ensures step { (p : plain.Office) → StandsFor self.old p
+            → DoesOnce (step_with t None command.now p) p self.new result }
+        ensures accepted { self.new.records.accepted ≡ accepted_after result self.old.records.accepted }
         ensures fits { AnswerFits result }
-        ensures size { SizeFits command.now }
     {
-        match command {
-            Command::CreateBucket { bucket } => self.create_bucket(t, bucket),
-            Command::Put { bucket, size, .. } => {
-                // A size is at most 5 TiB, by its type.
-                let _ = size.bytes();
-                self.on_bucket(t, bucket, command)
+        self.machine.apply(t, command)
+    }
+
+    fn apply_once(&mut self, t: Moment, token: &Token, command: &Command) -> Result<Reply, Refusal>
+        requires later { IsTrue (is_not_before self.old.records.last t) }
+        requires few { self.old.records.accepted < most_commands }
+        requires takes { takes_token command.now ≡ true }
+        requires new { kept_in token.now self.old.kept.queue ≡ None }
+        ensures step { (p : plain.Office) → StandsFor self.old p
+            → DoesOnce (step_with t (Some token.now) command.now p) p self.new result }
+        ensures accepted { self.new.records.accepted ≡ accepted_after result self.old.records.accepted }
+        ensures fits { AnswerFits result }
+    {
+        if self.kept.hold(token, command).is_err() {
+            return Err(Refusal::NoMemory);
+        }
+        match self.machine.apply(t, command) {
+            Ok(reply) => {
+                if is_accepted(&reply) {
+                    self.kept.keep(t, &reply);
+                } else {
+                    self.kept.let_go();
+                }
+                Ok(reply)
             }
-            Command::SetVersioning { bucket, .. }
-            | Command::SetRules { bucket, .. }
-            | Command::DropRules { bucket }
-            | Command::Delete { bucket, .. }
-            | Command::DeleteVersion { bucket, .. }
-            | Command::SetTags { bucket, .. }
-            | Command::StartUpload { bucket, .. }
-            | Command::PutPart { bucket, .. }
-            | Command::Complete { bucket, .. }
-            | Command::Abort { bucket, .. }
-            | Command::Act { bucket } => self.on_bucket(t, bucket, command),
-            Command::SetTariff { tariff } => self.set_tariff(t, *tariff),
-            Command::Close { month } => self.close(t, *month),
+            Err(refusal) => {
+                self.kept.let_go();
+                Err(refusal)
+            }
         }
     }
 
@@ -190,31 +189,22 @@ impl Office {
     ///
     /// Each is the refusal that the plain office gives, tested in its order; or `NoMemory`: memory ran out.
     pub fn answer(&self, t: Moment, query: &Query) -> Result<Reply, Refusal>
-        requires later { IsTrue (is_not_before self.now.last t) }
-        ensures reply { (p : plain.Office) → StandsForOffice self.now p
+        requires later { IsTrue (is_not_before self.now.records.last t) }
+        ensures reply { (p : plain.Office) → StandsFor self.now p
             → (result ≡ answer t query.now p) ⊎ (result ≡ Err Refusal.NoMemory) }
         ensures fits { AnswerFits result }
-        ensures closed { (p : plain.Office) (u : ℕ) → StandsForOffice self.now p → AsksClosedMonth u t query.now p
+        ensures closed { (p : plain.Office) (u : ℕ) → StandsFor self.now p → AsksClosedMonth u t query.now p
             → (result ≡ answer u query.now p) ⊎ (result ≡ Err Refusal.NoMemory) }
     {
-        self.reply_to(t, query)
+        self.machine.answer(t, query)
     }
+}
 
-    fn reply_to(&self, t: Moment, query: &Query) -> Result<Reply, Refusal>
-        requires later { IsTrue (is_not_before self.now.last t) }
-        ensures reply { (p : plain.Office) → StandsForOffice self.now p
-            → (result ≡ answer t query.now p) ⊎ (result ≡ Err Refusal.NoMemory) }
-        ensures fits { AnswerFits result }
-    {
-        match query {
-            Query::Bucket(name) => self.show_bucket(name),
-            Query::Rules(name) => self.show_rules(name),
-            Query::Stack(name, key) => self.show_stack(name, key),
-            Query::Upload(name, number) => self.show_upload(name, *number),
-            Query::Due(name) => self.show_due(t, name),
-            Query::Meters(name, month) => self.show_meters(t, name, *month),
-            Query::Tariff => self.show_tariff(),
-            Query::Report(month) => self.show_report(t, *month),
-        }
+// A size is at most 5 TiB, by its type.
+fn know_size(command: &Command)
+    ensures { SizeFits command.now }
+{
+    if let Command::Put { size, .. } = command {
+        let _ = size.bytes();
     }
 }

@@ -5,7 +5,8 @@ ghost use Rattle.accrual.specs.Totals.{AreTotalsOf};
 ghost use Rattle.class_rules.specs.Classes.{all_classes};
 ghost use Rattle.office_base.specs.Tags.{char_count};
 ghost use Rattle.plain_office.specs.Office as plain;
-ghost use Rattle.plain_office.specs.Answers.{answer, class_meters, rules_told, stack_told, upload_told, due_told};
+ghost use Rattle.plain_office.specs.Answers.{answer, rules_told, stack_told, upload_told, due_told};
+ghost use Rattle.plain_office.specs.Charges.{class_meters};
 ghost use Rattle.plain_office.specs.Run.{is_not_before};
 ghost use Rattle.plain_office.specs.Step.{rule_id};
 ghost use Rattle.office_types.specs.Fits.{AnswerFits};
@@ -15,17 +16,18 @@ ghost use Rattle.office_machine.specs.Standing.{StandsForOffice};
 
 use crate::closing::choice_of;
 use crate::commands::copy_of;
-use crate::office::Office;
+use crate::machine::Machine;
+use crate::tariffs::copy_of_all;
 use bucket_account::{Account, rule_id};
 use class_rules::Class;
 use due_core::{Action, Bucket};
 use moments::{Moment, Month};
-use office_base::{BucketName, Key, Text};
+use office_base::{BucketName, Items, Key, Text};
 use office_types::{ClassMeters, Refusal, Reply};
 use rules_core::RuleSet;
 use std::alloc::Global;
 
-impl Office {
+impl Machine {
     pub(crate) fn show_bucket(&self, name: &BucketName) -> Result<Reply, Refusal>
         ensures reply { (t : ℕ) (p : plain.Office) → StandsForOffice self.now p
             → IsAnswer (answer t (query.Bucket name.now) p) result }
@@ -102,10 +104,11 @@ impl Office {
             return Err(Refusal::NoSuchBucket);
         };
         let bucket = copy_of(name)?;
+        let classes = listed(self.alloc, &used_of(account, month, t))?;
         Ok(Reply::MetersShown {
             bucket,
             month,
-            classes: used_of(account, month, t),
+            classes,
         })
     }
 
@@ -114,10 +117,13 @@ impl Office {
             → IsAnswer (answer t query.Tariff p) result }
         ensures fits { AnswerFits result }
     {
-        match self.tariff {
-            Some(tariff) => Ok(Reply::TariffShown { tariff }),
-            None => Err(Refusal::NoTariff),
+        if self.tariffs.is_empty() {
+            return Err(Refusal::NoTariff);
         }
+        let tariffs = copy_of_all(self.alloc, &self.tariffs)?;
+        Ok(Reply::TariffShown {
+            tariffs: Items::of(tariffs),
+        })
     }
 }
 
@@ -194,6 +200,17 @@ fn id_of(alloc: Global, rules: &Option<RuleSet>, place: u32) -> Result<Text, Ref
 {
     match rule_id(alloc, rules, place) {
         Ok(id) => Ok(id),
+        Err(_) => Err(Refusal::NoMemory),
+    }
+}
+
+fn listed(alloc: Global, classes: &[ClassMeters; 6]) -> Result<Items<ClassMeters>, Refusal>
+    ensures exact { IfOk result (λ list. list ≡ classes.now) }
+    ensures refusal { IfErr result (λ refusal. refusal ≡ Refusal.NoMemory) }
+{
+    let mut all = Vec::new(alloc);
+    match all.extend_from_slice(classes) {
+        Ok(()) => Ok(Items::of(all)),
         Err(_) => Err(Refusal::NoMemory),
     }
 }

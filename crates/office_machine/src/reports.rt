@@ -1,12 +1,13 @@
 // The report of a month.
-ghost use Rattle.std.specs.Prelude.{◌≡◌, ◌+◌, ◌*◌, ◌^◌, ◌≤◌, ◌==◌, ℕ, IsTrue, OnOk, IfOk, IfErr};
+ghost use Rattle.std.specs.Prelude.{◌≡◌, ◌+◌, ◌*◌, ◌^◌, ◌≤◌, ◌==◌, ℕ, true, IsTrue, OnOk, IfOk, IfErr};
 ghost use Rattle.std.specs.Prelude.{List, [], ◌∷◌, ◌++◌, length, filter, flat_map};
 ghost use Rattle.plain_office.specs.Office as plain;
 ghost use Rattle.plain_office.specs.Answers.{answer};
-ghost use Rattle.plain_office.specs.Charges.{tariff_for, metered_lines, has_quantity};
+ghost use Rattle.plain_office.specs.Charges.{tariff_for, metered_lines, price_told, has_quantity};
 ghost use Rattle.plain_office.specs.Run.{is_not_before};
 ghost use Rattle.std.specs.List.{AllByRecursion};
 ghost use Rattle.tariff.specs.Charges.{charge_of, move_charge_of};
+ghost use Rattle.tariff.specs.Prices.{are_tiers};
 ghost use Rattle.office_types.specs.Fits.{AnswerFits};
 ghost use Rattle.office_types.specs.declared.command.Query.TheVariants as query;
 ghost use Rattle.office_types.specs.Reports.{charges};
@@ -16,18 +17,19 @@ ghost use Rattle.office_machine.specs.Lines.{report_line};
 ghost use Rattle.office_machine.specs.Standing.{StandsForOffice, StandForAccounts};
 
 use crate::commands::copy_of;
-use crate::office::Office;
+use crate::machine::Machine;
 use crate::queries::used_of;
+use crate::tariffs::in_force;
 use bucket_account::Account;
 use class_rules::Class;
 use moments::{Moment, Month};
 use office_base::{BucketName, Items};
-use office_types::{ClassMeters, LineKind, Refusal, Reply, ReportLine};
+use office_types::{ClassMeters, LineKind, Price, Refusal, Reply, ReportLine};
 use std::alloc::Global;
 use std::collections::BTreeMap;
-use tariff::{Tariff, charge, move_charge};
+use tariff::{Tariff, Tiers, charge, move_charge};
 
-impl Office {
+impl Machine {
     pub(crate) fn show_report(&self, t: Moment, month: Month) -> Result<Reply, Refusal>
         requires later { IsTrue (is_not_before self.now.last t) }
         ensures reply { (p : plain.Office) → StandsForOffice self.now p
@@ -43,13 +45,13 @@ impl Office {
         })
     }
 
-    /// Gives the prices of a month: those of its closing, or those of now.
+    /// Gives the tariff of a month: that of its closing, or the one in force in it.
     fn tariff_for(&self, month: Month) -> Option<Tariff>
         ensures { (p : plain.Office) → StandsForOffice self.now p → result ≡ tariff_for month p }
     {
         match closed_at(&self.closed, month) {
             Some(tariff) => Some(tariff),
-            None => self.tariff,
+            None => in_force(&self.tariffs, month),
         }
     }
 }
@@ -124,10 +126,10 @@ fn push_class(
     ensures refusal { IfErr result (λ refusal. refusal ≡ Refusal.NoMemory) }
 {
     let class = used.class;
-    let price = tariff.storage_price(class);
-    let stored = storage(LineKind::Storage, used.byte_ms, price, month);
+    let tiers = tariff.storage_tiers(class);
+    let stored = storage(LineKind::Storage, used.byte_ms, tiers, month);
     push_line(lines, name, class, stored)?;
-    let early = storage(LineKind::Early, used.early_byte_ms, price, month);
+    let early = storage(LineKind::Early, used.early_byte_ms, tiers, month);
     push_line(lines, name, class, early)?;
     let moved = transitions(used.moves, tariff.move_price(class));
     push_line(lines, name, class, moved)
@@ -138,26 +140,41 @@ fn push_class(
 struct Line {
     kind: LineKind,
     quantity: u128,
-    price: u32,
+    price: Price,
     charge: u128,
 }
 
-/// Charges a quantity of byte-milliseconds at a price for a GiB-month.
+/// Tells the price of one tier, or that there are several.
+#[tactic(auto, using(crate::proofs::Charges::several_told))]
+fn price_of(tiers: &Tiers) -> Price
+    ensures told { result ≡ price_told tiers.now }
+    ensures kept { are_tiers tiers.now ≡ true }
+{
+    let list = tiers.list();
+    if list.len() == 1 {
+        Price::One(list[0].price)
+    } else {
+        Price::Tiered
+    }
+}
+
+/// Charges a quantity of byte-milliseconds through the tiers of a class.
 #[tactic(auto, using(crate::proofs::Charges::charge_small))]
-fn storage(kind: LineKind, quantity: u128, price: u32, month: Month) -> Line
+fn storage(kind: LineKind, quantity: u128, tiers: &Tiers, month: Month) -> Line
     ensures line { result ≡ record {
       kind = kind;
       quantity = quantity;
-      price = price;
-      charge = charge_of quantity price month;
+      price = price_told tiers.now;
+      charge = charge_of quantity tiers.now month;
     } }
     ensures small { result.charge ≤ 2 ^ 100 }
 {
+    let price = price_of(tiers);
     Line {
         kind,
         quantity,
         price,
-        charge: charge(quantity, price, month),
+        charge: charge(quantity, tiers, month),
     }
 }
 
@@ -167,7 +184,7 @@ fn transitions(moves: u64, price: u32) -> Line
     ensures line { result ≡ record {
       kind = LineKind.Transitions;
       quantity = moves;
-      price = price;
+      price = Price.One price;
       charge = move_charge_of moves price;
     } }
     ensures small { result.charge ≤ 2 ^ 100 }
@@ -175,7 +192,7 @@ fn transitions(moves: u64, price: u32) -> Line
     Line {
         kind: LineKind::Transitions,
         quantity: moves as u128,
-        price,
+        price: Price::One(price),
         charge: move_charge(moves, price),
     }
 }

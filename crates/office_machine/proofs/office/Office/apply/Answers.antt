@@ -1,22 +1,26 @@
-use Rattle.office_machine.proofs.Lateness.{late_next, nothing_next, elsewhere_next, closed_next, orderly_next}
+use Rattle.std.proofs.Common.{◌≡◌, ℕ, List, Option, Some, None, true, subst, ap}
+use Rattle.std.specs.Prelude.{option_copied}
+use Rattle.office_types.specs.Tokens.{MayCarry}
+use Rattle.plain_office.specs.Office.{Office}
+use Rattle.plain_office.specs.Run.{is_not_before}
+use Rattle.office_machine.specs.Once.{OfficeView, StandsFor}
+use Rattle.office_machine.proofs.Lateness.{leaves_next, nothing_next}
 use Rattle.office_machine.proofs.office.Office.apply.Goals as goal
 
-pub returns-clause-late : goal.returns-clause-late
-returns-clause-late c = λ p name stands is.
-    late_next c.args.t c.args.command.now p c.args.self.now c.do_command.new.self c.do_command.result stands (c.do_command.ensures.step p stands) name is c.requires.later
+later_of : (view : OfficeView) (p : Office) (t : ℕ) → StandsFor view p → is_not_before view.records.last t ≡ true → is_not_before p.last t ≡ true
+later_of view p t stands later = subst (λ (last : Option ℕ). is_not_before last t ≡ true) stands.records.last later
 
-pub returns-clause-nothing_due : goal.returns-clause-nothing_due
-returns-clause-nothing_due c = λ p name stands is nothing.
-    nothing_next c.args.t c.args.command.now p c.args.self.now c.do_command.new.self c.do_command.result stands (c.do_command.ensures.step p stands) name is nothing
+pub returns-in-Some-clause-leaves : goal.returns-in-Some-clause-leaves
+returns-in-Some-clause-leaves c = λ p stands.
+    leaves_next c.args.t (Some c.in-Some.token.now) c.args.command.now p stands.records.orderly (later_of c.args.self.now p c.args.t stands c.requires.later)
+    (subst (λ (token : Option (List ℕ)). MayCarry token c.args.command.now) (ap option_copied c.in-Some.is) c.requires.carries) c.apply_once.new.self c.apply_once.result c.know_size.ensures (c.apply_once.ensures.step p stands)
 
-pub returns-clause-elsewhere : goal.returns-clause-elsewhere
-returns-clause-elsewhere c = λ p stands.
-    elsewhere_next c.args.t c.args.command.now p c.args.self.now c.do_command.new.self c.do_command.result stands (c.do_command.ensures.step p stands)
+pub returns-in-None-clause-leaves : goal.returns-in-None-clause-leaves
+returns-in-None-clause-leaves c = λ p stands.
+    leaves_next c.args.t None c.args.command.now p stands.records.orderly (later_of c.args.self.now p c.args.t stands c.requires.later)
+    tt c.apply_plain.new.self c.apply_plain.result c.know_size.ensures (c.apply_plain.ensures.step p stands)
 
-pub returns-clause-closed : goal.returns-clause-closed
-returns-clause-closed c = λ p stands.
-    closed_next c.args.t c.args.command.now p c.args.self.now c.do_command.new.self c.do_command.result stands (c.do_command.ensures.step p stands) c.do_command.ensures.size c.requires.later
-
-pub returns-clause-orderly : goal.returns-clause-orderly
-returns-clause-orderly c = λ p stands.
-    orderly_next c.args.t c.args.command.now p c.args.self.now c.do_command.new.self c.do_command.result stands (c.do_command.ensures.step p stands)
+pub returns-in-None-clause-nothing_due : goal.returns-in-None-clause-nothing_due
+returns-in-None-clause-nothing_due c = λ p name stands is told.
+    nothing_next c.args.t None c.args.command.now p stands.records.orderly (later_of c.args.self.now p c.args.t stands c.requires.later)
+    tt c.apply_plain.new.self c.apply_plain.result name is told (c.apply_plain.ensures.step p stands)

@@ -1,0 +1,124 @@
+// The tariffs that were set, by their first months.
+ghost use Rattle.std.specs.Prelude.{◌≡◌, ◌∷◌, [], ◌++◌, nat_lt, nat_le, filter, Some, None, OnOk, IfOk, IfErr, if◌then◌else◌};
+ghost use Rattle.plain_office.specs.Charges.{in_force};
+ghost use Rattle.plain_office.specs.Step.{with_tariff};
+ghost use Rattle.office_machine.specs.AnswerParts.{latest};
+
+use moments::Month;
+use office_types::Refusal;
+use std::alloc::Global;
+use tariff::Tariff;
+
+/// Tells whether a tariff begins before a month.
+fn is_before(tariff: &Tariff, month: Month) -> bool
+    ensures { result ≡ nat_lt tariff.now.from month }
+{
+    tariff.from.number() < month.number()
+}
+
+/// Tells whether a tariff begins behind a month.
+fn is_behind(tariff: &Tariff, month: Month) -> bool
+    ensures { result ≡ nat_lt month tariff.now.from }
+{
+    month.number() < tariff.from.number()
+}
+
+fn push(all: &mut Vec<Tariff>, tariff: &Tariff) -> Result<(), Refusal>
+    ensures pushed { OnOk result (all.new.items ≡ all.old.items ++ tariff.now ∷ []) }
+    ensures refusal { IfErr result (λ refusal. refusal ≡ Refusal.NoMemory) }
+{
+    match all.push(*tariff) {
+        Ok(()) => Ok(()),
+        Err(_) => Err(Refusal::NoMemory),
+    }
+}
+
+fn push_earlier(all: &mut Vec<Tariff>, others: &[Tariff], month: Month) -> Result<(), Refusal>
+    ensures pushed { OnOk result
+        (all.new.items ≡ all.old.items ++ filter (λ other. nat_lt other.from month) others.now) }
+    ensures refusal { IfErr result (λ refusal. refusal ≡ Refusal.NoMemory) }
+{
+    for other in others {
+        if is_before(other, month) {
+            push(all, other)?;
+        }
+    }
+    Ok(())
+}
+
+fn push_later(all: &mut Vec<Tariff>, others: &[Tariff], month: Month) -> Result<(), Refusal>
+    ensures pushed { OnOk result
+        (all.new.items ≡ all.old.items ++ filter (λ other. nat_lt month other.from) others.now) }
+    ensures refusal { IfErr result (λ refusal. refusal ≡ Refusal.NoMemory) }
+{
+    for other in others {
+        if is_behind(other, month) {
+            push(all, other)?;
+        }
+    }
+    Ok(())
+}
+
+/// Gives the tariffs with one more, in the place of the one with the same first month: there are at most 100.
+pub(crate) fn with_tariff(
+    alloc: Global,
+    tariff: &Tariff,
+    others: &[Tariff],
+) -> Result<Vec<Tariff>, Refusal>
+    ensures exact { IfOk result (λ all. all.items ≡ with_tariff tariff.now others.now) }
+    ensures refusal { IfErr result (λ refusal. refusal ≡ Refusal.NoMemory) }
+{
+    let mut all = Vec::new(alloc);
+    push_earlier(&mut all, others, tariff.from)?;
+    push(&mut all, tariff)?;
+    push_later(&mut all, others, tariff.from)?;
+    Ok(all)
+}
+
+fn has_begun(tariff: &Tariff, month: Month) -> bool
+    ensures { result ≡ nat_le tariff.now.from month }
+{
+    tariff.from.number() <= month.number()
+}
+
+/// Gives this tariff where it has begun, or else the one that was found before.
+fn begun_or(tariff: &Tariff, month: Month, found: Option<Tariff>) -> Option<Tariff>
+    ensures { result ≡ (if nat_le tariff.now.from month then Some tariff.now else found) }
+{
+    if has_begun(tariff, month) {
+        Some(*tariff)
+    } else {
+        found
+    }
+}
+
+/// Gives the last of these tariffs that begins by a month.
+fn latest(tariffs: &[Tariff], month: Month) -> Option<Tariff>
+    ensures { result ≡ latest month None tariffs.now }
+{
+    let mut found = None;
+    for tariff in tariffs {
+        found = begun_or(tariff, month, found);
+    }
+    found
+}
+
+/// Gives the tariff in force in a month: the last one that begins by then, as they stand by their first months.
+#[tactic(auto, using(crate::proofs::ByMonths::latest_is))]
+pub(crate) fn in_force(tariffs: &[Tariff], month: Month) -> Option<Tariff>
+    ensures { result ≡ in_force month tariffs.now }
+{
+    latest(tariffs, month)
+}
+
+/// Gives the tariffs again, for an answer.
+pub(crate) fn copy_of_all(alloc: Global, tariffs: &[Tariff]) -> Result<Vec<Tariff>, Refusal>
+    ensures exact { IfOk result (λ all. all.items ≡ tariffs.now) }
+    ensures refusal { IfErr result (λ refusal. refusal ≡ Refusal.NoMemory) }
+{
+    let mut all = Vec::new(alloc);
+    match all.extend_from_slice(tariffs) {
+        Ok(()) => Ok(all),
+        Err(_) => Err(Refusal::NoMemory),
+    }
+}
