@@ -1,19 +1,21 @@
 -- Why a journal is not opened.
 use Rattle.std.proofs.Common.{◌≡◌, ◌⊎◌, ℕ, ◌+◌, ◌<◌, ◌≤◌, ◌^◌, List, [], ◌∷◌, ◌++◌, length, get_or, false, sym, ap, ◌∙◌, subst, refl, Option, Some, None, Ok, Err, inl, inr, ⊎_elim, arith}
-use Rattle.std.specs.Prelude.{IsTrue, IsSome, option_and_then}
+use Rattle.std.specs.Prelude.{IsTrue, IsSome, IfSome, Result, option_and_then}
 use Rattle.disk_core.specs.declared.disk.Disk as disks
 use Rattle.disk_core.specs.Files.{State, File, synced_file}
-use Rattle.plain_office.specs.Office.{Office, empty_office}
-use Rattle.plain_office.specs.Step.{step}
+use Rattle.plain_office.specs.Office.{Office, KeptReply, empty_office}
+use Rattle.plain_office.specs.Once.{kept_at, kept_for, recalled}
 use Rattle.plain_office.specs.Run.{run, run_from, accept, is_not_before}
+use Rattle.office_types.specs.declared.command.Command.{Command}
 use Rattle.office_types.specs.declared.command.Entry.{Entry}
 use Rattle.office_types.specs.declared.reply.Reply.{Reply}
 use Rattle.office_types.specs.declared.reply.Reply.TheVariants.{NothingDue}
 use Rattle.office_types.specs.declared.refusal.Refusal.{Refusal}
 use Rattle.office_types.specs.declared.refusal.Refusal.TheVariants as refusals
-use Rattle.plain_office.proofs.Runs.{early_refused}
+use Rattle.plain_office.proofs.Runs.{Token, early_refused, again_refused}
 use Rattle.bucket_account.specs.Standing.{most_commands}
-use Rattle.office_machine.specs.Standing.{Records, StandsForOffice, Does}
+use Rattle.kept_replies.specs.Queue.{kept_in}
+use Rattle.office_machine.specs.Once.{OfficeView, StandsFor, DoesOnce}
 use Rattle.meter_journal.specs.declared.fault.OpenFault.{OpenFault}
 use Rattle.meter_journal.specs.declared.fault.OpenFault.TheVariants as faults
 use Rattle.entry_codec.specs.Spelling.{EntryFits, spelling}
@@ -26,10 +28,10 @@ use Rattle.meter_journal.proofs.Unique.{goes_on, never_broken}
 use Rattle.desk_core.specs.Histories.{HasAcceptedHistory}
 use Rattle.desk_core.specs.Damage.{IsDamagedAt, IsNotTaken, OpenFails, ReplayFails, HasReplayed}
 use Rattle.desk_core.specs.Offices.{StandsAfter}
-use Rattle.desk_core.proofs.Offices.{few, nothing_taken, not_taken as refused}
+use Rattle.desk_core.proofs.Offices.{Done, fresh_in, few, nothing_taken, not_taken as refused}
 
 -- the entries up to this gate were read, on every disk; on an honest one they are those of its journal file
-pub record HasRead {D : Type 0} (d : disks.Ghosts D) (disk : D) (gate : ℕ) (office : Records) : Type 0 where
+pub record HasRead {D : Type 0} (d : disks.Ghosts D) (disk : D) (gate : ℕ) (office : OfficeView) : Type 0 where
   pub history : List Entry
   pub office_is : StandsAfter history office
   pub end : gate ≡ end_gate header history
@@ -38,30 +40,56 @@ pub record HasRead {D : Type 0} (d : disks.Ghosts D) (disk : D) (gate : ℕ) (of
 
 -- ---- why an entry is not taken
 
-lacks_or_not : (refusal : Refusal) → (refusal ≡ refusals.NoMemory) ⊎ (refusal ≡ refusals.NoMemory → ⊥)
+pub lacks_or_not : (refusal : Refusal) → (refusal ≡ refusals.NoMemory) ⊎ (refusal ≡ refusals.NoMemory → ⊥)
 lacks_or_not refusals.NoMemory = inl refl
 lacks_or_not refusal = inr (λ e. absurd cc)
 
 module _ {gate : ℕ} {fault : OpenFault} where
-  pub not_taken : (old new : Records) (e : Entry) (refusal : Refusal) → ((p : Office) → StandsForOffice old p → Does (step e.moment e.command p) p new (Err refusal))
+  pub not_taken : (old new : OfficeView) (e : Entry) (refusal : Refusal) → ((p : Office) → StandsFor old p → DoesOnce (Done p e) p new (Err refusal))
       → (refusal ≡ refusals.NoMemory → fault ≡ faults.NoMemory) → ((refusal ≡ refusals.NoMemory → ⊥) → fault ≡ faults.Damaged gate) → IsNotTaken gate old e fault
   not_taken old new e refusal does lacks other = ⊎_elim
       (λ is. inl (lacks is))
       (λ not. inr (other not, λ history is. refused is.plain e new refusal not (does is.plain is.stands))) (lacks_or_not refusal)
 
-  pub nothing_due : (old new : Records) (e : Entry) (reply : Reply) → ((p : Office) → StandsForOffice old p → Does (step e.moment e.command p) p new (Ok reply))
+  pub nothing_due : (old new : OfficeView) (e : Entry) (reply : Reply) → IfSome e.token (λ one. kept_in one old.kept.queue ≡ None)
+      → ((p : Office) → StandsFor old p → DoesOnce (Done p e) p new (Ok reply))
       → fault ≡ faults.Damaged gate → reply ≡ NothingDue → IsNotTaken gate old e fault
-  nothing_due old new e reply does at nothing =
-      inr (at, λ history is. nothing_taken is.plain e new (subst (λ (r : Reply). Does (step e.moment e.command is.plain) is.plain new (Ok r)) nothing (does is.plain is.stands)))
+  nothing_due old new e reply fresh does at nothing =
+      inr (
+        at,
+        λ history is. nothing_taken is.plain e new (fresh_in e.token old is.plain is.stands fresh)
+            (subst (λ (r : Reply). DoesOnce (Done is.plain e) is.plain new (Ok r)) nothing (does is.plain is.stands)),
+      )
 
-pub not_in_order : {gate : ℕ} (old : Records) (e : Entry) → is_not_before old.last e.moment ≡ false → IsNotTaken gate old e (faults.Damaged gate)
+  -- a token under which a reply is kept
+  pub not_new : (old : OfficeView) (e : Entry) → (fault ≡ faults.NoMemory) ⊎ ((fault ≡ faults.Damaged gate) × ((p : Office) → StandsFor old p → accept p e ≡ None))
+      → IsNotTaken gate old e fault
+  not_new old e (inl lacks) = inl lacks
+  not_new old e (inr kept) = inr (kept.0, λ history is. kept.1 is.plain is.stands)
+
+pub not_in_order : {gate : ℕ} (old : OfficeView) (e : Entry) → is_not_before old.records.last e.moment ≡ false → IsNotTaken gate old e (faults.Damaged gate)
 not_in_order old e early =
-    inr (refl, λ history is. early_refused is.plain e (subst (λ (last : Option ℕ). is_not_before last e.moment ≡ false) is.stands.last early))
+    inr (refl, λ history is. early_refused is.plain e (subst (λ (last : Option ℕ). is_not_before last e.moment ≡ false) is.stands.records.last early))
+
+-- ---- a token that recalls a reply, or is refused
+
+-- the office does not accept an entry whose token recalls anything but nothing
+recalls : (o : Option KeptReply) (c : Command) → (recalled o c ≡ Ok None → ⊥) → (kept : KeptReply) × (o ≡ Some kept)
+recalls None c other = absurd (other refl)
+recalls (Some kept) c other = (kept, refl)
+
+pub recalled_not_accepted : (view : OfficeView) (e : Entry) (token : List ℕ) (result : Result (Option Reply) Refusal) → e.token ≡ Some token
+    → ((p : Office) → StandsFor view p → (result ≡ recalled (kept_at token p.kept) e.command) ⊎ (result ≡ Err refusals.NoMemory))
+    → (result ≡ Ok None → ⊥) → (result ≡ Err refusals.NoMemory → ⊥) → (p : Office) → StandsFor view p → accept p e ≡ None
+recalled_not_accepted view e token result is exact other lacks p stands =
+    ⊎_elim (λ told. by (recalls (kept_at token p.kept) e.command (λ none. other (told ∙ none)))) (λ wants. absurd (lacks wants)) (exact p stands) where
+      by : ((kept : KeptReply) × (kept_at token p.kept ≡ Some kept)) → accept p e ≡ None
+      by (kept, there) = again_refused p e kept (ap (λ (t : Token). kept_for t p) is ∙ there)
 
 -- ---- reading all entries
 
 module _ {D : Type 0} (d : disks.Ghosts D) where
-  pub none_read : (disk : D) (gate : ℕ) (office : Records) → gate ≡ 10 → StandsAfter [] office → HasRead d disk gate office
+  pub none_read : (disk : D) (gate : ℕ) (office : OfficeView) → gate ≡ 10 → StandsAfter [] office → HasRead d disk gate office
   none_read disk gate office first empty = record {
     history = [];
     office_is = empty;
@@ -71,7 +99,7 @@ module _ {D : Type 0} (d : disks.Ghosts D) where
         (prefix_start header 10 file (made_head file made) refl);
   }
 
-  pub one_read : (disk mid : D) (gate next : ℕ) (office after : Records) (o : Option Entry) (e : Entry) → HasRead d disk gate office → (IsTrue d.honest → d.state mid ≡ d.state disk)
+  pub one_read : (disk mid : D) (gate next : ℕ) (office after : OfficeView) (o : Option Entry) (e : Entry) → HasRead d disk gate office → (IsTrue d.honest → d.state mid ≡ d.state disk)
       → (IsTrue d.honest → (i : ℕ) → get_or (d.state disk).journal.seen i 0 < 256) → o ≡ Some
       e → (IsTrue d.honest → NextGives (Ok o) gate next (frame_at gate (d.state mid).journal.seen)) → Advances (Ok o) gate next
       → next ≤ 2 ^ 45 → ((history : List Entry) → StandsAfter history office → StandsAfter (history ++ e ∷ []) after) → HasRead d disk next after
@@ -86,7 +114,7 @@ module _ {D : Type 0} (d : disks.Ghosts D) where
             read_more (read.prefix tells file on_disk made) (same tells) on_disk next o e (bytes tells) is (gives tells);
       }
 
-  pub all_read : (disk mid new : D) (gate next : ℕ) (office : Records) (o : Option Entry) → HasRead d disk gate office
+  pub all_read : (disk mid new : D) (gate next : ℕ) (office : OfficeView) (o : Option Entry) → HasRead d disk gate office
       → (IsTrue d.honest → d.state mid ≡ d.state disk) → (IsTrue d.honest → d.state new ≡ d.state mid)
       → o ≡ None → (IsTrue d.honest → NextGives (Ok o) gate next (frame_at gate (d.state mid).journal.seen)) → Advances (Ok o) gate next → HasReplayed d disk new next office
   all_read disk mid new gate next office o read same still is gives advances = record {
@@ -98,7 +126,7 @@ module _ {D : Type 0} (d : disks.Ghosts D) where
   }
 
   -- the next entry is taken as far as the office can count
-  pub few_read : (disk : D) (gate : ℕ) (office : Records) → HasRead d disk gate office → office.accepted < most_commands
+  pub few_read : (disk : D) (gate : ℕ) (office : OfficeView) → HasRead d disk gate office → office.records.accepted < most_commands
   few_read disk gate office read = few read.history office gate read.office_is read.end read.small
 
 -- ---- why reading fails

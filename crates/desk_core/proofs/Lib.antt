@@ -5,6 +5,7 @@ pub mod Narrowing
 pub mod Offices
 pub mod OneCallMore
 pub mod Opened
+pub mod Recalled
 pub mod Reopened
 pub mod Runs
 pub mod Serving

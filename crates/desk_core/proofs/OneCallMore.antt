@@ -1,5 +1,5 @@
 -- A disk that serves a list of calls serves it with one call more.
-use Rattle.std.proofs.Common.{◌≡◌, ◌⊎◌, inl, inr, ⊎_elim, ℕ, zero, suc, ◌+◌, ◌<◌, ◌≤◌, Bool, true, List, [], ◌∷◌, ◌++◌, take, length, Option, Some, None, Result, Ok, Err}
+use Rattle.std.proofs.Common.{◌≡◌, ◌⊎◌, inl, inr, ⊎_elim, ℕ, zero, suc, ◌+◌, ◌<◌, ◌≤◌, Bool, true, ◌&&◌, List, [], ◌∷◌, ◌++◌, take, length, Option, Some, None, Result, Ok, Err}
 use Rattle.std.proofs.Common.{refl, sym, ◌∙◌, ap, subst, arith, append_assoc, length-append}
 use Rattle.std.specs.Prelude.{IsSomeAnd}
 use Rattle.std.proofs.lemmas.Bool.{cases_lt}
@@ -11,18 +11,19 @@ use Rattle.disk_core.specs.Moments.{KeepsTo}
 use Rattle.disk_core.proofs.Laws.{DiskLaws}
 use Rattle.disk_core.proofs.Time.{weakened}
 use Rattle.plain_office.specs.Office.{Office}
-use Rattle.plain_office.specs.Run.{run}
+use Rattle.plain_office.specs.Run.{is_new, run}
+use Rattle.plain_office.specs.Step.{is_accepted}
 use Rattle.office_types.specs.declared.command.Ask.{Ask}
 use Rattle.office_types.specs.declared.command.Ask.TheVariants as ask
 use Rattle.office_types.specs.declared.command.Entry.{Entry}
 use Rattle.office_types.specs.declared.reply.Reply.{Reply}
 use Rattle.office_types.specs.declared.refusal.Refusal.{Refusal}
-use Rattle.office_types.specs.Entries.{entry_at}
 use Rattle.meter_journal.specs.History.{header, end_gate}
 use Rattle.desk_core.specs.declared.fault.DeskFault.{DeskFault}
 use Rattle.desk_core.specs.declared.fault.DeskFault.TheVariants as faults
 use Rattle.desk_core.specs.Answers.{Answer, Call}
-use Rattle.desk_core.specs.Calls.{Legal, IsLegal, IsReply, IsKeptAt, MayBeKept, GrowsBy, faults_after, moment_after}
+use Rattle.desk_core.specs.Asked.{Asked, asked, entry_of}
+use Rattle.desk_core.specs.Calls.{Legal, IsLegal, IsDone, IsReply, IsWritten, IsKeptAt, MayBeKept, GrowsBy, faults_after, moment_after}
 use Rattle.desk_core.specs.Histories.{HasAcceptedHistory, IsSound, IsPrefixOf, IsPrefixButOne}
 use Rattle.desk_core.specs.Serving.{IsAckedAt, IsToldBy, AreToldBy, Opened, Recoverable, Recovers, Agrees, DiskServes}
 
@@ -75,17 +76,25 @@ Grows before after = (after ≡ before) ⊎ ((entry : Entry) × (after ≡ befor
 same_grows : (before after : List Entry) → after ≡ before → Grows before after
 same_grows before after is = inl is
 
-reply_grows : (reply : Result Reply Refusal) (entry : Entry) (before after : List Entry) → GrowsBy reply entry before after → Grows before after
-reply_grows reply entry before after (inl more) = inr (entry, more.1)
-reply_grows reply entry before after (inr same) = same_grows before after same.1
+reply_grows : (accepted : Bool) (entry : Entry) (before after : List Entry) → GrowsBy accepted entry before after → Grows before after
+reply_grows accepted entry before after (inl more) = inr (entry, more.1)
+reply_grows accepted entry before after (inr same) = same_grows before after same.1
+
+done_grows : (limit t : ℕ) (office : Office) (reply : Result Reply Refusal) (before after : List Entry) (call : Asked) → IsDone limit t call office reply before after → Grows before after
+done_grows limit t office reply before after call is = reply_grows (is_new call.token office && is_accepted reply) (entry_of t call) before after is.grows
+
+pub some_and : {X Q : Type 0} (o : Option X) (P : X → Type 0) → ((x : X) → P x → Q) → IsSomeAnd o P → Q
+some_and None P f is = absurd is
+some_and (Some x) P f is = f x is
 
 asked_grows : (limit t : ℕ) (question : Ask) (office : Office) (reply : Result Reply Refusal) (before after : List Entry) → IsReply limit t question office reply before after → Grows before after
-asked_grows limit t (ask.Command command) office reply before after is = reply_grows reply (entry_at t command) before after is.1
+asked_grows limit t (ask.Command command) office reply before after is = done_grows limit t office reply before after _ is
+asked_grows limit t (ask.Once token command) office reply before after is = done_grows limit t office reply before after _ is
 asked_grows limit t (ask.Query query) office reply before after is = same_grows before after is.1
 
 kept_grows_at : (t : ℕ) (question : Ask) (office : Office) (before after : List Entry) → IsKeptAt t question office before after → Grows before after
-kept_grows_at t (ask.Command command) office before after is = inr (_, is.2)
-kept_grows_at t (ask.Query query) office before after is = absurd is
+kept_grows_at t question office before after is =
+    some_and (asked question) (λ call. IsWritten t call office before after) (λ call written. inr (entry_of t call, written.written)) is
 
 kept_grows : (number : Option ℕ) (question : Ask) (office : Office) (before after : List Entry) → MayBeKept number question office before after → Grows before after
 kept_grows (Some number) question office before after is = kept_grows_at (moment_after number office.last) question office before after is
@@ -102,10 +111,6 @@ one_grows limit told question (Err (faults.StoreFault number count)) office befo
 one_grows limit told question (Err faults.JournalFull) office before after is = same_grows before after is.1
 one_grows limit told question (Err (faults.Broken fault)) office before after is = absurd (is refl)
 one_grows limit told question (Err faults.NoMemory) office before after is = same_grows before after is
-
-some_and : {X Q : Type 0} (o : Option X) (P : X → Type 0) → ((x : X) → P x → Q) → IsSomeAnd o P → Q
-some_and None P f is = absurd is
-some_and (Some x) P f is = f x is
 
 pub call_grows : (limit faults : ℕ) (call : Call) (before after : List Entry) → Legal true limit faults (call ∷ []) before after → Grows before after
 call_grows limit faults call before after is =

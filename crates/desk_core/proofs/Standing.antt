@@ -1,6 +1,9 @@
 -- The list of calls that a desk stands for grows by each call.
-use Rattle.std.proofs.Common.{◌≡◌, inl, inr, ⊎_elim, ℕ, ◌+◌, ◌<◌, ◌≤◌, Bool, true, false, List, [], ◌∷◌, ◌++◌, length, Some, None, Option, Result, Ok, Err, refl, sym, ap, ◌∙◌, subst, arith}
-use Rattle.std.specs.Prelude.{IsTrue}
+use Rattle.std.proofs.Common.{◌≡◌, inl, inr, ⊎_elim, ℕ, ◌+◌, ◌<◌, ◌≤◌, Bool, true, false, ◌&&◌, List, [], ◌∷◌, ◌++◌, length, Some, None, Option, Result, Ok, Err, refl, sym, ap, ◌∙◌, subst, arith}
+use Rattle.std.specs.Prelude.{IsTrue, IsSome, IsSomeAnd}
+use Rattle.std.proofs.lemmas.Option.{same_Some}
+use Rattle.office_types.specs.declared.reply.Reply.{Reply}
+use Rattle.office_types.specs.declared.refusal.Refusal.{Refusal}
 use Rattle.std.proofs.lemmas.Bool.{both_ways}
 use Rattle.office_base.specs.Faults.{Rose}
 use Rattle.moments.specs.Time.{end_of_time}
@@ -10,13 +13,15 @@ use Rattle.disk_core.specs.Moments.{KeepsTo}
 use Rattle.disk_core.proofs.Laws.{DiskLaws}
 use Rattle.disk_core.proofs.Time.{started, weakened}
 use Rattle.plain_office.specs.Office.{Office}
-use Rattle.plain_office.specs.Step.{step, is_accepted}
+use Rattle.plain_office.specs.Once.{step_with}
+use Rattle.plain_office.specs.Step.{is_accepted}
+use Rattle.plain_office.specs.Run.{is_new}
 use Rattle.office_types.specs.declared.command.Ask.{Ask}
 use Rattle.office_types.specs.declared.command.Ask.TheVariants as ask
-use Rattle.office_types.specs.declared.command.Command.{Command}
 use Rattle.office_types.specs.declared.command.Entry.{Entry}
 use Rattle.office_types.specs.declared.refusal.Refusal.TheVariants.{ClockEnd}
-use Rattle.office_types.specs.Entries.{entry_at}
+use Rattle.office_machine.specs.Once.{OfficeView}
+use Rattle.office_machine.specs.Once as machine
 use Rattle.plain_office.proofs.Runs.{run_more}
 use Rattle.entry_codec.specs.Spelling.{spelling}
 use Rattle.entry_codec.proofs.Sizes.{same_length}
@@ -25,19 +30,30 @@ use Rattle.meter_journal.proofs.History.{each_image}
 use Rattle.desk_core.specs.declared.fault.DeskFault.{DeskFault}
 use Rattle.desk_core.specs.declared.fault.DeskFault.TheVariants as faults
 use Rattle.desk_core.specs.Answers.{Answer, Call}
-use Rattle.desk_core.specs.Calls.{Legal, IsLegal, IsReply, IsFull, IsKeptAt, moment_after}
+use Rattle.desk_core.specs.Asked.{Asked, asked, entry_of, IsFresh, IsNotKept}
+use Rattle.desk_core.specs.Calls.{Legal, IsLegal, IsDone, IsReply, IsFull, IsWritten, IsKeptAt, IsCommand, FitsIn, moment_after}
 use Rattle.desk_core.specs.Serving.{Opened, IsToldBy, AreToldBy, KeepsSlots, DiskServes}
 use Rattle.desk_core.specs.Submitting.{PassesLimit}
 use Rattle.desk_core.specs.Desk.{DeskView, HoldsHistory, GoesOn, stale_after}
-use Rattle.desk_core.specs.Answering.{call_time, IsAnswerOf, Grows, StoreFails, IsDoneAt, HasFailed, AnswersInTime, AnswersEnded, AnswersAt, AnswersAsk}
+use Rattle.desk_core.specs.Answering.{call_time, IsAnswerOf, CarriesOut, Grows, StoreFails, IsDoneAt, HasFailed, AnswersInTime, AnswersEnded, AnswersAt, AnswersAsk}
+use Rattle.desk_core.proofs.Adding.{asked_and}
+use Rattle.desk_core.proofs.Offices.{fresh_in}
 use Rattle.desk_core.proofs.Serving.{one_legal, rose_later, last_below, unique, makes_still, makes_grown, makes_failed}
 use Rattle.desk_core.proofs.OneCallMore.{last_faults, IsKept, Makes, one_more, recoverable, legal_append, told_more}
 
 -- ---- legal answers
 
-full_at : (t gate limit : ℕ) (question : Ask) (before : List Entry) → gate ≡ end_gate header before → PassesLimit t gate limit question → IsFull limit question before
-full_at t gate limit (ask.Command command) before is_end passes = λ fits. omega (arith, is_end, passes.1, same_length t 0 command, fits)
-full_at t gate limit (ask.Query query) before is_end passes = absurd passes
+-- what holds of what an ask asks for gives more of it
+some_more : {X : Type 0} (o : Option X) (P Q : X → Type 0) → ((x : X) → P x → Q x) → IsSomeAnd o P → IsSomeAnd o Q
+some_more None P Q f is = is
+some_more (Some x) P Q f is = f x is
+
+full_at : {D C : Type 0} (t : ℕ) (desk : DeskView D C) (question : Ask) (office : Office) (before : List Entry) → machine.StandsFor desk.office office → desk.gate ≡ end_gate header before
+    → PassesLimit t desk question → IsFull desk.limit question office before
+full_at t desk question office before stands is_end passes = some_more (asked question)
+    (λ call. (t < end_of_time) × IsNotKept call desk.office × (desk.limit < desk.gate + 6 + length (spelling (entry_of t call))))
+    (λ call. IsFresh call office × (FitsIn desk.limit before (entry_of 0 call) → ⊥))
+    (λ call is. (fresh_in call.token desk.office office stands is.1, λ fits. omega (arith, is_end, is.2, same_length t 0 call.token call.command, fits))) passes
 
 module _ {D : Type 0} {C : Type 0} (d : disks.Ghosts D) where
   module _ (b : Bool) (limit counted t number : ℕ) (question : Ask) (office : Office) (said : Answer) (before after : List Entry) (new : DeskView D C)
@@ -150,19 +166,19 @@ module _ {D C : Type 0} {d : disks.Ghosts D} (laws : DiskLaws d) where
       λ image h is has. unique h after image has (each_image header (d.state new.disk) new.gate after (holds.at_rest tells) image is),
     )
 
-    abbrev asked : Ask → Result Answer DeskFault → Call
-    asked question said = record { ask = question; said = said }
+    abbrev call_of : Ask → Result Answer DeskFault → Call
+    call_of question said = record { ask = question; said = said }
 
-    module _ (t number : ℕ) (at : t ≡ moment_after number old.office.last) where
+    module _ (t number : ℕ) (at : t ≡ moment_after number old.office.records.last) where
       at_plain : t ≡ moment_after number plain.last
-      at_plain = at ∙ ap (λ (o : Option ℕ). moment_after number o) held.office.stands.last
+      at_plain = at ∙ ap (λ (o : Option ℕ). moment_after number o) held.office.stands.records.last
 
       -- an answer with which nothing was written
       answered_still : (question : Ask) (said : Answer) → IsAnswerOf d.moment (call_time t number) new said → new.disk ≡ old.disk → HoldsHistory d s.history new
-          → ((b : Bool) → IsLegal b opened.limit last question (Ok said) plain s.history s.history) → Next (asked question (Ok said))
-      answered_still question said made disk holds legal = still_by (asked question (Ok said)) refl disk holds legal tt (kept_at s.history t number said holds made)
+          → ((b : Bool) → IsLegal b opened.limit last question (Ok said) plain s.history s.history) → Next (call_of question (Ok said))
+      answered_still question said made disk holds legal = still_by (call_of question (Ok said)) refl disk holds legal tt (kept_at s.history t number said holds made)
 
-      ended_call : (question : Ask) (said : Result Answer DeskFault) → end_of_time ≤ t → AnswersEnded d (call_time t number) s.history old new said → Next (asked question said)
+      ended_call : (question : Ask) (said : Result Answer DeskFault) → end_of_time ≤ t → AnswersEnded d (call_time t number) s.history old new said → Next (call_of question said)
       ended_call question (Ok said) past ended =
           answered_still question said ended.0 ended.2.disk ended.2.holds
           (λ b. past_end d b opened.limit last t number question plain said s.history s.history new at_plain ended.0 ended.2.holds.end past ended.1 refl)
@@ -173,70 +189,90 @@ module _ {D C : Type 0} {d : disks.Ghosts D} (laws : DiskLaws d) where
             → IsReply opened.limit t question plain said.reply s.history after → (b : Bool) → IsLegal b opened.limit last question (Ok said) plain s.history after
         legal_at question said after made end is b = answered d b opened.limit last t number question plain said s.history after new at_plain made end lt is
 
-        module _ (command : Command) where
+        -- what is said of a command, is said of the ask that asks for it
+        reply_of : (question : Ask) (one : Asked) → asked question ≡ Some one → (reply : Result Reply Refusal) (after : List Entry)
+            → IsDone opened.limit t one plain reply s.history after → IsReply opened.limit t question plain reply s.history after
+        reply_of (ask.Command command) one is reply after done = subst (λ (c : Asked). IsDone opened.limit t c plain reply s.history after) (sym (same_Some _ _ is)) done
+        reply_of (ask.Once token command) one is reply after done = subst (λ (c : Asked). IsDone opened.limit t c plain reply s.history after) (sym (same_Some _ _ is)) done
+        reply_of (ask.Query query) one is reply after done = absurd cc
+
+        module _ (question : Ask) (one : Asked) (asks : asked question ≡ Some one) where
           abbrev e : Entry
-          e = entry_at t command
+          e = entry_of t one
 
-          room : old.gate + 6 + length (spelling e) ≤ old.limit → end_gate header s.history + 6 + length (spelling e) ≤ opened.limit
-          room fits = omega (arith, fits, held.end, s.limit)
+          room : (IsFresh one plain → old.gate + 6 + length (spelling e) ≤ old.limit) → IsFresh one plain → end_gate header s.history + 6 + length (spelling e) ≤ opened.limit
+          room fits fresh = omega (arith, fits fresh, held.end, s.limit)
 
-          grown : (said : Answer) → IsAnswerOf d.moment (call_time t number) new said → said.reply ≡ (step t command plain).1
-              → old.gate + 6 + length (spelling e) ≤ old.limit → IsTrue (is_accepted said.reply) → Grows d s.history e old new → Next (asked (ask.Command command) (Ok said))
+          grown : (said : Answer) → IsAnswerOf d.moment (call_time t number) new said → said.reply ≡ (step_with t one.token one.command plain).1
+              → (IsFresh one plain → old.gate + 6 + length (spelling e) ≤ old.limit) → IsTrue (is_new one.token plain && is_accepted said.reply) → Grows d s.history e old new
+              → Next (call_of question (Ok said))
           grown said made reply fits accepted grows =
-              let call = asked (ask.Command command) (Ok said) in
+              let call = call_of question (Ok said) in
               let after = s.history ++ e ∷ [] in
               let rule : (b : Bool) → Legal b opened.limit last (call ∷ []) s.history after = λ b. one_legal b opened.limit last call s.history after plain held.office.is_run
-              (legal_at (ask.Command command) said after made grows.holds.end (reply, inl (accepted, refl), room fits) b) in
+              (legal_at question said after made grows.holds.end
+              (reply_of question one asks said.reply after (record { told = reply; grows = inl (accepted, refl); fits = room fits })) b) in
               grown_by call after rule (λ _. grows.holds) (λ not is. absurd (both_ways false refl is)) tt (λ tells. adding_keeps s.history e (grows.run tells)) (λ tells.
               makes_grown laws old.disk old.gate s.history plain (held.at_rest tells) held.office.is_run (laws.reads_image tells old.disk Journal) opened.limit last call
               e grows.holds.office.plain grows.holds.office.is_run (rule true) new.disk new.gate (grows.run tells) (grows.holds.at_rest tells)
               (kept_at after t number said grows.holds made tells) (later, tt))
 
+          carried : (said : Answer) → IsAnswerOf d.moment (call_time t number) new said → CarriesOut d t one plain s.history old new said.reply → Next (call_of question (Ok said))
+          carried said made is = ⊎_elim (λ grew. grown said made is.told is.fits grew.0 grew.1)
+              (λ stayed. answered_still question said made stayed.1.disk stayed.1.holds
+              (legal_at question said s.history made stayed.1.holds.end
+              (reply_of question one asks said.reply s.history (record { told = is.told; grows = inr (stayed.0, refl); fits = room is.fits })))) is.grows
+
+          command_is : IsCommand question
+          command_is = subst (λ (o : Option Asked). IsSome o) (sym asks) refl
+
           failed : (count : ℕ) → count ≡ d.fault_count new.disk → StoreFails d plain s.history e old new
-              → Next (asked (ask.Command command) (Err (faults.StoreFault (Some number) count)))
+              → Next (call_of question (Err (faults.StoreFault (Some number) count)))
           failed count is fails =
-              let call = asked (ask.Command command) (Err (faults.StoreFault (Some number) count)) in
+              let call = call_of question (Err (faults.StoreFault (Some number) count)) in
               let rose : Rose last count = subst (λ (k : ℕ). Rose last k) (sym is) (rose_later last (d.fault_count old.disk) (d.fault_count new.disk)
               (last_below opened.faults (d.fault_count old.disk) calls s.faults.0 s.faults.1) fails.rose) in
               let rule : (b : Bool) → Legal b opened.limit last (call ∷ []) s.history s.history = λ b. one_legal b opened.limit last call
-              s.history s.history plain held.office.is_run (tt, rose, λ _. inl refl) in
-              let accepted : IsTrue (is_accepted (step t command plain).1) = fails.accepted plain held.office.stands in
-              let there : IsKeptAt (moment_after number plain.last) (ask.Command command) plain s.history (s.history ++ e ∷ []) =
-              subst (λ (m : ℕ). (m < end_of_time) × IsTrue (is_accepted (step m command plain).1) × (s.history ++ e ∷ [] ≡ s.history ++ entry_at m command ∷ [])) at_plain (lt, accepted, refl) in
-              let kept = one_legal true opened.limit last call s.history (s.history ++ e ∷ []) plain held.office.is_run (tt, rose, λ _. inr there) in
+              s.history s.history plain held.office.is_run (command_is, rose, λ _. inl refl) in
+              let accepted = fails.accepted plain held.office.stands in
+              let written : IsWritten (moment_after number plain.last) one plain s.history (s.history ++ e ∷ []) =
+              subst (λ (m : ℕ). IsWritten m one plain s.history (s.history ++ e ∷ [])) at_plain (record { moment = lt; fresh = accepted.0; accepted = accepted.1; written = refl }) in
+              let there : IsKeptAt (moment_after number plain.last) question plain s.history (s.history ++ e ∷ []) =
+              asked_and question one (λ c. IsWritten (moment_after number plain.last) c plain s.history (s.history ++ e ∷ [])) asks written in
+              let kept = one_legal true opened.limit last call s.history (s.history ++ e ∷ []) plain held.office.is_run (command_is, rose, λ _. inr there) in
               let told : IsToldBy (d.fault_count new.disk) call.said = omega (arith, is) in
               grown_by call s.history rule (λ not. absurd (both_ways true not refl)) (λ not _ history.
               one_legal d.honest opened.limit last call s.history history plain held.office.is_run
-              (tt, rose, λ tells. absurd (not tells))) told
+              (command_is, rose, λ tells. absurd (not tells))) told
               (λ tells. adding_keeps s.history e (fails.run tells)) (λ tells.
               makes_failed laws old.disk old.gate s.history plain (held.at_rest tells) held.office.is_run (laws.reads_image tells old.disk Journal) opened.limit last call
               e fails.next.0 (run_more s.history e plain fails.next.0 held.office.is_run fails.next.1) kept new.disk (rule true) (fails.run tells) tt (later, told))
 
         done : (question : Ask) (said : Answer) → IsAnswerOf d.moment (call_time t number) new said → IsDoneAt d t question plain s.history old new said.reply
-            → Next (asked question (Ok said))
-        done (ask.Command command) said made is = ⊎_elim (λ grew. grown command said made is.0 is.1 grew.0 grew.1)
-            (λ stayed. answered_still (ask.Command command) said made stayed.1.disk stayed.1.holds
-            (legal_at (ask.Command command) said s.history made stayed.1.holds.end (is.0, inr (stayed.0, refl), room command is.1))) is.2
+            → Next (call_of question (Ok said))
+        done (ask.Command command) said made is = carried (ask.Command command) _ refl said made is
+        done (ask.Once token command) said made is = carried (ask.Once token command) _ refl said made is
         done (ask.Query query) said made is =
             answered_still (ask.Query query) said made is.1.disk is.1.holds (legal_at (ask.Query query) said s.history made is.1.holds.end (is.0, refl))
 
         failed_call : (question : Ask) (count : ℕ) → count ≡ d.fault_count new.disk → HasFailed d t question plain s.history old new
-            → Next (asked question (Err (faults.StoreFault (Some number) count)))
-        failed_call (ask.Command command) count is fails = failed command count is fails
+            → Next (call_of question (Err (faults.StoreFault (Some number) count)))
+        failed_call (ask.Command command) count is fails = failed (ask.Command command) _ refl count is fails
+        failed_call (ask.Once token command) count is fails = failed (ask.Once token command) _ refl count is fails
         failed_call (ask.Query query) count is fails = absurd fails
 
-        kept_call : (question : Ask) (said : Result Answer DeskFault) → AnswersInTime d (call_time t number) question plain s.history old new said → Next (asked question said)
+        kept_call : (question : Ask) (said : Result Answer DeskFault) → AnswersInTime d (call_time t number) question plain s.history old new said → Next (call_of question said)
         kept_call question (Ok said) keeps = done question said keeps.0 keeps.1
         kept_call question (Err (faults.StoreFault (Some told) count)) keeps =
-            subst (λ (n : ℕ). Next (asked question (Err (faults.StoreFault (Some n) count)))) (sym keeps.0) (failed_call question count keeps.1 keeps.2)
+            subst (λ (n : ℕ). Next (call_of question (Err (faults.StoreFault (Some n) count)))) (sym keeps.0) (failed_call question count keeps.1 keeps.2)
         kept_call question (Err (faults.StoreFault None count)) keeps = absurd keeps
         kept_call question (Err faults.JournalFull) keeps =
-            still_by (asked question (Err faults.JournalFull)) refl keeps.1.disk keeps.1.holds
-            (λ b. (subst (λ (n : ℕ). IsFull n question s.history) s.limit (full_at t old.gate old.limit question s.history held.end keeps.0), refl)) tt (λ tells. tt)
+            still_by (call_of question (Err faults.JournalFull)) refl keeps.1.disk keeps.1.holds
+            (λ b. (subst (λ (n : ℕ). IsFull n question plain s.history) s.limit (full_at t old question plain s.history held.office.stands held.end keeps.0), refl)) tt (λ tells. tt)
         kept_call question (Err (faults.Broken fault)) keeps = absurd keeps
-        kept_call question (Err faults.NoMemory) keeps = still_by (asked question (Err faults.NoMemory)) refl keeps.disk keeps.holds (λ b. refl) tt (λ tells. tt)
+        kept_call question (Err faults.NoMemory) keeps = still_by (call_of question (Err faults.NoMemory)) refl keeps.disk keeps.holds (λ b. refl) tt (λ tells. tt)
 
-      pub answers_call : (question : Ask) (said : Result Answer DeskFault) → AnswersAt d (call_time t number) question plain s.history old new said → Next (asked question said)
+      pub answers_call : (question : Ask) (said : Result Answer DeskFault) → AnswersAt d (call_time t number) question plain s.history old new said → Next (call_of question said)
       answers_call question said (inl in_time) = kept_call in_time.0 question said in_time.1
       answers_call question said (inr past) = ended_call question said past.0 past.1
 

@@ -1,7 +1,8 @@
 -- What the answer to an ask tells of its call.
-use Rattle.std.proofs.Common.{◌≡◌, ◌⊎◌, inl, inr, ⊎_elim, ℕ, ◌+◌, ◌-◌, ◌^◌, ◌<◌, ◌≤◌, min, Bool, true, false, List, [], ◌∷◌, ◌++◌, Some, None, Option, Result, Ok, Err}
+use Rattle.std.proofs.Common.{◌≡◌, ◌⊎◌, inl, inr, ⊎_elim, ℕ, ◌+◌, ◌-◌, ◌^◌, ◌<◌, ◌≤◌, min, Bool, true, false, ◌&&◌, length, List, [], ◌∷◌, ◌++◌, Some, None, Option, Result, Ok, Err}
 use Rattle.std.proofs.Common.{refl, sym, ap, ◌∙◌, subst, arith}
-use Rattle.std.specs.Prelude.{IsTrue}
+use Rattle.std.specs.Prelude.{IsTrue, IsSomeAnd}
+use Rattle.std.proofs.lemmas.Option.{same_Some}
 use Rattle.std.specs.Io.KnownBytes.{Appends}
 use Rattle.std.proofs.lemmas.Bool.{both_ways}
 use Rattle.office_base.specs.Faults.{Rose}
@@ -12,59 +13,77 @@ use Rattle.disk_core.specs.Fronts.{Narrower}
 use Rattle.disk_core.specs.Moments.{KeepsTo}
 use Rattle.disk_core.proofs.Laws.{DiskLaws}
 use Rattle.disk_core.proofs.Time.{started, weakened}
-use Rattle.plain_office.specs.Office.{Office}
+use Rattle.plain_office.specs.Office.{Office, KeptReply}
+use Rattle.plain_office.specs.Once.{kept_for, step_with}
 use Rattle.plain_office.specs.Step.{is_accepted}
-use Rattle.plain_office.specs.Run.{run}
+use Rattle.plain_office.specs.Run.{is_new, run}
 use Rattle.office_types.specs.declared.command.Ask.{Ask}
 use Rattle.office_types.specs.declared.command.Ask.TheVariants as ask
 use Rattle.office_types.specs.declared.command.Command.{Command}
 use Rattle.office_types.specs.declared.command.Entry.{Entry}
 use Rattle.office_types.specs.declared.reply.Reply.{Reply}
 use Rattle.office_types.specs.declared.refusal.Refusal.{Refusal}
-use Rattle.office_types.specs.Entries.{entry_at}
-use Rattle.office_machine.specs.Standing.{Records}
+use Rattle.office_types.specs.Tokens.{takes_token}
+use Rattle.office_types.specs.Commands.{same_command}
+use Rattle.office_types.proofs.Sameness.{same_self}
+use Rattle.office_machine.specs.Once.{OfficeView}
 use Rattle.desk_core.specs.declared.clock.Clock as clocks
 use Rattle.desk_core.specs.declared.fault.DeskFault.{DeskFault}
 use Rattle.desk_core.specs.declared.fault.DeskFault.TheVariants as faults
 use Rattle.desk_core.specs.Answers.{Answer}
+use Rattle.desk_core.specs.Asked.{Asked, asked, entry_of, IsNotKept, Repeats}
 use Rattle.desk_core.specs.Calls.{moment_after}
-use Rattle.desk_core.specs.Submitting.{LeavesDisk, HasStoreReason, IsAcceptedAt, PassesLimit, IsClockEnd, KeepsOrAdds, HasCauses, IsOffice, IsUnopened}
+use Rattle.desk_core.specs.Submitting.{LeavesDisk, HasStoreReason, IsAcceptedAt, PassesLimit, IsAgain, IsClockEnd, KeepsOrAdds, HasCauses, IsOffice, IsUnopened}
 use Rattle.desk_core.specs.Desk.{DeskView, HoldsHistory, IsReady, IsLast, IsStamped, TellsFault, stale_after}
-use Rattle.desk_core.specs.Answering.{call_time, IsDoneAt, HasFailed, AnswersInTime, AnswersAt, AnswersAsk}
-use Rattle.plain_office.proofs.Runs.{run_more}
+use Rattle.desk_core.specs.Answering.{call_time, CarriesOut, StoreFails, IsDoneAt, HasFailed, AnswersInTime, AnswersAt, AnswersAsk}
+use Rattle.plain_office.proofs.Runs.{Token, step_kept, run_more}
 use Rattle.meter_journal.specs.History.{header, HasEntries, BeforeOrAfter}
-use Rattle.desk_core.specs.Histories.{IsSound}
 use Rattle.desk_core.specs.Numbers.{IsNumber}
+use Rattle.entry_codec.specs.Spelling.{spelling}
+use Rattle.desk_core.proofs.Adding.{asked_and}
+use Rattle.desk_core.proofs.Offices.{fresh_in}
+use Rattle.desk_core.proofs.OneCallMore.{some_and}
+use Rattle.desk_core.specs.Histories.{HasAcceptedHistory, IsSound}
 use Rattle.desk_core.proofs.Serving.{rest_image, some_run}
 
 accepted_not : (reply : Result Reply Refusal) → IsTrue (is_accepted reply) → is_accepted reply ≡ false → ⊥
 accepted_not reply is not = both_ways (is_accepted reply) not is
+
+-- what is accepted and new is accepted
+both_not : (new accepted : Bool) → IsTrue (new && accepted) → accepted ≡ false → ⊥
+both_not true accepted is not = both_ways accepted not is
+both_not false accepted is not = both_ways false refl is
+
+-- what is not new is not both
+both_new : (new accepted : Bool) → new ≡ false → IsTrue (new && accepted) → ⊥
+both_new false accepted old is = both_ways false refl is
+both_new true accepted old is = both_ways true old refl
 
 module _ {D : Type 0} {C : Type 0} (d : disks.Ghosts D)
     (t number : ℕ) (question : Ask) (office : Office) (before : List Entry) (old new : DeskView D C) where
   abbrev Kept : Result Answer DeskFault → Type 0
   Kept said = AnswersInTime d (call_time t number) question office before old new said
 
-  abbrev Asked : Result Answer DeskFault → Type 0
-  Asked said = AnswersAt d (call_time t number) question office before old new said
+  abbrev Told : Result Answer DeskFault → Type 0
+  Told said = AnswersAt d (call_time t number) question office before old new said
 
   -- ---- the answer's numbers
 
-  pub stamped : (said : Result Answer DeskFault) → Asked said → IsStamped said new.gate (d.moment new.disk)
+  pub stamped : (said : Result Answer DeskFault) → Told said → IsStamped said new.gate (d.moment new.disk)
   stamped (Ok said) (inl in_time) = (in_time.1.0.position, in_time.1.0.disk_moment)
   stamped (Ok said) (inr past) = (past.1.0.position, past.1.0.disk_moment)
   stamped (Err fault) asked = tt
 
-  told_is : (said : Answer) → Asked (Ok said) → said.told ≡ number
+  told_is : (said : Answer) → Told (Ok said) → said.told ≡ number
   told_is said (inl in_time) = in_time.1.0.told
   told_is said (inr past) = past.1.0.told
 
   -- which fault came, and in time
-  in_time_of : (fault : DeskFault) → Asked (Err fault) → (t < end_of_time) × Kept (Err fault)
+  in_time_of : (fault : DeskFault) → Told (Err fault) → (t < end_of_time) × Kept (Err fault)
   in_time_of fault (inl in_time) = in_time
   in_time_of fault (inr past) = absurd past.1
 
-  pub numbered : (a b : Option (List ℕ)) (said : Result Answer DeskFault) → Appends a b (number ∷ []) → Asked said → IsNumber a b said
+  pub numbered : (a b : Option (List ℕ)) (said : Result Answer DeskFault) → Appends a b (number ∷ []) → Told said → IsNumber a b said
   numbered a b (Ok said) more asked = (number ∷ [], ap (λ (n : ℕ). n ∷ []) (sym (told_is said asked)), more)
   numbered a b (Err (faults.StoreFault (Some told) count)) more asked =
       (number ∷ [], ap (λ (n : ℕ). n ∷ []) (sym (in_time_of (faults.StoreFault (Some told) count) asked).1.0), more)
@@ -73,7 +92,7 @@ module _ {D : Type 0} {C : Type 0} (d : disks.Ghosts D)
   numbered a b (Err (faults.Broken fault)) more asked = absurd (in_time_of (faults.Broken fault) asked).1
   numbered a b (Err faults.NoMemory) more asked = (number ∷ [], inr (number, refl), more)
 
-  pub last_told : (last : ℕ) (said : Result Answer DeskFault) → last ≡ number → Asked said → IsLast last said
+  pub last_told : (last : ℕ) (said : Result Answer DeskFault) → last ≡ number → Told said → IsLast last said
   last_told last (Ok said) is asked = told_is said asked ∙ sym is
   last_told last (Err (faults.StoreFault (Some told) count)) is asked = (in_time_of (faults.StoreFault (Some told) count) asked).1.0 ∙ sym is
   last_told last (Err (faults.StoreFault None count)) is asked = tt
@@ -85,27 +104,32 @@ module _ {D : Type 0} {C : Type 0} (d : disks.Ghosts D)
 
   -- ---- causes
 
-  pub ended_so : (said : Result Answer DeskFault) → end_of_time ≤ t → Asked said → IsClockEnd t said
+  pub ended_so : (said : Result Answer DeskFault) → end_of_time ≤ t → Told said → IsClockEnd t said
   ended_so said past (inl in_time) = absurd (omega (arith, past, in_time.0))
   ended_so (Ok said) past (inr so) = so.1.1
   ended_so (Err fault) past (inr so) = so.1
 
-  full_at : (said : Result Answer DeskFault) → said ≡ Err faults.JournalFull → Asked said → PassesLimit t old.gate old.limit question
-  full_at said is asked = (in_time_of faults.JournalFull (subst Asked is asked)).1.0
+  full_at : (said : Result Answer DeskFault) → said ≡ Err faults.JournalFull → Told said → PassesLimit t old question
+  full_at said is asked = (in_time_of faults.JournalFull (subst Told is asked)).1.0
 
-  pub full_alone : (said : Result Answer DeskFault) → Asked said → said ≡ Err faults.JournalFull → PassesLimit t old.gate old.limit question
+  pub full_alone : (said : Result Answer DeskFault) → Told said → said ≡ Err faults.JournalFull → PassesLimit t old question
   full_alone said asked is = full_at said is asked
 
 -- ---- the disk, and causes in it
 
 module _ {D : Type 0} {C : Type 0} (d : disks.Ghosts D)
     (t number : ℕ) (office : Office) (before : List Entry) (old new : DeskView D C) where
+  carried_leaves : (call : Asked) (said : Answer) → CarriesOut d t call office before old new said.reply → is_accepted said.reply ≡ false → new.disk ≡ old.disk
+  carried_leaves call said is not = ⊎_elim (λ grew. absurd (both_not (is_new call.token office) (is_accepted said.reply) grew.0 not)) (λ stayed. stayed.1.disk) is.grows
+
   done_leaves : (question : Ask) (said : Answer) → IsDoneAt d t question office before old new said.reply → LeavesDisk (Ok said) question old.disk new.disk
-  done_leaves (ask.Command command) said is = λ not. ⊎_elim (λ grew. absurd (accepted_not said.reply grew.0 not)) (λ stayed. stayed.1.disk) is.2
+  done_leaves (ask.Command command) said is = λ not. carried_leaves _ said is not
+  done_leaves (ask.Once token command) said is = λ not. carried_leaves _ said is not
   done_leaves (ask.Query query) said is = is.1.disk
 
   ended_leaves : (question : Ask) (said : Answer) → new.disk ≡ old.disk → LeavesDisk (Ok said) question old.disk new.disk
   ended_leaves (ask.Command command) said same = λ not. same
+  ended_leaves (ask.Once token command) said same = λ not. same
   ended_leaves (ask.Query query) said same = same
 
   kept_leaves : (question : Ask) (said : Result Answer DeskFault) → AnswersInTime d (call_time t number) question office before old new said → LeavesDisk said question old.disk new.disk
@@ -125,7 +149,8 @@ module _ {D : Type 0} {C : Type 0} (d : disks.Ghosts D)
   same_count same = ap d.fault_count same
 
   done_quiet : (question : Ask) (said : Answer) → IsDoneAt d t question office before old new said.reply → d.fault_count new.disk ≡ d.fault_count old.disk
-  done_quiet (ask.Command command) said is = ⊎_elim (λ grew. grew.1.quiet) (λ stayed. same_count stayed.1.disk) is.2
+  done_quiet (ask.Command command) said is = ⊎_elim (λ grew. grew.1.quiet) (λ stayed. same_count stayed.1.disk) is.grows
+  done_quiet (ask.Once token command) said is = ⊎_elim (λ grew. grew.1.quiet) (λ stayed. same_count stayed.1.disk) is.grows
   done_quiet (ask.Query query) said is = same_count is.1.disk
 
   answered_quiet : (question : Ask) (said : Answer) → AnswersAt d (call_time t number) question office before old new (Ok said) → d.fault_count new.disk ≡ d.fault_count old.disk
@@ -134,15 +159,16 @@ module _ {D : Type 0} {C : Type 0} (d : disks.Ghosts D)
 
   failed_reason : (question : Ask) → t < end_of_time → HasFailed d t question office before old new → Rose (d.fault_count old.disk) (d.fault_count new.disk) × IsAcceptedAt t question old.office
   failed_reason (ask.Command command) lt fails = (fails.rose, (lt, fails.accepted))
+  failed_reason (ask.Once token command) lt fails = (fails.rose, (lt, fails.accepted))
   failed_reason (ask.Query query) lt fails = absurd fails
 
-  pub reason : (question : Ask) (said : Result Answer DeskFault) → t ≡ moment_after number old.office.last → AnswersAt d (call_time t number) question office before old new said
+  pub reason : (question : Ask) (said : Result Answer DeskFault) → t ≡ moment_after number old.office.records.last → AnswersAt d (call_time t number) question office before old new said
       → HasStoreReason said question old.office (d.fault_count old.disk) (d.fault_count new.disk)
   reason question (Ok said) at answers = answered_quiet question said answers
   reason question (Err (faults.StoreFault (Some told) count)) at answers =
       let kept = in_time_of d t number question office before old new (faults.StoreFault (Some told) count) answers in
       let why = failed_reason question kept.0 kept.1.2 in
-      (why.0, kept.1.1, subst (λ (m : ℕ). IsAcceptedAt m question old.office) (at ∙ ap (λ (n : ℕ). moment_after n old.office.last) (sym kept.1.0)) why.1)
+      (why.0, kept.1.1, subst (λ (m : ℕ). IsAcceptedAt m question old.office) (at ∙ ap (λ (n : ℕ). moment_after n old.office.records.last) (sym kept.1.0)) why.1)
   reason question (Err (faults.StoreFault None count)) at answers =
       absurd (in_time_of d t number question office before old new (faults.StoreFault None count) answers).1
   reason question (Err faults.JournalFull) at answers =
@@ -155,7 +181,8 @@ module _ {D : Type 0} {C : Type 0} (d : disks.Ghosts D)
   -- ---- a further call
 
   done_holds : (question : Ask) (said : Answer) → IsDoneAt d t question office before old new said.reply → (history : List Entry) × HoldsHistory d history new
-  done_holds (ask.Command command) said is = ⊎_elim (λ grew. (before ++ entry_at t command ∷ [], grew.1.holds)) (λ stayed. (before, stayed.1.holds)) is.2
+  done_holds (ask.Command command) said is = ⊎_elim (λ grew. (before ++ _ ∷ [], grew.1.holds)) (λ stayed. (before, stayed.1.holds)) is.grows
+  done_holds (ask.Once token command) said is = ⊎_elim (λ grew. (before ++ _ ∷ [], grew.1.holds)) (λ stayed. (before, stayed.1.holds)) is.grows
   done_holds (ask.Query query) said is = (before, is.1.holds)
 
   kept_holds : (question : Ask) (said : Result Answer DeskFault) → stale_after false said ≡ false → AnswersInTime d (call_time t number) question office before old new said
@@ -183,14 +210,16 @@ narrower_sound first s sound narrow image is = sound image (narrow.journal image
 
 module _ {D : Type 0} {C : Type 0} (d : disks.Ghosts D)
     (t number : ℕ) (before : List Entry) (old new : DeskView D C) (hold : HoldsHistory d before old) where
-  failed_sound : (question : Ask) → HasFailed d t question hold.office.plain before old new → IsTrue d.honest → IsSound (d.state new.disk)
-  failed_sound (ask.Command command) fails tells = λ image is.
-      let entry = entry_at t command in
+  command_sound : (call : Asked) → StoreFails d hold.office.plain before (entry_of t call) old new → IsTrue d.honest → IsSound (d.state new.disk)
+  command_sound call fails tells = λ image is.
+      let entry = entry_of t call in
       ⊎_elim (λ (e : HasEntries header before image). (before, record { entries = e; accepted = some_run before hold.office.plain hold.office.is_run }))
       (λ (e : HasEntries header (before ++ entry ∷ []) image).
       (before ++ entry ∷ [], record { entries = e; accepted = some_run (before ++ entry ∷ []) fails.next.0 (run_more before entry hold.office.plain fails.next.0 hold.office.is_run fails.next.1) }))
       ((fails.run tells).now.journal image is)
-  failed_sound (ask.Query query) fails tells = absurd fails
+
+  failed_sound : (question : Ask) → HasFailed d t question hold.office.plain before old new → IsTrue d.honest → IsSound (d.state new.disk)
+  failed_sound question fails tells = some_and (asked question) (λ call. StoreFails d hold.office.plain before (entry_of t call) old new) (λ call one. command_sound call one tells) fails
 
   pub sound_on : (question : Ask) (said : Result Answer DeskFault) → AnswersAt d (call_time t number) question hold.office.plain before old new said → IsTrue d.honest → IsSound (d.state new.disk)
   sound_on question (Ok said) answers tells =
@@ -217,30 +246,41 @@ module _ {D C : Type 0} {d : disks.Ghosts D} (laws : DiskLaws d)
   Inside question = KeepsTo d old.disk new.disk (KeepsOrAdds t question before)
 
   here : (question : Ask) → KeepsOrAdds t question before (d.state old.disk)
-  here (ask.Command command) = λ image is. inl (rest_image (d.state old.disk) old.gate before hold.office.plain (hold.at_rest tells) hold.office.is_run image is)
-  here (ask.Query query) = λ image is. rest_image (d.state old.disk) old.gate before hold.office.plain (hold.at_rest tells) hold.office.is_run image is
+  here question = λ image is. inl (rest_image (d.state old.disk) old.gate before hold.office.plain (hold.at_rest tells) hold.office.is_run image is)
 
   stays_inside : (question : Ask) → new.disk ≡ old.disk → Inside question
   stays_inside question same = subst (λ (z : D). KeepsTo d old.disk z (KeepsOrAdds t question before)) (sym same)
       (started d old.disk (KeepsOrAdds t question before) (laws.only_now old.disk) (here question))
 
-  adds_inside : (command : Command) (more : Office) → run (before ++ entry_at t command ∷ []) ≡ Some more
-      → KeepsTo d old.disk new.disk (BeforeOrAfter header before (entry_at t command) (d.state old.disk)) → Inside (ask.Command command)
-  adds_inside command more is_more ran = weakened (KeepsOrAdds t (ask.Command command) before) ran (λ s both image is. ⊎_elim
-      (λ (e : HasEntries header before image). inl (record { entries = e; accepted = some_run before hold.office.plain hold.office.is_run }))
-      (λ (e : HasEntries header (before ++ entry_at t command ∷ []) image).
-      inr (record { entries = e; accepted = some_run (before ++ entry_at t command ∷ []) more is_more }))
-      (both.journal image is))
+  module _ (question : Ask) (call : Asked) (asks : asked question ≡ Some call) where
+    abbrev e : Entry
+    e = entry_of t call
+
+    adds_inside : (more : Office) → run (before ++ e ∷ []) ≡ Some more → KeepsTo d old.disk new.disk (BeforeOrAfter header before e (d.state old.disk)) → Inside question
+    adds_inside more is_more ran = weakened (KeepsOrAdds t question before) ran (λ s both image is. ⊎_elim
+        (λ (old_one : HasEntries header before image). inl (record { entries = old_one; accepted = some_run before hold.office.plain hold.office.is_run }))
+        (λ (new_one : HasEntries header (before ++ e ∷ []) image).
+        inr (asked_and question call (λ c. HasAcceptedHistory (before ++ entry_of t c ∷ []) image) asks
+        (record { entries = new_one; accepted = some_run (before ++ e ∷ []) more is_more })))
+        (both.journal image is))
+
+    carried_inside : (said : Answer) → CarriesOut d t call hold.office.plain before old new said.reply → Inside question
+    carried_inside said is =
+        ⊎_elim (λ grew. adds_inside grew.1.holds.office.plain grew.1.holds.office.is_run (grew.1.run tells))
+        (λ stayed. stays_inside question stayed.1.disk) is.grows
+
+    command_inside : StoreFails d hold.office.plain before e old new → Inside question
+    command_inside fails =
+        adds_inside fails.next.0 (run_more before e hold.office.plain fails.next.0 hold.office.is_run fails.next.1) (fails.run tells)
 
   done_inside : (question : Ask) (said : Answer) → IsDoneAt d t question hold.office.plain before old new said.reply → Inside question
-  done_inside (ask.Command command) said is =
-      ⊎_elim (λ grew. adds_inside command grew.1.holds.office.plain grew.1.holds.office.is_run (grew.1.run tells))
-      (λ stayed. stays_inside (ask.Command command) stayed.1.disk) is.2
+  done_inside (ask.Command command) said is = carried_inside (ask.Command command) _ refl said is
+  done_inside (ask.Once token command) said is = carried_inside (ask.Once token command) _ refl said is
   done_inside (ask.Query query) said is = stays_inside (ask.Query query) is.1.disk
 
   failed_inside : (question : Ask) → HasFailed d t question hold.office.plain before old new → Inside question
-  failed_inside (ask.Command command) fails =
-      adds_inside command fails.next.0 (run_more before (entry_at t command) hold.office.plain fails.next.0 hold.office.is_run fails.next.1) (fails.run tells)
+  failed_inside (ask.Command command) fails = command_inside (ask.Command command) _ refl fails
+  failed_inside (ask.Once token command) fails = command_inside (ask.Once token command) _ refl fails
   failed_inside (ask.Query query) fails = absurd fails
 
   kept_inside : (question : Ask) (said : Result Answer DeskFault) → AnswersInTime d (call_time t number) question hold.office.plain before old new said → Inside question
@@ -255,6 +295,78 @@ module _ {D C : Type 0} {d : disks.Ghosts D} (laws : DiskLaws d)
   inside_of question said (inl in_time) = kept_inside question said in_time.1
   inside_of question (Ok said) (inr past) = stays_inside question past.1.2.disk
   inside_of question (Err fault) (inr past) = absurd past.1
+
+-- ---- a command that is repeated with its token
+
+module _ (question : Ask) (office : Office) (one : KeptReply) (again : Repeats question office one) where
+  abbrev call : Asked
+  call = again.call
+
+  -- its token is one that it may carry
+  takes : takes_token call.command ≡ true
+  takes = by question again.is_asked where
+    carried : (b : Bool) (command : Command) (token : List ℕ) → takes_token command ≡ b → asked (ask.Once token command) ≡ Some call → takes_token call.command ≡ true
+    carried true command token takes is = subst (λ (c : Asked). takes_token c.command ≡ true) (same_Some _ _ is) takes
+    carried false command token takes is = absurd (none_kept (sym (ap (λ (c : Asked). c.token) (same_Some _ _ is)) ∙ rw takes refl))
+      where
+        none_kept : call.token ≡ None → ⊥
+        none_kept none = let e : kept_for None office ≡ Some one = subst (λ (token : Token). kept_for token office ≡ Some one) none again.kept in absurd cc
+
+    by : (q : Ask) → asked q ≡ Some call → takes_token call.command ≡ true
+    by (ask.Command command) is =
+        let e : kept_for None office ≡ Some one = subst (λ (token : Token). kept_for token office ≡ Some one) (sym (ap (λ (c : Asked). c.token) (same_Some _ _ is))) again.kept in
+        absurd cc
+    by (ask.Once token command) is = carried (takes_token command) command token refl is
+    by (ask.Query query) is = absurd cc
+
+  same : same_command one.command call.command ≡ true
+  same = subst (λ (c : Command). same_command c call.command ≡ true) again.same (same_self call.command takes)
+
+  replied : (t : ℕ) → (step_with t call.token call.command office).1 ≡ Ok one.reply
+  replied t = ap (λ (x : Office × Result Reply Refusal). x.1) (step_kept t call.token call.command office one again.kept) ∙ rw same refl
+
+  not_new : is_new call.token office ≡ false
+  not_new = rw again.kept refl
+
+module _ {D C : Type 0} (d : disks.Ghosts D) (t number : ℕ) (before : List Entry) (old new : DeskView D C) (hold : HoldsHistory d before old)
+    (question : Ask) (one : KeptReply) (again : Repeats question hold.office.plain one) where
+  abbrev plain : Office
+  plain = hold.office.plain
+
+  abbrev repeat : Asked
+  repeat = again.call
+
+  not_fresh : kept_for repeat.token plain ≡ None → ⊥
+  not_fresh none = let e : Some one ≡ None = sym again.kept ∙ none in absurd cc
+
+  of_repeat : (P : Asked → Type 0) → IsSomeAnd (asked question) P → P repeat
+  of_repeat P is = subst (λ (o : Option Asked). IsSomeAnd o P) again.is_asked is
+
+  carried_as : (q : Ask) → asked q ≡ Some repeat → (reply : Result Reply Refusal) → IsDoneAt d t q plain before old new reply → CarriesOut d t repeat plain before old new reply
+  carried_as (ask.Command command) is reply done = subst (λ (c : Asked). CarriesOut d t c plain before old new reply) (same_Some _ _ is) done
+  carried_as (ask.Once token command) is reply done = subst (λ (c : Asked). CarriesOut d t c plain before old new reply) (same_Some _ _ is) done
+  carried_as (ask.Query query) is reply done = absurd cc
+
+  answered_so : (said : Answer) → CarriesOut d t repeat plain before old new said.reply → IsAgain one (Ok said) × (new.disk ≡ old.disk)
+  answered_so said is = (
+    is.told ∙ replied question plain one again t,
+    ⊎_elim (λ grew. absurd (both_new (is_new repeat.token plain) (is_accepted said.reply) (not_new question plain one again) grew.0)) (λ stayed. stayed.1.disk) is.grows,
+  )
+
+  again_by : (said : Result Answer DeskFault) → AnswersInTime d (call_time t number) question plain before old new said → IsAgain one said × (new.disk ≡ old.disk)
+  again_by (Ok said) keeps = answered_so said (carried_as question again.is_asked said.reply keeps.1)
+  again_by (Err (faults.StoreFault (Some told) count)) keeps =
+      absurd (not_fresh ((of_repeat (λ call. StoreFails d plain before (entry_of t call) old new) keeps.2).accepted plain hold.office.stands).0)
+  again_by (Err (faults.StoreFault None count)) keeps = absurd keeps
+  again_by (Err faults.JournalFull) keeps =
+      let passes = of_repeat (λ call. (t < end_of_time) × IsNotKept call old.office × (old.limit < old.gate + 6 + length (spelling (entry_of t call)))) keeps.0 in
+      absurd (not_fresh (fresh_in repeat.token old.office plain hold.office.stands passes.1))
+  again_by (Err (faults.Broken fault)) keeps = absurd keeps
+  again_by (Err faults.NoMemory) keeps = (refl, keeps.disk)
+
+  pub repeated_so : t < end_of_time → (said : Result Answer DeskFault) → AnswersAt d (call_time t number) question plain before old new said → IsAgain one said × (new.disk ≡ old.disk)
+  repeated_so lt said (inl in_time) = again_by said in_time.1
+  repeated_so lt said (inr past) = absurd (omega (arith, lt, past.0))
 
 -- ---- a call of which the clock told its number
 
@@ -286,11 +398,11 @@ module _ {D C : Type 0} {d : disks.Ghosts D} {number : ℕ} {question : Ask} {ol
 
   pub tells_by : (k : clocks.Ghosts C) → DiskLaws d → k.last new.clock ≡ number
       → k.count new.clock ≡ min (k.count old.clock + 1) (2 ^ 64 - 1)
-      → (PassesLimit (moment_after (k.last new.clock) old.office.last) old.gate old.limit question
+      → (PassesLimit (moment_after (k.last new.clock) old.office.records.last) old question
       → (said ≡ Err faults.JournalFull) ⊎ (said ≡ Err faults.NoMemory))
       → HasCauses d k old question said new
   tells_by k laws last_is once full =
-      let now_is : asks.t ≡ moment_after (k.last new.clock) old.office.last = asks.at ∙ ap (λ (n : ℕ). moment_after n old.office.last) (sym last_is) in
+      let now_is : asks.t ≡ moment_after (k.last new.clock) old.office.records.last = asks.at ∙ ap (λ (n : ℕ). moment_after n old.office.records.last) (sym last_is) in
       record {
         once = once;
         quiet = leaves d asks.t number hold.office.plain before told new question said one;
@@ -300,8 +412,11 @@ module _ {D C : Type 0} {d : disks.Ghosts D} {number : ℕ} {question : Ask} {ol
             (inside_of laws tells asks.t number b told new other question said (asks.answers b other));
         reason = reason d asks.t number hold.office.plain before told new question said asks.at one;
         ended = subst (λ (t : ℕ). end_of_time ≤ t → IsClockEnd t said) now_is (λ past. ended_so d asks.t number question hold.office.plain before told new said past one);
+        repeats = λ b holds first again lt.
+            let other : HoldsHistory d b told = record { office = holds.office; end = holds.end; limit = holds.limit; at_rest = holds.at_rest } in
+            repeated_so d asks.t number b told new other question first again (omega (arith, now_is, lt)) said (asks.answers b other);
         full = full;
-        full_alone = subst (λ (t : ℕ). said ≡ Err faults.JournalFull → PassesLimit t old.gate old.limit question) now_is
+        full_alone = subst (λ (t : ℕ). said ≡ Err faults.JournalFull → PassesLimit t old question) now_is
             (full_alone d asks.t number question hold.office.plain before told new said one);
       }
 
@@ -317,6 +432,7 @@ marked_causes d k office new question said stale causes = record {
   inside = causes.inside;
   reason = causes.reason;
   ended = causes.ended;
+  repeats = causes.repeats;
   full = causes.full;
   full_alone = causes.full_alone;
 }
@@ -332,13 +448,13 @@ fresh_after stale (Err faults.NoMemory) fresh = refl
 -- ---- whether the disk failed
 
 -- what the office that answers tells of faults, a call tells
-office_told : (said : Result Answer DeskFault) (question : Ask) (records : Records) (before after : ℕ) → HasStoreReason said question records before after → TellsFault said before after
-office_told (Ok answer) question records before after told = told
-office_told (Err (faults.StoreFault (Some number) count)) question records before after told = (told.0, told.1)
-office_told (Err (faults.StoreFault None count)) question records before after told = absurd told
-office_told (Err faults.JournalFull) question records before after told = told
-office_told (Err (faults.Broken fault)) question records before after told = absurd told
-office_told (Err faults.NoMemory) question records before after told = told
+office_told : (said : Result Answer DeskFault) (question : Ask) (view : OfficeView) (before after : ℕ) → HasStoreReason said question view before after → TellsFault said before after
+office_told (Ok answer) question view before after told = told
+office_told (Err (faults.StoreFault (Some number) count)) question view before after told = (told.0, told.1)
+office_told (Err (faults.StoreFault None count)) question view before after told = absurd told
+office_told (Err faults.JournalFull) question view before after told = told
+office_told (Err (faults.Broken fault)) question view before after told = absurd told
+office_told (Err faults.NoMemory) question view before after told = told
 
 -- an office is opened again without a fault of the disk
 office_quiet : {D C : Type 0} (d : disks.Ghosts D) (old office : DeskView D C) → IsOffice d old office → d.fault_count office.disk ≡ d.fault_count old.disk

@@ -1,24 +1,25 @@
 -- What a call does once its moment is told.
-use Rattle.std.specs.Prelude.{◌≡◌, ◌⊎◌, ℕ, ◌+◌, ◌<◌, ◌≤◌, false, List, [], ◌∷◌, ◌++◌, length, Some, None, Result, Ok, Err, IsTrue}
+use Rattle.std.specs.Prelude.{◌≡◌, ◌⊎◌, ℕ, ◌+◌, ◌<◌, ◌≤◌, false, ◌&&◌, List, [], ◌∷◌, ◌++◌, length, Some, None, Result, Ok, Err, IsTrue, IsSomeAnd}
 use Rattle.office_base.specs.Faults.{Rose}
 use Rattle.moments.specs.Time.{end_of_time}
 use Rattle.disk_core.specs.declared.disk.Disk as disks
 use Rattle.disk_core.specs.Moments.{KeepsTo}
 use Rattle.plain_office.specs.Answers.{answer}
 use Rattle.plain_office.specs.Office.{Office}
-use Rattle.plain_office.specs.Step.{step, is_accepted}
-use Rattle.plain_office.specs.Run.{accept}
+use Rattle.plain_office.specs.Once.{kept_for, step_with}
+use Rattle.plain_office.specs.Step.{is_accepted}
+use Rattle.plain_office.specs.Run.{accept, is_new}
 use Rattle.office_types.specs.declared.command.Ask.{Ask}
 use Rattle.office_types.specs.declared.command.Ask.TheVariants as ask
 use Rattle.office_types.specs.declared.command.Entry.{Entry}
 use Rattle.office_types.specs.declared.reply.Reply.{Reply}
 use Rattle.office_types.specs.declared.refusal.Refusal.{Refusal}
 use Rattle.office_types.specs.declared.refusal.Refusal.TheVariants.{ClockEnd}
-use Rattle.office_types.specs.Entries.{entry_at}
-use Rattle.office_machine.specs.Standing.{StandsForOffice}
+use Rattle.office_machine.specs.Once.{StandsFor}
 use Rattle.entry_codec.specs.Spelling.{spelling}
 use Rattle.meter_journal.specs.History.{header, end_gate, IsAtRest, BeforeOrAfter}
 use Rattle.desk_core.specs.Answers.{Answer}
+use Rattle.desk_core.specs.Asked.{Asked, asked, entry_of, IsFresh}
 use Rattle.desk_core.specs.Calls.{moment_after}
 use Rattle.desk_core.specs.Desk.{DeskView, HoldsHistory}
 use Rattle.desk_core.specs.Submitting.{PassesLimit}
@@ -54,11 +55,12 @@ module _ {D C : Type 0} (d : disks.Ghosts D) where
     pub holds : HoldsHistory d before new
     pub disk : new.disk ≡ old.disk
 
-  -- the disk failed while the entry was added
+  -- the disk failed while the entry was added, whose command is accepted, and under whose token no reply is kept
   pub record StoreFails (office : Office) (before : List Entry) (entry : Entry)
       (old new : DeskView D C) : Type 0 where
-    pub accepted : (plain : Office) → StandsForOffice old.office plain
-        → IsTrue (is_accepted (step entry.moment entry.command plain).1)
+    pub accepted : (plain : Office) → StandsFor old.office plain
+        → (kept_for entry.token plain ≡ None)
+        × IsTrue (is_accepted (step_with entry.moment entry.token entry.command plain).1)
     pub next : (after : Office) × (accept office entry ≡ Some after)
     pub run : IsTrue d.honest → KeepsTo d old.disk new.disk (BeforeOrAfter header before entry (d.state old.disk))
     pub rose : Rose (d.fault_count old.disk) (d.fault_count new.disk)
@@ -87,19 +89,25 @@ module _ {D C : Type 0} (d : disks.Ghosts D) where
   AddsEntry time reply before entry old new (Err (faults.Broken fault)) = ⊥
   AddsEntry time reply before entry old new (Err faults.NoMemory) = ⊥
 
-  -- what an ask does that is answered before the end of time: by a command that is accepted the history grows, and by
-  -- none else is anything written
-  abbrev pub IsDoneAt : ℕ → Ask → Office → List Entry → DeskView D C → DeskView D C → Result Reply Refusal → Type 0
-  IsDoneAt t (ask.Command command) office before old new reply =
-      (reply ≡ (step t command office).1) × (old.gate + 6 + length (spelling (entry_at t command)) ≤ old.limit)
-      × ((IsTrue (is_accepted reply) × Grows before (entry_at t command) old new)
-      ⊎ ((is_accepted reply ≡ false) × Stays before old new))
-  IsDoneAt t (ask.Query query) office before old new reply = (reply ≡ answer t query office) × Stays before old new
+  -- What a command does that is answered before the end of time: by one that is accepted, and under whose token no reply
+  -- is kept, the history grows, and by none else is anything written. Where no reply is kept its frame fits.
+  pub record CarriesOut (t : ℕ) (call : Asked) (office : Office) (before : List Entry) (old new : DeskView D C)
+      (reply : Result Reply Refusal) : Type 0 where
+    pub told : reply ≡ (step_with t call.token call.command office).1
+    pub fits : IsFresh call office → old.gate + 6 + length (spelling (entry_of t call)) ≤ old.limit
+    pub grows : (IsTrue (is_new call.token office && is_accepted reply) × Grows before (entry_of t call) old new)
+        ⊎ (((is_new call.token office && is_accepted reply) ≡ false) × Stays before old new)
 
-  -- what an ask does that the disk failed
+  -- what an ask does that is answered before the end of time
+  abbrev pub IsDoneAt : ℕ → Ask → Office → List Entry → DeskView D C → DeskView D C → Result Reply Refusal → Type 0
+  IsDoneAt t (ask.Query query) office before old new reply = (reply ≡ answer t query office) × Stays before old new
+  IsDoneAt t question office before old new reply =
+      IsSomeAnd (asked question) (λ call. CarriesOut t call office before old new reply)
+
+  -- what a command does that the disk failed
   abbrev pub HasFailed : ℕ → Ask → Office → List Entry → DeskView D C → DeskView D C → Type 0
-  HasFailed t (ask.Command command) office before old new = StoreFails office before (entry_at t command) old new
-  HasFailed t (ask.Query query) office before old new = ⊥
+  HasFailed t question office before old new =
+      IsSomeAnd (asked question) (λ call. StoreFails office before (entry_of t call) old new)
 
   -- what an ask does before the end of time, on the plain office after this history
   abbrev pub AnswersInTime : CallTime → Ask → Office → List Entry → DeskView D C → DeskView D C
@@ -110,7 +118,7 @@ module _ {D C : Type 0} (d : disks.Ghosts D) where
       (told ≡ time.told) × (count ≡ d.fault_count new.disk) × HasFailed time.moment question office before old new
   AnswersInTime time question office before old new (Err (faults.StoreFault None count)) = ⊥
   AnswersInTime time question office before old new (Err faults.JournalFull) =
-      PassesLimit time.moment old.gate old.limit question × Stays before old new
+      PassesLimit time.moment old question × Stays before old new
   AnswersInTime time question office before old new (Err (faults.Broken fault)) = ⊥
   AnswersInTime time question office before old new (Err faults.NoMemory) = Stays before old new
 
@@ -131,7 +139,7 @@ module _ {D C : Type 0} (d : disks.Ghosts D) where
   pub record AnswersAsk (number : ℕ) (question : Ask) (old new : DeskView D C)
       (said : Result Answer DeskFault) : Type 0 where
     pub t : ℕ
-    pub at : t ≡ moment_after number old.office.last
+    pub at : t ≡ moment_after number old.office.records.last
     pub clock : C
     pub answers : (before : List Entry) (hold : HoldsHistory d before (record old { clock = clock }))
         → AnswersAt (call_time t number) question hold.office.plain before (record old { clock = clock }) new said

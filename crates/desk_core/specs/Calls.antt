@@ -1,5 +1,5 @@
 -- Lists of calls that the plain office allows, from one history to another.
-use Rattle.std.specs.Prelude.{◌≡◌, ◌⊎◌, ℕ, ◌+◌, ◌<◌, ◌≤◌, max, Bool, false, List, [], ◌∷◌, ◌++◌, length, Option, Some, None, Result, Ok, Err, IsTrue, IsSomeAnd, unwrap_or}
+use Rattle.std.specs.Prelude.{◌≡◌, ◌⊎◌, ℕ, ◌+◌, ◌<◌, ◌≤◌, max, Bool, false, ◌&&◌, List, [], ◌∷◌, ◌++◌, length, Option, Some, None, Result, Ok, Err, IsTrue, IsSome, IsSomeAnd, unwrap_or}
 use Rattle.office_base.specs.Faults.{Rose}
 use Rattle.moments.specs.Time.{end_of_time}
 use Rattle.office_types.specs.declared.command.Ask.{Ask}
@@ -8,14 +8,15 @@ use Rattle.office_types.specs.declared.command.Entry.{Entry}
 use Rattle.office_types.specs.declared.reply.Reply.{Reply}
 use Rattle.office_types.specs.declared.refusal.Refusal.{Refusal}
 use Rattle.office_types.specs.declared.refusal.Refusal.TheVariants.{ClockEnd}
-use Rattle.office_types.specs.Entries.{entry_at}
 use Rattle.plain_office.specs.Answers.{answer}
 use Rattle.plain_office.specs.Office.{Office}
-use Rattle.plain_office.specs.Step.{step, is_accepted}
-use Rattle.plain_office.specs.Run.{run}
+use Rattle.plain_office.specs.Once.{step_with}
+use Rattle.plain_office.specs.Step.{is_accepted}
+use Rattle.plain_office.specs.Run.{is_new, run}
 use Rattle.entry_codec.specs.Spelling.{spelling}
 use Rattle.meter_journal.specs.History.{header, end_gate}
 use Rattle.desk_core.specs.Answers.{Answer, Call}
+use Rattle.desk_core.specs.Asked.{Asked, asked, entry_of, IsFresh}
 use Rattle.desk_core.specs.declared.fault.DeskFault.{DeskFault}
 use Rattle.desk_core.specs.declared.fault.DeskFault.TheVariants as faults
 
@@ -29,16 +30,23 @@ abbrev pub FitsIn : ℕ → List Entry → Entry → Type 0
 FitsIn limit history entry = end_gate header history + 6 + length (spelling entry) ≤ limit
 
 -- the history grows by the command exactly where it is accepted
-abbrev pub GrowsBy : Result Reply Refusal → Entry → List Entry → List Entry → Type 0
-GrowsBy reply entry before after =
-    (IsTrue (is_accepted reply) × (after ≡ before ++ entry ∷ [])) ⊎ ((is_accepted reply ≡ false) × (after ≡ before))
+abbrev pub GrowsBy : Bool → Entry → List Entry → List Entry → Type 0
+GrowsBy accepted entry before after =
+    (IsTrue accepted × (after ≡ before ++ entry ∷ [])) ⊎ ((accepted ≡ false) × (after ≡ before))
 
--- the office's reply at this moment: to a command where its frame fits, and to a query, which changes nothing
+-- the office's reply to a command at this moment. Where a reply is kept under its token, nothing is written; else its
+-- frame fits
+pub record IsDone (limit t : ℕ) (call : Asked) (office : Office) (reply : Result Reply Refusal)
+    (before after : List Entry) : Type 0 where
+  pub told : reply ≡ (step_with t call.token call.command office).1
+  pub grows : GrowsBy (is_new call.token office && is_accepted reply) (entry_of t call) before after
+  pub fits : IsFresh call office → FitsIn limit before (entry_of t call)
+
+-- the same of an ask; a query changes nothing
 abbrev pub IsReply : ℕ → ℕ → Ask → Office → Result Reply Refusal → List Entry → List Entry → Type 0
-IsReply limit t (ask.Command command) office reply before after =
-    (reply ≡ (step t command office).1) × GrowsBy reply (entry_at t command) before after
-    × FitsIn limit before (entry_at t command)
 IsReply limit t (ask.Query query) office reply before after = (reply ≡ answer t query office) × (after ≡ before)
+IsReply limit t question office reply before after =
+    IsSomeAnd (asked question) (λ call. IsDone limit t call office reply before after)
 
 -- An answer is the plain office's at the call's moment, and its position is the end of the journal then. From the end
 -- of time on the answer to every ask is that the clock has ended, and nothing is done (own).
@@ -51,14 +59,18 @@ pub record IsAnswered (limit : ℕ) (question : Ask) (office : Office) (said : A
 
 -- the ask is a command, and no query
 abbrev pub IsCommand : Ask → Type 0
-IsCommand (ask.Command command) = Unit {0}
-IsCommand (ask.Query query) = ⊥
+IsCommand question = IsSome (asked question)
 
--- the office accepts the ask as a command at this moment, and it is kept
+-- the office accepts the command at this moment, and it is written
+pub record IsWritten (t : ℕ) (call : Asked) (office : Office) (before after : List Entry) : Type 0 where
+  pub moment : t < end_of_time
+  pub fresh : IsFresh call office
+  pub accepted : IsTrue (is_accepted (step_with t call.token call.command office).1)
+  pub written : after ≡ before ++ entry_of t call ∷ []
+
+-- the same of an ask, which is no query
 abbrev pub IsKeptAt : ℕ → Ask → Office → List Entry → List Entry → Type 0
-IsKeptAt t (ask.Command command) office before after =
-    (t < end_of_time) × IsTrue (is_accepted (step t command office).1) × (after ≡ before ++ entry_at t command ∷ [])
-IsKeptAt t (ask.Query query) office before after = ⊥
+IsKeptAt t question office before after = IsSomeAnd (asked question) (λ call. IsWritten t call office before after)
 
 -- a command that the office accepts may have been kept though a fault was told; a call that read no clock kept
 -- nothing
@@ -67,10 +79,10 @@ MayBeKept (Some told) question office before after =
     IsKeptAt (moment_after told office.last) question office before after
 MayBeKept None question office before after = ⊥
 
--- the command's frame does not fit; its size is the same at each moment
-abbrev pub IsFull : ℕ → Ask → List Entry → Type 0
-IsFull limit (ask.Command command) before = ¬ FitsIn limit before (entry_at 0 command)
-IsFull limit (ask.Query query) before = ⊥
+-- no reply is kept under the command's token, and its frame does not fit; its size is the same at each moment
+abbrev pub IsFull : ℕ → Ask → Office → List Entry → Type 0
+IsFull limit question office before =
+    IsSomeAnd (asked question) (λ call. IsFresh call office × (¬ FitsIn limit before (entry_of 0 call)))
 
 -- A number of the clock stands in a fault of the store where a command was to be added. Without one the journal was to
 -- be opened again, whatever was asked.
@@ -92,7 +104,7 @@ IsLegal honest limit counted question (Ok answer) office before after =
 IsLegal honest limit counted question (Err (faults.StoreFault number count)) office before after =
     IsAsking number question × Rose counted count × IsLeft honest number question office before after
 IsLegal honest limit counted question (Err faults.JournalFull) office before after =
-    IsFull limit question before × (after ≡ before)
+    IsFull limit question office before × (after ≡ before)
 IsLegal honest limit counted question (Err (faults.Broken fault)) office before after = IsTrue honest → ⊥
 IsLegal honest limit counted question (Err faults.NoMemory) office before after = after ≡ before
 

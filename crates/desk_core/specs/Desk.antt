@@ -5,7 +5,7 @@ use Rattle.disk_core.specs.declared.disk.Disk as disks
 use Rattle.disk_core.specs.Moments.{KeepsTo}
 use Rattle.plain_office.specs.Run.{run}
 use Rattle.office_types.specs.declared.command.Entry.{Entry}
-use Rattle.office_machine.specs.Standing.{Records}
+use Rattle.office_machine.specs.Once.{OfficeView}
 use Rattle.meter_journal.specs.History.{header, end_gate, IsAtRest}
 use Rattle.desk_core.specs.Answers.{Answer, Call}
 use Rattle.desk_core.specs.Calls.{Legal}
@@ -19,7 +19,7 @@ use Rattle.desk_core.specs.declared.fault.DeskFault.TheVariants as faults
 pub record DeskView (D C : Type 0) : Type 0 where
   pub disk : D
   pub clock : C
-  pub office : Records
+  pub office : OfficeView
   pub gate : ℕ
   pub limit : ℕ
   pub stale : Bool

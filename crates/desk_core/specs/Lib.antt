@@ -1,5 +1,6 @@
 pub mod Answering
 pub mod Answers
+pub mod Asked
 pub mod Calls
 pub mod Clocks
 pub mod Damage

@@ -1,22 +1,24 @@
 -- What a call tells of the office that answers it, and how a stale desk comes to one.
-use Rattle.std.specs.Prelude.{◌≡◌, ◌⊎◌, ℕ, ◌+◌, ◌-◌, ◌^◌, ◌<◌, ◌≤◌, min, true, false, List, [], ◌∷◌, ◌++◌, length, Some, None, Result, Ok, Err, IsTrue}
+use Rattle.std.specs.Prelude.{◌≡◌, ◌⊎◌, ℕ, ◌+◌, ◌-◌, ◌^◌, ◌<◌, ◌≤◌, min, true, false, List, [], ◌∷◌, ◌++◌, length, Some, None, Result, Ok, Err, IsTrue, IsSomeAnd}
 use Rattle.office_base.specs.Faults.{Rose}
 use Rattle.disk_core.specs.declared.disk.Disk as disks
 use Rattle.disk_core.specs.Files.{State, IsImage}
 use Rattle.disk_core.specs.Fronts.{Narrower}
 use Rattle.disk_core.specs.Moments.{KeepsTo}
 use Rattle.moments.specs.Time.{end_of_time}
-use Rattle.plain_office.specs.Office.{Office}
-use Rattle.plain_office.specs.Step.{step, is_accepted}
+use Rattle.plain_office.specs.Office.{Office, KeptReply}
+use Rattle.plain_office.specs.Step.{is_accepted}
+use Rattle.plain_office.specs.Once.{step_with}
 use Rattle.office_types.specs.declared.command.Ask.{Ask}
 use Rattle.office_types.specs.declared.command.Ask.TheVariants as ask
 use Rattle.office_types.specs.declared.command.Entry.{Entry}
 use Rattle.office_types.specs.declared.refusal.Refusal.TheVariants.{ClockEnd}
-use Rattle.office_types.specs.Entries.{entry_at}
-use Rattle.office_machine.specs.Standing.{Records, StandsForOffice}
+use Rattle.office_machine.specs.Once.{OfficeView}
+use Rattle.office_machine.specs.Once as machine
 use Rattle.entry_codec.specs.Spelling.{spelling}
 use Rattle.meter_journal.specs.declared.fault.OpenFault.{OpenFault}
 use Rattle.desk_core.specs.Answers.{Answer, Call}
+use Rattle.desk_core.specs.Asked.{asked, entry_of, IsFresh, IsNotKept, Repeats}
 use Rattle.desk_core.specs.Calls.{moment_after}
 use Rattle.desk_core.specs.Histories.{HasAcceptedHistory}
 use Rattle.desk_core.specs.Damage.{IsBroken, OpenFails}
@@ -29,38 +31,44 @@ use Rattle.desk_core.specs.declared.fault.DeskFault.TheVariants as faults
 
 -- ---- the office that answers
 
--- the disk is left alone, but for a command that the office accepts
+-- the disk is left alone, but for a command that the office accepts; a reply that is kept leaves it, whatever it is
 abbrev pub LeavesDisk : {D : Type 0} → Result Answer DeskFault → Ask → D → D → Type 0
-LeavesDisk (Ok answer) (ask.Command command) before after = is_accepted answer.reply ≡ false → after ≡ before
 LeavesDisk (Ok answer) (ask.Query query) before after = after ≡ before
+LeavesDisk (Ok answer) question before after = is_accepted answer.reply ≡ false → after ≡ before
 LeavesDisk (Err (faults.StoreFault number count)) question before after = Unit {0}
 LeavesDisk (Err faults.JournalFull) question before after = after ≡ before
 LeavesDisk (Err (faults.Broken fault)) question before after = ⊥
 LeavesDisk (Err faults.NoMemory) question before after = after ≡ before
 
--- before the end of time the plain office accepts this command, whichever of those it is that the records stand for
-abbrev pub IsAcceptedAt : ℕ → Ask → Records → Type 0
-IsAcceptedAt t (ask.Command command) records =
-    (t < end_of_time)
-    × ((office : Office) → StandsForOffice records office → IsTrue (is_accepted (step t command office).1))
-IsAcceptedAt t (ask.Query query) records = ⊥
+-- before the end of time the plain office accepts this command, and no reply is kept under its token, whichever of those
+-- offices it is that this one stands for
+abbrev pub IsAcceptedAt : ℕ → Ask → OfficeView → Type 0
+IsAcceptedAt t question view = IsSomeAnd (asked question) (λ call.
+    (t < end_of_time) × ((office : Office) → machine.StandsFor view office
+    → IsFresh call office × IsTrue (is_accepted (step_with t call.token call.command office).1)))
 
 -- a fault of the store comes where, and only where, the disk failed in the call, and only for a command that the
 -- office accepts; the count that it tells is the disk's at the return
-abbrev pub HasStoreReason : Result Answer DeskFault → Ask → Records → ℕ → ℕ → Type 0
-HasStoreReason (Err (faults.StoreFault (Some number) count)) question records before after =
-    Rose before after × (count ≡ after) × IsAcceptedAt (moment_after number records.last) question records
-HasStoreReason (Err (faults.StoreFault None count)) question records before after = ⊥
-HasStoreReason (Ok answer) question records before after = after ≡ before
-HasStoreReason (Err faults.JournalFull) question records before after = after ≡ before
-HasStoreReason (Err (faults.Broken fault)) question records before after = ⊥
-HasStoreReason (Err faults.NoMemory) question records before after = after ≡ before
+abbrev pub HasStoreReason : Result Answer DeskFault → Ask → OfficeView → ℕ → ℕ → Type 0
+HasStoreReason (Err (faults.StoreFault (Some number) count)) question view before after =
+    Rose before after × (count ≡ after) × IsAcceptedAt (moment_after number view.records.last) question view
+HasStoreReason (Err (faults.StoreFault None count)) question view before after = ⊥
+HasStoreReason (Ok answer) question view before after = after ≡ before
+HasStoreReason (Err faults.JournalFull) question view before after = after ≡ before
+HasStoreReason (Err (faults.Broken fault)) question view before after = ⊥
+HasStoreReason (Err faults.NoMemory) question view before after = after ≡ before
 
--- the ask is a command before the end of time, and its frame, with the gate behind it, would end past the limit
-abbrev pub PassesLimit : ℕ → ℕ → ℕ → Ask → Type 0
-PassesLimit t gate limit (ask.Command command) =
-    (t < end_of_time) × (limit < gate + 6 + length (spelling (entry_at t command)))
-PassesLimit t gate limit (ask.Query query) = ⊥
+-- the ask is a command before the end of time without a token that is kept, and its frame, with the gate behind it,
+-- would end past the limit
+abbrev pub PassesLimit : {D C : Type 0} → ℕ → DeskView D C → Ask → Type 0
+PassesLimit t desk question = IsSomeAnd (asked question) (λ call.
+    (t < end_of_time) × IsNotKept call desk.office
+    × (desk.limit < desk.gate + 6 + length (spelling (entry_of t call))))
+
+-- the kept reply is given again, if any answer is given: memory may be wanting
+abbrev pub IsAgain : KeptReply → Result Answer DeskFault → Type 0
+IsAgain one (Ok answer) = answer.reply ≡ Ok one.reply
+IsAgain one (Err fault) = fault ≡ faults.NoMemory
 
 -- the answer is that the clock has ended at this moment
 abbrev pub IsClockEnd : ℕ → Result Answer DeskFault → Type 0
@@ -70,9 +78,9 @@ IsClockEnd t (Err fault) = ⊥
 -- each image of the journal file has this history; of a command it may have this history with its entry at this moment
 -- at the end
 abbrev pub KeepsOrAdds : ℕ → Ask → List Entry → State → Type 0
-KeepsOrAdds t (ask.Command command) before s = (image : List ℕ) → IsImage s.journal image
-    → HasAcceptedHistory before image ⊎ HasAcceptedHistory (before ++ entry_at t command ∷ []) image
-KeepsOrAdds t (ask.Query query) before s = (image : List ℕ) → IsImage s.journal image → HasAcceptedHistory before image
+KeepsOrAdds t question before s = (image : List ℕ) → IsImage s.journal image
+    → HasAcceptedHistory before image
+    ⊎ IsSomeAnd (asked question) (λ call. HasAcceptedHistory (before ++ entry_of t call ∷ []) image)
 
 -- what a call tells of the office that answers it, where the clock's last number is then this
 pub record HasCauses {D C : Type 0} (d : disks.Ghosts D) (k : clocks.Ghosts C) (office : DeskView D C)
@@ -84,17 +92,23 @@ pub record HasCauses {D C : Type 0} (d : disks.Ghosts D) (k : clocks.Ghosts C) (
   -- a crash at any moment of the call leaves the history that the office is after, or that and the command's entry
   pub inside : IsTrue d.honest → (before : List Entry) → HoldsHistory d before office
       → KeepsTo d office.disk new.disk
-      (KeepsOrAdds (moment_after (k.last new.clock) office.office.last) question before)
+      (KeepsOrAdds (moment_after (k.last new.clock) office.office.records.last) question before)
   pub reason : HasStoreReason said question office.office (d.fault_count office.disk) (d.fault_count new.disk)
   -- from the end of time on this is the answer to every ask
-  pub ended : end_of_time ≤ moment_after (k.last new.clock) office.office.last
-      → IsClockEnd (moment_after (k.last new.clock) office.office.last) said
+  pub ended : end_of_time ≤ moment_after (k.last new.clock) office.office.records.last
+      → IsClockEnd (moment_after (k.last new.clock) office.office.records.last) said
+  -- A command that is repeated with its token, before the end of time, gets the reply that it got first, and nothing is
+  -- written. The kept replies follow from the history alone, so this holds after a crash and an opening again too.
+  pub repeats : (before : List Entry) (hold : HoldsHistory d before office) (one : KeptReply)
+      → Repeats question hold.office.plain one
+      → moment_after (k.last new.clock) office.office.records.last < end_of_time
+      → IsAgain one said × (new.disk ≡ office.disk)
   -- where the command's frame would pass the limit nothing else is told, but want of memory, and nowhere else is the
   -- journal called full
-  pub full : PassesLimit (moment_after (k.last new.clock) office.office.last) office.gate office.limit question
+  pub full : PassesLimit (moment_after (k.last new.clock) office.office.records.last) office question
       → (said ≡ Err faults.JournalFull) ⊎ (said ≡ Err faults.NoMemory)
   pub full_alone : said ≡ Err faults.JournalFull
-      → PassesLimit (moment_after (k.last new.clock) office.office.last) office.gate office.limit question
+      → PassesLimit (moment_after (k.last new.clock) office.office.records.last) office question
 
 -- ---- opening again
 

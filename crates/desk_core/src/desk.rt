@@ -62,7 +62,8 @@ impl<D: Disk + Drop, C: Clock + Drop> Desk<D, C> {
     /// The disk and the clock come back beside the fault. `StoreFault`: the disk did not do a call. `NotMade`,
     /// `Foreign`: as the head of the journal file says. `Damaged` at an offset, the first of these gates: the file
     /// ends before the gate, or the gate is open and no whole frame with a next gate stands there, or its bytes are
-    /// no entry, or its moment is before that of the entry before, or the office does not accept its command there.
+    /// no entry, or its moment is before that of the entry before, or a reply is kept under its token there, or the
+    /// office does not accept its command there.
     /// `NoMemory`: memory ran out.
     pub fn open(
         alloc: Global,
@@ -109,17 +110,20 @@ impl<D: Disk + Drop, C: Clock + Drop> Desk<D, C> {
     /// clock's number and the moment of the last accepted command (own rule: time does not go back, whatever a
     /// clock tells). Where that is not below the end of time, the answer is `ClockEnd`, and nothing is done. A
     /// command that the office accepts is added to the journal before it is answered; a query changes nothing and
-    /// makes no call of the disk. Cost: what the office needs, and for an accepted command the journal's append:
-    /// four writes and two syncs. On a stale desk also that of opening.
+    /// makes no call of the disk. A command with a token under which a reply is kept gets that reply, or is refused
+    /// where it is another command, and nothing is written; a token that the command may not carry is passed over. The
+    /// kept replies follow from the journal's entries, so an opening again has them too. Cost: what the office needs,
+    /// and for an accepted command the journal's append: four writes and two syncs. On a stale desk also that of
+    /// opening.
     ///
     /// # Errors
     ///
     /// `NoMemory`: memory ran out; a stale desk stays stale. `JournalFull`: the command's frame would pass the
-    /// journal's limit, whether or not the office would accept the command. In both no record is changed.
-    /// `StoreFault`: the disk did not do a call; the command, which the office accepts, is in the journal as a
-    /// whole or not at all, or the journal could not be opened again, and the clock was not asked; the desk is
-    /// stale. `Broken`: the journal was opened again, and is not made, foreign or damaged; the desk stays stale. An
-    /// honest disk has no such journal.
+    /// journal's limit, whether or not the office would accept the command, and no reply is kept under its token. In
+    /// both no record is changed. `StoreFault`: the disk did not do a call; the command, which the office accepts, is
+    /// in the journal as a whole or not at all, or the journal could not be opened again, and the clock was not asked;
+    /// the desk is stale. `Broken`: the journal was opened again, and is not made, foreign or damaged; the desk stays
+    /// stale. An honest disk has no such journal.
     pub fn submit(&mut self, ask: &Ask) -> Result<Acked, DeskFault>
         // Whatever list of calls the desk stood for, it stands for that list with this call at its end, and each
         // image of the disk at every moment of the call has the history after some number of its first calls. The

@@ -1,15 +1,19 @@
 // An office over its journal.
 ghost use Rattle.std.specs.Prelude.{◌≡◌, ◌⊎◌, ◌+◌, ◌-◌, ◌<◌, ◌≤◌, ◌^◌};
-ghost use Rattle.std.specs.Prelude.{List, length, true, false, IsTrue, Some, None, Ok, Err};
+ghost use Rattle.std.specs.Prelude.{List, length, true, false, IsTrue, IfSome, option_copied, Some, None, Ok, Err};
 ghost use Rattle.moments.specs.Time.{end_of_time};
 ghost use Rattle.office_types.specs.declared.command.Entry.{Entry};
+ghost use Rattle.office_types.specs.declared.command.Ask.{Ask};
 ghost use Rattle.office_types.specs.declared.command.Ask.TheVariants as ask_of;
 ghost use Rattle.office_types.specs.declared.refusal.Refusal.TheVariants.{NoMemory};
 ghost use Rattle.office_types.specs.Fits.{ReplyFits, AnswerFits};
-ghost use Rattle.office_types.specs.Entries.{entry_at};
+ghost use Rattle.office_types.specs.Entries.{entry_with};
+ghost use Rattle.office_types.specs.Tokens.{MayCarry};
+ghost use Rattle.kept_replies.specs.Queue.{kept_in};
 ghost use Rattle.plain_office.specs.Run.{is_not_before};
 ghost use Rattle.entry_codec.specs.Spelling.{EntryFits, IsEntry, spelling};
 ghost use Rattle.meter_journal.specs.History.{header, end_gate, IsAtRest};
+ghost use Rattle.desk_core.specs.Asked.{AsksFor};
 ghost use Rattle.desk_core.specs.Calls.{moment_after};
 ghost use Rattle.desk_core.specs.Desk.{DeskView, HoldsHistory, IsReady, IsLast, IsStamped, stale_after};
 ghost use Rattle.desk_core.specs.Submitting.{PassesLimit, HasCauses};
@@ -27,7 +31,7 @@ use entry_codec::encode_command;
 use meter_journal::{AppendFault, Journal};
 use moments::Moment;
 use office_machine::Office;
-use office_types::{Ask, Command, Query, Refusal, Reply};
+use office_types::{Ask, Command, Query, Refusal, Reply, Token};
 use std::alloc::Global;
 use std::marker::Model;
 
@@ -171,28 +175,30 @@ impl<D: Disk + Drop, C: Clock + Drop> Engine<D, C> {
         }
     }
 
-    // Does a command at a moment, and adds its entry where the office accepts it.
+    // Does a command at a moment, under whose token no reply is kept, and adds its entry where the office accepts it.
     fn apply_then_append(
         &mut self,
         moment: Moment,
         told: u64,
+        token: Option<&Token>,
         command: &Command,
         bytes: &[u8],
     ) -> Result<Acked, DeskFault>
-        requires spelled { bytes.now ≡ spelling (entry_at moment command.now) }
-        requires entry { EntryFits (entry_at moment command.now) }
-        requires later { IsTrue (is_not_before self.old.office.last moment) }
+        requires spelled { bytes.now ≡ spelling (entry_with moment (option_copied token) command.now) }
+        requires entry { EntryFits (entry_with moment (option_copied token) command.now) }
+        requires new { IfSome (option_copied token) (λ one. kept_in one self.old.office.kept.queue ≡ None) }
+        requires later { IsTrue (is_not_before self.old.office.records.last moment) }
         requires fits { self.old.gate + 6 + length bytes.now ≤ self.old.limit }
         requires ready { IsReady D.Disk self.old }
 
-        ensures keeps { (before : List Entry) (hold : HoldsHistory D.Disk before self.old)
-            → AnswersInTime D.Disk (call_time moment told)
-            (ask_of.Command command.now) hold.office.plain before self.old self.new result }
+        ensures keeps { (question : Ask) (before : List Entry) (hold : HoldsHistory D.Disk before self.old)
+            → AsksFor question (option_copied token.entry) command.now
+            → AnswersInTime D.Disk (call_time moment told) question hold.office.plain before self.old self.new result }
         ensures clock { self.new.clock ≡ self.old.clock }
         ensures limit { self.new.limit ≡ self.old.limit }
         ensures later { D.fault_count self.old.disk ≤ D.fault_count self.new.disk }
     {
-        match self.office.apply(moment, command) {
+        match self.office.apply(moment, token, command) {
             Ok(reply) => match reply {
                 Reply::NothingDue => { Ok(self.answer(moment.ms(), told, Ok(Reply::NothingDue))) }
                 done => self.append_then_answer(moment, told, done, bytes),
@@ -204,37 +210,75 @@ impl<D: Disk + Drop, C: Clock + Drop> Engine<D, C> {
         }
     }
 
-    // Does a command at a moment, where its frame fits.
+    // Does a command at a moment, under whose token no reply is kept, where its frame fits.
     fn run_command(
         &mut self,
         moment: Moment,
         told: u64,
+        token: Option<&Token>,
         command: &Command,
     ) -> Result<Acked, DeskFault>
-        requires later { IsTrue (is_not_before self.old.office.last moment) }
+        requires carries { MayCarry (option_copied token) command.now }
+        requires new { IfSome (option_copied token) (λ one. kept_in one self.old.office.kept.queue ≡ None) }
+        requires later { IsTrue (is_not_before self.old.office.records.last moment) }
         requires ready { IsReady D.Disk self.old }
 
-        ensures keeps { (before : List Entry) (hold : HoldsHistory D.Disk before self.old)
-            → AnswersInTime D.Disk (call_time moment told)
-            (ask_of.Command command.now) hold.office.plain before self.old self.new result }
-        ensures full { PassesLimit moment self.old.gate self.old.limit (ask_of.Command command.now)
+        ensures keeps { (question : Ask) (before : List Entry) (hold : HoldsHistory D.Disk before self.old)
+            → AsksFor question (option_copied token.entry) command.now
+            → AnswersInTime D.Disk (call_time moment told) question hold.office.plain before self.old self.new result }
+        ensures full { self.old.limit < self.old.gate + 6
+            + length (spelling (entry_with moment (option_copied token.entry) command.now))
             → (result ≡ Err DeskFault.JournalFull) ⊎ (result ≡ Err DeskFault.NoMemory) }
         ensures clock { self.new.clock ≡ self.old.clock }
         ensures limit { self.new.limit ≡ self.old.limit }
         ensures later { D.fault_count self.old.disk ≤ D.fault_count self.new.disk }
     {
-        let Ok(bytes) = encode_command(self.alloc, moment, command) else {
+        let Ok(bytes) = encode_command(self.alloc, moment, token, command) else {
             return Err(DeskFault::NoMemory);
         };
         if !self.journal.fits(bytes.len() as u64) {
             return Err(DeskFault::JournalFull);
         }
-        self.apply_then_append(moment, told, command, &bytes)
+        self.apply_then_append(moment, told, token, command, &bytes)
+    }
+
+    // Does a command with a token at a moment, or gives its first reply again, for which nothing is written. A token
+    // that the command may not carry counts as none.
+    fn run_once(
+        &mut self,
+        moment: Moment,
+        told: u64,
+        token: &Token,
+        command: &Command,
+    ) -> Result<Acked, DeskFault>
+        requires later { IsTrue (is_not_before self.old.office.records.last moment) }
+        requires ready { IsReady D.Disk self.old }
+
+        ensures keeps { (before : List Entry) (hold : HoldsHistory D.Disk before self.old)
+            → AnswersInTime D.Disk (call_time moment told)
+            (ask_of.Once token.now command.now) hold.office.plain before self.old self.new result }
+        ensures full { PassesLimit moment self.old (ask_of.Once token.now command.now)
+            → (result ≡ Err DeskFault.JournalFull) ⊎ (result ≡ Err DeskFault.NoMemory) }
+        ensures clock { self.new.clock ≡ self.old.clock }
+        ensures limit { self.new.limit ≡ self.old.limit }
+        ensures later { D.fault_count self.old.disk ≤ D.fault_count self.new.disk }
+    {
+        if !command.takes_token() {
+            return self.run_command(moment, told, None, command);
+        }
+        match self.office.recall(token, command) {
+            Ok(Some(reply)) => Ok(self.answer(moment.ms(), told, Ok(reply))),
+            Ok(None) => self.run_command(moment, told, Some(token), command),
+            Err(refusal) => match refusal {
+                Refusal::NoMemory => Err(DeskFault::NoMemory),
+                other => Ok(self.answer(moment.ms(), told, Err(other))),
+            },
+        }
     }
 
     // Answers a query at a moment.
     fn answer_query(&self, moment: Moment, told: u64, query: &Query) -> Result<Acked, DeskFault>
-        requires later { IsTrue (is_not_before self.now.office.last moment) }
+        requires later { IsTrue (is_not_before self.now.office.records.last moment) }
         requires ready { IsReady D.Disk self.now }
 
         ensures keeps { (before : List Entry) (hold : HoldsHistory D.Disk before self.now)
@@ -266,13 +310,13 @@ impl<D: Disk + Drop, C: Clock + Drop> Engine<D, C> {
 
     // Answers an ask at a moment, which may be past the end of time.
     fn answer_at(&mut self, moment: u64, told: u64, ask: &Ask) -> Result<Acked, DeskFault>
-        requires later { IsTrue (is_not_before self.old.office.last moment) }
+        requires later { IsTrue (is_not_before self.old.office.records.last moment) }
         requires ready { IsReady D.Disk self.old }
 
         ensures answers { (before : List Entry) (hold : HoldsHistory D.Disk before self.old)
             → AnswersAt D.Disk (call_time moment told) ask.now hold.office.plain before self.old self.new result }
-        ensures full { PassesLimit moment self.old.gate self.old.limit ask.now → (result ≡ Err DeskFault.JournalFull)
-            ⊎ (result ≡ Err DeskFault.NoMemory) }
+        ensures full { PassesLimit moment self.old ask.now
+            → (result ≡ Err DeskFault.JournalFull) ⊎ (result ≡ Err DeskFault.NoMemory) }
         ensures clock { self.new.clock ≡ self.old.clock }
         ensures limit { self.new.limit ≡ self.old.limit }
         ensures later { D.fault_count self.old.disk ≤ D.fault_count self.new.disk }
@@ -281,7 +325,8 @@ impl<D: Disk + Drop, C: Clock + Drop> Engine<D, C> {
             return Ok(self.answer(moment, told, Err(Refusal::ClockEnd { moment })));
         };
         match ask {
-            Ask::Command(command) => self.run_command(at, told, command),
+            Ask::Command(command) => self.run_command(at, told, None, command),
+            Ask::Once { token, command } => self.run_once(at, told, token, command),
             Ask::Query(query) => self.answer_query(at, told, query),
         }
     }

@@ -11,8 +11,8 @@ pub enum DeskFault {
         /// The disk's count of faults at the end of the call.
         faults: u64,
     },
-    /// 113: the command's frame would pass the journal's limit, whether or not the office would accept it. No
-    /// record changed.
+    /// 113: the command's frame would pass the journal's limit, whether or not the office would accept it, and no
+    /// reply is kept under its token. No record changed.
     JournalFull,
     /// The journal was opened again in this call, and is not made, foreign or damaged. The desk stays stale. An
     /// honest disk has no such journal.

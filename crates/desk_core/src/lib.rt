@@ -14,4 +14,4 @@ pub use acked::Acked;
 pub use clock::{Clock, ListClock, SystemClock};
 pub use desk::Desk;
 pub use fault::{DeskFault, SaveFault};
-pub use taking::{entry_refused, entry_taken, is_in_order};
+pub use taking::{entry_is_new, entry_refused, entry_taken, is_in_order};

@@ -5,6 +5,7 @@ ghost use Rattle.disk_core.specs.Files.{synced_file};
 ghost use Rattle.disk_core.specs.Fronts.{Narrower};
 ghost use Rattle.disk_core.specs.Moments.{KeepsTo, Untouched};
 ghost use Rattle.office_types.specs.declared.command.Entry.{Entry};
+ghost use Rattle.office_types.specs.Tokens.{MayCarry};
 ghost use Rattle.bucket_account.specs.Standing.{most_commands};
 ghost use Rattle.meter_journal.specs.Reading.{IsMade, HasStoreCause};
 ghost use Rattle.desk_core.specs.Submitting.{Reopens, IsOffice, Unopened};
@@ -14,7 +15,7 @@ ghost use Rattle.desk_core.specs.Offices.{StandsAfter};
 use crate::clock::Clock;
 use crate::engine::Engine;
 use crate::fault::DeskFault;
-use crate::taking::{entry_refused, entry_taken, is_in_order};
+use crate::taking::{entry_is_new, entry_refused, entry_taken, is_in_order};
 use disk_core::Disk;
 use meter_journal::{Journal, OpenFault};
 use office_machine::Office;
@@ -23,7 +24,8 @@ use std::alloc::Global;
 
 // Makes the change of an entry again. Where the office does not accept it, the journal is damaged at its gate.
 fn take(office: &mut Office, entry: Entry, gate: u64) -> Result<(), OpenFault>
-    requires few { office.old.accepted < most_commands }
+    requires few { office.old.records.accepted < most_commands }
+    requires carries { MayCarry entry.token entry.command }
     ensures ok { OnOk result ((history : List Entry) → StandsAfter history office.old
         → StandsAfter (history ++ entry ∷ []) office.new) }
     ensures damaged { IfErr result (λ e.
@@ -32,7 +34,10 @@ fn take(office: &mut Office, entry: Entry, gate: u64) -> Result<(), OpenFault>
     if !is_in_order(office.last(), entry.moment) {
         return Err(OpenFault::Damaged { offset: gate });
     }
-    match office.apply(entry.moment, &entry.command) {
+    if let Err(fault) = entry_is_new(office, &entry, gate) {
+        return Err(fault);
+    }
+    match office.apply(entry.moment, entry.token.as_ref(), &entry.command) {
         Ok(reply) => entry_taken(&reply, gate),
         Err(refusal) => Err(entry_refused(refusal, gate)),
     }

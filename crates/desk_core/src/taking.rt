@@ -1,12 +1,16 @@
 // Which entries of a journal are taken.
-ghost use Rattle.std.specs.Prelude.{◌≡◌, true, Ok, IfErr, OnOk};
+ghost use Rattle.std.specs.Prelude.{◌≡◌, ◌⊎◌, true, Ok, None, IfErr, OnOk, IfSome};
+ghost use Rattle.kept_replies.specs.Queue.{kept_in};
 ghost use Rattle.office_types.specs.declared.reply.Reply.TheVariants.{NothingDue};
-ghost use Rattle.plain_office.specs.Run.{is_not_before};
+ghost use Rattle.plain_office.specs.Office as plain;
+ghost use Rattle.plain_office.specs.Run.{accept, is_not_before};
 ghost use Rattle.plain_office.specs.Step.{is_accepted};
+ghost use Rattle.office_machine.specs.Once.{StandsFor};
 
 use meter_journal::OpenFault;
 use moments::Moment;
-use office_types::{Refusal, Reply};
+use office_machine::Office;
+use office_types::{Entry, Refusal, Reply};
 
 /// Tells whether an entry of this moment may follow those up to the last moment. Takes no memory.
 pub fn is_in_order(last: Option<Moment>, at: Moment) -> bool
@@ -15,6 +19,29 @@ pub fn is_in_order(last: Option<Moment>, at: Moment) -> bool
     match last {
         Some(last) => last.ms() <= at.ms(),
         None => true,
+    }
+}
+
+/// Tells whether the entry at this gate may be taken: no reply is kept under its token.
+///
+/// Cost: one search of the tokens.
+///
+/// # Errors
+///
+/// `Damaged` at the gate: a reply is kept under the token, and so the office does not accept the entry. `NoMemory`:
+/// memory ran out.
+pub fn entry_is_new(office: &Office, entry: &Entry, gate: u64) -> Result<(), OpenFault>
+    ensures new { OnOk result (IfSome entry.now.token (λ token. kept_in token office.now.kept.queue ≡ None)) }
+    ensures fails { IfErr result (λ e. (e ≡ OpenFault.NoMemory) ⊎ ((e ≡ OpenFault.Damaged gate)
+        × ((p : plain.Office) → StandsFor office.now p → accept p entry.now ≡ None))) }
+{
+    match &entry.token {
+        None => Ok(()),
+        Some(token) => match office.recall(token, &entry.command) {
+            Ok(None) => Ok(()),
+            Ok(Some(_)) => Err(OpenFault::Damaged { offset: gate }),
+            Err(refusal) => Err(entry_refused(refusal, gate)),
+        },
     }
 }
 

@@ -1,10 +1,18 @@
-use Rattle.std.proofs.Common.{◌≡◌, ◌⊎◌, inl, inr, ⊎_elim, ℕ, None, rules, arith, refl, ◌∙◌, subst}
+use Rattle.std.proofs.Common.{◌≡◌, ◌⊎◌, inl, inr, ⊎_elim, ℕ, Option, Some, None, Ok, rules, arith, refl, ◌∙◌, subst}
 use Rattle.disk_core.specs.declared.disk.FileNo.TheVariants.{Journal}
 use Rattle.disk_core.proofs.Time.{started, untouched_then}
+use Rattle.meter_journal.specs.Reading.{Advances}
+use Rattle.office_types.specs.Tokens.{MayCarry}
+use Rattle.office_types.specs.declared.command.Entry.{Entry}
 use Rattle.meter_journal.specs.declared.fault.OpenFault.TheVariants.{NoMemory, Damaged}
 use Rattle.plain_office.specs.Run.{accept}
 use Rattle.desk_core.proofs.Damage.{none_read, one_read, all_read, next_fails, take_fails, few_read}
 use Rattle.desk_core.proofs.reopening.replay.Goals as goal
+
+-- an entry that was read may carry its token
+may_carry : (old new : ℕ) (read : Option Entry) (entry : Entry) → read ≡ Some entry → Advances (Ok read) old new → MayCarry entry.token entry.command
+may_carry old new (Some other) entry is advances = let same : other ≡ entry = cc in subst (λ (e : Entry). MayCarry e.token e.command) same advances.0.carries
+may_carry old new None entry is advances = absurd cc
 
 pub reading-init : goal.reading-init
 reading-init g c = record {
@@ -57,4 +65,7 @@ returns-in-Err-take-clause-fails g c told file on_disk made =
 pub take-requires : goal.take-requires
 take-requires g c =
     let d = g.D.Disk in
-    record { few = few_read d c.args.journal.now.disk c.reading.journal.gate c.reading.office c.reading.invariant.read }
+    record {
+      few = few_read d c.args.journal.now.disk c.reading.journal.gate c.reading.office c.reading.invariant.read;
+      carries = may_carry _ _ c.in-Ok.read c.in-Some.entry c.in-Some.is c.in-Ok.ensures.advances;
+    }

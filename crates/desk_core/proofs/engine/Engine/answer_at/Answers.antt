@@ -1,6 +1,6 @@
-use Rattle.std.proofs.Common.{ℕ, inl, sym, subst}
+use Rattle.std.proofs.Common.{ℕ, inl, refl, sym, subst}
 use Rattle.office_types.specs.declared.command.Ask.{Ask}
-use Rattle.office_types.specs.declared.command.Ask.TheVariants.{Command, Query}
+use Rattle.office_types.specs.declared.command.Ask.TheVariants.{Command, Once, Query}
 use Rattle.desk_core.specs.Answering.{call_time, AnswersInTime}
 use Rattle.desk_core.proofs.engine.Engine.answer_at.Goals as goal
 
@@ -9,11 +9,24 @@ returns-in-Command-clause-answers g c before hold =
     let d = g.D.Disk in
     let keeps = subst
     (λ (t : ℕ). AnswersInTime d (call_time t c.args.told) (Command c.in-Command.command) hold.office.plain before c.args.self.now c.run_command.new.self c.run_command.result) c.in-Ok.ensures.ok.0
-    (c.run_command.ensures.keeps before hold) in
+    (c.run_command.ensures.keeps (Command c.in-Command.command) before hold refl) in
     inl (
       c.in-Ok.ensures.ok.1,
       subst (λ (q : Ask). AnswersInTime d (call_time c.args.moment c.args.told) q hold.office.plain before c.args.self.now c.run_command.new.self c.run_command.result)
           (sym c.in-Command.is) keeps,
+    )
+
+pub returns-in-Once-clause-answers : goal.returns-in-Once-clause-answers
+returns-in-Once-clause-answers g c before hold =
+    let d = g.D.Disk in
+    let once = Once c.in-Once.token c.in-Once.command in
+    let keeps = subst
+    (λ (t : ℕ). AnswersInTime d (call_time t c.args.told) once hold.office.plain before c.args.self.now c.run_once.new.self c.run_once.result) c.in-Ok.ensures.ok.0
+    (c.run_once.ensures.keeps before hold) in
+    inl (
+      c.in-Ok.ensures.ok.1,
+      subst (λ (q : Ask). AnswersInTime d (call_time c.args.moment c.args.told) q hold.office.plain before c.args.self.now c.run_once.new.self c.run_once.result)
+          (sym c.in-Once.is) keeps,
     )
 
 pub returns-in-Query-clause-answers : goal.returns-in-Query-clause-answers

@@ -18,7 +18,7 @@ returns-clause-asks g c =
     subst (λ (n : ℕ). AnswersAsk d n c.args.ask.now c.args.self.now c.answer_at.new.self c.answer_at.result) (sym last_is)
     (record {
       t = c.moment_for-moment.result;
-      at = subst (λ (s : P). c.moment_for-moment.result ≡ moment_after c.now-told.result s.office.last) c.self.view_is
+      at = subst (λ (s : P). c.moment_for-moment.result ≡ moment_after c.now-told.result s.office.records.last) c.self.view_is
           (c.moment_for-moment.ensures.same ∙ ap (λ (o : Option ℕ). moment_after c.now-told.result o) c.last.ensures.same);
       clock = c.now-told.new.self;
       answers = subst (λ (s : P). (before : List Entry) (hold : HoldsHistory d before (record s { clock = c.now-told.new.self }))
@@ -54,22 +54,22 @@ returns-clause-tells g c =
     let k = g.C.Clock in
     let P : Type 0 = DeskView g.row.D.Denot g.row.C.Denot in
     let last_is : k.last c.answer_at.new.self.clock ≡ c.now-told.result = ap k.last c.answer_at.ensures.clock ∙ c.now-told.ensures.last in
-    let at : c.moment_for-moment.result ≡ moment_after c.now-told.result c.args.self.now.office.last =
-    subst (λ (s : P). c.moment_for-moment.result ≡ moment_after c.now-told.result s.office.last) c.self.view_is
+    let at : c.moment_for-moment.result ≡ moment_after c.now-told.result c.args.self.now.office.records.last =
+    subst (λ (s : P). c.moment_for-moment.result ≡ moment_after c.now-told.result s.office.records.last) c.self.view_is
     (c.moment_for-moment.ensures.same ∙ ap (λ (o : Option ℕ). moment_after c.now-told.result o) c.last.ensures.same) in
     let now_is : c.moment_for-moment.result
-    ≡ moment_after (k.last c.answer_at.new.self.clock) c.args.self.now.office.last = at
-    ∙ ap (λ (n : ℕ). moment_after n c.args.self.now.office.last) (sym last_is) in
+    ≡ moment_after (k.last c.answer_at.new.self.clock) c.args.self.now.office.records.last = at
+    ∙ ap (λ (n : ℕ). moment_after n c.args.self.now.office.records.last) (sym last_is) in
     let once : k.count c.answer_at.new.self.clock ≡ min (k.count c.args.self.now.clock + 1) (2 ^ 64 - 1) =
     ap k.count c.answer_at.ensures.clock
     ∙ subst (λ (s : P). k.count c.now-told.new.self ≡ min (k.count s.clock + 1) (2 ^ 64 - 1)) c.self.view_is
     c.now-told.ensures.count in
-    let full = subst (λ (s : P). PassesLimit c.moment_for-moment.result s.gate s.limit c.args.ask.now
+    let full = subst (λ (s : P). PassesLimit c.moment_for-moment.result s c.args.ask.now
     → (c.answer_at.result ≡ Err JournalFull) ⊎ (c.answer_at.result ≡ Err NoMemory)) c.self.view_is
     c.answer_at.ensures.full in
     tells_by (returns-clause-asks g c) c.requires.ready
     k (laws_of g.met.D.Disk) refl once (subst (λ (t : ℕ).
-    PassesLimit t c.args.self.now.gate c.args.self.now.limit c.args.ask.now
+    PassesLimit t c.args.self.now c.args.ask.now
     → (c.answer_at.result ≡ Err JournalFull) ⊎ (c.answer_at.result ≡ Err NoMemory)) now_is full)
 
 pub returns-clause-sound : goal.returns-clause-sound

@@ -1,5 +1,8 @@
 use Rattle.std.proofs.Common.{◌∙◌, refl, subst, arith}
 use Rattle.disk_core.proofs.Laws.{laws_of}
+use Rattle.disk_core.proofs.Time.{then_untouched}
+use Rattle.disk_core.specs.Fronts.{Narrower}
+use Rattle.disk_core.specs.Moments.{KeepsTo}
 use Rattle.desk_core.specs.Submitting.{Reopens}
 use Rattle.desk_core.specs.Desk.{DeskView}
 use Rattle.desk_core.proofs.Offices.{none_after}
@@ -24,3 +27,10 @@ returns-clause-opens g c =
     (omega (arith, c.in-Ok.ensures.cause.later, c.replay.ensures.cause.later))
     (c.replay.ensures.cause.quiet none ∙ c.in-Ok.ensures.cause.quiet (λ is. absurd cc))))
     c.replay.ensures.read
+
+pub returns-clause-any_moment : goal.returns-clause-any_moment
+returns-clause-any_moment g c = λ tells.
+    let P : Type 0 = DeskView g.row.D.Denot g.row.C.Denot in
+    let d = g.D.Disk in
+    subst (λ (s : P). KeepsTo d s.disk c.replay.new.journal.disk (Narrower (d.state s.disk))) c.self.view_is
+    (then_untouched (c.in-Ok.ensures.any_moment tells) (c.replay.ensures.untouched tells))
