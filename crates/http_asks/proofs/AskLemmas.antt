@@ -41,6 +41,8 @@ tariff_told tariffs.NotToml told = refl
 tariff_told (tariffs.MissingClass table class) told = refl
 tariff_told (tariffs.BadPrice table class) told = refl
 tariff_told (tariffs.UnknownField name) told = refl
+tariff_told (tariffs.BadTiers class) told = refl
+tariff_told tariffs.BadFrom told = refl
 tariff_told tariffs.NoMemory told = absurd (told refl)
 
 -- ---- a fault is told as it is

@@ -1,5 +1,5 @@
 -- What a request means is no refusal of its framing.
-use Rattle.std.proofs.Common.{◌≡◌, ℕ, Bool, true, false, List, refl, ap, ◌∙◌, Option, Some, None, Result, Ok, Err, inl, inr}
+use Rattle.std.proofs.Common.{◌≡◌, ℕ, Bool, true, false, List, [], ◌∷◌, refl, ap, ◌∙◌, Option, Some, None, Result, Ok, Err, inl, inr}
 use Rattle.std.specs.Prelude.{if◌then◌else◌}
 use Rattle.office_base.specs.Keys.{is_key}
 use Rattle.office_base.specs.Names.{is_bucket_name}
@@ -17,10 +17,14 @@ use Rattle.http_bodies.specs.Settings.{versioning_of, tagging_of}
 use Rattle.http_routes.specs.Spelled.{key_of}
 use Rattle.http_routes.specs.Targets.{Resource}
 use Rattle.http_routes.specs.Targets as targets
+use Rattle.httparse.specs.Grammar.{Field, field_value}
+use Rattle.office_types.specs.Tokens.{is_token, takes_token}
+use Rattle.office_types.specs.declared.command.Ask.TheVariants as ask
+use Rattle.office_types.specs.declared.command.Command.{Command}
 use Rattle.http_wire.specs.declared.framing.FramingRefusal.{FramingRefusal}
 use Rattle.http_asks.specs.declared.method.Method.{Method}
 use Rattle.http_asks.specs.declared.method.Method.TheVariants as methods
-use Rattle.http_asks.specs.Meaning.{Refused, in_framing, no_such_version, no_such_upload, bad_part, Meant, refuses, method_of, Means, meant_of}
+use Rattle.http_asks.specs.Meaning.{Refused, in_framing, no_such_version, no_such_upload, bad_part, Meant, asks, refuses, method_of, Means, MeansWith, with_fields, with_value, meant_of}
 use Rattle.http_asks.specs.Meaning.{by_part, by_body, by_rules, by_tariff, bucket_meant, versioning_meant, lifecycle_meant, object_meant, version_meant, tags_meant}
 use Rattle.http_asks.specs.Meaning.{uploads_meant, upload_meant, part_meant, act_meant, due_meant, meters_meant, tariff_meant, close_meant, report_meant}
 use Rattle.http_asks.specs.Numbers.{number_in, version_in, part_in}
@@ -84,6 +88,25 @@ meant_none (targets.close month) methods.Post body = if_none (is_month month) _ 
 meant_none (targets.report month) methods.Get body = if_none (is_month month) _ _ refl refl
 meant_none resource method body = refl
 
-pub never_framing : (target method body : List ℕ) (bad : FramingRefusal) → Means target method body (refuses (in_framing bad)) → ⊥
-never_framing target method body bad (inl (resource, has, is)) = absurd (let e = ap is_framing is ∙ meant_none resource (method_of method) body in cc)
-never_framing target method body bad (inr (none, is)) = absurd (let e = ap is_framing is in cc)
+means_none : (target method body : List ℕ) (meant : Meant) → Means target method body meant → is_framing meant ≡ false
+means_none target method body meant (inl (resource, has, is)) = ap is_framing is ∙ meant_none resource (method_of method) body
+means_none target method body meant (inr (none, is)) = ap is_framing is
+
+-- ---- with the fields that carry a token
+
+value_none : (value : List ℕ) (asked : Command) → is_framing (with_value value asked) ≡ false
+value_none value asked = if_none (is_token value) _ _ (if_none (takes_token asked) _ _ refl refl) refl
+
+fields_none : (fields : List Field) (meant : Meant) → is_framing meant ≡ false → is_framing (with_fields fields meant) ≡ false
+fields_none [] meant is = is
+fields_none (field ∷ []) (asks (ask.Command asked)) is = value_none (field_value field) asked
+fields_none (field ∷ []) (asks (ask.Once token asked)) is = is
+fields_none (field ∷ []) (asks (ask.Query query)) is = is
+fields_none (field ∷ []) (refuses broken) is = is
+fields_none (field ∷ other ∷ fields) (asks (ask.Command asked)) is = refl
+fields_none (field ∷ other ∷ fields) (asks (ask.Once token asked)) is = is
+fields_none (field ∷ other ∷ fields) (asks (ask.Query query)) is = is
+fields_none (field ∷ other ∷ fields) (refuses broken) is = is
+
+pub never_framing : (fields : List Field) (target method body : List ℕ) (bad : FramingRefusal) → MeansWith fields target method body (refuses (in_framing bad)) → ⊥
+never_framing fields target method body bad (bare, means, is) = absurd (let e = ap is_framing is ∙ fields_none fields bare (means_none target method body bare means) in cc)

@@ -9,8 +9,8 @@ use Rattle.http_routes.specs.Targets.{Resource}
 use Rattle.http_routes.proofs.Leads.{one_route}
 use Rattle.http_wire.specs.Answers.{Gave, HasRequest, Refuses, AwaitsLongBody, OnRequest, OnRefused}
 use Rattle.http_wire.specs.Held.{Held, take_limit}
-use Rattle.http_wire.specs.Messages.{Framed, Request, request, refused, Stands, IsCutShort, IsUnsettled, Messages, ends_session, after_length, after_coding, fields_named, body_length}
-use Rattle.http_wire.specs.Parts.{MessageParts, body_of}
+use Rattle.http_wire.specs.Messages.{Framed, Request, request, refused, Stands, IsCutShort, IsUnsettled, Messages, ends_session, after_length, after_coding, fields_named, token_fields, body_length}
+use Rattle.http_wire.specs.Parts.{MessageParts, IsFound, body_of}
 use Rattle.http_wire.specs.declared.framing.FramingRefusal.{FramingRefusal}
 use Rattle.http_wire.specs.declared.framing.FramingRefusal.TheVariants.{BadHead, BodyTooLarge, ChunkedBody, HeadTooLarge, CutShort}
 use Rattle.http_wire.specs.declared.message.Next.{Next}
@@ -21,7 +21,7 @@ use Rattle.http_wire.proofs.Unique.{stands_unique, stands_rest, stands_more, not
 use Rattle.http_asks.specs.Counts.{AreEnough}
 use Rattle.http_asks.specs.Faults.{refused_of}
 use Rattle.http_asks.specs.Hearing.{IsHeard}
-use Rattle.http_asks.specs.Meaning.{Refused, in_framing, Meant, asks, refuses, method_of, meant_of, Means, IsMeant}
+use Rattle.http_asks.specs.Meaning.{Refused, in_framing, Meant, asks, refuses, method_of, meant_of, Means, MeansWith, with_fields, IsMeant}
 use Rattle.http_asks.specs.Streams.{IsMeantBy, IsFirst, IsItem, StandsItem, BeginWith, WantsMemory}
 use Rattle.http_asks.specs.Tells.{TellsHeard, TellsRefused}
 use Rattle.http_asks.proofs.FramingLemmas.{never_framing}
@@ -38,7 +38,8 @@ means_same target method body x y (inr (none, is)) (inl (other, also, same)) = a
 means_same target method body x y (inr (none, is)) (inr (other, same)) = is ∙ sym same
 
 pub means_one : (r : Request) (x y : Meant) → IsMeant r x → IsMeant r y → x ≡ y
-means_one r x y is same = means_same r.head.target r.head.method r.body x y is same
+means_one r x y (bare, means, is) (other, also, same) =
+    is ∙ ap (with_fields (token_fields r.head)) (means_same r.head.target r.head.method r.body bare other means also) ∙ sym same
 
 meant_by_one : (f : Framed) (x y : Meant) → IsMeantBy f x → IsMeantBy f y → x ≡ y
 meant_by_one (request r) x y is same = means_one r x y is same
@@ -121,14 +122,17 @@ some_and (Some broken) f is = f broken is
 
 -- its parts are the message's
 meant_parts : (bytes : List ℕ) (held : Held) (m : MessageParts) (answers : HasRequest bytes held m) (meant : Meant)
-    → Means (span_bytes held.bytes m.head.path) (span_bytes held.bytes m.head.method) (body_of m held.bytes) meant → IsMeant answers.found meant
-meant_parts bytes held m a meant means =
-    subst (λ (t : List ℕ). Means a.found.head.target a.found.head.method t meant) a.body
-    (subst (λ (t : List ℕ). Means a.found.head.target t (body_of m held.bytes) meant) a.head.method
-    (subst (λ (t : List ℕ). Means t (span_bytes held.bytes m.head.method) (body_of m held.bytes) meant) a.head.path means))
+    → MeansWith (token_fields answers.found.head) (span_bytes held.bytes m.head.path) (span_bytes held.bytes m.head.method) (body_of m held.bytes) meant → IsMeant answers.found meant
+meant_parts bytes held m a meant (bare, means, is) = (
+  bare,
+  subst (λ (t : List ℕ). Means a.found.head.target a.found.head.method t bare) a.body
+      (subst (λ (t : List ℕ). Means a.found.head.target t (body_of m held.bytes) bare) a.head.method
+      (subst (λ (t : List ℕ). Means t (span_bytes held.bytes m.head.method) (body_of m held.bytes) bare) a.head.path means)),
+  is,
+)
 
-item_stands : (bytes more after : List ℕ) (held : Held) (m : MessageParts) (meant : Meant) (last : Bool) → HasRequest bytes held m → after ≡ drop m.used held.bytes
-    → Means (span_bytes held.bytes m.head.path) (span_bytes held.bytes m.head.method) (body_of m held.bytes) meant
+item_stands : (bytes more after : List ℕ) (held : Held) (m : MessageParts) (meant : Meant) (last : Bool) → (a : HasRequest bytes held m) → after ≡ drop m.used held.bytes
+    → MeansWith (token_fields a.found.head) (span_bytes held.bytes m.head.path) (span_bytes held.bytes m.head.method) (body_of m held.bytes) meant
     → last ≡ m.last → IsItem (bytes ++ more) meant last (after ++ more)
 item_stands bytes more after held m meant last a rest means ends = record {
   found = request a.found;
@@ -138,15 +142,15 @@ item_stands bytes more after held m meant last a rest means ends = record {
   ends = ends ∙ a.last;
 }
 
-refused_told : (bytes more after : List ℕ) (held : Held) (m : MessageParts) (broken : Refused) (last : Bool) → HasRequest bytes held m → after ≡ drop m.used held.bytes
-    → Means (span_bytes held.bytes m.head.path) (span_bytes held.bytes m.head.method) (body_of m held.bytes) (refuses broken)
+refused_told : (bytes more after : List ℕ) (held : Held) (m : MessageParts) (broken : Refused) (last : Bool) → (a : HasRequest bytes held m) → after ≡ drop m.used held.bytes
+    → MeansWith (token_fields a.found.head) (span_bytes held.bytes m.head.path) (span_bytes held.bytes m.head.method) (body_of m held.bytes) (refuses broken)
     → last ≡ m.last → TellsRefused (Some (bytes ++ more)) broken last (Some (after ++ more))
 refused_told bytes more after held m (in_framing bad) last a rest means ends =
-    absurd (never_framing (span_bytes held.bytes m.head.path) (span_bytes held.bytes m.head.method) (body_of m held.bytes) bad means)
+    absurd (never_framing (token_fields a.found.head) (span_bytes held.bytes m.head.path) (span_bytes held.bytes m.head.method) (body_of m held.bytes) bad means)
 refused_told bytes more after held m broken last a rest means ends = item_stands bytes more after held m (refuses broken) last a rest means ends
 
-request_told : (bytes more after : List ℕ) (held : Held) (m : MessageParts) (heard : Heard) → HasRequest bytes held m → after ≡ drop m.used held.bytes
-    → IsHeard (Means (span_bytes held.bytes m.head.path) (span_bytes held.bytes m.head.method) (body_of m held.bytes)) m.last heard
+request_told : (bytes more after : List ℕ) (held : Held) (m : MessageParts) (heard : Heard) → (a : HasRequest bytes held m) → after ≡ drop m.used held.bytes
+    → IsHeard (MeansWith (token_fields a.found.head) (span_bytes held.bytes m.head.path) (span_bytes held.bytes m.head.method) (body_of m held.bytes)) m.last heard
     → TellsHeard (Some (bytes ++ more)) heard (Some (after ++ more))
 request_told bytes more after held m (heards.Asked ask last) a rest is = item_stands bytes more after held m (asks ask) last a rest is.0 is.1
 request_told bytes more after held m (heards.Bad bad last) a rest is =
@@ -169,14 +173,17 @@ tells_none (heards.Bad bad ends) Means last after never is = some_and (refused_o
 tells_none heards.End Means last after never is = tt
 
 pub heard_told : (a b c : Held) (la lb : Option (List ℕ)) (m : MessageParts) (heard : Heard) → Gave a b la lb (λ (bytes : List ℕ). HasRequest bytes b m) → c.bytes ≡ drop m.used b.bytes
-    → IsHeard (Means (span_bytes b.bytes m.head.path) (span_bytes b.bytes m.head.method) (body_of m b.bytes)) m.last heard
+    → ((fields : List Field) → IsFound b.bytes m.token fields
+    → IsHeard (MeansWith fields (span_bytes b.bytes m.head.path) (span_bytes b.bytes m.head.method) (body_of m b.bytes)) m.last heard)
     → TellsHeard (prepend_known a.bytes la) heard (prepend_known c.bytes lb)
-heard_told a b c None lb m heard gave rest is = tells_none heard (Means (span_bytes b.bytes m.head.path) (span_bytes b.bytes m.head.method) (body_of m b.bytes)) m.last (prepend_known c.bytes lb)
-    (never_framing (span_bytes b.bytes m.head.path) (span_bytes b.bytes m.head.method) (body_of m b.bytes)) is
+heard_told a b c None lb m heard gave rest is =
+    let fields = token_fields gave.so.found.head in
+    tells_none heard (MeansWith fields (span_bytes b.bytes m.head.path) (span_bytes b.bytes m.head.method) (body_of m b.bytes)) m.last (prepend_known c.bytes lb)
+    (never_framing fields (span_bytes b.bytes m.head.path) (span_bytes b.bytes m.head.method) (body_of m b.bytes)) (is fields gave.so.token)
 heard_told a b c (Some xs) None m heard gave rest is = absurd gave.left
 heard_told a b c (Some xs) (Some ys) m heard gave rest is =
     subst (λ (t : List ℕ). TellsHeard (Some t) heard (Some (c.bytes ++ ys))) (sym (whole_stream a.bytes xs ys gave.given gave.left))
-    (request_told (a.bytes ++ gave.given) ys c.bytes b m heard gave.so rest is)
+    (request_told (a.bytes ++ gave.given) ys c.bytes b m heard gave.so rest (is (token_fields gave.so.found.head) gave.so.token))
 
 -- ---- what the framing refuses
 

@@ -4,3 +4,4 @@ pub mod FramingLemmas
 pub mod HeardLemmas
 pub mod NumberLemmas
 mod Rules
+mod TokenExamples

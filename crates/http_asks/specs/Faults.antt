@@ -7,11 +7,14 @@ use Rattle.office_types.specs.declared.command.Ask.{Ask}
 use Rattle.tariff.specs.Faults.{TariffFlaw, tariff_flaw_of}
 use Rattle.tariff.specs.Prices.{Prices}
 use Rattle.http_bodies.specs.Flaws.{BodyFlaw, body_flaw_of}
-use Rattle.http_asks.specs.Meaning.{Refused, in_framing, no_route, bad_method, not_a_month, bad_bucket_name, bad_key, no_such_version, no_such_upload}
-use Rattle.http_asks.specs.Meaning.{bad_part, in_body, in_rules, in_tariff, Meant, asks, refuses}
+use Rattle.http_asks.specs.Meaning.{Refused, in_framing, no_route, bad_method, not_a_month, bad_bucket_name, bad_key}
+use Rattle.http_asks.specs.Meaning.{no_such_version, no_such_upload}
+use Rattle.http_asks.specs.Meaning.{bad_part, in_body, in_rules, in_tariff, bad_token, token_not_served, Meant, asks}
+use Rattle.http_asks.specs.Meaning.{refuses}
 use Rattle.http_asks.specs.declared.bad.Bad.{Bad}
 use Rattle.http_asks.specs.declared.bad.Bad.TheVariants.{NotAMonth, BadBucketName, BadKey, NoSuchVersion, NoSuchUpload}
 use Rattle.http_asks.specs.declared.bad.Bad.TheVariants.{BadPart, Body, Rules, Tariff, Framing, NoRoute, BadMethod}
+use Rattle.http_asks.specs.declared.bad.Bad.TheVariants.{BadToken, TokenNotServed}
 use Rattle.http_asks.specs.declared.bad.Fault.{Fault}
 use Rattle.http_asks.specs.declared.bad.Fault.TheVariants as faults
 
@@ -29,6 +32,8 @@ refused_of BadPart = Some bad_part
 refused_of (Body fault) = option_map in_body (body_flaw_of fault)
 refused_of (Rules fault) = option_map in_rules (told_fault fault)
 refused_of (Tariff fault) = option_map in_tariff (tariff_flaw_of fault)
+refused_of BadToken = Some bad_token
+refused_of TokenNotServed = Some token_not_served
 
 -- P of what is told of the rule that was broken, where memory did not run out
 abbrev pub OnBroken : Fault → (Option Refused → Type 0) → Type 0

@@ -1,6 +1,6 @@
--- What a request means, by its target, its method and its body. Methods are compared as they stand (RFC 9110,
--- "Methods").
-use Rattle.std.specs.Prelude.{◌≡◌, ◌⊎◌, ℕ, List, codes, bytes_eq, if◌then◌else◌}
+-- What a request means, by its target, its method, its body and the token that it carries. Methods are compared as they
+-- stand (RFC 9110, "Methods").
+use Rattle.std.specs.Prelude.{◌≡◌, ◌⊎◌, ℕ, List, [], ◌∷◌, codes, bytes_eq, if◌then◌else◌}
 use Rattle.std.specs.Prelude.{Option, Some, None, Result, Ok, Err}
 use Rattle.office_base.specs.Keys.{is_key}
 use Rattle.office_base.specs.Names.{is_bucket_name}
@@ -14,11 +14,15 @@ use Rattle.tariff.specs.Faults.{TariffFlaw}
 use Rattle.tariff.specs.Prices.{Prices}
 use Rattle.tariff.specs.Reading.{tariff_of}
 use Rattle.office_types.specs.declared.command.Ask.{Ask}
-use Rattle.office_types.specs.declared.command.Ask.TheVariants.{Command, Query}
+use Rattle.office_types.specs.declared.command.Ask.TheVariants.{Command, Once, Query}
+use Rattle.office_types.specs.declared.command.Command as command
+use Rattle.office_types.specs.Tokens.{is_token, takes_token}
 use Rattle.office_types.specs.declared.command.Command.TheVariants.{CreateBucket, SetVersioning, SetRules, DropRules}
 use Rattle.office_types.specs.declared.command.Command.TheVariants.{Put, Delete, DeleteVersion, SetTags}
-use Rattle.office_types.specs.declared.command.Command.TheVariants.{StartUpload, PutPart, Complete, Abort, Act, SetTariff, Close}
-use Rattle.office_types.specs.declared.command.Query.TheVariants.{Bucket, Rules, Stack, Upload, Due, Meters, Tariff, Report}
+use Rattle.office_types.specs.declared.command.Command.TheVariants.{StartUpload, PutPart, Complete, Abort, Act}
+use Rattle.office_types.specs.declared.command.Command.TheVariants.{SetTariff, Close}
+use Rattle.office_types.specs.declared.command.Query.TheVariants.{Bucket, Rules, Stack, Upload, Due, Meters, Tariff}
+use Rattle.office_types.specs.declared.command.Query.TheVariants.{Report}
 use Rattle.http_bodies.specs.Flaws.{BodyFlaw}
 use Rattle.http_bodies.specs.Multipart.{upload_said, part_of}
 use Rattle.http_bodies.specs.Puts.{put_of}
@@ -26,7 +30,8 @@ use Rattle.http_bodies.specs.Settings.{versioning_of, tagging_of}
 use Rattle.http_routes.specs.Spelled.{key_of}
 use Rattle.http_routes.specs.Targets.{Resource, HasRoute}
 use Rattle.http_routes.specs.Targets as targets
-use Rattle.http_wire.specs.Messages.{Request}
+use Rattle.httparse.specs.Grammar.{Field, field_value}
+use Rattle.http_wire.specs.Messages.{Request, token_fields}
 use Rattle.http_wire.specs.declared.framing.FramingRefusal.{FramingRefusal}
 use Rattle.http_asks.specs.declared.method.Method.{Method}
 use Rattle.http_asks.specs.declared.method.Method.TheVariants as methods
@@ -34,7 +39,7 @@ use Rattle.http_asks.specs.Numbers.{number_in, version_in, part_in}
 
 -- the rule that a request breaks: of what names a part of its path, or of what a body, a lifecycle configuration or a
 -- tariff says; in_framing: of how a message is framed; no_route: the target leads nowhere (own); bad_method: what it
--- leads to does not serve the method (own)
+-- leads to does not serve the method (own); bad_token, token_not_served: of the token that it carries
 pub data Refused : Type 0 where
   in_framing : FramingRefusal → Refused
   no_route : Refused
@@ -48,6 +53,8 @@ pub data Refused : Type 0 where
   in_body : BodyFlaw → Refused
   in_rules : RulesFault → Refused
   in_tariff : TariffFlaw → Refused
+  bad_token : Refused
+  token_not_served : Refused
 
 -- what a request means: an ask of the office, or a refusal
 pub data Meant : Type 0 where
@@ -278,9 +285,32 @@ Means target method body meant =
     ((resource : Resource) × HasRoute target resource × (meant ≡ meant_of resource (method_of method) body))
     ⊎ (((resource : Resource) → ¬ (HasRoute target resource)) × (meant ≡ refuses no_route))
 
+-- ---- the token
+
+-- a command with a token is asked once, where it may carry one
+abbrev pub with_token : List ℕ → command.Command → Meant
+with_token token asked = if takes_token asked then asks (Once token asked) else refuses token_not_served
+
+-- a command with the value of such a field
+abbrev pub with_value : List ℕ → command.Command → Meant
+with_value value asked = if is_token value then with_token value asked else refuses bad_token
+
+-- what a request with such fields means: two are refused with a command, and for a query, as where something else is
+-- refused, they are passed over (own)
+abbrev pub with_fields : List Field → Meant → Meant
+with_fields [] meant = meant
+with_fields (field ∷ []) (asks (Command asked)) = with_value (field_value field) asked
+with_fields (field ∷ other ∷ fields) (asks (Command asked)) = refuses bad_token
+with_fields fields meant = meant
+
+-- a request with these fields that carry a token, and with this target, method and body means this
+abbrev pub MeansWith : List Field → List ℕ → List ℕ → List ℕ → Meant → Type 0
+MeansWith fields target method body meant =
+    (bare : Meant) × Means target method body bare × (meant ≡ with_fields fields bare)
+
 -- the same of a request that stands in a stream
 abbrev pub IsMeant : Request → Meant → Type 0
-IsMeant r meant = Means r.head.target r.head.method r.body meant
+IsMeant r meant = MeansWith (token_fields r.head) r.head.target r.head.method r.body meant
 
 -- ---- laws
 

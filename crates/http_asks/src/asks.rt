@@ -1,15 +1,20 @@
 // What a request asks.
+ghost use Rattle.std.specs.Prelude.{List, length};
+ghost use Rattle.httparse.specs.Grammar.{Field};
 ghost use Rattle.http_routes.specs.Targets.{resource_of};
+ghost use Rattle.http_wire.specs.Parts.{IsFound, LiesIn};
 ghost use Rattle.http_asks.specs.Faults.{IsMeaning, OnMeant};
-ghost use Rattle.http_asks.specs.Meaning.{Means, meant_of};
+ghost use Rattle.http_asks.specs.Meaning.{Means, MeansWith, meant_of};
 
 use crate::bad::{Bad, Fault};
 use crate::bucket_asks::{act_ask, bucket_ask, due_ask, lifecycle_ask, meters_ask, versioning_ask};
 use crate::method::Method;
 use crate::month_asks::{close_ask, report_ask, tariff_ask};
 use crate::object_asks::{object_ask, tags_ask, version_ask};
+use crate::token_asks::ask_with;
 use crate::upload_asks::{part_ask, upload_ask, uploads_ask};
 use http_routes::{Route, Routes};
+use http_wire::Found;
 use office_types::Ask;
 use std::alloc::Global;
 
@@ -36,8 +41,8 @@ fn route_ask(alloc: Global, route: Route<'_>, method: Method, body: &[u8]) -> Re
     }
 }
 
-/// Reads what a request asks by its target, its method and its body.
-pub(crate) fn ask_of(
+// What a request asks by its target, its method and its body.
+fn ask_of(
     alloc: Global,
     routes: &Routes,
     target: &[u8],
@@ -50,4 +55,23 @@ pub(crate) fn ask_of(
         Some(route) => route_ask(alloc, route, Method::read(method), body),
         None => Err(Fault::Bad(Bad::NoRoute)),
     }
+}
+
+/// Reads what a request asks by its target, its method and its body, with the fields Office-Token of its head that were
+/// found in some bytes.
+pub(crate) fn whole_ask(
+    alloc: Global,
+    routes: &Routes,
+    target: &[u8],
+    method: &[u8],
+    body: &[u8],
+    bytes: &[u8],
+    found: Found,
+) -> Result<Ask, Fault>
+    requires lies { LiesIn (length bytes.now) found }
+    ensures { (fields : List Field) → IsFound bytes.now found fields
+        → OnMeant result (MeansWith fields target.now method.now body.now) }
+{
+    let ask = ask_of(alloc, routes, target, method, body)?;
+    ask_with(alloc, bytes, found, ask)
 }

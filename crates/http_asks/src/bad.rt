@@ -38,6 +38,10 @@ pub enum Bad {
     Rules(RulesFault),
     /// The body breaks a rule of tariffs.
     Tariff(TariffFault),
+    /// A command has two fields Office-Token, or one whose value is no token.
+    BadToken,
+    /// A command that may not carry a token has one.
+    TokenNotServed,
 }
 
 /// Why a request was not read as an ask.

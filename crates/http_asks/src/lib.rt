@@ -10,6 +10,7 @@ mod month_asks;
 mod object_asks;
 mod parts;
 mod reader;
+mod token_asks;
 mod upload_asks;
 
 pub use bad::Bad;

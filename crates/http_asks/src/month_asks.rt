@@ -8,13 +8,17 @@ use crate::method::Method;
 use crate::parts::month_of;
 use office_types::{Ask, Command, Query};
 use std::alloc::Global;
+use tariff::BoxedTariff;
 
 // The ask of a PUT of a tariff.
 fn set_tariff_ask(alloc: Global, body: &[u8]) -> Result<Ask, Fault>
     ensures { IsMeaning result (set_tariff_meant body.now) }
 {
     let tariff = tariff_body(alloc, body)?;
-    Ok(Ask::Command(Command::SetTariff { tariff }))
+    match BoxedTariff::new(alloc, tariff) {
+        Ok(tariff) => Ok(Ask::Command(Command::SetTariff { tariff })),
+        Err(_) => Err(Fault::NoMemory),
+    }
 }
 
 #[tactic(auto, unfolding(crate::specs::Meaning::tariff_meant))]

@@ -1,19 +1,20 @@
 // The reader of the messages of a stream.
-ghost use Rattle.std.specs.Prelude.{◌≡◌, ◌≤◌, ◌<◌, ◌+◌, length, [], IfOk, IsErrOf, Ok};
+ghost use Rattle.std.specs.Prelude.{◌≡◌, ◌≤◌, ◌<◌, ◌+◌, List, length, [], IfOk, IsErrOf, Ok};
 ghost use Rattle.std.specs.Io.KnownBytes.{IsAtEnd, prepend_known};
+ghost use Rattle.httparse.specs.Grammar.{Field};
 ghost use Rattle.httparse.specs.Spans.{IsRequestWithin, span_bytes};
 ghost use Rattle.http_wire.specs.Answers.{Gave, TakesFew};
 ghost use Rattle.http_wire.specs.Held.{head_room, take_limit};
 ghost use Rattle.http_wire.specs.Messages.{IsUnsettled};
 ghost use Rattle.http_wire.specs.Sources.{OnlyReads};
 ghost use Rattle.http_asks.specs.Counts.{Given, AreEnough};
-ghost use Rattle.http_wire.specs.Parts.{body_of};
+ghost use Rattle.http_wire.specs.Parts.{body_of, IsFound};
 ghost use Rattle.http_asks.specs.Hearing.{IsHeard};
-ghost use Rattle.http_asks.specs.Meaning.{Means, MeansOneThing};
+ghost use Rattle.http_asks.specs.Meaning.{MeansWith, MeansOneThing};
 ghost use Rattle.http_asks.specs.Streams.{WantsMemory, HasOneItem, ItemsAreMessages};
 ghost use Rattle.http_asks.specs.Tells.{TellsHeard, OnFramed};
 
-use crate::asks::ask_of;
+use crate::asks::whole_ask;
 use crate::bad::{Bad, Fault};
 use http_routes::Routes;
 use http_wire::{Buffer, Message, MessageStop, Next, Source, read_message};
@@ -78,18 +79,21 @@ impl Reader {
         requires held { message.now.used ≤ length self.now.bytes }
         requires within { IsRequestWithin self.now.bytes self.now.spans message.now.head }
         ensures short { length self.now.bytes ≤ head_room }
-        ensures heard { IfOk result (IsHeard (Means (span_bytes self.now.bytes message.now.head.path)
+        ensures heard { (fields : List Field) → IsFound self.now.bytes message.now.token fields
+            → IfOk result (IsHeard (MeansWith fields (span_bytes self.now.bytes message.now.head.path)
             (span_bytes self.now.bytes message.now.head.method) (body_of message.now self.now.bytes))
             message.now.last) }
     {
         let head = message.head();
         let bytes = self.buffer.held();
-        let read = ask_of(
+        let read = whole_ask(
             alloc,
             &self.routes,
             head.path.of(bytes),
             head.method.of(bytes),
             message.body(&self.buffer),
+            bytes,
+            message.token(),
         );
         match read {
             Ok(ask) => Ok(Heard::Asked {

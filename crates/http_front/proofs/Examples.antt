@@ -6,11 +6,13 @@ use Rattle.serde_json.proofs.OnLiterals.{serde_json_on_literals}
 use Rattle.office_types.specs.declared.command.Ask.{Ask}
 use Rattle.desk_core.specs.Answers.{Answer, Call}
 use Rattle.desk_core.specs.declared.fault.DeskFault.TheVariants.{StoreFault, JournalFull}
+use Rattle.class_rules.specs.declared.class.Class.TheVariants.{Standard}
+use Rattle.tariff.specs.Faults as tariffs
 use Rattle.http_bodies.specs.Flaws.{bad_size}
 use Rattle.http_wire.specs.declared.framing.FramingRefusal.TheVariants.{BadHead, BodyTooLarge, ChunkedBody, HeadTooLarge, CutShort}
-use Rattle.http_asks.specs.Meaning.{not_a_month, bad_key, in_body, in_framing, no_route, bad_method}
+use Rattle.http_asks.specs.Meaning.{not_a_month, bad_key, in_body, in_tariff, in_framing, no_route, bad_method, bad_token, token_not_served}
 use Rattle.http_front.specs.Exchanges.{answered, refused, calls_of, moments_of, ends_unframed}
-use Rattle.http_front.specs.Texts.{named_text, field_text, rule_text, damaged_text, refused_status, fault_status, bad_text, error_reply}
+use Rattle.http_front.specs.Texts.{named_text, field_text, rule_text, damaged_text, class_text, refused_body, refused_status, fault_status, bad_text, error_reply}
 use Rattle.http_front.proofs.PrintLemmas.{two_digits, three_digits}
 
 field_told : field_text (codes "BadBody") 123 (codes "size") ≡ codes "{\"error\":\"BadBody\",\"field\":\"size\",\"number\":123}"
@@ -69,9 +71,36 @@ large_head = refl
 cut_message : bad_text (in_framing CutShort) ≡ error_reply 400 (codes "CutShort") 127
 cut_message = refl
 
+-- ---- what is told of a token, and of the tiers and the first month of a tariff
+
+wrong_token : bad_text bad_token ≡ error_reply 400 (codes "BadToken") 128
+wrong_token = refl
+
+unserved_token : bad_text token_not_served ≡ error_reply 400 (codes "TokenNotServed") 129
+unserved_token = refl
+
+wrong_tiers : class_text (codes "BadTiers") 74 Standard ≡ codes "{\"class\":\"STANDARD\",\"error\":\"BadTiers\",\"number\":74}"
+unfolding serde_json_on_literals class_text escape_byte
+wrong_tiers =
+    ap (λ (digits : List ℕ). codes "{\"class\":\"STANDARD\",\"error\":\"BadTiers\",\"number\":" ++ (digits ++ codes "}"))
+    (two_digits 7 4 (omega arith) (omega arith) (omega arith) 74 (omega arith))
+
+tiers_told : refused_body (in_tariff (tariffs.bad_tiers Standard)) ≡ class_text (codes "BadTiers") 74 Standard
+tiers_told = refl
+
+wrong_first_month : bad_text (in_tariff tariffs.bad_from) ≡ error_reply 400 (codes "BadFrom") 75
+wrong_first_month = refl
+
+tiers_are_bad_request : refused_status (in_tariff (tariffs.bad_tiers Standard)) ≡ 400
+tiers_are_bad_request = refl
+
 -- such a message ends the exchanges that it is the last of
 framing_ends : (call : Call) → ends_unframed (answered call ∷ refused (in_framing CutShort) ∷ []) ≡ true
 framing_ends call = refl
+
+-- a refused token is not the last of its session
+token_does_not : (call : Call) → ends_unframed (answered call ∷ refused bad_token ∷ []) ≡ false
+token_does_not call = refl
 
 others_do_not : (call : Call) → ends_unframed (answered call ∷ refused no_route ∷ []) ≡ false
 others_do_not call = refl

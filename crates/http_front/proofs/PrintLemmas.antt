@@ -19,7 +19,7 @@ use Rattle.class_rules.specs.Classes.{class_name}
 use Rattle.class_rules.specs.declared.class.Class.{Class}
 use Rattle.tariff.specs.Reading.{table_name}
 use Rattle.tariff.specs.declared.fault.TariffTable.{TariffTable}
-use Rattle.http_front.specs.Texts.{error_reply, no_memory_text, named_text, field_text, rule_text, price_text, damaged_text, open_status, fault_status}
+use Rattle.http_front.specs.Texts.{error_reply, no_memory_text, named_text, field_text, rule_text, class_text, price_text, damaged_text, open_status, fault_status}
 
 -- ---- numbers
 
@@ -99,6 +99,12 @@ pub rule_is : (error : List ℕ) (number rule : ℕ)
     → codes "{\"error\":" ++ (quoted error ++ (codes ",\"number\":" ++ (decimal number ++ (codes ",\"rule\":" ++ (decimal rule ++ codes "}"))))) ≡ rule_text error number rule
 unfolding serde_json_on_literals rule_text
 rule_is error number rule = refl
+
+pub class_is : (error : List ℕ) (number : ℕ) (class : Class)
+    → codes "{\"class\":" ++ (quoted (class_name class) ++ (codes ",\"error\":" ++ (quoted error ++ (codes ",\"number\":" ++ (decimal number ++ codes "}")))))
+    ≡ class_text error number class
+unfolding serde_json_on_literals class_text
+class_is error number class = refl
 
 pub price_is : (error : List ℕ) (number : ℕ) (table : TariffTable) (class : Class)
     → codes "{\"class\":"

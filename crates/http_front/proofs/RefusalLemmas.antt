@@ -42,6 +42,8 @@ tariff_status tariffs.NotToml told = refl
 tariff_status (tariffs.MissingClass table class) told = refl
 tariff_status (tariffs.BadPrice table class) told = refl
 tariff_status (tariffs.UnknownField name) told = refl
+tariff_status (tariffs.BadTiers class) told = refl
+tariff_status tariffs.BadFrom told = refl
 tariff_status tariffs.NoMemory told = absurd (told refl)
 
 pub ruleset bad_requests = (body_status, rules_status, tariff_status)

@@ -18,6 +18,7 @@ use Rattle.http_text.specs.Replies.{whole_data, error_data, error_text, reply_wi
 use Rattle.http_asks.specs.Faults.{refused_of}
 use Rattle.http_asks.specs.Meaning.{Refused, not_a_month, bad_bucket_name, bad_key, no_such_version, no_such_upload}
 use Rattle.http_asks.specs.Meaning.{bad_part, in_body, in_rules, in_tariff, in_framing, no_route, bad_method}
+use Rattle.http_asks.specs.Meaning.{bad_token, token_not_served}
 use Rattle.http_wire.specs.declared.framing.FramingRefusal.{FramingRefusal}
 use Rattle.http_wire.specs.declared.framing.FramingRefusal.TheVariants as framings
 use Rattle.meter_journal.specs.declared.fault.OpenFault.{OpenFault}
@@ -50,6 +51,11 @@ field_text error number field = compact_text (error_data error number ((codes "f
 -- the body of a refusal that tells the place of a rule
 unfoldable pub rule_text : List ℕ → ℕ → ℕ → List ℕ
 rule_text error number rule = compact_text (error_data error number ((codes "rule", whole_data rule) ∷ []))
+
+-- the body of a refusal that tells a class
+unfoldable pub class_text : List ℕ → ℕ → Class → List ℕ
+class_text error number class =
+    compact_text (error_data error number ((codes "class", string (class_name class)) ∷ []))
 
 -- the body of a refusal that tells a class and the table of a tariff
 unfoldable pub price_text : List ℕ → ℕ → TariffTable → Class → List ℕ
@@ -117,6 +123,8 @@ tariff_flaw_body tariffs.not_toml = error_text (codes "NotToml") 70
 tariff_flaw_body (tariffs.missing_class table class) = price_text (codes "MissingClass") 71 table class
 tariff_flaw_body (tariffs.bad_price table class) = price_text (codes "BadPrice") 72 table class
 tariff_flaw_body (tariffs.unknown_field name) = named_text (codes "UnknownField") 73 name
+tariff_flaw_body (tariffs.bad_tiers class) = class_text (codes "BadTiers") 74 class
+tariff_flaw_body tariffs.bad_from = error_text (codes "BadFrom") 75
 
 -- the body of the refusal of a message for its framing
 abbrev pub framing_body : FramingRefusal → List ℕ
@@ -140,6 +148,8 @@ refused_body bad_part = error_text (codes "BadPart") 61
 refused_body (in_body flaw) = flaw_body flaw
 refused_body (in_rules fault) = rules_fault_body fault
 refused_body (in_tariff flaw) = tariff_flaw_body flaw
+refused_body bad_token = error_text (codes "BadToken") 128
+refused_body token_not_served = error_text (codes "TokenNotServed") 129
 
 -- Bad Request, Payload Too Large, Not Implemented (RFC 9110, "Status Codes"), or Request Header Fields Too Large (RFC
 -- 6585)

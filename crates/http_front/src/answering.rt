@@ -202,6 +202,23 @@ fn go_on_unless(last: bool) -> Result<(), SessionEnd>
     if last { Err(SessionEnd::Ended) } else { Ok(()) }
 }
 
+// Answers an ask, and drops it.
+fn answer_asked<W: Replies, T: Teller>(
+    alloc: Global,
+    ask: Ask,
+    out: &mut W,
+    room: &mut [u8],
+    teller: &mut T,
+) -> Result<(), SessionEnd>
+    requires room { 16384 ≤ length room.old }
+    ensures answers { AnswersOne T.moves W.Replies (sides teller.old out.old) (sides teller.new out.new)
+        ask result }
+    ensures room { 16384 ≤ length room.new }
+    ensures only_says { OnlySays W.Replies out.old out.new (IsErrOf result SessionEnd.WriteFault) }
+{
+    answer(alloc, &ask, out, room, teller)
+}
+
 fn answer_heard<W: Replies, T: Teller>(
     alloc: Global,
     heard: Heard,
@@ -224,7 +241,7 @@ fn answer_heard<W: Replies, T: Teller>(
 {
     match heard {
         Heard::Asked { ask, last } => {
-            answer(alloc, &ask, out, room, teller)?;
+            answer_asked(alloc, ask, out, room, teller)?;
             go_on_unless(last)
         }
         Heard::Bad { bad, last } => {

@@ -9,7 +9,8 @@ ghost use Rattle.http_text.specs.Replies.{head_text};
 ghost use Rattle.http_text.specs.Room.{Puts};
 ghost use Rattle.http_front.specs.Texts.{framing_body, framing_status};
 ghost use Rattle.http_front.specs.Texts.{bad_text_of, told_body, told_status, told_text};
-ghost use Rattle.http_front.specs.Texts.{field_text, flaw_name, flaw_number, named_text, price_text, rule_text};
+ghost use Rattle.http_front.specs.Texts.{class_text, field_text, flaw_name, flaw_number, named_text, price_text};
+ghost use Rattle.http_front.specs.Texts.{rule_text};
 
 use crate::bad::Bad;
 use crate::printing::print_call;
@@ -57,9 +58,11 @@ fn status(bad: &http_asks::Bad) -> StatusCode
             TariffFault::NoMemory => StatusCode::INTERNAL_SERVER_ERROR,
             _ => StatusCode::BAD_REQUEST,
         },
-        http_asks::Bad::NotAMonth | http_asks::Bad::BadBucketName | http_asks::Bad::BadKey => {
-            StatusCode::BAD_REQUEST
-        }
+        http_asks::Bad::NotAMonth
+        | http_asks::Bad::BadBucketName
+        | http_asks::Bad::BadKey
+        | http_asks::Bad::BadToken
+        | http_asks::Bad::TokenNotServed => StatusCode::BAD_REQUEST,
     }
 }
 
@@ -146,6 +149,19 @@ fn put_flaw(room: &mut [u8], at: usize, flaw: RuleFlaw, rule: u32) -> usize
     put(room, at, b"}")
 }
 
+// A refusal that tells a class.
+fn put_class(room: &mut [u8], at: usize, error: &str, number: u64, class: Class) -> usize
+    ensures { Puts room.old at room.new result (class_text error.now number class) }
+{
+    let at = put(room, at, b"{\"class\":");
+    let at = put_quoted(room, at, class.name().as_bytes());
+    let at = put(room, at, b",\"error\":");
+    let at = put_quoted(room, at, error.as_bytes());
+    let at = put(room, at, b",\"number\":");
+    let at = put_number(room, at, number);
+    put(room, at, b"}")
+}
+
 // What a table of a tariff has for a class, where it is no price.
 fn put_price(
     room: &mut [u8],
@@ -223,6 +239,8 @@ fn put_tariff_fault(room: &mut [u8], at: usize, fault: &TariffFault) -> usize
             put_price(room, at, "BadPrice", 72, *table, *class)
         }
         TariffFault::UnknownField { name } => put_named(room, at, "UnknownField", 73, name),
+        TariffFault::BadTiers { class } => put_class(room, at, "BadTiers", 74, *class),
+        TariffFault::BadFrom => put_error(room, at, "BadFrom", 75),
         TariffFault::NoMemory => put_error(room, at, "NoMemory", 115),
     }
 }
@@ -243,6 +261,8 @@ fn put_body(room: &mut [u8], at: usize, bad: &http_asks::Bad) -> usize
         http_asks::Bad::Body(fault) => put_body_fault(room, at, fault),
         http_asks::Bad::Rules(fault) => put_rules_fault(room, at, fault),
         http_asks::Bad::Tariff(fault) => put_tariff_fault(room, at, fault),
+        http_asks::Bad::BadToken => put_error(room, at, "BadToken", 128),
+        http_asks::Bad::TokenNotServed => put_error(room, at, "TokenNotServed", 129),
     }
 }
 

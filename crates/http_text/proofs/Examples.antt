@@ -1,5 +1,5 @@
 -- Replies computed on examples.
-use Rattle.std.specs.Prelude.{◌≡◌, [], ◌∷◌, ◌++◌, codes, refl, Some, None, Ok, Err}
+use Rattle.std.specs.Prelude.{◌≡◌, ℕ, [], ◌∷◌, ◌++◌, map, codes, refl, Some, None, Ok, Err}
 use Rattle.std.specs.Fmt.{digits}
 use Rattle.serde_json.proofs.OnLiterals.{serde_json_on_literals}
 use Rattle.moments.specs.Months.{days_of_months, first_day, months_over}
@@ -12,8 +12,15 @@ use Rattle.stacks.specs.declared.version.Kind.TheVariants.{Object, Marker}
 use Rattle.due_core.specs.declared.action.ActionKind.TheVariants as action
 use Rattle.due_core.specs.declared.action.Target.TheVariants as target
 use Rattle.office_types.specs.declared.reply.Reply.TheVariants.{Chosen, NothingDue, RulesShown, StackShown, UploadShown, TariffShown}
-use Rattle.office_types.specs.declared.refusal.Refusal.TheVariants.{MonthNotOver, DueActions}
+use Rattle.office_types.specs.declared.refusal.Refusal.TheVariants.{MonthNotOver, DueActions, Full, TokenReused}
+use Rattle.office_types.specs.declared.refusal.What.TheVariants.{Tariffs}
+use Rattle.tariff.specs.Prices.{Prices, one_tier}
+use Rattle.http_text.specs.Names.{month_text}
 use Rattle.http_text.specs.Replies.{body_text, answer_text, head_text, reply_with}
+
+-- a tariff without prices, from so many months after January 1970 on
+abbrev flat : ℕ → Prices
+flat from = record { from = from; storage = map one_tier (0 ∷ 0 ∷ 0 ∷ 0 ∷ 0 ∷ 0 ∷ []); transition = 0 ∷ 0 ∷ 0 ∷ 0 ∷ 0 ∷ [] }
 
 nothing_due : answer_text (Ok NothingDue) ≡ codes "HTTP/1.1 200 OK\r\ncontent-type: application/json\r\ncontent-length: 17\r\n\r\n{\"action\":\"none\"}"
 unfolding head_text reply_with digits serde_json_on_literals
@@ -61,12 +68,43 @@ upload : body_text (Ok (UploadShown 1 (record { key = codes "a"; class = Glacier
 unfolding body_text serde_json_on_literals digits moment_text months_over first_day days_of_months
 upload = refl
 
-prices : body_text (Ok (TariffShown (record { storage = 1 ∷ 2 ∷ 3 ∷ 4 ∷ 5 ∷ 6 ∷ []; transition = 7 ∷ 8 ∷ 9 ∷ 1 ∷ 0 ∷ [] })))
-    ≡ codes "{\"storage\":{\"DEEP_ARCHIVE\":6,\"GLACIER\":5,\"GLACIER_IR\":4,\"ONEZONE_IA\":3,\"STANDARD\":1,"
-    ++ codes "\"STANDARD_IA\":2},\"transition\":{\"DEEP_ARCHIVE\":0,\"GLACIER\":1,\"GLACIER_IR\":9,\"ONEZONE_IA\":8,"
-    ++ codes "\"STANDARD_IA\":7}}"
+-- a tariff that holds from January 2024 on; STANDARD has two tiers
+two_tiers : body_text (Ok (TariffShown (record {
+  from = 648;
+  storage = ((record { upto = Some 1; price = 23_000 }) ∷ (record { upto = None; price = 20_000 }) ∷ [])
+      ∷ one_tier 2 ∷ one_tier 3 ∷ one_tier 4 ∷ one_tier 5 ∷ one_tier 6 ∷ [];
+  transition = 7 ∷ 8 ∷ 9 ∷ 1 ∷ 0 ∷ [];
+} ∷ [])))
+    ≡ codes "{\"tariffs\":[{\"from\":\"2024-01\",\"storage\":{\"DEEP_ARCHIVE\":6,\"GLACIER\":5,\"GLACIER_IR\":4,"
+    ++ codes "\"ONEZONE_IA\":3,\"STANDARD\":[{\"price\":23000,\"upto\":1},{\"price\":20000}],\"STANDARD_IA\":2},"
+    ++ codes "\"transition\":{\"DEEP_ARCHIVE\":0,\"GLACIER\":1,\"GLACIER_IR\":9,\"ONEZONE_IA\":8,"
+    ++ codes "\"STANDARD_IA\":7}}]}"
+unfolding body_text serde_json_on_literals digits month_text
+two_tiers = refl
+
+-- where none is set there is no such reply, but the text of none is this
+no_tariffs : body_text (Ok (TariffShown [])) ≡ codes "{\"tariffs\":[]}"
+unfolding body_text serde_json_on_literals
+no_tariffs = refl
+
+two_tariffs : body_text (Ok (TariffShown (flat 0 ∷ flat 1 ∷ [])))
+    ≡ codes "{\"tariffs\":[{\"from\":\"1970-01\",\"storage\":{\"DEEP_ARCHIVE\":0,\"GLACIER\":0,\"GLACIER_IR\":0,"
+    ++ codes "\"ONEZONE_IA\":0,\"STANDARD\":0,\"STANDARD_IA\":0},\"transition\":{\"DEEP_ARCHIVE\":0,\"GLACIER\":0,"
+    ++ codes "\"GLACIER_IR\":0,\"ONEZONE_IA\":0,\"STANDARD_IA\":0}},"
+    ++ codes "{\"from\":\"1970-02\",\"storage\":{\"DEEP_ARCHIVE\":0,\"GLACIER\":0,\"GLACIER_IR\":0,"
+    ++ codes "\"ONEZONE_IA\":0,\"STANDARD\":0,\"STANDARD_IA\":0},\"transition\":{\"DEEP_ARCHIVE\":0,\"GLACIER\":0,"
+    ++ codes "\"GLACIER_IR\":0,\"ONEZONE_IA\":0,\"STANDARD_IA\":0}}]}"
+unfolding body_text serde_json_on_literals digits month_text
+two_tariffs = refl
+
+reused : answer_text (Err (TokenReused 1))
+    ≡ codes "HTTP/1.1 409 Conflict\r\ncontent-type: application/json\r\ncontent-length: 44\r\n\r\n{\"error\":\"TokenReused\",\"kind\":1,\"number\":92}"
+unfolding head_text reply_with digits serde_json_on_literals
+reused = refl
+
+many_tariffs : body_text (Err (Full Tariffs 100)) ≡ codes "{\"error\":\"Full\",\"limit\":100,\"number\":90,\"what\":\"Tariffs\"}"
 unfolding body_text serde_json_on_literals digits
-prices = refl
+many_tariffs = refl
 
 -- a configuration is shown as it is printed
 rules : (configuration : Configuration) → body_text (Ok (RulesShown configuration)) ≡ printed configuration

@@ -19,11 +19,13 @@ use Rattle.stacks.specs.declared.version.Kind.TheVariants.{Object, Marker}
 use Rattle.stacks.specs.declared.version.Version.{Version}
 use Rattle.uploads.specs.Uploads.{UploadRecord}
 use Rattle.uploads.specs.declared.part.Part.{Part}
-use Rattle.tariff.specs.Prices.{Prices, storage_price, move_price}
+use Rattle.tariff.specs.Prices.{Prices, storage_tiers, move_price}
+use Rattle.tariff.specs.declared.tiers.Tier.{Tier}
 use Rattle.office_types.specs.declared.reply.Reply.TheVariants.{StackShown, UploadShown, TariffShown}
-use Rattle.http_text.specs.Bodies.{kind_fields, noncurrent_version, version_text, versions_text, tags_text, part_data, parts_text, storage_text, moves_text}
-use Rattle.http_text.specs.Json.{json_object, moment_data, id_data}
-use Rattle.http_text.specs.Parts.{since_part}
+use Rattle.http_text.specs.Bodies.{kind_fields, noncurrent_version, version_text, versions_text, tags_text, part_data, parts_text, upto_fields, tier_data, tiers_text, tier_list_text, storage_text, moves_text, tariff_data, tariffs_text}
+use Rattle.http_text.specs.Json.{json_object, whole_data, moment_data, id_data}
+use Rattle.http_text.specs.Names.{month_text}
+use Rattle.http_text.specs.Parts.{since_part, upto_part}
 use Rattle.http_text.specs.Replies.{body_text}
 use Rattle.http_text.proofs.Going.{item_left}
 
@@ -115,14 +117,38 @@ pub upload_is : (n : ℕ) (u : UploadRecord)
 unfolding serde_json_on_literals body_text parts_text tags_text
 upload_is n u = refl
 
--- ---- prices
+-- ---- tariffs
+
+tier_by : (upto : Option ℕ) (price : ℕ) → (codes "{\"price\":" ++ decimal price) ++ (upto_part upto ++ codes "}") ≡ compact_text (json_object ((codes "price", whole_data price) ∷ upto_fields upto))
+unfolding serde_json_on_literals
+tier_by None price = refl
+tier_by (Some upto) price = refl
+
+pub tier_is : (t : Tier) → (codes "{\"price\":" ++ decimal t.price) ++ (upto_part t.upto ++ codes "}") ≡ compact_text (tier_data t)
+tier_is t = tier_by t.upto t.price
+
+pub tier_list_is : (tiers : List Tier) → codes "[" ++ items_text false (items_of (map tier_data tiers)) ≡ tier_list_text tiers
+unfolding tier_list_text
+tier_list_is tiers = refl
+
+pub one_is : (tiers : List Tier) (d : Tier) → length tiers ≡ 1 → decimal (slice_index_or tiers 0 d).price ≡ tiers_text tiers
+unfolding tiers_text serde_json_on_literals
+one_is [] d one = absurd (omega (arith, one))
+one_is (t ∷ []) d one = refl
+one_is (t ∷ u ∷ tiers) d one = absurd (omega (arith, one))
+
+pub several_is : (tiers : List Tier) → (length tiers ≡ 1 → ⊥) → tier_list_text tiers ≡ tiers_text tiers
+unfolding tiers_text tier_list_text
+several_is [] several = refl
+several_is (t ∷ []) several = absurd (several refl)
+several_is (t ∷ u ∷ tiers) several = refl
 
 pub storage_is : (t : Prices)
-    → (codes "{\"DEEP_ARCHIVE\":" ++ decimal (storage_price t DeepArchive)) ++ ((codes ",\"GLACIER\":" ++ decimal (storage_price t Glacier))
-    ++ ((codes ",\"GLACIER_IR\":" ++ decimal (storage_price t GlacierIr)) ++ ((codes ",\"ONEZONE_IA\":" ++ decimal (storage_price t OnezoneIa))
-    ++ ((codes ",\"STANDARD\":" ++ decimal (storage_price t Standard)) ++ ((codes ",\"STANDARD_IA\":" ++ decimal (storage_price t StandardIa)) ++ codes "}")))))
+    → (codes "{\"DEEP_ARCHIVE\":" ++ tiers_text (storage_tiers t DeepArchive)) ++ ((codes ",\"GLACIER\":" ++ tiers_text (storage_tiers t Glacier))
+    ++ ((codes ",\"GLACIER_IR\":" ++ tiers_text (storage_tiers t GlacierIr)) ++ ((codes ",\"ONEZONE_IA\":" ++ tiers_text (storage_tiers t OnezoneIa))
+    ++ ((codes ",\"STANDARD\":" ++ tiers_text (storage_tiers t Standard)) ++ ((codes ",\"STANDARD_IA\":" ++ tiers_text (storage_tiers t StandardIa)) ++ codes "}")))))
     ≡ storage_text t
-unfolding serde_json_on_literals storage_text
+unfolding serde_json_on_literals storage_text tiers_text
 storage_is t = refl
 
 pub moves_is : (t : Prices)
@@ -133,6 +159,16 @@ pub moves_is : (t : Prices)
 unfolding serde_json_on_literals moves_text
 moves_is t = refl
 
-pub tariff_is : (t : Prices) → codes "{\"storage\":" ++ (storage_text t ++ (codes ",\"transition\":" ++ (moves_text t ++ codes "}"))) ≡ body_text (Ok (TariffShown t))
-unfolding serde_json_on_literals body_text storage_text moves_text
+pub tariff_is : (t : Prices)
+    → (codes "{\"from\":" ++ quoted (month_text t.from)) ++ (codes ",\"storage\":" ++ (storage_text t ++ (codes ",\"transition\":" ++ (moves_text t ++ codes "}"))))
+    ≡ compact_text (tariff_data t)
+unfolding serde_json_on_literals storage_text moves_text
 tariff_is t = refl
+
+pub tariff_list_is : (tariffs : List Prices) → codes "[" ++ items_text false (items_of (map tariff_data tariffs)) ≡ tariffs_text tariffs
+unfolding tariffs_text
+tariff_list_is tariffs = refl
+
+pub tariffs_is : (tariffs : List Prices) → codes "{\"tariffs\":" ++ (tariffs_text tariffs ++ codes "}") ≡ body_text (Ok (TariffShown tariffs))
+unfolding serde_json_on_literals body_text tariffs_text
+tariffs_is tariffs = refl

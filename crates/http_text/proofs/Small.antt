@@ -1,9 +1,11 @@
 -- How long the bodies are.
-use Rattle.std.proofs.Common.{◌≡◌, ℕ, ◌+◌, ◌*◌, ◌^◌, ◌<◌, ◌≤◌, true, List, ◌++◌, length, slice_index_or, codes, decimal, refl, ap, arith, length-append, Option, Ok, Err}
+use Rattle.std.proofs.Common.{◌≡◌, ℕ, ◌+◌, ◌*◌, ◌^◌, ◌<◌, ◌≤◌, Bool, true, false, List, map, ◌++◌, length, codes, decimal, refl, ap, arith, length-append, Option, Ok, Err}
 use Rattle.std.specs.Str.{is_utf8}
 use Rattle.std.proofs.lemmas.Fmt.{length-decimal-le, length-decimal-le_wide}
 use Rattle.std.proofs.lemmas.Str.{IsUtf8-from_is_utf8}
 use Rattle.json.specs.Print.{quoted}
+use Rattle.serde_json.specs.View.{items_of}
+use Rattle.serde_json.specs.Written.{comma_if, compact_text, items_text}
 use Rattle.class_rules.specs.Classes.{class_name}
 use Rattle.class_rules.specs.declared.class.Class.{Class}
 use Rattle.class_rules.specs.declared.class.Class.TheVariants.{Standard, StandardIa, OnezoneIa, GlacierIr, Glacier, DeepArchive}
@@ -19,16 +21,16 @@ use Rattle.due_core.specs.declared.action.ActionKind.TheVariants as action
 use Rattle.due_core.specs.declared.action.Target.{Target}
 use Rattle.office_types.specs.declared.reply.ClassMeters.{ClassMeters}
 use Rattle.office_types.specs.declared.reply.Reply.TheVariants.{Stored, Chosen, BucketShown, MetersShown}
-use Rattle.office_types.specs.declared.refusal.Refusal.TheVariants.{MonthNotOver, EarlierMonthOpen, DueActions, Full, ClockEnd}
+use Rattle.office_types.specs.declared.refusal.Refusal.TheVariants.{MonthNotOver, EarlierMonthOpen, DueActions, Full, ClockEnd, TokenReused}
 use Rattle.office_types.specs.declared.refusal.What.{What}
-use Rattle.office_types.specs.declared.refusal.What.TheVariants.{Buckets, Versions, Uploads, Parts, Names, Rules}
-use Rattle.http_text.specs.Bodies.{meters_text, classes_text}
+use Rattle.office_types.specs.declared.refusal.What.TheVariants.{Buckets, Versions, Uploads, Parts, Names, Rules, Tariffs}
+use Rattle.http_text.specs.Bodies.{meters_data, classes_text}
 use Rattle.http_text.specs.Json.{text_object, number_object}
 use Rattle.http_text.specs.Names.{month_text, versioning_name, action_name, what_name}
-use Rattle.http_text.specs.Parts.{class_part, marker_part, target_part}
+use Rattle.http_text.specs.Parts.{class_part, marker_part, target_part, item_part}
 use Rattle.http_text.specs.Refusals.{error_text}
 use Rattle.http_text.specs.Replies.{body_text}
-use Rattle.http_text.proofs.Texts.{text_object_is, number_object_is, stored_is, shown_is, meters_is, classes_by_place, usage_is, chosen_is, error_is, not_over_is, earlier_is, due_is, full_is, end_is}
+use Rattle.http_text.proofs.Texts.{text_object_is, number_object_is, stored_is, shown_is, meters_is, classes_is, usage_is, chosen_is, error_is, not_over_is, earlier_is, due_is, full_is, end_is, reused_is}
 
 -- ---- parts
 
@@ -61,6 +63,7 @@ what_small Uploads = omega arith
 what_small Parts = omega arith
 what_small Names = omega arith
 what_small Rules = omega arith
+what_small Tariffs = omega arith
 
 versioning_small : (v : Versioning) → length (versioning_name v) ≤ 11
 versioning_small Unversioned = omega arith
@@ -146,13 +149,20 @@ shown_small b r u w n short rules uploads versions =
       versions,
     )
 
-pub meters_small : (m : ClassMeters) → length (decimal m.byte_ms) ≤ 39 → length (decimal m.early_byte_ms) ≤ 39 → length (decimal m.moves) ≤ 39 → length (meters_text m) ≤ 1_000
-meters_small m byte_ms early_ms moves_short =
+comma_small : (later : Bool) → length (comma_if later) ≤ 1
+comma_small true = omega arith
+comma_small false = omega arith
+
+pub meters_small : (later : Bool) (m : ClassMeters) → length (decimal m.byte_ms) ≤ 39 → length (decimal m.early_byte_ms) ≤ 39 → length (decimal m.moves) ≤ 39
+    → length (item_part later (meters_data m)) ≤ 1_000
+meters_small later m byte_ms early_ms moves_short =
     let moves = decimal m.moves ++ codes "}" in
     let early = quoted (decimal m.early_byte_ms) ++ (codes ",\"moves\":" ++ moves) in
     let class = (codes ",\"class\":" ++ quoted (class_name m.class)) ++ (codes ",\"early_byte_ms\":" ++ early) in
     omega (
       arith,
+      length-append (comma_if later) (compact_text (meters_data m)),
+      comma_small later,
       ap length (meters_is m),
       length-append (quoted (decimal m.byte_ms)) class,
       text_then (codes ",\"class\":") (class_name m.class) (codes ",\"early_byte_ms\":" ++ early),
@@ -166,8 +176,16 @@ meters_small m byte_ms early_ms moves_short =
       moves_short,
     )
 
+-- of some items one more is written
+pub item_more : (whole i : ℕ) (left x more : List ℕ) → whole ≤ 1_000 * i + length left → left ≡ x ++ more → length x ≤ 1_000 → whole ≤ 1_000 * (i + 1) + length more
+item_more whole i left x more most parts small = omega (arith, most, ap length parts, length-append x more, small)
+
+pub classes_small : (cs : List ClassMeters) → length cs ≤ 6 → (i : ℕ) → i ≤ length cs → length (items_text false (items_of (map meters_data cs))) ≤ 1_000 * i + 1
+    → length (classes_text cs) ≤ 7_000
+classes_small cs six i inside most = omega (arith, ap length (classes_is cs), six, inside, most)
+
 pub usage_small : (b : List ℕ) (m : ℕ) (cs : List ClassMeters) → length b ≤ 63 → length (classes_text cs) ≤ 7_000 → length (body_text (Ok (MetersShown b m cs))) ≤ 16_000
-usage_small b m cs short six =
+usage_small b m cs short few =
     let month = (codes ",\"month\":" ++ quoted (month_text m)) ++ codes "}" in
     let classes = classes_text cs ++ month in
     omega (
@@ -178,7 +196,7 @@ usage_small b m cs short six =
       text_then (codes ",\"month\":") (month_text m) (codes "}"),
       month_length m,
       short,
-      six,
+      few,
     )
 
 -- a key has at most 1,024 bytes, and the id of a rule at most 255 characters of up to four
@@ -290,29 +308,14 @@ end_small n digits =
       decimal_small 91 (omega arith),
     )
 
-pub classes_small : (cs : List ClassMeters) (d : ClassMeters) → length cs ≡ 6 → length (meters_text (slice_index_or cs 0 d)) ≤ 1_000 → length (meters_text (slice_index_or cs 1 d)) ≤ 1_000
-    → length (meters_text (slice_index_or cs 2 d)) ≤ 1_000 → length (meters_text (slice_index_or cs 3 d)) ≤ 1_000 → length (meters_text (slice_index_or cs 4 d)) ≤ 1_000
-    → length (meters_text (slice_index_or cs 5 d)) ≤ 1_000 → length (classes_text cs) ≤ 7_000
-classes_small cs d six a b c e f g =
-    let text = λ (k : ℕ). meters_text (slice_index_or cs k d) in
-    let last = text 5 ++ codes "]" in
-    let fifth = text 4 ++ (codes "," ++ last) in
-    let fourth = text 3 ++ (codes "," ++ fifth) in
-    let third = text 2 ++ (codes "," ++ fourth) in
-    let second = text 1 ++ (codes "," ++ third) in
+pub reused_small : (n : ℕ) → length (decimal n) ≤ 20 → length (body_text (Err (TokenReused n))) ≤ 16_000
+reused_small n digits =
+    let number = (codes ",\"number\":" ++ decimal 92) ++ codes "}" in
     omega (
       arith,
-      ap length (classes_by_place cs d six),
-      length-append (text 0) (codes "," ++ second),
-      length-append (text 1) (codes "," ++ third),
-      length-append (text 2) (codes "," ++ fourth),
-      length-append (text 3) (codes "," ++ fifth),
-      length-append (text 4) (codes "," ++ last),
-      length-append (text 5) (codes "]"),
-      a,
-      b,
-      c,
-      e,
-      f,
-      g,
+      ap length (reused_is n),
+      number_then (codes "{\"error\":\"TokenReused\",\"kind\":") (decimal n) number,
+      number_then (codes ",\"number\":") (decimal 92) (codes "}"),
+      digits,
+      decimal_small 92 (omega arith),
     )

@@ -1,6 +1,8 @@
 -- The bodies, written out.
-use Rattle.std.proofs.Common.{◌≡◌, ℕ, List, [], ◌∷◌, ◌++◌, length, slice_index_or, codes, decimal, refl, arith, Option, Some, None, Ok, Err}
+use Rattle.std.proofs.Common.{◌≡◌, ℕ, false, List, ◌++◌, map, codes, decimal, refl, Option, Some, None, Ok, Err}
 use Rattle.json.specs.Print.{quoted}
+use Rattle.serde_json.specs.View.{items_of}
+use Rattle.serde_json.specs.Written.{compact_text, items_text}
 use Rattle.serde_json.proofs.OnLiterals.{serde_json_on_literals}
 use Rattle.class_rules.specs.Classes.{class_name}
 use Rattle.moments.specs.Texts.{moment_text}
@@ -15,9 +17,9 @@ use Rattle.office_types.specs.declared.reply.ClassMeters.{ClassMeters}
 use Rattle.office_types.specs.declared.reply.Reply.TheVariants.{BucketMade, VersioningSet, RulesSet, Stored, Deleted, VersionDeleted, TagsSet, UploadStarted, PartStored, Aborted, Chosen, NothingDue}
 use Rattle.office_types.specs.declared.reply.Reply.TheVariants.{TariffSet, Closed, BucketShown, MetersShown}
 use Rattle.office_types.specs.declared.refusal.Refusal.TheVariants.{BucketExists, NoSuchBucket, NoRules, NotEnabledBefore, NoSuchKey, NoSuchVersion, IsMarker, NoSuchUpload, BadPart, NoParts}
-use Rattle.office_types.specs.declared.refusal.Refusal.TheVariants.{MonthNotOver, AlreadyClosed, EarlierMonthOpen, NoTariff, DueActions, Full, ClockEnd, NoMemory}
+use Rattle.office_types.specs.declared.refusal.Refusal.TheVariants.{MonthNotOver, AlreadyClosed, EarlierMonthOpen, NoTariff, DueActions, Full, ClockEnd, TokenReused, NoMemory}
 use Rattle.office_types.specs.declared.refusal.What.{What}
-use Rattle.http_text.specs.Bodies.{meters_text, classes_text}
+use Rattle.http_text.specs.Bodies.{meters_data, classes_text}
 use Rattle.http_text.specs.Json.{text_object, number_object}
 use Rattle.http_text.specs.Names.{month_text, versioning_name, action_name, what_name}
 use Rattle.http_text.specs.Parts.{class_part, marker_part, target_part}
@@ -105,20 +107,13 @@ shown_is b r u w n = refl
 pub meters_is : (m : ClassMeters)
     → codes "{\"byte_ms\":" ++ (quoted (decimal m.byte_ms) ++ ((codes ",\"class\":" ++ quoted (class_name m.class))
     ++ (codes ",\"early_byte_ms\":" ++ (quoted (decimal m.early_byte_ms) ++ (codes ",\"moves\":" ++ (decimal m.moves ++ codes "}"))))))
-    ≡ meters_text m
-unfolding serde_json_on_literals meters_text
+    ≡ compact_text (meters_data m)
+unfolding serde_json_on_literals
 meters_is m = refl
 
-pub classes_is : (a b c d e f : ClassMeters)
-    → codes "["
-    ++ (meters_text a
-    ++ ((codes "," ++ meters_text b)
-    ++ ((codes "," ++ meters_text c)
-    ++ ((codes "," ++ meters_text d)
-    ++ ((codes "," ++ meters_text e) ++ ((codes "," ++ meters_text f) ++ codes "]"))))))
-    ≡ classes_text (a ∷ b ∷ c ∷ d ∷ e ∷ f ∷ [])
-unfolding classes_text meters_text
-classes_is a b c d e f = refl
+pub classes_is : (classes : List ClassMeters) → codes "[" ++ items_text false (items_of (map meters_data classes)) ≡ classes_text classes
+unfolding classes_text
+classes_is classes = refl
 
 pub usage_is : (b : List ℕ) (m : ℕ) (cs : List ClassMeters)
     → (codes "{\"bucket\":" ++ quoted b) ++ (codes ",\"classes\":" ++ (classes_text cs ++ ((codes ",\"month\":" ++ quoted (month_text m)) ++ codes "}")))
@@ -185,6 +180,11 @@ pub end_is : (n : ℕ)
     → (codes "{\"error\":\"ClockEnd\",\"moment\":" ++ decimal n) ++ ((codes ",\"number\":" ++ decimal 91) ++ codes "}") ≡ body_text (Err (ClockEnd n))
 unfolding serde_json_on_literals body_text
 end_is n = refl
+
+pub reused_is : (n : ℕ)
+    → (codes "{\"error\":\"TokenReused\",\"kind\":" ++ decimal n) ++ ((codes ",\"number\":" ++ decimal 92) ++ codes "}") ≡ body_text (Err (TokenReused n))
+unfolding serde_json_on_literals body_text
+reused_is n = refl
 
 pub exists_is : error_text (codes "BucketExists") 80 ≡ body_text (Err BucketExists)
 unfolding body_text error_text
@@ -253,17 +253,3 @@ pub ruleset refusal_texts = (
   no_tariff_is,
   no_memory_is,
 )
-
--- a list of six, by its places
-pub classes_by_place : (cs : List ClassMeters) (d : ClassMeters) → length cs ≡ 6
-    → codes "[" ++ (meters_text (slice_index_or cs 0 d) ++ ((codes "," ++ meters_text (slice_index_or cs 1 d)) ++ ((codes "," ++ meters_text (slice_index_or cs 2 d))
-    ++ ((codes "," ++ meters_text (slice_index_or cs 3 d)) ++ ((codes "," ++ meters_text (slice_index_or cs 4 d)) ++ ((codes "," ++ meters_text (slice_index_or cs 5 d)) ++ codes "]"))))))
-    ≡ classes_text cs
-classes_by_place (a ∷ b ∷ c ∷ e ∷ f ∷ g ∷ []) d six = classes_is a b c e f g
-classes_by_place (a ∷ b ∷ c ∷ e ∷ f ∷ g ∷ h ∷ more) d six = absurd (omega (arith, six))
-classes_by_place [] d six = absurd (omega (arith, six))
-classes_by_place (a ∷ []) d six = absurd (omega (arith, six))
-classes_by_place (a ∷ b ∷ []) d six = absurd (omega (arith, six))
-classes_by_place (a ∷ b ∷ c ∷ []) d six = absurd (omega (arith, six))
-classes_by_place (a ∷ b ∷ c ∷ e ∷ []) d six = absurd (omega (arith, six))
-classes_by_place (a ∷ b ∷ c ∷ e ∷ f ∷ []) d six = absurd (omega (arith, six))

@@ -11,7 +11,8 @@ use Rattle.stacks.specs.declared.version.Kind.{Kind}
 use Rattle.stacks.specs.declared.version.Kind.TheVariants.{Object, Marker}
 use Rattle.stacks.specs.declared.version.Version.{Version}
 use Rattle.uploads.specs.declared.part.Part.{Part}
-use Rattle.tariff.specs.Prices.{Prices, storage_price, move_price}
+use Rattle.tariff.specs.Prices.{Prices, storage_tiers, move_price}
+use Rattle.tariff.specs.declared.tiers.Tier.{Tier}
 use Rattle.due_core.specs.declared.action.ActionKind.{ActionKind}
 use Rattle.due_core.specs.declared.action.ActionKind.TheVariants as action
 use Rattle.due_core.specs.declared.action.Target.{Target}
@@ -91,23 +92,39 @@ meters_data meters = json_object (
     (codes "class", class_data meters.class) ∷ (codes "byte_ms", digits_of meters.byte_ms)
     ∷ (codes "early_byte_ms", digits_of meters.early_byte_ms) ∷ (codes "moves", whole_data meters.moves) ∷ [])
 
--- the price of each of these classes, under the name of the class
-abbrev pub price_fields : (Class → ℕ) → List Class → List (List ℕ × Data)
-price_fields price classes = map (λ class. (class_name class, whole_data (price class))) classes
+-- where a tier ends, in GiB-months; the last one has no end
+abbrev pub upto_fields : Option ℕ → List (List ℕ × Data)
+upto_fields None = []
+upto_fields (Some upto) = (codes "upto", whole_data upto) ∷ []
 
--- by rank from STANDARD on, and from STANDARD_IA on
+-- a tier: its price, and where it ends
+abbrev pub tier_data : Tier → Data
+tier_data tier = json_object ((codes "price", whole_data tier.price) ∷ upto_fields tier.upto)
+
+-- the tiers of a class: one is its price alone, several are a list
+abbrev pub tiers_data : List Tier → Data
+tiers_data (tier ∷ []) = whole_data tier.price
+tiers_data tiers = array_of (map tier_data tiers)
+
+-- what each of these classes costs, under the name of the class
+abbrev pub price_fields : (Class → Data) → List Class → List (List ℕ × Data)
+price_fields price classes = map (λ class. (class_name class, price class)) classes
+
+-- by rank from STANDARD on
 abbrev pub storage_data : Prices → Data
-storage_data tariff = json_object (price_fields (storage_price tariff) all_classes)
+storage_data tariff = json_object (price_fields (λ class. tiers_data (storage_tiers tariff class)) all_classes)
 
--- the prices of moves: none goes to STANDARD
+-- the prices of moves, from STANDARD_IA on: none goes to STANDARD
 abbrev pub moves_data : Prices → Data
-moves_data tariff = json_object (price_fields (move_price tariff) (drop 1 all_classes))
+moves_data tariff = json_object (price_fields (λ class. whole_data (move_price tariff class)) (drop 1 all_classes))
+
+-- a tariff: its first month, and what storage and moves cost
+abbrev pub tariff_data : Prices → Data
+tariff_data tariff = json_object (
+    (codes "from", string (month_text tariff.from)) ∷ (codes "storage", storage_data tariff)
+    ∷ (codes "transition", moves_data tariff) ∷ [])
 
 -- ---- these as they are written
-
--- what was used of a class
-unfoldable pub meters_text : ClassMeters → List ℕ
-meters_text meters = compact_text (meters_data meters)
 
 -- what was used of some classes, as a list
 unfoldable pub classes_text : List ClassMeters → List ℕ
@@ -129,6 +146,14 @@ tags_text tags = compact_text (tags_data tags)
 unfoldable pub parts_text : List (ℕ × Part) → List ℕ
 parts_text parts = compact_text (array_of (map part_data parts))
 
+-- the tiers of a class
+unfoldable pub tiers_text : List Tier → List ℕ
+tiers_text tiers = compact_text (tiers_data tiers)
+
+-- tiers as a list, however many there are
+unfoldable pub tier_list_text : List Tier → List ℕ
+tier_list_text tiers = compact_text (array_of (map tier_data tiers))
+
 -- the prices of storage
 unfoldable pub storage_text : Prices → List ℕ
 storage_text tariff = compact_text (storage_data tariff)
@@ -136,6 +161,10 @@ storage_text tariff = compact_text (storage_data tariff)
 -- the prices of moves
 unfoldable pub moves_text : Prices → List ℕ
 moves_text tariff = compact_text (moves_data tariff)
+
+-- some tariffs, as a list
+unfoldable pub tariffs_text : List Prices → List ℕ
+tariffs_text tariffs = compact_text (array_of (map tariff_data tariffs))
 
 -- ---- the bodies
 
@@ -176,6 +205,6 @@ reply_body (UploadShown number upload) = json (json_object (
 reply_body (MetersShown bucket month classes) = json (json_object (
     (codes "bucket", string bucket) ∷ (codes "month", string (month_text month))
     ∷ (codes "classes", array_of (map meters_data classes)) ∷ []))
-reply_body (TariffShown tariff) = json (json_object (
-    (codes "storage", storage_data tariff) ∷ (codes "transition", moves_data tariff) ∷ []))
+reply_body (TariffShown tariffs) =
+    json (json_object ((codes "tariffs", array_of (map tariff_data tariffs)) ∷ []))
 reply_body (Report lines) = csv (report_csv lines)

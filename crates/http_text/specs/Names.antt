@@ -8,6 +8,7 @@ use Rattle.due_core.specs.declared.action.ActionKind.{ActionKind}
 use Rattle.due_core.specs.declared.action.ActionKind.TheVariants.{Remove, Transition, Marker, Abort}
 use Rattle.office_types.specs.declared.refusal.What.{What}
 use Rattle.office_types.specs.declared.refusal.What.TheVariants.{Buckets, Versions, Uploads, Parts, Names, Rules}
+use Rattle.office_types.specs.declared.refusal.What.TheVariants.{Tariffs}
 
 -- as 2024-01
 unfoldable pub month_text : ℕ → List ℕ
@@ -35,3 +36,4 @@ what_name Uploads = codes "Uploads"
 what_name Parts = codes "Parts"
 what_name Names = codes "Names"
 what_name Rules = codes "Rules"
+what_name Tariffs = codes "Tariffs"

@@ -7,6 +7,7 @@ use Rattle.class_rules.specs.Classes.{class_name}
 use Rattle.office_base.specs.Tags.{Tag}
 use Rattle.office_base.specs.Versions.{id_text}
 use Rattle.office_base.specs.declared.version_id.VersionId.{VersionId}
+use Rattle.serde_json.specs.Data.{Data}
 use Rattle.uploads.specs.declared.part.Part.{Part}
 use Rattle.due_core.specs.declared.action.ActionKind.{ActionKind}
 use Rattle.due_core.specs.declared.action.ActionKind.TheVariants.{Transition}
@@ -37,6 +38,15 @@ since_part (Some since) = codes ",\"noncurrent_since\":" ++ quoted (moment_text 
 -- a tag as a member, with a comma where one stands before it
 abbrev pub tag_part : Bool → Tag → List ℕ
 tag_part later tag = comma_if later ++ (quoted tag.0 ++ (codes ":" ++ quoted tag.1))
+
+-- where a tier ends; the last one has no end
+abbrev pub upto_part : Option ℕ → List ℕ
+upto_part None = []
+upto_part (Some upto) = codes ",\"upto\":" ++ decimal upto
+
+-- a value of a list, with a comma where one stands before it
+abbrev pub item_part : Bool → Data → List ℕ
+item_part later value = comma_if later ++ compact_text value
 
 -- a part of an upload, likewise
 abbrev pub upload_part : Bool → ℕ × Part → List ℕ

@@ -7,7 +7,8 @@ use Rattle.office_types.specs.declared.refusal.Refusal.TheVariants.{BucketExists
 use Rattle.office_types.specs.declared.refusal.Refusal.TheVariants.{NotEnabledBefore, NoSuchKey, NoSuchVersion}
 use Rattle.office_types.specs.declared.refusal.Refusal.TheVariants.{IsMarker, NoSuchUpload, BadPart, NoParts}
 use Rattle.office_types.specs.declared.refusal.Refusal.TheVariants.{MonthNotOver, AlreadyClosed, EarlierMonthOpen}
-use Rattle.office_types.specs.declared.refusal.Refusal.TheVariants.{NoTariff, DueActions, Full, ClockEnd, NoMemory}
+use Rattle.office_types.specs.declared.refusal.Refusal.TheVariants.{NoTariff, DueActions, Full, ClockEnd, TokenReused}
+use Rattle.office_types.specs.declared.refusal.Refusal.TheVariants.{NoMemory}
 use Rattle.http_text.specs.Bodies.{target_field}
 use Rattle.http_text.specs.Json.{json_object, whole_data, moment_data}
 use Rattle.http_text.specs.Names.{month_text, what_name}
@@ -43,4 +44,5 @@ refusal_data (DueActions bucket key target) =
 refusal_data (Full what limit) =
     error_data (codes "Full") 90 ((codes "what", string (what_name what)) ∷ (codes "limit", whole_data limit) ∷ [])
 refusal_data (ClockEnd moment) = error_data (codes "ClockEnd") 91 ((codes "moment", whole_data moment) ∷ [])
+refusal_data (TokenReused kind) = error_data (codes "TokenReused") 92 ((codes "kind", whole_data kind) ∷ [])
 refusal_data NoMemory = error_data (codes "NoMemory") 115 []

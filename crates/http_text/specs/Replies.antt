@@ -9,7 +9,8 @@ use Rattle.office_types.specs.declared.refusal.Refusal.TheVariants.{BucketExists
 use Rattle.office_types.specs.declared.refusal.Refusal.TheVariants.{NotEnabledBefore, NoSuchKey, NoSuchVersion}
 use Rattle.office_types.specs.declared.refusal.Refusal.TheVariants.{IsMarker, NoSuchUpload, BadPart, NoParts}
 use Rattle.office_types.specs.declared.refusal.Refusal.TheVariants.{MonthNotOver, AlreadyClosed, EarlierMonthOpen}
-use Rattle.office_types.specs.declared.refusal.Refusal.TheVariants.{NoTariff, DueActions, Full, ClockEnd, NoMemory}
+use Rattle.office_types.specs.declared.refusal.Refusal.TheVariants.{NoTariff, DueActions, Full, ClockEnd, TokenReused}
+use Rattle.office_types.specs.declared.refusal.Refusal.TheVariants.{NoMemory}
 pub use Rattle.http_text.specs.Json.{whole_data}
 pub use Rattle.http_text.specs.Refusals.{error_data, error_text}
 use Rattle.http_text.specs.Bodies.{Body, json, csv, reply_body}
@@ -43,6 +44,7 @@ refusal_status NoTariff = 409
 refusal_status (DueActions bucket key target) = 409
 refusal_status (Full what limit) = 507
 refusal_status (ClockEnd moment) = 409
+refusal_status (TokenReused kind) = 409
 refusal_status NoMemory = 500
 
 -- the status of an answer: that of its reply, or of its refusal

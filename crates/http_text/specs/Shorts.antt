@@ -1,16 +1,17 @@
 -- Answers by how long their text may be.
-use Rattle.std.specs.Prelude.{Result, Ok, Err}
+use Rattle.std.specs.Prelude.{◌≤◌, length, Result, Ok, Err}
 use Rattle.office_types.specs.declared.reply.Reply.{Reply}
-use Rattle.office_types.specs.declared.reply.Reply.TheVariants.{RulesShown, StackShown, UploadShown, TariffShown}
-use Rattle.office_types.specs.declared.reply.Reply.TheVariants.{Report}
+use Rattle.office_types.specs.declared.reply.Reply.TheVariants.{RulesShown, StackShown, UploadShown, MetersShown}
+use Rattle.office_types.specs.declared.reply.Reply.TheVariants.{TariffShown, Report}
 use Rattle.office_types.specs.declared.refusal.Refusal.{Refusal}
 
--- the replies to commands, and what a bucket holds and used
+-- the replies to commands, what a bucket holds, and what it used of at most six classes (there are six)
 abbrev pub IsShortReply : Reply → Type 0
 IsShortReply (RulesShown rules) = ⊥
 IsShortReply (StackShown key stack) = ⊥
 IsShortReply (UploadShown number upload) = ⊥
-IsShortReply (TariffShown tariff) = ⊥
+IsShortReply (MetersShown bucket month classes) = length classes ≤ 6
+IsShortReply (TariffShown tariffs) = ⊥
 IsShortReply (Report lines) = ⊥
 IsShortReply other = Unit {0}
 

@@ -13,7 +13,7 @@ use crate::members::{
     put_text_object, put_whole,
 };
 use crate::meters::put_classes;
-use crate::price_body::put_tariff;
+use crate::price_body::put_tariffs;
 use crate::refusals::put_refusal;
 use crate::room::put;
 use crate::stack_body::put_stack;
@@ -71,10 +71,11 @@ fn put_usage(
     at: usize,
     bucket: &BucketName,
     month: Month,
-    classes: &[ClassMeters; 6],
+    classes: &[ClassMeters],
 ) -> usize
     ensures puts { Puts room.old at room.new result (body_text (Ok (MetersShown bucket.now month classes.now))) }
-    ensures small { length (body_text (Ok (MetersShown bucket.now month classes.now))) ≤ 16_000 }
+    ensures small { length classes.now ≤ 6
+        → length (body_text (Ok (MetersShown bucket.now month classes.now))) ≤ 16_000 }
 {
     let at = put_text(room, at, b"{\"bucket\":", bucket.text());
     let at = put(room, at, b",\"classes\":");
@@ -128,10 +129,10 @@ fn put_reply(room: &mut [u8], at: usize, reply: &Reply) -> usize
             bucket,
             month,
             classes,
-        } => put_usage(room, at, bucket, *month, classes),
+        } => put_usage(room, at, bucket, *month, classes.as_slice()),
         Reply::StackShown { key, stack } => put_stack(room, at, key, stack),
         Reply::UploadShown { number, upload } => put_upload(room, at, *number, upload),
-        Reply::TariffShown { tariff } => put_tariff(room, at, tariff),
+        Reply::TariffShown { tariffs } => put_tariffs(room, at, tariffs.as_slice()),
         Reply::RulesShown { .. } | Reply::Report { .. } => unreachable!(),
     }
 }

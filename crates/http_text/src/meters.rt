@@ -1,16 +1,19 @@
 // What a bucket used, as JSON.
-ghost use Rattle.std.specs.Prelude.{◌++◌, ◌≤◌, length, codes};
-ghost use Rattle.http_text.specs.Bodies.{meters_text, classes_text};
+ghost use Rattle.std.specs.Prelude.{◌≤◌, length};
+ghost use Rattle.http_text.specs.Bodies.{meters_data, classes_text};
+ghost use Rattle.http_text.specs.Parts.{item_part};
 ghost use Rattle.http_text.specs.Room.{Puts};
 
 use crate::members::put_text;
 use crate::room::{put, put_digits, put_wide};
+use crate::tag_body::put_comma;
 use office_types::ClassMeters;
 
-fn put_meters(room: &mut [u8], at: usize, meters: &ClassMeters) -> usize
-    ensures puts { Puts room.old at room.new result (meters_text meters.now) }
-    ensures small { length (meters_text meters.now) ≤ 1_000 }
+fn put_meters(room: &mut [u8], at: usize, later: bool, meters: &ClassMeters) -> usize
+    ensures puts { Puts room.old at room.new result (item_part later (meters_data meters.now)) }
+    ensures small { length (item_part later (meters_data meters.now)) ≤ 1_000 }
 {
+    let at = put_comma(room, at, later);
     let at = put(room, at, b"{\"byte_ms\":");
     let at = put_digits(room, at, meters.byte_ms);
     let at = put_text(room, at, b",\"class\":", meters.class.name());
@@ -21,26 +24,16 @@ fn put_meters(room: &mut [u8], at: usize, meters: &ClassMeters) -> usize
     put(room, at, b"}")
 }
 
-fn put_next(room: &mut [u8], at: usize, meters: &ClassMeters) -> usize
-    ensures puts { Puts room.old at room.new result (codes "," ++ meters_text meters.now) }
-    ensures small { length (meters_text meters.now) ≤ 1_000 }
-{
-    let at = put(room, at, b",");
-    put_meters(room, at, meters)
-}
-
-/// Writes the six classes as a JSON array.
-pub(crate) fn put_classes(room: &mut [u8], at: usize, classes: &[ClassMeters; 6]) -> usize
+/// Writes what was used of some classes as a JSON array.
+pub(crate) fn put_classes(room: &mut [u8], at: usize, classes: &[ClassMeters]) -> usize
     ensures puts { Puts room.old at room.new result (classes_text classes.now) }
-    ensures small { length (classes_text classes.now) ≤ 7_000 }
+    ensures small { length classes.now ≤ 6 → length (classes_text classes.now) ≤ 7_000 }
 {
-    let [a, b, c, d, e, f] = classes;
-    let at = put(room, at, b"[");
-    let at = put_meters(room, at, a);
-    let at = put_next(room, at, b);
-    let at = put_next(room, at, c);
-    let at = put_next(room, at, d);
-    let at = put_next(room, at, e);
-    let at = put_next(room, at, f);
+    let mut at = put(room, at, b"[");
+    let mut later = false;
+    for meters in classes {
+        at = put_meters(room, at, later, meters);
+        later = true;
+    }
     put(room, at, b"]")
 }

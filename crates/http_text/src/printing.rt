@@ -49,7 +49,8 @@ fn refusal_status(refusal: &Refusal) -> StatusCode
         | Refusal::EarlierMonthOpen { .. }
         | Refusal::NoTariff
         | Refusal::DueActions { .. }
-        | Refusal::ClockEnd { .. } => StatusCode::CONFLICT,
+        | Refusal::ClockEnd { .. }
+        | Refusal::TokenReused { .. } => StatusCode::CONFLICT,
         Refusal::Full { .. } => StatusCode::INSUFFICIENT_STORAGE,
         Refusal::NoMemory => StatusCode::INTERNAL_SERVER_ERROR,
     }
@@ -116,7 +117,7 @@ fn size_of(answer: &Result<Reply, Refusal>) -> usize
 }
 
 /// Tells whether the reply to an answer always fits 16,384 bytes. These are refusals, replies to commands, and of the
-/// replies to queries what a bucket holds and used.
+/// replies to queries what a bucket holds, what it used of at most six classes, and the lifecycle action that is due.
 pub fn is_short(answer: &Result<Reply, Refusal>) -> bool
     ensures short { result ≡ true → IsShort answer.now }
     ensures long { result ≡ false → ¬ (IsShort answer.now) }
@@ -137,6 +138,7 @@ fn is_short_reply(reply: &Reply) -> bool
         | Reply::UploadShown { .. }
         | Reply::TariffShown { .. }
         | Reply::Report { .. } => false,
+        Reply::MetersShown { classes, .. } => classes.as_slice().len() <= 6,
         _ => true,
     }
 }

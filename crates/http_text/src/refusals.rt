@@ -3,7 +3,7 @@ ghost use Rattle.std.specs.Prelude.{◌≡◌, ◌≤◌, length, Err};
 ghost use Rattle.moments.specs.Time.{end_of_time};
 ghost use Rattle.office_types.specs.Fits.{RefusalFits};
 ghost use Rattle.office_types.specs.declared.refusal.Refusal.TheVariants.{MonthNotOver, EarlierMonthOpen};
-ghost use Rattle.office_types.specs.declared.refusal.Refusal.TheVariants.{DueActions, Full, ClockEnd};
+ghost use Rattle.office_types.specs.declared.refusal.Refusal.TheVariants.{DueActions, Full, ClockEnd, TokenReused};
 ghost use Rattle.http_text.specs.Names.{what_name};
 ghost use Rattle.http_text.specs.Refusals.{error_text};
 ghost use Rattle.http_text.specs.Replies.{body_text};
@@ -77,6 +77,7 @@ fn name_of(what: What) -> &'static str
         What::Parts => "Parts",
         What::Names => "Names",
         What::Rules => "Rules",
+        What::Tariffs => "Tariffs",
     }
 }
 
@@ -98,6 +99,21 @@ fn put_end(room: &mut [u8], at: usize, moment: u64) -> usize
 {
     let at = put_whole(room, at, b"{\"error\":\"ClockEnd\",\"moment\":", moment);
     let at = put_whole(room, at, b",\"number\":", 91);
+    put(room, at, b"}")
+}
+
+#[tactic(auto, using(crate::proofs::Small::reused_small))]
+fn put_reused(room: &mut [u8], at: usize, kind: u8) -> usize
+    ensures puts { Puts room.old at room.new result (body_text (Err (TokenReused kind))) }
+    ensures small { length (body_text (Err (TokenReused kind))) ≤ 16_000 }
+{
+    let at = put_whole(
+        room,
+        at,
+        b"{\"error\":\"TokenReused\",\"kind\":",
+        u64::from(kind),
+    );
+    let at = put_whole(room, at, b",\"number\":", 92);
     put(room, at, b"}")
 }
 
@@ -130,6 +146,7 @@ pub(crate) fn put_refusal(room: &mut [u8], at: usize, refusal: &Refusal) -> usiz
         } => put_due(room, at, bucket, key, *target),
         Refusal::Full { what, limit } => put_full(room, at, *what, *limit),
         Refusal::ClockEnd { moment } => put_end(room, at, *moment),
+        Refusal::TokenReused { kind } => put_reused(room, at, *kind),
         Refusal::NoMemory => put_error(room, at, "NoMemory", 115),
     }
 }

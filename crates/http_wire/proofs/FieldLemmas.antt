@@ -8,8 +8,9 @@ use Rattle.httparse.specs.Grammar.{RequestHead, Field, field_value}
 use Rattle.httparse.specs.Spans.{IsHeaderWithin, IsWithin, header_bytes, name_and_value, span_bytes}
 use Rattle.httparse.specs.declared.spans.HeaderSpan.{HeaderSpan}
 use Rattle.httparse.specs.declared.spans.Span.{Span}
-use Rattle.http_wire.specs.Messages.{refused, same_word, fields_named, body_length, number_of, after_coding, after_length, body_room}
+use Rattle.http_wire.specs.Messages.{refused, same_word, fields_named, token_fields, body_length, number_of, after_coding, after_length, body_room}
 use Rattle.http_wire.specs.Framing.{Frames, values_named, found_of}
+use Rattle.http_wire.specs.Parts.{IsFound, LiesIn}
 use Rattle.http_wire.specs.declared.fields.Found.TheVariants.{Absent, Once, Repeated}
 use Rattle.http_wire.specs.declared.framing.FramingRefusal.{FramingRefusal}
 use Rattle.http_wire.specs.declared.framing.FramingRefusal.TheVariants.{BadHead, BodyTooLarge, ChunkedBody}
@@ -101,6 +102,32 @@ value_within p n hs s all is =
     only [] x e = absurd cc
     only (h ∷ []) x e = let same : h.value ≡ s = cc in subst (IsWithin n) same (All-head (IsHeaderWithin n) h [] x).1
     only (h ∷ g ∷ xs) x e = absurd cc
+
+-- ---- the token
+
+found_is : (bytes : List ℕ) (vs : List Span) (fs : List Field) → map (span_bytes bytes) vs ≡ map field_value fs → IsFound bytes (found_of vs) fs
+found_is bytes [] [] e = refl
+found_is bytes [] (x ∷ fs) e = absurd cc
+found_is bytes (v ∷ []) [] e = absurd cc
+found_is bytes (v ∷ []) (x ∷ []) e = (x, refl, cc)
+found_is bytes (v ∷ []) (x ∷ y ∷ fs) e = absurd cc
+found_is bytes (v ∷ u ∷ vs) [] e = absurd cc
+found_is bytes (v ∷ u ∷ vs) (x ∷ []) e = absurd cc
+found_is bytes (v ∷ u ∷ vs) (x ∷ y ∷ fs) e = (x, y, fs, refl)
+
+pub token_is : (bytes : List ℕ) (hs : List HeaderSpan) (h : RequestHead) → map (header_bytes bytes) hs ≡ map name_and_value h.fields
+    → IsFound bytes (found_of (values_named bytes (codes "Office-Token") hs)) (token_fields h)
+token_is bytes hs h e =
+    found_is bytes (values_named bytes (codes "Office-Token") hs) (token_fields h) (named_values bytes (codes "Office-Token") hs h.fields e)
+
+values_lie : (n : ℕ) (hs : List HeaderSpan) → All (IsHeaderWithin n) hs → LiesIn n (found_of (map (λ (h : HeaderSpan). h.value) hs))
+values_lie n [] all = tt
+values_lie n (h ∷ []) all = (All-head (IsHeaderWithin n) h [] all).1
+values_lie n (h ∷ g ∷ hs) all = tt
+
+pub token_lies : (bytes : List ℕ) (n : ℕ) (hs : List HeaderSpan) → All (IsHeaderWithin n) hs → LiesIn n (found_of (values_named bytes (codes "Office-Token") hs))
+token_lies bytes n hs all =
+    let test = λ (h : HeaderSpan). same_word (span_bytes bytes h.name) (codes "Office-Token") in values_lie n (filter test hs) (All-filter test (IsHeaderWithin n) hs all)
 
 -- ---- how long the body is
 

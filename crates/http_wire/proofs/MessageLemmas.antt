@@ -16,12 +16,14 @@ use Rattle.httparse.proofs.GrammarLemmas.{ReadsRequest-append, print_request-app
 use Rattle.http_wire.specs.Heads.{IsOpen}
 use Rattle.http_wire.specs.Headings.{HasHeading}
 use Rattle.http_wire.specs.Held.{Held, Took, TookPast, head_room, take_limit}
-use Rattle.http_wire.specs.Messages.{Request, request, refused, Stands, HasHead, IsUnsettled, IsCutShort, after_length, after_coding, fields_named, is_last}
+use Rattle.http_wire.specs.Messages.{Request, request, refused, Stands, HasHead, IsUnsettled, IsCutShort, after_length, after_coding, fields_named, token_fields, is_last}
 use Rattle.http_wire.specs.Framing.{Frames, HasFrame}
-use Rattle.http_wire.specs.Parts.{MessageParts}
+use Rattle.http_wire.specs.Parts.{MessageParts, IsFound, LiesIn}
 use Rattle.http_wire.specs.Answers.{Gave, HasRequest, Refuses, AwaitsLongBody, OnRequest, OnRefused, Tells}
 use Rattle.http_wire.specs.declared.body.Gap.{Gap}
 use Rattle.http_wire.specs.declared.body.Gap.TheVariants as gaps
+use Rattle.http_wire.specs.declared.fields.Found.{Found}
+use Rattle.http_wire.specs.declared.fields.Found.TheVariants.{Absent, Once, Repeated}
 use Rattle.http_wire.specs.declared.framing.FramingRefusal.{FramingRefusal}
 use Rattle.http_wire.specs.declared.framing.FramingRefusal.TheVariants.{BadHead, BodyTooLarge, ChunkedBody, HeadTooLarge, CutShort}
 use Rattle.http_wire.specs.declared.message.Next.{Next}
@@ -74,14 +76,21 @@ within_more buf more headers r within = record {
   };
 }
 
-abbrev frame_more : (buf more : List ℕ) (headers : List HeaderSpan) (r : RequestSpans) (size : ℕ) (last : Bool) → HasFrame buf headers r size last → HasFrame (buf ++ more) headers r size last
-frame_more buf more headers r size last f = record {
+found_more : (buf more : List ℕ) (n : ℕ) (token : Found) (fields : List Field) → n ≤ length buf → LiesIn n token → IsFound buf token fields → IsFound (buf ++ more) token fields
+found_more buf more n Absent fields fits lies is = is
+found_more buf more n (Once value) fields fits lies (field, same, is) = (field, same, span_more buf more value lies.0 (omega (arith, lies.1, fits)) ∙ is)
+found_more buf more n Repeated fields fits lies is = is
+
+abbrev frame_more : (buf more : List ℕ) (headers : List HeaderSpan) (r : RequestSpans) (size : ℕ) (last : Bool) (token : Found) → HasFrame buf headers r size last token → HasFrame (buf ++ more) headers r size last token
+frame_more buf more headers r size last token f = record {
   head = f.head;
   at = at_more buf more headers r f.head f.at f.within;
   within = within_more buf more headers r f.within;
   short = f.short;
   frames = f.frames;
   ends = f.ends;
+  token = found_more buf more r.len token (token_fields f.head) f.within.section.len_fits f.lies f.token;
+  lies = f.lies;
 }
 
 has_head : (buf : List ℕ) (headers : List HeaderSpan) (r : RequestSpans) (h : RequestHead) → IsRequestAt buf headers r h → r.len ≤ head_room → HasHead buf h (drop r.len buf)
@@ -105,15 +114,15 @@ stands_framed bytes h after n head frames inside =
     ))
 
 -- the bytes of a body that has not come whole settle nothing
-short_frame : (bytes : List ℕ) (headers : List HeaderSpan) (r : RequestSpans) (size : ℕ) (last : Bool) → HasFrame bytes headers r size last → length bytes < r.len + size → IsUnsettled bytes
-short_frame bytes headers r size last f short =
+short_frame : (bytes : List ℕ) (headers : List HeaderSpan) (r : RequestSpans) (size : ℕ) (last : Bool) (token : Found) → HasFrame bytes headers r size last token → length bytes < r.len + size → IsUnsettled bytes
+short_frame bytes headers r size last token f short =
     short_body bytes f.head (drop r.len bytes) size (has_head bytes headers r f.head f.at f.short) f.frames.0 f.frames.1 f.frames.2
     (omega (arith, short, length-drop r.len bytes, f.within.section.len_fits))
 
 -- a body that the buffer holds
-whole_held : (held : Held) (r : RequestSpans) (size : ℕ) (last : Bool) → HasFrame held.bytes held.spans r size last → r.len + size ≤ length held.bytes
-    → HasRequest held.bytes held (record { head = r; used = r.len + size; last = last; apart = None })
-whole_held held r size last f fits =
+whole_held : (held : Held) (r : RequestSpans) (size : ℕ) (last : Bool) (token : Found) → HasFrame held.bytes held.spans r size last token → r.len + size ≤ length held.bytes
+    → HasRequest held.bytes held (record { head = r; used = r.len + size; last = last; token = token; apart = None })
+whole_held held r size last token f fits =
     let after = drop r.len held.bytes in
     record {
       found = found_of f.head (take size after);
@@ -125,14 +134,15 @@ whole_held held r size last f fits =
       fits = fits;
       body = ap (λ (n : ℕ). take n after) (omega arith);
       last = f.ends;
+      token = f.token;
     }
 
 -- a body whose rest was taken past the buffer
-whole_apart : (held : Held) (given body : List ℕ) (r : RequestSpans) (size : ℕ) (last : Bool) → HasFrame held.bytes held.spans r size last → length body ≡ size
-    → body ≡ drop r.len held.bytes ++ given → HasRequest (held.bytes ++ given) held (record { head = r; used = length held.bytes; last = last; apart = Some body })
-whole_apart held given body r size last f all is =
+whole_apart : (held : Held) (given body : List ℕ) (r : RequestSpans) (size : ℕ) (last : Bool) (token : Found) → HasFrame held.bytes held.spans r size last token → length body ≡ size
+    → body ≡ drop r.len held.bytes ++ given → HasRequest (held.bytes ++ given) held (record { head = r; used = length held.bytes; last = last; token = token; apart = Some body })
+whole_apart held given body r size last token f all is =
     let bytes = held.bytes ++ given in
-    let g = frame_more held.bytes given held.spans r size last f in
+    let g = frame_more held.bytes given held.spans r size last token f in
     let after : drop r.len bytes ≡ body = drop-append-le r.len held.bytes given f.within.section.len_fits ∙ sym is in
     let taken : take size (drop r.len bytes) ≡ body = ap (take size) after ∙ take_all size body (omega (arith, all)) in
     let none : drop size (drop r.len bytes) ≡ drop (length held.bytes) held.bytes =
@@ -148,6 +158,7 @@ whole_apart held given body r size last f all is =
       fits = omega arith;
       body = refl;
       last = f.ends;
+      token = f.token;
     }
 
 cut_length : (h : RequestHead) (n : Option ℕ) → ¬ (after_length h [] n (refused CutShort) [])
@@ -190,54 +201,54 @@ head_some h =
     let some = some_in (print_blank h.blank) h.method (h.target ++ 32 ∷ (print_version h.minor ++ (print_end h.line_end ++ (print_section h.fields h.last ++ [])))) in
     subst (λ (t : List ℕ). 0 < length t) (append-nil (print_request h)) (subst (λ (t : List ℕ). 0 < length t) (sym is) some)
 
-frame_some : (bytes : List ℕ) (headers : List HeaderSpan) (r : RequestSpans) (size : ℕ) (last : Bool) → HasFrame bytes headers r size last → 0 < length bytes
-frame_some bytes headers r size last f = omega (arith, f.at.len, head_some f.head, f.within.section.len_fits)
+frame_some : (bytes : List ℕ) (headers : List HeaderSpan) (r : RequestSpans) (size : ℕ) (last : Bool) (token : Found) → HasFrame bytes headers r size last token → 0 < length bytes
+frame_some bytes headers r size last token f = omega (arith, f.at.len, head_some f.head, f.within.section.len_fits)
 
-short_cut : (bytes : List ℕ) (headers : List HeaderSpan) (r : RequestSpans) (size : ℕ) (last : Bool) → HasFrame bytes headers r size last → length bytes < r.len + size → IsCutShort bytes
-short_cut bytes headers r size last f short = record { some = frame_some bytes headers r size last f; unsettled = short_frame bytes headers r size last f short }
+short_cut : (bytes : List ℕ) (headers : List HeaderSpan) (r : RequestSpans) (size : ℕ) (last : Bool) (token : Found) → HasFrame bytes headers r size last token → length bytes < r.len + size → IsCutShort bytes
+short_cut bytes headers r size last token f short = record { some = frame_some bytes headers r size last token f; unsettled = short_frame bytes headers r size last token f short }
 
-frame_taken : (a b : Held) (la lb : Option (List ℕ)) (r : RequestSpans) (size : ℕ) (last : Bool) → HasFrame a.bytes a.spans r size last → Took a b la lb → b.spans ≡ a.spans
-    → HasFrame b.bytes b.spans r size last
-frame_taken a b la lb r size last f took spans =
-    subst (λ (s : List HeaderSpan). HasFrame b.bytes s r size last) (sym spans)
-    (subst (λ (t : List ℕ). HasFrame t a.spans r size last) (sym took.held) (frame_more a.bytes took.given a.spans r size last f))
+frame_taken : (a b : Held) (la lb : Option (List ℕ)) (r : RequestSpans) (size : ℕ) (last : Bool) (token : Found) → HasFrame a.bytes a.spans r size last token → Took a b la lb → b.spans ≡ a.spans
+    → HasFrame b.bytes b.spans r size last token
+frame_taken a b la lb r size last token f took spans =
+    subst (λ (s : List HeaderSpan). HasFrame b.bytes s r size last token) (sym spans)
+    (subst (λ (t : List ℕ). HasFrame t a.spans r size last token) (sym took.held) (frame_more a.bytes took.given a.spans r size last token f))
 
-pub held_told : (a b : Held) (la lb : Option (List ℕ)) (r : RequestSpans) (size : ℕ) (last : Bool) → HasFrame a.bytes a.spans r size last → Took a b la lb → b.spans ≡ a.spans
-    → r.len + size ≤ length b.bytes → Gave a b la lb (Tells b lb (Ok (next.Request (record { head = r; used = r.len + size; last = last; apart = None }))))
-held_told a b la lb r size last f took spans fits =
-    took_gave a b la lb (λ (bytes : List ℕ). HasRequest bytes b (record { head = r; used = r.len + size; last = last; apart = None })) took
-    (whole_held b r size last (frame_taken a b la lb r size last f took spans) fits)
+pub held_told : (a b : Held) (la lb : Option (List ℕ)) (r : RequestSpans) (size : ℕ) (last : Bool) (token : Found) → HasFrame a.bytes a.spans r size last token → Took a b la lb → b.spans ≡ a.spans
+    → r.len + size ≤ length b.bytes → Gave a b la lb (Tells b lb (Ok (next.Request (record { head = r; used = r.len + size; last = last; token = token; apart = None }))))
+held_told a b la lb r size last token f took spans fits =
+    took_gave a b la lb (λ (bytes : List ℕ). HasRequest bytes b (record { head = r; used = r.len + size; last = last; token = token; apart = None })) took
+    (whole_held b r size last token (frame_taken a b la lb r size last token f took spans) fits)
 
-pub held_short : (a b : Held) (la lb : Option (List ℕ)) (r : RequestSpans) (size : ℕ) (last : Bool) → HasFrame a.bytes a.spans r size last → Took a b la lb → b.spans ≡ a.spans
+pub held_short : (a b : Held) (la lb : Option (List ℕ)) (r : RequestSpans) (size : ℕ) (last : Bool) (token : Found) → HasFrame a.bytes a.spans r size last token → Took a b la lb → b.spans ≡ a.spans
     → length b.bytes < r.len + size → Gave a b la lb IsCutShort
-held_short a b la lb r size last f took spans short =
-    took_gave a b la lb IsCutShort took (short_cut b.bytes b.spans r size last (frame_taken a b la lb r size last f took spans) short)
+held_short a b la lb r size last token f took spans short =
+    took_gave a b la lb IsCutShort took (short_cut b.bytes b.spans r size last token (frame_taken a b la lb r size last token f took spans) short)
 
-pub apart_told : (a b : Held) (la lb : Option (List ℕ)) (r : RequestSpans) (size : ℕ) (last : Bool) (body : List ℕ) → HasFrame a.bytes a.spans r size last
+pub apart_told : (a b : Held) (la lb : Option (List ℕ)) (r : RequestSpans) (size : ℕ) (last : Bool) (token : Found) (body : List ℕ) → HasFrame a.bytes a.spans r size last token
     → TookPast a b la lb (λ given. (body ≡ drop r.len a.bytes ++ given) × ⊤) → length body ≡ size
-    → Gave a b la lb (Tells b lb (Ok (next.Request (record { head = r; used = length a.bytes; last = last; apart = Some body }))))
-apart_told a b la lb r size last body f took all = record {
+    → Gave a b la lb (Tells b lb (Ok (next.Request (record { head = r; used = length a.bytes; last = last; token = token; apart = Some body }))))
+apart_told a b la lb r size last token body f took all = record {
   given = took.given;
   counted = took.counted;
   left = took.left;
-  so = subst (λ (t : List ℕ). HasRequest (t ++ took.given) b (record { head = r; used = length t; last = last; apart = Some body })) took.held
-      (whole_apart b took.given body r size last
-      (subst (λ (s : List HeaderSpan). HasFrame b.bytes s r size last) (sym took.spans) (subst (λ (t : List ℕ). HasFrame t a.spans r size last) (sym took.held) f)) all
+  so = subst (λ (t : List ℕ). HasRequest (t ++ took.given) b (record { head = r; used = length t; last = last; token = token; apart = Some body })) took.held
+      (whole_apart b took.given body r size last token
+      (subst (λ (s : List HeaderSpan). HasFrame b.bytes s r size last token) (sym took.spans) (subst (λ (t : List ℕ). HasFrame t a.spans r size last token) (sym took.held) f)) all
       (took.so.0 ∙ ap (λ (t : List ℕ). drop r.len t ++ took.given) (sym took.held)));
 }
 
-pub apart_short : (a b : Held) (la lb : Option (List ℕ)) (r : RequestSpans) (size : ℕ) (last : Bool) (room : ℕ) → HasFrame a.bytes a.spans r size last
+pub apart_short : (a b : Held) (la lb : Option (List ℕ)) (r : RequestSpans) (size : ℕ) (last : Bool) (token : Found) (room : ℕ) → HasFrame a.bytes a.spans r size last token
     → TookPast a b la lb (λ given. ⊤ × (length a.bytes + length given < r.len + room)) → room ≡ size → Gave a b la lb IsCutShort
-apart_short a b la lb r size last room f took all = record {
+apart_short a b la lb r size last token room f took all = record {
   given = took.given;
   counted = took.counted;
   left = took.left;
-  so = short_cut (a.bytes ++ took.given) a.spans r size last (frame_more a.bytes took.given a.spans r size last f) (omega (arith, took.so.1, all, length-append a.bytes took.given));
+  so = short_cut (a.bytes ++ took.given) a.spans r size last token (frame_more a.bytes took.given a.spans r size last token f) (omega (arith, took.so.1, all, length-append a.bytes took.given));
 }
 
-pub apart_lacks : (a : Held) (la : Option (List ℕ)) (r : RequestSpans) (size : ℕ) (last : Bool) → HasFrame a.bytes a.spans r size last → head_room < r.len + size
+pub apart_lacks : (a : Held) (la : Option (List ℕ)) (r : RequestSpans) (size : ℕ) (last : Bool) (token : Found) → HasFrame a.bytes a.spans r size last token → head_room < r.len + size
     → Gave a a la la AwaitsLongBody
-apart_lacks a la r size last f long = gave_none a la AwaitsLongBody (record {
+apart_lacks a la r size last token f long = gave_none a la AwaitsLongBody (record {
   head = f.head;
   after = drop r.len a.bytes;
   size = size;
@@ -284,17 +295,33 @@ pub covers_held : (a : Held) (bytes : List ℕ) (headers : List HeaderSpan) (r :
 covers_held a bytes headers r h at same fields =
     ap (λ (t : List ℕ). map (header_bytes t) (take r.headers headers)) same ∙ ap (λ (s : List HeaderSpan). map (header_bytes a.bytes) (take r.headers s)) fields ∙ at.fields
 
+-- the head that was read, with what its fields say
+pub frame_of : (a : Held) (headers : List HeaderSpan) (r : RequestSpans) (size : ℕ) (last : Bool) (found : Found) (h : RequestHead)
+    → IsRequestAt a.bytes a.spans r h → IsRequestWithin a.bytes a.spans r → r.len ≤ head_room → headers ≡ a.spans → Frames h (Ok size) → last ≡ is_last h
+    → IsFound a.bytes found (token_fields h) → ((n : ℕ) → All (IsHeaderWithin n) (take r.headers headers) → LiesIn n found)
+    → HasFrame a.bytes a.spans r size last found
+frame_of a headers r size last found h at within short same frames ends token lies = record {
+  head = h;
+  at = at;
+  within = within;
+  short = short;
+  frames = frames;
+  ends = ends;
+  token = token;
+  lies = lies r.len (subst (λ (s : List HeaderSpan). All (IsHeaderWithin r.len) (take r.headers s)) (sym same) within.section.headers_fit);
+}
+
 -- a body that does not fit in the buffer has not come whole
-pub long_unsettled : (a : Held) (r : RequestSpans) (size : ℕ) (last : Bool) → HasFrame a.bytes a.spans r size last → length a.bytes < r.len + size → IsUnsettled a.bytes
-long_unsettled a r size last f short = short_frame a.bytes a.spans r size last f short
+pub long_unsettled : (a : Held) (r : RequestSpans) (size : ℕ) (last : Bool) (token : Found) → HasFrame a.bytes a.spans r size last token → length a.bytes < r.len + size → IsUnsettled a.bytes
+long_unsettled a r size last token f short = short_frame a.bytes a.spans r size last token f short
 
 -- the source is not read for a body that is held
-pub by_frame : (a : Held) (r : RequestSpans) (size : ℕ) (last : Bool) (Same : Type 0) → HasFrame a.bytes a.spans r size last → (r.len + size ≤ length a.bytes → Same)
+pub by_frame : (a : Held) (r : RequestSpans) (size : ℕ) (last : Bool) (token : Found) (Same : Type 0) → HasFrame a.bytes a.spans r size last token → (r.len + size ≤ length a.bytes → Same)
     → (IsUnsettled a.bytes → ⊥) → Same
-by_frame a r size last Same f held settled = go (cases_lt (length a.bytes) (r.len + size))
+by_frame a r size last token Same f held settled = go (cases_lt (length a.bytes) (r.len + size))
   where
     go : (length a.bytes < r.len + size) ⊎ (r.len + size ≤ length a.bytes) → Same
-    go (inl short) = absurd (settled (long_unsettled a r size last f short))
+    go (inl short) = absurd (settled (long_unsettled a r size last token f short))
     go (inr fits) = held fits
 
 -- ---- no whole head

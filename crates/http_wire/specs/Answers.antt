@@ -1,13 +1,16 @@
 -- What an answer says of the bytes that the buffer held and the source gave.
-use Rattle.std.specs.Prelude.{◌≡◌, ℕ, ◌+◌, ◌<◌, ◌≤◌, List, [], ◌++◌, length, drop, codes, Option, Some, Result, Ok, Err, ⊤}
+use Rattle.std.specs.Prelude.{◌≡◌, ℕ, ◌+◌, ◌<◌, ◌≤◌, List, [], ◌++◌, length, drop, codes, Option, Some, Result, Ok, Err}
+use Rattle.std.specs.Prelude.{⊤}
 use Rattle.std.specs.Io.KnownBytes.{Consumes, IsAtEnd}
 use Rattle.httparse.specs.Grammar.{RequestHead, print_request}
 use Rattle.httparse.specs.Spans.{IsRequestAt, IsRequestWithin}
 use Rattle.http_wire.specs.Held.{Held, head_room, take_limit}
-use Rattle.http_wire.specs.Messages.{Request, request, refused, Stands, HasHead, IsUnsettled, IsCutShort, fields_named, body_length, body_room}
-use Rattle.http_wire.specs.Parts.{MessageParts, body_of}
+use Rattle.http_wire.specs.Messages.{Request, request, refused, Stands, HasHead, IsUnsettled, IsCutShort}
+use Rattle.http_wire.specs.Messages.{fields_named, token_fields, body_length, body_room}
+use Rattle.http_wire.specs.Parts.{MessageParts, IsFound, body_of}
 use Rattle.http_wire.specs.declared.framing.FramingRefusal.{FramingRefusal}
-use Rattle.http_wire.specs.declared.framing.FramingRefusal.TheVariants.{BadHead, BodyTooLarge, ChunkedBody, HeadTooLarge, CutShort}
+use Rattle.http_wire.specs.declared.framing.FramingRefusal.TheVariants.{BadHead, BodyTooLarge, ChunkedBody}
+use Rattle.http_wire.specs.declared.framing.FramingRefusal.TheVariants.{HeadTooLarge, CutShort}
 use Rattle.http_wire.specs.declared.message.Next.{Next}
 use Rattle.http_wire.specs.declared.message.Next.TheVariants as next
 use Rattle.http_wire.specs.declared.message.MessageStop.{MessageStop}
@@ -34,6 +37,7 @@ pub record HasRequest (bytes : List ℕ) (held : Held) (m : MessageParts) : Type
   pub fits : m.used ≤ length held.bytes
   pub body : body_of m held.bytes ≡ found.body
   pub last : m.last ≡ found.last
+  pub token : IsFound held.bytes m.token (token_fields found.head)
 
 -- the refusal stands at the front of the bytes, or they are cut short where the stream ends
 abbrev pub Refuses : Option (List ℕ) → FramingRefusal → List ℕ → Type 0

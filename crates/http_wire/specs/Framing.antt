@@ -7,7 +7,9 @@ use Rattle.httparse.specs.declared.spans.HeaderSpan.{HeaderSpan}
 use Rattle.httparse.specs.declared.spans.RequestSpans.{RequestSpans}
 use Rattle.httparse.specs.declared.spans.Span.{Span}
 use Rattle.http_wire.specs.Held.{head_room}
-use Rattle.http_wire.specs.Messages.{same_word, fields_named, body_length, body_room, refused, after_coding, is_last}
+use Rattle.http_wire.specs.Messages.{same_word, fields_named, token_fields, body_length, body_room}
+use Rattle.http_wire.specs.Messages.{refused, after_coding, is_last}
+use Rattle.http_wire.specs.Parts.{IsFound, LiesIn}
 use Rattle.http_wire.specs.declared.fields.Found.{Found}
 use Rattle.http_wire.specs.declared.fields.Found.TheVariants.{Absent, Once, Repeated}
 use Rattle.http_wire.specs.declared.framing.FramingRefusal.{FramingRefusal}
@@ -31,12 +33,14 @@ Frames h (Ok size) =
 Frames h (Err bad) =
     (after rest : List ℕ) → after_coding h after (fields_named (codes "Transfer-Encoding") h.fields) (refused bad) rest
 
--- A head stands at the front of the bytes, and its body has so many.
+-- A head stands at the front of the bytes, and its body has so many. Its fields that carry a token are told.
 pub record HasFrame (bytes : List ℕ) (headers : List HeaderSpan) (spans : RequestSpans) (size : ℕ) (last : Bool)
-    : Type 0 where
+    (found : Found) : Type 0 where
   pub head : RequestHead
   pub at : IsRequestAt bytes headers spans head
   pub within : IsRequestWithin bytes headers spans
   pub short : spans.len ≤ head_room
   pub frames : Frames head (Ok size)
   pub ends : last ≡ is_last head
+  pub token : IsFound bytes found (token_fields head)
+  pub lies : LiesIn spans.len found

@@ -1,5 +1,6 @@
 -- The messages of a byte stream (RFC 9112, "Message Format" and "Message Body Length").
-use Rattle.std.specs.Prelude.{◌≡◌, ◌⊎◌, ℕ, ◌<◌, ◌≤◌, Bool, true, false, ◌||◌, ◌==◌, List, [], ◌∷◌, ◌++◌, length, take, drop, map, codes, bytes_eq, Option, Some, None, if◌then◌else◌}
+use Rattle.std.specs.Prelude.{◌≡◌, ◌⊎◌, ℕ, ◌<◌, ◌≤◌, Bool, true, false, ◌||◌, ◌==◌, List, [], ◌∷◌, ◌++◌, length, take}
+use Rattle.std.specs.Prelude.{drop, map, codes, bytes_eq, Option, Some, None, if◌then◌else◌}
 use Rattle.std.specs.List.{list_any, list_all, filter}
 use Rattle.std.specs.Char.{to_ascii_lowercase, is_ascii_digit}
 use Rattle.std.specs.Str.Parse.{digits_value}
@@ -7,7 +8,8 @@ use Rattle.httparse.specs.Grammar.{RequestHead, Field, field_value, print_reques
 use Rattle.http_wire.specs.Heads.{HasHopelessFront}
 use Rattle.http_wire.specs.Held.{head_room}
 use Rattle.http_wire.specs.declared.framing.FramingRefusal.{FramingRefusal}
-use Rattle.http_wire.specs.declared.framing.FramingRefusal.TheVariants.{BadHead, BodyTooLarge, ChunkedBody, HeadTooLarge, CutShort}
+use Rattle.http_wire.specs.declared.framing.FramingRefusal.TheVariants.{BadHead, BodyTooLarge, ChunkedBody}
+use Rattle.http_wire.specs.declared.framing.FramingRefusal.TheVariants.{HeadTooLarge, CutShort}
 
 -- the most bytes that a body has
 abbrev pub body_room : ℕ
@@ -20,6 +22,10 @@ same_word a b = bytes_eq (map to_ascii_lowercase a) (map to_ascii_lowercase b)
 -- the fields of this name
 abbrev pub fields_named : List ℕ → List Field → List Field
 fields_named name fields = filter (λ f. same_word f.name name) fields
+
+-- the fields that carry a token (own)
+abbrev pub token_fields : RequestHead → List Field
+token_fields head = fields_named (codes "Office-Token") head.fields
 
 -- the number of one or more digits
 abbrev pub number_of : List ℕ → Option ℕ

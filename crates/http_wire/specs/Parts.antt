@@ -1,13 +1,31 @@
 -- What a message is to its callers.
-use Rattle.std.specs.Prelude.{ℕ, Bool, List, slice_range, unwrap_or, Option}
+use Rattle.std.specs.Prelude.{◌≡◌, ℕ, Bool, List, [], ◌∷◌, slice_range, unwrap_or, Option, ⊤}
+use Rattle.httparse.specs.Grammar.{Field, field_value}
+use Rattle.httparse.specs.Spans.{span_bytes, IsWithin}
 use Rattle.httparse.specs.declared.spans.RequestSpans.{RequestSpans}
+use Rattle.http_wire.specs.declared.fields.Found.{Found}
+use Rattle.http_wire.specs.declared.fields.Found.TheVariants.{Absent, Once, Repeated}
 
--- the parts of its head, how many bytes of the buffer are its own, whether it is the last of its session, and its body
--- where that stands apart from the buffer
+-- of these fields there is none, or one whose value stands there in the bytes, or there are several
+abbrev pub IsFound : List ℕ → Found → List Field → Type 0
+IsFound bytes Absent fields = fields ≡ []
+IsFound bytes (Once value) fields =
+    (field : Field) × (fields ≡ field ∷ []) × (span_bytes bytes value ≡ field_value field)
+IsFound bytes Repeated fields = (first second : Field) × (more : List Field) × (fields ≡ first ∷ second ∷ more)
+
+-- the value that was found lies in so many first bytes
+abbrev pub LiesIn : ℕ → Found → Type 0
+LiesIn n Absent = ⊤
+LiesIn n (Once value) = IsWithin n value
+LiesIn n Repeated = ⊤
+
+-- the parts of its head, how many bytes of the buffer are its own, whether it is the last of its session, its fields
+-- that carry a token, and its body where that stands apart from the buffer
 pub record MessageParts : Type 0 where
   pub head : RequestSpans
   pub used : ℕ
   pub last : Bool
+  pub token : Found
   pub apart : Option (List ℕ)
 
 -- the body, where the buffer holds these bytes

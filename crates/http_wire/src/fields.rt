@@ -1,11 +1,12 @@
 // The fields that frame a message (RFC 9112, "Message Body Length" and "Persistence").
-ghost use Rattle.std.specs.Prelude.{◌≡◌, ◌-◌, ◌^◌, ◌&&◌, ◌||◌, ◌==◌, length, map, min, All, codes};
+ghost use Rattle.std.specs.Prelude.{ℕ, ◌≡◌, ◌-◌, ◌^◌, ◌&&◌, ◌||◌, ◌==◌, length, map, min, All, codes};
 ghost use Rattle.std.specs.Prelude.{option_map};
 ghost use Rattle.std.specs.List.{list_any};
 ghost use Rattle.httparse.specs.Grammar.{RequestHead};
 ghost use Rattle.httparse.specs.Spans.{IsHeaderWithin, header_bytes, name_and_value, span_bytes};
-ghost use Rattle.http_wire.specs.Messages.{same_word, number_of, is_last};
+ghost use Rattle.http_wire.specs.Messages.{same_word, number_of, is_last, token_fields};
 ghost use Rattle.http_wire.specs.Framing.{Frames, values_named, found_of};
+ghost use Rattle.http_wire.specs.Parts.{IsFound, LiesIn};
 
 use crate::framing::FramingRefusal;
 use httparse::spans::{HeaderSpan, Span};
@@ -15,10 +16,10 @@ const BODY_ROOM: u64 = 1_048_576;
 
 /// The fields of one name.
 #[derive(Clone, Copy)]
-pub(crate) enum Found {
+pub enum Found {
     /// There is none.
     Absent,
-    /// There is one, with this value.
+    /// There is one, and its value is there in the buffer.
     Once(Span),
     /// There are several.
     Repeated,
@@ -100,6 +101,16 @@ pub(crate) fn body_size(bytes: &[u8], headers: &[HeaderSpan]) -> Result<usize, F
         Some(_) => Err(FramingRefusal::BodyTooLarge),
         None => Err(FramingRefusal::BadHead),
     }
+}
+
+/// Looks for the fields that carry a token.
+pub(crate) fn token_of(bytes: &[u8], headers: &[HeaderSpan]) -> Found
+    requires within { All (IsHeaderWithin (length bytes.now)) headers.now }
+    ensures is { (h : RequestHead) → map (header_bytes bytes.now) headers.now ≡ map name_and_value h.fields
+        → IsFound bytes.now result (token_fields h) }
+    ensures lies { (n : ℕ) → All (IsHeaderWithin n) headers.now → LiesIn n result }
+{
+    named(bytes, headers, b"Office-Token")
 }
 
 /// Whether the field is Connection, and closes it.

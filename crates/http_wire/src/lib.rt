@@ -13,6 +13,7 @@ mod reading;
 mod source;
 
 pub use buffer::Buffer;
+pub use fields::Found;
 pub use framing::FramingRefusal;
 pub use head::{Front, front_of};
 pub use laws::{messages_unique, reads_messages, stands_more, stands_rest, stands_unique};

@@ -6,14 +6,14 @@ ghost use Rattle.http_wire.specs.Framing.{HasFrame};
 ghost use Rattle.http_wire.specs.Headings.{HasHeading};
 ghost use Rattle.http_wire.specs.Held.{take_limit};
 ghost use Rattle.http_wire.specs.Messages.{IsUnsettled};
-ghost use Rattle.http_wire.specs.Parts.{body_of};
+ghost use Rattle.http_wire.specs.Parts.{body_of, LiesIn};
 ghost use Rattle.http_wire.specs.Sources.{OnlyReads};
 ghost use Rattle.http_wire.specs.Answers.{Gave, HasRequest, Refuses, AwaitsLongBody, OnRequest, OnRefused, Tells};
 ghost use Rattle.http_wire.specs.Answers.{TakesFew};
 
 use crate::body::{Gap, fill_body, fill_to};
 use crate::buffer::{Buffer, ROOM};
-use crate::fields::{body_size, is_closing};
+use crate::fields::{Found, body_size, is_closing, token_of};
 use crate::framing::FramingRefusal;
 use crate::reading::{Heading, read_head};
 use crate::source::Source;
@@ -27,12 +27,13 @@ pub struct Message {
     head: RequestSpans,
     used: usize,
     last: bool,
+    token: Found,
     apart: Option<Vec<u8>>,
 }
 
 impl Model for Message {
     ghost use Rattle.std.specs.Prelude.{◌≤◌, option_map};
-    ghost use Rattle.http_wire.specs.Parts.{MessageParts};
+    ghost use Rattle.http_wire.specs.Parts.{MessageParts, LiesIn};
 
     ghost Value = { MessageParts };
 
@@ -40,10 +41,11 @@ impl Model for Message {
       head = m.head;
       used = m.used;
       last = m.last;
+      token = m.token;
       apart = option_map (λ v. v.items) m.apart;
     } };
 
-    ghost invariant = { λ m. m.head.len ≤ m.used };
+    ghost invariant = { λ m. (m.head.len ≤ m.used) × LiesIn m.head.len m.token };
 }
 
 impl Message {
@@ -59,6 +61,14 @@ impl Message {
         ensures { result ≡ self.now.last }
     {
         self.last
+    }
+
+    /// Tells the fields Office-Token of the head.
+    pub fn token(&self) -> Found
+        ensures value { result ≡ self.now.token }
+        ensures lies { LiesIn self.now.head.len result }
+    {
+        self.token
     }
 
     /// How many bytes at the front of the buffer are the message's.
@@ -121,8 +131,9 @@ fn read_held<R: Source>(
     head: RequestSpans,
     size: usize,
     last: bool,
+    token: Found,
 ) -> Result<Next, MessageStop>
-    requires frame { HasFrame buffer.old.bytes buffer.old.spans head size last }
+    requires frame { HasFrame buffer.old.bytes buffer.old.spans head size last token }
     requires room { head.len + size ≤ 8192 }
     ensures tells { Gave buffer.old buffer.new (R.left source.old) (R.left source.new)
         (Tells buffer.new (R.left source.new) result) }
@@ -137,6 +148,7 @@ fn read_held<R: Source>(
             head,
             used,
             last,
+            token,
             apart: None,
         })),
         Err(gap) => short_of(gap),
@@ -151,8 +163,9 @@ fn read_apart<R: Source>(
     head: RequestSpans,
     size: usize,
     last: bool,
+    token: Found,
 ) -> Result<Next, MessageStop>
-    requires frame { HasFrame buffer.old.bytes buffer.old.spans head size last }
+    requires frame { HasFrame buffer.old.bytes buffer.old.spans head size last token }
     requires long { 8192 < head.len + size }
     ensures tells { Gave buffer.old buffer.new (R.left source.old) (R.left source.new)
         (Tells buffer.new (R.left source.new) result) }
@@ -170,6 +183,7 @@ fn read_apart<R: Source>(
             head,
             used,
             last,
+            token,
             apart: Some(body),
         })),
         Err(gap) => short_of(gap),
@@ -198,10 +212,11 @@ fn read_body<R: Source>(
         Err(bad) => return Ok(Next::Refused(bad)),
     };
     let last = is_closing(buffer.held(), head.version, fields);
+    let token = token_of(buffer.held(), fields);
     if head.len + size <= ROOM {
-        return read_held(source, buffer, head, size, last);
+        return read_held(source, buffer, head, size, last, token);
     }
-    read_apart(alloc, source, buffer, head, size, last)
+    read_apart(alloc, source, buffer, head, size, last, token)
 }
 
 /// Reads what is behind the heading.

@@ -19,23 +19,23 @@ err_of : (result : Result Unit SessionEnd) (end : SessionEnd) → IsErrAnd resul
 err_of (Ok x) end same = absurd same
 err_of (Err other) end same = ap (λ (e : SessionEnd). Err e) (sym same)
 
-pub returns-in_ok-answer-in-Asked-clause-went : goal.returns-in_ok-answer-in-Asked-clause-went
-returns-in_ok-answer-in-Asked-clause-went g c stream rest left total tells under within ahead held =
-    asked_on g.T.Teller.moves g.W.Replies left (sides c.args.teller.now c.args.out.now) (sides c.answer.new.teller c.answer.new.out)
+pub returns-in_ok-answer_asked-in-Asked-clause-went : goal.returns-in_ok-answer_asked-in-Asked-clause-went
+returns-in_ok-answer_asked-in-Asked-clause-went g c stream rest left total tells under within ahead held =
+    asked_on g.T.Teller.moves g.W.Replies left (sides c.args.teller.now c.args.out.now) (sides c.answer_asked.new.teller c.answer_asked.new.out)
     stream rest total c.in-Asked.ask c.in-Asked.last
-    (Ok c.in_ok-answer-in-Asked.field-0) c.go_on_unless.result refl c.in_ok-answer-in-Asked.ensures.answers
+    (Ok c.in_ok-answer_asked-in-Asked.field-0) c.go_on_unless.result refl c.in_ok-answer_asked-in-Asked.ensures.answers
     (subst (λ (h : Heard). TellsHeard stream h rest) c.in-Asked.is tells)
     (subst (λ (h : Heard). OnFramed {E = MessageStop} (Ok h) (IsHeldBack rest left)) c.in-Asked.is held)
     c.go_on_unless.ensures.goes_on c.go_on_unless.ensures.ends
 
-pub returns-in_err-answer-in-Asked-clause-went : goal.returns-in_err-answer-in-Asked-clause-went
-returns-in_err-answer-in-Asked-clause-went g c stream rest left total tells under within ahead held =
+pub returns-in_err-answer_asked-in-Asked-clause-went : goal.returns-in_err-answer_asked-in-Asked-clause-went
+returns-in_err-answer_asked-in-Asked-clause-went g c stream rest left total tells under within ahead held =
     let before = sides c.args.teller.now c.args.out.now in
-    let after = sides c.answer.new.teller c.answer.new.out in
+    let after = sides c.answer_asked.new.teller c.answer_asked.new.out in
     subst (Went g.T.Teller.moves g.W.Replies before after (stream_ends stream left) rest total)
-    (err_of c.from_residual.result c.in_err-answer-in-Asked.field-0.0 c.from_residual.ensures.1) (
+    (err_of c.from_residual.result c.in_err-answer_asked-in-Asked.field-0.0 c.from_residual.ensures.1) (
     asked_end g.T.Teller.moves g.W.Replies left before after stream rest total c.in-Asked.ask c.in-Asked.last
-    c.in_err-answer-in-Asked.field-0.0 c.in_err-answer-in-Asked.ensures.answers
+    c.in_err-answer_asked-in-Asked.field-0.0 c.in_err-answer_asked-in-Asked.ensures.answers
     (subst (λ (h : Heard). TellsHeard stream h rest) c.in-Asked.is tells)
     (subst (λ (h : Heard). OnFramed {E = MessageStop} (Ok h) (IsHeldBack rest left)) c.in-Asked.is held)
     )

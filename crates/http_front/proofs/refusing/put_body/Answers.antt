@@ -10,6 +10,16 @@ returns-in-NoSuchVersion c =
     let put = c.put_error-in-NoSuchVersion in
     subst (λ (bad : Bad). Puts c.args.room.now c.args.at put.new.room put.result (told_body (refused_of bad))) (sym c.in-NoSuchVersion.is) put.ensures.puts
 
+pub returns-in-BadToken : goal.returns-in-BadToken
+returns-in-BadToken c =
+    let put = c.put_error-in-BadToken in
+    subst (λ (bad : Bad). Puts c.args.room.now c.args.at put.new.room put.result (told_body (refused_of bad))) (sym c.in-BadToken.is) put.ensures.puts
+
+pub returns-in-TokenNotServed : goal.returns-in-TokenNotServed
+returns-in-TokenNotServed c =
+    let put = c.put_error-in-TokenNotServed in
+    subst (λ (bad : Bad). Puts c.args.room.now c.args.at put.new.room put.result (told_body (refused_of bad))) (sym c.in-TokenNotServed.is) put.ensures.puts
+
 pub returns-in-NoSuchUpload : goal.returns-in-NoSuchUpload
 returns-in-NoSuchUpload c =
     let put = c.put_error-in-NoSuchUpload in
