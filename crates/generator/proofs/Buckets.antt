@@ -16,12 +16,12 @@ use Rattle.office_types.specs.declared.reply.Reply.TheVariants.{NothingDue}
 use Rattle.office_types.specs.declared.refusal.Refusal.{Refusal}
 use Rattle.office_types.specs.declared.refusal.Refusal.TheVariants.{NoSuchBucket, BucketExists}
 use Rattle.office_types.specs.declared.refusal.What.{What}
-use Rattle.office_types.specs.declared.refusal.What.TheVariants.{Buckets, Versions, Uploads, Parts, Names, Rules}
+use Rattle.office_types.specs.declared.refusal.What.TheVariants.{Buckets, Versions, Uploads, Parts, Names, Rules, Tariffs}
 use Rattle.plain_office.specs.Office.{Office, Account, empty_office}
 use Rattle.plain_office.specs.Counts.{count_of, first_full, over_buckets, version_count}
-use Rattle.plain_office.specs.Step.{Change, Outcome, refuse_if, unless_full, within_limits, on_bucket, new_account, create_bucket, settled, outcome, step, put_object, delete, set_versioning}
+use Rattle.plain_office.specs.Step.{Change, Outcome, refuse_if, unless_full, within_limits, on_bucket, new_account, create_bucket, settled, outcome, step, put_object, delete, set_versioning, set_tariff}
 use Rattle.plain_office.specs.Step.{set_rules, delete_version, start_upload, put_part, complete, act}
-use Rattle.generator.specs.Drafts.{name_of, key_named, drafted_id, rules_set, draft_command}
+use Rattle.generator.specs.Drafts.{name_of, key_named, drafted_id, rules_set, draft_command, prices}
 use Rattle.generator.specs.Draws.{draw, state_after}
 use Rattle.generator.specs.Places.{class_ranked, first_draft, draft_of, kind_drawn, drawn, draft_at, place_after}
 use Rattle.generator.specs.Generated.{Progress, after_entry, after_entries, generated, progress}
@@ -168,7 +168,7 @@ module _ (p : Office) (same : names p.accounts ≡ four) where
   outcome_keeps t (draft.CreateBucket bucket) h = within_keeps (Buckets ∷ []) _ (create_keeps bucket h t)
   outcome_keeps t (draft.Enable bucket) h = bucket_keeps bucket h (set_versioning t true)
   outcome_keeps t (draft.SetRules bucket) h = within_keeps (Rules ∷ []) _ (bucket_keeps bucket h (set_rules t rules_set))
-  outcome_keeps t draft.SetTariff h = same
+  outcome_keeps t draft.SetTariff h = within_keeps (Tariffs ∷ []) (set_tariff prices p) same
   outcome_keeps t (draft.Put bucket key size class) h =
       within_keeps (Versions ∷ Names ∷ []) _ (bucket_keeps bucket h (put_object t (key_named key) size class []))
   outcome_keeps t (draft.Delete bucket key) h = within_keeps _ _ (bucket_keeps bucket h (delete t (key_named key)))

@@ -2,9 +2,9 @@
 use Rattle.std.proofs.Common.{◌≡◌, refl}
 use Rattle.std.specs.Prelude.{⊤}
 use Rattle.entry_codec.specs.Formats.{front_items}
-use Rattle.entry_codec.specs.Fields.{format, moment_format}
-use Rattle.entry_codec.specs.Kinds.{kind_format}
-use Rattle.entry_codec.specs.Spelling.{command_spelling, spelling}
+use Rattle.entry_codec.specs.Fields.{format, moment_format, token_format}
+use Rattle.entry_codec.specs.Kinds.{head_format}
+use Rattle.entry_codec.specs.Spelling.{command_spelling, fields_spelling, head_spelling, spelling}
 use Rattle.meter_journal.specs.History.{journal_bytes}
 use Rattle.plain_office.proofs.Examples as office
 use Rattle.generator.specs.Draws.{next_state, draw}
@@ -14,7 +14,7 @@ use Rattle.generator.specs.Generated.{generated, after_entry, after_entries, tal
 -- what an example unfolds to compute
 unfoldable to_compute : ⊤
 unfolding next_state place_after generated after_entry after_entries office.to_compute
-    journal_bytes spelling command_spelling moment_format kind_format format front_items
+    journal_bytes spelling command_spelling head_spelling fields_spelling moment_format head_format token_format format front_items
 to_compute = tt
 
 -- the first draws of 1

@@ -21,8 +21,9 @@ use Rattle.office_types.specs.Entries.{entry_at}
 use Rattle.plain_office.specs.Office.{Office, Account}
 use Rattle.plain_office.specs.Counts.{version_count}
 use Rattle.plain_office.specs.Answers.{answer, bucket_shown}
-use Rattle.plain_office.specs.Step.{step}
+use Rattle.plain_office.specs.Step.{step, is_accepted}
 use Rattle.plain_office.specs.Run.{run}
+use Rattle.plain_office.proofs.Runs.{step_plain}
 use Rattle.meter_journal.specs.History.{header, end_gate}
 use Rattle.desk_core.specs.Answers.{Answer}
 use Rattle.desk_core.specs.Calls.{moment_after, GrowsBy, IsAnswered}
@@ -76,7 +77,7 @@ at_told t office small = omega (arith, small)
 
 -- ---- a command more
 
-grown_by : (p : Progress) (e : Entry) (office : Office) (reply : Result Reply Refusal) (after : List Entry) → GrowsBy reply e p.accepted after → after ≡ (noted p e office reply).accepted
+grown_by : (p : Progress) (e : Entry) (office : Office) (reply : Result Reply Refusal) (after : List Entry) → GrowsBy (is_accepted reply) e p.accepted after → after ≡ (noted p e office reply).accepted
 grown_by p e office (Err refusal) after (inl (made, is)) = absurd cc
 grown_by p e office (Err refusal) after (inr (not, is)) = is
 grown_by p e office (Ok NothingDue) after (inl (made, is)) = absurd cc
@@ -84,7 +85,7 @@ grown_by p e office (Ok NothingDue) after (inr (not, is)) = is
 grown_by p e office (Ok reply) after (inl (made, is)) = is
 grown_by p e office (Ok reply) after (inr (not, is)) = absurd cc
 
-grown : (p : Progress) (e : Entry) (after : List Entry) → GrowsBy (step e.moment e.command p.office).1 e p.accepted after → after ≡ (after_entry p e).accepted
+grown : (p : Progress) (e : Entry) (after : List Entry) → GrowsBy (is_accepted (step e.moment e.command p.office).1) e p.accepted after → after ≡ (after_entry p e).accepted
 unfolding after_entry
 grown p e after grows = grown_by p e (step e.moment e.command p.office).0 (step e.moment e.command p.office).1 after grows
 
@@ -106,10 +107,10 @@ one_more number n limit said command after told is some =
     let moment : said.moment ≡ e.moment = answered.moment ∙ at_told said.told p.office small ∙ at in
     let below : said.moment < end_of_time = omega (arith, moment, entry_moment number n, within_after number (suc n)) in
     let reply = answered.reply below in
-    let replied : said.reply ≡ reply_at number n = reply.0 ∙ ap (λ (t : ℕ). (step t command p.office).1) moment ∙ ap (λ (c : Command). (step e.moment c p.office).1) is in
+    let replied : said.reply ≡ reply_at number n = reply.told ∙ ap (λ (x : Office × Result Reply Refusal). x.1) (step_plain said.moment command p.office) ∙ ap (λ (t : ℕ). (step t command p.office).1) moment ∙ ap (λ (c : Command). (step e.moment c p.office).1) is in
     let entry : entry_at said.moment command ≡ e = ap (λ (t : ℕ). entry_at t command) moment ∙ ap (λ (c : Command). entry_at e.moment c) is in
-    let grows : GrowsBy (reply_at number n) e p.accepted after =
-    subst (λ (r : Result Reply Refusal). GrowsBy r e p.accepted after) replied (subst (λ (x : Entry). GrowsBy said.reply x p.accepted after) entry reply.1) in
+    let grows : GrowsBy (is_accepted (reply_at number n)) e p.accepted after =
+    subst (λ (r : Result Reply Refusal). GrowsBy (is_accepted r) e p.accepted after) replied (subst (λ (x : Entry). GrowsBy (is_accepted said.reply) x p.accepted after) entry reply.grows) in
     (replied, grown p e after grows ∙ ap (λ (x : Progress). x.accepted) (sym (progress_next number n)))
 
 -- and how it is counted

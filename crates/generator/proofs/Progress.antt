@@ -7,7 +7,9 @@ use Rattle.office_types.specs.declared.command.Entry.{Entry}
 use Rattle.office_types.specs.declared.reply.Reply.{Reply}
 use Rattle.office_types.specs.declared.reply.Reply.TheVariants.{NothingDue}
 use Rattle.office_types.specs.declared.refusal.Refusal.{Refusal}
+use Rattle.office_types.specs.Entries.{entry_at, entry_with}
 use Rattle.plain_office.specs.Office.{Office}
+use Rattle.plain_office.specs.Once.{step_with}
 use Rattle.plain_office.specs.Step.{Outcome, outcome, settled, step, is_accepted}
 use Rattle.plain_office.specs.Run.{is_not_before, accept, run}
 use Rattle.plain_office.proofs.Runs.{step_refused, step_nothing, run_more, run_none}
@@ -84,23 +86,28 @@ not_before_of (Some last) t small = grind (arith, common_steps)
 
 -- ---- the accepted commands are a run, to the office
 
-accepted_next : (p : Office) (e : Entry) → is_not_before p.last e.moment ≡ true → is_accepted (step e.moment e.command p).1 ≡ true → accept p e ≡ Some (step e.moment e.command p).0
-unfolding accept
-accepted_next p e later made = rw (later, made) refl
+accepted_at : (p : Office) (t : ℕ) (c : Command) → is_not_before p.last t ≡ true → is_accepted (step t c p).1 ≡ true → accept p (entry_at t c) ≡ Some (step t c p).0
+unfolding accept step_with
+accepted_at p t c later made = rw (later, made) refl
+
+accepted_next : (p : Office) (e : Entry) → e.token ≡ None → is_not_before p.last e.moment ≡ true → is_accepted (step e.moment e.command p).1 ≡ true → accept p e ≡ Some (step e.moment e.command p).0
+accepted_next p e plain later made =
+    subst (λ (token : Option (List ℕ)). accept p (entry_with e.moment token e.command) ≡ Some (step e.moment e.command p).0) (sym plain)
+    (accepted_at p e.moment e.command later made)
 
 abbrev Runs : Progress → Type 0
 Runs p = run p.accepted ≡ Some p.office
 
 runs_noted : (p : Progress) (e : Entry) (reply : Result Reply Refusal) → (step e.moment e.command p.office).1 ≡ reply
-    → is_not_before p.office.last e.moment ≡ true → Runs p → Runs (noted p e (step e.moment e.command p.office).0 reply)
-runs_noted p e (Err refusal) is later runs = runs ∙ ap (λ (o : Office). Some o) (sym (step_refused e.moment e.command p.office refusal is))
-runs_noted p e (Ok NothingDue) is later runs = runs ∙ ap (λ (o : Office). Some o) (sym (step_nothing e.moment e.command p.office is))
-runs_noted p e (Ok reply) is later runs =
-    run_more p.accepted e p.office (step e.moment e.command p.office).0 runs (accepted_next p.office e later (ap is_accepted is))
+    → e.token ≡ None → is_not_before p.office.last e.moment ≡ true → Runs p → Runs (noted p e (step e.moment e.command p.office).0 reply)
+runs_noted p e (Err refusal) is plain later runs = runs ∙ ap (λ (o : Office). Some o) (sym (step_refused e.moment e.command p.office refusal is))
+runs_noted p e (Ok NothingDue) is plain later runs = runs ∙ ap (λ (o : Office). Some o) (sym (step_nothing e.moment e.command p.office is))
+runs_noted p e (Ok reply) is plain later runs =
+    run_more p.accepted e p.office (step e.moment e.command p.office).0 runs (accepted_next p.office e plain later (ap is_accepted is))
 
-runs_next : (p : Progress) (e : Entry) → is_not_before p.office.last e.moment ≡ true → Runs p → Runs (after_entry p e)
+runs_next : (p : Progress) (e : Entry) → e.token ≡ None → is_not_before p.office.last e.moment ≡ true → Runs p → Runs (after_entry p e)
 unfolding after_entry
-runs_next p e later runs = runs_noted p e (step e.moment e.command p.office).1 refl later runs
+runs_next p e plain later runs = runs_noted p e (step e.moment e.command p.office).1 refl plain later runs
 
 pub runs : (number n : ℕ) → run (progress number n).accepted ≡ Some (progress number n).office
 runs number zero = subst Runs (sym (progress_none number)) run_none
@@ -108,7 +115,7 @@ runs number (suc n) =
     let e = entry_at_place number n in
     let p = progress number n in
     let small : last_of p.office ≤ e.moment = omega (arith, last_before number n, entry_moment number n) in
-    subst Runs (sym (progress_next number n)) (runs_next p e (not_before_of p.office.last e.moment small) (runs number n))
+    subst Runs (sym (progress_next number n)) (runs_next p e refl (not_before_of p.office.last e.moment small) (runs number n))
 
 -- ---- each command is accepted, refused, or found nothing
 

@@ -1,5 +1,5 @@
 -- The commands of the generator, of which buckets and keys are numbers in a draft and names in the command.
-use Rattle.std.specs.Prelude.{ℕ, zero, suc, List, [], ◌∷◌, ◌++◌, codes, decimal, true, false, Some, None}
+use Rattle.std.specs.Prelude.{ℕ, zero, suc, List, [], ◌∷◌, ◌++◌, map, codes, decimal, true, false, Some, None}
 use Rattle.class_rules.specs.declared.class.Class.TheVariants.{Standard, StandardIa}
 use Rattle.office_base.specs.declared.version_id.VersionId.{VersionId}
 use Rattle.office_base.specs.declared.version_id.VersionId.TheVariants.{Null, Number}
@@ -7,7 +7,7 @@ use Rattle.rules_core.specs.Configurations.{Configuration}
 use Rattle.rules_core.specs.declared.rule.Rule.{Rule}
 use Rattle.rules_core.specs.declared.rule.When.TheVariants.{Days}
 use Rattle.rules_core.specs.declared.rule.SizeMode.TheVariants.{All128K}
-use Rattle.tariff.specs.Prices.{Prices}
+use Rattle.tariff.specs.Prices.{Prices, one_tier}
 use Rattle.office_types.specs.declared.command.Command.{Command}
 use Rattle.office_types.specs.declared.command.Command.TheVariants as command
 use Rattle.generator.specs.declared.draft.Draft.{Draft}
@@ -26,10 +26,11 @@ abbrev pub drafted_id : ℕ → VersionId
 drafted_id zero = Null
 drafted_id (suc n) = Number (suc n)
 
--- every price is 1,000
+-- every price is 1,000, from January 1970 on, and for any quantity
 abbrev pub prices : Prices
 prices = record {
-  storage = 1_000 ∷ 1_000 ∷ 1_000 ∷ 1_000 ∷ 1_000 ∷ 1_000 ∷ [];
+  from = 0;
+  storage = map one_tier (1_000 ∷ 1_000 ∷ 1_000 ∷ 1_000 ∷ 1_000 ∷ 1_000 ∷ []);
   transition = 1_000 ∷ 1_000 ∷ 1_000 ∷ 1_000 ∷ 1_000 ∷ [];
 }
 

@@ -8,7 +8,7 @@ use office_base::{BucketName, Items, Key, NoMemory, Nth, Size, TagList, Tags, Te
 use office_types::Command;
 use rules_core::{Expiration, Filter, Noncurrent, Rule, RuleSet, SizeMode, Transition, When};
 use std::alloc::{AllocError, Global};
-use tariff::Tariff;
+use tariff::{BoxedTariff, Tariff};
 
 // A command in numbers. Buckets and keys are told apart by a number.
 #[derive(Clone, Copy)]
@@ -123,12 +123,15 @@ fn version_id(number: u64) -> VersionId
 }
 
 // All prices are 1,000.
-fn tariff() -> Result<Tariff, NoMemory>
+fn tariff(alloc: Global) -> Result<BoxedTariff, NoMemory>
     ensures { IfOk result (λ tariff. tariff ≡ prices) }
 {
-    match Tariff::of([1_000; 6], [1_000; 5]) {
-        Some(tariff) => Ok(tariff),
-        None => Err(NoMemory),
+    let Some(tariff) = Tariff::of([1_000; 6], [1_000; 5]) else {
+        return Err(NoMemory);
+    };
+    match BoxedTariff::new(alloc, tariff) {
+        Ok(tariff) => Ok(tariff),
+        Err(_) => Err(NoMemory),
     }
 }
 
@@ -201,7 +204,9 @@ impl Draft {
                 bucket: bucket_name(alloc, bucket)?,
                 rules: configuration(alloc)?,
             },
-            Draft::SetTariff => Command::SetTariff { tariff: tariff()? },
+            Draft::SetTariff => Command::SetTariff {
+                tariff: tariff(alloc)?,
+            },
             Draft::Put {
                 bucket,
                 key,

@@ -2,6 +2,7 @@
 ghost use Rattle.std.specs.Prelude.{◌≡◌, ◌+◌, ◌-◌, ◌^◌, ◌<◌, ◌≤◌, ◌∷◌, []};
 ghost use Rattle.std.specs.Prelude.{min, ℕ, List, false, IsTrue, OnOk, IfOk, IsSomeAnd};
 ghost use Rattle.std.specs.Io.KnownBytes.{Appends};
+ghost use Rattle.office_types.specs.declared.command.Ask.TheVariants as ask_of;
 ghost use Rattle.office_types.specs.declared.command.Entry.{Entry};
 ghost use Rattle.plain_office.specs.Run.{run};
 ghost use Rattle.desk_core.specs.Calls.{IsAnswered};
@@ -18,7 +19,7 @@ use desk_core::{Acked, Clock, Desk};
 use disk_core::{Disk, MemoryDisk};
 use meter_journal::{Made, create};
 use office_base::NoMemory;
-use office_types::{Ask, Query, Refusal, Reply};
+use office_types::{Ask, Command, Query, Refusal, Reply};
 use std::alloc::Global;
 
 // The limit of the journal, in bytes.
@@ -100,6 +101,18 @@ fn ask_next(desk: &mut Desk<MemoryDisk, PlaceClock>, question: &Ask) -> Result<A
         × IsDeskAfter number (told + 1) after desk.new) }
 {
     ask(desk, question)
+}
+
+// Asks for a command, and drops it.
+fn ask_command(desk: &mut Desk<MemoryDisk, PlaceClock>, command: Command) -> Result<Acked, NoMemory>
+    ensures { (number told : ℕ) (history : List Entry) → told < 2 ^ 33 → IsDeskAfter number told history desk.old
+        → IfOk result (λ said. (after : List Entry)
+        × IsSomeAnd (run history)
+        (λ office. IsAnswered desk.old.limit (ask_of.Command command) office said history after)
+        × (said.told ≡ (place_after number (told + 1)).moment)
+        × IsDeskAfter number (told + 1) after desk.new) }
+{
+    ask_next(desk, &Ask::Command(command))
 }
 
 // Makes the journal, and opens the desk over it.
@@ -200,7 +213,7 @@ impl Work {
         ensures made { OnOk result (self.new.place.made ≡ self.old.place.made + 1) }
     {
         let command = self.place.next().command(alloc)?;
-        let said = ask_next(&mut self.desk, &Ask::Command(command))?;
+        let said = ask_command(&mut self.desk, command)?;
         self.answers.note(said.reply());
         Ok(())
     }

@@ -14,10 +14,11 @@ use Rattle.office_types.specs.declared.reply.Reply.TheVariants as reply
 use Rattle.office_types.specs.declared.refusal.Refusal.{Refusal}
 use Rattle.office_types.specs.declared.refusal.Refusal.TheVariants.{NoSuchBucket, BucketExists, NoTariff, Full, AlreadyClosed, MonthNotOver, EarlierMonthOpen}
 use Rattle.office_types.specs.declared.refusal.What.{What}
-use Rattle.office_types.specs.declared.refusal.What.TheVariants.{Buckets}
+use Rattle.office_types.specs.declared.refusal.What.TheVariants.{Buckets, Tariffs}
+use Rattle.plain_office.specs.Charges.{in_force}
 use Rattle.plain_office.specs.Office.{Office, Account}
 use Rattle.plain_office.specs.Counts.{first_full, limit_of}
-use Rattle.plain_office.specs.Step.{Outcome, settled, outcome, step, is_accepted, new_account, close, month_to_close, due_before, unless_due}
+use Rattle.plain_office.specs.Step.{Outcome, settled, outcome, step, is_accepted, new_account, close, month_to_close, due_before, unless_due, unless_full, with_tariff}
 use Rattle.plain_office.proofs.Runs.{Answer, done, refused}
 use Rattle.bucket_account.specs.Changing.{change_of, limits_of, IsOnBucket}
 use Rattle.office_machine.proofs.Offices.{nothing_of}
@@ -120,10 +121,22 @@ module _ (t : ℕ) (p : Office) (said : Reply) (accepts : is_accepted (done said
   closing_keeps month =
       refused_or (nat_lt t (month_end month)) (nat_lt month (month_to_close t p)) (nat_lt (month_to_close t p) month)
       (MonthNotOver (month_end month)) AlreadyClosed (EarlierMonthOpen (month_to_close t p))
-      (ok_or p.tariff NoTariff >>= closing month)
-      (bound_keeps (ok_or p.tariff NoTariff) (closing month) (λ tariff.
+      (ok_or (in_force month p.tariffs) NoTariff >>= closing month)
+      (bound_keeps (ok_or (in_force month p.tariffs) NoTariff) (closing month) (λ tariff.
       due_keeps (due_before t (month_end month) p.accounts)
       (record p { closed = p.closed ++ (month, tariff) ∷ [] }, reply.Closed month) refl))
+
+  full_keeps : (o : Option What) (so : Office × Reply) → so.0.accounts ≡ p.accounts → Keeps (unless_full o so)
+  full_keeps None so h = h
+  full_keeps (Some what) so h = tt
+
+  -- a tariff is set
+  pub tariff_keeps : (tariff : Prices) → (step t (command.SetTariff tariff) p).0.accounts ≡ p.accounts
+  unfolding step outcome
+  tariff_keeps tariff =
+      let priced : Office = record p { tariffs = with_tariff tariff p.tariffs } in
+      settled_keeps (unless_full (first_full (Tariffs ∷ []) priced) (priced, reply.TariffSet))
+      (full_keeps (first_full (Tariffs ∷ []) priced) (priced, reply.TariffSet) refl)
 
   pub closed_keeps : (month : ℕ) → (step t (command.Close month) p).0.accounts ≡ p.accounts
   unfolding step outcome

@@ -10,7 +10,7 @@ use Rattle.office_types.specs.declared.command.Command.{Command}
 use Rattle.office_types.specs.declared.command.Command.TheVariants as command
 use Rattle.office_types.specs.declared.reply.Reply.{Reply}
 use Rattle.plain_office.specs.Office.{Office, Account, Booked}
-use Rattle.plain_office.specs.Orderly.{HasOpenStays, IsOrderly}
+use Rattle.plain_office.specs.Orderly.{HasOpenStays}
 use Rattle.plain_office.specs.Step.{step, is_accepted, new_account}
 use Rattle.plain_office.proofs.Runs.{Answer, done}
 use Rattle.office_laws.proofs.Maps.{by_name, found_every, at_written}
@@ -20,13 +20,12 @@ use Rattle.bucket_account.specs.Standing.{StandsForAccount}
 use Rattle.bucket_account.proofs.SetAt.{set_is_with}
 use Rattle.office_machine.specs.Standing.{Records, StandsForOffice}
 use Rattle.office_machine.proofs.Accounts.{StandsForOption, stand_at}
-use Rattle.office_machine.proofs.Steps.{tariff_told}
 use Rattle.stay_explain.specs.Plans.{Plan, plan_of, stays_after, BeginsFree}
 use Rattle.stay_explain.specs.Table.{stays_of}
 use Rattle.stay_explain.specs.Ledgers.{plan_at, plan_in, planned, table_by, tables_by, tables_after, IsFreeIn, IsBookable}
 use Rattle.stay_explain.proofs.Tables.{map_with, set_map, at_map, free_by}
 use Rattle.stay_explain.proofs.Told.{plan_tells}
-use Rattle.stay_explain.proofs.Changed.{changes, bucket_made, closed_keeps}
+use Rattle.stay_explain.proofs.Changed.{changes, bucket_made, tariff_keeps, closed_keeps}
 
 -- ---- the tables after it
 
@@ -35,6 +34,10 @@ some_of None None account h is = absurd cc
 some_of None (Some other) account h is = absurd h
 some_of (Some held) None account h is = absurd cc
 some_of (Some held) (Some other) account h is = let same : other ≡ account = cc in (held, refl, subst (StandsForAccount held) same h)
+
+-- each account has the open stays that its records ask for
+abbrev pub AllOpen : List (List ℕ × Account) → Type 0
+AllOpen accounts = AllByRecursion (λ (e : List ℕ × Account). HasOpenStays e.1) accounts
 
 module _ (records : Records) (p : Office) (stands : StandsForOffice records p) (t : ℕ) where
   abbrev Booking : Command → Option (List ℕ) → Type 0
@@ -67,8 +70,8 @@ module _ (records : Records) (p : Office) (stands : StandsForOffice records p) (
     )
 
   module _ (said : Reply) (accepts : is_accepted (done said) ≡ true) where
-    on_bucket : (name : List ℕ) (asked : Command) → IsOnBucket name asked → done said ≡ (step t asked p).1 → IsOrderly (step t asked p).0 → Booking asked (Some name)
-    on_bucket name asked on told orderly =
+    on_bucket : (name : List ℕ) (asked : Command) → IsOnBucket name asked → done said ≡ (step t asked p).1 → AllOpen (step t asked p).0.accounts → Booking asked (Some name)
+    on_bucket name asked on told stay =
         let c = changes t p said accepts name asked on told in
         let held = some_of (at_name name records.accounts) (at_name name p.accounts) c.before (stand_at name records.accounts p.accounts stands.accounts) c.there in
         let plan_is : plan_in t asked (Some name) records.accounts ≡ plan_of t asked c.before.bucket =
@@ -77,7 +80,7 @@ module _ (records : Records) (p : Office) (stands : StandsForOffice records p) (
         let tells = plan_tells t asked c.before has (c.after, c.reply_of) c.change in
         let has_after : HasOpenStays c.after =
         found_every by_name (λ (e : List ℕ × Account). HasOpenStays e.1) name c.after (with_name name c.after p.accounts)
-        (subst (λ (l : List (List ℕ × Account)). AllByRecursion (λ (e : List ℕ × Account). HasOpenStays e.1) l) c.accounts orderly.stays) (at_written by_name name c.after p.accounts) in
+        (subst AllOpen c.accounts stay) (at_written by_name name c.after p.accounts) in
         subst (λ (plan : Option Plan).
         (map stays_of (step t asked p).0.accounts ≡ tables_by (Some name) plan (map stays_of p.accounts))
         × IsFreeIn (Some name) plan (map stays_of p.accounts)) (sym plan_is)
@@ -88,31 +91,31 @@ module _ (records : Records) (p : Office) (stands : StandsForOffice records p) (
 
     abbrev Steps : Command → Type 0
     Steps asked =
-        done said ≡ (step t asked p).1 → IsOrderly (step t asked p).0
+        done said ≡ (step t asked p).1 → AllOpen (step t asked p).0.accounts
         → (map stays_of (step t asked p).0.accounts ≡ tables_after asked (planned t asked records.accounts) (map stays_of p.accounts))
         × IsBookable asked (planned t asked records.accounts) (map stays_of p.accounts)
 
     steps : (asked : Command) → Steps asked
-    steps (command.CreateBucket name) told orderly = (ap (map stays_of) (bucket_made t p said accepts name told) ∙ map_with name (new_account t) p.accounts, tt)
-    steps (command.SetVersioning name enabled) told orderly = on_bucket name (command.SetVersioning name enabled) refl told orderly
-    steps (command.SetRules name rules) told orderly = on_bucket name (command.SetRules name rules) refl told orderly
-    steps (command.DropRules name) told orderly = on_bucket name (command.DropRules name) refl told orderly
-    steps (command.Put name key size class tags) told orderly = on_bucket name (command.Put name key size class tags) refl told orderly
-    steps (command.Delete name key) told orderly = on_bucket name (command.Delete name key) refl told orderly
-    steps (command.DeleteVersion name key id) told orderly = on_bucket name (command.DeleteVersion name key id) refl told orderly
-    steps (command.SetTags name key id tags) told orderly = on_bucket name (command.SetTags name key id tags) refl told orderly
-    steps (command.StartUpload name key class tags) told orderly = on_bucket name (command.StartUpload name key class tags) refl told orderly
-    steps (command.PutPart name upload part size) told orderly = on_bucket name (command.PutPart name upload part size) refl told orderly
-    steps (command.Complete name upload) told orderly = on_bucket name (command.Complete name upload) refl told orderly
-    steps (command.Abort name upload) told orderly = on_bucket name (command.Abort name upload) refl told orderly
-    steps (command.Act name) told orderly = on_bucket name (command.Act name) refl told orderly
-    steps (command.SetTariff tariff) told orderly = (ap (λ (x : Office × Answer). map stays_of x.0.accounts) (tariff_told t p tariff), tt)
-    steps (command.Close month) told orderly = (ap (map stays_of) (closed_keeps t p said accepts month), tt)
+    steps (command.CreateBucket name) told stay = (ap (map stays_of) (bucket_made t p said accepts name told) ∙ map_with name (new_account t) p.accounts, tt)
+    steps (command.SetVersioning name enabled) told stay = on_bucket name (command.SetVersioning name enabled) refl told stay
+    steps (command.SetRules name rules) told stay = on_bucket name (command.SetRules name rules) refl told stay
+    steps (command.DropRules name) told stay = on_bucket name (command.DropRules name) refl told stay
+    steps (command.Put name key size class tags) told stay = on_bucket name (command.Put name key size class tags) refl told stay
+    steps (command.Delete name key) told stay = on_bucket name (command.Delete name key) refl told stay
+    steps (command.DeleteVersion name key id) told stay = on_bucket name (command.DeleteVersion name key id) refl told stay
+    steps (command.SetTags name key id tags) told stay = on_bucket name (command.SetTags name key id tags) refl told stay
+    steps (command.StartUpload name key class tags) told stay = on_bucket name (command.StartUpload name key class tags) refl told stay
+    steps (command.PutPart name upload part size) told stay = on_bucket name (command.PutPart name upload part size) refl told stay
+    steps (command.Complete name upload) told stay = on_bucket name (command.Complete name upload) refl told stay
+    steps (command.Abort name upload) told stay = on_bucket name (command.Abort name upload) refl told stay
+    steps (command.Act name) told stay = on_bucket name (command.Act name) refl told stay
+    steps (command.SetTariff tariff) told stay = (ap (map stays_of) (tariff_keeps t p said accepts tariff), tt)
+    steps (command.Close month) told stay = (ap (map stays_of) (closed_keeps t p said accepts month), tt)
 
 -- the tables after a command are those of the office after it, and what it begins has no open stay
 pub tables_step : (records : Records) (p : Office) (stands : StandsForOffice records p) (t : ℕ) (asked : Command) (said : Reply) → is_accepted (Ok said) ≡ true
-    → Ok said ≡ (step t asked p).1 → IsOrderly (step t asked p).0
+    → Ok said ≡ (step t asked p).1 → AllOpen (step t asked p).0.accounts
     → (map stays_of (step t asked p).0.accounts
     ≡ tables_after asked (planned t asked records.accounts) (map stays_of p.accounts))
     × IsBookable asked (planned t asked records.accounts) (map stays_of p.accounts)
-tables_step records p stands t asked said accepts told orderly = steps records p stands t said accepts asked told orderly
+tables_step records p stands t asked said accepts told stay = steps records p stands t said accepts asked told stay

@@ -1,6 +1,9 @@
 -- Reading the entries of a journal.
 use Rattle.std.proofs.Common.{◌≡◌, inl, inr, ℕ, ◌<◌, ◌≤◌, ◌^◌, List, [], ◌∷◌, ◌++◌, get_or, refl, sym, subst, arith}
+use Rattle.std.specs.List.{AllByRecursion}
+use Rattle.office_types.specs.Tokens.{MayCarry}
 use Rattle.office_types.specs.declared.command.Entry.{Entry}
+use Rattle.entry_codec.specs.Spelling.{EntryFits}
 use Rattle.bucket_account.specs.Standing.{most_commands}
 use Rattle.meter_journal.specs.History.{header, HasHistory}
 use Rattle.meter_journal.specs.Reading.{IsMade, HasPrefix, FrameFails, frame_at, Whole, Ended}
@@ -37,8 +40,18 @@ pub all_read : (file : List ℕ) (gate : ℕ) (ledger : LedgerRecord) → HasRea
 all_read file gate ledger read is = (read.history, prefix_end header read.history gate file read.prefix is, read.is)
 
 -- the office can count one entry more
-pub few_read : (file : List ℕ) (gate : ℕ) (ledger : LedgerRecord) → HasRead file gate ledger → ledger.office.accepted < most_commands
+pub few_read : (file : List ℕ) (gate : ℕ) (ledger : LedgerRecord) → HasRead file gate ledger → ledger.office.records.accepted < most_commands
 few_read file gate ledger read = few read.history ledger.office gate read.is.office read.prefix.size read.small
+
+-- the entry at the gate may carry its token
+last_fits : (entries : List Entry) (e : Entry) → AllByRecursion EntryFits (entries ++ e ∷ []) → EntryFits e
+last_fits [] e each = each.0
+last_fits (first ∷ entries) e each = last_fits entries e each.1
+
+pub carries_read : (file : List ℕ) (gate next : ℕ) (ledger : LedgerRecord) (e : Entry) → ((i : ℕ) → get_or file i 0 < 256)
+    → HasRead file gate ledger → frame_at gate file ≡ Whole e next → MayCarry e.token e.command
+carries_read file gate next ledger e bytes read is =
+    (last_fits read.history e (prefix_more header read.history gate file e next bytes read.prefix is).each).carries
 
 -- ---- why reading fails
 

@@ -9,7 +9,7 @@ use Rattle.office_types.specs.declared.command.Entry.{Entry}
 use Rattle.office_laws.specs.Commands.{bucket_of}
 use Rattle.plain_office.specs.Office.{Booked}
 use Rattle.bucket_account.specs.Counting.{AccountRecord}
-use Rattle.office_machine.specs.Standing.{Records}
+use Rattle.office_machine.specs.Once.{OfficeView}
 use Rattle.desk_core.specs.Offices.{StandsAfter}
 use Rattle.stay_explain.specs.Plans.{Plan, plan_of, stays_by, BeginsFree}
 use Rattle.stay_explain.specs.Table.{stays_of}
@@ -20,7 +20,7 @@ Tables = List (List ℕ × List Booked)
 
 -- what contracts see of a ledger
 pub record LedgerRecord : Type 0 where
-  pub office : Records
+  pub office : OfficeView
   pub tables : Tables
 
 -- the office stands for the one after the history, and the tables are the stays of its buckets

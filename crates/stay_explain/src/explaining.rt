@@ -1,5 +1,6 @@
 // Explaining a journal.
 ghost use Rattle.std.specs.Prelude.{◌<◌, ◌≤◌, ◌++◌, ◌∷◌, [], List, IfErr, IfOk, OnOk, IsErrOf};
+ghost use Rattle.office_types.specs.Tokens.{MayCarry};
 ghost use Rattle.office_types.specs.declared.command.Entry.{Entry};
 ghost use Rattle.meter_journal.specs.History.{HasHistory};
 ghost use Rattle.meter_journal.specs.Reading.{IsMade};
@@ -22,7 +23,8 @@ const FIRST: u64 = 10;
 /// Takes the entry at this gate.
 fn take(ledger: &mut Ledger, alloc: Global, entry: Entry, gate: u64) -> Result<(), OpenFault>
     requires known { (history : List Entry) × IsLedgerOf history ledger.old }
-    requires few { ledger.old.office.accepted < most_commands }
+    requires few { ledger.old.office.records.accepted < most_commands }
+    requires carries { MayCarry entry.token entry.command }
     ensures ok { OnOk result ((history : List Entry) → IsLedgerOf history ledger.old
         → IsLedgerOf (history ++ entry ∷ []) ledger.new) }
     ensures fault { IfErr result (λ fault. IsNotTaken gate ledger.old.office entry fault) }

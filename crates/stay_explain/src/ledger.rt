@@ -1,6 +1,7 @@
 // The office after the entries that were read, and the stays of each of its buckets.
 ghost use Rattle.std.specs.Prelude.{◌≡◌, ◌<◌, ◌++◌, ◌∷◌, [], List, IfErr, IfOk, IfSome, OnOk};
 ghost use Rattle.office_base.specs.Maps.{at_name, with_name};
+ghost use Rattle.office_types.specs.Tokens.{MayCarry};
 ghost use Rattle.office_types.specs.declared.command.Entry.{Entry};
 ghost use Rattle.bucket_account.specs.Standing.{most_commands};
 ghost use Rattle.stay_explain.specs.Plans.{BeginsFree};
@@ -10,7 +11,7 @@ ghost use Rattle.stay_explain.specs.Ledgers.{IsLedgerOf, IsBookable, planned, ta
 use crate::booking::{Booking, plan};
 use crate::naming::bucket_of;
 use crate::stays::Stays;
-use desk_core::{entry_refused, entry_taken, is_in_order};
+use desk_core::{entry_is_new, entry_refused, entry_taken, is_in_order};
 use meter_journal::OpenFault;
 use office_base::{BucketName, NoMemory};
 use office_machine::Office;
@@ -104,7 +105,7 @@ impl Ledger {
 
     // What the command of an entry books, as the bucket stands before it.
     fn booking_of(&self, alloc: Global, entry: &Entry) -> Result<Option<Booking>, NoMemory>
-        ensures { IfOk result (λ made. made ≡ planned entry.now.moment entry.now.command self.now.office.accounts) }
+        ensures { IfOk result (λ made. made ≡ planned entry.now.moment entry.now.command self.now.office.records.accounts) }
     {
         let Some(name) = bucket_of(&entry.command) else {
             return Ok(None);
@@ -122,7 +123,8 @@ impl Ledger {
     /// `Damaged` at the gate: the office does not accept the entry at its place. `NoMemory`: memory ran out.
     pub(crate) fn take(&mut self, alloc: Global, entry: &Entry, gate: u64) -> Result<(), OpenFault>
         requires known { (history : List Entry) × IsLedgerOf history self.old }
-        requires few { self.old.office.accepted < most_commands }
+        requires few { self.old.office.records.accepted < most_commands }
+        requires carries { MayCarry entry.now.token entry.now.command }
         ensures ok { OnOk result ((history : List Entry) → IsLedgerOf history self.old
             → IsLedgerOf (history ++ entry.now ∷ []) self.new) }
         ensures fault { IfErr result (λ fault. IsNotTaken gate self.old.office entry.now fault) }
@@ -130,10 +132,16 @@ impl Ledger {
         if !is_in_order(self.office.last(), entry.moment) {
             return Err(OpenFault::Damaged { offset: gate });
         }
+        if let Err(fault) = entry_is_new(&self.office, entry, gate) {
+            return Err(fault);
+        }
         let Ok(booking) = self.booking_of(alloc, entry) else {
             return Err(OpenFault::NoMemory);
         };
-        let reply = match self.office.apply(entry.moment, &entry.command) {
+        let reply = match self
+            .office
+            .apply(entry.moment, entry.token.as_ref(), &entry.command)
+        {
             Ok(reply) => reply,
             Err(refusal) => return Err(entry_refused(refusal, gate)),
         };

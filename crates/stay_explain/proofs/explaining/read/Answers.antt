@@ -3,7 +3,7 @@ use Rattle.office_types.specs.declared.command.Entry.{Entry}
 use Rattle.meter_journal.specs.Reading.{frame_at, Whole, Ended}
 use Rattle.stay_explain.specs.Ledgers.{IsLedgerOf}
 use Rattle.meter_journal.proofs.Prefix.{frame_next}
-use Rattle.stay_explain.proofs.Readings.{none_read, one_read, all_read, few_read, take_fails, frame_fails}
+use Rattle.stay_explain.proofs.Readings.{none_read, one_read, all_read, few_read, carries_read, take_fails, frame_fails}
 use Rattle.stay_explain.proofs.explaining.read.Goals as goal
 
 pub reading-init : goal.reading-init
@@ -11,6 +11,11 @@ reading-init c = none_read c.args.journal.now c.new-ledger.result c.requires.mad
 
 pub take-requires-clause-few : goal.take-requires-clause-few
 take-requires-clause-few c = few_read c.args.journal.now c.reading.gate c.reading.ledger c.reading.invariant
+
+pub take-requires-clause-carries : goal.take-requires-clause-carries
+take-requires-clause-carries c =
+    let whole : frame_at c.reading.gate c.args.journal.now ≡ Whole c.in-Ok-Some.entry c.in-Ok-Some.next = search rules in
+    carries_read c.args.journal.now c.reading.gate c.in-Ok-Some.next c.reading.ledger c.in-Ok-Some.entry (λ i. omega (arith, c.type_inv.journal i)) c.reading.invariant whole
 
 pub returns-in-Err-take-clause-fails : goal.returns-in-Err-take-clause-fails
 returns-in-Err-take-clause-fails c =
