@@ -59,6 +59,8 @@ pub struct Step {
     pub at: Value,
     /// The method and the target.
     pub ask: String,
+    /// The value of a header field Office-Token.
+    pub token: Option<String>,
     pub body: Option<String>,
     /// The first and the last of the numbers for each of which the message is sent, in place of each `{n}` of it.
     pub numbers: Option<[u64; 2]>,

@@ -11,10 +11,21 @@ fn message_of(alloc: Global, step: &Step, number: &str) -> Result<String> {
         None => String::new(alloc),
     };
     let length = body.len();
+    let field = token_field(alloc, step, number)?;
     let text = format!(in alloc;
-        "{ask} HTTP/1.1\r\nHost: x\r\nContent-Length: {length}\r\n\r\n{body}"
+        "{ask} HTTP/1.1\r\nHost: x\r\n{field}Content-Length: {length}\r\n\r\n{body}"
     )?;
     Ok(text)
+}
+
+// The header field with the token of a step; nothing where it has none.
+fn token_field(alloc: Global, step: &Step, number: &str) -> Result<String> {
+    let Some(token) = &step.token else {
+        return Ok(String::new(alloc));
+    };
+    let token = token.as_str().replace(alloc, "{n}", number)?;
+    let field = format!(in alloc; "Office-Token: {token}\r\n")?;
+    Ok(field)
 }
 
 /// The messages of a session so far, and what was said to them.

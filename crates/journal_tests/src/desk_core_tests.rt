@@ -4,7 +4,7 @@ use disk_core::{Disk, FileNo, MemoryDisk};
 use meter_journal::{OpenFault, read_all};
 use moments::Month;
 use office_base::{BucketName, Key, Size, Tags, VersionId};
-use office_types::{Ask, Command, Query, Refusal, Reply};
+use office_types::{Ask, Command, Query, Refusal, Reply, Token};
 use std::alloc::Global;
 use std::io;
 use std::process::Abort;
@@ -79,30 +79,52 @@ enum Wish {
     Put(&'static str, u64),
     // The meters of January 2024.
     January(&'static str),
+    // With a token, which comes first.
+    MakeOnce(&'static str, &'static str),
+    PutOnce(&'static str, &'static str, u64),
+    ActOnce(&'static str, &'static str),
 }
 
-fn put(alloc: Global, bucket: BucketName, size: u64) -> Result<Ask, Fail> {
+fn put(alloc: Global, name: &str, size: u64) -> Result<Command, Fail> {
     let size = Size::of(size)?;
     let tags = Tags::read(alloc, Vec::new(alloc))?;
     let key = Key::read(alloc, b"a")?;
-    Ok(Ask::Command(Command::Put {
-        bucket,
+    Ok(Command::Put {
+        bucket: BucketName::read(alloc, name)?,
         key,
         size,
         class: Class::Standard,
         tags,
-    }))
+    })
+}
+
+fn make(alloc: Global, name: &str) -> Result<Command, Fail> {
+    let bucket = BucketName::read(alloc, name)?;
+    Ok(Command::CreateBucket { bucket })
+}
+
+fn act(alloc: Global, name: &str) -> Result<Command, Fail> {
+    let bucket = BucketName::read(alloc, name)?;
+    Ok(Command::Act { bucket })
+}
+
+fn once(alloc: Global, token: &str, command: Command) -> Result<Ask, Fail> {
+    let token = Token::read(alloc, token.as_bytes())?.ok_or("no token")?;
+    Ok(Ask::Once { token, command })
 }
 
 fn asked(alloc: Global, wish: Wish) -> Result<Ask, Fail> {
-    let (Wish::Make(name) | Wish::Show(name) | Wish::Put(name, _) | Wish::January(name)) = wish;
-    let month = Month::of(2024, 1).ok_or("no month")?;
-    let bucket = BucketName::read(alloc, name)?;
     match wish {
-        Wish::Make(_) => Ok(Ask::Command(Command::CreateBucket { bucket })),
-        Wish::Show(_) => Ok(Ask::Query(Query::Bucket(bucket))),
-        Wish::Put(_, size) => put(alloc, bucket, size),
-        Wish::January(_) => Ok(Ask::Query(Query::Meters(bucket, month))),
+        Wish::Make(name) => Ok(Ask::Command(make(alloc, name)?)),
+        Wish::Show(name) => Ok(Ask::Query(Query::Bucket(BucketName::read(alloc, name)?))),
+        Wish::Put(name, size) => Ok(Ask::Command(put(alloc, name, size)?)),
+        Wish::January(name) => {
+            let month = Month::of(2024, 1).ok_or("no month")?;
+            Ok(Ask::Query(Query::Meters(BucketName::read(alloc, name)?, month)))
+        }
+        Wish::MakeOnce(token, name) => once(alloc, token, make(alloc, name)?),
+        Wish::PutOnce(token, name, size) => once(alloc, token, put(alloc, name, size)?),
+        Wish::ActOnce(token, name) => once(alloc, token, act(alloc, name)?),
     }
 }
 
@@ -122,6 +144,10 @@ enum Heard {
     Missing,
     // The moment that is not below the end of time.
     Ended(u64),
+    // The token is kept with a command of this kind.
+    Reused(u8),
+    // No action is due.
+    Idle,
     Other,
 }
 
@@ -139,7 +165,12 @@ fn reply_of(reply: &Result<Reply, Refusal>) -> Heard {
         ) => Heard::Stored(moment.ms()),
         Ok(Reply::Stored { .. }) => Heard::Other,
         Ok(Reply::BucketShown { versions, .. }) => Heard::Shown(*versions),
-        Ok(Reply::MetersShown { classes, .. }) => Heard::Standard(classes[0].byte_ms),
+        Ok(Reply::MetersShown { classes, .. }) => match classes.as_slice() {
+            [standard, ..] => Heard::Standard(standard.byte_ms),
+            [] => Heard::Other,
+        },
+        Ok(Reply::NothingDue) => Heard::Idle,
+        Err(Refusal::TokenReused { kind }) => Heard::Reused(*kind),
         Err(Refusal::BucketExists) => Heard::There,
         Err(Refusal::NoSuchBucket) => Heard::Missing,
         Err(Refusal::ClockEnd { moment }) => Heard::Ended(*moment),
@@ -402,7 +433,99 @@ fn assert_rows(rt: &impl Abort, alloc: Global, rows: &[Row]) -> Result<(), Fail>
     Ok(())
 }
 
-const DESKS: &[&[Row]] = &[STALE, CLOCKS, QUERIES];
+const ONCE: Wish = Wish::MakeOnce("t1", "logs");
+
+const OTHER: Wish = Wish::MakeOnce("t1", "data");
+
+const PUT_ONCE: Wish = Wish::PutOnce("t2", "logs", 1_000);
+
+// What is said of the bucket logs, behind whose entry with a token the journal ends at 33; and of the put behind it.
+const MADE_ONCE: Said = Ok((Heard::Made, 33));
+
+const REUSED: Said = Ok((Heard::Reused(1), 33));
+
+const STORED_ONCE: Said = Ok((Heard::Stored(J0 + 5), 69));
+
+// A command that is asked again is answered as before, at any moment but the end of time. An act carries no token.
+const TOKENS: &[Row] = &[
+    (
+        &[],
+        &[J0, J0 + 1, J0 + 2, J0 + 3],
+        &[
+            (ONCE, MADE_ONCE, false),
+            (ONCE, MADE_ONCE, false),
+            (OTHER, REUSED, false),
+            (MAKE, Ok((Heard::There, 33)), false),
+        ],
+    ),
+    (
+        &[],
+        &[J0, J0 + 5, J0 + 9, J0 + 9, J0 + 9, END],
+        &[
+            (ONCE, MADE_ONCE, false),
+            (PUT_ONCE, STORED_ONCE, false),
+            (PUT_ONCE, STORED_ONCE, false),
+            (Wish::ActOnce("t1", "logs"), Ok((Heard::Idle, 69)), false),
+            (ONCE, Ok((Heard::Made, 69)), false),
+            (ONCE, Ok((ENDED, 69)), false),
+        ],
+    ),
+    // A journal without tokens is continued; what was refused is not kept.
+    (
+        &[],
+        &[J0, J0, J0, J0],
+        &[
+            NEW,
+            (ONCE, THERE, false),
+            (OTHER, Ok((Heard::Made, 53)), false),
+            (ONCE, Ok((Heard::Reused(1), 53)), false),
+        ],
+    ),
+    // Call 9 syncs the frame, call 11 its gate: then the command is done, and its reply is kept.
+    (
+        &[9],
+        &[J0, J0, J0],
+        &[
+            (ONCE, LOST, true),
+            (ONCE, MADE_ONCE, false),
+            (ONCE, MADE_ONCE, false),
+        ],
+    ),
+    (
+        &[11],
+        &[J0, J0, J0, J0],
+        &[
+            (ONCE, LOST, true),
+            (ONCE, MADE_ONCE, false),
+            (OTHER, REUSED, false),
+            (MAKE, Ok((Heard::There, 33)), false),
+        ],
+    ),
+];
+
+// A reply that is kept needs no room in the journal, also where it is opened again.
+#[test]
+fn a_kept_reply_is_given_at_the_limit(rt: HostRuntime) -> Result<(), Fail> {
+    let alloc = rt.alloc();
+    let turns = [
+        (ONCE, MADE_ONCE, false),
+        (ONCE, MADE_ONCE, false),
+        (OTHER, REUSED, false),
+        (MAKE, FULL, false),
+        (Wish::MakeOnce("t2", "logs"), FULL, false),
+    ];
+    let disk = disk_with(alloc, EMPTY, &[])?;
+    let (fault, disk) = take_turns(&rt, alloc, disk, &[J0], 33, &[(ONCE, FULL, false)])?;
+    assert_eq!(rt; fault, None);
+    let (fault, disk) = take_turns(&rt, alloc, disk, &[J0], 34, &turns)?;
+    assert_eq!(rt; fault, None);
+    let (fault, mut disk) = take_turns(&rt, alloc, disk, &[J0], 34, &turns)?;
+    assert_eq!(rt; fault, None);
+    assert_eq!(rt; read_all(alloc, &mut disk)?.len(), 34);
+    Ok(())
+}
+
+const DESKS: &[&[Row]] = &[STALE, CLOCKS, QUERIES, TOKENS];
 
 #[test]
 fn stale_desks_clocks_and_queries(rt: HostRuntime) -> Result<(), Fail> {

@@ -3,7 +3,7 @@ use entry_codec::encode;
 use meter_journal::OpenFault;
 use moments::Moment;
 use office_base::{BucketName, Key, Nth, Size, Tags, VersionId};
-use office_types::{Command, Entry};
+use office_types::{Command, Entry, Token};
 use rules_core::RuleSet;
 use rules_json::read_rules;
 use stay_explain::explain;
@@ -45,6 +45,8 @@ enum Wish<'a> {
     Abort(u64),
     Act,
     PutIn(&'a str, &'a str),
+    // With this token a bucket is made.
+    Once(&'a str, &'a str),
 }
 
 fn logs(alloc: Global) -> Result<BucketName, Fail> {
@@ -133,7 +135,7 @@ fn plain(alloc: Global, wish: Wish<'_>) -> Result<Command, Fail> {
 
 fn command(alloc: Global, wish: Wish<'_>) -> Result<Command, Fail> {
     match wish {
-        Wish::Make(name) => Ok(Command::CreateBucket {
+        Wish::Make(name) | Wish::Once(_, name) => Ok(Command::CreateBucket {
             bucket: BucketName::read(alloc, name)?,
         }),
         Wish::Rules => set_rules(alloc),
@@ -146,11 +148,35 @@ fn command(alloc: Global, wish: Wish<'_>) -> Result<Command, Fail> {
     }
 }
 
+// The token of a command that carries one.
+fn token(alloc: Global, wish: Wish<'_>) -> Result<Option<Token>, Fail> {
+    match wish {
+        Wish::Once(token, _) => Ok(Token::read(alloc, token.as_bytes())?),
+        _ => Ok(None),
+    }
+}
+
 // The spelling of a command so many milliseconds after the new year.
 fn spelled(alloc: Global, after: u64, wish: Wish<'_>) -> Result<Vec<u8>, Fail> {
     let moment = Moment::of(NEW_YEAR.saturating_add(after))?;
     let command = command(alloc, wish)?;
-    let entry = Entry { moment, command };
+    let entry = match token(alloc, wish)? {
+        None => Entry {
+            moment,
+            token: None,
+            command,
+        },
+        Some(token) => {
+            if !command.takes_token() {
+                return Err(Fail::new("it may not carry a token"));
+            }
+            Entry {
+                moment,
+                token: Some(token),
+                command,
+            }
+        }
+    };
     Ok(encode(alloc, &entry)?)
 }
 
@@ -230,6 +256,16 @@ const TABLES: &[Row] = &[
          logs,\"a,b\",v:null,STANDARD,8192,2024-01-01T00:00:00.005Z,2024-01-01T00:00:00.005Z\n\
          logs,\"a,b\",v:null,GLACIER,32769,2024-01-01T00:00:00.005Z,open\n\
          logs,\"a,b\",v:null,STANDARD,8192,2024-01-01T00:00:00.005Z,open\n",
+    ),
+    // Entries with tokens behind one without.
+    (
+        &[
+            (0, Wish::Make("logs")),
+            (1, Wish::Once("t1", "barn")),
+            (1, Wish::Once("t2", "lake")),
+            (2, Wish::PutIn("barn", "k")),
+        ],
+        "barn,k,v:null,STANDARD,1,2024-01-01T00:00:00.002Z,open\n",
     ),
     // Versions and markers; buckets in the order of their names.
     (
@@ -333,11 +369,24 @@ fn fault_of(rt: &(impl Threads + Sync), alloc: Global, bytes: &[u8]) -> Option<O
     explained(rt, alloc, bytes, 4).err()
 }
 
-// Two commands of which the office does not accept the second.
-const REFUSED: &[[(u64, Wish<'static>); 2]] = &[
-    [(0, Wish::Make("logs")), (0, Wish::Make("logs"))],
-    [(1, Wish::Make("logs")), (0, Wish::Make("barn"))],
-    [(1, Wish::Make("logs")), (1, Wish::Act)],
+// Two commands of which the office does not accept the second, and the gate of its entry.
+const REFUSED: &[(&[(u64, Wish<'static>)], u64)] = &[
+    (&[(0, Wish::Make("logs")), (0, Wish::Make("logs"))], 30),
+    (&[(1, Wish::Make("logs")), (0, Wish::Make("barn"))], 30),
+    (&[(1, Wish::Make("logs")), (1, Wish::Act)], 30),
+    (
+        &[(1, Wish::Make("logs")), (1, Wish::Once("t1", "logs"))],
+        30,
+    ),
+    // A reply is kept under the token of the first.
+    (
+        &[(1, Wish::Once("t1", "logs")), (1, Wish::Once("t1", "logs"))],
+        33,
+    ),
+    (
+        &[(1, Wish::Once("t1", "logs")), (2, Wish::Once("t1", "barn"))],
+        33,
+    ),
 ];
 
 #[test]
@@ -346,9 +395,9 @@ fn faults(rt: HostRuntime) -> Result<(), Fail> {
     assert_eq!(rt; fault_of(&rt, alloc, &[]), Some(OpenFault::NotMade));
     let other = b"another file of another kind";
     assert_eq!(rt; fault_of(&rt, alloc, other), Some(OpenFault::Foreign));
-    for wishes in REFUSED {
-        let bytes = journal(alloc, wishes)?;
-        let damaged = Some(OpenFault::Damaged { offset: 30 });
+    for (wishes, offset) in REFUSED {
+        let bytes = journal(alloc, *wishes)?;
+        let damaged = Some(OpenFault::Damaged { offset: *offset });
         assert_eq!(rt; fault_of(&rt, alloc, &bytes), damaged, "{wishes:?}");
     }
     Ok(())

@@ -33,7 +33,10 @@ fn tell_step<R: Threads + Wait + Sync>(
     let given = given_messages(alloc, &session.words, clock, messages.as_str(), session.cut)?;
     let ran = run(rt, alloc, given, disk);
     session.said.extend_from_slice(ran.out.said())?;
-    writeln!(page, "  {}", step.ask)?;
+    match &step.token {
+        Some(token) => writeln!(page, "  {} with {token}", step.ask)?,
+        None => writeln!(page, "  {}", step.ask)?,
+    }
     let [first, _] = step.numbers.unwrap_or([0, 0]);
     let replies = tell_replies(alloc, ran.out.said())?;
     put_counted(page, alloc, step.numbers.is_some(), first, &replies)?;

@@ -10,7 +10,7 @@ use meter_journal::{
 };
 use moments::Moment;
 use office_base::BucketName;
-use office_types::{Command, Entry};
+use office_types::{Command, Entry, Token};
 use std::alloc::Global;
 use std::test::Fail;
 
@@ -38,6 +38,25 @@ const TWO: &[u8] = &[
     0xA5, 0x4D, 0x45, 0x54, 0x45, 0x52, 0x4A, 0x52, 0x4E, 0x31, 0xA5, 0, 0, 0, 15, 0, 0, 0x01,
     0x8C, 0xC2, 0x51, 0xF4, 0x00, 0x01, 0, 4, 0x6C, 0x6F, 0x67, 0x73, 0xA5, 0, 0, 0, 15, 0, 0,
     0x01, 0x8C, 0xC2, 0x51, 0xF4, 0x00, 0x01, 0, 4, 0x6C, 0x6F, 0x67, 0x73, 0,
+];
+
+// The same bucket, made with the token t1.
+const ONCE: &[u8] = &[
+    0xA5, 0x4D, 0x45, 0x54, 0x45, 0x52, 0x4A, 0x52, 0x4E, 0x31, 0xA5, 0, 0, 0, 18, 0, 0, 0x01,
+    0x8C, 0xC2, 0x51, 0xF4, 0x00, 0x81, 2, 0x74, 0x31, 0, 4, 0x6C, 0x6F, 0x67, 0x73, 0,
+];
+
+// The entry without a token, and then the one with it.
+const BOTH: &[u8] = &[
+    0xA5, 0x4D, 0x45, 0x54, 0x45, 0x52, 0x4A, 0x52, 0x4E, 0x31, 0xA5, 0, 0, 0, 15, 0, 0, 0x01,
+    0x8C, 0xC2, 0x51, 0xF4, 0x00, 0x01, 0, 4, 0x6C, 0x6F, 0x67, 0x73, 0xA5, 0, 0, 0, 18, 0, 0,
+    0x01, 0x8C, 0xC2, 0x51, 0xF4, 0x00, 0x81, 2, 0x74, 0x31, 0, 4, 0x6C, 0x6F, 0x67, 0x73, 0,
+];
+
+// A token of no bytes.
+const NO_TOKEN: &[u8] = &[
+    0xA5, 0x4D, 0x45, 0x54, 0x45, 0x52, 0x4A, 0x52, 0x4E, 0x31, 0xA5, 0, 0, 0, 16, 0, 0, 0x01,
+    0x8C, 0xC2, 0x51, 0xF4, 0x00, 0x81, 0, 0, 4, 0x6C, 0x6F, 0x67, 0x73, 0,
 ];
 
 // The length says one byte more than there is.
@@ -117,6 +136,7 @@ fn entry_bytes(alloc: Global) -> Result<Vec<u8>, Fail>
     let bucket = BucketName::read(alloc, "logs")?;
     let entry = Entry {
         moment: Moment::of(1_704_067_200_000)?,
+        token: None,
         command: Command::CreateBucket { bucket },
     };
     Ok(encode(alloc, &entry)?)
@@ -224,11 +244,38 @@ fn is_logs(command: &Command) -> bool {
     }
 }
 
-// What the frame at a gate says: its moment, whether it makes the bucket logs, and the next gate; none where the gate
-// is closed.
-fn told_at(alloc: Global, file: &[u8], gate: u64) -> Result<Option<(u64, bool, u64)>, OpenFault> {
+fn is_t1(token: &Option<Token>) -> bool {
+    match token {
+        Some(token) => token.bytes() == b"t1".as_slice(),
+        None => false,
+    }
+}
+
+// Whether an entry makes the bucket logs, with the token t1 or without one.
+#[derive(Clone, Copy, Debug, PartialEq, Eq)]
+enum Told {
+    Logs,
+    LogsOnce,
+    Other,
+}
+
+fn told_by(entry: &Entry) -> Told {
+    if !is_logs(&entry.command) {
+        return Told::Other;
+    }
+    if entry.token.is_none() {
+        return Told::Logs;
+    }
+    if is_t1(&entry.token) {
+        return Told::LogsOnce;
+    }
+    Told::Other
+}
+
+// What the frame at a gate says: its moment, what its entry does, and the next gate; none where the gate is closed.
+fn told_at(alloc: Global, file: &[u8], gate: u64) -> Result<Option<(u64, Told, u64)>, OpenFault> {
     match frame(alloc, file, gate) {
-        Ok(Some((entry, next))) => Ok(Some((entry.moment.ms(), is_logs(&entry.command), next))),
+        Ok(Some((entry, next))) => Ok(Some((entry.moment.ms(), told_by(&entry), next))),
         Ok(None) => Ok(None),
         Err(fault) => Err(fault),
     }
@@ -245,9 +292,15 @@ const HEADS: &[(&[u8], Result<(), OpenFault>)] = &[
 const DAMAGED: OpenFault = OpenFault::Damaged { offset: 10 };
 
 // A file, a gate, and what the frame there says.
-const FRAMES: &[(&[u8], u64, Result<Option<(u64, bool, u64)>, OpenFault>)] = &[
-    (ONE, 10, Ok(Some((1_704_067_200_000, true, 30)))),
+const FRAMES: &[(&[u8], u64, Result<Option<(u64, Told, u64)>, OpenFault>)] = &[
+    (ONE, 10, Ok(Some((1_704_067_200_000, Told::Logs, 30)))),
     (ONE, 30, Ok(None)),
+    (ONCE, 10, Ok(Some((1_704_067_200_000, Told::LogsOnce, 33)))),
+    (ONCE, 33, Ok(None)),
+    (BOTH, 10, Ok(Some((1_704_067_200_000, Told::Logs, 30)))),
+    (BOTH, 30, Ok(Some((1_704_067_200_000, Told::LogsOnce, 53)))),
+    (BOTH, 53, Ok(None)),
+    (NO_TOKEN, 10, Err(DAMAGED)),
     (LONG, 10, Err(DAMAGED)),
     (HUGE, 10, Err(DAMAGED)),
 ];

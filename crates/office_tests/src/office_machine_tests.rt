@@ -5,7 +5,7 @@ use class_rules::Class;
 use moments::{Moment, Month};
 use office_base::{BucketName, Key, Size, Tags, VersionId};
 use office_machine::Office;
-use office_types::{Ask, ClassMeters, Command, Query, Refusal, Reply, What};
+use office_types::{Ask, ClassMeters, Command, Query, Refusal, Reply, Token, What};
 use rules_json::read_rules;
 use std::alloc::Global;
 use std::marker::Model;
@@ -41,12 +41,16 @@ struct Used {
 enum Heard {
     Made,
     Stored,
+    // Stored at another moment, in milliseconds.
+    StoredAt(u64),
     // How many versions.
     Shown(u32),
     Metered(Used),
     Exists,
     Missing,
     Full(What, u64),
+    // The token is kept with a command of this kind.
+    Reused(u8),
     // Another refusal, or a reply to something else.
     Other,
 }
@@ -67,13 +71,13 @@ struct Tried {
 
 impl Model for Tried {
     ghost use Rattle.std.specs.Prelude.{◌≤◌};
-    ghost use Rattle.office_machine.specs.Standing.{Records};
+    ghost use Rattle.office_machine.specs.Once.{OfficeView};
 
-    ghost Value = { Records };
+    ghost Value = { OfficeView };
 
     ghost view = { λ t. t.office };
 
-    ghost invariant = { λ t. t.office.accepted ≤ t.asked };
+    ghost invariant = { λ t. t.office.records.accepted ≤ t.asked };
 }
 
 // As many tags, with different keys.
@@ -135,6 +139,7 @@ impl Tried {
         let said = match asked(alloc, wish)? {
             Ask::Command(command) => self.ask(rt, moment, &command),
             Ask::Query(query) => self.show(rt, moment, &query),
+            Ask::Once { .. } => return Err(Fail::new("no token")),
         };
         Ok(answer_of(&said, ms, wish))
     }
@@ -148,7 +153,45 @@ impl Tried {
         assert!(rt; self.is_later(moment));
         assert!(rt; self.asked < 1_000_000);
         self.asked += 1;
-        self.office.apply(moment, command)
+        self.office.apply(moment, None, command)
+    }
+
+    // Asks for a command with a token: its reply is recalled, or the command is done.
+    fn ask_once(
+        &mut self,
+        rt: &impl Abort,
+        moment: Moment,
+        token: &Token,
+        command: &Command,
+    ) -> Result<Reply, Refusal> {
+        assert!(rt; command.takes_token());
+        assert!(rt; self.is_later(moment));
+        assert!(rt; self.asked < 1_000_000);
+        match self.office.recall(token, command) {
+            Ok(Some(reply)) => return Ok(reply),
+            Ok(None) => {}
+            Err(refusal) => return Err(refusal),
+        }
+        self.asked += 1;
+        self.office.apply(moment, Some(token), command)
+    }
+
+    // Does what is wished with a token, and gives what was answered.
+    fn turn_once(
+        &mut self,
+        rt: &impl Abort,
+        alloc: Global,
+        ms: u64,
+        token: &str,
+        wish: Wish<'_>,
+    ) -> Result<Heard, Fail> {
+        let moment = Moment::of(ms)?;
+        let token = Token::read(alloc, token.as_bytes())?.ok_or("no token")?;
+        let said = match asked(alloc, wish)? {
+            Ask::Command(command) => self.ask_once(rt, moment, &token, &command),
+            _ => return Err(Fail::new("no command")),
+        };
+        Ok(answer_of(&said, ms, wish))
     }
 
     fn show(&self, rt: &impl Abort, moment: Moment, query: &Query) -> Result<Reply, Refusal> {
@@ -158,7 +201,7 @@ impl Tried {
 
     // The moment is not before the last one.
     fn is_later(&self, moment: Moment) -> bool
-        ensures { result ≡ is_not_before self.now.last moment }
+        ensures { result ≡ is_not_before self.now.records.last moment }
     {
         match self.office.last() {
             Some(last) => last.ms() <= moment.ms(),
@@ -183,8 +226,12 @@ fn answer_of(said: &Result<Reply, Refusal>, ms: u64, wish: Wish<'_>) -> Heard {
         (Reply::BucketMade { bucket }, Wish::Make(name)) => (Heard::Made, bucket.text() == name),
         (Reply::Stored { moment, version }, Wish::Put(..)) => {
             (
-                Heard::Stored,
-                moment.ms() == ms && *version == VersionId::Null,
+                if moment.ms() == ms {
+                    Heard::Stored
+                } else {
+                    Heard::StoredAt(moment.ms())
+                },
+                *version == VersionId::Null,
             )
         }
         (
@@ -211,7 +258,10 @@ fn answer_of(said: &Result<Reply, Refusal>, ms: u64, wish: Wish<'_>) -> Heard {
             Wish::Meters(name, year, number),
         ) => {
             let is_month = month.year() == year && month.month() == number;
-            (metered(classes), is_month && bucket.text() == name)
+            (
+                metered(classes.as_slice()),
+                is_month && bucket.text() == name,
+            )
         }
         _ => (Heard::Other, true),
     };
@@ -223,15 +273,19 @@ fn refused(refusal: &Refusal) -> Heard {
         Refusal::BucketExists => Heard::Exists,
         Refusal::NoSuchBucket => Heard::Missing,
         Refusal::Full { what, limit } => Heard::Full(*what, *limit),
+        Refusal::TokenReused { kind } => Heard::Reused(*kind),
         _ => Heard::Other,
     }
 }
 
-fn metered(meters: &[ClassMeters; 6]) -> Heard {
+fn metered(meters: &[ClassMeters]) -> Heard {
+    let [standard, infrequent, ..] = meters else {
+        return Heard::Other;
+    };
     let used = Used {
-        standard: meters[0].byte_ms,
-        infrequent: meters[1].byte_ms,
-        early: meters[1].early_byte_ms,
+        standard: standard.byte_ms,
+        infrequent: infrequent.byte_ms,
+        early: infrequent.early_byte_ms,
     };
     let wanted = [
         used.of(Class::Standard),
@@ -241,7 +295,7 @@ fn metered(meters: &[ClassMeters; 6]) -> Heard {
         used.of(Class::Glacier),
         used.of(Class::DeepArchive),
     ];
-    if *meters == wanted {
+    if meters == wanted.as_slice() {
         Heard::Metered(used)
     } else {
         Heard::Other
@@ -523,21 +577,130 @@ fn commands_and_queries(rt: HostRuntime) -> Result<(), Fail> {
     Ok(())
 }
 
+// The moment, the token, what is wished then, what is answered, and the moment of the last accepted command after it.
+type OnceRow = (u64, &'static str, Wish<'static>, Heard, u64);
+
+// A refused command keeps nothing; an accepted one is answered as it was, at any moment.
+const ONCE: &[OnceRow] = &[
+    (5, "t1", Wish::Make("logs"), MADE, 5),
+    (6, "t1", Wish::Make("logs"), MADE, 5),
+    (6, "t1", Wish::Make("data"), Heard::Reused(1), 5),
+    (
+        6,
+        "t1",
+        Wish::Put("logs", "a", 1, STANDARD, 0),
+        Heard::Reused(1),
+        5,
+    ),
+    (7, "t2", Wish::Make("logs"), EXISTS, 5),
+    (8, "t2", Wish::Make("data"), MADE, 8),
+    (9, "t2", Wish::Make("logs"), Heard::Reused(1), 8),
+    (
+        10,
+        "t3",
+        Wish::Put("logs", "a", 1, STANDARD, 1),
+        Heard::Stored,
+        10,
+    ),
+    (
+        20,
+        "t3",
+        Wish::Put("logs", "a", 1, STANDARD, 1),
+        Heard::StoredAt(10),
+        10,
+    ),
+    (
+        20,
+        "t3",
+        Wish::Put("logs", "a", 1, STANDARD, 2),
+        Heard::Reused(5),
+        10,
+    ),
+    (
+        20,
+        "t3",
+        Wish::Put("logs", "a", 2, STANDARD, 1),
+        Heard::Reused(5),
+        10,
+    ),
+    (20, "t3", Wish::Make("zoo"), Heard::Reused(5), 10),
+    (
+        21,
+        "T3",
+        Wish::Put("logs", "a", 1, STANDARD, 1),
+        Heard::Stored,
+        21,
+    ),
+];
+
 #[test]
-fn a_thousand_buckets(rt: HostRuntime) -> Result<(), Fail> {
+fn a_command_with_a_token_acts_once(rt: HostRuntime) -> Result<(), Fail> {
     let alloc = rt.alloc();
     let mut tried = Tried::new(alloc);
+    for (index, (ms, token, wish, answer, last)) in ONCE.iter().enumerate() {
+        let heard = tried.turn_once(&rt, alloc, *ms, *token, *wish)?;
+        let found = (heard, tried.last_ms());
+        assert_eq!(rt; found, (*answer, Some(*last)), "{index}");
+    }
+    Ok(())
+}
+
+fn fill_the_replies(rt: &impl Abort, alloc: Global, tried: &mut Tried) -> Result<(), Fail> {
+    let put = Wish::Put("logs", "a", 1, STANDARD, 0);
+    for number in 0u64..9_999 {
+        let token = format!(in alloc; "t{number}")?;
+        let heard = tried.turn_once(rt, alloc, 6, &token, put)?;
+        assert_eq!(rt; heard, Heard::Stored);
+    }
+    Ok(())
+}
+
+// A command with a token, and what is answered.
+fn is_heard(
+    rt: &impl Abort,
+    alloc: Global,
+    tried: &mut Tried,
+    (ms, token, wish): (u64, &str, Wish<'_>),
+    wanted: Heard,
+) -> Result<(), Fail> {
+    let heard = tried.turn_once(rt, alloc, ms, token, wish)?;
+    assert_eq!(rt; heard, wanted, "{token} {ms}");
+    Ok(())
+}
+
+fn keep_ten_thousand(rt: &impl Abort, alloc: Global, tried: &mut Tried) -> Result<(), Fail> {
+    let (made, put) = (Wish::Make("logs"), Wish::Put("logs", "a", 1, STANDARD, 0));
+    is_heard(rt, alloc, tried, (5, "first", made), MADE)?;
+    fill_the_replies(rt, alloc, tried)?;
+    is_heard(rt, alloc, tried, (7, "first", made), MADE)?;
+    is_heard(rt, alloc, tried, (8, "t9999", put), Heard::Stored)?;
+    is_heard(rt, alloc, tried, (9, "first", made), EXISTS)?;
+    is_heard(rt, alloc, tried, (9, "t0", put), Heard::StoredAt(6))
+}
+
+// A reply is kept until 10,000 commands with other tokens were accepted.
+#[test]
+fn ten_thousand_replies_are_kept(rt: HostRuntime) -> Result<(), Fail> {
+    let mut tried = Tried::new(rt.alloc());
+    keep_ten_thousand(&rt, rt.alloc(), &mut tried)
+}
+
+fn make_a_thousand(rt: &impl Abort, alloc: Global, tried: &mut Tried) -> Result<(), Fail> {
     for number in 0u64..2_000 {
         let name = format!(in alloc; "bucket-{}", 1_000 - number % 1_000)?;
         let wanted = if number < 1_000 { MADE } else { EXISTS };
-        assert_eq!(rt;
-            tried.turn(&rt, alloc, 100, Wish::Make(&name))?,
-            wanted,
-            "{name}"
-        );
+        let heard = tried.turn(rt, alloc, 100, Wish::Make(&name))?;
+        assert_eq!(rt; heard, wanted, "{name}");
     }
-    let full = Heard::Full(What::Buckets, 1_000);
-    assert_eq!(rt; tried.turn(&rt, alloc, 101, Wish::Make("one-more"))?, full);
+    let heard = tried.turn(rt, alloc, 101, Wish::Make("one-more"))?;
+    assert_eq!(rt; heard, Heard::Full(What::Buckets, 1_000));
+    Ok(())
+}
+
+#[test]
+fn a_thousand_buckets(rt: HostRuntime) -> Result<(), Fail> {
+    let mut tried = Tried::new(rt.alloc());
+    make_a_thousand(&rt, rt.alloc(), &mut tried)?;
     assert_eq!(rt; tried.last_ms(), Some(100));
     Ok(())
 }

@@ -14,6 +14,8 @@ mod moments_tests;
 #[cfg(test)]
 mod office_base_tests;
 #[cfg(test)]
+mod office_types_tests;
+#[cfg(test)]
 mod rules_core_tests;
 #[cfg(test)]
 mod stacks_tests;

@@ -2,7 +2,7 @@ use crate::given::{month, text};
 use class_rules::Class;
 use std::alloc::Global;
 use std::process::Abort;
-use tariff::{Tariff, TariffFault, charge, move_charge};
+use tariff::{Tariff, TariffFault, Tier, Tiers, charge, move_charge};
 
 const STORAGE: [u32; 6] = [23_000, 12_500, 10_000, 4_000, 3_600, 990];
 
@@ -19,7 +19,10 @@ const OF_CLASSES: [(Class, u32, u32); 3] = [
 fn prices_by_class(rt: HostRuntime) {
     let tariff = Tariff::of(STORAGE, TRANSITION).expect(&rt, "a tariff");
     for (class, storage, transition) in &OF_CLASSES {
-        let prices = (tariff.storage_price(*class), tariff.move_price(*class));
+        let tiers = tariff.storage_tiers(*class).list();
+        assert_eq!(rt; tiers.len(), 1, "{class:?}");
+        assert_eq!(rt; tiers[0].upto, None, "{class:?}");
+        let prices = (tiers[0].price, tariff.move_price(*class));
         assert_eq!(rt; prices, (*storage, *transition), "{class:?}");
     }
 }
@@ -57,7 +60,73 @@ const CHARGES: [(u128, u32, u128); 5] = [
 fn charges_of_a_month(rt: HostRuntime) {
     let january = month(&rt, 2024, 1);
     for (used, price, wanted) in &CHARGES {
-        assert_eq!(rt; charge(*used, *price, january), *wanted, "{used} {price}");
+        let tiers = Tiers::one(*price).expect(&rt, "a price");
+        assert_eq!(rt; charge(*used, &tiers, january), *wanted, "{used} {price}");
+    }
+}
+
+// Up to a GiB-month, from there up to fifty, and all above.
+const IN_TIERS: [Tier; 3] = [
+    Tier {
+        upto: Some(1),
+        price: 23_000,
+    },
+    Tier {
+        upto: Some(50),
+        price: 20_000,
+    },
+    Tier {
+        upto: None,
+        price: 19_001,
+    },
+];
+
+// Byte-milliseconds of January 2024, and the charge: half a GiB for the whole month, a GiB, one byte-millisecond more and
+// as many as give the next unit, three GiB, fifty, 50.5, and the largest quantity of 128 bits.
+const TIERED: [(u128, u128); 8] = [
+    (1_437_955_050_700_800_000, 11_500),
+    (2_875_910_101_401_600_000, 23_000),
+    (2_875_910_101_401_600_001, 23_000),
+    (2_876_053_896_906_670_080, 23_001),
+    (8_627_730_304_204_800_000, 63_000),
+    (143_795_505_070_080_000_000, 1_003_000),
+    (145_233_460_120_780_800_000, 1_012_500),
+    (u128::MAX, 2_248_229_265_133_716_664_651_110),
+];
+
+#[test]
+fn charges_in_tiers(rt: HostRuntime) {
+    let january = month(&rt, 2024, 1);
+    let tiers = Tiers::from_slice(&IN_TIERS).expect(&rt, "tiers");
+    for (used, wanted) in &TIERED {
+        assert_eq!(rt; charge(*used, &tiers, january), *wanted, "{used}");
+    }
+}
+
+// Ends and prices, and whether they are tiers of a class.
+const TIER_LISTS: [(&[(Option<u32>, u32)], bool); 8] = [
+    (&[], false),
+    (&[(None, 1_048_576)], true),
+    (&[(None, 1_048_577)], false),
+    (&[(Some(4_294_967_295), 1), (None, 1)], true),
+    (&[(Some(0), 1), (None, 1)], false),
+    (&[(Some(5), 1), (Some(5), 1), (None, 1)], false),
+    (&[(Some(5), 1)], false),
+    (&[(None, 1), (None, 1)], false),
+];
+
+#[test]
+fn tiers_of_a_class(rt: HostRuntime) {
+    for (index, (rows, is_some)) in TIER_LISTS.iter().enumerate() {
+        let mut tiers = Vec::new(rt.alloc());
+        for (upto, price) in *rows {
+            let tier = Tier {
+                upto: *upto,
+                price: *price,
+            };
+            tiers.push(tier).expect(&rt, "memory");
+        }
+        assert_eq!(rt; Tiers::of(tiers).is_some(), *is_some, "{index}");
     }
 }
 
@@ -98,6 +167,8 @@ fn told_fault(rt: &impl Abort, alloc: Global, fault: &TariffFault) -> String {
             named(rt, alloc, "BadPrice", table.name(), class.name())
         }
         TariffFault::UnknownField { name } => joined(rt, alloc, "UnknownField ", name),
+        TariffFault::BadTiers { class } => joined(rt, alloc, "BadTiers ", class.name()),
+        TariffFault::BadFrom => text(rt, alloc, "BadFrom"),
         TariffFault::NoMemory => text(rt, alloc, "NoMemory"),
     }
 }
@@ -112,9 +183,29 @@ fn listed(rt: &impl Abort, alloc: Global, prices: &[u32]) -> String {
     text
 }
 
+// Tiers, each behind a space: up to where it goes, if it ends, and its price.
+fn listed_tiers(rt: &impl Abort, alloc: Global, tariff: &Tariff) -> String {
+    let mut text = String::new(alloc);
+    for tiers in &tariff.storage {
+        for tier in tiers.list() {
+            let price = tier.price;
+            let word = match tier.upto {
+                Some(upto) => format!(in alloc; " {upto}:{price}").expect(rt, "memory"),
+                None => format!(in alloc; " {price}").expect(rt, "memory"),
+            };
+            text.push_str(word.as_str()).expect(rt, "memory");
+        }
+    }
+    text
+}
+
 fn told_prices(rt: &impl Abort, alloc: Global, tariff: &Tariff) -> String {
-    let storage = listed(rt, alloc, &tariff.storage);
-    joined(rt, alloc, &storage, &listed(rt, alloc, &tariff.transition))
+    let storage = listed_tiers(rt, alloc, tariff);
+    let prices = joined(rt, alloc, &storage, &listed(rt, alloc, &tariff.transition));
+    match tariff.from.number() {
+        0 => prices,
+        from => format!(in alloc; "{from}{prices}").expect(rt, "memory"),
+    }
 }
 
 const STORAGE_TABLE: &str = "[storage]\nSTANDARD = 0\nSTANDARD_IA = 1_048_576\nONEZONE_IA = 10000\n\
@@ -123,13 +214,71 @@ GLACIER_IR = +4000\nGLACIER = 0xe10\nDEEP_ARCHIVE = 990 # in units\n";
 const TRANSITION_TABLE: &str = "[transition]\nDEEP_ARCHIVE = 50\nGLACIER = 30\nGLACIER_IR = 20\n\
 ONEZONE_IA = 11\n\"STANDARD_IA\" = 10\n";
 
+const WHOLE: &str =
+    "[storage]\nSTANDARD = 0\nSTANDARD_IA = 1_048_576\nONEZONE_IA = 10000\nGLACIER_IR = +4000\n\
+GLACIER = 0xe10\nDEEP_ARCHIVE = 990\n[transition]\nDEEP_ARCHIVE = 50\nGLACIER = 30\nGLACIER_IR = 20\n\
+ONEZONE_IA = 11\nSTANDARD_IA = 10\n";
+
+const OTHERS: &str =
+    "STANDARD_IA = 1\nONEZONE_IA = 1\nGLACIER_IR = 1\nGLACIER = 1\nDEEP_ARCHIVE = 1\n\
+[transition]\nDEEP_ARCHIVE = 50\nGLACIER = 30\nGLACIER_IR = 20\nONEZONE_IA = 11\nSTANDARD_IA = 10\n";
+
 const PRICES: &str = " 0 1048576 10000 4000 3600 990 10 11 20 30 50";
 
 // Two texts that stand one behind the other, and what is told of them: TOML v1.1.0 for the texts, the S3 User Guide for
 // the classes.
-const TARIFFS: [(&str, &str, &str); 26] = [
+const TARIFFS: [(&str, &str, &str); 44] = [
     (STORAGE_TABLE, TRANSITION_TABLE, PRICES),
     (TRANSITION_TABLE, STORAGE_TABLE, PRICES),
+    // A first month, which may stand anywhere at the top.
+    (
+        "from = \"2024-01\"\n",
+        WHOLE,
+        "648 0 1048576 10000 4000 3600 990 10 11 20 30 50",
+    ),
+    ("from = \"1970-01\"\n", WHOLE, PRICES),
+    ("from = \"2099-12\"\n", "", "MissingClass storage STANDARD"),
+    ("from = \"2024-13\"\n", WHOLE, "BadFrom"),
+    ("from = \"2100-01\"\n", WHOLE, "BadFrom"),
+    ("from = \"1969-12\"\n", WHOLE, "BadFrom"),
+    ("from = \"2024-1\"\n", WHOLE, "BadFrom"),
+    ("from = 2024-01-01\n", WHOLE, "BadFrom"),
+    ("[from]\n", WHOLE, "BadFrom"),
+    // Fields that are none come before it, and it comes before names that are none.
+    ("from = 1\nzone = 1\n", "", "UnknownField zone"),
+    ("from = 1\n", "[storage]\nGOLD = 1\n", "BadFrom"),
+    // Tiers.
+    (
+        "[storage]\nSTANDARD = [{ upto = 1, price = 23000 }, { price = 20000 }]\n",
+        OTHERS,
+        " 1:23000 20000 1 1 1 1 1 10 11 20 30 50",
+    ),
+    (
+        "[[storage.STANDARD]]\nprice = 7\n",
+        "",
+        "MissingClass storage STANDARD_IA",
+    ),
+    (
+        "[storage]\nSTANDARD = [{ upto = 5, price = 9999999 }, { upto = 5, price = 1 }, { price = 1 }]\n",
+        OTHERS,
+        "BadTiers STANDARD",
+    ),
+    ("[storage]\nSTANDARD = []\n", OTHERS, "BadTiers STANDARD"),
+    (
+        "[storage]\nSTANDARD = [{ upto = 5, price = 1, to = 1 }, { price = 1 }]\n",
+        OTHERS,
+        "BadTiers STANDARD",
+    ),
+    (
+        "[storage]\nSTANDARD = [{ upto = 4294967296, price = 1 }, { price = 1 }]\n",
+        OTHERS,
+        "BadTiers STANDARD",
+    ),
+    (
+        "[storage]\nSTANDARD = [{ upto = 5, price = 1 }, { price = -1 }]\n",
+        OTHERS,
+        "BadPrice storage STANDARD",
+    ),
     // No document.
     ("storage", "", "NotToml"),
     (STORAGE_TABLE, "[storage]\n", "NotToml"),

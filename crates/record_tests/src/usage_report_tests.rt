@@ -3,7 +3,7 @@ ghost use Rattle.office_types.specs.Reports.{charges};
 
 use class_rules::Class;
 use office_base::BucketName;
-use office_types::{LineKind, ReportLine};
+use office_types::{LineKind, Price, ReportLine};
 use std::alloc::Global;
 use std::process::Abort;
 use usage_report::{report_csv, report_text};
@@ -81,7 +81,7 @@ fn line_of(rt: &impl Abort, alloc: Global, row: &Row) -> ReportLine
         kind,
         class,
         quantity,
-        price,
+        price: Price::One(price),
         charge,
     }
 }

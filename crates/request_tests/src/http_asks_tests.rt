@@ -1,7 +1,7 @@
 use crate::meanings::{NO, meant_by_bad, meant_by_command, meant_by_query, put};
 use http_asks::{Bad, Heard, Reader};
 use http_wire::{MemorySource, MessageStop};
-use office_types::{Ask, Command, Query};
+use office_types::{Ask, Command, Query, Token};
 use std::alloc::Global;
 use std::process::Abort;
 use std::test::Fail;
@@ -19,7 +19,7 @@ fn hear(
     let (meaning, ending, is_last) = match &heard {
         Ok(
             Heard::Asked {
-                ask: Ask::Command(command),
+                ask: Ask::Command(command) | Ask::Once { command, .. },
                 last,
             },
         ) => (meant_by_command(command), after(*last), *last),
@@ -35,8 +35,24 @@ fn hear(
         Err(_) => (("Stop", [NO, NO, NO, NO, NO]), "", true),
     };
     put(text, &meaning)?;
+    if let Some(token) = token_of(&heard) {
+        write!(text, " with {}", str::from_utf8(token.bytes())?)?;
+    }
     text.push_str(ending)?;
     Ok(is_last)
+}
+
+// The token of what is heard.
+fn token_of(heard: &Result<Heard, MessageStop>) -> Option<&Token> {
+    match heard {
+        Ok(
+            Heard::Asked {
+                ask: Ask::Once { token, .. },
+                ..
+            },
+        ) => Some(token),
+        _ => None,
+    }
 }
 
 // What is written behind the meaning of a message.
@@ -379,9 +395,29 @@ const PRICES: &str =
     "[storage]\nSTANDARD = 6\nSTANDARD_IA = 5\nONEZONE_IA = 4\nGLACIER_IR = 3\nGLACIER = 2\n\
 DEEP_ARCHIVE = 1\n[transition]\nSTANDARD_IA = 0\nONEZONE_IA = 7\nGLACIER_IR = 8\nGLACIER = 9\nDEEP_ARCHIVE = 10\n";
 
+const TIERS: &str =
+    "from = \"2024-01\"\n[storage]\nSTANDARD = [{ upto = 1, price = 23000 }, { price = 20000 }]\n\
+STANDARD_IA = 5\nONEZONE_IA = 4\nGLACIER_IR = 3\nGLACIER = 2\nDEEP_ARCHIVE = 1\n[transition]\nSTANDARD_IA = 0\n\
+ONEZONE_IA = 7\nGLACIER_IR = 8\nGLACIER = 9\nDEEP_ARCHIVE = 10\n";
+
 // TOML v1.1.0 for the bodies.
 const MONTHS: &[Row] = &[
-    ("PUT /tariff", PRICES, "SetTariff 6 5 4 3 2 1 0 7 8 9 10"),
+    (
+        "PUT /tariff",
+        PRICES,
+        "SetTariff 1970/1 6 5 4 3 2 1 0 7 8 9 10",
+    ),
+    (
+        "PUT /tariff",
+        TIERS,
+        "SetTariff 2024/1 1:23000 20000 5 4 3 2 1 0 7 8 9 10",
+    ),
+    (
+        "PUT /tariff",
+        "[storage]\nSTANDARD = [{ upto = 5, price = 2 }, { upto = 5, price = 1 }, { price = 0 }]\n",
+        "BadTiers STANDARD",
+    ),
+    ("PUT /tariff", "from = \"2024-13\"\n", "BadFrom"),
     ("GET /tariff", "", "Tariff"),
     ("GET /tariff", "[", "Tariff"),
     // The body goes as it stands to the reader of tariffs, an empty one too.
@@ -525,6 +561,129 @@ const ENDINGS: &[(&str, &str)] = &[
 fn the_last_messages_of_a_session(rt: HostRuntime) -> Result<(), Fail> {
     for (stream, wanted) in ENDINGS {
         assert_heard(&rt, rt.alloc(), *stream, CUTS, *wanted)?;
+    }
+    Ok(())
+}
+
+// The first line and the fields of a request, its body, and what it means. A token is 1 to 64 visible characters.
+const TOKENS: &[Row] = &[
+    (
+        "PUT /buckets/logs HTTP/1.1\r\nOffice-Token: t1",
+        "",
+        "CreateBucket logs with t1",
+    ),
+    (
+        "PUT /buckets/logs HTTP/1.1\r\noffice-TOKEN:t1",
+        "",
+        "CreateBucket logs with t1",
+    ),
+    (
+        "PUT /buckets/logs/objects/a HTTP/1.1\r\nOffice-Token: !~",
+        "{\"size\":5}",
+        "Put logs a 5 STANDARD with !~",
+    ),
+    (
+        "POST /months/2024-02/close HTTP/1.1\r\nOffice-Token: a,b",
+        "",
+        "Close 2024/2 with a,b",
+    ),
+    (
+        "DELETE /buckets/logs/lifecycle HTTP/1.1\r\nOffice-Token: \
+0123456789012345678901234567890123456789012345678901234567890123",
+        "",
+        "DropRules logs with 0123456789012345678901234567890123456789012345678901234567890123",
+    ),
+    (
+        "DELETE /buckets/logs/lifecycle HTTP/1.1\r\nOffice-Token: \
+01234567890123456789012345678901234567890123456789012345678901234",
+        "",
+        "BadToken",
+    ),
+    (
+        "PUT /buckets/logs HTTP/1.1\r\nOffice-Token: t 1",
+        "",
+        "BadToken",
+    ),
+    (
+        "PUT /buckets/logs HTTP/1.1\r\nOffice-Token:",
+        "",
+        "BadToken",
+    ),
+    (
+        "PUT /buckets/logs HTTP/1.1\r\nOffice-Token: t\u{e9}",
+        "",
+        "BadToken",
+    ),
+    (
+        "PUT /buckets/logs HTTP/1.1\r\nOffice-Token: t1\r\nHost: x\r\noffice-token: t1",
+        "",
+        "BadToken",
+    ),
+    // Rules, acts and prices carry none; a token that is none comes first.
+    (
+        "PUT /buckets/logs/lifecycle HTTP/1.1\r\nOffice-Token: t1",
+        "{\"Rules\":[]}",
+        "TokenNotServed",
+    ),
+    (
+        "POST /buckets/logs/act HTTP/1.1\r\nOffice-Token: t1",
+        "",
+        "TokenNotServed",
+    ),
+    (
+        "PUT /tariff HTTP/1.1\r\nOffice-Token: t1",
+        PRICES,
+        "TokenNotServed",
+    ),
+    (
+        "POST /buckets/logs/act HTTP/1.1\r\nOffice-Token: t 1",
+        "",
+        "BadToken",
+    ),
+    (
+        "POST /buckets/logs/act HTTP/1.1\r\nOffice-Token: t1\r\nOffice-Token: t2",
+        "",
+        "BadToken",
+    ),
+    // The field is looked at where there is a command alone.
+    (
+        "GET /buckets/logs HTTP/1.1\r\nOffice-Token: t 1",
+        "",
+        "Bucket logs",
+    ),
+    (
+        "GET /tariff HTTP/1.1\r\nOffice-Token: t1\r\nOffice-Token: t2",
+        "",
+        "Tariff",
+    ),
+    (
+        "PUT /buckets/lo HTTP/1.1\r\nOffice-Token: t 1",
+        "",
+        "BadBucketName",
+    ),
+    (
+        "PUT /tariff HTTP/1.1\r\nOffice-Token: t1",
+        "",
+        "MissingClass STANDARD in storage",
+    ),
+    ("PUT /bucket HTTP/1.1\r\nOffice-Token: t 1", "", "NoRoute"),
+    (
+        "DELETE /tariff HTTP/1.1\r\nOffice-Token: t 1",
+        "",
+        "BadMethod",
+    ),
+];
+
+#[test]
+fn requests_with_a_token(rt: HostRuntime) -> Result<(), Fail> {
+    let alloc = rt.alloc();
+    for (start, body, meaning) in TOKENS {
+        let stream = format!(in alloc;
+            "{start}\r\nContent-Length: {}\r\n\r\n{body}{NEXT}",
+            body.len()
+        )?;
+        let wanted = format!(in alloc; "{meaning}; Bucket next; End")?;
+        assert_heard(&rt, alloc, &stream, CUTS, &wanted)?;
     }
     Ok(())
 }

@@ -8,7 +8,7 @@ use office_types::{Command, Query};
 use rules_core::{RuleFlaw, RuleSet};
 use rules_json::RulesFault;
 use std::test::Fail;
-use tariff::{Tariff, TariffFault, TariffTable};
+use tariff::{Tariff, TariffFault, TariffTable, Tiers};
 
 // A word of what a message means.
 #[derive(Clone, Copy)]
@@ -141,7 +141,13 @@ pub(crate) fn meant_by_command(command: &Command) -> Meaning<'_> {
                 [Word::Bucket(bucket), Word::Number(*upload), NO, NO, NO],
             )
         }
-        Command::SetTariff { tariff } => ("SetTariff", [Word::Prices(tariff), NO, NO, NO, NO]),
+        Command::SetTariff { tariff } => {
+            let tariff = tariff.get();
+            (
+                "SetTariff",
+                [Word::Month(tariff.from), Word::Prices(tariff), NO, NO, NO],
+            )
+        }
         Command::Close { month } => ("Close", [Word::Month(*month), NO, NO, NO, NO]),
     }
 }
@@ -240,6 +246,8 @@ fn meant_by_tariff(fault: &TariffFault) -> Meaning<'_> {
                 NO,
             ],
         ),
+        TariffFault::BadTiers { class } => ("BadTiers", [Word::Class(*class), NO, NO, NO, NO]),
+        TariffFault::BadFrom => ("BadFrom", [NO, NO, NO, NO, NO]),
         TariffFault::UnknownField { name } => ("TariffField", [Word::Text(name), NO, NO, NO, NO]),
         TariffFault::NoMemory => ("NoMemory", [NO, NO, NO, NO, NO]),
     }
@@ -270,6 +278,8 @@ pub(crate) fn meant_by_bad(bad: &Bad) -> Meaning<'_> {
         Bad::Body(fault) => meant_by_body(fault),
         Bad::Rules(fault) => meant_by_rules(fault),
         Bad::Tariff(fault) => meant_by_tariff(fault),
+        Bad::BadToken => ("BadToken", [NO, NO, NO, NO, NO]),
+        Bad::TokenNotServed => ("TokenNotServed", [NO, NO, NO, NO, NO]),
     }
 }
 
@@ -306,6 +316,17 @@ fn number_of(word: &Word<'_>) -> Option<u64> {
     }
 }
 
+// The tiers of a class, each by its end and its price.
+fn put_tiers(text: &mut String, tiers: &Tiers) -> Result<(), Fail> {
+    for tier in tiers.list() {
+        match tier.upto {
+            Some(upto) => write!(text, " {upto}:{}", tier.price)?,
+            None => write!(text, " {}", tier.price)?,
+        }
+    }
+    Ok(())
+}
+
 fn put_word(text: &mut String, word: &Word<'_>) -> Result<(), Fail> {
     if let Some(word) = text_of(word) {
         write!(text, " {word}")?;
@@ -320,7 +341,10 @@ fn put_word(text: &mut String, word: &Word<'_>) -> Result<(), Fail> {
             }
         }
         Word::Prices(tariff) => {
-            for price in tariff.storage.iter().chain(&tariff.transition) {
+            for tiers in &tariff.storage {
+                put_tiers(text, tiers)?;
+            }
+            for price in &tariff.transition {
                 write!(text, " {price}")?;
             }
         }

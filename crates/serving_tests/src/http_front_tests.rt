@@ -270,6 +270,10 @@ enum Refused {
     NotToml,
     MissingClass,
     BadPrice,
+    BadTiers,
+    BadFrom,
+    BadToken,
+    TokenNotServed,
 }
 
 fn bad_of(refused: Refused) -> Bad {
@@ -293,6 +297,12 @@ fn bad_of(refused: Refused) -> Bad {
             table: TariffTable::Transition,
             class: Class::StandardIa,
         }),
+        Refused::BadTiers => http_asks::Bad::Tariff(TariffFault::BadTiers {
+            class: Class::Standard,
+        }),
+        Refused::BadFrom => http_asks::Bad::Tariff(TariffFault::BadFrom),
+        Refused::BadToken => http_asks::Bad::BadToken,
+        Refused::TokenNotServed => http_asks::Bad::TokenNotServed,
     })
 }
 
@@ -357,6 +367,30 @@ const REFUSALS: &[(Refused, &[u8], &[u8], &[u8])] = &[
         b"400 Bad Request",
         b"75",
         b"{\"class\":\"STANDARD_IA\",\"error\":\"BadPrice\",\"number\":72,\"table\":\"transition\"}",
+    ),
+    (
+        Refused::BadTiers,
+        b"400 Bad Request",
+        b"51",
+        b"{\"class\":\"STANDARD\",\"error\":\"BadTiers\",\"number\":74}",
+    ),
+    (
+        Refused::BadFrom,
+        b"400 Bad Request",
+        b"31",
+        b"{\"error\":\"BadFrom\",\"number\":75}",
+    ),
+    (
+        Refused::BadToken,
+        b"400 Bad Request",
+        b"33",
+        b"{\"error\":\"BadToken\",\"number\":128}",
+    ),
+    (
+        Refused::TokenNotServed,
+        b"400 Bad Request",
+        b"39",
+        b"{\"error\":\"TokenNotServed\",\"number\":129}",
     ),
 ];
 
@@ -696,13 +730,22 @@ fn failing_replies_are_counted_together(rt: HostRuntime) -> Result<(), Fail> {
     Ok(())
 }
 
-fn made(alloc: Global) -> Result<Acked, Fail> {
-    let bucket = BucketName::read(alloc, "logs")?;
-    let mut desk = open_desk(alloc)?;
-    match desk.submit(&Ask::Command(Command::CreateBucket { bucket })) {
+fn submitted(desk: &mut Desk<MemoryDisk, ListClock>, ask: &Ask) -> Result<Acked, Fail> {
+    match desk.submit(ask) {
         Ok(acked) => Ok(acked),
         Err(_) => Err(Fail::new("no answer")),
     }
+}
+
+fn made_on(desk: &mut Desk<MemoryDisk, ListClock>, bucket: BucketName) -> Result<Acked, Fail> {
+    let ask = Ask::Command(Command::CreateBucket { bucket });
+    submitted(desk, &ask)
+}
+
+fn made(alloc: Global) -> Result<Acked, Fail> {
+    let bucket = BucketName::read(alloc, "logs")?;
+    let mut desk = open_desk(alloc)?;
+    made_on(&mut desk, bucket)
 }
 
 #[test]

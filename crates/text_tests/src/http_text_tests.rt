@@ -1,3 +1,4 @@
+ghost use Rattle.std.specs.Prelude.{◌<◌, ◌^◌};
 ghost use Rattle.office_types.specs.Fits.{AnswerFits, RefusalFits, ReplyFits};
 
 use crate::given::{id, key, moment, month, name, size, tags, text};
@@ -5,13 +6,13 @@ use class_rules::Class;
 use due_core::{ActionKind, Target};
 use http_text::{is_short, print_answer, put_answer};
 use office_base::{Items, Key, Text, VersionId};
-use office_types::{ClassMeters, LineKind, Refusal, Reply, ReportLine, What};
+use office_types::{ClassMeters, LineKind, Price, Refusal, Reply, ReportLine, What};
 use rules_json::read_rules;
 use stacks::{Kind, Stack, Version, Versioning};
 use std::alloc::Global;
 use std::collections::BTreeMap;
 use std::process::Abort;
-use tariff::Tariff;
+use tariff::{Tariff, Tier, Tiers};
 use uploads::{Part, Upload};
 
 const JSON: &str = "application/json";
@@ -128,6 +129,7 @@ enum More {
     Due(&'static [u8], On),
     ClockEnd,
     Full(What, u64),
+    TokenReused(u8),
 }
 
 fn telling(rt: &impl Abort, alloc: Global, told: More) -> Refusal
@@ -149,10 +151,11 @@ fn telling(rt: &impl Abort, alloc: Global, told: More) -> Refusal
             moment: 4_102_444_800_000,
         },
         More::Full(what, limit) => Refusal::Full { what, limit },
+        More::TokenReused(kind) => Refusal::TokenReused { kind },
     }
 }
 
-const TELLING: [(More, &str, &str); 11] = [
+const TELLING: [(More, &str, &str); 14] = [
     (
         More::MonthNotOver,
         CONFLICT,
@@ -207,6 +210,21 @@ const TELLING: [(More, &str, &str); 11] = [
         More::Full(What::Rules, 67_108_864),
         FULL,
         "{\"error\":\"Full\",\"limit\":67108864,\"number\":90,\"what\":\"Rules\"}",
+    ),
+    (
+        More::Full(What::Tariffs, 100),
+        FULL,
+        "{\"error\":\"Full\",\"limit\":100,\"number\":90,\"what\":\"Tariffs\"}",
+    ),
+    (
+        More::TokenReused(1),
+        CONFLICT,
+        "{\"error\":\"TokenReused\",\"kind\":1,\"number\":92}",
+    ),
+    (
+        More::TokenReused(15),
+        CONFLICT,
+        "{\"error\":\"TokenReused\",\"kind\":15,\"number\":92}",
     ),
 ];
 
@@ -438,17 +456,18 @@ fn used(class: Class, byte_ms: u128, early_byte_ms: u128, moves: u64) -> ClassMe
 fn meters_shown(rt: &impl Abort, alloc: Global) -> Reply
     ensures { ReplyFits result }
 {
+    let classes = vec![in alloc;
+        used(Class::Standard, 259_200_000_000, 0, 0),
+        used(Class::StandardIa, 0, 345_600_000_000_000, 1),
+        used(Class::OnezoneIa, 0, 0, 0),
+        used(Class::GlacierIr, 0, 0, 0),
+        used(Class::Glacier, 0, 0, 0),
+        used(Class::DeepArchive, u128::MAX, 0, u64::MAX),
+    ];
     Reply::MetersShown {
         bucket: name(rt, alloc, "logs"),
         month: month(rt, 2024, 1),
-        classes: [
-            used(Class::Standard, 259_200_000_000, 0, 0),
-            used(Class::StandardIa, 0, 345_600_000_000_000, 1),
-            used(Class::OnezoneIa, 0, 0, 0),
-            used(Class::GlacierIr, 0, 0, 0),
-            used(Class::Glacier, 0, 0, 0),
-            used(Class::DeepArchive, u128::MAX, 0, u64::MAX),
-        ],
+        classes: Items::of(classes.expect(rt, "memory")),
     }
 }
 
@@ -464,7 +483,7 @@ const METERS: &str = "{\"bucket\":\"logs\",\"classes\":[\
 #[test]
 fn meters(rt: HostRuntime) {
     let shown = Ok(meters_shown(&rt, rt.alloc()));
-    is_printed(&rt, rt.alloc(), &shown, OK, METERS);
+    is_kept(&rt, rt.alloc(), &shown, JSON, METERS);
 }
 
 #[test]
@@ -562,17 +581,42 @@ const STORAGE: [u32; 6] = [23_000, 12_500, 10_000, 4_000, 3_600, 990];
 
 const TRANSITION: [u32; 5] = [10, 11, 20, 30, 50];
 
-const PRICES: &str =
-    "{\"storage\":{\"DEEP_ARCHIVE\":990,\"GLACIER\":3600,\"GLACIER_IR\":4000,\"ONEZONE_IA\":10000,\
+// Of the first tariff one price a class, of the second one tiers, from a later month on.
+const PRICES: &str = "{\"tariffs\":[{\"from\":\"1970-01\",\
+\"storage\":{\"DEEP_ARCHIVE\":990,\"GLACIER\":3600,\"GLACIER_IR\":4000,\"ONEZONE_IA\":10000,\
 \"STANDARD\":23000,\"STANDARD_IA\":12500},\"transition\":{\"DEEP_ARCHIVE\":50,\"GLACIER\":30,\"GLACIER_IR\":20,\
-\"ONEZONE_IA\":11,\"STANDARD_IA\":10}}";
+\"ONEZONE_IA\":11,\"STANDARD_IA\":10}},{\"from\":\"2024-03\",\
+\"storage\":{\"DEEP_ARCHIVE\":990,\"GLACIER\":3600,\"GLACIER_IR\":4000,\"ONEZONE_IA\":10000,\
+\"STANDARD\":[{\"price\":23000,\"upto\":1},{\"price\":20000,\"upto\":4294967295},{\"price\":0}],\"STANDARD_IA\":12500},\
+\"transition\":{\"DEEP_ARCHIVE\":50,\"GLACIER\":30,\"GLACIER_IR\":20,\"ONEZONE_IA\":11,\"STANDARD_IA\":10}}]}";
+
+const THREE_TIERS: [Tier; 3] = [
+    Tier {
+        upto: Some(1),
+        price: 23_000,
+    },
+    Tier {
+        upto: Some(4_294_967_295),
+        price: 20_000,
+    },
+    Tier {
+        upto: None,
+        price: 0,
+    },
+];
 
 #[test]
 fn the_prices(rt: HostRuntime) {
+    let alloc = rt.alloc();
+    let flat = Tariff::of(STORAGE, TRANSITION).expect(&rt, "a tariff");
+    let mut tiered = flat;
+    tiered.from = month(&rt, 2024, 3);
+    tiered.storage[0] = Tiers::from_slice(&THREE_TIERS).expect(&rt, "tiers");
+    let tariffs = vec![in alloc; flat, tiered].expect(&rt, "memory");
     let shown = Ok(Reply::TariffShown {
-        tariff: Tariff::of(STORAGE, TRANSITION).expect(&rt, "a tariff"),
+        tariffs: Items::of(tariffs),
     });
-    is_kept(&rt, rt.alloc(), &shown, JSON, PRICES);
+    is_kept(&rt, alloc, &shown, JSON, PRICES);
 }
 
 const RULES: &[u8] =
@@ -591,17 +635,18 @@ fn a_configuration(rt: HostRuntime) {
     is_kept(&rt, rt.alloc(), &shown, JSON, CONFIGURATION);
 }
 
-// A GiB for the whole of January 2024.
-fn january(rt: &impl Abort, alloc: Global) -> Reply
+// Of January 2024 a line of STANDARD.
+fn january(rt: &impl Abort, alloc: Global, quantity: u128, price: Price, charge: u128) -> Reply
+    requires { charge < 2 ^ 64 }
     ensures { ReplyFits result }
 {
     let line = ReportLine {
         bucket: name(rt, alloc, "logs"),
         kind: LineKind::Storage,
         class: Class::Standard,
-        quantity: 2_875_910_101_401_600_000,
-        price: 23_000,
-        charge: 23_000,
+        quantity,
+        price,
+        charge,
     };
     Reply::Report {
         lines: Items::of(vec![in alloc; line].expect(rt, "memory")),
@@ -611,8 +656,17 @@ fn january(rt: &impl Abort, alloc: Global) -> Reply
 const REPORT: &str =
     "bucket,line,class,quantity,price,charge\nlogs,storage,STANDARD,2875910101401600000,23000,23000\n,total,,,,23000\n";
 
+const IN_TIERS: &str =
+    "bucket,line,class,quantity,price,charge\nlogs,storage,STANDARD,8627730304204800000,tiered,63000\n\
+,total,,,,63000\n";
+
+// A GiB for the whole month at 23,000; and three GiB, the first at 23,000 and the others at 20,000.
 #[test]
 fn a_report(rt: HostRuntime) {
-    let report = Ok(january(&rt, rt.alloc()));
-    is_kept(&rt, rt.alloc(), &report, "text/csv", REPORT);
+    let alloc = rt.alloc();
+    let one = Price::One(23_000);
+    let report = Ok(january(&rt, alloc, 2_875_910_101_401_600_000, one, 23_000));
+    is_kept(&rt, alloc, &report, "text/csv", REPORT);
+    let report = Ok(january(&rt, alloc, 8_627_730_304_204_800_000, Price::Tiered, 63_000));
+    is_kept(&rt, alloc, &report, "text/csv", IN_TIERS);
 }

@@ -12,6 +12,7 @@ use Rattle.disk_core.specs.declared.disk.Disk as Disk
 use Rattle.office_types.specs.contracts.command.Ask as Ask
 use Rattle.office_types.specs.contracts.refusal.Refusal as Refusal
 use Rattle.office_types.specs.contracts.reply.Reply as Reply
+use Rattle.office_types.proofs.command.Ask.TheSendSync as crossing
 use Rattle.office_types.proofs.reply.Reply.TheSendSync as reply
 use Rattle.office_types.proofs.refusal.Refusal.TheSendSync as refusal
 use Rattle.desk_core.specs.declared.clock.Clock as Clock
@@ -29,7 +30,7 @@ gate_sync : IsSync Gate.the_row
 gate_sync = search (crosses, sendable) depth 60 fits 20000
 
 ask_sync : IsSync Ask.the_row
-ask_sync = search (crosses, sendable) depth 60 fits 20000
+ask_sync = crossing.the_sync
 
 reply_send : IsSend (Result.the_row Reply.the_row Refusal.the_row)
 reply_send = result.the_send _ _ reply.the_send refusal.the_send

@@ -15,5 +15,5 @@ at_most r n = one_most (is_accepted r) n
 
 pub invariant_of-self : goal.invariant_of-self
 invariant_of-self g c =
-    let most = at_most c.apply.result c.self.inside.office.accepted in
+    let most = at_most c.apply.result c.self.inside.office.records.accepted in
     omega (arith, most, c.apply.ensures.accepted, c.self.invariant)
