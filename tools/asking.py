@@ -10,6 +10,8 @@ import sys
 import typing
 import urllib.parse
 
+from tokens import FIELD
+
 # What a proxy answers by itself, without a reply of the program.
 PROXY = {401: "login or password is wrong", 403: "the login may not ask this", 413: "the body is too large",
          421: "another name is served there", 429: "too many requests", 502: "no server behind the proxy",
@@ -102,10 +104,10 @@ class Office:
         kind = http.client.HTTPSConnection if server.scheme == "https" else http.client.HTTPConnection
         self.link = kind(server.host, server.port, timeout=patience)
 
-    def exchange(self, method, target, sent=None):
+    def exchange(self, method, target, sent=None, token=None):
         """The status of the reply, its content type and the bytes of its body. Status 2 where there is no reply."""
         try:
-            self.link.request(method, target, sent, self.fields)
+            self.link.request(method, target, sent, {**self.fields, **({FIELD: token} if token else {})})
             reply = self.link.getresponse()
             said = reply.read()
         except (OSError, http.client.HTTPException) as fault:
@@ -131,10 +133,10 @@ class Office:
             raise Stop(2, f"what answers at {self.name} is not the program: {method} {target} has status {status}")
         return found
 
-    def ask(self, method, target, body=None):
+    def ask(self, method, target, body=None, token=None):
         """The status of the reply and its body, an object. Status 2 where there is no reply, or none of the program."""
         sent = None if body is None else json.dumps(body, separators=(",", ":")).encode()
-        status, _, said = self.exchange(method, target, sent)
+        status, _, said = self.exchange(method, target, sent, token)
         return status, self.object_of(method, target, status, said)
 
     def ask_csv(self, target):

@@ -6,6 +6,9 @@ import re
 END_OF_TIME, LARGEST_SIZE = 4_102_444_800_000, 5_497_558_138_880
 CLASSES = ("STANDARD", "STANDARD_IA", "ONEZONE_IA", "GLACIER_IR", "GLACIER", "DEEP_ARCHIVE")
 EPOCH = datetime.datetime(1970, 1, 1)
+FIRST_MONTH, MOST_TIERS = "1970-01", 8
+# A kind with this bit has a token before its fields. What is harmless to repeat takes none, and neither does a tariff.
+WITH_TOKEN, WITHOUT_TOKEN = 0x80, (0x03, 0x0D, 0x0E, 0x10)
 
 
 class Damaged(Exception):
@@ -94,8 +97,33 @@ class Fields:
             raise Damaged("the configuration is not written as it is printed")
         return found
 
+    def token(self):
+        token = self.take(self.number(1, "token"), "token")
+        if not re.fullmatch(rb"[\x21-\x7e]{1,64}", token):
+            raise Damaged("the token has another length than 1 to 64, or another byte than 21 to 7E")
+        return token.decode("ascii")
+
+    def price(self):
+        return self.below(4, "price", 1_048_577)
+
     def prices(self, count):
-        return [self.below(4, "price", 1_048_577) for _ in range(count)]
+        return [self.price() for _ in range(count)]
+
+    def tiers(self):
+        """What a class costs: a price, or a list of tiers as the program shows them."""
+        count, found, begin = self.number(1, "number of tiers"), [], 0
+        if not 1 <= count <= MOST_TIERS:
+            raise Damaged(f"the number of tiers is {count}")
+        for place in range(count):
+            upto = self.number(4, "end of a tier")
+            if (upto != 0) if place == count - 1 else upto <= begin:
+                raise Damaged(f"the end of tier {place + 1} of {count} is {upto}")
+            begin = upto
+            found.append({"price": self.price(), **({"upto": upto} if upto else {})})
+        return found if count > 1 else found[0]["price"]
+
+    def all_tiers(self):
+        return [self.tiers() for _ in CLASSES]
 
     def month(self):
         year, month = self.number(2, "year"), self.number(1, "month")
@@ -121,20 +149,36 @@ KINDS = {
     0x0B: ("complete", BUCKET, UPLOAD),
     0x0C: ("abort", BUCKET, UPLOAD),
     0x0D: ("act", BUCKET),
-    0x0E: ("set-tariff", ("storage", lambda it: it.prices(6)), ("transition", lambda it: it.prices(5))),
+    # A tariff from the first month on with a price a class; the other ones are of kind 10.
+    0x0E: ("set-tariff", ("from", lambda it: FIRST_MONTH), ("storage", lambda it: it.prices(6)), ("transition", lambda it: it.prices(5))),
     0x0F: ("close", ("month", Fields.month)),
+    0x10: ("set-tariff", ("from", Fields.month), ("storage", Fields.all_tiers), ("transition", lambda it: it.prices(5))),
 }
+
+
+def kind_of(fields):
+    """The kind of an entry without the bit of a token, and the token where it has one."""
+    kind = fields.number(1, "kind")
+    plain = kind & ~WITH_TOKEN
+    if plain not in KINDS or (kind != plain and plain in WITHOUT_TOKEN):
+        raise Damaged(f"the kind {kind:02x} is unknown")
+    return plain, {} if kind == plain else {"token": fields.token()}
+
+
+def is_plain(tariff):
+    """Whether kind 0E spells a tariff."""
+    return tariff["from"] == FIRST_MONTH and all(isinstance(it, int) for it in tariff["storage"])
 
 
 def read_entry(entry, before):
     """What an entry says; it may not be earlier than the one before."""
     fields = Fields(entry)
     ms = fields.below(8, "moment", END_OF_TIME)
-    kind = fields.number(1, "kind")
-    if kind not in KINDS:
-        raise Damaged(f"the kind {kind:02x} is unknown")
+    kind, token = kind_of(fields)
     name, *readers = KINDS[kind]
-    found = {"kind": name, **{field: reader(fields) for field, reader in readers}}
+    found = {"kind": name, **token, **{field: reader(fields) for field, reader in readers}}
+    if kind == 0x10 and is_plain(found):
+        raise Damaged("the kind is 10, and 0e spells this tariff")
     if fields.rest:
         raise Damaged("bytes follow the last field of the entry")
     if ms < before:

@@ -6,6 +6,7 @@ from asking import Stop, number_in, reason
 from listings import field_of, size_of, text_of
 from sending import bucket_target
 from sweeping import target_of
+from tokens import token_of
 
 
 class Upload(typing.NamedTuple):
@@ -81,25 +82,13 @@ def uploads_of(given):
 
 
 def send_uploads(work, office, ids):
-    """Starts the uploads and puts their parts, each once over any number of tries. Needs that nobody else starts one meanwhile.
-
-    The map has the number of each upload that was begun. If a reply was lost, the program has one upload more than the map.
-    """
-    more = {}
+    """Starts the uploads and puts their parts, each once over any number of tries: by its token, and by the map."""
     for it in work.uploads:
         number = ids.one("select number from uploads where bucket = ? and id = ?", it.bucket, it.name)
-        if number is None and it.bucket not in more:
-            there, mapped = count_of(office, it.bucket), ids.one("select count(*) from uploads where bucket = ?", it.bucket)
-            if not mapped <= there <= mapped + 1:
-                raise Stop(6, f"bucket {it.bucket} has {there} uploads, and the map {mapped}; nobody else may start or end one meanwhile")
-            more[it.bucket] = there - mapped
-        if number is None and more[it.bucket]:
-            number, more[it.bucket] = (ids.one("select max(number) from uploads where bucket = ?", it.bucket) or 0) + 1, 0
-            ids.keep_upload(it.bucket, it.name, it.key, number)
-        elif number is None:
+        if number is None:
             body = {"class": it.storage_class} if it.storage_class else {}
-            status, found = office.ask("POST", target_of(it.bucket, "uploads", it.key), body)
-            if status in (400, 404, 409):
+            status, found = office.ask("POST", target_of(it.bucket, "uploads", it.key), body, token_of("upload", *it[:4]))
+            if status in (400, 404):
                 work.refuse(it, found)
                 continue
             if status != 201:
@@ -120,18 +109,10 @@ def send_parts(work, office, upload, number):
     known = {it.get("part"): it.get("size") for it in found.get("parts") or []}
     for part, size in sorted(upload.parts.items()):
         if known.get(part) != size:
-            status, found = office.ask("PUT", f"{bucket_target(upload.bucket)}/parts/{number}/{part}", {"size": size})
+            status, found = office.ask("PUT", f"{bucket_target(upload.bucket)}/parts/{number}/{part}", {"size": size},
+                                       token_of("part", *upload[:3], number, part, size))
             if status in (400, 409):
                 work.refuse(upload, found)
             elif status != 200:
                 raise Stop(2, f"{upload.where}: part {part}: {reason(status, found)}")
         work.counts["parts"] += 1
-
-
-def count_of(office, bucket):
-    status, found = office.ask("GET", bucket_target(bucket))
-    if status in (400, 404):
-        return 0
-    if status != 200:
-        raise Stop(2, f"bucket {bucket}: {reason(status, found)}")
-    return number_in(found, "uploads")

@@ -1,11 +1,9 @@
 """Does in the program what events of a store say, each event once over any number of stops; for follow.
 
-Before a group of events is asked for, they are kept in the map with the place that the journal has then, synced. After a stop the
-entries of the journal behind that place tell which of them were done; the others are asked for first. That holds while nobody
-else puts and deletes in these buckets.
+Each request has a token made of its event, so an event that is asked for again gets its first reply and is not done twice. Before a
+group of events is asked for, their requests are kept in the map, synced; after a stop the same are sent again, first.
 """
 import collections
-import datetime
 import json
 import os
 import sys
@@ -13,11 +11,12 @@ import typing
 
 from asking import Stop, reason
 from entries import CLASSES
-from events import MARKER, PUT, REMOVE, TAGS, Bad, Event, event_of, records_of, text_of
+from events import MARKER, PUT, REMOVE, TAGS, Bad, Event, event_of, name_of, records_of, text_of
 from files import atomic_write
 from sending import bucket_target
 from sweeping import target_of
-from tail import ACT, Tail, open_journal, read_tail, sample_of
+from tail import open_journal, read_tail, sample_of
+from tokens import token_of
 
 GROUP, SHOWN = 100, 5
 TWICE, GONE = "sent twice or late", "gone already"
@@ -32,34 +31,23 @@ class Later(Exception):
 
 
 class Ask(typing.NamedTuple):
-    """A request, and the journal's entry that it makes: its kind and its fields behind the bucket."""
+    """A request."""
     method: str
     target: str
-    body: typing.Optional[dict]
-    kind: int
-    fields: bytes
-
-
-def field(text):
-    data = text.encode()
-    return len(data).to_bytes(2, "big") + data
+    body: typing.Optional[dict] = None
 
 
 def ask_put(event, storage_class, tags):
     body = {"size": event.size, "class": storage_class, **({"tags": tags} if tags else {})}
-    rank = CLASSES.index(storage_class) if storage_class in CLASSES else 255
-    fields = field(event.key) + event.size.to_bytes(8, "big") + bytes([rank]) if event.size < 1 << 64 else b""
-    return Ask("PUT", target_of(event.bucket, "objects", event.key), body, 0x05, fields)
+    return Ask("PUT", target_of(event.bucket, "objects", event.key), body)
 
 
 def ask_delete(event):
-    return Ask("DELETE", target_of(event.bucket, "objects", event.key), None, 0x06, field(event.key))
+    return Ask("DELETE", target_of(event.bucket, "objects", event.key))
 
 
 def ask_remove(event, number):
-    written = 0 if number == "null" else int(number)
-    fields = field(event.key) + written.to_bytes(8, "big")
-    return Ask("DELETE", target_of(event.bucket, f"versions/{number}", event.key), None, 0x07, fields)
+    return Ask("DELETE", target_of(event.bucket, f"versions/{number}", event.key))
 
 
 class Follow:
@@ -139,8 +127,7 @@ class Follow:
         here = [it.get("tags") for it in (stack.get("versions") if status == 200 else None) or [] if it.get("version") == number]
         if tags is None or not here or here[0] == tags:
             return []
-        fields = field(event.key) + (0 if number == "null" else int(number)).to_bytes(8, "big")
-        return [Ask("PUT", target_of(event.bucket, f"tags/{number}", event.key), {"tags": tags}, 0x08, fields)]
+        return [Ask("PUT", target_of(event.bucket, f"tags/{number}", event.key), {"tags": tags})]
 
     def last_of(self, bucket, key):
         """The sequencer of the latest event of a key that was done."""
@@ -200,9 +187,9 @@ class Follow:
         self.tail.read(self.journal)
         with self.ids.change():
             self.ids.do("insert or replace into place values (0, ?, ?)", self.tail.gate, sample_of(self.journal, self.tail.gate))
+            self.ids.do("delete from intents")
             for place, (it, asks) in enumerate(group):
-                last = [asks[-1].kind, asks[-1].fields.hex()]
-                self.ids.do("insert into intents values (?, ?, ?)", place, self.tail.gate, json.dumps({"event": it.raw, "last": last}))
+                self.ids.do("insert into intents values (?, ?, ?)", place, self.tail.gate, json.dumps({"event": it.raw, "asks": asks}))
         done = []
         try:
             for it, asks in group:
@@ -218,10 +205,10 @@ class Follow:
 
     def ask(self, event, asks):
         """The status and the body of the reply to the last request of an event."""
-        for it in asks:
-            # Here, and nowhere else, a token of the request would be sent: events.name_of(event.raw) is the same for each copy of
-            # an event. The program has no tokens yet; until then the journal tells after a stop what was done.
-            status, found = self.office.ask(it.method, it.target, it.body)
+        for left, it in zip(reversed(range(len(asks))), asks):
+            # The tags of an event are those of now, and are set again where they changed since.
+            said = [it.body] if event.what == TAGS else []
+            status, found = self.office.ask(it.method, it.target, it.body, token_of("event", name_of(event.raw), left, *said))
             if status in (500, 503, 507):
                 raise Stop(2, f"bucket {event.bucket}: {reason(status, found)}; the same words go on")
         return status, found
@@ -291,43 +278,14 @@ class Follow:
         self.ids.do("insert or replace into place values (0, ?, ?)", self.tail.gate, sample_of(self.journal, self.tail.gate))
 
     def resume(self):
-        """Finds in the journal which events of the last run were done, and does the others."""
-        rows = self.ids.do("select place, gate, event from intents order by place").fetchall()
+        """Sends the requests again that the last run was about to send: by its token each event is done once."""
+        rows = [json.loads(it) for it, in self.ids.do("select event from intents order by place")]
         if not rows:
             return
-        gate = rows[0][1]
-        entries, tail = [], Tail(self.given.journal)
-        tail.gate, tail.count = gate, 1
-        tail.read(self.journal, lambda _, moment, kind, fields: kind < ACT and entries.append((moment, kind, fields)))
-        left, at, found = [], 0, 0
-        for place, _, text in rows:
-            kept = json.loads(text)
-            event, (kind, fields) = event_of(kept["event"]), kept["last"]
-            wanted = field(event.bucket) + bytes.fromhex(fields)
-            entry = next((it for it in range(at, len(entries)) if entries[it][1] == kind and entries[it][2].startswith(wanted)), None)
-            if entry is None:
-                left.append(event)
-            else:
-                at, found = entry + 1, found + 1
-                self.found(place, event, entries[entry][0])
-        print(f"follow: the last run was stopped: of {len(rows)} events {found} were done and {len(left)} were not", file=sys.stderr)
-        with self.ids.change():
-            self.ids.do("delete from intents")
-            for it in left:  # kept as dead letters, so that they are not lost if this run is stopped too
-                self.ids.do("insert or ignore into dead (event, why) values (?, 'not done when the run was stopped')", text_of(it.raw))
-        self.run(left)
-
-    def found(self, place, event, moment):
-        """Keeps an event whose reply was lost, with the number that its version has."""
-        status, stack = self.office.ask("GET", target_of(event.bucket, "objects", event.key))
-        wanted = ("object", event.size, moment) if event.what == PUT else ("marker", None, moment)
-        numbers = [it.get("version") for it in (stack.get("versions") if status == 200 else None) or []
-                   if (it.get("kind"), it.get("size"), ms_of(it.get("created"))) == wanted]
-        taken = {number for number, in self.ids.do("select number from versions where bucket = ? and key = ?", event.bucket, event.key)}
-        number = min((it for it in numbers if it == "null" or it not in taken), key=lambda it: 0 if it == "null" else int(it), default=None)
-        with self.ids.change():
-            self.settle(event, 200, {"version": number, "marker": number})
-            self.ids.do("delete from intents where place = ?", place)
+        if not all("asks" in it for it in rows):
+            raise Stop(3, f"{self.ids.path}: the last run was one of an older follow without tokens, and was stopped; run that once more")
+        print(f"follow: the last run was stopped: {len(rows)} events are asked for again, by their tokens", file=sys.stderr)
+        self.finish([(event_of(it["event"]), [Ask(*one) for one in it["asks"]]) for it in rows])
 
     def dead(self):
         """The events among the dead letters, to try them again."""
@@ -339,15 +297,6 @@ class Follow:
         if rows or os.path.exists(path):
             atomic_write(path, (json.dumps({"why": why, "event": json.loads(it)}, ensure_ascii=False) + "\n" for why, it in rows))
         return len(rows)
-
-
-def ms_of(text):
-    """A moment of a reply in milliseconds."""
-    try:
-        found = datetime.datetime.fromisoformat(text.replace("Z", "+00:00")) - datetime.datetime.fromtimestamp(0, datetime.timezone.utc)
-    except (AttributeError, TypeError, ValueError):
-        return None
-    return found // datetime.timedelta(milliseconds=1)
 
 
 def events_in(found):

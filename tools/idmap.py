@@ -93,6 +93,13 @@ class IdMap:
             raise
         self.do("commit")
 
+    def place_of(self, digest):
+        """How many rows of an import have their numbers here."""
+        return int(self.one("select value from about where name = ?", f"import {digest}") or 0)
+
+    def keep_place(self, digest, place):
+        self.do("insert or replace into about values (?, ?)", f"import {digest}", str(place))
+
     # ---- versions and uploads
 
     def keep(self, bucket, key, version, number, size=None, etag=None):

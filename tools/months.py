@@ -8,11 +8,12 @@ import re
 from asking import Stop
 
 EPOCH = datetime.datetime(1970, 1, 1)
+MONTH = re.compile(r"(19[7-9][0-9]|20[0-9][0-9])-(0[1-9]|1[0-2])", re.ASCII)
 
 
 def month_of(text):
     """A month among the words of a tool."""
-    if not re.fullmatch(r"(19[7-9][0-9]|20[0-9][0-9])-(0[1-9]|1[0-2])", text, re.ASCII):
+    if not MONTH.fullmatch(text):
         raise argparse.ArgumentTypeError(f"'{text}' is no month as 2026-11")
     return text
 

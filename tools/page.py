@@ -3,7 +3,9 @@ import html
 
 from entries import CLASSES
 from months import gib_months
+from reports import TIERED
 from statement import NOT_BILLED
+from tariffs import taken
 
 STYLE = """\
 :root { color-scheme: light dark; font: 16px/1.4 system-ui, sans-serif }
@@ -15,6 +17,7 @@ th.n, td.n { font-variant-numeric: tabular-nums; text-align: right; white-space:
 tfoot th, tfoot td { border-top: 2px solid; font-weight: 600 }
 meter { width: 8rem }
 .state { border-left: .3rem solid #8886; padding-left: .8rem }
+.tiers { margin: 2rem 0 -1.5rem }
 .warning { border-left: .3rem solid #c60; padding-left: .8rem }
 @media print { body { margin: 0; max-width: none } }
 """
@@ -42,6 +45,12 @@ def share(charge, total):
     """How much of the total a charge is, as a bar."""
     permille = charge * 1000 // total if total else 0
     return f'<meter min="0" max="1000" value="{permille}">{permille / 10}%</meter>'
+
+
+def share_text(charge, total):
+    """The same as a number."""
+    permille = charge * 1000 // total if total else 0
+    return f"{permille // 10}.{permille % 10}%"
 
 
 def cells(texts, numbers):
@@ -92,13 +101,38 @@ def about(statement, unit, buckets):
             f"Not billed here: {NOT_BILLED}.</p>\n")
 
 
+def price_of(line, unit):
+    """The price of a line, or a word where it has several."""
+    return "in tiers" if line.price == TIERED else money(line.price, unit)
+
+
+def tiers_of(statement, unit):
+    """Of each line in tiers its share of the whole charge as a bar, and under it what each tier took."""
+    month, total = statement.month, statement.report.total
+    lines = [it for it in statement.report.lines if it.price == TIERED]
+    if lines and statement.tariff is None:
+        return ('<p class="state" id="tiers">The lines in tiers are charged exactly. What each tier took is not shown, because the tariff of this month '
+                "is not known here: it was replaced, or not given.</p>\n")
+    found = []
+    for place, line in enumerate(lines, 1):
+        parts = taken(line.quantity, statement.tariff.storage[line.storage_class], month)
+        rows = [cells([f"{it.begin:,} to {it.upto:,}" if it.upto else f"above {it.begin:,}"],
+                      [months(it.quantity, month), money(it.price, unit), money(it.charge, unit), share(it.charge, line.charge)]) for it in parts]
+        about = html.escape(f"{line.bucket}, {line.kind}, {line.storage_class}")
+        found.append(f'<p class="tiers">{about}: {share(line.charge, total)} {share_text(line.charge, total)} of the whole charge</p>\n'
+                     + table(f"tiers-{place}", f"Tiers of {line.storage_class} (from {statement.tariff.first})", ["tier, GiB-months"],
+                             ["taken, GiB-months", "price", f"charge, {html.escape(unit.name)}", "share of the line"], rows,
+                             cells(["all tiers"], [months(line.quantity, month), "", money(line.charge, unit), ""])))
+    return "".join(found)
+
+
 def page_of(statement, meters, unit):
     """The page, whole."""
     month, report = statement.month, statement.report
     buckets = sorted({it for it, _ in meters}, key=str.encode)
     used = {it for _, it in meters}
     classes = [it for it in CLASSES if it in used] + sorted(used - set(CLASSES))
-    lines = [cells([line.bucket, line.kind, line.storage_class], [grouped(line.quantity), money(line.price, unit), money(line.charge, unit)])
+    lines = [cells([line.bucket, line.kind, line.storage_class], [grouped(line.quantity), price_of(line, unit), money(line.charge, unit)])
              for line in report.lines]
     by_bucket, by_class = (sums(names, of, report, meters) for of, names in enumerate((buckets, classes)))
     return (f'<!DOCTYPE html>\n<html lang="en">\n<head>\n<meta charset="utf-8">\n'
@@ -112,4 +146,5 @@ def page_of(statement, meters, unit):
             + table("lines", "Lines of the report", ["bucket", "line", "class"],
                     ["quantity (byte-milliseconds, moves)", "price", f"charge, {html.escape(unit.name)}"], lines,
                     cells(["total", "", ""], ["", "", money(report.total, unit)]))
+            + tiers_of(statement, unit)
             + "</body>\n</html>\n")

@@ -6,6 +6,7 @@ import typing
 
 HEAD = ["bucket", "line", "class", "quantity", "price", "charge"]
 KINDS = ("storage", "early", "transitions")
+TIERED = "tiered"  # in the place of a price where the class has several tiers
 # Digits of a number below 2^128; more are not read as a number at all.
 NUMBER = re.compile(r"(0|[1-9][0-9]{0,38})", re.ASCII)
 
@@ -15,18 +16,22 @@ class NoReport(Exception):
 
 
 class Line(typing.NamedTuple):
-    """What a bucket owes for a class in the month."""
+    """What a bucket owes for a class in the month; `price` is TIERED where the quantity went through several tiers."""
     bucket: str
     kind: str
     storage_class: str
     quantity: int
-    price: int
+    price: typing.Union[int, str]
     charge: int
 
 
 class Report(typing.NamedTuple):
     lines: list
     total: int
+
+    def has_tiers(self):
+        """Whether a line went through several tiers."""
+        return any(line.price == TIERED for line in self.lines)
 
 
 def number(text, what, place):
@@ -49,7 +54,9 @@ def read_report(text):
     for place, row in enumerate(rows[1:-1], 2):
         if len(row) != 6 or row[1] not in KINDS or not row[0] or not row[2]:
             raise NoReport(f"line {place} is no line of a report")
-        lines.append(Line(*row[:3], *(number(*it, place) for it in zip(row[3:], HEAD[3:]))))
+        quantity, price, charge = (it[0] if it == (TIERED, "price") and row[1] != "transitions" else number(*it, place)
+                                   for it in zip(row[3:], HEAD[3:]))
+        lines.append(Line(*row[:3], quantity, price, charge))
         if not lines[-1].quantity:
             raise NoReport(f"line {place}: the quantity is 0, and has no line")
     total = number(rows[-1][5], "total", len(rows))

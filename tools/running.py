@@ -3,6 +3,7 @@ import contextlib
 import subprocess
 
 from asking import Office, Stop
+from tokens import FIELD
 
 
 class Running(Office):
@@ -21,10 +22,10 @@ class Running(Office):
             self.process.stdin.close()
         raise Stop(2, f"no reply from {self.name} to {method} {target}: it ended with status {self.process.wait(60)}")
 
-    def exchange(self, method, target, sent=None):
-        body = sent or b""
+    def exchange(self, method, target, sent=None, token=None):
+        body, field = sent or b"", f"{FIELD}: {token}\r\n" if token else ""
         try:
-            self.process.stdin.write(f"{method} {target} HTTP/1.1\r\nContent-Length: {len(body)}\r\n\r\n".encode() + body)
+            self.process.stdin.write(f"{method} {target} HTTP/1.1\r\n{field}Content-Length: {len(body)}\r\n\r\n".encode() + body)
             self.process.stdin.flush()
         except OSError:
             self.ended(method, target)

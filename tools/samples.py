@@ -34,7 +34,7 @@ HELP = {
     "office_build_info": "The version of these tools.",
 }
 LIMITS = {"Buckets": 1_000, "Versions": 200_000, "Uploads": 20_000, "Parts": 500_000, "Names": 536_870_912, "Rules": 67_108_864,
-          "Journal": 1_073_741_824}
+          "Tariffs": 100, "Journal": 1_073_741_824}
 LEAST_WAIT = 0.05  # seconds between two readings of a meter
 PATIENCE = 1.0  # seconds in which buckets that change are read again; then the bytes are a mean of the time between two readings
 
@@ -169,7 +169,7 @@ class Reading:
         """The limits, and what is used of them as far as it is known. The journal tells the number of all buckets."""
         for what, limit in LIMITS.items():
             self.add("office_limit", limit, what=what)
-        known = {**self.used, "Buckets": len(tail.buckets), "Journal": tail.gate + 1} if tail else {}
+        known = {**self.used, "Buckets": len(tail.buckets), "Tariffs": len(tail.tariffs), "Journal": tail.gate + 1} if tail else {}
         for what in LIMITS:
             if what in known and not self.refused:
                 self.add("office_used", known[what], what=what)

@@ -10,6 +10,7 @@ from buckets import named
 from months import bounds_of, moment, ms_of
 from reports import NoReport, Report, read_report
 from tail import read_tail
+from tariffs import NoTariffs, Tariff, in_force, is_of, tariffs_in
 
 NOT_BILLED = "requests, retrieval, data transfer out (egress), monitoring and taxes"
 
@@ -44,6 +45,7 @@ class Statement(typing.NamedTuple):
     as_of: typing.Optional[str]
     overdue: typing.Optional[list]
     source: str
+    tariff: typing.Optional[Tariff] = None
 
     def state(self):
         """Open or closed, and as of when, in words."""
@@ -118,7 +120,7 @@ def asked(given):
     status, found = office.ask_csv(f"/months/{given.month}/report")
     as_of = f"{datetime.datetime.now(datetime.timezone.utc):%Y-%m-%dT%H:%M:%S}.000Z"
     if status != 200 and found.get("error") == "NoTariff":
-        raise Stop(10, f"{given.month}: no prices are set (PUT /tariff)")
+        raise Stop(10, f"{given.month}: no prices are set for it (PUT /tariff)")
     if status != 200:
         raise Stop(2 if status in (500, 501, 503) else 5, f"{given.month}: {reason(status, found)}")
     try:
@@ -126,7 +128,37 @@ def asked(given):
     except NoReport as fault:
         raise Stop(2, f"the report of {given.month} is none of the program: {fault}") from None
     names = dict.fromkeys([*named(given, tail), *(line.bucket for line in report.lines)])
-    return Statement(given.month, report, closed, as_of, [] if closed else overdue_in(office, names, given.month), office.name)
+    tariff = tariff_of(office, report, given.month)
+    return Statement(given.month, report, closed, as_of, [] if closed else overdue_in(office, names, given.month), office.name, tariff)
+
+
+def tariff_of(office, report, month):
+    """The tariff of a report with lines in tiers; nothing where it has none, where it cannot be asked for, or where it was replaced.
+
+    A closed month keeps the tariff of its closing, and the program shows those of now: what shows is whether it gives each charge.
+    """
+    return its_tariff(report, tariffs_now(office), month) if report.has_tiers() else None
+
+
+def tariffs_now(office):
+    """The tariffs that are set; none where a proxy does not let the question through."""
+    try:
+        status, found = office.ask("GET", "/tariff")
+        if status != 200 and found.get("error") != "NoTariff":
+            raise Stop(2 if status in (500, 503) else 5, f"the tariff: {reason(status, found)}")
+        return tariffs_in(found) if status == 200 else []
+    except Stop as stop:
+        if ": 403 " in stop.args[1]:
+            return []
+        raise
+    except NoTariffs as fault:
+        raise Stop(2, f"the tariffs are none of the program: {fault}") from None
+
+
+def its_tariff(report, tariffs, month):
+    """Of some tariffs the one of a report; nothing where none gives its charges."""
+    tariff = in_force(month, tariffs)
+    return tariff if tariff and is_of(report, tariff, month) else None
 
 
 def of_file(path, month):

@@ -11,13 +11,16 @@ import stat
 import struct
 
 from asking import Stop
+from entries import FIRST_MONTH, WITH_TOKEN
 from files import atomic_write
 
 OPEN, MARK, FIRST_GATE = 0xA5, b"\xa5METERJRN1", 10
 LONGEST_ENTRY, END_OF_TIME = 268_435_456, 4_102_444_800_000
-CREATE, ACT, TARIFF, CLOSE = 0x01, 0x0D, 0x0E, 0x0F
+CREATE, ACT, TARIFF, CLOSE, TIERS = 0x01, 0x0D, 0x0E, 0x0F, 0x10
 HEAD = struct.Struct(">BIQB")  # gate, length, moment, kind
-CHUNK, SAMPLE, VERSION = 1 << 22, 1 << 16, 1
+CHUNK, SAMPLE, VERSION = 1 << 22, 1 << 16, 2
+NOTED = frozenset((CREATE, TARIFF, CLOSE, TIERS))
+KEPT = ("gate", "count", "last", "buckets", "closed", "first", "tariffs", "closed_with")
 
 
 class Tail:
@@ -26,23 +29,24 @@ class Tail:
     def __init__(self, path):
         self.path = path
         self.gate, self.count, self.last = FIRST_GATE, 0, 0
-        self.buckets, self.closed, self.first, self.tariff = [], None, None, None
+        self.buckets, self.closed, self.first = [], None, None
+        # The first months of the tariffs that were set, rising, and by closed month that of the tariff in force at its closing.
+        self.tariffs, self.closed_with = [], {}
         self.size = 0
 
     # ---- the state file
 
     def state(self, sample):
-        kept = ("gate", "count", "last", "buckets", "closed", "first", "tariff")
-        return {"version": VERSION, "before": sample, **{name: getattr(self, name) for name in kept}}
+        return {"version": VERSION, "before": sample, **{name: getattr(self, name) for name in KEPT}}
 
     def resume(self, found, file):
         """Takes a state, if it is one and the bytes before its place are those of this journal."""
-        kinds = {"gate": int, "count": int, "last": int, "buckets": list, "before": str}
+        kinds = {"gate": int, "count": int, "last": int, "buckets": list, "tariffs": list, "closed_with": dict, "before": str}
         if not isinstance(found, dict) or found.get("version") != VERSION or any(
                 not isinstance(found.get(name), kind) for name, kind in kinds.items()):
             return
         if FIRST_GATE <= found["gate"] < self.size and sample_of(file, found["gate"]) == found["before"]:
-            for name in ("gate", "count", "last", "buckets", "closed", "first", "tariff"):
+            for name in KEPT:
                 setattr(self, name, found.get(name))
 
     # ---- the entries
@@ -51,7 +55,7 @@ class Tail:
         return Stop(3, f"{self.path}: journal: damaged at {at}")
 
     def read(self, file, seen=None):
-        """Reads on to the first closed gate. `seen` is given each entry: its gate, moment, kind and bytes."""
+        """Reads on to the first closed gate. `seen` is given each entry: its gate, moment, kind and fields, without its token."""
         try:
             self.size = os.fstat(file.fileno()).st_size
             while self.step(file, seen):
@@ -78,10 +82,15 @@ class Tail:
                 data = os.pread(file.fileno(), behind + CHUNK, base)
                 if (end := len(data)) <= behind:
                     raise self.damaged(base)
-            if kind in (CREATE, TARIFF, CLOSE) or not count:
-                self.note(kind, moment, data[at + 14:behind])
+            fields = at + 14
+            if kind & WITH_TOKEN:
+                kind, fields = kind ^ WITH_TOKEN, fields + 1 + data[fields]
+                if fields > behind:
+                    raise self.damaged(base + at)
+            if kind in NOTED or not count:
+                self.note(kind, moment, data[fields:behind])
             if seen:
-                seen(base + at, moment, kind, data[at + 14:behind])
+                seen(base + at, moment, kind, data[fields:behind])
             last, at, count = moment, behind, count + 1
         self.gate, self.count, self.last = base + at, count, last
         if at >= end or (data[at] == OPEN and end - at < 14 and base + end >= self.size):
@@ -95,9 +104,22 @@ class Tail:
         if kind == CREATE:
             self.buckets.append(bucket_of(fields))
         elif kind == TARIFF:
-            self.tariff = moment
+            self.tariffs = sorted({*self.tariffs, FIRST_MONTH})
+        elif kind == TIERS and len(fields) >= 3:
+            self.tariffs = sorted({*self.tariffs, month_in(fields)})
         elif kind == CLOSE and len(fields) >= 3:
-            self.closed = f"{int.from_bytes(fields[:2], 'big')}-{fields[2]:02}"
+            self.closed = month_in(fields)
+            self.closed_with[self.closed] = in_force(self.closed, self.tariffs)
+
+
+def month_in(fields):
+    """The month that the first fields of an entry name."""
+    return f"{int.from_bytes(fields[:2], 'big')}-{fields[2]:02}"
+
+
+def in_force(month, tariffs):
+    """Of the first months of tariffs the one whose tariff is in force in a month; nothing if all begin later."""
+    return max((it for it in tariffs if it <= month), default=None)
 
 
 def bucket_of(fields):

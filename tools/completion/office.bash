@@ -75,7 +75,7 @@ _office_tool() {
     -*,office-compare) choices='--server --journal --map --current --nearest --schema --keys --names --json --help' ;;
     -*,office-apply) choices='--map --endpoint-url --client --bucket --yes --limit --report --help' ;;
     -*,office-bill) choices='--server --report --bucket --buckets --journal --unit --out --help' ;;
-    -*,office-usage-page) choices='--server --report --meters --bucket --buckets --journal --unit --out --help' ;;
+    -*,office-usage-page) choices='--server --report --meters --tariff --bucket --buckets --journal --unit --out --help' ;;
     -*,office-usage) choices='--server --bucket --buckets --journal --out --help' ;;
     -*,office-metrics) choices='--server --bucket --buckets --journal --log --backups --out --listen --help' ;;
     -*,office-backup) choices='--keep --other-disk --replaced --help' ;;

@@ -14,6 +14,11 @@ MAKE = bytes.fromhex("0000018cc251f4000100046c6f6773")
 PUT = bytes.fromhex("0000018cc251f4000500046c6f677300016100000000000003e80000")
 PUT_WITH_TAGS = bytes.fromhex("0000018cc251f4000500046c6f677300016100000000000003e80402"
                               "00046b65657000026e6f00046b696e640003726177")
+# A bucket made with the token t1, and a tariff from 2024-01 in which STANDARD has two tiers and the other classes one.
+MAKE_ONCE = bytes.fromhex("0000018cc251f400" "81" "027431" "00046c6f6773")
+TIERED = bytes.fromhex("0000018cc251f400" "10" "07e8" "01" "02" "00000001" "000059d8" "00000000" "00004e20"
+                       "01" "00000000" "00000001" "01" "00000000" "00000002" "01" "00000000" "00000003" "01" "00000000" "00000004"
+                       "01" "00000000" "00000005" "00000006" "00000007" "00000008" "00000009" "0000000a")
 LARGEST = 5_497_558_138_880
 CONFIGURATION = b'{"Rules":[],"TransitionDefaultMinimumObjectSize":"all_storage_classes_128K"}'
 
@@ -28,6 +33,17 @@ def put(size=5, rank=0, tags=b"\0"):
 
 def pair(key, value):
     return b"".join(len(it).to_bytes(2, "big") + it for it in (key, value))
+
+
+def tiers(*tiers):
+    """The tiers of a class: of each its end, 0 for none, and its price."""
+    return bytes([len(tiers)]) + b"".join(it.to_bytes(4, "big") for tier in tiers for it in tier)
+
+
+def tariff(month, *classes, transition=(6, 7, 8, 9, 10)):
+    """An entry of kind 10."""
+    year, number = map(int, month.split("-"))
+    return entry(0x10, year.to_bytes(2, "big") + bytes([number]) + b"".join(classes) + b"".join(it.to_bytes(4, "big") for it in transition))
 
 
 class ReadEntry(unittest.TestCase):
@@ -64,18 +80,53 @@ class ReadEntry(unittest.TestCase):
                 (11, LOGS + number, {"kind": "complete", "bucket": "logs", "upload": 7}),
                 (12, LOGS + number, {"kind": "abort", "bucket": "logs", "upload": 7}),
                 (13, LOGS, {"kind": "act", "bucket": "logs"}),
-                (14, b"".join(it.to_bytes(4, "big") for it in range(11)), {"kind": "set-tariff", "storage": [0, 1, 2, 3, 4, 5],
-                                                                          "transition": [6, 7, 8, 9, 10]}),
+                (14, b"".join(it.to_bytes(4, "big") for it in range(11)),
+                 {"kind": "set-tariff", "from": "1970-01", "storage": [0, 1, 2, 3, 4, 5], "transition": [6, 7, 8, 9, 10]}),
                 (15, b"\x07\xe8\2", {"kind": "close", "month": "2024-02"})):
             with self.subTest(wanted["kind"]):
                 self.assertEqual({**AT, **wanted}, self.read(entry(kind, fields)))
+            if kind not in (3, 13, 14):
+                with self.subTest(f"{wanted['kind']} with a token"):
+                    self.assertEqual({**AT, **wanted, "token": "t1"}, self.read(entry(kind + 0x80, b"\x02t1" + fields)))
 
     def test_kinds_that_are_none(self):
-        for kind in (0, 16, 255):
+        for kind in (0, 17, 127, 128, 0x83, 0x8D, 0x8E, 0x90, 0x91, 255):
             self.damaged(f"the kind {kind:02x} is unknown", entry(kind, LOGS))
 
+    def test_tokens(self):
+        self.assertEqual({**AT, "kind": "create-bucket", "token": "t1", "bucket": "logs"}, self.read(MAKE_ONCE))
+        for token in ("!", "~", "a" * 64):
+            self.assertEqual(token, self.read(entry(0x81, bytes([len(token)]) + token.encode() + LOGS))["token"])
+        for token in (b"", b" ", b"a b", b"\x7f", b"\xff", b"a" * 65):
+            self.damaged("the token has another length than 1 to 64, or another byte than 21 to 7E", entry(0x81, bytes([len(token)]) + token + LOGS))
+        self.damaged("the entry ends within its token", entry(0x81, b"\x08t1"))
+        self.damaged("the entry ends within its token", entry(0x81))
+
+    def test_tariffs_in_tiers(self):
+        self.assertEqual(94, len(TIERED))
+        self.assertEqual({**AT, "kind": "set-tariff", "from": "2024-01", "storage": [[{"price": 23_000, "upto": 1}, {"price": 20_000}], 1, 2, 3, 4, 5],
+                          "transition": [6, 7, 8, 9, 10]}, self.read(TIERED))
+        one = [tiers((0, 7))] * 5
+        most = [(it, 1_048_576) for it in (1, 2, 3, 4, 5, 6, 2 ** 32 - 1)]
+        self.assertEqual([*({"price": 1_048_576, "upto": it} for it, _ in most), {"price": 0}],
+                         self.read(tariff("1970-01", tiers(*most, (0, 0)), *one))["storage"][0])
+        for why, found in (("the number of tiers is 0", tiers()), ("the number of tiers is 9", tiers(*((it, 1) for it in range(1, 9)), (0, 1))),
+                           ("the end of tier 1 of 2 is 0", tiers((0, 1), (0, 1))), ("the end of tier 2 of 3 is 5", tiers((5, 1), (5, 1), (0, 1))),
+                           ("the end of tier 2 of 3 is 4", tiers((5, 1), (4, 1), (0, 1))), ("the end of tier 1 of 1 is 1", tiers((1, 1))),
+                           ("the price is 1048577", tiers((1, 1_048_577), (0, 1)))):
+            self.damaged(why, tariff("2024-01", found, *one))
+        self.damaged("the price is 1048577", tariff("2024-01", *one, tiers((0, 7)), transition=(0, 0, 0, 0, 1_048_577)))
+        for month in ("1969-12", "2100-01", "2024-00", "2024-13"):
+            self.damaged(f"the month is {month.replace('-0', '-')}", tariff(month, *one, tiers((0, 7))))
+
+    def test_a_tariff_has_one_spelling(self):
+        one = [tiers((0, 7))] * 6
+        self.damaged("the kind is 10, and 0e spells this tariff", tariff("1970-01", *one))
+        self.assertEqual(("1970-02", [7] * 6), tuple(self.read(tariff("1970-02", *one))[name] for name in ("from", "storage")))
+        self.assertEqual("1970-01", self.read(tariff("1970-01", *one[:5], tiers((1, 7), (0, 7))))["from"])
+
     def test_a_byte_too_few_and_too_many(self):
-        for data in (MAKE, PUT, PUT_WITH_TAGS):
+        for data in (MAKE, MAKE_ONCE, PUT, PUT_WITH_TAGS, TIERED):
             for count in range(len(data)):
                 with self.subTest(count), self.assertRaises(Damaged):
                     read_entry(data[:count], 0)
