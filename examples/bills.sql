@@ -17,6 +17,13 @@ select case when instr(bucket, '.p-') then substr(bucket, 1, instr(bucket, '.p-'
     price, sum(charge) as charge
 from reports where line <> 'total' group by whole, line, class, price;
 
+-- The lines of a bucket in pieces whose class has tiers. Each piece goes through the tiers by itself, from the first on, so the sum of their
+-- charges is not what one office would charge: set one price for such classes, or charge the quantity of `bills` by hand.
+create view apart as
+select whole, line, class, count(*) as pieces
+from (select case when instr(bucket, '.p-') then substr(bucket, 1, instr(bucket, '.p-') - 1) else bucket end as whole, line, class from reports where price = 'tiered')
+group by whole, line, class having count(*) > 1;
+
 -- The byte-milliseconds of each bucket and class in the month, from the stays: each is bytes times the milliseconds in the month.
 create view metered as
 with edges as (select cast(strftime('%s', first) as integer) * 1000 as first, cast(strftime('%s', first, '+1 month') as integer) * 1000 as last from month),

@@ -65,5 +65,13 @@ session act.http <<'END'
 {"action":"none"}
 {"bucket":"backups","rules":1,"uploads":0,"versioning":"Unversioned","versions":0}
 END
+session token.http <<'END'
+{"bucket":"backups"}
+{"versioning":"Enabled"}
+{"moment":"MOMENT","version":"1"}
+{"moment":"MOMENT","version":"1"}
+{"error":"TokenReused","kind":5,"number":92}
+{"bucket":"backups","rules":0,"uploads":0,"versioning":"Enabled","versions":1}
+END
 
 finish

@@ -1,7 +1,7 @@
 """Random histories of the office: each command is done in the plain model and written as an entry of a journal (docs/FORMATS.md).
 
-`Drawn` is what a command may be about, `KINDS` has a row for each kind of command, and `History` draws commands, does them in
-the model, and keeps the entries of those that were accepted.
+`Drawn` is what a command may be about, `KINDS` has a row for each kind of command, and `History` draws commands, some of them with
+a token, does them in the models, and keeps the entries of those that were accepted.
 """
 import json
 import random
@@ -10,6 +10,7 @@ import urllib.parse
 
 from model_words import configuration, stack_of
 from plain_office import CLASSES, DAY, Bucket, Refused, text_of, window
+from plain_tokens import TAKE_NONE, Kept, refuse_fields
 
 # 2030-01-01 00:00 UTC: later than the clock, so that each answer is given at the moment of the last entry.
 START = 1_893_456_000_000
@@ -65,6 +66,9 @@ class Drawn(typing.NamedTuple):
         return configuration(self.rules, self.mode)
 
     # The fields of entries.
+
+    def bucket_field(self):
+        return text_field(self.name)
 
     def key_field(self):
         return text_field(self.key)
@@ -186,6 +190,8 @@ KINDS = (
     Kind(24, "POST", "/act", nothing, no_fields, act),
 )
 MAKE = 0
+# Kinds of commands by their numbers in the journal: one of the rows above, and the two that name no bucket.
+ACT, TARIFF, CLOSE = 0x0D, 0x0E, 0x0F
 
 
 class History:
@@ -193,7 +199,7 @@ class History:
 
     def __init__(self, seed):
         self.draw, self.now, self.last = random.Random(seed), START, START
-        self.buckets, self.journal = {}, b"\xa5METERJRN1\xa5"
+        self.buckets, self.journal, self.kept, self.sent = {}, b"\xa5METERJRN1\xa5", Kept(), []
 
     def append(self, moment, fields):
         """Writes an entry: its kind and what follows."""
@@ -231,6 +237,13 @@ class History:
             which = draw.choices(range(len(KINDS)), [it.weight for it in KINDS])[0]
         return which, Drawn(self.now, *about, draw.random() < 0.7, *self.draw_rules())
 
+    def draw_tokens(self):
+        """The fields Office-Token of a message: mostly none, else a token of a few, and now and then none that may be."""
+        if self.draw.random() < 0.6:
+            return []
+        return self.draw.choices((["t1"], ["t2"], ["!" * 64], [f"own-{self.draw.randrange(10**6)}"], ["a b"], ["x" * 65], ["t1", "t1"]),
+                                 (4, 4, 2, 12, 1, 1, 1))[0]
+
     def reply_to(self, kind, it):
         if kind.does is make:
             return make(self, it)
@@ -238,18 +251,36 @@ class History:
             raise Refused("NoSuchBucket", 81)
         return kind.does(self.buckets[it.name], it)
 
+    def reply_once(self, which, it, tokens):
+        """The reply to a command with a token or none; its entry is written if it is accepted."""
+        refuse_fields(tokens, which + 1)
+        fields, token = it.bucket_field() + KINDS[which].fields(it), (tokens or [None])[0]
+        if token and (reply := self.kept.recall(token, which + 1, fields)) is not None:
+            return reply
+        reply = self.reply_to(KINDS[which], it)
+        if token:
+            self.kept.keep(token, which + 1, fields, reply)
+            self.append(self.now, number(which + 1 | 0x80, 1) + number(len(token), 1) + token.encode() + fields)
+        elif reply != {"action": "none"}:
+            self.append(self.now, number(which + 1, 1) + fields)
+        return reply
+
     def command(self, which=None):
-        """Does a command in the model, and writes its entry if it is accepted: the request, and what is replied to it."""
-        which, it = self.draw_command(which)
+        """Does a command in the model: the request, its fields Office-Token, and what is replied to it. Some are sent before again."""
+        if which is None and self.sent and self.draw.random() < 0.1:
+            which, it, tokens = self.draw.choice(self.sent)
+            it = it._replace(now=self.now)
+        else:
+            (which, it), tokens = self.draw_command(which), self.draw_tokens()
+        if tokens and which + 1 not in TAKE_NONE:
+            self.sent.append((which, it, tokens))
         kind = KINDS[which]
         target = f"/buckets/{it.name}" + kind.target.format(path=path_of(it.key), version=it.version, upload=it.upload, part=it.part)
         try:
-            reply = self.reply_to(kind, it)
-            if reply != {"action": "none"}:
-                self.append(self.now, number(which + 1, 1) + text_field(it.name) + kind.fields(it))
+            reply = self.reply_once(which, it, tokens)
         except Refused as refusal:
-            reply = {"error": refusal.args[0], "number": refusal.args[1]}
-        return kind.method, target, kind.body(it), reply
+            reply = {"error": refusal.args[0], "number": refusal.args[1], **(refusal.args[2] if refusal.args[2:] else {})}
+        return kind.method, target, kind.body(it), tokens, reply
 
     def queries(self):
         """Every query of every bucket: the target, and the reply of now."""

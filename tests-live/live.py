@@ -6,6 +6,7 @@ and one was left out because a tool is missing.
 """
 import atexit
 import functools
+import json
 import os
 import pathlib
 import select
@@ -112,6 +113,12 @@ class Case(unittest.TestCase):
         path = self.folder / name
         path.write_bytes(text if isinstance(text, bytes) else text.encode())
         return path
+
+    def move_state(self, name, server):
+        """Says in the state file of import-inventory that its office is at this server now."""
+        path = self.folder / name
+        head, rest = path.read_text("utf-8").split("\n", 1)
+        path.write_text(json.dumps({**json.loads(head), "server": f"http://127.0.0.1:{server.port}"}) + "\n" + rest, encoding="utf-8")
 
     def relay(self, server, port, words, replies, stop):
         """Runs import-inventory against a server through this port, and calls `stop` instead of passing on one reply more.

@@ -34,7 +34,8 @@ class Odd:
                 if said == LOSE_REQUEST or isinstance(said, bytes):
                     self.close_connection = True
                     return said == LOSE_REQUEST or self.wfile.write(said)
-                found = odd.pass_on(self.command, self.path, sent)
+                fields = {name: self.headers[name] for name in ("Office-Token",) if name in self.headers}
+                found = odd.pass_on(self.command, self.path, sent, fields)
                 if said == LOSE_REPLY or found is None:
                     self.close_connection = True
                     return None
@@ -43,11 +44,11 @@ class Odd:
         self.door = http.server.ThreadingHTTPServer(("127.0.0.1", 0), Handler)
         self.port = self.door.server_address[1]
 
-    def pass_on(self, method, path, sent):
+    def pass_on(self, method, path, sent, fields):
         """The reply of the server behind; nothing where it gives none."""
         link = http.client.HTTPConnection("127.0.0.1", self.behind, timeout=20)
         try:
-            link.request(method, path, sent)
+            link.request(method, path, sent, fields)
             found = link.getresponse()
             return reply(found.status, found.read().decode(), found.getheader("content-type"))
         except OSError:

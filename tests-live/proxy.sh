@@ -76,6 +76,11 @@ for who in anna:secret-of-anna:201:201:200:200 ben:secret-of-ben:403:403:200:200
         ask "$login" "$at/meters/$month")"
 done
 check 'what was put is there once' '"versions":1' "$(ask anna:secret-of-anna "$at" >code; grep -o '"versions":[0-9]*' reply)"
+# Puts an object of this size with a token.
+once() {
+    ask anna:secret-of-anna -X PUT -H 'office-token: p1' --data "{\"size\":$1}" "$at/objects/once"
+}
+check 'a token reaches the program' '201 201 409' "$(once 7) $(once 7) $(once 8)"
 root_at=https://office.example:$front
 check 'billing reads a report, as the program answers without prices' 409 "$(ask clerk:secret-of-clerk "$root_at/months/$month/report")"
 check 'billing closes no month and sets no prices' '403 403' \

@@ -138,8 +138,23 @@ def name_at(entry, offset):
     return entry[offset + 2:offset + 2 + length].decode(), offset + 2 + length
 
 
+def token_in(entry):
+    """The token of an entry; nothing if it has none."""
+    return entry[10:10 + entry[9]].decode() if entry[8] & 0x80 else None
+
+
+def without_token(entry):
+    """An entry as it would be without its token."""
+    return entry[:8] + bytes([entry[8] & 0x7F]) + entry[10 + entry[9]:] if entry[8] & 0x80 else entry
+
+
 def entries_of(folder):
-    """The entries of the journal of a folder, up to its first closed gate, as bytes; by docs/FORMATS.md."""
+    """The entries of the journal of a folder without their tokens, up to its first closed gate, as bytes; by docs/FORMATS.md."""
+    return [without_token(it) for it in whole_entries_of(folder)]
+
+
+def whole_entries_of(folder):
+    """The same entries, with their tokens."""
     data = (pathlib.Path(folder) / "office-data" / "journal").read_bytes()
     if data[:10] != b"\xa5METERJRN1":
         raise ValueError("no journal")

@@ -10,7 +10,7 @@ def text(of):
 
 
 def frame(day, kind, fields):
-    """A frame without the gate before it: an entry of this day of January 2024, and an open gate."""
+    """A frame without the gate before it: an entry of this day of 2024, as counted from January 1, and an open gate."""
     entry = struct.pack(">QB", NEW_YEAR + (day - 1) * DAY, kind) + fields
     return struct.pack(">I", len(entry)) + entry + b"\xa5"
 
@@ -21,6 +21,10 @@ def create(day, bucket):
 
 def put(day, bucket, key, size, name="STANDARD"):
     return frame(day, 5, text(bucket) + text(key) + struct.pack(">QBB", size, CLASSES.index(name), 0))
+
+
+def delete(day, bucket, key):
+    return frame(day, 6, text(bucket) + text(key))
 
 
 def rules(day, bucket, document):

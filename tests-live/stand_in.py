@@ -1,173 +1,252 @@
 #!/usr/bin/env python3
-"""Stands in for the program where it is not built, for the cases of the tools: `init`, and `serve --listen HOST:PORT`.
+"""Stands in for the program where it is not built, for the cases of the tools: `init`, `run`, `report MONTH`, `serve --listen HOST:PORT`.
 
-It answers a part of the requests of docs/FORMATS.md by the plain models of plain_office.py and plain_months.py. It reads the
-journal of its folder where there is one, which the cases spelled by hand, and writes nothing to it.
+It answers a part of the requests of docs/FORMATS.md by the plain models of plain_office.py, plain_months.py and plain_tokens.py, and
+keeps a journal in its folder.
 """
+import http.client
 import http.server
 import json
-import pathlib
 import re
+import subprocess
 import sys
 import threading
 import time
-import types
 import urllib.parse
 
 sys.dont_write_bytecode = True
+from histories import ACT, CLOSE, KINDS, MAKE, TARIFF  # noqa: E402
 from model_words import configuration, stack_of  # noqa: E402
-from plain_months import Months, tariff_of  # noqa: E402
-from plain_office import CLASSES, Bucket, Refused, text_of  # noqa: E402
-from stand_in_journal import replay  # noqa: E402
-from stand_in_rules import refuse, rule_of  # noqa: E402
+from plain_months import Months, entry_of, is_month, tariff_of  # noqa: E402
+from plain_office import CLASSES, Refused, text_of  # noqa: E402
+from plain_tokens import Kept, refuse_fields  # noqa: E402
+from stand_in_journal import Journal, drawn, made  # noqa: E402
+from stand_in_rules import refuse, rules_of  # noqa: E402
 
-STATUS = {"NoSuchBucket": 404, "NoRules": 404, "NoSuchKey": 404, "NoSuchVersion": 404, "BucketExists": 409, "NotEnabledBefore": 409,
-          "MonthNotOver": 409, "DueActions": 409, "AlreadyClosed": 409, "EarlierMonthOpen": 409, "NoTariff": 409,
-          "NoRoute": 404, "BadMethod": 405}
-it_all = types.SimpleNamespace(buckets={}, months=Months(), last=0)
-buckets, months, turn = it_all.buckets, it_all.months, threading.Lock()
-
-
-def now():
-    """The moment of the clock, which does not fall."""
-    it_all.last = max(it_all.last, time.time_ns() // 1_000_000)
-    return it_all.last
+STATUS = {**dict.fromkeys(("NoSuchBucket", "NoRules", "NoSuchKey", "NoSuchVersion", "NoSuchUpload", "NoRoute"), 404),
+          **dict.fromkeys(("BucketExists", "NotEnabledBefore", "MonthNotOver", "DueActions", "AlreadyClosed", "EarlierMonthOpen", "NoTariff",
+                           "IsMarker", "BadPart", "NoParts", "TokenReused"), 409), "BadMethod": 405, "Full": 507}
+MADE = (0x01, 0x05, 0x09, 0x0B)  # kinds of commands whose reply is 201
 
 
-def rules_of(bucket, body, moment=None):
-    for name in sorted(set(body) - {"Rules", "TransitionDefaultMinimumObjectSize"}):
-        refuse("UnknownField", 41, name=name)
-    if not isinstance(body.get("Rules"), list):
-        refuse("WrongShape", 42, field="Rules")
-    rules = [rule_of(place, it) for place, it in enumerate(body["Rules"], 1)]
-    for place, rule in enumerate(rules):
-        if rule["id"] in [it["id"] for it in rules[:place]]:
-            refuse("DoubleId", 22, rule=place + 1)
-    bucket.rules, bucket.rules_since = rules, moment or now()
-    bucket.mode = body.get("TransitionDefaultMinimumObjectSize", "all_storage_classes_128K")
-    return 200, {"rules": len(rules)}
+class Office:
+    """The plain models, and what keeps them."""
 
+    def __init__(self):
+        self.buckets, self.months, self.kept, self.last, self.turn = {}, Months(), Kept(), 0, threading.Lock()
+
+    def now(self):
+        """The moment of the clock, which does not fall."""
+        return max(self.last, time.time_ns() // 1_000_000)
+
+    def do(self, kind, about, now):
+        """Does a command at its moment: the fields of its entry, and the reply."""
+        if kind == TARIFF:
+            return entry_of(about)[1:], lambda: self.months.set_tariff(about)
+        if kind == CLOSE:
+            year, month = map(int, about.split("-"))
+            return year.to_bytes(2, "big") + bytes([month]), lambda: self.months.close(about, self.buckets, now)
+        row = KINDS[kind - 1]
+        if row is KINDS[MAKE]:
+            return about.bucket_field(), lambda: row.does(self, about)
+        return about.bucket_field() + row.fields(about), lambda: row.does(self.bucket(about.name), about)
+
+    def bucket(self, name):
+        return self.buckets[name] if name in self.buckets else refuse("NoSuchBucket", 81)
+
+    def command(self, kind, about, tokens, now):
+        """The reply to a command; it is kept in the journal where it is accepted."""
+        refuse_fields(tokens, kind)
+        token, (fields, done) = (tokens or [None])[0], self.do(kind, about, now)
+        if token and (reply := self.kept.recall(token, kind, fields)) is not None:
+            return reply, None
+        reply = done()
+        if reply == {"action": "none"}:
+            return reply, None
+        if token:
+            self.kept.keep(token, kind, fields, reply)
+        self.months.accepted(now)
+        self.last = now
+        written = entry_of(about)[0] if kind == TARIFF else kind
+        return reply, made(now, written, fields, token)
+
+
+# ---- what a message asks
 
 def key_of(rest):
     try:
-        return urllib.parse.unquote(rest, errors="strict")
+        key = urllib.parse.unquote("/".join(rest), errors="strict")
     except UnicodeDecodeError:
-        refuse("BadKey", 11)
+        key = ""
+    return key if 1 <= len(key.encode()) <= 1024 else refuse("BadKey", 11)
+
+
+def number_of(text, error, number):
+    return int(text) if re.fullmatch("[1-9][0-9]{0,18}", text) else refuse(error, number)
+
+
+def version_of(text):
+    return text if text == "null" else str(number_of(text, "NoSuchVersion", 51))
 
 
 def month_of(text):
-    if not re.fullmatch(r"(19[7-9]\d|20\d\d)-(0[1-9]|1[0-2])", text):
-        refuse("NotAMonth", 4)
-    return text
+    return text if is_month(text) else refuse("NotAMonth", 4)
 
 
-def ask_month(method, month, word):
-    """What is answered to the closing of a month, or its report."""
-    if (method, word) == ("POST", "close"):
-        return 200, months.close(month_of(month), buckets, now())
-    if (method, word) == ("GET", "report"):
-        return 200, months.report(month_of(month), buckets, now())
-    return refuse("BadMethod", 122) if word in ("close", "report") else refuse("NoRoute", 121)
+def object_in(body):
+    """The size, class and tags of a body."""
+    if body.get("size", 0) > 5 << 40:
+        refuse("BadSize", 13)
+    if body.get("class", "STANDARD") not in CLASSES:
+        refuse("UnsupportedClass", 43, name=body["class"])
+    return {"size": body.get("size", 0), "storage_class": body.get("class", "STANDARD"), "tags": body.get("tags", {})}
 
 
-def ask_tariff(method, sent):
-    """What is answered to new prices, or to the question for them."""
-    if method == "GET":
-        return (200, months.tariff) if months.tariff else refuse("NoTariff", 88)
-    months.tariff = tariff_of(sent.decode())
-    return 200, {"tariff": "set"}
+# By method and word: the kind of the command, how many parts the path has behind the word, 9 for a key that may have more, and what it
+# says. A query has no kind.
+COMMANDS = {
+    ("PUT", ""): (0x01, 0, lambda rest, body: {}),
+    ("PUT", "versioning"): (0x02, 0, lambda rest, body: {"is_enabled": body["Status"] == "Enabled"}),
+    ("PUT", "lifecycle"): (0x03, 0, lambda rest, body: rules_of(body)),
+    ("DELETE", "lifecycle"): (0x04, 0, lambda rest, body: {}),
+    ("PUT", "objects"): (0x05, 9, lambda rest, body: {"key": key_of(rest), **object_in(body)}),
+    ("DELETE", "objects"): (0x06, 9, lambda rest, body: {"key": key_of(rest)}),
+    ("DELETE", "versions"): (0x07, 9, lambda rest, body: {"version": version_of(rest[0]), "key": key_of(rest[1:])}),
+    ("PUT", "tags"): (0x08, 9, lambda rest, body: {"version": version_of(rest[0]), "key": key_of(rest[1:]), "tags": body["tags"]}),
+    ("POST", "uploads"): (0x09, 9, lambda rest, body: {"key": key_of(rest), **object_in(body)}),
+    ("PUT", "parts"): (0x0A, 2, lambda rest, body: {"upload": number_of(rest[0], "NoSuchUpload", 60), "part": int(rest[1]), "size": body["size"]}),
+    ("POST", "upload"): (0x0B, 1, lambda rest, body: {"upload": number_of(rest[0], "NoSuchUpload", 60)}),
+    ("DELETE", "upload"): (0x0C, 1, lambda rest, body: {"upload": number_of(rest[0], "NoSuchUpload", 60)}),
+    ("POST", "act"): (ACT, 0, lambda rest, body: {}),
+}
 
 
-def ask(method, name, word, rest, body):
-    """What is answered: a status, and a body."""
+def shown_upload(bucket, number):
+    it = bucket.upload(number_of(number, "NoSuchUpload", 60))
+    return {"class": it["class"], "key": it["key"], "started": text_of(it["started"]), "tags": it["tags"], "upload": int(number),
+            "parts": [{"part": part, "size": size} for part, size in sorted(it["parts"].items())]}
+
+
+def shown_rules(bucket):
+    return json.loads(configuration(bucket.rules, bucket.mode)) if bucket.rules is not None else refuse("NoRules", 82)
+
+
+QUERIES = {
+    "": lambda it, name, *_: {"bucket": name, "rules": len(it.rules or []), "uploads": len(it.uploads), "versioning": it.versioning,
+                              "versions": sum(len(stack["versions"]) for stack in it.stacks.values())},
+    "lifecycle": lambda it, *_: shown_rules(it),
+    "objects": lambda it, name, rest, now: stack_of(it, key) if (key := key_of(rest)) in it.stacks else refuse("NoSuchKey", 50),
+    "upload": lambda it, name, rest, now: shown_upload(it, *rest),
+    "meters": lambda it, name, rest, now: {"bucket": name, "classes": it.meters(month_of(rest[0]), now), "month": rest[0]},
+    "due": lambda it, name, rest, now: it.shown(it.choice(now)),
+}
+
+
+def body_of(kind, sent):
+    """The body of a command; that of a configuration goes as it stands, an empty one too."""
+    try:
+        return json.loads(sent if sent or kind == 0x03 else b"{}")
+    except ValueError:
+        return refuse("NotJson", 40) if kind == 0x03 else refuse("BadBody", 123, field="")
+
+
+def meant(method, path, sent, now):
+    """What a message asks: a kind and what it is about, or no kind and the question."""
+    first, *parts = path.split("/")[1:]
+    if (first, parts) == ("tariff", []) and method in ("PUT", "GET"):
+        return (TARIFF, tariff_of(sent)) if method == "PUT" else (None, lambda office: office.months.shown())
+    if first == "months" and len(parts) == 2 and parts[1] in ("close", "report"):
+        month = month_of(parts[0])
+        if (method, parts[1]) == ("POST", "close"):
+            return CLOSE, month
+        return None, lambda office: office.months.report(month, office.buckets, now) if method == "GET" else refuse("BadMethod", 122)
+    if first != "buckets" or not parts or not parts[0]:
+        return refuse("NoRoute", 121)
+    name, word, rest = parts[0], (parts[1:2] or [""])[0], parts[2:]
     if not re.fullmatch(r"[a-z0-9][a-z0-9.-]{1,61}[a-z0-9]", name):
         refuse("BadBucketName", 10)
-    key = key_of(rest) if word == "objects" else month_of(rest) if word == "meters" else None
-    if word == "objects" and method == "PUT" and body.get("size", 0) > 5 << 40:
-        refuse("BadSize", 13)
-    if word == "objects" and method == "PUT" and body.get("class", "STANDARD") not in CLASSES:
-        refuse("UnsupportedClass", 43, name=body["class"])
-    if not word and method == "PUT":
-        if name in buckets:
-            refuse("BucketExists", 80)
-        buckets[name] = Bucket(now())
-        return 201, {"bucket": name}
-    if name not in buckets:
-        refuse("NoSuchBucket", 81)
-    bucket = buckets[name]
-    return ROUTES[method, word](bucket, name, key, body)
+    if (method, word) in COMMANDS:
+        kind, count, says = COMMANDS[method, word]
+        if (count != 9 and len(rest) != count) or (count == 9 and not "".join(rest)):
+            refuse("NoRoute", 121)
+        return kind, drawn(now, name, **says(rest, body_of(kind, sent)))
+    if method != "GET" or word not in QUERIES:
+        return refuse("NoRoute", 121)
+    return None, lambda office: QUERIES[word](office.bucket(name), name, rest, now)
 
 
-def versioning(bucket, _, __, body):
-    if body["Status"] == "Suspended" and bucket.versioning == "Unversioned":
-        refuse("NotEnabledBefore", 83)
-    bucket.versioning, bucket.rules_since = body["Status"], now()
-    return 200, {"versioning": body["Status"]}
-
-
-def shown(bucket, *_):
-    return (200, json.loads(configuration(bucket.rules, bucket.mode))) if bucket.rules is not None else refuse("NoRules", 82)
-
-
-def dropped(bucket, *_):
-    shown(bucket)
-    bucket.rules, bucket.rules_since = None, now()
-    return 200, {"rules": 0}
-
-
-ROUTES = {
-    ("GET", ""): lambda it, name, *_: (200, {
-        "bucket": name, "rules": len(it.rules or []), "uploads": len(it.uploads), "versioning": it.versioning,
-        "versions": sum(len(stack["versions"]) for stack in it.stacks.values())}),
-    ("PUT", "versioning"): versioning, ("GET", "lifecycle"): shown, ("DELETE", "lifecycle"): dropped,
-    ("PUT", "lifecycle"): lambda it, name, key, body: rules_of(it, body),
-    ("PUT", "objects"): lambda it, name, key, body: (201, {"moment": text_of(now()), "version": it.put(
-        key, body["size"], body.get("class", "STANDARD"), body.get("tags", {}), now())}),
-    ("DELETE", "objects"): lambda it, name, key, _: (200, it.delete(key, now())),
-    ("GET", "objects"): lambda it, name, key, _: (200, stack_of(it, key)) if key in it.stacks else refuse("NoSuchKey", 50),
-    ("GET", "meters"): lambda it, name, month, _: (200, {"bucket": name, "classes": it.meters(month, now()), "month": month}),
-    ("POST", "act"): lambda it, *_: (200, it.act(now())), ("GET", "due"): lambda it, *_: (200, it.shown(it.choice(now()))),
-}
+def replied(office, journal, method, path, tokens, sent):
+    """The status, the content type and the body of the reply to a message."""
+    with office.turn:
+        now = office.now()
+        try:
+            kind, about = meant(method, path, sent, now)
+            if kind is None:
+                status, found = 200, about(office)
+            else:
+                found, entry = office.command(kind, about, tokens, now)
+                if entry:
+                    journal.append(entry)
+                status = 201 if kind in MADE else 200
+        except Refused as refusal:
+            error, number, *more = refusal.args
+            status, found = STATUS.get(error, 400), {"error": error, "number": number, **(more[0] if more else {})}
+    if isinstance(found, str):
+        return status, "text/csv", found.encode()
+    return status, "application/json", json.dumps(found, sort_keys=True, separators=(",", ":"), ensure_ascii=False).encode()
 
 
 class Handler(http.server.BaseHTTPRequestHandler):
     protocol_version = "HTTP/1.1"
+    office = journal = None
 
     def answer(self):
-        sent = self.rfile.read(int(self.headers.get("Content-Length", 0)))
-        first, name, word, rest = (*self.path.split("/", 4)[1:], "", "", "")[:4]
-        try:
-            with turn:
-                if first == "months":
-                    status, found = ask_month(self.command, name, word)
-                elif first == "tariff":
-                    status, found = ask_tariff(self.command, sent)
-                else:
-                    status, found = ask(self.command, name, word, rest, json.loads(sent or b"{}"))
-                if self.command != "GET" and found != {"action": "none"}:
-                    months.accepted(now())
-        except Refused as refusal:
-            error, number, *more = refusal.args
-            status, found = STATUS.get(error, 400), {"error": error, "number": number, **(more[0] if more else {})}
-        except KeyError:
-            status, found = 404, {"error": "NoRoute", "number": 121}
-        kind, text = "text/csv", found
-        if not isinstance(found, str):
-            kind, text = "application/json", json.dumps(found, sort_keys=True, separators=(",", ":"), ensure_ascii=False)
-        text = text.encode()
-        self.wfile.write(f"HTTP/1.1 {status} x\r\ncontent-type: {kind}\r\ncontent-length: {len(text)}\r\n\r\n".encode() + text)
+        size = int(self.headers.get("Content-Length", 0))
+        sent = self.rfile.read(size)
+        if len(sent) < size:  # the client went away in the middle of its message
+            self.close_connection = True
+            return
+        tokens = [it.strip(" \t") for it in self.headers.get_all("Office-Token", [])]
+        status, kind, text = replied(self.office, self.journal, self.command, self.path, tokens, sent)
+        self.wfile.write(f"HTTP/1.1 {status} {http.client.responses[status]}\r\ncontent-type: {kind}\r\n"
+                         f"content-length: {len(text)}\r\n\r\n".encode() + text)
 
     do_GET = do_PUT = do_POST = do_DELETE = answer
     log_message = staticmethod(lambda *_: None)
 
 
-if sys.argv[1:2] == ["init"]:
-    pathlib.Path("office-data").mkdir(exist_ok=True)
-elif sys.argv[1:3] == ["serve", "--listen"]:
-    HOST, _, PORT = sys.argv[3].rpartition(":")
-    JOURNAL = pathlib.Path("office-data/journal")
-    if JOURNAL.exists():
-        replay(JOURNAL, it_all, rules_of)
-    http.server.ThreadingHTTPServer((HOST, int(PORT)), Handler).serve_forever()
-else:
-    sys.exit(1)
+class Input(Handler):
+    """The same over standard input and output."""
+
+    def __init__(self):
+        self.rfile, self.wfile, self.close_connection = sys.stdin.buffer, sys.stdout.buffer, False
+        while not self.close_connection:
+            self.handle_one_request()
+
+
+def main(words):
+    if words == ["init"]:
+        return Journal.make()
+    if words[:1] not in (["run"], ["report"], ["explain"]) and words[:2] != ["serve", "--listen"]:
+        return 1
+    try:
+        Handler.office, Handler.journal = Office(), Journal()
+        Handler.journal.replay(Handler.office)
+    except Refused:
+        return 5  # what the office does not accept at its place is damage
+    except subprocess.CalledProcessError as fault:
+        sys.stderr.write(fault.stderr)
+        return fault.returncode
+    if words[0] == "run":
+        Input()
+    elif words[0] == "report":
+        status, _, text = replied(Handler.office, Handler.journal, "GET", f"/months/{words[1]}/report", [], b"")
+        sys.stdout.buffer.write(text if status == 200 else b"")
+        return 0 if status == 200 else sys.stderr.write("report: no tariff\n") and 10
+    elif words[0] == "serve":
+        host, _, port = words[2].rpartition(":")
+        http.server.ThreadingHTTPServer((host, int(port)), Handler).serve_forever()
+    return 0
+
+
+sys.exit(main(sys.argv[1:]))

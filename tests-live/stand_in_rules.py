@@ -50,8 +50,24 @@ def rule_of(place, found):
     if "NoncurrentVersionExpiration" in found:
         gone = found["NoncurrentVersionExpiration"]
         rule["noncurrent"] = (gone["NoncurrentDays"], gone.get("NewerNoncurrentVersions"))
+    if "NoncurrentVersionTransitions" in found:
+        rule["noncurrent_moves"] = [(it["NoncurrentDays"], it.get("NewerNoncurrentVersions"), moved(it["StorageClass"]))
+                                    for it in found["NoncurrentVersionTransitions"]]
     if "AbortIncompleteMultipartUpload" in found:
         rule["abort"] = found["AbortIncompleteMultipartUpload"]["DaysAfterInitiation"]
     if len(rule) == 6:
         refuse("NoAction", 23, rule=place)
     return rule
+
+
+def rules_of(body):
+    """The rules of a document, and the sizes that are moved."""
+    for name in sorted(set(body) - {"Rules", "TransitionDefaultMinimumObjectSize"}):
+        refuse("UnknownField", 41, name=name)
+    if not isinstance(body.get("Rules"), list):
+        refuse("WrongShape", 42, field="Rules")
+    rules = [rule_of(place, it) for place, it in enumerate(body["Rules"], 1)]
+    for place, rule in enumerate(rules):
+        if rule["id"] in [it["id"] for it in rules[:place]]:
+            refuse("DoubleId", 22, rule=place + 1)
+    return {"rules": rules, "mode": body.get("TransitionDefaultMinimumObjectSize", "all_storage_classes_128K")}

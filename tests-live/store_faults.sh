@@ -75,4 +75,20 @@ wait "$run"
 check "the status of a run that went on" 0 "$?"
 check "the entries that are left" "$stored" "$(show | "$program" run 2>/dev/null | grep -a -o '"versions":[0-9]*' | sed 's/.*://')"
 
+# A put with a token that the disk refuses is done once the disk takes it, and once alone, however often it is sent again.
+once() {
+    put 200 | sed 's/^Host: office/Office-Token: once\r\nHost: office/'
+}
+(
+    trap '' XFSZ
+    ulimit -f 32
+    once | "$program" run >refused 2>notes
+)
+check "a put with a token that is refused" '1 0' "$(replies 503 refused) $(replies 201 refused)"
+once | "$program" run >first
+check "the same again, when the disk takes it" 1 "$(replies 201 first)"
+{ once; once; } | "$program" run >twice
+check "and again: the first reply" "$(cat first first)" "$(cat twice)"
+check "one version more" $((stored + 1)) "$(show | "$program" run 2>/dev/null | grep -a -o '"versions":[0-9]*' | sed 's/.*://')"
+
 finish

@@ -34,7 +34,7 @@ class Bill(live.Case):
         return self.bill("--server", self.at, *words)
 
     def test_before_and_after_the_close(self):
-        self.check("without prices", (10, "", "bill: 2024-01: no prices are set (PUT /tariff)"), self.of_server("2024-01"))
+        self.check("without prices", (10, "", "bill: 2024-01: no prices are set for it (PUT /tariff)"), self.of_server("2024-01"))
         self.check("prices are set", 200, self.ask("PUT", "/tariff", TARIFF))
         status, said, notes = self.of_server("--unit", "EUR=1000000", "--journal", self.journal, "2024-01")
         lines = said.splitlines()

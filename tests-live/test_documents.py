@@ -101,13 +101,16 @@ class Commands(live.Case):
                 yield block
 
     def test_readme(self):
-        quick, rules = self.runnable("README.md")
+        quick, rules, again = self.runnable("README.md")
         said = self.shell(quick, "quick start")
         self.check("the office is made", True, said.startswith("made\n"))
         self.check("the meters of this month", 1, len(re.findall(r'"byte_ms":"[1-9][0-9]*","class":"STANDARD_IA"', said)))
         serving = f"{self.program} serve --listen 127.0.0.1:8080 &\ntrap 'kill %1' EXIT\n"
         said = self.shell(serving + rules, "a lifecycle configuration")
         self.check("three rules, nothing is due", '{"rules":3}{"action":"none"}', said)
+        first, second = re.findall(r"\{[^}]*\}", self.shell(serving + again, "a request that is sent again"))
+        self.check("the second reply is the first one again", first, second)
+        self.check("it tells of a version", True, '"version":"null"' in first)
 
     def test_readme_bill(self):
         """The bill has the lines that the README shows; the amounts depend on how long the objects were there."""

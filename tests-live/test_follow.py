@@ -99,7 +99,7 @@ class Follow(live.Case):
         count = len(self.done())
         status, notes = self.follow(self.file("two", lines(*puts[:2], *more)))
         self.check("again, in another file", (0, count), (status, len(self.done())))
-        self.check("is counted", True, "sent twice or late 5" in notes and "gone already 1" in notes)
+        self.check("is counted; a removal again has its first reply", True, "sent twice or late 5" in notes and "removals 1" in notes)
         last = puts[2]["s3"]["object"]["sequencer"]
         for order, more in ((last, 1), (last + "00", 1), (last + "01", 2), (last + "1", 3), (last + "0F", 3)):  # as if filled with zeros at the right
             self.check(f"sequencers of different lengths: {order}", (0, count + more),

@@ -15,7 +15,7 @@ import listing_server
 import live
 from free_port import free_port
 from live import CLASSES, TOOLS, objects_of
-from serve_client import Server
+from serve_client import Server, request, token_in, whole_entries_of
 
 SCHEMA = "Bucket, Key, VersionId, IsLatest, IsDeleteMarker, Size, LastModifiedDate, StorageClass"
 SHORT = "Bucket, Key, Size, StorageClass"
@@ -85,7 +85,11 @@ class Import(live.Case):
         self.check("nothing is put twice", 2, len(objects_of(server.folder)))
         (self.folder / "versions.json.import").unlink()
         status, notes = self.run_it("--to", to, "--bucket", "photos", "--current", "versions.json")
-        self.check("a bucket that has objects of others, status", (6, 2), (status, len(objects_of(server.folder))))
+        self.check("not even without the file of the state, by the tokens", (0, 2), (status, len(objects_of(server.folder))))
+        many = self.write_csv("many.csv", [("photos", f"k{n}", 1, "") for n in range(9_001)])
+        status, notes = self.run_it("--to", to, "--schema", SHORT, many)
+        self.check("more rows than the program keeps replies to, where versions are already", (6, 2, True),
+                   (status, len(objects_of(server.folder)), "no file many.csv.import says how many of the 9001" in notes))
 
     def test_rows_that_the_program_refuses(self):
         server = self.serve("csv")
@@ -139,14 +143,13 @@ class Import(live.Case):
         def move(server):
             """The same office at another address, which is said in the state file."""
             server.client().socket.close()
-            state = self.folder / "load.csv.import"
-            state.write_text(f"{state.read_text('utf-8').split()[0]} http://127.0.0.1:{server.port}\n", encoding="utf-8")
+            self.move_state("load.csv.import", server)
             return ["--to", f"http://127.0.0.1:{server.port}", *words]
         with Server(self.program, folder) as server:
-            self.check("a server that is killed in the middle, status", 2, self.relay(server, port, words, 202, lambda _: kill(server.process)))
+            self.check("a server that is killed in the middle, status", 2, self.relay(server, port, words, 201, lambda _: kill(server.process)))
         self.check("200 rows have a reply, two of them are refused, and one more is put", 199, len(objects_of(folder)))
         with Server(self.program, folder) as server:
-            self.check("a tool that is killed in the middle, status", -9, self.relay(server, port, words, 402, kill))
+            self.check("a tool that is killed in the middle, status", -9, self.relay(server, port, words, 401, kill))
         self.check("400 rows have a reply, four of them are refused, and one more is put", 397, len(objects_of(folder)))
         limit = folder.joinpath("office-data/journal").stat().st_size + 8000
         signal.signal(signal.SIGXFSZ, signal.SIG_IGN)
@@ -160,6 +163,29 @@ class Import(live.Case):
             status, notes = self.run_it(*move(server))
             self.check("the last one ends the import, and 10 rows are refused", (5, True), (status, "refused 10;" in notes))
         self.check("each object is put once, in order", wanted, objects_of(folder))
+
+    def test_beside_others(self):
+        """Three slices into a bucket in which others put too, killed in the last one; the same words go on, and each row is put once."""
+        rows = [("load", f"key-{n:05}", n, "UNKNOWN" if n % 500 == 250 else "STANDARD") for n in range(2_500)]
+        name, server, port = self.write_csv("load.csv", rows), self.serve("beside"), free_port()
+        with server.client() as client:
+            client.ask(request("PUT", "/buckets/load"))
+            client.ask(request("PUT", "/buckets/load/objects/key-02400", '{"size":77777}'))
+
+        def kill(tool):
+            tool.kill()
+            tool.wait()
+        words = ["--schema", SHORT, name]
+        self.check("killed, status", -9, self.relay(server, port, words, 2_301, kill))
+        with server.client() as client:
+            client.ask(request("PUT", "/buckets/load/objects/another", '{"size":8}'))
+        self.move_state("load.csv.import", server)
+        status, notes = self.run_it("--to", f"http://127.0.0.1:{server.port}", *words)
+        self.check("goes on at the third slice", (5, True, True), (status, "put 2495, " in notes and "refused 5;" in notes, "of these 1996 by an earlier try" in notes))
+        found = objects_of(server.folder)
+        wanted = [row for row in rows if row[3] != "UNKNOWN"]
+        self.check("each row once, in order, and those of others", (2_497, wanted), (len(found), [it for it in found if it[1] != "another" and it[2] != 77_777]))
+        self.check("each with a token of its own", len(wanted), len({token_in(it) for it in whole_entries_of(server.folder)} - {None}))
 
     def test_what_cannot_be_done(self):
         """Servers and files that are not what they should be: a status, and nothing done."""

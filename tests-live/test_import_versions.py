@@ -101,7 +101,7 @@ class ImportVersions(live.Case):
             tool.kill()
             tool.wait()
         self.check("a tool that is killed in the middle, status", -9, self.relay(self.server, free_port(), ["--state", "state", name], 104, kill))
-        (self.folder / "state").write_text((self.folder / "state").read_text("utf-8").split()[0] + f" {self.to}\n", encoding="utf-8")
+        self.move_state("state", self.server)
         there = self.ask("/buckets/load")["versions"]
         self.check("some versions are there", True, 90 < there < 110)
         status, notes = self.run_it("--to", self.to, "--state", "state", name)

@@ -17,6 +17,8 @@ BUCKET = b"zoo-zoo"
 PUTS = [("a", 0, "STANDARD"), ("b/c d", 1, "STANDARD_IA"), ("f", 5497558138880, "DEEP_ARCHIVE"),
         ("\u00e9\u20ac\U0001d11e?#%", 131072, "ONEZONE_IA"), ("\"\\\x01\x7f", 6144, "GLACIER"), ("k" * 90, 77, "GLACIER_IR")]
 WHERE = ("moment", "ms", "offset")
+TARIFF = (b"[storage]\n" + b"".join(b"%s = 5\n" % it.encode() for it in live.CLASSES)
+          + b"[transition]\n" + b"".join(b"%s = 7\n" % it.encode() for it in live.CLASSES[1:]))
 sys.path.insert(0, str(TOOLS))
 tool = types.SimpleNamespace(**runpy.run_path(str(TOOL)))
 
@@ -163,6 +165,23 @@ class JournalDump(live.Case):
         self.compare("an open gate at the end", [whole[:end] + b"\xa5", whole[:end] + b"\xa5" + bytes(40), whole + b"\xa5\xff"])
         huge = whole[:10] + b"\xa5\x00\x20\x00\x01" + bytes((1 << 21) + 2)
         self.compare("a frame of 2,097,153 bytes", [huge, whole])
+
+    def test_damage_in_tokens_and_tariffs(self):
+        """Each byte but those of the bucket's name changed in two ways, in entries with a token and with tiers."""
+        tiers = b'from = "2024-03"\n' + TARIFF.replace(b"STANDARD = 5", b"STANDARD = [{ upto = 1, price = 7 }, { upto = 4294967295, price = 6 }, { price = 5 }]", 1)
+        asked = [request(b"PUT", b"/buckets/" + BUCKET), request(b"PUT", b"/buckets/" + BUCKET + b"/objects/a", b'{"size":1}'), request(b"PUT", b"/tariff", tiers),
+                 request(b"PUT", b"/tariff", TARIFF)]
+        sent = b"".join(it.replace(b"\r\n", b"\r\nOffice-Token: t%d\r\n" % place, 1) if place < 2 else it for place, it in enumerate(asked))
+        self.check("each is accepted", len(asked), self.office("run", sent=sent).stdout.count(b"HTTP/1.1 20"))
+        whole = self.journal.read_bytes().rstrip(b"\0") + b"\0"
+        names = [at + n for at in range(len(whole)) if whole.startswith(BUCKET, at) for n in range(len(BUCKET))]
+        places = [place for place in range(len(whole)) if place not in names]
+        self.journal.write_bytes(whole)
+        lines = [json.loads(it) for it in self.dump(self.journal)[1].splitlines()]
+        self.check("what is read", [("t0", None), ("t1", None), (None, "2024-03"), (None, "1970-01")], [(it.get("token"), it.get("from")) for it in lines])
+        self.compare("a byte turned", [changed(whole, place, whole[place] ^ 0xFF) for place in places])
+        self.compare("a bit turned", [changed(whole, place, whole[place] ^ 1) for place in places])
+        self.compare("the bit of a token", [changed(whole, it["offset"] + 13, whole[it["offset"] + 13] ^ 0x80) for it in lines] + [whole])
 
     def test_what_the_office_does_not_accept(self):
         """At its place it is damage to the program, and an entry to the tool."""

@@ -58,8 +58,8 @@ class JournalTail(live.Case):
         self.check("a gate that is not open", (["first"], place), (self.read()[0].buckets, self.read()[1]))
         self.write(*begun, create(2, "second"), frame(2, 14, b"\0" * 44), frame(40, 15, struct.pack(">HB", 2024, 1)))
         found, start = self.read()
-        self.check("what came since", (["first", "second"], 5, place, "2024-01", NEW_YEAR + DAY, NEW_YEAR + 39 * DAY),
-                   (found.buckets, found.count, start, found.closed, found.tariff, found.last))
+        self.check("what came since", (["first", "second"], 5, place, "2024-01", ["1970-01"], {"2024-01": "1970-01"}, NEW_YEAR + 39 * DAY),
+                   (found.buckets, found.count, start, found.closed, found.tariffs, found.closed_with, found.last))
 
     def test_another_journal(self):
         def puts(day, bucket, count):
@@ -78,7 +78,7 @@ class JournalTail(live.Case):
         (kept,) = self.state.iterdir()
         whole = kept.read_text("utf-8")
         for name, found in (("nothing", ""), ("half of it", whole[:40]), ("a list", "[]"), ("noise", "\x00"), ("deep lists", "[" * 100_000),
-                            ("another version", whole.replace('"version":1', '"version":0')), ("a place that is none", whole.replace('"gate":', '"gate":9')),
+                            ("another version", whole.replace('"version":2', '"version":1')), ("a place that is none", whole.replace('"gate":', '"gate":9')),
                             ("a place that is a text", json.dumps({**json.loads(whole), "gate": "x"})),
                             ("other names", whole.replace("first", "ft").replace('"before":"', '"before":"0'))):
             kept.write_text(found)

@@ -68,6 +68,10 @@ class ManyOffices(live.Case):
             self.check(f"{name}: each line is the sum of its stays", [], self.ask(them, "select * from wrong"))
             stays = self.ask(them, "select count(*) from metered where quantity <> ''")
             self.check(f"{name}: and there are such lines", True, int(stays[0][0]) >= 5)
+        tiered = "update reports set price = 'tiered' where class = 'GLACIER'"
+        self.check("charges in tiers that do not add up", [["film", "storage", "GLACIER", "2"]], self.ask(parts, "select * from apart", tiered))
+        self.check("of one office they do", [], self.ask([whole], "select * from apart", tiered))
+        self.check("nor do they matter with one price", [], self.ask(parts, "select * from apart"))
         self.check("a report that is wrong is found", [["hot", "STANDARD"]], self.ask(parts, "select bucket, class from wrong",
                    "update reports set quantity = quantity + 1 where bucket = 'hot' and class = 'STANDARD' and line = 'storage'"))
 

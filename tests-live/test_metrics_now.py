@@ -109,11 +109,11 @@ class MetricsNow(live.Case):
         self.start()
         found = self.of_journal()
         self.check("no month is closed: up to the month of the first command", f"{NEW_YEAR // 1000}.000", found["office_closed_until_timestamp_seconds", ""])
-        self.check("limits", {"Buckets": "1000", "Versions": "200000", "Uploads": "20000", "Parts": "500000", "Names": "536870912", "Rules": "67108864",
+        self.check("limits", {"Buckets": "1000", "Versions": "200000", "Uploads": "20000", "Parts": "500000", "Names": "536870912", "Rules": "67108864", "Tariffs": "100",
                               "Journal": "1073741824"}, {labels[6:-1]: value for (name, labels), value in found.items() if name == "office_limit"})
         used = {labels[6:-1]: value for (name, labels), value in found.items() if name == "office_used"}
         configuration = self.ask("GET", "/buckets/logs/lifecycle")[1]
-        self.check("used", {"Buckets": "3", "Versions": "7", "Uploads": "0", "Rules": str(len(configuration)), "Journal": str(len(journal(*self.frames)))}, used)
+        self.check("used", {"Buckets": "3", "Versions": "7", "Uploads": "0", "Rules": str(len(configuration)), "Tariffs": "0", "Journal": str(len(journal(*self.frames)))}, used)
         self.check("build info", 1, sum(name == "office_build_info" and value == "1" for (name, _), value in found.items()))
         self.check("without a journal nothing is said of all buckets", [], [it for it in self.read("--bucket", "raw") if it[0] == "office_used"])
 

@@ -80,7 +80,7 @@ class MonthEnd(live.Case):
         return [(it.read_bytes(), it.stat().st_mtime_ns) for it in (self.csv, self.txt)]
 
     def test_a_month_that_is_not_closed(self):
-        self.ends("no prices", 10, "2024-01 is not closed: no prices are set (PUT /tariff)", "--bucket", "logs", "2024-01")
+        self.ends("no prices", 10, "2024-01 is not closed: no prices are set for it (PUT /tariff)", "--bucket", "logs", "2024-01")
         self.set_prices()
         self.ends("a bucket that was not named", 7, f"{DUE} 'tmp/x'; name it too: --bucket raw", "--bucket", "logs", "2024-01")
         self.ends("a bucket with more due than --most", 7, f"{DUE} 'cold/1'; the same words go on", "--bucket", "raw", "--most", "1", "2024-01")
@@ -95,7 +95,7 @@ class MonthEnd(live.Case):
         self.set_prices()
         status, said, notes = self.month_end("--journal", self.journal, "2024-01")
         self.check("status and files", (0, ["./2024-01-report.csv", "./2024-01-report.txt"]), (status, said.splitlines()))
-        self.check("what was done", ["2 of 2 buckets, refused 0; actions 2: remove 1, transition 1, marker 0, abort 0", "2024-01 is closed"],
+        self.check("what was done", ["2 of 2 buckets, refused 0; actions 2: remove 1, transition 1, marker 0, abort 0", "2024-01 is closed, with the tariff from 1970-01"],
                    [it.removeprefix("month-end: ").rpartition(";")[0] or it.removeprefix("month-end: ") for it in notes.splitlines()])
         self.check("charges by hand", JANUARY, self.csv.read_text("ascii").splitlines())
         lines = self.txt.read_text("ascii").splitlines()
@@ -109,7 +109,7 @@ class MonthEnd(live.Case):
         before = self.files()
         self.set_prices(2)
         status, said, notes = self.month_end("--journal", self.journal, "2024-01")
-        self.check("status and note", (0, 2, "month-end: 2024-01 was closed already"), (status, len(said.splitlines()), notes.splitlines()[-1]))
+        self.check("status and note", (0, 2, "month-end: 2024-01 was closed already, with the tariff from 1970-01"), (status, len(said.splitlines()), notes.splitlines()[-1]))
         self.check("the files are as they were", before, self.files())
         self.txt.unlink()
         self.check("a file that is missing, status", 0, self.month_end("--bucket", "raw", "2024-01")[0])

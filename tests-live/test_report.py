@@ -1,15 +1,17 @@
 #!/usr/bin/env -S python3 -B
-"""Writes journals of spelled entries, and compares `report` of each of their months, as CSV and as a table, with a plain model. The
-CSV is read by Python's csv, and by sqlite3.
+"""Writes journals of spelled entries with several tariffs, some in tiers, and closed months, and compares `report` of each of their
+months, as CSV and as a table, with a plain model. The CSV is read by Python's csv, and by sqlite3.
 
 OFFICE_SEEDS=1000,100 takes 100 histories from number 1000 on in place of 10.
 """
+import contextlib
 import csv
 import io
 import random
 
 import live
-from plain_office import CLASSES, DAY, Bucket, window
+from plain_months import Months, entry_of, plain
+from plain_office import CLASSES, DAY, END, Bucket, Refused
 
 START = 1_704_067_200_000  # 2024-01-01 00:00 UTC
 NAMES, KEYS, MONTHS = ("a.b", "logs", "x-1"), ("a", 'b,"c"', "d"), ("2023-12", "2024-01", "2024-02", "2024-03", "2024-04")
@@ -21,44 +23,67 @@ def place(text):
 
 
 class History:
-    """Random puts, deletions and a tariff: as entries of a journal, and in the model."""
+    """Random puts, deletions, tariffs and closings: as entries of a journal, and in the models."""
 
     def __init__(self, seed):
         draw, now = random.Random(seed), START
-        self.buckets, self.journal = {}, b"\xa5METERJRN1\xa5"
-        self.storage = [draw.choice((0, 1, 23_000, 1_048_576)) for _ in CLASSES]
-        self.transition = [draw.choice((0, 7, 10_000)) for _ in CLASSES[1:]]
-        self.keep(now, 14, b"".join(it.to_bytes(4, "big") for it in self.storage + self.transition))
+        self.draw, self.buckets, self.months, self.journal = draw, {}, Months(), b"\xa5METERJRN1\xa5"
+        self.set_tariff(now, draw.choice(("1970-01", "2024-01", "2024-02")))
         for name in NAMES[: draw.randint(0, 3)]:
             self.buckets[name] = Bucket(now)
             self.keep(now, 1, place(name))
-        for _ in range(40 if self.buckets else 0):
+        for _ in range(50 if self.buckets else 0):
             now += draw.randint(0, 3 * DAY)
-            name, key = draw.choice(sorted(self.buckets)), draw.choice(KEYS)
-            bucket = self.buckets[name]
-            if draw.random() < 0.3 and key in bucket.stacks:
-                bucket.delete(key, now)
-                self.keep(now, 6, place(name) + place(key))
+            how = draw.random()
+            if how < 0.08:
+                self.set_tariff(now, draw.choice(("1970-01", "2023-12", "2024-01", "2024-02", "2024-03", "2024-04", "2030-01")))
+            elif how < 0.16:
+                self.close(now)
             else:
-                size, cold = draw.choice((0, 5, 131_073, 2**30, 5 * 2**40)), draw.choice(CLASSES)
-                bucket.put(key, size, cold, {}, now)
-                self.keep(now, 5, place(name) + place(key) + size.to_bytes(8, "big") + bytes([CLASSES.index(cold), 0]))
+                self.change(now)
+
+    def tiers(self):
+        """One to three tiers, with ends that quantities of here fall on both sides of."""
+        prices = [self.draw.choice((0, 1, 23_000, 1_048_576)) for _ in range(self.draw.choice((1, 1, 2, 3)))]
+        ends = sorted(self.draw.sample((1, 2, 5, 7, 4_096, 2**32 - 1), len(prices) - 1))
+        return list(zip([*ends, None], prices))
+
+    def set_tariff(self, now, first):
+        tariff = {**plain([], [self.draw.choice((0, 7, 10_000)) for _ in CLASSES[1:]], first), "storage": {it: self.tiers() for it in CLASSES}}
+        self.months.set_tariff(tariff)
+        kind, *fields = entry_of(tariff)
+        self.keep(now, kind, bytes(fields))
+
+    def close(self, now):
+        """Closes the first month that is open, if it is over and has a tariff."""
+        month = self.months.to_close(now)
+        with contextlib.suppress(Refused):
+            self.months.close(month, self.buckets, now)
+            self.keep(now, 15, int(month[:4]).to_bytes(2, "big") + bytes([int(month[5:])]))
+
+    def change(self, now):
+        draw = self.draw
+        name, key = draw.choice(sorted(self.buckets)), draw.choice(KEYS)
+        bucket = self.buckets[name]
+        if draw.random() < 0.3 and key in bucket.stacks:
+            bucket.delete(key, now)
+            self.keep(now, 6, place(name) + place(key))
+        else:
+            size, cold = draw.choice((0, 5, 131_073, 2**30, 3 * 2**30, 5 * 2**40)), draw.choice(CLASSES)
+            bucket.put(key, size, cold, {}, now)
+            self.keep(now, 5, place(name) + place(key) + size.to_bytes(8, "big") + bytes([CLASSES.index(cold), 0]))
 
     def keep(self, now, kind, fields):
+        self.months.accepted(now)
         entry = now.to_bytes(8, "big") + bytes([kind]) + fields
         self.journal += len(entry).to_bytes(4, "big") + entry + b"\xa5"
 
     def report(self, month):
-        """Its rows: bucket, line, class, quantity, price and charge."""
-        begin, end = window(month)
-        rows = []
-        for name, bucket in sorted(self.buckets.items()):
-            for rank, it in enumerate(bucket.meters(month, end)):
-                price, move = self.storage[rank], self.transition[rank - 1] if rank else 0
-                for line, quantity in (("storage", int(it["byte_ms"])), ("early", int(it["early_byte_ms"]))):
-                    rows.append((name, line, it["class"], quantity, price, quantity * price // (2**30 * (end - begin))))
-                rows.append((name, "transitions", it["class"], it["moves"], move, it["moves"] * move // 1_000))
-        return [row for row in rows if row[3]]
+        """Its rows, bucket, line, class, quantity, price and charge; nothing where no tariff is in force."""
+        try:
+            return list(self.months.lines(month, self.buckets, END))
+        except Refused:
+            return None
 
 
 class Report(live.Case):
@@ -74,7 +99,11 @@ class Report(live.Case):
             history = History(seed)
             journal.write_bytes(history.journal[:-1] + b"\0")
             for month in MONTHS:
-                yield seed, month, history.report(month)
+                rows = history.report(month)
+                if rows is None:
+                    self.check(f"{month} of history {seed}", (10, "", "report: no tariff\n"), self.run_it("report", month))
+                else:
+                    yield seed, month, rows
             self.assertEqual(history.journal[:-1] + b"\0", journal.read_bytes(), "the journal is as it was")
 
     def test_csv(self):

@@ -52,9 +52,9 @@ class Proxy:
         self.process.terminate()
         self.process.wait(LIMIT)
 
-    def ask(self, method, target, body=""):
+    def ask(self, method, target, body="", fields=""):
         with Client(self.port) as client:
-            client.send(request(method, target, body))
+            client.send(request(method, target, body, fields=fields))
             # A reply of the proxy itself may have its fields in other letters.
             while b"\r\n\r\n" not in client.held and client._read():
                 pass
@@ -149,6 +149,8 @@ class Scaling(live.Case):
             found = [proxy.ask("PUT", f"/buckets/{made}"), proxy.ask("PUT", f"/buckets/{made}/objects/a/../b%20c", '{"size":1000}')]
             self.check(f"{made} is in office {office} alone", ([201, 201], [office]), (found, placed(self.offices, made)))
             self.check(f"{made} is read there", (200, 200), (proxy.ask("GET", f"/buckets/{made}"), proxy.ask("GET", f"/buckets/{made}/due")))
+        token = f"Office-Token: {proxy.name}\r\n"
+        self.check("a token reaches an office", [201, 201, 409], [proxy.ask("PUT", "/buckets/hot/objects/once", f'{{"size":{it}}}', token) for it in (7, 7, 8)])
         for bucket in OFFICE_OF:
             self.check(f"{bucket} is found", 200, proxy.ask("GET", f"/buckets/{bucket}/meters/2024-01"))
         for method, target in (("PUT", "/tariff"), ("GET", "/months/2024-01/report"), ("POST", "/months/2024-01/close"), ("GET", "/"),

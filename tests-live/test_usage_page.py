@@ -5,6 +5,7 @@ import collections
 import csv
 import fractions
 import html.parser
+import json
 import shutil
 import subprocess
 
@@ -176,6 +177,26 @@ class FromFiles(live.Case):
     def test_a_month_without_use(self):
         status, text, _ = self.make(TOTAL, "")
         self.check("the total alone", (0, [["total", "", "", "", "", "0"]]), (status, Page(text).tables["lines"][1:]))
+
+    def test_lines_in_tiers(self):
+        """3 GiB through January 2024: one at 23,000, and two at 20,000."""
+        quantity = 3 * GIB * 31 * DAY
+        lines, rows = f"logs,storage,STANDARD,{quantity},tiered,63000\n,total,,,,63000\n", f"logs,2024-01,STANDARD,3.000000000,0.000000000,0,{quantity},0\n"
+
+        def shown(price):
+            return json.dumps({"tariffs": [{"from": "2024-01", "transition": dict.fromkeys(CLASSES[1:], 0), "storage": {
+                **dict.fromkeys(CLASSES, 0), "STANDARD": [{"price": price, "upto": 1}, {"price": 20_000}]}}]})
+        status, text, _ = self.make(lines, rows, "--tariff", self.file("tariffs.json", shown(23_000)))
+        found = Page(text)
+        self.check("its price", (0, ["logs", "storage", "STANDARD", str(quantity), "in tiers", "63000"]), (status, found.tables["lines"][1]))
+        self.check("what each tier took", [["0 to 1", "1.000000000", "23000", "23000"], ["above 1", "2.000000000", "20000", "40000"], ["all tiers", "3.000000000", "", "63000"]],
+                   [row[:4] for row in found.tables["tiers-1"][1:]])
+        self.check("seen values are the exact ones, and nothing is loaded", ([], []), (found.wrong, found.loads))
+        for name, words in (("no tariff is given", ()), ("another one is", ("--tariff", self.file("other.json", shown(22_999))))):
+            status, text, _ = self.make(lines, rows, *words)
+            self.check(name, (0, True, {"buckets", "classes", "lines"}), (status, "What each tier took is not shown" in text, set(Page(text).tables)))
+        for name, text in (("no JSON", "{"), ("no tariffs", "{}"), ("a list", "[]")):
+            self.check(f"a tariff that is none: {name}", (5, ""), self.make(lines, rows, "--tariff", self.file("none.json", text))[:2])
 
     def test_files_that_make_no_page(self):
         page = self.file("page", "before\n")

@@ -79,7 +79,7 @@ class UsagePageNow(live.Case):
             break
 
     def test_what_cannot_be_done(self):
-        self.check("no prices", (10, "", "usage-page: 2024-01: no prices are set (PUT /tariff)"), self.page("2024-01"))
+        self.check("no prices", (10, "", "usage-page: 2024-01: no prices are set for it (PUT /tariff)"), self.page("2024-01"))
         self.ask("PUT", "/tariff", TARIFF)
         for words in (["--server", self.at, "--report", "x", "2024-01"], ["--server", self.at, "--meters", "x", "2024-01"], ["--server", self.at, "2024-1"],
                       ["--server", self.at], ["2024-01"]):

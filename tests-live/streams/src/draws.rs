@@ -58,6 +58,8 @@ const MONTHS: &[&[u8]] = &[
 const WORDS: &[&[u8]] = &[
     b"versioning", b"lifecycle", b"objects", b"versions", b"tags", b"uploads", b"upload", b"parts", b"act", b"due", b"meters", b"object", b"", b"Act", b"keys",
 ];
+const TIERED: &[u8] = b"from = \"2024-03\"\n[storage]\nSTANDARD = [{ upto = 1, price = 23000 }, { price = 20000 }]\nSTANDARD_IA = 1\nONEZONE_IA = 1\n\
+GLACIER_IR = 1\nGLACIER = 1\nDEEP_ARCHIVE = 1\n[transition]\nSTANDARD_IA = 1\nONEZONE_IA = 1\nGLACIER_IR = 1\nGLACIER = 1\nDEEP_ARCHIVE = 1\n";
 const BODIES: &[&[u8]] = &[
     b"", b"{}", b"{\"size\":5}", b"{\"size\":5,\"class\":\"STANDARD\"}", b"{\"size\":5,\"class\":\"GLACIER\",\"tags\":{\"a\":\"b\"}}", b"{\"size\":-1}", b"{\"size\":1.0}",
     b"{\"size\":1e3}", b"{\"size\":-0}", b"{\"size\":18446744073709551615}", b"{\"size\":18446744073709551616}", b"{\"size\":5497558138880}", b"{\"size\":5497558138881}",
@@ -65,18 +67,23 @@ const BODIES: &[&[u8]] = &[
     b"{\"size\":5,\"class\":7}", b"{\"size\":5,\"class\":null}", b"{\"size\":5,\"tags\":[]}", b"{\"size\":5,\"tags\":{\"a\":1}}", b"{\"size\":5,\"tags\":{\"\":\"x\"}}",
     b"{\"size\":5,\"zeta\":1,\"alpha\":2}", b"{\"alpha\":1}", b"{\"Status\":\"Enabled\"}", b"{\"Status\":\"Suspended\"}", b"{\"Status\":\"enabled\"}", b"{\"Status\":1}",
     b"{\"Status\":\"Enabled\",\"X\":1}", b"{\"tags\":{}}", b"{\"tags\":{\"a\":\"b\",\"c\":\"d\"}}", b"{\"tags\":null}", b"{\"class\":\"DEEP_ARCHIVE\"}", b"{\"class\":\"STANDARD_IA\",\"tags\":{}}",
+    TIERED, b"from = \"2024-13\"\n", b"[storage]\nSTANDARD = []\n", b"[storage]\nSTANDARD = [{ upto = 5, price = 1 }, { upto = 5, price = 1 }, { price = 1 }]\n",
     b"[]", b"5", b"\"x\"", b"null", b"true", b"{", b"{\"size\":5} ", b" {\"size\":5}", b"\xef\xbb\xbf{}", b"{\"size\":5}x", b"{\"a\\ud800\":1}", b"{\"size\":1e999}", b"\xff",
     b"{\"size\":5,}", b"{'size':5}", b"{\"size\":05}", b"{\"s\\u0069ze\":5}", b"{\"size\":5,\"tags\":{\"a\":\"b\",\"a\":\"c\"}}", b"{\"size\": 0 }", b"\n", b" ",
     b"{\"tags\":{\"1\":\"\",\"2\":\"\",\"3\":\"\",\"4\":\"\",\"5\":\"\",\"6\":\"\",\"7\":\"\",\"8\":\"\",\"9\":\"\",\"10\":\"\",\"11\":\"\"}}",
     b"{\"tags\":{\"1\":\"\",\"2\":\"\",\"3\":\"\",\"4\":\"\",\"5\":\"\",\"6\":\"\",\"7\":\"\",\"8\":\"\",\"9\":\"\",\"10\":\"\"}}",
 ];
-const FIELDS: &[&[u8]] = &[b"Host: x", b"host:x", b"Accept: */*", b"Expect: 100-continue", b"X-Y:", b"Connection: keep-alive"];
+const FIELDS: &[&[u8]] = &[
+    b"Host: x", b"host:x", b"Accept: */*", b"Expect: 100-continue", b"X-Y:", b"Connection: keep-alive", b"Office-Token: t1", b"office-TOKEN:t2",
+];
 const ODD_FIELDS: &[&[u8]] = &[
     b"Connection: close", b"connection: CLOSE", b"Connection: close, x",
     b"Connection:  close ", b"Transfer-Encoding: chunked", b"transfer-encoding: identity", b"TRANSFER-ENCODING:", b"Content-Length: 0", b"Content_Length: 7", b"Content-Length : 3",
     b"Content-Length: +5", b"Content-Length: -1", b"Content-Length: 1048577", b"Content-Length: 1048576", b"Content-Length:", b"Content-Length: 5, 5", b"Content-Length: 0x5",
     b"Content-Length: 99999999999999999999999999999999", b"Content-Length: 0000000000000000000000000000000000000000", b": x", b"A B: c", b"X: \x00", b"X: \x7f", b"X: \x80\xff", b"X:\ty", b" folded",
-    b"X\x01: y", b"Office-Token: t1", b"Content-Length:\t2", b"Content-Length: 2\t", b"(x): y",
+    b"X\x01: y", b"Office-Token: t1", b"OFFICE-TOKEN:", b"Office-Token: a b", b"Office-Token: \x80", b"Office-Token: \t!~\t ", b"Office-Token: a\tb",
+    b"Office-Token: a234567890123456789012345678901234567890123456789012345678901234", b"Office_Token: a b", b"Office-Tokens: a b",
+    b"Office-Token: a2345678901234567890123456789012345678901234567890123456789012345", b"Content-Length:\t2", b"Content-Length: 2\t", b"(x): y",
 ];
 const ENDS: &[&[u8]] = &[b"\r\n"];
 const ODD_ENDS: &[&[u8]] = &[b"\n", b"\n", b"\n", b"\r", b"\r\r\n", b""];
@@ -145,6 +152,11 @@ fn push_message(draws: &mut Draws, out: &mut Vec<u8>) {
     }
     for _ in 0..draws.below(4) {
         out.extend(draws.mostly(FIELDS, ODD_FIELDS, 15));
+        push_end(draws, out);
+    }
+    // A token that few other messages have, so that more commands are done than refused for theirs.
+    if draws.one_in(8) {
+        out.extend(format!("Office-Token: {:x}", draws.next() & 0xf_ffff).as_bytes());
         push_end(draws, out);
     }
     if !body.is_empty() || draws.one_in(10) {

@@ -57,9 +57,9 @@ fn difference(said: &[u8], expected: &[Expected]) -> Option<String> {
             Expected::Exact(bytes) if rest.starts_with(bytes) => bytes.len(),
             Expected::Exact(bytes) => return Some(format!("reply {place}: not {}", bytes.escape_ascii())),
             Expected::Among { success, numbers } => match reply(rest) {
-                Some((status, _, length)) if status == *success => length,
+                Some((status, _, length)) if *success == Some(status) => length,
                 Some((status, body, length)) if status >= 400 && number_of(body).is_some_and(|it| numbers.contains(&it)) => length,
-                _ => return Some(format!("reply {place}: none with status {success} or number {numbers:?}")),
+                _ => return Some(format!("reply {place}: none with status {success:?} or number {numbers:?}")),
             },
         };
         rest = &rest[taken..];

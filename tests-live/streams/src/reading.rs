@@ -17,8 +17,8 @@ const CLASSES: [&str; 6] = ["STANDARD", "STANDARD_IA", "ONEZONE_IA", "GLACIER_IR
 pub enum Expected {
     /// Exactly these bytes.
     Exact(Vec<u8>),
-    /// A reply of success with this status, or a refusal with one of these numbers.
-    Among { success: u16, numbers: &'static [u16] },
+    /// A reply of success with this status, if there can be one, or a refusal with one of these numbers.
+    Among { success: Option<u16>, numbers: Vec<u16> },
 }
 
 struct Refusal {
@@ -82,7 +82,7 @@ fn exact(refusal: &Refusal) -> Expected {
 // What the records may answer to any command or query: Full, ClockEnd and JournalFull among it.
 const ON_BUCKET: &[u16] = &[80, 81, 90];
 const ON_RULES: &[u16] = &[2, 3, 20, 21, 22, 23, 24, 25, 26, 27, 28, 29, 30, 31, 32, 33, 34, 41, 42, 43, 81, 90];
-const ON_TARIFF: &[u16] = &[70, 71, 72, 73];
+const ON_TARIFF: &[u16] = &[70, 71, 72, 73, 74, 75, 90];
 const ON_VERSIONING: &[u16] = &[81, 83];
 const ON_QUERY: &[u16] = &[50, 60, 81, 82];
 const ON_KEY: &[u16] = &[50, 51, 52, 81, 90];
@@ -90,8 +90,49 @@ const ON_UPLOAD: &[u16] = &[60, 61, 62, 81, 90];
 const ON_MONTH: &[u16] = &[84, 85, 86, 87, 88];
 const ON_TARIFF_QUERY: &[u16] = &[88];
 
+// What the records alone decide of a configuration and of a tariff: a message that is refused for its token has none of these.
+const BY_RECORDS: &[u16] = &[80, 81, 90];
+
 fn among(success: u16, numbers: &'static [u16]) -> Read<Expected> {
-    Ok(Expected::Among { success, numbers })
+    Ok(Expected::Among { success: Some(success), numbers: numbers.to_vec() })
+}
+
+/// The values of the fields Office-Token of a head.
+type Tokens = Vec<Vec<u8>>;
+
+fn is_token(text: &[u8]) -> bool {
+    (1..=64).contains(&text.len()) && text.iter().all(|&c| (0x21..=0x7e).contains(&c))
+}
+
+/// What a token changes at a message that gives a command, by its method and target: one that is none is refused, a good one may be
+/// kept with another command, and a configuration, a tariff and an action take none.
+fn with_tokens(tokens: &Tokens, method: &str, target: &str, meant: Expected) -> Expected {
+    let Expected::Among { success, mut numbers } = meant else { return meant };
+    if method == "GET" || tokens.is_empty() {
+        return Expected::Among { success, numbers };
+    }
+    let is_good = tokens.len() == 1 && is_token(&tokens[0]);
+    let word = target.split('/').nth(3).unwrap_or("");
+    let reads_text = target == "/tariff" || (word == "lifecycle" && method == "PUT");
+    match (is_good, reads_text || word == "act") {
+        (true, false) => {
+            numbers.push(92);
+            Expected::Among { success, numbers }
+        }
+        // The text of a configuration or a tariff may be refused first.
+        (_, true) if reads_text => {
+            numbers.retain(|it| !BY_RECORDS.contains(it));
+            numbers.push(if is_good { 129 } else { 128 });
+            Expected::Among { success: None, numbers }
+        }
+        (true, true) => say(400, "TokenNotServed", 129),
+        (false, _) => say(400, "BadToken", 128),
+    }
+}
+
+/// A refusal that has its name and number alone.
+fn say(status: u16, name: &str, number: u16) -> Expected {
+    exact(&Refusal { status, body: format!("{{\"error\":\"{name}\",\"number\":{number}}}") })
 }
 
 fn bucket(text: &str) -> Read<()> {
@@ -318,15 +359,19 @@ enum Head {
     /// No continuation makes it a head.
     Broken,
     Partial,
-    Whole { length: usize, method: String, target: String, framing: Read<usize>, is_last: bool },
+    Whole { length: usize, method: String, target: String, framing: Read<usize>, tokens: Tokens, is_last: bool },
+}
+
+/// The values of the fields of a name, whose letters may be of either case.
+fn values<'a>(headers: &[Header<'a>], name: &str) -> Vec<&'a [u8]> {
+    headers.iter().filter(|it| it.name.eq_ignore_ascii_case(name)).map(|it| it.value).collect()
 }
 
 fn framing(headers: &[Header]) -> Read<usize> {
-    let of = |name: &str| headers.iter().filter(|it| it.name.eq_ignore_ascii_case(name)).map(|it| it.value).collect::<Vec<_>>();
-    if !of("transfer-encoding").is_empty() {
+    if !values(headers, "transfer-encoding").is_empty() {
         return refusal(501, "ChunkedBody", 125);
     }
-    let digits = match of("content-length").as_slice() {
+    let digits = match values(headers, "content-length").as_slice() {
         [] => return Ok(0),
         [one] if !one.is_empty() && one.iter().all(u8::is_ascii_digit) => one.to_vec(),
         _ => return refusal(400, "BadHead", 120),
@@ -383,6 +428,7 @@ fn head_with(front: &[u8], fields: usize) -> Option<Head> {
                 method: request.method.unwrap_or("").to_owned(),
                 target: target.unwrap_or("").to_owned(),
                 framing: framing(request.headers),
+                tokens: values(request.headers, "office-token").into_iter().map(<[u8]>::to_vec).collect(),
                 is_last: request.version == Some(0) || request.headers.iter().any(closes),
             }
         }
@@ -397,9 +443,8 @@ fn head(front: &[u8]) -> Head {
 /// What is answered to a stream, in order, up to its end or to the last message of its session.
 pub fn answers(stream: &[u8]) -> Vec<Expected> {
     let (mut rest, mut found) = (stream, Vec::new());
-    let say = |status: u16, name: &str, number: u16| exact(&Refusal { status, body: format!("{{\"error\":\"{name}\",\"number\":{number}}}") });
     while !rest.is_empty() {
-        let (length, method, target, framing, is_last) = match head(&rest[..rest.len().min(HEAD_LIMIT)]) {
+        let (length, method, target, framing, tokens, is_last) = match head(&rest[..rest.len().min(HEAD_LIMIT)]) {
             Head::Broken => {
                 found.push(say(400, "BadHead", 120));
                 break;
@@ -408,7 +453,7 @@ pub fn answers(stream: &[u8]) -> Vec<Expected> {
                 found.push(if rest.len() >= HEAD_LIMIT { say(431, "HeadTooLarge", 126) } else { say(400, "CutShort", 127) });
                 break;
             }
-            Head::Whole { length, method, target, framing, is_last } => (length, method, target, framing, is_last),
+            Head::Whole { length, method, target, framing, tokens, is_last } => (length, method, target, framing, tokens, is_last),
         };
         let body_length = match framing {
             Ok(it) => it,
@@ -424,7 +469,8 @@ pub fn answers(stream: &[u8]) -> Vec<Expected> {
         }
         let (body, behind) = rest.split_at(body_length);
         rest = behind;
-        found.push(meant(&method, &target, body).unwrap_or_else(|refusal| exact(&refusal)));
+        let one = meant(&method, &target, body).map(|it| with_tokens(&tokens, &method, &target, it));
+        found.push(one.unwrap_or_else(|refusal| exact(&refusal)));
         if is_last {
             break;
         }
