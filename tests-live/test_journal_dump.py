@@ -171,14 +171,16 @@ class JournalDump(live.Case):
         tiers = b'from = "2024-03"\n' + TARIFF.replace(b"STANDARD = 5", b"STANDARD = [{ upto = 1, price = 7 }, { upto = 4294967295, price = 6 }, { price = 5 }]", 1)
         asked = [request(b"PUT", b"/buckets/" + BUCKET), request(b"PUT", b"/buckets/" + BUCKET + b"/objects/a", b'{"size":1}'), request(b"PUT", b"/tariff", tiers),
                  request(b"PUT", b"/tariff", TARIFF)]
-        sent = b"".join(it.replace(b"\r\n", b"\r\nOffice-Token: t%d\r\n" % place, 1) if place < 2 else it for place, it in enumerate(asked))
+        # No bit turned makes one token the other: two entries with one token are damage to the program alone.
+        tokens = (b"a0", b"t7")
+        sent = b"".join(it.replace(b"\r\n", b"\r\nOffice-Token: %s\r\n" % tokens[place], 1) if place < 2 else it for place, it in enumerate(asked))
         self.check("each is accepted", len(asked), self.office("run", sent=sent).stdout.count(b"HTTP/1.1 20"))
         whole = self.journal.read_bytes().rstrip(b"\0") + b"\0"
         names = [at + n for at in range(len(whole)) if whole.startswith(BUCKET, at) for n in range(len(BUCKET))]
         places = [place for place in range(len(whole)) if place not in names]
         self.journal.write_bytes(whole)
         lines = [json.loads(it) for it in self.dump(self.journal)[1].splitlines()]
-        self.check("what is read", [("t0", None), ("t1", None), (None, "2024-03"), (None, "1970-01")], [(it.get("token"), it.get("from")) for it in lines])
+        self.check("what is read", [("a0", None), ("t7", None), (None, "2024-03"), (None, "1970-01")], [(it.get("token"), it.get("from")) for it in lines])
         self.compare("a byte turned", [changed(whole, place, whole[place] ^ 0xFF) for place in places])
         self.compare("a bit turned", [changed(whole, place, whole[place] ^ 1) for place in places])
         self.compare("the bit of a token", [changed(whole, it["offset"] + 13, whole[it["offset"] + 13] ^ 0x80) for it in lines] + [whole])
