@@ -2,9 +2,9 @@
 """Puts with a fresh token beside puts without one: python3 bench/tokens.py PROGRAM [FOLDER] [ROUNDS]
 
 PROGRAM is crates/office_cli/out/office_cli. Both are answered by `run` in FOLDER (/dev/shm, where syncs cost nothing), on
-an office of its own, 100,000 puts each, with tokens of 36 bytes. The same requests are then sent again: those whose reply is
-kept get it, without an entry. Rounds (9) alternate, and so does which of the two begins. Prints the medians, as ratio the
-median of the rounds' ratios, and what the 10,000 kept replies add to the resident memory of the opened office.
+an office of its own, 100,000 puts each, with tokens of 36 bytes. The last 10,000 are then sent again, ten times: each gets
+its kept reply, without an entry (the opening of the journal counts in). Prints the medians of the rounds (9), as ratio the
+median of the rounds' ratios, and the resident memory of both offices after an opening.
 """
 import datetime
 import os
@@ -43,7 +43,7 @@ def turn(program, folder, plain, tokened, last):
             found[name] = rate(program, work, requests, b"201", MANY)
             found["resident " + name] = resident(program, work)
             if name == "with":
-                found["again"] = rate(program, work, last, b"201", KEPT)
+                found["again"] = rate(program, work, last * 10, b"201", 10 * KEPT)
     return found
 
 
