@@ -51,7 +51,7 @@ fn token(rt: &impl Abort, alloc: Global, bytes: &[u8]) -> Token {
 const PAIRS: [(&[u8], &[u8], bool); 4] = [
     (b"t1", b"t1", true),
     (b"t1", b"t2", false),
-    (b"t1", b"T1", false),
+    (b"put", b"PUT", false),
     (b"t1", b"t11", false),
 ];
 
