@@ -1,0 +1,3 @@
+pub mod Bills
+pub mod Books
+pub mod Causes

@@ -1,0 +1,4 @@
+pub mod Differences
+pub mod Tallies
+pub mod Groups
+pub mod Once

@@ -1,0 +1,4 @@
+pub mod Bills
+pub mod Differences
+pub mod Laws
+pub mod Posting
