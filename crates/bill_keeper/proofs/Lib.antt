@@ -1,0 +1,9 @@
+pub mod Texts
+pub mod Header
+pub mod Month
+pub mod Insert
+pub mod Inside
+pub mod Back
+pub mod Spelled
+pub mod Told
+pub mod Fresh

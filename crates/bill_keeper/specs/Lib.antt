@@ -1,0 +1,4 @@
+pub mod Keepers
+pub mod Reading
+pub mod Ready
+pub mod Steps

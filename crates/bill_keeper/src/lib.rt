@@ -1,0 +1,17 @@
+//! Keepers of bills: a book in memory, and one in a table of SQLite.
+#![tactic(auto)]
+
+mod month_table;
+mod opening;
+mod places;
+mod printing;
+mod row_bills;
+mod sheet;
+mod sqlite_keeper;
+mod statements;
+#[cfg(test)]
+mod tests;
+
+pub use bill_book::{Bill, BillKeeper, KeeperFault, MapKeeper, Posted};
+pub use opening::create_table;
+pub use sqlite_keeper::SqliteKeeper;

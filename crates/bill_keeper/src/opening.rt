@@ -1,0 +1,77 @@
+// Where a connection comes from.
+ghost use Rattle.std.specs.Prelude.{◌≡◌, false, IfOk, OnOk};
+ghost use Rattle.sqlite.specs.Held.{state};
+ghost use Rattle.bill_keeper.specs.Ready.{HasNoRows, HasTable, no_schema};
+
+use crate::month_table::fault_of;
+use bill_book::KeeperFault;
+use sqlite::{Alter, Connection, Error, ErrorCode, File, FileStore};
+
+// Makes the table of bills where there is none.
+fn make_table<S: Alter>(conn: &mut Connection<S>) -> Result<(), Error>
+    ensures idle { IfOk result (λ _. conn.new.in_transaction ≡ false) }
+{
+    conn.execute(
+        "CREATE TABLE IF NOT EXISTS bills(month TEXT NOT NULL, bucket TEXT NOT NULL, total TEXT NOT NULL, \
+         lines INTEGER NOT NULL, PRIMARY KEY(month, bucket)) STRICT",
+        &[],
+    )?;
+    if conn.is_autocommit() {
+        Ok(())
+    } else {
+        Err(Error::SqliteFailure(ErrorCode::TransactionState))
+    }
+}
+
+fn create_in<S: Alter>(conn: &mut Connection<S>) -> Result<usize, Error>
+    requires { (state S.Store conn.old).now.schema ≡ no_schema }
+    ensures table { OnOk result (HasTable (state S.Store conn.new)) }
+    ensures empty { OnOk result (HasNoRows (state S.Store conn.new)) }
+{
+    conn.execute(
+        "CREATE TABLE bills(month TEXT NOT NULL, bucket TEXT NOT NULL, total TEXT NOT NULL, \
+         lines INTEGER NOT NULL, PRIMARY KEY(month, bucket)) STRICT",
+        &[],
+    )
+}
+
+/// Makes the table of bills in a database that has no table yet, so that its connection may be handed to a keeper.
+///
+/// # Errors
+///
+/// The error of the database, or that a transaction is open. Nothing is then known of the table.
+pub fn create_table<S: Alter>(conn: &mut Connection<S>) -> Result<(), Error>
+    requires blank { (state S.Store conn.old).now.schema ≡ no_schema }
+    ensures table { OnOk result (HasTable (state S.Store conn.new)) }
+    ensures empty { OnOk result (HasNoRows (state S.Store conn.new)) }
+    ensures idle { OnOk result (conn.new.in_transaction ≡ false) }
+{
+    create_in(conn)?;
+    if conn.is_autocommit() {
+        Ok(())
+    } else {
+        Err(Error::SqliteFailure(ErrorCode::TransactionState))
+    }
+}
+
+fn open_at(rt: &HostRuntime, path: &str) -> Result<Connection<FileStore<File>>, Error>
+    ensures idle { IfOk result (λ conn. conn.in_transaction ≡ false) }
+{
+    let mut conn = Connection::open(rt, path)?;
+    make_table(&mut conn)?;
+    Ok(conn)
+}
+
+/// Opens the database in the file at this path, outside a transaction. The file and the table are made where there are
+/// none.
+pub(crate) fn open_file(
+    rt: &HostRuntime,
+    path: &str,
+) -> Result<Connection<FileStore<File>>, KeeperFault>
+    ensures idle { IfOk result (λ conn. conn.in_transaction ≡ false) }
+{
+    match open_at(rt, path) {
+        Ok(conn) => Ok(conn),
+        Err(error) => Err(fault_of(error)),
+    }
+}
