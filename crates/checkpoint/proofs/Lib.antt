@@ -1,0 +1,4 @@
+pub mod BodyLaws
+pub mod CombiningLaws
+pub mod Examples
+pub mod PartLaws

@@ -1,0 +1,14 @@
+pub mod Added
+pub mod Bare
+pub mod Few
+pub mod Fitting
+pub mod Growth
+pub mod Held
+pub mod Metering
+pub mod OpenStays
+pub mod Ranges
+pub mod RecordedStays
+pub mod Restoring
+pub mod SameSums
+pub mod Shown
+pub mod SummedBooks

@@ -1,0 +1,4 @@
+pub mod Classes
+pub mod RecordStays
+pub mod Restorable
+pub mod Snapshots

@@ -1,0 +1,6 @@
+pub mod Choosing
+pub mod Fronts
+pub mod OneFile
+pub mod Parts
+pub mod Saved
+pub mod Texts

@@ -1,0 +1,18 @@
+use Rattle.disk_core.specs.declared.disk.FileNo.TheVariants.{Slot0, Slot1}
+use Rattle.disk_core.proofs.Time.{started, goes_on}
+use Rattle.slots.specs.Saving.{NarrowerSlots}
+use Rattle.slots.proofs.Saved.{narrower_start, narrower_after0, narrower_after1}
+use Rattle.slots.proofs.saving.sync_slots.Goals as goal
+
+pub returns-clause-any_moment : goal.returns-clause-any_moment
+returns-clause-any_moment g c told =
+    let d = g.D.Disk in
+    let old = c.args.disk.now in
+    let first = d.state old in
+    let mid = d.state c.sync.new.self in
+    let start = started d old (NarrowerSlots first) (g.met.D.Disk.only_now old) (narrower_start first) in
+    let one = goes_on start c.sync.ensures.time
+    (narrower_after0 c.sync.result first first mid start.now (g.met.D.Disk.reads_image told old Slot0) (c.sync.ensures.done told) (c.sync.ensures.state told)) in
+    goes_on one c.sync-2.ensures.time
+    (narrower_after1 c.sync-2.result first mid (d.state c.sync-2.new.self) one.now (g.met.D.Disk.reads_image told c.sync.new.self Slot1)
+    (c.sync-2.ensures.done told) (c.sync-2.ensures.state told))

@@ -1,0 +1,5 @@
+pub mod Causes
+pub mod Heads
+pub mod Loading
+pub mod Saving
+pub mod Slots
