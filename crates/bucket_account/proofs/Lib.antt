@@ -1,6 +1,8 @@
 pub mod Accepted
 pub mod Acting
 pub mod Completed
+pub mod Copied
+pub mod Counted
 pub mod Deletes
 pub mod Doing
 pub mod Ending
@@ -8,13 +10,17 @@ pub mod Gone
 pub mod Handed
 pub mod Moved
 pub mod Moves
+pub mod OpenStays
 pub mod PartPut
 pub mod PartStays
 pub mod Parting
 pub mod Putting
 pub mod Removals
+pub mod Reopening
 pub mod Replacing
+pub mod Restored
 pub mod RuleIds
+pub mod SameSums
 pub mod SetAt
 pub mod Started
 pub mod TagSizes

@@ -3,6 +3,7 @@ pub mod Changing
 pub mod Counting
 pub mod Effects
 pub mod Moving
+pub mod Restoring
 pub mod Standing
 pub mod Tagging
 pub mod Touching

@@ -1,24 +1,32 @@
 // A bucket in memory: its records, its meters and its running count of versions.
-ghost use Rattle.std.specs.Prelude.{◌≡◌, ◌+◌, ◌^◌, ◌<◌, ◌≤◌, ℕ, length, OnOk, OnErr, IfOk, IfSome};
+ghost use Rattle.std.specs.Prelude.{◌≡◌, ◌+◌, ◌^◌, ◌<◌, ◌≤◌, ℕ, length, OnOk, OnErr, IfOk, IfSome, IsFalse, All};
 ghost use Rattle.accrual.specs.Books.{Book, IsBookedBy};
+ghost use Rattle.accrual.specs.Sums.{AreSumsOf, HaveRisingMonths, IsSmallMonth, is_nothing};
 ghost use Rattle.accrual.specs.Totals.{AreTotalsOf};
 ghost use Rattle.due_core.specs.Choice.{choice};
 ghost use Rattle.due_index.specs.Firsts.{entry_count};
 ghost use Rattle.plain_office.specs.Office as plain;
+ghost use Rattle.plain_office.specs.Office.{book_of};
+ghost use Rattle.plain_office.specs.Orderly.{IsOrderlyBucket};
 ghost use Rattle.plain_office.specs.Step.{new_account};
 ghost use Rattle.plain_office.specs.Counts.{version_count};
 ghost use Rattle.plain_office.specs.Answers.{rule_count};
 ghost use Rattle.plain_office.specs.Charges.{class_meters};
 ghost use Rattle.office_types.specs.Fits.{ReplyFits};
+ghost use Rattle.office_types.specs.declared.refusal.What.{What};
 ghost use Rattle.office_types.specs.declared.reply.Reply.TheVariants.{NothingDue};
 ghost use Rattle.bucket_account.specs.Changing.{change_of, limits_of, IsOrderlyAccount, DoesTold};
-ghost use Rattle.bucket_account.specs.Counting.{AreCountsOver, IsWithinBy, HasGrownBy};
+ghost use Rattle.bucket_account.specs.Counting.{AreCountsOver, IsWithinBy, HasGrownBy, amount, in_bucket};
+ghost use Rattle.bucket_account.specs.Restoring.{IsSmallBucket, IsAccountOf, AreFewIn};
 ghost use Rattle.bucket_account.specs.Standing.{StandsForAccount, most_commands};
 
 use crate::change::{Done, change};
+use crate::copying::copy_of;
+use crate::counting::{count_names, count_parts, count_text, count_versions};
 use crate::counts::Counts;
 use crate::renewing::{entries_of, first_of};
-use accrual::Meters;
+use crate::restoring::open_all;
+use accrual::{Meters, MonthSums};
 use class_rules::Class;
 use due_core::{Action, Bucket};
 use due_index::DueIndex;
@@ -88,6 +96,70 @@ impl Account {
             versions: 0,
             text_bytes: 0,
             index,
+        }
+    }
+
+    /// Gives the account of these records, whose months have these sums without the stays that have no end yet. The stay
+    /// of each version and part is opened: an object's when it entered its class, a marker's when it was made, a part's
+    /// when it was put.
+    ///
+    /// Cost: a pass over the versions and parts, one printing of the configuration, and the index is built.
+    ///
+    /// # Errors
+    ///
+    /// `NoMemory`: memory ran out.
+    pub fn of(alloc: Global, bucket: Bucket, sums: &[MonthSums]) -> Result<Account, NoMemory>
+        requires orderly { (last : ℕ) × IsOrderlyBucket last bucket }
+        requires few { IsSmallBucket bucket }
+        requires rising { HaveRisingMonths sums.now }
+        requires small { All IsSmallMonth sums.now }
+        ensures stands { IfOk result (λ made. (account : plain.Account) → IsAccountOf bucket sums.now account
+            → StandsForAccount made account) }
+        ensures bucket { IfOk result (λ made. made.bucket ≡ bucket) }
+        ensures room { IfOk result (IsWithinBy 0) }
+    {
+        let mut meters = Meters::from_sums(alloc, sums)?;
+        open_all(&mut meters, &bucket)?;
+        let versions = count_versions(&bucket);
+        let text_bytes = count_text(alloc, &bucket.rules)?;
+        let index = DueIndex::build(alloc, &bucket).ok();
+        Ok(Account {
+            bucket,
+            meters,
+            versions,
+            text_bytes,
+            index,
+        })
+    }
+
+    /// Lists the sums of the months, in order, without the stays that have no end yet. A month in which all are 0 is
+    /// left out.
+    ///
+    /// # Errors
+    ///
+    /// `NoMemory`: memory ran out.
+    pub fn sums(&self) -> Result<Vec<MonthSums>, NoMemory>
+        ensures exact { IfOk result (λ sums. (account : plain.Account) → StandsForAccount self.now account
+            → AreSumsOf (book_of account.books) sums.items) }
+        ensures rising { IfOk result (λ sums. HaveRisingMonths sums.items) }
+        ensures some { IfOk result (λ sums. All (λ month. IsFalse (is_nothing month)) sums.items) }
+    {
+        self.meters.sums()
+    }
+
+    /// Copies the bucket's records.
+    ///
+    /// Cost: for each key and upload a search of those before it, and a copy.
+    ///
+    /// # Errors
+    ///
+    /// `NoMemory`: memory ran out.
+    pub fn records(&self, alloc: Global) -> Result<Bucket, NoMemory>
+        ensures { IfOk result (λ bucket. bucket ≡ self.now.bucket) }
+    {
+        match copy_of(alloc, &self.bucket) {
+            Ok(bucket) => Ok(bucket),
+            Err(_) => Err(NoMemory),
         }
     }
 
@@ -173,6 +245,24 @@ impl Account {
         match &self.bucket.rules {
             Some(rules) => rules.rules().len() as u32,
             None => 0,
+        }
+    }
+
+    /// Counts what the bucket has of each kind that has a limit.
+    ///
+    /// Cost: a pass over the versions, uploads and parts. Takes no memory.
+    pub fn counts(&self) -> Counts
+        requires few { AreFewIn self.now.bucket }
+        ensures { (what : What) → amount what result ≡ in_bucket what self.now.bucket }
+    {
+        Counts {
+            buckets: 1,
+            versions: self.versions,
+            uploads: self.bucket.uploads.len() as u64,
+            parts: count_parts(&self.bucket),
+            names: count_names(&self.bucket),
+            rules: self.text_bytes,
+            tariffs: 0,
         }
     }
 

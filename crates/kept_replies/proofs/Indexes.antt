@@ -19,7 +19,7 @@ Numbers = List (List ℕ × ℕ)
 -- ---- texts that differ
 
 -- two texts differ either way round
-apart_back : (a b : List ℕ) → bytes_eq a b ≡ false → bytes_eq b a ≡ false
+pub apart_back : (a b : List ℕ) → bytes_eq a b ≡ false → bytes_eq b a ≡ false
 apart_back a b apart = by (bytes_eq b a) refl where
   by : (t : Bool) → bytes_eq b a ≡ t → t ≡ false
   by false is = refl

@@ -1,5 +1,5 @@
 -- What contracts see of the kept replies.
-use Rattle.std.specs.Prelude.{ℕ, ◌-◌, List, [], ◌∷◌, ◌++◌, length, drop, find, map, Option}
+use Rattle.std.specs.Prelude.{◌≡◌, ℕ, ◌-◌, List, [], ◌∷◌, ◌++◌, length, drop, find, map, Option}
 use Rattle.std.specs.Str.{bytes_eq}
 use Rattle.office_types.specs.Kept.{reply_of}
 use Rattle.office_types.specs.declared.command.Command.{Command}
@@ -41,3 +41,8 @@ kept_of t reply held = record {
 -- one more, without the oldest where there are too many
 abbrev pub with_kept : Kept → List Kept → List Kept
 with_kept kept queue = drop (length (queue ++ kept ∷ []) - most_kept) (queue ++ kept ∷ [])
+
+-- its mark and its number are those that its reply tells
+pub record IsTold (kept : Kept) : Type 0 where
+  pub marker : kept.marker ≡ tells_marker (reply_of kept)
+  pub told : kept.told ≡ number_told (reply_of kept)

@@ -1,15 +1,17 @@
 // The kept replies.
-ghost use Rattle.std.specs.Prelude.{◌≡◌, ◌⊎◌, ℕ, ◌<◌, ◌≤◌, ◌^◌, ◌+◌, [], IsSome, IfSome, IfOk, OnOk, OnErr, Ok, Err, Some, None, length, drop, option_copied};
+ghost use Rattle.std.specs.Prelude.{◌≡◌, ◌⊎◌, ℕ, ◌<◌, ◌≤◌, ◌^◌, ◌+◌, [], ◌∷◌, ◌++◌, IsSome, IfSome, IfOk, OnOk, OnErr, Ok, Err, Some, None, length, drop, option_copied};
+ghost use Rattle.std.specs.List.{AllByRecursion};
 ghost use Rattle.std.specs.VecDeque.{deque_len, deque_capacity};
 ghost use Rattle.office_base.specs.Maps.{at_name, with_name};
 ghost use Rattle.plain_office.specs.Once.{kept_at, recalled};
-ghost use Rattle.kept_replies.specs.Queue.{ReplyQueue, plain_reply, plain_replies, kept_in, kept_of, with_kept};
+ghost use Rattle.plain_office.specs.Orderly.{AreKept};
+ghost use Rattle.kept_replies.specs.Queue.{ReplyQueue, plain_reply, plain_replies, kept_in, kept_of, with_kept, IsTold};
 ghost use Rattle.kept_replies.specs.Indexed.{IsIndexed, without_held, found_at};
 
 use moments::Moment;
 use office_base::NoMemory;
 use office_types::{Command, Kept, Refusal, Reply, Token, marker_told, number_told};
-use std::alloc::Global;
+use std::alloc::{AllocError, Global};
 use std::collections::{BTreeMap, VecDeque};
 use std::marker::Model;
 
@@ -60,6 +62,44 @@ impl KeptReplies {
             dropped: 0,
             held: None,
         }
+    }
+
+    /// Keeps these replies, oldest first, of which each has a token of its own.
+    ///
+    /// Cost: a search of the tokens for each.
+    ///
+    /// # Errors
+    ///
+    /// `NoMemory`: memory ran out.
+    pub fn of(alloc: Global, kept: Vec<Kept>) -> Result<KeptReplies, NoMemory>
+        requires { AreKept (plain_replies kept.items) }
+        ensures { IfOk result (λ all. all ≡ record { queue = kept.items; dropped = 0; held = None }) }
+    {
+        let mut numbers = BTreeMap::new(alloc);
+        let mut queue = VecDeque::new(alloc);
+        for one in kept {
+            take_up(&mut numbers, &mut queue, one)?;
+        }
+        Ok(KeptReplies {
+            numbers,
+            queue,
+            dropped: 0,
+            held: None,
+        })
+    }
+
+    /// Lists what is kept, oldest first. Of each its mark and its number are those that its reply tells.
+    ///
+    /// Cost: a copy of each token and command.
+    ///
+    /// # Errors
+    ///
+    /// `NoMemory`: memory ran out.
+    pub fn list(&self, alloc: Global) -> Result<Vec<Kept>, NoMemory>
+        ensures same { IfOk result (λ all. plain_replies all.items ≡ plain_replies self.now.queue) }
+        ensures told { IfOk result (λ all. AllByRecursion IsTold all.items) }
+    {
+        copies_of_all(alloc, &self.queue)
     }
 
     /// Finds what is kept under a token; None where nothing is. Takes no memory.
@@ -276,5 +316,66 @@ fn drop_oldest(numbers: &mut BTreeMap<Token, u64>, queue: &mut VecDeque<Kept>)
 {
     if let Some(oldest) = queue.pop_front() {
         numbers.remove(&oldest.token);
+    }
+}
+
+// One more of the replies that are kept anew, under the number of its place.
+fn take_up(
+    numbers: &mut BTreeMap<Token, u64>,
+    queue: &mut VecDeque<Kept>,
+    kept: Kept,
+) -> Result<(), NoMemory>
+    requires few { length queue.old.items < 10_000 }
+    requires new { kept_in kept.token queue.old.items ≡ None }
+    requires indexed { IsIndexed 0 numbers.old.entries queue.old.items }
+    ensures queue { OnOk result (queue.new.items ≡ queue.old.items ++ kept ∷ []) }
+    ensures indexed { OnOk result (IsIndexed 0 numbers.new.entries queue.new.items) }
+{
+    let Ok(token) = kept.token.copy() else {
+        return Err(NoMemory);
+    };
+    make_room(queue)?;
+    put_number(numbers, token, queue.len() as u64)?;
+    queue.push_back_reserved(kept);
+    Ok(())
+}
+
+// What is kept once more, with the mark and the number that its reply tells.
+fn copy_of(kept: &Kept) -> Result<Kept, AllocError>
+    ensures same { IfOk result (λ copy. plain_reply copy ≡ plain_reply kept.now) }
+    ensures told { IfOk result IsTold }
+{
+    let reply = kept.reply()?;
+    Ok(Kept {
+        token: kept.token.copy()?,
+        moment: kept.moment,
+        marker: marker_told(&reply),
+        told: number_told(&reply),
+        command: kept.command.copy()?,
+    })
+}
+
+fn copies_of_all(alloc: Global, queue: &VecDeque<Kept>) -> Result<Vec<Kept>, NoMemory>
+    ensures same { IfOk result (λ all. plain_replies all.items ≡ plain_replies queue.now.items) }
+    ensures told { IfOk result (λ all. AllByRecursion IsTold all.items) }
+{
+    let mut all = Vec::new(alloc);
+    for kept in queue.iter() {
+        push_copy(&mut all, kept)?;
+    }
+    Ok(all)
+}
+
+fn push_copy(all: &mut Vec<Kept>, kept: &Kept) -> Result<(), NoMemory>
+    ensures same { OnOk result
+        (plain_replies all.new.items ≡ plain_replies all.old.items ++ plain_reply kept.now ∷ []) }
+    ensures told { OnOk result (AllByRecursion IsTold all.old.items → AllByRecursion IsTold all.new.items) }
+{
+    let Ok(copy) = copy_of(kept) else {
+        return Err(NoMemory);
+    };
+    match all.push(copy) {
+        Ok(()) => Ok(()),
+        Err(_) => Err(NoMemory),
     }
 }

@@ -1,10 +1,13 @@
 pub mod Accounts
 pub mod ByMonths
 pub mod Charges
+pub mod FirstOpen
 pub mod Lateness
 pub mod Months
 pub mod Offices
+pub mod Parts
 pub mod Repeats
+pub mod Restored
 pub mod Room
 pub mod Rows
 pub mod Seen

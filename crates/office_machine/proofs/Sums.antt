@@ -110,7 +110,7 @@ least a b = omega arith
 twice : (n limit : ℕ) → n ≤ limit → n ≤ 2 * limit
 twice n limit le = omega (arith, le)
 
-counts_small : (p : Office) → IsOrderlyRecords p → (what : What) → count_of what p ≤ 2 * limit_of what
+pub counts_small : (p : Office) → IsOrderlyRecords p → (what : What) → count_of what p ≤ 2 * limit_of what
 unfolding count_of
 counts_small p h Buckets = twice _ _ h.counts.0
 counts_small p h Versions =

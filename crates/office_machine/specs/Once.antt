@@ -2,6 +2,7 @@
 use Rattle.std.specs.Prelude.{◌≡◌, ◌⊎◌, ◌+◌, ◌≤◌, length, None, Result, Err}
 use Rattle.kept_replies.specs.Queue.{ReplyQueue, plain_replies}
 use Rattle.plain_office.specs.Office.{Office}
+use Rattle.plain_office.specs.Once.{most_kept}
 use Rattle.office_types.specs.declared.reply.Reply.{Reply}
 use Rattle.office_types.specs.declared.refusal.Refusal.{Refusal}
 use Rattle.office_types.specs.declared.refusal.Refusal.TheVariants.{NoMemory}
@@ -18,12 +19,12 @@ pub record StandsFor (view : OfficeView) (office : Office) : Type 0 where
   pub kept : plain_replies view.kept.queue ≡ office.kept
 
 -- there is a plain office that it stands for; between two calls no token waits for its reply, and no more replies were
--- kept than commands accepted
+-- kept than commands accepted, besides those of a snapshot
 pub record IsAnOffice (view : OfficeView) : Type 0 where
   pub office : Office
   pub stands : StandsFor view office
   pub free : view.kept.held ≡ None
-  pub few : view.kept.dropped + length view.kept.queue ≤ view.records.accepted
+  pub few : view.kept.dropped + length view.kept.queue ≤ view.records.accepted + most_kept
 
 -- the answer is the expected one, and the office in memory stands for the office expected; or memory is wanting, and it
 -- stands for the one before

@@ -14,9 +14,9 @@ use Rattle.bucket_account.specs.declared.counts.Counts.{Counts}
 use Rattle.bucket_account.specs.Counting.{amount, AccountRecord, IsWithinBy}
 use Rattle.bucket_account.specs.Standing.{StandsForAccount}
 
--- what contracts see of an office: the moment of the last accepted command, the tariffs, the month of the first accepted
--- command, the closed months, its buckets in byte order of their names, the running counts, and how many commands were
--- accepted
+-- what contracts see of an office: the moment of the last accepted command, the tariffs by their first months, the month
+-- of the first accepted command, the closed months, the buckets in byte order of their names, the running counts, and
+-- how many commands were accepted
 pub record Records : Type 0 where
   pub last : Option ℕ
   pub tariffs : List Prices

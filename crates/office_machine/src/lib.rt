@@ -7,6 +7,8 @@ mod machine;
 mod office;
 mod queries;
 mod reports;
+mod restoring;
+mod snapshots;
 mod tariffs;
 
 pub use office::Office;

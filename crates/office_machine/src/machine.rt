@@ -1,6 +1,6 @@
 // The records of the office in memory.
-ghost use Rattle.std.specs.Prelude.{◌≡◌, ◌⊎◌, ◌<◌, ℕ, List, Ok, Err, IsTrue, option_copied, option_map, IfSome};
-ghost use Rattle.office_base.specs.Maps.{at_name};
+ghost use Rattle.std.specs.Prelude.{◌≡◌, ◌⊎◌, ◌<◌, ℕ, List, Ok, Err, IsTrue, option_copied, is_some, IfSome};
+ghost use Rattle.office_base.specs.Maps.{at_name, at_number};
 ghost use Rattle.plain_office.specs.Office as plain;
 ghost use Rattle.plain_office.specs.Office.{empty_office};
 ghost use Rattle.plain_office.specs.Step.{step};
@@ -8,13 +8,12 @@ ghost use Rattle.plain_office.specs.Answers.{answer};
 ghost use Rattle.plain_office.specs.Run.{is_not_before};
 ghost use Rattle.plain_office.specs.Orderly.{SizeFits};
 ghost use Rattle.office_types.specs.Fits.{AnswerFits};
-ghost use Rattle.bucket_account.specs.Counting.{AccountRecord};
 ghost use Rattle.bucket_account.specs.Standing.{most_commands};
 ghost use Rattle.office_machine.specs.Queued.{AreQueuedIn};
 ghost use Rattle.office_machine.specs.Standing.{StandsForOffice, Does, accepted_after};
 
+use crate::reports::closed_at;
 use bucket_account::{Account, Counts, NOTHING};
-use due_core::Bucket;
 use moments::{Moment, Month};
 use office_base::BucketName;
 use office_types::{Command, Query, Refusal, Reply};
@@ -92,17 +91,13 @@ impl Machine {
         self.last
     }
 
-    /// Reads the records of a bucket; None where there is none of this name. Takes no memory.
+    /// Reads the account of a bucket; None where there is none of this name. Takes no memory.
     ///
     /// Cost: one search of the buckets.
-    pub(crate) fn bucket(&self, name: &BucketName) -> Option<&Bucket>
-        ensures records { option_copied result
-            ≡ option_map (λ (account : AccountRecord). account.bucket) (at_name name.now self.now.accounts) }
+    pub(crate) fn account(&self, name: &BucketName) -> Option<&Account>
+        ensures same { option_copied result ≡ at_name name.now self.now.accounts }
     {
-        match self.accounts.get(name) {
-            Some(account) => Some(account.bucket()),
-            None => None,
-        }
+        self.accounts.get(name)
     }
 
     /// Counts the keys and the uploads of a bucket that have an eligible action, whenever it is due: the entries of the
@@ -117,6 +112,16 @@ impl Machine {
             Some(account) => account.queued(),
             None => None,
         }
+    }
+
+    /// Tells whether a month was closed. Takes no memory.
+    ///
+    /// Cost: a pass over the closed months.
+    pub(crate) fn closed(&self, month: Month) -> bool
+        ensures exact { (p : plain.Office) → StandsForOffice self.now p
+            → result ≡ is_some (at_number month p.closed) }
+    {
+        closed_at(&self.closed, month).is_some()
     }
 
     /// Does a command at a moment, and answers it. `t` is not before the moment of the last accepted command.

@@ -1,7 +1,9 @@
 // The office with the replies that it keeps, so that a command with a token is done once.
-ghost use Rattle.std.specs.Prelude.{◌≡◌, ◌⊎◌, ◌<◌, ℕ, List, true, Ok, Err, Some, None, IsTrue, IfSome, option_copied, option_map};
-ghost use Rattle.office_base.specs.Maps.{at_name};
-ghost use Rattle.kept_replies.specs.Queue.{kept_in};
+ghost use Rattle.std.specs.Prelude.{◌≡◌, ◌⊎◌, ◌<◌, ℕ, List, true, Ok, Err, Some, None, IsTrue, IfOk, IfSome, option_copied};
+ghost use Rattle.std.specs.Prelude.{is_some};
+ghost use Rattle.office_base.specs.Maps.{at_name, at_number};
+ghost use Rattle.std.specs.List.{AllByRecursion};
+ghost use Rattle.kept_replies.specs.Queue.{kept_in, IsTold};
 ghost use Rattle.plain_office.specs.Office as plain;
 ghost use Rattle.plain_office.specs.Office.{empty_office};
 ghost use Rattle.plain_office.specs.Once.{kept_at, recalled, step_with};
@@ -9,11 +11,12 @@ ghost use Rattle.plain_office.specs.Answers.{answer};
 ghost use Rattle.plain_office.specs.Run.{is_not_before};
 ghost use Rattle.office_types.specs.Fits.{AnswerFits};
 ghost use Rattle.office_types.specs.Tokens.{takes_token, MayCarry};
-ghost use Rattle.bucket_account.specs.Counting.{AccountRecord};
 ghost use Rattle.bucket_account.specs.Standing.{most_commands};
 ghost use Rattle.plain_office.specs.Orderly.{SizeFits};
 ghost use Rattle.office_types.specs.declared.command.Command.{Command};
 ghost use Rattle.office_types.specs.declared.reply.Reply.{Reply};
+ghost use Rattle.office_snapshot.specs.Restorable.{HaveForm, IsRestorable};
+ghost use Rattle.office_snapshot.specs.Snapshots.{Shows};
 ghost use Rattle.office_machine.specs.Lateness.{Leaves, HasEmptySweep, AsksClosedMonth};
 ghost use Rattle.office_machine.specs.Queued.{AreQueuedIn};
 ghost use Rattle.office_machine.specs.Standing.{accepted_after};
@@ -21,10 +24,12 @@ ghost use Rattle.office_machine.specs.Once.{OfficeView, StandsFor, DoesOnce};
 
 use crate::commands::is_accepted;
 use crate::machine::Machine;
-use due_core::Bucket;
+use crate::restoring::{accounts_of, count_all, first_month_of};
+use bucket_account::{Account, Counts, NOTHING};
 use kept_replies::KeptReplies;
-use moments::Moment;
-use office_base::BucketName;
+use moments::{Moment, Month};
+use office_base::{BucketName, NoMemory};
+use office_snapshot::Snapshot;
 use office_types::{Command, Query, Refusal, Reply, Token};
 use std::alloc::Global;
 use std::marker::Model;
@@ -58,6 +63,66 @@ impl Office {
         }
     }
 
+    /// Gives the office of a snapshot, in which no command counts as accepted yet. The snapshot keeps what is asked of
+    /// one from which an office is restored.
+    ///
+    /// Cost: passes over all versions, parts and kept replies; each bucket's queue of next actions is built.
+    ///
+    /// # Errors
+    ///
+    /// `NoMemory`: memory ran out.
+    pub fn restore(alloc: Global, snapshot: Snapshot) -> Result<Office, NoMemory>
+        requires restorable { IsRestorable snapshot }
+        ensures stands { IfOk result (λ office. (p : plain.Office) → Shows snapshot p → StandsFor office p) }
+        ensures some { IfOk result (λ office. (p : plain.Office) × Shows snapshot p) }
+        ensures fresh { IfOk result (λ office. office.records.accepted ≡ 0) }
+    {
+        let Snapshot {
+            last,
+            first_open,
+            tariffs,
+            closed,
+            buckets,
+            kept,
+        } = snapshot;
+        let first_month = first_month_of(first_open, closed.len() as u64);
+        let accounts = accounts_of(alloc, buckets)?;
+        let beside = Counts {
+            tariffs: tariffs.len() as u64,
+            ..NOTHING
+        };
+        let counts = count_all(beside, &accounts);
+        let kept = KeptReplies::of(alloc, kept)?;
+        let machine = Machine {
+            alloc,
+            last,
+            tariffs,
+            first_month,
+            closed,
+            accounts,
+            counts,
+            accepted: 0,
+        };
+        Ok(Office { machine, kept })
+    }
+
+    /// Tells the office in a snapshot: its records, the sums of its meters, and the kept replies.
+    ///
+    /// Cost: a copy of all records and of what is kept of each reply.
+    ///
+    /// # Errors
+    ///
+    /// `NoMemory`: memory ran out.
+    pub fn snapshot(&self, alloc: Global) -> Result<Snapshot, NoMemory>
+        ensures shows { IfOk result (λ snapshot. (p : plain.Office) → StandsFor self.now p → Shows snapshot p) }
+        ensures sums { IfOk result (λ snapshot. AllByRecursion (λ part. HaveForm part.sums) snapshot.buckets) }
+        ensures told { IfOk result (λ snapshot. AllByRecursion IsTold snapshot.kept) }
+    {
+        let kept = self.kept.list(alloc)?;
+        let snapshot = self.machine.snapshot(alloc, kept)?;
+        Ok(snapshot)
+    }
+
     /// Reads the moment of the last accepted command; none before the first.
     pub fn last(&self) -> Option<Moment>
         ensures same { result ≡ self.now.records.last }
@@ -65,14 +130,14 @@ impl Office {
         self.machine.last()
     }
 
-    /// Reads the records of a bucket; None where there is none of this name. Takes no memory.
+    /// Reads the account of a bucket: its records, its meters and its queue of next actions. None where there is no
+    /// bucket of this name. Takes no memory.
     ///
     /// Cost: one search of the buckets.
-    pub fn bucket(&self, name: &BucketName) -> Option<&Bucket>
-        ensures records { option_copied result
-            ≡ option_map (λ (account : AccountRecord). account.bucket) (at_name name.now self.now.records.accounts) }
+    pub fn account(&self, name: &BucketName) -> Option<&Account>
+        ensures same { option_copied result ≡ at_name name.now self.now.records.accounts }
     {
-        self.machine.bucket(name)
+        self.machine.account(name)
     }
 
     /// Counts the keys and the uploads of a bucket that have an eligible action, whenever it is due: the entries of the
@@ -84,6 +149,15 @@ impl Office {
         ensures exact { IfSome result (λ entries. AreQueuedIn entries (at_name bucket.now self.now.records.accounts)) }
     {
         self.machine.queued(bucket)
+    }
+
+    /// Tells whether a month was closed. Takes no memory.
+    ///
+    /// Cost: a pass over the closed months.
+    pub fn closed(&self, month: Month) -> bool
+        ensures exact { (p : plain.Office) → StandsFor self.now p → result ≡ is_some (at_number month p.closed) }
+    {
+        self.machine.closed(month)
     }
 
     /// Recalls the reply to a command that carries a token; None where no reply is kept under the token.

@@ -78,7 +78,7 @@ fn lines_of(
 }
 
 /// Finds the prices of a closed month.
-fn closed_at(closed: &[(Month, Tariff)], month: Month) -> Option<Tariff>
+pub(crate) fn closed_at(closed: &[(Month, Tariff)], month: Month) -> Option<Tariff>
     ensures { result ≡ closed_at month closed.now }
 {
     match closed.iter().find(|entry| is_of(entry, month)) {

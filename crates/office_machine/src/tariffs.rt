@@ -59,7 +59,7 @@ fn push_later(all: &mut Vec<Tariff>, others: &[Tariff], month: Month) -> Result<
     Ok(())
 }
 
-/// Gives the tariffs with one more, in the place of the one with the same first month: there are at most 100.
+/// Gives the tariffs with one more, in the place of the one with the same first month.
 pub(crate) fn with_tariff(
     alloc: Global,
     tariff: &Tariff,

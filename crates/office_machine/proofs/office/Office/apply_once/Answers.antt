@@ -3,7 +3,7 @@ use Rattle.std.specs.Prelude.{IfSome}
 use Rattle.plain_office.specs.Office.{Office}
 use Rattle.plain_office.specs.Run.{is_not_before}
 use Rattle.plain_office.specs.Step.{is_accepted}
-use Rattle.plain_office.specs.Once.{step_with}
+use Rattle.plain_office.specs.Once.{step_with, most_kept}
 use Rattle.office_types.specs.declared.command.Command.{Command}
 use Rattle.office_types.specs.declared.reply.Reply.{Reply}
 use Rattle.kept_replies.specs.Queue.{ReplyQueue, kept_in, kept_of, with_kept}
@@ -23,12 +23,12 @@ let_gone held old new some is gone = gone ∙ ap (λ (q : ReplyQueue). record q 
 
 -- the number of those kept stays within that of accepted commands
 few_more : (held old new : ReplyQueue) (some : Option (List ℕ × Command)) (before after : ℕ) → held ≡ record old { held = some }
-    → new.dropped + length new.queue ≡ held.dropped + length held.queue + 1 → old.dropped + length old.queue ≤ before → after ≡ before + 1 → new.dropped + length new.queue ≤ after
+    → new.dropped + length new.queue ≡ held.dropped + length held.queue + 1 → old.dropped + length old.queue ≤ before + most_kept → after ≡ before + 1 → new.dropped + length new.queue ≤ after + most_kept
 few_more held old new some before after is count few one =
     let same : held.dropped + length held.queue ≡ old.dropped + length old.queue = ap (λ (q : ReplyQueue). q.dropped + length q.queue) is in
     omega (arith, count, same, few, one)
 
-few_same : (old new : ReplyQueue) (before after : ℕ) → new ≡ record old { held = None } → old.dropped + length old.queue ≤ before → before ≤ after → new.dropped + length new.queue ≤ after
+few_same : (old new : ReplyQueue) (before after : ℕ) → new ≡ record old { held = None } → old.dropped + length old.queue ≤ before + most_kept → before ≤ after → new.dropped + length new.queue ≤ after + most_kept
 few_same old new before after is few later =
     let same : new.dropped + length new.queue ≡ old.dropped + length old.queue = ap (λ (q : ReplyQueue). q.dropped + length q.queue) is in
     omega (arith, same, few, later)
