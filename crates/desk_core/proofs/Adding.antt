@@ -86,6 +86,7 @@ module _ {D C : Type 0} (d : disks.Ghosts D) where
       holds = record {
         office = same.office;
         end = gate ∙ hold.end;
+        small = omega (arith, gate, hold.small);
         limit = subst (λ (n : ℕ). n ≤ 2 ^ 45) (sym limit) hold.limit;
         at_rest = λ tells. subst (λ (z : D). IsAtRest header (d.state z) new.gate before) (sym disk) (subst (λ (k : ℕ). IsAtRest header (d.state old.disk) k before) (sym gate) (hold.at_rest tells));
       };
@@ -133,6 +134,7 @@ module _ {D C : Type 0} (d : disks.Ghosts D) where
                   holds = record {
                     office = subst (λ (o : OfficeView). StandsAfter (before ++ entry ∷ []) o) (sym office) after;
                     end = adds.1;
+                    small = omega (arith, adds.1, fits, hold.end, hold.limit, end_gate-push header before entry);
                     limit = subst (λ (n : ℕ). n ≤ 2 ^ 45) (sym limit) hold.limit;
                     at_rest = λ tells. (adds.2 tells).0;
                   };
@@ -179,6 +181,7 @@ module _ {D C : Type 0} (d : disks.Ghosts D) where
             stayed_as new (record {
               office = same_after before entry old.office new.office reply hold.office not_accepted fresh does counted;
               end = hold.end;
+              small = hold.small;
               limit = hold.limit;
               at_rest = hold.at_rest;
             }) disk gate limit

@@ -121,6 +121,7 @@ module _ {D : Type 0} (d : disks.Ghosts D) where
     history = read.history;
     office_is = read.office_is;
     end = subst (λ (x : Option Entry). Advances (Ok x) gate next) is advances ∙ read.end;
+    small = let still : next ≡ gate = subst (λ (x : Option Entry). Advances (Ok x) gate next) is advances in omega (arith, still, read.small);
     at_rest = λ tells file on_disk made.
         read_end (read.prefix tells file on_disk made) (same tells) on_disk (d.state new) next o (still tells) is (gives tells);
   }

@@ -1,4 +1,5 @@
 pub mod Adding
+pub mod Counted
 pub mod Damage
 pub mod Following
 pub mod Narrowing

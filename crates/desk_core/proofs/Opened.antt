@@ -45,7 +45,7 @@ module _ {D C : Type 0} {d : disks.Ghosts D} (laws : DiskLaws d) where
       → Reopens d old office
   reopened old office begun size read limit_is small clock_is begin run untouched later quiet = record {
     history = read.history;
-    holds = record { office = read.office_is; end = read.end; limit = subst (λ (n : ℕ). n ≤ 2 ^ 45) (sym limit_is) small; at_rest = rests };
+    holds = record { office = read.office_is; end = read.end; small = read.small; limit = subst (λ (n : ℕ). n ≤ 2 ^ 45) (sym limit_is) small; at_rest = rests };
     read = λ tells. subst (HasAcceptedHistory read.history) (seen_is tells)
         (rest_image (d.state office.disk) office.gate read.history read.office_is.plain (rests tells) read.office_is.is_run (d.state office.disk).journal.seen
         (laws.reads_image tells office.disk Journal));

@@ -80,7 +80,7 @@ module _ {D : Type 0} {C : Type 0} (d : disks.Ghosts D) where
 -- a desk holds a history whether or not it is marked as stale
 pub marked_holds : {D C : Type 0} (d : disks.Ghosts D) (history : List Entry) (desk : DeskView D C) (stale : Bool) → HoldsHistory d history desk
     → HoldsHistory d history (record desk { stale = stale })
-marked_holds d history desk stale h = record { office = h.office; end = h.end; limit = h.limit; at_rest = h.at_rest }
+marked_holds d history desk stale h = record { office = h.office; end = h.end; small = h.small; limit = h.limit; at_rest = h.at_rest }
 
 -- an office over its journal stands for a list of calls since the opening of its desk
 pub record StandsAt {D C : Type 0} (d : disks.Ghosts D) (opened : Opened) (calls : List Call) (desk : DeskView D C) : Type 0 where
@@ -101,7 +101,7 @@ module _ {D C : Type 0} {d : disks.Ghosts D} (laws : DiskLaws d) where
     faults = s.faults;
     history = s.history;
     legal = s.legal;
-    holds = let h = s.holds in record { office = h.office; end = h.end; limit = h.limit; at_rest = h.at_rest };
+    holds = let h = s.holds in record { office = h.office; end = h.end; small = h.small; limit = h.limit; at_rest = h.at_rest };
     serves = s.serves;
   }
 

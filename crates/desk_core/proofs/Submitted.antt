@@ -379,7 +379,7 @@ module _ {D C : Type 0} {d : disks.Ghosts D} {number : ℕ} {question : Ask} {ol
   before = ready.0
 
   abbrev hold : HoldsHistory d before told
-  hold = record { office = ready.1.office; end = ready.1.end; limit = ready.1.limit; at_rest = ready.1.at_rest }
+  hold = record { office = ready.1.office; end = ready.1.end; small = ready.1.small; limit = ready.1.limit; at_rest = ready.1.at_rest }
 
   abbrev one : AnswersAt d (call_time asks.t number) question hold.office.plain before told new said
   one = asks.answers before hold
@@ -407,13 +407,13 @@ module _ {D C : Type 0} {d : disks.Ghosts D} {number : ℕ} {question : Ask} {ol
         once = once;
         quiet = leaves d asks.t number hold.office.plain before told new question said one;
         inside = λ tells b holds.
-            let other : HoldsHistory d b told = record { office = holds.office; end = holds.end; limit = holds.limit; at_rest = holds.at_rest } in
+            let other : HoldsHistory d b told = record { office = holds.office; end = holds.end; small = holds.small; limit = holds.limit; at_rest = holds.at_rest } in
             subst (λ (t : ℕ). KeepsTo d old.disk new.disk (KeepsOrAdds t question b)) now_is
             (inside_of laws tells asks.t number b told new other question said (asks.answers b other));
         reason = reason d asks.t number hold.office.plain before told new question said asks.at one;
         ended = subst (λ (t : ℕ). end_of_time ≤ t → IsClockEnd t said) now_is (λ past. ended_so d asks.t number question hold.office.plain before told new said past one);
         repeats = λ b holds first again lt.
-            let other : HoldsHistory d b told = record { office = holds.office; end = holds.end; limit = holds.limit; at_rest = holds.at_rest } in
+            let other : HoldsHistory d b told = record { office = holds.office; end = holds.end; small = holds.small; limit = holds.limit; at_rest = holds.at_rest } in
             repeated_so d asks.t number b told new other question first again (omega (arith, now_is, lt)) said (asks.answers b other);
         full = full;
         full_alone = subst (λ (t : ℕ). said ≡ Err faults.JournalFull → PassesLimit t old question) now_is

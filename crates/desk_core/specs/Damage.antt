@@ -1,5 +1,5 @@
 -- Why a journal is not opened, and what was read of one.
-use Rattle.std.specs.Prelude.{◌≡◌, ◌⊎◌, ℕ, List, Some, None, IsTrue}
+use Rattle.std.specs.Prelude.{◌≡◌, ◌^◌, ◌≤◌, ◌⊎◌, ℕ, List, Some, None, IsTrue}
 use Rattle.disk_core.specs.declared.disk.Disk as disks
 use Rattle.disk_core.specs.Files.{synced_file}
 use Rattle.plain_office.specs.Office.{Office}
@@ -53,6 +53,7 @@ pub record HasReplayed {D : Type 0} (d : disks.Ghosts D) (old new : D) (gate : �
   pub history : List Entry
   pub office_is : StandsAfter history office
   pub end : gate ≡ end_gate header history
+  pub small : gate ≤ 2 ^ 45
   pub at_rest : IsTrue d.honest → (file : List ℕ) → (d.state old).journal ≡ synced_file file → IsMade file
       → IsAtRest header (d.state new) gate history
 

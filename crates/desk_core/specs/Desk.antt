@@ -24,12 +24,13 @@ pub record DeskView (D C : Type 0) : Type 0 where
   pub limit : ℕ
   pub stale : Bool
 
--- the office is the one after this history, and the gate the end of its journal, whose limit is at most 2^45 bytes; an
--- honest disk holds that journal, synced
+-- the office is the one after this history, and the gate the end of its journal, which stands at 2^45 bytes or before,
+-- as its limit does; an honest disk holds that journal, synced
 pub record HoldsHistory {D C : Type 0} (d : disks.Ghosts D) (history : List Entry)
     (desk : DeskView D C) : Type 0 where
   pub office : StandsAfter history desk.office
   pub end : desk.gate ≡ end_gate header history
+  pub small : desk.gate ≤ 2 ^ 45
   pub limit : desk.limit ≤ 2 ^ 45
   pub at_rest : IsTrue d.honest → IsAtRest header (d.state desk.disk) desk.gate history
 

@@ -31,7 +31,8 @@ use Rattle.desk_core.specs.declared.fault.DeskFault.TheVariants as faults
 
 -- ---- the office that answers
 
--- the disk is left alone, but for a command that the office accepts; a reply that is kept leaves it, whatever it is
+-- the disk is left alone, but for a command that the office accepts; that a kept reply leaves it too is said where
+-- commands are repeated (`Repeats`)
 abbrev pub LeavesDisk : {D : Type 0} → Result Answer DeskFault → Ask → D → D → Type 0
 LeavesDisk (Ok answer) (ask.Query query) before after = after ≡ before
 LeavesDisk (Ok answer) question before after = is_accepted answer.reply ≡ false → after ≡ before

@@ -15,6 +15,7 @@ ghost use Rattle.desk_core.specs.Desk.{TellsFault, IsLast, IsStamped, stale_afte
 ghost use Rattle.desk_core.specs.Histories.{HasAcceptedHistory};
 ghost use Rattle.desk_core.specs.Looking.{IsRead, IsReadAfter};
 ghost use Rattle.desk_core.specs.Numbers.{IsNumber};
+ghost use Rattle.desk_core.specs.Offices.{most_accepted};
 ghost use Rattle.desk_core.specs.Opening.{Opens};
 ghost use Rattle.desk_core.specs.Serving.{Opened};
 
@@ -24,6 +25,7 @@ use crate::engine::Engine;
 use crate::fault::{DeskFault, SaveFault};
 use disk_core::Disk;
 use meter_journal::OpenFault;
+use office_machine::Office;
 use office_types::{Ask, Query, Refusal, Reply};
 use std::alloc::Global;
 use std::marker::Model;
@@ -189,6 +191,16 @@ impl<D: Disk + Drop, C: Clock + Drop> Desk<D, C> {
         ensures fits { AnswerFits result }
     {
         self.engine.look(told, query)
+    }
+
+    /// Gives the office, as it is after the history that the desk holds. The desk is not stale. Takes no memory.
+    pub fn office(&self) -> &Office
+        requires fresh { self.now.stale ≡ false }
+        ensures same { result.now ≡ self.now.office }
+        // It has accepted no more commands than its journal has room for.
+        ensures few { result.now.records.accepted ≤ most_accepted }
+    {
+        self.engine.office()
     }
 
     /// Tells whether the journal has to be opened again: a call answered `StoreFault` or `Broken`, and none since

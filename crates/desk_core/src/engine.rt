@@ -294,6 +294,13 @@ impl<D: Disk + Drop, C: Clock + Drop> Engine<D, C> {
         }
     }
 
+    // The office, as it is in memory.
+    pub(crate) fn office(&self) -> &Office
+        ensures { result.now ≡ self.now.office }
+    {
+        &self.office
+    }
+
     // Answers a query as of a number that the clock told before.
     pub(crate) fn look(&self, told: u64, query: &Query) -> Result<Reply, Refusal>
         requires begun { told < end_of_time }
