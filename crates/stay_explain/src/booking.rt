@@ -14,8 +14,9 @@ ghost use Rattle.stay_explain.specs.Plans.{plan_of, part_items};
 ghost use Rattle.stay_explain.specs.Rows.{item_of};
 
 use crate::row::{Item, item_of};
+use bucket_account::Account;
 use class_rules::{Class, Lines, billed, marker_lines, part_lines};
-use due_core::{Action, ActionKind, Bucket, Target, chosen};
+use due_core::{Action, ActionKind, Bucket, Target};
 use moments::Moment;
 use office_base::{Key, NoMemory, VersionId};
 use office_types::Command;
@@ -249,22 +250,24 @@ fn done(alloc: Global, bucket: &Bucket, action: &Action) -> Maybe
 }
 
 /// The first lifecycle action that is due is done.
-fn acted(alloc: Global, bucket: &Bucket, t: Moment) -> Maybe
-    ensures { IfOk result (λ made. made ≡ plans.acted bucket.now (choice bucket.now t)) }
+fn acted(alloc: Global, account: &Account, t: Moment) -> Maybe
+    ensures { IfOk result (λ made. made ≡ plans.acted account.now.bucket (choice account.now.bucket t)) }
 {
-    match chosen(bucket, t)? {
-        Some(action) => done(alloc, bucket, &action),
+    match account.chosen(t)? {
+        Some(action) => done(alloc, account.bucket(), &action),
         None => Ok(None),
     }
 }
 
 /// Tells which stays of its bucket end and begin by a command that is accepted at a moment.
 ///
-/// Cost: a few searches; an act reads all versions and uploads of the bucket.
+/// Cost: a few searches; an act takes the first of the bucket's queue of next actions, and reads all versions and
+/// uploads of the bucket where there is no queue for want of memory.
 #[tactic(auto, unfolding(crate::specs::Plans::plan_of))]
-pub(crate) fn plan(alloc: Global, bucket: &Bucket, t: Moment, command: &Command) -> Maybe
-    ensures { IfOk result (λ made. made ≡ plan_of t command.now bucket.now) }
+pub(crate) fn plan(alloc: Global, account: &Account, t: Moment, command: &Command) -> Maybe
+    ensures { IfOk result (λ made. made ≡ plan_of t command.now account.now.bucket) }
 {
+    let bucket = account.bucket();
     match command {
         Command::Put {
             key,
@@ -297,7 +300,7 @@ pub(crate) fn plan(alloc: Global, bucket: &Bucket, t: Moment, command: &Command)
             Some(found) => dropped(alloc, found, *upload, t),
             None => Ok(None),
         },
-        Command::Act { .. } => acted(alloc, bucket, t),
+        Command::Act { .. } => acted(alloc, account, t),
         _ => Ok(None),
     }
 }

@@ -105,13 +105,14 @@ impl Ledger {
 
     // What the command of an entry books, as the bucket stands before it.
     fn booking_of(&self, alloc: Global, entry: &Entry) -> Result<Option<Booking>, NoMemory>
-        ensures { IfOk result (λ made. made ≡ planned entry.now.moment entry.now.command self.now.office.records.accounts) }
+        ensures { IfOk result (λ made. made
+            ≡ planned entry.now.moment entry.now.command self.now.office.records.accounts) }
     {
         let Some(name) = bucket_of(&entry.command) else {
             return Ok(None);
         };
-        match self.office.bucket(name) {
-            Some(bucket) => plan(alloc, bucket, entry.moment, &entry.command),
+        match self.office.account(name) {
+            Some(account) => plan(alloc, account, entry.moment, &entry.command),
             None => Ok(None),
         }
     }
