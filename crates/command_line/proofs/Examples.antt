@@ -3,7 +3,7 @@ use Rattle.std.proofs.Common.{◌≡◌, refl, [], ◌∷◌, codes, Some, None,
 use Rattle.std.specs.Fmt.{digits}
 use Rattle.moments.specs.Dates.{is_month, begins_with_month}
 use Rattle.clap.proofs.OnLiterals.{clap_on_literals}
-use Rattle.command_line.specs.Lines.{asked, init, run, serve, report}
+use Rattle.command_line.specs.Lines.{asked, init, run, serve, report, bill}
 
 pub init_read : asked (codes "init" ∷ []) ≡ Some init
 unfolding clap_on_literals asked digits
@@ -84,3 +84,11 @@ no_such_month = refl
 pub report_of_nothing : asked (codes "report" ∷ []) ≡ None
 unfolding clap_on_literals asked digits
 report_of_nothing = refl
+
+pub bill_read : asked (codes "bill" ∷ codes "2024-01" ∷ []) ≡ Some (bill 648)
+unfolding clap_on_literals asked digits is_month begins_with_month
+bill_read = refl
+
+pub bill_of_nothing : asked (codes "bill" ∷ []) ≡ None
+unfolding clap_on_literals asked digits
+bill_of_nothing = refl

@@ -4,7 +4,7 @@ use Rattle.clap.specs.Walk.{Row, rows_of}
 use Rattle.clap.specs.Matches.{first_value}
 use Rattle.clap.specs.declared.parser.matches.Found.{Found}
 use Rattle.clap.proofs.WalkLemmas.{first_value-rows}
-use Rattle.command_line.specs.Lines.{serve, report, explain, gen, number_between, number_or, most_seed, most_generated, serve_of, report_of, explain_of, gen_of, month_of_text, is_set, given}
+use Rattle.command_line.specs.Lines.{serve, report, explain, gen, bill, number_between, number_or, most_seed, most_generated, serve_of, report_of, explain_of, gen_of, bill_of, month_of_text, is_set, given}
 use Rattle.command_line.specs.Lines.{workers_of, connections_of}
 
 -- what clap gives for an option is what the words gave it
@@ -38,6 +38,16 @@ wrong_month rows text some none = rw (some, none) refl
 pub reports : (rows : List Row) (text : List ℕ) (month : ℕ) (set : Bool) → given rows (codes "month") ≡ Some text → month_of_text text ≡ Some month → set ≡ is_set (given rows (codes "text"))
     → report_of rows ≡ Some (report month set)
 reports rows text month set some names is = rw (some, names, is) refl
+
+pub no_bill : (rows : List Row) → given rows (codes "month") ≡ None → bill_of rows ≡ None
+no_bill rows none = rw none refl
+
+pub wrong_bill : (rows : List Row) (text : List ℕ) → given rows (codes "month") ≡ Some text → month_of_text text ≡ None → bill_of rows ≡ None
+wrong_bill rows text some none = rw (some, none) refl
+
+pub bills : (rows : List Row) (text : List ℕ) (month : ℕ) → given rows (codes "month") ≡ Some text → month_of_text text ≡ Some month
+    → bill_of rows ≡ Some (bill month)
+bills rows text month some names = rw (some, names) refl
 
 -- ---- explain
 

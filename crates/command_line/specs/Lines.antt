@@ -15,7 +15,7 @@ use Rattle.command_line.specs.declared.line.CommandLine.TheVariants as command_l
 
 -- what a command line asks for: that the journal is made; a run; service at an address, by so many workers, each of
 -- which ends after so many connections; the report of a month, as text or as CSV; the table of stays, by so many
--- workers; or a load of so many commands that are generated of a number
+-- workers; a load of so many commands that are generated of a number; or the bills of a month
 pub data Line : Type 0 where
   init : Line
   run : Line
@@ -23,6 +23,7 @@ pub data Line : Type 0 where
   report : ℕ → Bool → Line
   explain : ℕ → Line
   gen : ℕ → ℕ → Line
+  bill : ℕ → Line
 
 -- a line that was read
 abbrev pub line_of : CommandLine → Line
@@ -32,6 +33,7 @@ line_of (command_line.Serve listen workers connections) = serve (string_bytes li
 line_of (command_line.Report asked) = report asked.month asked.as_text
 line_of (command_line.Explain workers) = explain workers
 line_of (command_line.Gen number count) = gen number count
+line_of (command_line.Bill asked) = bill asked.month
 
 -- ---- numbers
 
@@ -116,6 +118,10 @@ gen_of rows =
     (option_and_then (number_between 0 most_generated) (given rows (codes "count"))))
     (option_and_then (number_between 0 most_seed) (given rows (codes "number")))
 
+-- the bills that are asked for, where the text names a month
+abbrev pub bill_of : List Row → Option Line
+bill_of rows = option_map bill (option_and_then month_of_text (given rows (codes "month")))
+
 -- what a subcommand asks for, by its name and what was given to its options
 abbrev pub subcommand_line : List ℕ × List Row → Option Line
 subcommand_line (name, rows) =
@@ -124,7 +130,8 @@ subcommand_line (name, rows) =
     else (if bytes_eq name (codes "serve") then serve_of rows
     else (if bytes_eq name (codes "report") then report_of rows
     else (if bytes_eq name (codes "explain") then explain_of rows
-    else (if bytes_eq name (codes "gen") then gen_of rows else None)))))
+    else (if bytes_eq name (codes "gen") then gen_of rows
+    else (if bytes_eq name (codes "bill") then bill_of rows else None))))))
 
 -- what the words behind the program's name ask for, where they are a command line
 unfoldable pub asked : List (List ℕ) → Option Line

@@ -53,6 +53,10 @@ explain_words = subcommand (codes "explain") (option (codes "workers") ∷ [])
 abbrev pub gen_words : Shape
 gen_words = subcommand (codes "gen") (needed_word (codes "number") ∷ needed_word (codes "count") ∷ [])
 
+-- the words `bill MONTH`
+abbrev pub bill_words : Shape
+bill_words = subcommand (codes "bill") (needed_word (codes "month") ∷ [])
+
 -- the command without its subcommands: one must be given, and words ask for no help and for no version
 abbrev pub office_top : App
 office_top = record {
@@ -70,7 +74,7 @@ office_top = record {
 abbrev pub office_words : App
 office_words = record {
   top = record office_top.top { is_leaf = false };
-  subs = init_words ∷ run_words ∷ serve_words ∷ report_words ∷ explain_words ∷ gen_words ∷ [];
+  subs = init_words ∷ run_words ∷ serve_words ∷ report_words ∷ explain_words ∷ gen_words ∷ bill_words ∷ [];
 }
 
 -- ---- commands in memory

@@ -2,7 +2,7 @@
 ghost use Rattle.std.specs.Prelude.{◌≡◌, ◌≢◌, Some, None, ◌≤◌, IfOk, IfSome, IsErrOf, map, string_bytes, option_map};
 ghost use Rattle.std.specs.Prelude.{option_and_then};
 ghost use Rattle.command_line.specs.Lines.{asked, asked_by, subcommand_line, line_of, options_of, serve_of, report_of};
-ghost use Rattle.command_line.specs.Lines.{explain_of, gen_of, month_of_text, is_set, number_between};
+ghost use Rattle.command_line.specs.Lines.{explain_of, gen_of, bill_of, month_of_text, is_set, number_between};
 
 use crate::numbers::{number, number_of};
 use crate::words::office;
@@ -53,6 +53,8 @@ pub enum CommandLine {
         /// How many commands it has, up to 1,000,000.
         count: u32,
     },
+    /// The bills of a closed month, posted: `bill MONTH`.
+    Bill(BillAsked),
 }
 
 /// Which report a command line asks for.
@@ -61,6 +63,12 @@ pub struct ReportAsked {
     pub month: Month,
     /// As a table to read, in place of CSV.
     pub as_text: bool,
+}
+
+/// Which bills a command line asks for.
+#[derive(Debug, Drop)]
+pub struct BillAsked {
+    pub month: Month,
 }
 
 /// Why words are not read.
@@ -142,6 +150,9 @@ fn named(alloc: Global, name: &str, given: &ArgMatches) -> Result<CommandLine, L
     if name == "gen" {
         return generate(given);
     }
+    if name == "bill" {
+        return bill(given);
+    }
     Err(LineFault::NotALine)
 }
 
@@ -159,6 +170,20 @@ fn is_set(text: Option<&str>) -> bool
     match text {
         Some(text) => text == "true",
         None => false,
+    }
+}
+
+// What the words of `bill` ask for.
+fn bill(given: &ArgMatches) -> Result<CommandLine, LineFault>
+    ensures read { IfOk result (λ line. bill_of (options_of given.now) ≡ Some (line_of line)) }
+    ensures refused { IsErrOf result LineFault.NotALine → bill_of (options_of given.now) ≡ None }
+{
+    let Some(text) = given.get_str("month") else {
+        return Err(LineFault::NotALine);
+    };
+    match month(text) {
+        Some(month) => Ok(CommandLine::Bill(BillAsked { month })),
+        None => Err(LineFault::NotALine),
     }
 }
 

@@ -1,6 +1,7 @@
 //! An office that keeps the records of an object store in a journal.
 #![tactic(auto)]
 
+use bill_keeper::SqliteKeeper;
 use command_line::{CommandLine, LineFault, read_line};
 use desk_core::SystemClock;
 use disk_core::FileDisk;
@@ -112,6 +113,16 @@ fn words_of<R: Env + Alloc<A = Global>>(rt: &R) -> io::Result<Vec<String>> {
     Ok(words)
 }
 
+// What the keeper of bills needs, which opens its file at its first call.
+//
+// # Errors
+//
+// Memory ran out.
+fn place_of_bills(rt: &HostRuntime) -> io::Result<(HostRuntime, String)> {
+    let path = String::from_str(rt.alloc(), "office-data/bills.db")?;
+    Ok((rt.clone()?, path))
+}
+
 fn main(rt: HostRuntime) -> ExitCode {
     let held = hold_numbers(&rt);
     let mut out = WriterReplies::new(rt.stdout(), rt.stderr());
@@ -125,6 +136,11 @@ fn main(rt: HostRuntime) -> ExitCode {
     };
     let mut input = ReaderSource::new(rt.stdin());
     let mut port = TcpPort::new(&rt);
+    let (host, path) = match place_of_bills(&rt) {
+        Ok(place) => place,
+        Err(e) => return ExitCode::from(refuse_words(&mut out, e.kind())),
+    };
+    let mut keeper = SqliteKeeper::at(host, path);
     let end = office(
         &rt,
         rt.alloc(),
@@ -135,6 +151,7 @@ fn main(rt: HostRuntime) -> ExitCode {
         SystemClock::new(&rt),
         &mut port,
         &OpenGate,
+        &mut keeper,
     );
     ExitCode::from(end.status)
 }

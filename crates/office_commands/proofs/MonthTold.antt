@@ -18,7 +18,7 @@ no_prices : (t month : ℕ) (p : Office) → tariff_for month p ≡ None → ans
 unfolding answer
 no_prices t month p none = rw none refl
 
-with_prices : (t month : ℕ) (p : Office) (tariff : Prices) → tariff_for month p ≡ Some tariff → answer t (query.Report month) p ≡ Ok (reply.Report (report_lines tariff month t p))
+pub with_prices : (t month : ℕ) (p : Office) (tariff : Prices) → tariff_for month p ≡ Some tariff → answer t (query.Report month) p ≡ Ok (reply.Report (report_lines tariff month t p))
 unfolding answer
 with_prices t month p tariff some = rw some refl
 

@@ -1,3 +1,4 @@
+pub mod Billing
 pub mod Explaining
 pub mod Lines
 pub mod Loading

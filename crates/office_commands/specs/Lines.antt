@@ -40,6 +40,11 @@ IsRunExit status = IsSessionExit status ⊎ ((fault : OpenFault) × (status ≡ 
 abbrev pub IsReportExit : ℕ → Type 0
 IsReportExit status = (status ≡ 10) ⊎ IsRunExit status
 
+-- the status of billing: that of a run, that the keeper of bills failed, that the month is not closed, or that other
+-- bills are kept
+abbrev pub IsBillExit : ℕ → Type 0
+IsBillExit status = (status ≡ 11) ⊎ ((status ≡ 12) ⊎ ((status ≡ 13) ⊎ IsRunExit status))
+
 -- the status of a command that was done, but for want of memory, too long an input, and a report without a tariff
 abbrev pub IsDoneExit : ℕ → Type 0
 IsDoneExit status = (status ≡ 0) ⊎ ((status ≡ 6) ⊎ ((status ≡ 9) ⊎ (status ≡ 10)))
@@ -58,7 +63,7 @@ made_line mades.Before = line (codes "already made")
 -- what is noted of words that are no command line
 unfoldable pub usage_note : List ℕ
 usage_note = line (codes
-    "usage: office init; run; serve --listen A [--workers N] [--connections K]; report MONTH [--text]; explain [--workers N]; gen NUMBER COUNT")
+    "usage: office init; run; serve --listen A [--workers N] [--connections K]; report MONTH [--text]; explain [--workers N]; gen NUMBER COUNT; bill MONTH")
 
 -- of a clock that is at its end
 unfoldable pub clock_note : List ℕ
@@ -67,6 +72,18 @@ clock_note = line (codes "clock: at its end")
 -- of a report where no tariff is set
 unfoldable pub tariff_note : List ℕ
 tariff_note = line (codes "report: no tariff")
+
+-- of billing a month that is not closed
+unfoldable pub open_month_note : List ℕ
+open_month_note = line (codes "bill: month not closed")
+
+-- of billing a month for which other bills are kept
+unfoldable pub other_bills_note : List ℕ
+other_bills_note = line (codes "bill: other bills kept")
+
+-- of a keeper of bills that failed
+unfoldable pub keeper_note : List ℕ
+keeper_note = line (codes "bills: failed")
 
 -- of the end of a session, with a desk that is stale then or not; nothing where all was done
 unfoldable pub end_note : SessionEnd → Bool → List ℕ

@@ -1,6 +1,7 @@
 //! The commands of the program that need no port, over any source, replies, disk and clock.
 #![tactic(auto)]
 
+mod billing;
 mod end;
 mod explaining;
 mod lines;
@@ -10,6 +11,7 @@ mod reporting;
 mod running;
 mod saying;
 
+pub use billing::bill;
 pub use end::{End, JOURNAL_LIMIT};
 pub use explaining::stays;
 pub use lines::{MEMORY, STORE, USAGE, end_line, note_line, refuse_words, usage};

@@ -4,6 +4,7 @@ ghost use Rattle.http_front.specs.declared.answering.SessionEnd.TheVariants.{NoM
 ghost use Rattle.meter_journal.specs.declared.fault.OpenFault.TheVariants.{Damaged};
 ghost use Rattle.office_commands.specs.Lines.{session_exit, fault_exit, made_line, usage_note};
 ghost use Rattle.office_commands.specs.Lines.{clock_note, tariff_note, end_note, fault_note};
+ghost use Rattle.office_commands.specs.Lines.{open_month_note, other_bills_note, keeper_note};
 ghost use Rattle.office_commands.specs.Running.{IsNoted, IsSilent};
 
 use http_front::{Replies, SessionEnd};
@@ -21,6 +22,15 @@ pub(crate) const OUTPUT: u8 = 4;
 
 /// The status of a report where no tariff is set.
 pub(crate) const NO_TARIFF: u8 = 10;
+
+/// The status where the keeper of bills failed.
+pub(crate) const KEEPER: u8 = 11;
+
+/// The status of a month that is to be billed and is not closed.
+pub(crate) const MONTH_OPEN: u8 = 12;
+
+/// The status where the month has other bills.
+pub(crate) const OTHER_BILLS: u8 = 13;
 
 /// The status where the clock is at its end.
 pub(crate) const CLOCK_END: u8 = 8;
@@ -69,7 +79,7 @@ pub fn usage() -> &'static [u8]
     ensures { result.now ≡ usage_note }
 {
     b"usage: office init; run; serve --listen A [--workers N] [--connections K]; report MONTH [--text]; explain \
-[--workers N]; gen NUMBER COUNT\n"
+[--workers N]; gen NUMBER COUNT; bill MONTH\n"
 }
 
 #[tactic(auto, unfolding(crate::specs::Lines::clock_note))]
@@ -84,6 +94,27 @@ pub(crate) fn tariff_line() -> &'static [u8]
     ensures { result.now ≡ tariff_note }
 {
     b"report: no tariff\n"
+}
+
+#[tactic(auto, unfolding(crate::specs::Lines::open_month_note))]
+pub(crate) fn open_month_line() -> &'static [u8]
+    ensures { result.now ≡ open_month_note }
+{
+    b"bill: month not closed\n"
+}
+
+#[tactic(auto, unfolding(crate::specs::Lines::other_bills_note))]
+pub(crate) fn other_bills_line() -> &'static [u8]
+    ensures { result.now ≡ other_bills_note }
+{
+    b"bill: other bills kept\n"
+}
+
+#[tactic(auto, unfolding(crate::specs::Lines::keeper_note))]
+pub(crate) fn keeper_line() -> &'static [u8]
+    ensures { result.now ≡ keeper_note }
+{
+    b"bills: failed\n"
 }
 
 /// Gives the line that is noted of a session that ended so, with a desk that is stale then or not; it is empty where
@@ -119,7 +150,7 @@ pub fn note_line<W: Replies>(out: &mut W, line: &[u8])
 const DAMAGED: &[u8] = b"journal: damaged at ";
 
 // Writes a text behind the first bytes of the room, and answers where it ends.
-fn put(room: &mut [u8], at: usize, text: &[u8]) -> usize
+pub(crate) fn put(room: &mut [u8], at: usize, text: &[u8]) -> usize
     requires { at + length text.now ≤ length room.old }
     ensures end { result ≡ at + length text.now }
     ensures text { take (at + length text.now) room.new ≡ take at room.old ++ text.now }

@@ -1,7 +1,7 @@
 -- A command that met no fault is done.
-use Rattle.std.proofs.Common.{◌≡◌, ◌⊎◌, ◌∙◌, refl, sym, subst, inl, inr, arith, ℕ, List, [], ◌∷◌, Option, Some, None, Bool, true, false}
+use Rattle.std.proofs.Common.{◌≡◌, ◌⊎◌, ◌∙◌, refl, sym, ap, subst, inl, inr, arith, ℕ, List, [], ◌∷◌, Option, Some, None, Bool, true, false}
 use Rattle.std.specs.Prelude.{◌||◌, nat_eq, IsTrue}
-use Rattle.command_line.specs.Lines.{Line, init, run, serve, report, explain}
+use Rattle.command_line.specs.Lines.{Line, init, run, serve, report, explain, bill}
 use Rattle.command_line.specs.declared.line.LineFault.{LineFault}
 use Rattle.command_line.specs.declared.line.LineFault.TheVariants as refusals
 use Rattle.meter_journal.specs.declared.fault.OpenFault.{OpenFault}
@@ -10,7 +10,7 @@ use Rattle.http_front.specs.declared.answering.SessionEnd.{SessionEnd}
 use Rattle.http_front.specs.declared.answering.SessionEnd.TheVariants as ends
 use Rattle.serving.specs.declared.worker.WorkerEnd.{WorkerEnd}
 use Rattle.serving.specs.declared.worker.WorkerEnd.TheVariants as workers
-use Rattle.office_commands.specs.Lines.{session_exit, fault_exit, IsRunExit, IsReportExit, IsDoneExit}
+use Rattle.office_commands.specs.Lines.{session_exit, fault_exit, IsRunExit, IsReportExit, IsBillExit, IsDoneExit}
 use Rattle.office_program.specs.Workers.{workers_exit, IsServeExit}
 
 module _ (status : ℕ) (store : status ≡ 2 → ⊥) (journal : status ≡ 5 → ⊥) where
@@ -34,6 +34,12 @@ module _ (status : ℕ) (store : status ≡ 2 → ⊥) (journal : status ≡ 5 �
     pub run_done : IsRunExit status → IsDoneExit status
     run_done (inl end) = end_done end.0 end.1 end.2
     run_done (inr fault) = fault_done fault.0 fault.1
+
+    pub bill_done : IsBillExit status → IsDoneExit status ⊎ ((status ≡ 11) ⊎ ((status ≡ 12) ⊎ (status ≡ 13)))
+    bill_done (inl eleven) = inr (inl eleven)
+    bill_done (inr (inl twelve)) = inr (inr (inl twelve))
+    bill_done (inr (inr (inl thirteen))) = inr (inr (inr thirteen))
+    bill_done (inr (inr (inr other))) = inl (run_done other)
 
     pub report_done : IsReportExit status → IsDoneExit status
     report_done (inl ten) = inr (inr (inr ten))
@@ -148,11 +154,11 @@ module _ (fault : LineFault) (status : ℕ) (one : fault ≡ refusals.NotALine �
   pub refusal_none : (n : ℕ) → is_refusal_exit n ≡ false → status ≡ n → ⊥
   refusal_none n differs is = not_one is_refusal_exit status n differs (refusal_held (refusal_is fault status one six)) is
 
-  named : (status ≡ 1) ⊎ (status ≡ 6) → (status ≡ 1) ⊎ ((status ≡ 8) ⊎ (IsReportExit status ⊎ IsServeExit status))
+  named : (status ≡ 1) ⊎ (status ≡ 6) → (status ≡ 1) ⊎ ((status ≡ 8) ⊎ (IsReportExit status ⊎ (IsServeExit status ⊎ IsBillExit status)))
   named (inl is) = inl is
-  named (inr is) = inr (inr (inr (inr (faults.NoMemory, is))))
+  named (inr is) = inr (inr (inr (inl (inr (faults.NoMemory, is)))))
 
-  pub refusal_known : (status ≡ 1) ⊎ ((status ≡ 8) ⊎ (IsReportExit status ⊎ IsServeExit status))
+  pub refusal_known : (status ≡ 1) ⊎ ((status ≡ 8) ⊎ (IsReportExit status ⊎ (IsServeExit status ⊎ IsBillExit status)))
   refusal_known = named (refusal_is fault status one six)
 
 six_not_one : (status : ℕ) → status ≡ 6 → status ≡ 1 → ⊥
@@ -173,6 +179,19 @@ late_none status n other none (inr holds) is = none holds is
 pub report_none : (status n : ℕ) → is_run_exit n ≡ false → nat_eq 10 n ≡ false → IsReportExit status → status ≡ n → ⊥
 report_none status n differs other (inl ten) is = absurd_true (sym (subst (λ (x : ℕ). nat_eq 10 x ≡ true) (sym ten ∙ is) refl) ∙ other)
 report_none status n differs other (inr holds) is = run_none status n differs holds is
+
+-- of a billing
+pub bill_none : (status n : ℕ) → is_run_exit n ≡ false → is_one_of (11 ∷ 12 ∷ 13 ∷ []) n ≡ false → IsBillExit status → status ≡ n → ⊥
+bill_none status n differs other (inl eleven) is = not_one (is_one_of (11 ∷ 12 ∷ 13 ∷ [])) status n other (there (is_one_of (11 ∷ 12 ∷ 13 ∷ [])) status 11 refl eleven) is
+bill_none status n differs other (inr (inl twelve)) is = not_one (is_one_of (11 ∷ 12 ∷ 13 ∷ [])) status n other (there (is_one_of (11 ∷ 12 ∷ 13 ∷ [])) status 12 refl twelve) is
+bill_none status n differs other (inr (inr (inl thirteen))) is = not_one (is_one_of (11 ∷ 12 ∷ 13 ∷ [])) status n other (there (is_one_of (11 ∷ 12 ∷ 13 ∷ [])) status 13 refl thirteen) is
+bill_none status n differs other (inr (inr (inr holds))) is = run_none status n differs holds is
+
+-- no status of a billing alone
+pub no_billing : {P : Type 0} {status : ℕ} → (status ≡ 11 → ⊥) → (status ≡ 12 → ⊥) → (status ≡ 13 → ⊥) → (status ≡ 11) ⊎ ((status ≡ 12) ⊎ (status ≡ 13)) → P
+no_billing one two three (inl is) = absurd (one is)
+no_billing one two three (inr (inl is)) = absurd (two is)
+no_billing one two three (inr (inr is)) = absurd (three is)
 
 -- ---- words ask for one thing
 
@@ -199,3 +218,27 @@ init_is_not_explain workers is = absurd cc
 
 pub init_not_explain : (line : Option Line) (workers : ℕ) → line ≡ Some init → line ≡ Some (explain workers) → ⊥
 init_not_explain line workers first second = init_is_not_explain workers (sym first ∙ second)
+
+init_is_not_bill : (month : ℕ) → Some init ≡ Some (bill month) → ⊥
+init_is_not_bill month is = absurd cc
+
+pub init_not_bill : (line : Option Line) (month : ℕ) → line ≡ Some init → line ≡ Some (bill month) → ⊥
+init_not_bill line month first second = init_is_not_bill month (sym first ∙ second)
+
+-- a month that is billed
+abbrev month_of : Line → ℕ
+month_of (bill month) = month
+month_of other = 0
+
+abbrev month_in : Option Line → ℕ
+month_in None = 0
+month_in (Some line) = month_of line
+
+pub same_bill : (line : Option Line) (month other : ℕ) → line ≡ Some (bill month) → line ≡ Some (bill other) → month ≡ other
+same_bill line month other first second = ap month_in (sym first ∙ second)
+
+-- words that are a command line were refused for want of memory alone
+pub refusal_six : (fault : LineFault) (line : Option Line) (asked : Line) (status : ℕ) → (fault ≡ refusals.NotALine → line ≡ None) → (fault ≡ refusals.NoMemory → status ≡ 6)
+    → line ≡ Some asked → status ≡ 6
+refusal_six refusals.NotALine line asked status none six some = absurd (let no = none refl in cc)
+refusal_six refusals.NoMemory line asked status none six some = six refl

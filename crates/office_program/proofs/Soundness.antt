@@ -13,6 +13,8 @@ use Rattle.desk_core.specs.Histories.{HasAcceptedHistory, IsSound}
 use Rattle.desk_core.specs.Runs.{Outside, AnswersCalls}
 use Rattle.desk_core.proofs.Submitted.{narrower_sound}
 use Rattle.http_front.specs.declared.replies.Replies as sinks
+use Rattle.bill_book.specs.declared.keeper.BillKeeper as keepers
+use Rattle.office_commands.specs.Billing.{Billing, BillsMonth}
 use Rattle.office_commands.specs.Making.{Inits}
 use Rattle.office_commands.specs.Explaining.{Explains}
 use Rattle.office_commands.specs.Reporting.{TellsMonth}
@@ -43,6 +45,11 @@ module _ {D C W : Type 0} (d : disks.Ghosts D) (k : clocks.Ghosts C) (w : sinks.
   pub reported_sound : (month : ℕ) (as_text : Bool) (first : ℕ) (old new : Surroundings D C W) (status : ℕ) → IsSound (d.state old.disk) → TellsMonth d w month as_text first old new status
       → StaysSound old.disk new.disk
   reported_sound month as_text first old new status sound r =
+      weakened IsSound (r.any_moment tells) (λ s narrow. narrower_sound (d.state old.disk) s sound narrow)
+
+  pub billed_sound : {K : Type 0} (b : keepers.Ghosts K) (one : Billing K) (first : ℕ) (old new : Surroundings D C W) (status : ℕ) → IsSound (d.state old.disk)
+      → BillsMonth d w b one first old new status → StaysSound old.disk new.disk
+  billed_sound b one first old new status sound r =
       weakened IsSound (r.any_moment tells) (λ s narrow. narrower_sound (d.state old.disk) s sound narrow)
 
   pub explained_sound : (old new : Surroundings D C W) (status : ℕ) → IsSound (d.state old.disk) → Explains d k w old new status → StaysSound old.disk new.disk

@@ -1,9 +1,9 @@
 -- What the program does with the words behind its name, whatever they ask for.
 use Rattle.std.specs.Prelude.{◌≡◌, ◌⊎◌, ◌≤◌, ℕ, Bool, String, List, Option, Some, None, map, string_bytes}
 use Rattle.office_base.specs.Faults.{Rose}
-use Rattle.command_line.specs.Lines.{Line, asked, init, run, serve, report}
+use Rattle.command_line.specs.Lines.{Line, asked, init, run, serve, report, bill}
 use Rattle.http_front.specs.declared.replies.Replies as sinks
-use Rattle.office_commands.specs.Lines.{usage_note, IsReportExit}
+use Rattle.office_commands.specs.Lines.{usage_note, IsReportExit, IsBillExit, IsDoneExit}
 use Rattle.office_program.specs.Workers.{IsServeExit}
 use Rattle.office_commands.specs.Running.{Surroundings, IsNoted, IsSilent, SaysNoReply, NotesNothing, IsUnread}
 
@@ -18,6 +18,10 @@ IsServe line = (listen : List ℕ) × (workers : ℕ) × (connections : ℕ) × 
 -- it asks for a report
 abbrev pub IsReport : Option Line → Type 0
 IsReport line = (month : ℕ) × (as_text : Bool) × (line ≡ Some (report month as_text))
+
+-- it asks for the bills of a month
+abbrev pub IsBill : Option Line → Type 0
+IsBill line = (month : ℕ) × (line ≡ Some (bill month))
 
 -- ---- what is done
 
@@ -38,16 +42,19 @@ module _ {D C W : Type 0} (w : sinks.Ghosts W) where
 
 module _ {W : Type 0} (w : sinks.Ghosts W) where
   -- Each command line touches only what is its own.
-  pub record TouchesOwn (line : Option Line) (input_stays port_stays : Type 0) (old new : W) (status : ℕ) : Type 0 where
+  pub record TouchesOwn (line : Option Line) (input_stays port_stays keeper_stays : Type 0) (old new : W) (status : ℕ)
+      : Type 0 where
     -- replies are said by a run alone, and other texts by no run and no server
     pub unsaid : (line ≡ Some run → ⊥) → SaysNoReply w old new
     pub no_text : (line ≡ Some run) ⊎ IsServe line → w.texts new ≡ w.texts old
     -- nothing is noted where all was done, and nothing was lost
     pub unnoted : status ≡ 0 → NotesNothing w old new
-    -- the input is read by a run alone, the port used by a server alone, and neither where the journal was not opened
+    -- the input is read by a run alone, the port used by a server alone, the keeper of bills asked by a billing alone,
+    -- and none of them where the journal was not opened
     pub unread : (line ≡ Some run → ⊥) → input_stays
     pub unused : (IsServe line → ⊥) → port_stays
-    pub unopened : (status ≡ 5) ⊎ (status ≡ 8) → input_stays × port_stays
+    pub unbilled : (IsBill line → ⊥) → keeper_stays
+    pub unopened : (status ≡ 5) ⊎ (status ≡ 8) → input_stays × port_stays × keeper_stays
 
 -- ---- causes
 
@@ -57,21 +64,30 @@ pub record FaultCounts : Type 0 where
   pub input : ℕ
   pub output : ℕ
   pub port : ℕ
+  pub keeper : ℕ
 
 -- these counts, in this order
-abbrev pub faults : ℕ → ℕ → ℕ → ℕ → FaultCounts
-faults disk input output port = record { disk = disk; input = input; output = output; port = port }
+abbrev pub faults : ℕ → ℕ → ℕ → ℕ → ℕ → FaultCounts
+faults disk input output port keeper =
+    record { disk = disk; input = input; output = output; port = port; keeper = keeper }
 
--- none of them failed meanwhile
+-- neither the disk, nor the input, the output and the port failed meanwhile
 abbrev pub NoneFailed : FaultCounts → FaultCounts → Type 0
 NoneFailed old new =
     (Rose old.disk new.disk → ⊥) × (Rose old.input new.input → ⊥) × (Rose old.output new.output → ⊥)
     × (Rose old.port new.port → ⊥)
 
--- Each status has its cause, and the input and the port did not fail where another is told. The bytes of a journal that
+-- neither the disk, nor the output and the keeper of bills failed meanwhile
+abbrev pub NoBillingFailed : FaultCounts → FaultCounts → Type 0
+NoBillingFailed old new =
+    (Rose old.disk new.disk → ⊥) × (Rose old.output new.output → ⊥) × (Rose old.keeper new.keeper → ⊥)
+
+-- Each status has its cause. The input and the port did not fail where another status is told, and the keeper of bills
+-- did not where all was done. Why a month is refused, since it is not closed (12) or has other bills (13), is part of
+-- what `bill` does (`BillsOffice`, `TellsPosting`). The bytes of a journal that
 -- is not opened tell why (`OpenFails`, by `FailsToOpen`); `init` refuses a foreign one alone.
 pub record IsCaused (line : Option Line) (old new : FaultCounts) (foreign spent : Type 0) (status : ℕ) : Type 0 where
-  pub known : (status ≡ 1) ⊎ ((status ≡ 8) ⊎ (IsReportExit status ⊎ IsServeExit status))
+  pub known : (status ≡ 1) ⊎ ((status ≡ 8) ⊎ (IsReportExit status ⊎ (IsServeExit status ⊎ IsBillExit status)))
   pub usage : status ≡ 1 → line ≡ None
   pub disk_fault : status ≡ 2 → Rose old.disk new.disk
   pub read_fault : status ≡ 3 → Rose old.input new.input
@@ -83,3 +99,11 @@ pub record IsCaused (line : Option Line) (old new : FaultCounts) (foreign spent 
   pub clock_end : status ≡ 8 → line ≡ Some init → ⊥
   pub input_spent : status ≡ 9 → spent
   pub no_tariff : status ≡ 10 → IsReport line
+  pub keeper_fault : status ≡ 11 → Rose old.keeper new.keeper
+  pub keeper_done : status ≡ 0 → new.keeper ≡ old.keeper
+  pub bill_only : (status ≡ 11) ⊎ ((status ≡ 12) ⊎ (status ≡ 13)) → IsBill line
+
+-- the command line was done, but for want of memory, too long an input, a report without a tariff, and a month that is
+-- not billed, since the keeper failed, the month is not closed, or it has other bills
+abbrev pub IsDone : Option Line → ℕ → Type 0
+IsDone line status = IsDoneExit status ⊎ (IsBill line × ((status ≡ 11) ⊎ ((status ≡ 12) ⊎ (status ≡ 13))))

@@ -1,4 +1,4 @@
-//! The program over any source, replies, disk, clock and port.
+//! The program over any source, replies, disk, clock, port and keeper of bills.
 #![tactic(auto)]
 
 mod lines;

@@ -1,4 +1,4 @@
-// The program over any source, replies, disk, clock and port.
+// The program over any source, replies, disk, clock, port and keeper of bills.
 ghost use Rattle.std.specs.Prelude.{◌≡◌, ◌≤◌, ◌⊎◌, ℕ, Bool, List, Some, None, false, IsSome, IsTrue};
 ghost use Rattle.http_wire.specs.Held.{take_limit};
 ghost use Rattle.http_front.specs.Counts.{GaveBytes, stream_ends};
@@ -8,9 +8,12 @@ ghost use Rattle.desk_core.specs.Histories.{HasAcceptedHistory, IsSound};
 ghost use Rattle.meter_journal.specs.Reading.{IsForeign};
 ghost use Rattle.command_line.specs.Lines.{init as init_line, run as run_line, serve as serve_line};
 ghost use Rattle.command_line.specs.Lines.{report as report_line, explain as explain_line, gen as gen_line};
+ghost use Rattle.command_line.specs.Lines.{bill as bill_line};
 ghost use Rattle.http_front.specs.declared.answering.SessionEnd.TheVariants.{NoMemory};
 ghost use Rattle.office_program.specs.Commands.{asks, faults, Obeys, RefusesWords, TouchesOwn, IsCaused, NoneFailed};
-ghost use Rattle.office_commands.specs.Lines.{usage_note, end_note, IsDoneExit};
+ghost use Rattle.office_program.specs.Commands.{IsDone, NoBillingFailed};
+ghost use Rattle.office_commands.specs.Lines.{usage_note, end_note};
+ghost use Rattle.office_commands.specs.Billing.{billing, Bills, CanBill};
 ghost use Rattle.office_commands.specs.Making.{InitsAlone};
 ghost use Rattle.office_commands.specs.Explaining.{Explains};
 ghost use Rattle.office_commands.specs.Loading.{Loads};
@@ -19,13 +22,14 @@ ghost use Rattle.office_commands.specs.Running.{around, IsNoted, IsSilent, Runs}
 ghost use Rattle.office_program.specs.Workers.{Connects, IsBalanced, ServesPort};
 
 use crate::serve::serve;
+use bill_book::BillKeeper;
 use command_line::{CommandLine, LineFault, read_line};
 use desk_core::Clock;
 use disk_core::Disk;
 use http_front::{Replies, SessionEnd};
 use http_wire::Source;
 use office_commands::{
-    End, MEMORY, USAGE, end_line, init, load, note_line, report, run, stays, usage,
+    End, MEMORY, USAGE, bill, end_line, init, load, note_line, report, run, stays, usage,
 };
 use serving::{Gate, Port};
 use std::alloc::Global;
@@ -61,7 +65,7 @@ fn refuse_line<W: Replies>(out: &mut W, fault: LineFault) -> u8
     }
 }
 
-/// Does one command of the program: `init`, `run`, `serve`, `report`, `explain` or `gen`. The words are those
+/// Does one command of the program: `init`, `run`, `serve`, `report`, `explain`, `gen` or `bill`. The words are those
 /// behind the program's name.
 ///
 /// `init` makes the journal where it is not made, and says whether it was. `run` asks the clock once, opens the
@@ -71,16 +75,21 @@ fn refuse_line<W: Replies>(out: &mut W, fault: LineFault) -> u8
 /// `report` asks the clock once, opens the office, and prints what a month costs, as of that number or of the last
 /// accepted command, where that is later; it writes nothing to the journal. `explain` reads the journal and prints
 /// every stay of it, from which a bill can be checked by hand. `gen` makes commands that are generated of a number,
-/// on a disk in memory, and prints how many were accepted. A line on a fault goes to the notes.
+/// on a disk in memory, and prints how many were accepted. `bill` asks the clock once, opens the office, posts the
+/// bills of a closed month's report to the keeper, and prints how many they are and what they come to; where the keeper
+/// has these bills already, nothing is posted. A line on a fault goes to the notes.
 ///
 /// The status is 0 where all was done; 1 where the words are no command line; 2 where the disk did not do a call,
 /// at `init` or at the opening, or in a call since which no other ask was answered; 3 where the input could not be
 /// read; 4 where a text could not be said; 5 where the journal is not made, foreign or damaged; 6 where memory ran
 /// out; 7 where the port did not listen or gave no connection; 8 where the first number that the clock told a
-/// `run`, a `serve` or a `report` is not below the end of time, 4,102,444,800,000 milliseconds, and then nothing
-/// else was done; 9 where 2^40 bytes of input were taken and more is needed; 10 where a report has no tariff. A
-/// connection that fails, or in whose session memory runs out, ends alone and gives no status.
-pub fn office<S, W, D, C, P, G, R>(
+/// `run`, a `serve`, a `report` or a `bill` is not below the end of time, 4,102,444,800,000 milliseconds, and then
+/// nothing else was done; 9 where 2^40 bytes of input were taken and more is needed; 10 where a report has no tariff;
+/// 11 where the keeper of bills failed; 12 where the month to be billed is not closed; 13 where the keeper has other
+/// bills of the month. After 11, and after 4 of a `bill`, the month may have been posted, whole and with these bills,
+/// and may be billed again. A connection that fails, or in whose session memory runs out, ends alone and gives no
+/// status. Where several hold, the status is the first of 1, 8, 5, 4, 3, 9, 7, 2, 6, 10, 12, 11, 13.
+pub fn office<S, W, D, C, P, G, K, R>(
     rt: &R,
     alloc: Global,
     words: &[String],
@@ -90,6 +99,7 @@ pub fn office<S, W, D, C, P, G, R>(
     clock: C,
     port: &mut P,
     gate: &G,
+    keeper: &mut K,
 ) -> End<D, C>
 where
     S: Source,
@@ -100,6 +110,7 @@ where
     P::Source: Send,
     P::Replies: Send,
     G: Gate + Sync,
+    K: BillKeeper,
     R: Threads + Wait + Sync,
 
     // What each word does, where memory suffices to read the words.
@@ -120,6 +131,10 @@ where
     ensures load { (number count : ℕ) → asks words.now ≡ Some (gen_line number count)
         → Obeys W.Replies (Unit {0}) (Loads W.Replies number count)
         (around disk clock out.old) (around result.disk result.clock out.new) result.status }
+    ensures bill { (month : ℕ) → asks words.now ≡ Some (bill_line month)
+        → Obeys W.Replies (keeper.new ≡ keeper.old)
+        (Bills D.Disk C.Clock W.Replies K.BillKeeper (billing month keeper.old keeper.new))
+        (around disk clock out.old) (around result.disk result.clock out.new) result.status }
     ensures init { asks words.now ≡ Some init_line → Obeys W.Replies (Unit {0}) (InitsAlone D.Disk W.Replies)
         (around disk clock out.old) (around result.disk result.clock out.new) result.status }
     ensures other { asks words.now ≡ None → Obeys W.Replies (Unit {0}) (RefusesWords W.Replies)
@@ -128,13 +143,15 @@ where
     // Each touches only what is its own, and each connection that the port gave was given back, ended, whatever the
     // status.
     ensures only { TouchesOwn W.Replies (asks words.now) (input.new ≡ input.old) (port.new ≡ port.old)
-        out.old out.new result.status }
+        (keeper.new ≡ keeper.old) out.old out.new result.status }
     ensures balanced { IsBalanced P.Port port.old port.new }
 
     // Each status has its cause.
     ensures causes { IsCaused (asks words.now)
-        (faults (D.fault_count disk) (S.faults input.old) (W.faults out.old) (P.faults port.old))
-        (faults (D.fault_count result.disk) (S.faults input.new) (W.faults out.new) (P.faults port.new))
+        (faults (D.fault_count disk) (S.faults input.old) (W.faults out.old) (P.faults port.old)
+        (K.faults keeper.old))
+        (faults (D.fault_count result.disk) (S.faults input.new) (W.faults out.new) (P.faults port.new)
+        (K.faults keeper.new))
         (IsTrue D.honest → IsForeign (D.state disk).journal.seen)
         (GaveBytes (S.left input.old) (S.left input.new) take_limit) result.status }
 
@@ -147,9 +164,22 @@ where
     ensures complete { IsTrue D.honest → IsSome (asks words.now)
         → IsSound (D.state disk)
         ⊎ ((asks words.now ≡ Some init_line) × (IsForeign (D.state disk).journal.seen → ⊥))
-        → NoneFailed (faults (D.fault_count disk) (S.faults input.old) (W.faults out.old) (P.faults port.old))
-        (faults (D.fault_count result.disk) (S.faults input.new) (W.faults out.new) (P.faults port.new))
-        → (result.status ≡ 8 → ⊥) → IsDoneExit result.status }
+        → NoneFailed (faults (D.fault_count disk) (S.faults input.old) (W.faults out.old) (P.faults port.old)
+        (K.faults keeper.old))
+        (faults (D.fault_count result.disk) (S.faults input.new) (W.faults out.new) (P.faults port.new)
+        (K.faults keeper.new))
+        → (result.status ≡ 8 → ⊥) → IsDone (asks words.now) result.status }
+
+    // A closed month is billed where nothing that a billing works on fails and the clock is not at its end, and the
+    // keeper has no bills of it, or these.
+    ensures billable { (month : ℕ) (history : List Entry) → asks words.now ≡ Some (bill_line month)
+        → IsTrue D.honest → HasAcceptedHistory history (D.state disk).journal.seen
+        → CanBill K.BillKeeper history (billing month keeper.old keeper.new)
+        → NoBillingFailed (faults (D.fault_count disk) (S.faults input.old) (W.faults out.old) (P.faults port.old)
+        (K.faults keeper.old))
+        (faults (D.fault_count result.disk) (S.faults input.new) (W.faults out.new) (P.faults port.new)
+        (K.faults keeper.new))
+        → (result.status ≡ 8 → ⊥) → (result.status ≡ 0) ⊎ (result.status ≡ 6) }
 {
     sound_now(&disk);
     match read_line(alloc, words) {
@@ -182,6 +212,7 @@ where
         ),
         Ok(CommandLine::Report(asked)) => report(alloc, out, disk, clock, &asked),
         Ok(CommandLine::Explain { workers }) => stays(rt, alloc, out, disk, clock, workers),
+        Ok(CommandLine::Bill(asked)) => bill(alloc, out, keeper, disk, clock, &asked),
         Ok(CommandLine::Gen { number, count }) => {
             let status = load(alloc, out, number, count);
             End {

@@ -1,6 +1,6 @@
 use Rattle.std.proofs.lemmas.Result.{IfOk-weaker}
 use Rattle.clap.specs.Simple.{with_subcommand}
-use Rattle.command_line.specs.Words.{alone, init_words, run_words, serve_words, report_words, explain_words, gen_words, office_top}
+use Rattle.command_line.specs.Words.{alone, init_words, run_words, serve_words, report_words, explain_words, gen_words, bill_words, office_top}
 use Rattle.command_line.proofs.words.office.Goals as goal
 
 pub returns : goal.returns
@@ -15,4 +15,6 @@ returns c =
     let four = c.in_ok-command-4.ensures serves (alone report_words) three c.in_ok-report.ensures in
     let explains = with_subcommand reports explain_words in
     let five = c.in_ok-command-5.ensures reports (alone explain_words) four c.in_ok-explain.ensures in
-    IfOk-weaker c.with_subcommand-6.result _ _ (λ _ h. h explains (alone gen_words) five c.in_ok-generate.ensures) c.with_subcommand-6.ensures
+    let generates = with_subcommand explains gen_words in
+    let six = c.in_ok-command-6.ensures explains (alone gen_words) five c.in_ok-generate.ensures in
+    IfOk-weaker c.with_subcommand-7.result _ _ (λ _ h. h generates (alone bill_words) six c.in_ok-bill.ensures) c.with_subcommand-7.ensures

@@ -1,20 +1,22 @@
-use Rattle.std.proofs.Common.{◌≡◌, ⊎_elim, arith, inl, inr, refl, Err, map, string_bytes, Some, ap, ◌∙◌}
+use Rattle.std.proofs.Common.{◌≡◌, ⊎_elim, arith, inl, inr, refl, ℕ, Err, map, subst, string_bytes, Some, ap, ◌∙◌}
 use Rattle.command_line.specs.Lines.{line_of}
 use Rattle.command_line.specs.declared.line.CommandLine.{CommandLine}
 use Rattle.command_line.proofs.Ranges.{serve_in_range, explain_in_range}
 use Rattle.http_front.specs.Counts.{stream_ends}
 use Rattle.http_front.specs.Exchanges.{calls_of}
 use Rattle.serving.specs.Serving.{log_calls}
+use Rattle.office_commands.specs.Billing.{billing, LeavesKeeper, BillsMonth, CanBill}
 use Rattle.office_commands.specs.Reporting.{TellsMonth}
 use Rattle.office_commands.specs.Running.{around, under, journal_limit, AnswersStream}
 use Rattle.office_program.specs.Workers.{AnswersWorkers, Connects}
+use Rattle.office_commands.proofs.Billable.{bill_done as billable}
 use Rattle.office_commands.proofs.Said.{said_is_run}
 use Rattle.office_program.proofs.Done.{init_not_explain, run_done, report_done, serve_done, init_not_run, init_not_report, init_not_serve}
 use Rattle.command_line.specs.declared.line.LineFault.TheVariants.{NotALine, NoMemory}
-use Rattle.office_program.proofs.Done.{run_none, serve_none, said_none, late_none, report_none}
+use Rattle.office_program.proofs.Done.{run_none, serve_none, said_none, late_none, report_none, bill_none, bill_done, no_billing, init_not_bill, same_bill, refusal_six}
 use Rattle.office_program.proofs.Done.{refusal_none, refusal_known, refusal_line}
-use Rattle.office_program.proofs.Owning.{not_run, not_init, not_serve, prints}
-use Rattle.office_program.proofs.Soundness.{not_foreign_there, init_sound, calls_sound, explained_sound, reported_sound, starts_sound}
+use Rattle.office_program.proofs.Owning.{not_run, not_init, not_serve, prints, bills}
+use Rattle.office_program.proofs.Soundness.{not_foreign_there, init_sound, calls_sound, explained_sound, reported_sound, billed_sound, starts_sound}
 use Rattle.office_program.proofs.program.office.Goals as goal
 
 pub serve-requires-clause-few : goal.serve-requires-clause-few
@@ -32,11 +34,11 @@ pub returns-in-Ok-Init-clause-complete : goal.returns-in-Ok-Init-clause-complete
 returns-in-Ok-Init-clause-complete g c tells some good none eight =
     let e = c.init-status.ensures in
     let file = (g.D.Disk.state c.args.disk).journal.seen in
-    run_done c.init-status.result (λ two. none.0 (e.disk_fault two))
+    inl (run_done c.init-status.result (λ two. none.0 (e.disk_fault two))
     (λ five. ⊎_elim
     (λ sound. let has = c.sound_now.ensures.reads tells sound in not_foreign_there file has.0 has.1 (e.foreign tells five))
     (λ other. other.1 (e.foreign tells five)) good)
-    e.not_read (λ four. none.2 (e.write_fault four)) e.statuses
+    e.not_read (λ four. none.2 (e.write_fault four)) e.statuses)
 
 pub returns-in-Ok-Run-clause-sound : goal.returns-in-Ok-Run-clause-sound
 returns-in-Ok-Run-clause-sound g c tells sound =
@@ -55,11 +57,11 @@ returns-in-Ok-Run-clause-sound g c tells sound =
 pub returns-in-Ok-Run-clause-complete : goal.returns-in-Ok-Run-clause-complete
 returns-in-Ok-Run-clause-complete g c tells some good none eight =
     let e = c.run.ensures in
-    run_done c.run.result.status (λ two. none.0 (e.disk_fault two))
+    inl (run_done c.run.result.status (λ two. none.0 (e.disk_fault two))
     (λ five. ⊎_elim
     (λ sound. let has = c.sound_now.ensures.reads tells sound in e.sound tells has.0 has.1 five)
     (λ other. init_not_run _ other.0 (c.in-Ok-Run.ensures.read ∙ ap (λ (l : CommandLine). Some (line_of l)) c.in-Ok-Run.field-0-is)) good)
-    (λ three. none.1 (e.read_fault three)) (λ four. none.2 (e.write_fault four)) (⊎_elim (λ is. absurd (eight is)) (λ is. is) e.statuses)
+    (λ three. none.1 (e.read_fault three)) (λ four. none.2 (e.write_fault four)) (⊎_elim (λ is. absurd (eight is)) (λ is. is) e.statuses))
 
 pub returns-in-Ok-Serve-clause-sound : goal.returns-in-Ok-Serve-clause-sound
 returns-in-Ok-Serve-clause-sound g c tells sound =
@@ -78,11 +80,11 @@ returns-in-Ok-Serve-clause-sound g c tells sound =
 pub returns-in-Ok-Serve-clause-complete : goal.returns-in-Ok-Serve-clause-complete
 returns-in-Ok-Serve-clause-complete g c tells some good none eight =
     let e = c.serve.ensures in
-    serve_done c.serve.result.status (λ two. none.0 (e.disk_fault two))
+    inl (serve_done c.serve.result.status (λ two. none.0 (e.disk_fault two))
     (λ five. ⊎_elim
     (λ sound. let has = c.sound_now.ensures.reads tells sound in e.sound tells has.0 has.1 five)
     (λ other. init_not_serve _ _ _ _ other.0 (c.in-Ok-Serve.ensures.read ∙ ap (λ (l : CommandLine). Some (line_of l)) c.in-Ok-Serve.field-0-is)) good)
-    (λ seven. none.3 (e.port_fault seven)) (⊎_elim (λ is. absurd (eight is)) (λ is. is) e.statuses)
+    (λ seven. none.3 (e.port_fault seven)) (⊎_elim (λ is. absurd (eight is)) (λ is. is) e.statuses))
 
 pub returns-in-Ok-Report-clause-sound : goal.returns-in-Ok-Report-clause-sound
 returns-in-Ok-Report-clause-sound g c tells sound =
@@ -102,11 +104,11 @@ returns-in-Ok-Report-clause-sound g c tells sound =
 pub returns-in-Ok-Report-clause-complete : goal.returns-in-Ok-Report-clause-complete
 returns-in-Ok-Report-clause-complete g c tells some good none eight =
     let e = c.report.ensures in
-    report_done c.report.result.status (λ two. none.0 (e.disk_fault two))
+    inl (report_done c.report.result.status (λ two. none.0 (e.disk_fault two))
     (λ five. ⊎_elim
     (λ sound. let has = c.sound_now.ensures.reads tells sound in e.sound tells has.0 has.1 five)
     (λ other. init_not_report _ _ _ other.0 (c.in-Ok-Report.ensures.read ∙ ap (λ (l : CommandLine). Some (line_of l)) c.in-Ok-Report.field-0-is)) good)
-    e.only.0 (λ four. none.2 (e.write_fault four)) (⊎_elim (λ is. absurd (eight is)) (λ is. is) e.statuses)
+    e.only.0 (λ four. none.2 (e.write_fault four)) (⊎_elim (λ is. absurd (eight is)) (λ is. is) e.statuses))
 
 pub returns-in-Ok-Explain-clause-sound : goal.returns-in-Ok-Explain-clause-sound
 returns-in-Ok-Explain-clause-sound g c tells sound =
@@ -130,11 +132,11 @@ returns-in-Err-clause-sound g c tells sound =
 pub returns-in-Ok-Explain-clause-complete : goal.returns-in-Ok-Explain-clause-complete
 returns-in-Ok-Explain-clause-complete g c tells some good none eight =
     let e = c.stays.ensures in
-    run_done c.stays.result.status (λ two. none.0 (e.disk_fault two))
+    inl (run_done c.stays.result.status (λ two. none.0 (e.disk_fault two))
     (λ five. ⊎_elim
     (λ sound. let has = c.sound_now.ensures.reads tells sound in e.sound tells has.0 has.1 five)
     (λ other. init_not_explain _ _ other.0 (c.in-Ok-Explain.ensures.read ∙ ap (λ (l : CommandLine). Some (line_of l)) c.in-Ok-Explain.field-0-is)) good)
-    e.only.0 (λ four. none.2 (e.write_fault four)) e.statuses
+    e.only.0 (λ four. none.2 (e.write_fault four)) e.statuses)
 
 pub stays-requires-clause-few : goal.stays-requires-clause-few
 stays-requires-clause-few g c κs within =
@@ -144,7 +146,7 @@ stays-requires-clause-few g c κs within =
 pub returns-in-Ok-Gen-clause-complete : goal.returns-in-Ok-Gen-clause-complete
 returns-in-Ok-Gen-clause-complete g c tells some good none eight =
     let e = c.load-status.ensures in
-    ⊎_elim (λ is. inl is) (⊎_elim (λ four. absurd (none.2 (e.write_fault four))) (λ six. inr (inl six))) e.statuses
+    inl (⊎_elim (λ is. inl is) (⊎_elim (λ four. absurd (none.2 (e.write_fault four))) (λ six. inr (inl six))) e.statuses)
 
 -- ---- what is touched
 
@@ -152,25 +154,25 @@ pub returns-in-Ok-Init-clause-only : goal.returns-in-Ok-Init-clause-only
 returns-in-Ok-Init-clause-only g c =
     let e = c.init-status.ensures in
     let line = c.in-Ok-Init.ensures.read ∙ ap (λ (l : CommandLine). Some (line_of l)) c.in-Ok-Init.field-0-is in
-    prints g.W.Replies _ _ _ _ _ _ (not_run _ _ line (λ is. absurd cc)) (not_serve _ _ line (λ _ _ _ is. absurd cc)) e.unsaid e.unnoted refl refl
+    prints g.W.Replies _ _ _ _ _ _ _ (not_run _ _ line (λ is. absurd cc)) (not_serve _ _ line (λ _ _ _ is. absurd cc)) e.unsaid e.unnoted refl refl refl
 
 pub returns-in-Ok-Report-clause-only : goal.returns-in-Ok-Report-clause-only
 returns-in-Ok-Report-clause-only g c =
     let e = c.report.ensures in
     let line = c.in-Ok-Report.ensures.read ∙ ap (λ (l : CommandLine). Some (line_of l)) c.in-Ok-Report.field-0-is in
-    prints g.W.Replies _ _ _ _ _ _ (not_run _ _ line (λ is. absurd cc)) (not_serve _ _ line (λ _ _ _ is. absurd cc)) e.unsaid e.unnoted refl refl
+    prints g.W.Replies _ _ _ _ _ _ _ (not_run _ _ line (λ is. absurd cc)) (not_serve _ _ line (λ _ _ _ is. absurd cc)) e.unsaid e.unnoted refl refl refl
 
 pub returns-in-Ok-Explain-clause-only : goal.returns-in-Ok-Explain-clause-only
 returns-in-Ok-Explain-clause-only g c =
     let e = c.stays.ensures in
     let line = c.in-Ok-Explain.ensures.read ∙ ap (λ (l : CommandLine). Some (line_of l)) c.in-Ok-Explain.field-0-is in
-    prints g.W.Replies _ _ _ _ _ _ (not_run _ _ line (λ is. absurd cc)) (not_serve _ _ line (λ _ _ _ is. absurd cc)) e.unsaid e.unnoted refl refl
+    prints g.W.Replies _ _ _ _ _ _ _ (not_run _ _ line (λ is. absurd cc)) (not_serve _ _ line (λ _ _ _ is. absurd cc)) e.unsaid e.unnoted refl refl refl
 
 pub returns-in-Ok-Gen-clause-only : goal.returns-in-Ok-Gen-clause-only
 returns-in-Ok-Gen-clause-only g c =
     let e = c.load-status.ensures in
     let line = c.in-Ok-Gen.ensures.read ∙ ap (λ (l : CommandLine). Some (line_of l)) c.in-Ok-Gen.field-0-is in
-    prints g.W.Replies _ _ _ _ _ _ (not_run _ _ line (λ is. absurd cc)) (not_serve _ _ line (λ _ _ _ is. absurd cc)) e.unsaid e.unnoted refl refl
+    prints g.W.Replies _ _ _ _ _ _ _ (not_run _ _ line (λ is. absurd cc)) (not_serve _ _ line (λ _ _ _ is. absurd cc)) e.unsaid e.unnoted refl refl refl
 
 -- ---- causes
 
@@ -191,6 +193,9 @@ returns-in-Ok-Init-clause-causes g c =
       clock_end = λ eight _. run_none _ 8 refl e.statuses eight;
       input_spent = λ nine. absurd (e.not_spent nine);
       no_tariff = λ ten. absurd (run_none _ 10 refl e.statuses ten);
+      keeper_fault = λ eleven. absurd (run_none _ 11 refl e.statuses eleven);
+      keeper_done = λ _. refl;
+      bill_only = no_billing (run_none _ 11 refl e.statuses) (run_none _ 12 refl e.statuses) (run_none _ 13 refl e.statuses);
     }
 
 pub returns-in-Ok-Run-clause-causes : goal.returns-in-Ok-Run-clause-causes
@@ -210,6 +215,9 @@ returns-in-Ok-Run-clause-causes g c =
       clock_end = λ _. not_init _ _ line (λ other. absurd cc);
       input_spent = e.spent;
       no_tariff = λ ten. absurd (late_none _ 10 refl (run_none _ 10 refl) e.statuses ten);
+      keeper_fault = λ eleven. absurd (late_none _ 11 refl (run_none _ 11 refl) e.statuses eleven);
+      keeper_done = λ _. refl;
+      bill_only = no_billing (late_none _ 11 refl (run_none _ 11 refl) e.statuses) (late_none _ 12 refl (run_none _ 12 refl) e.statuses) (late_none _ 13 refl (run_none _ 13 refl) e.statuses);
     }
 
 pub returns-in-Ok-Serve-clause-causes : goal.returns-in-Ok-Serve-clause-causes
@@ -217,7 +225,7 @@ returns-in-Ok-Serve-clause-causes g c =
     let e = c.serve.ensures in
     let line = c.in-Ok-Serve.ensures.read ∙ ap (λ (l : CommandLine). Some (line_of l)) c.in-Ok-Serve.field-0-is in
     record {
-      known = ⊎_elim (λ eight. inr (inl eight)) (λ is. inr (inr (inr is))) e.statuses;
+      known = ⊎_elim (λ eight. inr (inl eight)) (λ is. inr (inr (inr (inl is)))) e.statuses;
       usage = λ one. absurd (late_none _ 1 refl (serve_none _ 1 refl) e.statuses one);
       disk_fault = e.disk_fault;
       read_fault = λ three. absurd (late_none _ 3 refl (serve_none _ 3 refl) e.statuses three);
@@ -229,6 +237,9 @@ returns-in-Ok-Serve-clause-causes g c =
       clock_end = λ _. not_init _ _ line (λ other. absurd cc);
       input_spent = λ nine. absurd (late_none _ 9 refl (serve_none _ 9 refl) e.statuses nine);
       no_tariff = λ ten. absurd (late_none _ 10 refl (serve_none _ 10 refl) e.statuses ten);
+      keeper_fault = λ eleven. absurd (late_none _ 11 refl (serve_none _ 11 refl) e.statuses eleven);
+      keeper_done = λ _. refl;
+      bill_only = no_billing (late_none _ 11 refl (serve_none _ 11 refl) e.statuses) (late_none _ 12 refl (serve_none _ 12 refl) e.statuses) (late_none _ 13 refl (serve_none _ 13 refl) e.statuses);
     }
 
 pub returns-in-Ok-Report-clause-causes : goal.returns-in-Ok-Report-clause-causes
@@ -248,6 +259,9 @@ returns-in-Ok-Report-clause-causes g c =
       clock_end = λ _. not_init _ _ line (λ other. absurd cc);
       input_spent = λ nine. absurd (e.only.1.1 nine);
       no_tariff = λ _. (c.in-Ok-Report.asked.month, c.in-Ok-Report.asked.as_text, line);
+      keeper_fault = λ eleven. absurd (late_none _ 11 refl (report_none _ 11 refl refl) e.statuses eleven);
+      keeper_done = λ _. refl;
+      bill_only = no_billing (late_none _ 11 refl (report_none _ 11 refl refl) e.statuses) (late_none _ 12 refl (report_none _ 12 refl refl) e.statuses) (late_none _ 13 refl (report_none _ 13 refl refl) e.statuses);
     }
 
 pub returns-in-Ok-Explain-clause-causes : goal.returns-in-Ok-Explain-clause-causes
@@ -267,6 +281,9 @@ returns-in-Ok-Explain-clause-causes g c =
       clock_end = λ eight _. run_none _ 8 refl e.statuses eight;
       input_spent = λ nine. absurd (e.only.1.1 nine);
       no_tariff = λ ten. absurd (run_none _ 10 refl e.statuses ten);
+      keeper_fault = λ eleven. absurd (run_none _ 11 refl e.statuses eleven);
+      keeper_done = λ _. refl;
+      bill_only = no_billing (run_none _ 11 refl e.statuses) (run_none _ 12 refl e.statuses) (run_none _ 13 refl e.statuses);
     }
 
 pub returns-in-Ok-Gen-clause-causes : goal.returns-in-Ok-Gen-clause-causes
@@ -286,6 +303,9 @@ returns-in-Ok-Gen-clause-causes g c =
       clock_end = λ eight _. said_none _ 8 refl e.statuses eight;
       input_spent = λ nine. absurd (said_none _ 9 refl e.statuses nine);
       no_tariff = λ ten. absurd (said_none _ 10 refl e.statuses ten);
+      keeper_fault = λ eleven. absurd (said_none _ 11 refl e.statuses eleven);
+      keeper_done = λ _. refl;
+      bill_only = no_billing (said_none _ 11 refl e.statuses) (said_none _ 12 refl e.statuses) (said_none _ 13 refl e.statuses);
     }
 
 pub returns-in-Err-clause-causes : goal.returns-in-Err-clause-causes
@@ -307,4 +327,80 @@ returns-in-Err-clause-causes g c =
       clock_end = λ eight _. none 8 refl eight;
       input_spent = λ nine. absurd (none 9 refl nine);
       no_tariff = λ ten. absurd (none 10 refl ten);
+      keeper_fault = λ eleven. absurd (none 11 refl eleven);
+      keeper_done = λ _. refl;
+      bill_only = no_billing (none 11 refl) (none 12 refl) (none 13 refl);
     }
+
+-- ---- bills
+
+pub returns-in-Ok-Bill-clause-sound : goal.returns-in-Ok-Bill-clause-sound
+returns-in-Ok-Bill-clause-sound g c tells sound =
+    let d = g.D.Disk in
+    let k = g.C.Clock in
+    let w = g.W.Replies in
+    let b = g.K.BillKeeper in
+    let one = billing c.in-Ok-Bill.asked.month c.args.keeper.now c.bill.new.keeper in
+    let has = c.sound_now.ensures.reads tells sound in (
+      c.bill.ensures.sound tells has.0 has.1,
+      starts_sound d k w tells (LeavesKeeper one) (BillsMonth d w b one) (billed_sound d k w tells b one)
+          (around c.args.disk c.args.clock c.args.out.now)
+          (around c.bill.result.disk c.bill.result.clock c.bill.new.out) c.bill.result.status sound
+          (c.sound_now.ensures.still tells sound) c.bill.ensures.bills,
+    )
+
+pub returns-in-Ok-Bill-clause-complete : goal.returns-in-Ok-Bill-clause-complete
+returns-in-Ok-Bill-clause-complete g c tells some good none eight =
+    let e = c.bill.ensures in
+    let line = c.in-Ok-Bill.ensures.read ∙ ap (λ (l : CommandLine). Some (line_of l)) c.in-Ok-Bill.field-0-is in
+    ⊎_elim (λ done. inl done) (λ other. inr ((c.in-Ok-Bill.asked.month, line), other))
+    (bill_done c.bill.result.status (λ two. none.0 (e.disk_fault two))
+    (λ five. ⊎_elim
+    (λ sound. let has = c.sound_now.ensures.reads tells sound in e.sound tells has.0 has.1 five)
+    (λ other. init_not_bill _ _ other.0 line) good)
+    e.only.0 (λ four. none.2 (e.write_fault four)) (⊎_elim (λ is. absurd (eight is)) (λ is. is) e.statuses))
+
+pub returns-in-Ok-Bill-clause-only : goal.returns-in-Ok-Bill-clause-only
+returns-in-Ok-Bill-clause-only g c =
+    let e = c.bill.ensures in
+    let line = c.in-Ok-Bill.ensures.read ∙ ap (λ (l : CommandLine). Some (line_of l)) c.in-Ok-Bill.field-0-is in
+    bills g.W.Replies _ _ _ _ _ _ _ (not_run _ _ line (λ is. absurd cc)) (not_serve _ _ line (λ _ _ _ is. absurd cc)) (c.in-Ok-Bill.asked.month, line)
+    e.unsaid e.unnoted refl refl e.unopened
+
+pub returns-in-Ok-Bill-clause-causes : goal.returns-in-Ok-Bill-clause-causes
+returns-in-Ok-Bill-clause-causes g c =
+    let e = c.bill.ensures in
+    let line = c.in-Ok-Bill.ensures.read ∙ ap (λ (l : CommandLine). Some (line_of l)) c.in-Ok-Bill.field-0-is in
+    record {
+      known = ⊎_elim (λ eight. inr (inl eight)) (λ is. inr (inr (inr (inr is)))) e.statuses;
+      usage = λ one. absurd (late_none _ 1 refl (bill_none _ 1 refl refl) e.statuses one);
+      disk_fault = e.disk_fault;
+      read_fault = λ three. absurd (e.only.0 three);
+      read_done = λ _. refl;
+      write_fault = e.write_fault;
+      foreign_file = λ is. absurd (not_init _ _ line (λ other. absurd cc) is);
+      port_fault = λ seven. absurd (e.only.1.0 seven);
+      port_done = λ _. omega arith;
+      clock_end = λ _. not_init _ _ line (λ other. absurd cc);
+      input_spent = λ nine. absurd (e.only.1.1 nine);
+      no_tariff = λ ten. absurd (late_none _ 10 refl (bill_none _ 10 refl refl) e.statuses ten);
+      keeper_fault = e.keeper_fault;
+      keeper_done = e.keeper_done;
+      bill_only = λ _. (c.in-Ok-Bill.asked.month, line);
+    }
+
+pub returns-in-Ok-Bill-clause-billable : goal.returns-in-Ok-Bill-clause-billable
+returns-in-Ok-Bill-clause-billable g c month history is tells has can none eight =
+    let e = c.bill.ensures in
+    let line = c.in-Ok-Bill.ensures.read ∙ ap (λ (l : CommandLine). Some (line_of l)) c.in-Ok-Bill.field-0-is in
+    let same : month ≡ c.in-Ok-Bill.asked.month = same_bill _ month c.in-Ok-Bill.asked.month is line in
+    let one = billing c.in-Ok-Bill.asked.month c.args.keeper.now c.bill.new.keeper in
+    let mine = subst (λ (m : ℕ). CanBill g.K.BillKeeper history (billing m c.args.keeper.now c.bill.new.keeper)) same can in
+    billable c.bill.result.status (λ two. none.0 (e.disk_fault two)) (e.sound tells history has)
+    g.D.Disk g.C.Clock g.W.Replies g.K.BillKeeper one tells history mine
+    (λ four. none.1 (e.write_fault four)) (λ eleven. none.2 (e.keeper_fault eleven)) eight
+    (around c.args.disk c.args.clock c.args.out.now) (around c.bill.result.disk c.bill.result.clock c.bill.new.out) has e.bills
+
+pub returns-in-Err-clause-billable : goal.returns-in-Err-clause-billable
+returns-in-Err-clause-billable g c month history is tells has can none eight =
+    inr (refusal_six c.in-Err.fault _ _ c.refuse_line-status.result (λ refused. c.in-Err.ensures.refused (ap Err refused)) (λ lacks. (c.refuse_line-status.ensures.memory lacks).0) is)
