@@ -32,6 +32,12 @@ pub struct Case {
     pub step: Vec<Step>,
     #[serde(default)]
     pub command: Vec<Command>,
+    /// The months for which the keeper of bills has an empty list at the start, each posted by a call.
+    #[serde(default)]
+    pub kept_months: Vec<String>,
+    /// The numbers of the calls of the keeper of bills that fail, counted from 1 over all commands.
+    #[serde(default)]
+    pub failing_keeper: Vec<u64>,
     /// Whether the bytes of the journal file are printed at the end.
     #[serde(default)]
     pub shown: bool,

@@ -1,13 +1,15 @@
 // What is done in a case, in order, and what is printed of it.
-use crate::running::{given_command, given_messages, run};
+use crate::running::{given_command, given_messages, run, run_with};
 use crate::telling::{tell, tell_others};
 use anyhow::{Result, bail};
+use bill_book::{BillKeeper, MapKeeper};
 use case_table::{
     Case, Command, Session, Step, Stops, add_messages, count_images, disk_of, number_of,
     put_counted, put_lines, put_times, start, tell_replies,
 };
 use disk_core::{Disk, FileNo, MemoryDisk};
 use meter_journal::read_all;
+use moments::read_month;
 use std::alloc::Global;
 use std::collections::BTreeMap;
 use std::fmt::Write;
@@ -108,11 +110,27 @@ fn tell_command<R: Threads + Wait + Sync>(
     command: &Command,
     cut: usize,
     disk: MemoryDisk,
+    keeper: &mut MapKeeper,
 ) -> Result<MemoryDisk> {
-    let ran = run(rt, alloc, given_command(alloc, command, cut)?, disk);
+    let given = given_command(alloc, command, cut)?;
+    let ran = run_with(rt, alloc, given, disk, keeper);
     writeln!(page, "  office {:?}", command.words)?;
     put_lines(page, "    ", tell(alloc, &ran)?.as_str())?;
     Ok(ran.disk)
+}
+
+// The keeper of bills with which a case starts.
+fn keeper_of(alloc: Global, case: &Case) -> Result<MapKeeper> {
+    let mut keeper = MapKeeper::new(alloc, case.failing_keeper.to_vec(alloc)?);
+    for text in &case.kept_months {
+        let Ok(month) = read_month(text.as_str()) else {
+            bail!("{text} is no month");
+        };
+        if keeper.post(month, &[]).is_err() {
+            bail!("the bills of {text} were not kept");
+        }
+    }
+    Ok(keeper)
 }
 
 // Prints what is left on the disk.
@@ -190,8 +208,9 @@ fn tell_pieces<R: Threads + Wait + Sync>(
 ) -> Result<String> {
     let mut page = String::new(alloc);
     let mut disk = tell_session(rt, alloc, &mut page, case, cut)?;
+    let mut keeper = keeper_of(alloc, case)?;
     for command in &case.command {
-        disk = tell_command(rt, alloc, &mut page, command, cut, disk)?;
+        disk = tell_command(rt, alloc, &mut page, command, cut, disk, &mut keeper)?;
     }
     if let Some(stops) = &case.stops {
         tell_stops(rt, alloc, &mut page, stops, &disk)?;

@@ -1,5 +1,6 @@
 // One command of the program, over a disk in memory.
 use anyhow::{Result, bail};
+use bill_book::MapKeeper;
 use case_table::{Command, number_of};
 use desk_core::ListClock;
 use disk_core::MemoryDisk;
@@ -30,8 +31,20 @@ pub struct Ran {
     pub disk: MemoryDisk,
 }
 
-/// Does one command. It is the one place at which the program is called.
+/// Does one command that asks for no bills.
 pub fn run<R: Threads + Wait + Sync>(rt: &R, alloc: Global, given: Given, disk: MemoryDisk) -> Ran {
+    let mut keeper = MapKeeper::new(alloc, Vec::new(alloc));
+    run_with(rt, alloc, given, disk, &mut keeper)
+}
+
+/// Does one command, with a keeper of bills. It is the one place at which the program is called.
+pub fn run_with<R: Threads + Wait + Sync>(
+    rt: &R,
+    alloc: Global,
+    given: Given,
+    disk: MemoryDisk,
+    keeper: &mut MapKeeper,
+) -> Ran {
     let Given {
         words,
         clock,
@@ -49,6 +62,7 @@ pub fn run<R: Threads + Wait + Sync>(rt: &R, alloc: Global, given: Given, disk: 
         ListClock::new(clock),
         &mut port,
         &OpenGate,
+        keeper,
     );
     Ran {
         status,

@@ -1,6 +1,7 @@
 // The program with workers side by side, over a port and a gate of the tests' own.
 ghost use Rattle.std.specs.Prelude.{Some, ⊤};
 
+use bill_book::MapKeeper;
 use desk_core::{Acked, ListClock};
 use disk_core::{Disk, FileNo, MemoryDisk};
 use http_front::{Bad, MemoryReplies, Replies, SessionEnd};
@@ -88,8 +89,18 @@ where
         disk,
         clock,
     } = given;
+    let mut keeper = MapKeeper::new(alloc, Vec::new(alloc));
     office(
-        rt, alloc, &words, &mut input, &mut out, disk, clock, port, gate,
+        rt,
+        alloc,
+        &words,
+        &mut input,
+        &mut out,
+        disk,
+        clock,
+        port,
+        gate,
+        &mut keeper,
     )
 }
 

@@ -4,7 +4,7 @@ use std::alloc::Global;
 use std::process::Abort;
 
 // Words, one space between two, and what they are read as.
-const LINES: [(&str, &str); 51] = [
+const LINES: [(&str, &str); 56] = [
     ("init", "Ok(Init)"),
     ("run", "Ok(Run)"),
     (
@@ -43,6 +43,14 @@ const LINES: [(&str, &str); 51] = [
         "gen 18446744073709551615 1000000",
         "Ok(Gen { number: 18446744073709551615, count: 1000000 })",
     ),
+    (
+        "bill 2024-01",
+        "Ok(Bill(BillAsked { month: Month { number: 648 } }))",
+    ),
+    ("bill", "Err(NotALine)"),
+    ("bill 2024-13", "Err(NotALine)"),
+    ("bill 2024-01 --text", "Err(NotALine)"),
+    ("bill 2024-01 2024-02", "Err(NotALine)"),
     ("explain --workers 0", "Err(NotALine)"),
     ("explain 4", "Err(NotALine)"),
     ("gen", "Err(NotALine)"),
