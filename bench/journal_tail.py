@@ -13,7 +13,7 @@ import tempfile
 import time
 
 TOOLS = pathlib.Path(__file__).resolve().parent.parent / "tools"
-READ = "import sys; sys.dont_write_bytecode = True; sys.path.insert(0, sys.argv[1]); import tail; print(len(tail.read_tail(sys.argv[2]).buckets))"
+READ = "import sys; sys.dont_write_bytecode = True; sys.path.insert(0, sys.argv[1]); from office_tools import tail; print(len(tail.read_tail(sys.argv[2]).buckets))"
 
 
 def text(of):

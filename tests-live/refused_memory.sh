@@ -1,6 +1,6 @@
 #!/bin/sh
 # Refuses each allocation of the program in turn, one a run: in a run of four messages, a run with lifecycle actions, a
-# server of one connection, a report and a table of stays.
+# server of one connection, a report, a table of stays and the bills of a month.
 #
 #   refused_memory.sh PROGRAM
 #

@@ -2,7 +2,8 @@
 
 A run with a refused allocation ends with status 0, or with 6 and its line. Its replies are a front of those of the whole run, with
 the refusal for want of memory behind them where it has one, and the journal holds the commands that were accepted, and no other. A
-report and a table of stays are whole, or a front of them was said."""
+report and a table of stays are whole, or a front of them was said. The bills of a month are posted whole or not at all; of these
+not each allocation is refused, and a refusal inside the database may also be its fault, status 11."""
 import os
 import pathlib
 import shutil
@@ -10,6 +11,9 @@ import socket
 import subprocess
 import sys
 import time
+
+from spelled import GIB, create, frame, journal, put
+from sqlite_bills import all_rows, rows_of
 
 PROGRAM, FOLDER = sys.argv[1], pathlib.Path(sys.argv[2])
 COUNTED, DATA = FOLDER / "counted", FOLDER / "run" / "office-data"
@@ -23,6 +27,7 @@ DUE_BODIES = (b"", RULES, b'{"size":1}', b'{"size":2}', b"", b'{"size":3}', b"",
 DUE_STARTS = (b"PUT /buckets/logs", b"PUT /buckets/logs/lifecycle", b"PUT /buckets/logs/objects/a", b"PUT /buckets/logs/objects/b",
               b"POST /buckets/logs/uploads/c", b"PUT /buckets/logs/parts/1/1", b"POST /buckets/logs/upload/1", b"POST /buckets/logs/act",
               b"PUT /buckets/logs/lifecycle", b"POST /buckets/logs/act")
+NOTES = {0: b"", 6: b"memory: refused\n"}
 counts = {True: 0, False: 0}
 
 
@@ -99,21 +104,22 @@ def anew(saved):
     shutil.copytree(saved, FOLDER / "run")
 
 
-def refuse_each(name, saved, words, sent, look, start=office):
-    """Refuses each allocation of a command in turn, and looks at what it then did."""
+def refuse_each(name, saved, words, sent, look, start=office, notes_of=NOTES, most=None):
+    """Refuses each allocation of a command in turn, or so many of them over the whole run, and looks at what it then did."""
     anew(saved)
     whole = start(words, sent)
     check(f"{name}: status with nothing refused", (0, b""), (whole[0], whole[2]))
     total, ends = int.from_bytes(COUNTED.read_bytes(), sys.byteorder), {}
     kept = commands()
-    for refused in range(1, total + 1):
+    numbers = range(1, total + 1) if most is None else sorted({1 + place * (total - 1) // most for place in range(most + 1)})
+    for refused in numbers:
         anew(saved)
         status, said, notes = start(words, sent, refused)
         ends[status] = ends.get(status, 0) + 1
         what = f"{name}: allocation {refused}"
-        check(f"{what}: its note", {0: b"", 6: b"memory: refused\n"}.get(status, "status 0 or 6"), notes)
+        check(f"{what}: its note", notes_of.get(status, f"one of the statuses {[*notes_of]}"), notes)
         look(what, status, said, whole[1], kept)
-    print(f"{name}: {total} allocations, each refused once: " + ", ".join(f"status {status} {n} times" for status, n in sorted(ends.items())))
+    print(f"{name}: {total} allocations, {len(numbers)} of them refused in turn: " + ", ".join(f"status {status} {n} times" for status, n in sorted(ends.items())))
 
 
 def look_at_run(what, status, said, whole, kept):
@@ -135,6 +141,14 @@ def look_at_text(what, status, said, whole, kept):
     check(f"{what}: what the journal holds", kept, commands())
 
 
+def look_at_bills(what, status, said, whole, kept):
+    rows = all_rows(DATA / "bills.db") if (DATA / "bills.db").exists() else []
+    check(f"{what}: the rows are whole or not there", True, rows in {0: [BILLS], 6: [[]]}.get(status, [[], BILLS]))
+    check(f"{what}: its text", whole if status == 0 else b"", said)
+    check(f"{what}: what the journal holds", kept, commands())
+    check(f"{what}: then", (0, b"already posted" if rows else b"bills"), ((it := office(["bill", "2024-01"]))[0], it[1].rpartition(b" 2 total 2")[0]))
+
+
 (FOLDER / "run").mkdir()
 office(["init"])
 shutil.copytree(FOLDER / "run", FOLDER / "made")
@@ -150,5 +164,11 @@ office(["run"], SENT + message(b"PUT /tariff", TARIFF))
 shutil.copytree(FOLDER / "run", FOLDER / "filled")
 refuse_each("report", FOLDER / "filled", ["report", "2024-01"], b"", look_at_text)
 refuse_each("explain", FOLDER / "filled", ["explain", "--workers", "1"], b"", look_at_text)
+BILLS = rows_of("2024-01", [("logs", 1, 1), ("raw", 1, 1)])
+(FOLDER / "closed" / "office-data").mkdir(parents=True)
+(FOLDER / "closed" / "office-data" / "journal").write_bytes(journal(
+    frame(1, 14, (1).to_bytes(4, "big") * 11), create(1, "logs"), create(1, "raw"), put(1, "logs", "a", GIB), put(1, "raw", "b", GIB),
+    frame(32, 15, (2024).to_bytes(2, "big") + b"\1")))
+refuse_each("bill", FOLDER / "closed", ["bill", "2024-01"], b"", look_at_bills, notes_of={**NOTES, 11: b"bills: failed\n"}, most=300)
 print(f"{counts[True]} passed, {counts[False]} failed")
 sys.exit(1 if counts[False] else 0)

@@ -1,5 +1,6 @@
 #!/usr/bin/env python3
-"""Stands in for the program where it is not built, for the cases of the tools: `init`, `run`, `report MONTH`, `serve --listen HOST:PORT`.
+"""Stands in for the program where it is not built, for the cases of the tools: `init`, `run`, `report MONTH`, `bill MONTH`,
+`serve --listen HOST:PORT`.
 
 It answers a part of the requests of docs/FORMATS.md by the plain models of plain_office.py, plain_months.py and plain_tokens.py, and
 keeps a journal in its folder.
@@ -20,6 +21,7 @@ from model_words import configuration, stack_of  # noqa: E402
 from plain_months import Months, entry_of, is_month, tariff_of  # noqa: E402
 from plain_office import CLASSES, Refused, text_of  # noqa: E402
 from plain_tokens import Kept, refuse_fields  # noqa: E402
+from stand_in_bills import bill  # noqa: E402
 from stand_in_journal import Journal, drawn, made  # noqa: E402
 from stand_in_rules import refuse, rules_of  # noqa: E402
 
@@ -227,13 +229,17 @@ class Input(Handler):
 def main(words):
     if words == ["init"]:
         return Journal.make()
-    if words[:1] not in (["run"], ["report"], ["explain"]) and words[:2] != ["serve", "--listen"]:
+    if words[:1] not in (["run"], ["report"], ["explain"], ["bill"]) and words[:2] != ["serve", "--listen"]:
         return 1
+    if words[0] == "bill" and not (len(words) == 2 and is_month(words[1])):
+        return sys.stderr.write("usage: office init; run; serve --listen A; report MONTH; bill MONTH\n") and 1
     try:
         Handler.office, Handler.journal = Office(), Journal()
         Handler.journal.replay(Handler.office)
     except Refused:
         return 5  # what the office does not accept at its place is damage
+    except BlockingIOError:
+        return sys.stderr.write("store: failed\n") and 2
     except subprocess.CalledProcessError as fault:
         sys.stderr.write(fault.stderr)
         return fault.returncode
@@ -243,6 +249,8 @@ def main(words):
         status, _, text = replied(Handler.office, Handler.journal, "GET", f"/months/{words[1]}/report", [], b"")
         sys.stdout.buffer.write(text if status == 200 else b"")
         return 0 if status == 200 else sys.stderr.write("report: no tariff\n") and 10
+    elif words[0] == "bill":
+        return bill(Handler.office, words[1], Handler.office.now())
     elif words[0] == "serve":
         host, _, port = words[2].rpartition(":")
         http.server.ThreadingHTTPServer((host, int(port)), Handler).serve_forever()

@@ -1,4 +1,5 @@
 """The journal of stand_in.py: reads one into the plain models, one that the cases spelled by hand too, and writes on in it."""
+import fcntl
 import json
 import pathlib
 import subprocess
@@ -59,7 +60,10 @@ class Journal:
             cls.path.write_bytes(b"\xa5METERJRN1\0")
 
     def __init__(self):
+        """Status 2, as BlockingIOError, if another process has the lock."""
         self.make()
+        self.lock = open(self.path, "rb")
+        fcntl.flock(self.lock, fcntl.LOCK_EX | fcntl.LOCK_NB)
         said = subprocess.run([DUMP, "--check", self.path], capture_output=True, text=True, check=True).stdout
         self.end = int(said.partition("end gate at ")[2].partition(";")[0])
 

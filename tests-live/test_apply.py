@@ -14,7 +14,7 @@ from a_store import ACCESS, Moto, needs_moto
 from free_port import free_port
 
 sys.path.insert(0, str(live.TOOLS))
-from idmap import IdMap  # noqa: E402
+from office_tools.idmap import IdMap  # noqa: E402
 
 FIELDS = ("bucket", "key", "version", "upload", "kind", "class", "marker", "since", "rule")
 LATER, BEFORE = "2099-01-01T00:00:00.000Z", "2001-01-01T00:00:00.000Z"

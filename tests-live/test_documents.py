@@ -74,7 +74,7 @@ class Commands(live.Case):
     def setUp(self):
         super().setUp()
         self.port = free_port()
-        last = datetime.datetime.now(datetime.timezone.utc).replace(day=1) - datetime.timedelta(days=1)
+        self.last = last = datetime.datetime.now(datetime.timezone.utc).date().replace(day=1) - datetime.timedelta(days=1)
         self.changed = {
             "./office": self.program, "8080": str(self.port), "2026-11-": f"{last:%Y-%m}-", "2026-11.": f"{last:%Y-%m}.",
             " 2026-11 ": f" {last:%Y-%m} ", " 2026-11\n": f" {last:%Y-%m}\n", "/backup/office": "backup/office", "/srv/reports": "reports",
@@ -138,8 +138,12 @@ class Commands(live.Case):
                                              "--unit", "EUR=1000000", "2024-01")
         self.check("the bill", (0, "", re.sub("as of [0-9TZ:-]+", "as of", shown)), (status, notes, re.sub("as of [0-9TZ:-]+", "as of", found)))
 
+    @live.needs("sqlite3")
     def test_operations(self):
-        self.office("init")
+        # The first command was at the beginning of last month, so last month can be closed.
+        first = (self.last.replace(day=1) - datetime.date(2024, 1, 1)).days + 1
+        (self.folder / "office-data").mkdir()
+        (self.folder / "office-data" / "journal").write_bytes(journal(create(first, "old"), put(first, "old", "a", GIB)))
         serving = f"{self.program} serve --listen 127.0.0.1:{self.port} --workers 4 &\ntrap 'kill %1' EXIT\n"
         rules = '{"Rules":[{"Status":"Enabled","Filter":{},"Expiration":{"Date":"2024-01-01T00:00:00.000Z"}}]}'
         begin = "".join(f"curl -X PUT -H Expect: {words} http://127.0.0.1:8080/buckets/logs{path} >made\n" for words, path in (
@@ -153,6 +157,7 @@ class Commands(live.Case):
         said = self.shell(serving + begin + "".join(commands), "the commands of OPERATIONS")
         self.check("what was removed", 1, said.count("logs\told\tnull\n"))
         self.check("the page and the report", [True, True], [any(self.folder.glob("20*.html")), any(self.folder.glob("reports/*-report.csv"))])
+        self.check("the month and its bills", True, f"{self.last:%Y-%m}  1        23000" in said)
         self.check("metrics", True, "office_up 1\n" in (self.folder / "metrics.prom").read_text("utf-8"))
 
     def test_each_block_left_out_is_there(self):

@@ -3,10 +3,8 @@
 import contextlib
 import io
 import json
-import runpy
 import subprocess
 import sys
-import types
 import urllib.parse
 
 import live
@@ -20,7 +18,7 @@ WHERE = ("moment", "ms", "offset")
 TARIFF = (b"[storage]\n" + b"".join(b"%s = 5\n" % it.encode() for it in live.CLASSES)
           + b"[transition]\n" + b"".join(b"%s = 7\n" % it.encode() for it in live.CLASSES[1:]))
 sys.path.insert(0, str(TOOLS))
-tool = types.SimpleNamespace(**runpy.run_path(str(TOOL)))
+from office_tools.commands import journal_dump as tool  # noqa: E402
 
 
 def request(method, target, body=b""):

@@ -1,5 +1,5 @@
 #!/usr/bin/env -S python3 -B
-"""Reads journals from the place that was reached before (tools/tail.py), and compares with a reading from the front."""
+"""Reads journals from the place that was reached before (tail.py of tools/office_tools), and compares with a reading from the front."""
 import json
 import os
 import struct
@@ -10,8 +10,7 @@ import live
 from spelled import DAY, NEW_YEAR, create, frame, journal, put, text
 
 sys.path.insert(0, str(live.TOOLS))
-import asking  # noqa: E402
-import tail  # noqa: E402
+from office_tools import asking, tail  # noqa: E402
 
 
 def large(count):

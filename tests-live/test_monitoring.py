@@ -7,7 +7,7 @@ import sys
 import live
 
 sys.path.insert(0, str(live.TOOLS))
-from samples import HELP  # noqa: E402
+from office_tools.samples import HELP  # noqa: E402
 
 RULES, BOARD = live.TOOLS / "monitoring" / "office-alerts.yml", live.TOOLS / "monitoring" / "office-dashboard.json"
 

@@ -113,10 +113,12 @@ class Scaling(live.Case):
         *parts, _ = self.end_january()
         bad = self.folder / "bad.csv"
         for name, text in (("a report in which a bucket is too", parts[0].read_text("ascii")), ("no report", "none\n"),
-                           ("a report that is cut", parts[0].read_text("ascii")[:-9]),
-                           ("a charge above 2^63", f"bucket,line,class,quantity,price,charge\nx,early,A,1,1,{2 ** 63}\n,total,,,,{2 ** 63}\n")):
+                           ("a report that is cut", parts[0].read_text("ascii")[:-9])):
             bad.write_text(text, "ascii")
             self.check(f"{name}, status and text", (5, ""), self.run_tool("merge-reports", *parts, bad)[:2])
+        bad.write_text(f"bucket,line,class,quantity,price,charge\nx,early,A,1,1,{2 ** 127}\n,total,,,,{2 ** 127}\n", "ascii")
+        self.check("a charge above 2^63", (0, str(self.total_of(parts[0]) + 2 ** 127)),
+                   ((it := self.run_tool("merge-reports", parts[0], bad))[0], it[1].rstrip().rpartition(",")[2]))
         self.check("a file twice, status", 1, self.run_tool("merge-reports", parts[0], parts[0])[0])
         self.check("a file that is not there, status", 3, self.run_tool("merge-reports", parts[0], self.folder / "none")[0])
         self.check("a folder that is not there, status", 4, self.run_tool("merge-reports", "--out", self.folder / "none/x", parts[0])[0])

@@ -5,7 +5,7 @@ _office() {
     COMPREPLY=()
     # readline cuts words at '=' and ':' too.
     if [ "$COMP_CWORD" = 1 ]; then
-        mapfile -t COMPREPLY < <(compgen -W 'init run serve report explain gen' -- "$word")
+        mapfile -t COMPREPLY < <(compgen -W 'init run serve report explain bill gen' -- "$word")
         return
     fi
     if [ "${COMP_WORDS[1]}" = report ]; then
@@ -64,7 +64,7 @@ _office_tool() {
     esac
     case $word,$1 in
     -*,office-act-all) choices='--server --run --bucket --buckets --journal --most --json --log --dry-run --help' ;;
-    -*,office-month-end) choices='--server --bucket --buckets --journal --most --log --folder --help' ;;
+    -*,office-month-end) choices='--server --bucket --buckets --journal --most --log --folder --bill --help' ;;
     -*,office-lifecycle) choices='--server --bucket --resource --leave-out --yes --help' ;;
     -*,office-import-inventory)
         choices='--server --out --schema --bucket --keys --current --suspended --names --state --map --nearest --tags --uploads --parts --help'
@@ -75,7 +75,7 @@ _office_tool() {
     -*,office-compare) choices='--server --journal --map --current --nearest --schema --keys --names --json --help' ;;
     -*,office-apply) choices='--map --endpoint-url --client --bucket --yes --limit --report --help' ;;
     -*,office-bill) choices='--server --report --bucket --buckets --journal --unit --out --help' ;;
-    -*,office-usage-page) choices='--server --report --meters --tariff --bucket --buckets --journal --unit --out --help' ;;
+    -*,office-usage-page) choices='--server --report --meters --tariff --bills --bucket --buckets --journal --unit --out --help' ;;
     -*,office-usage) choices='--server --bucket --buckets --journal --out --help' ;;
     -*,office-metrics) choices='--server --bucket --buckets --journal --log --backups --out --listen --help' ;;
     -*,office-backup) choices='--keep --other-disk --replaced --help' ;;

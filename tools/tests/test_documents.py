@@ -6,8 +6,8 @@ import tempfile
 import unittest
 
 sys.path.insert(0, str(pathlib.Path(__file__).resolve().parent.parent))
-from asking import Stop  # noqa: E402
-from documents import as_printed, document_of, missing  # noqa: E402
+from office_tools.asking import Stop  # noqa: E402
+from office_tools.documents import as_printed, document_of, missing  # noqa: E402
 
 RULE = {"ID": "r", "Status": "Enabled", "Filter": {"Prefix": ""}, "Expiration": {"Days": 9}}
 RULES = {"Rules": [RULE]}

@@ -4,7 +4,7 @@ import sys
 import unittest
 
 sys.path.insert(0, str(pathlib.Path(__file__).resolve().parent.parent))
-from entries import Damaged, read_entry  # noqa: E402
+from office_tools.entries import Damaged, read_entry  # noqa: E402
 
 # 2024-01-01 00:00 UTC, as in the three entries that docs/FORMATS.md prints.
 MOMENT = bytes.fromhex("0000018cc251f400")

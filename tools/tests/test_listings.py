@@ -9,9 +9,9 @@ import unittest
 import unittest.mock
 
 sys.path.insert(0, str(pathlib.Path(__file__).resolve().parent.parent))
-import listings  # noqa: E402
-from asking import Stop  # noqa: E402
-from listings import CURRENT, MARKER, NONCURRENT, in_order, rows_of  # noqa: E402
+from office_tools import listings  # noqa: E402
+from office_tools.asking import Stop  # noqa: E402
+from office_tools.listings import CURRENT, MARKER, NONCURRENT, in_order, rows_of  # noqa: E402
 
 # The field fileSchema of a manifest.json, as the S3 User Guide prints it ("Amazon S3 Inventory manifest").
 SCHEMA = "Bucket, Key, VersionId, IsLatest, IsDeleteMarker, Size, LastModifiedDate, ETag, StorageClass"

@@ -5,7 +5,7 @@ import sys
 import unittest
 
 sys.path.insert(0, str(pathlib.Path(__file__).resolve().parent.parent))
-from months import gib_months, month_of  # noqa: E402
+from office_tools.months import gib_months, month_of  # noqa: E402
 
 GIB, DAY = 2 ** 30, 86_400_000
 

@@ -4,7 +4,7 @@ import sys
 import unittest
 
 sys.path.insert(0, str(pathlib.Path(__file__).resolve().parent.parent))
-from reports import NoReport, read_report, text_of  # noqa: E402
+from office_tools.reports import NoReport, read_report, text_of  # noqa: E402
 
 HEAD = "bucket,line,class,quantity,price,charge\n"
 LOGS = "logs,storage,STANDARD,2875879120896000000,23000,23000\n"

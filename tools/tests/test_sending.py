@@ -11,14 +11,14 @@ import unittest
 import unittest.mock
 
 sys.path.insert(0, str(pathlib.Path(__file__).resolve().parent.parent))
-import sending  # noqa: E402
-from asking import Stop  # noqa: E402
-from events import event_of  # noqa: E402
-from extras import Upload, send_uploads  # noqa: E402
-from following import Follow  # noqa: E402
-from idmap import IdMap  # noqa: E402
-from listings import CURRENT, MARKER, NONCURRENT, Row  # noqa: E402
-from tokens import KEPT, token_of  # noqa: E402
+from office_tools import sending  # noqa: E402
+from office_tools.asking import Stop  # noqa: E402
+from office_tools.events import event_of  # noqa: E402
+from office_tools.extras import Upload, send_uploads  # noqa: E402
+from office_tools.following import Follow  # noqa: E402
+from office_tools.idmap import IdMap  # noqa: E402
+from office_tools.listings import CURRENT, MARKER, NONCURRENT, Row  # noqa: E402
+from office_tools.tokens import KEPT, token_of  # noqa: E402
 
 
 def row(key, size=1, kind=CURRENT, version=None, **more):

@@ -6,10 +6,10 @@ import types
 import unittest
 
 sys.path.insert(0, str(pathlib.Path(__file__).resolve().parent.parent))
-from asking import Stop  # noqa: E402
-from months import bounds_of, gib_months, moment, ms_of  # noqa: E402
-from reports import Report  # noqa: E402
-from statement import Overdue, Statement, Unit, is_closed, unit_of  # noqa: E402
+from office_tools.asking import Stop  # noqa: E402
+from office_tools.months import bounds_of, gib_months, moment, ms_of  # noqa: E402
+from office_tools.reports import Report  # noqa: E402
+from office_tools.statement import Overdue, Statement, Unit, is_closed, unit_of  # noqa: E402
 
 NEW_YEAR, DAY = 1_704_067_200_000, 86_400_000
 

@@ -6,8 +6,8 @@ import tempfile
 import unittest
 
 sys.path.insert(0, str(pathlib.Path(__file__).resolve().parent.parent))
-from asking import Stop  # noqa: E402
-from tail import Tail, in_force, sample_of  # noqa: E402
+from office_tools.asking import Stop  # noqa: E402
+from office_tools.tail import Tail, in_force, sample_of  # noqa: E402
 
 LOGS, RAW = bytes.fromhex("00046c6f6773"), bytes.fromhex("0003726177")
 PLAIN = bytes(44)

@@ -2,20 +2,19 @@
 import io
 import os
 import pathlib
-import runpy
 import sys
 import tempfile
 import types
 import unittest
 import unittest.mock
 
-TOOLS = pathlib.Path(__file__).resolve().parent.parent
-sys.path.insert(0, str(TOOLS))
-from asking import Stop  # noqa: E402
-from page import page_of  # noqa: E402
-from reports import NoReport, read_report  # noqa: E402
-from statement import Statement, Unit, its_tariff  # noqa: E402
-from tariffs import NoTariffs, in_force, is_of, taken, tariffs_in, tiers_in  # noqa: E402
+sys.path.insert(0, str(pathlib.Path(__file__).resolve().parent.parent))
+from office_tools.asking import Stop  # noqa: E402
+from office_tools.commands import bill, merge_reports, month_end, usage_page  # noqa: E402
+from office_tools.page import page_of  # noqa: E402
+from office_tools.reports import NoReport, read_report  # noqa: E402
+from office_tools.statement import Statement, Unit, its_tariff  # noqa: E402
+from office_tools.tariffs import NoTariffs, in_force, is_of, taken, tariffs_in, tiers_in  # noqa: E402
 
 CLASSES = ("STANDARD", "STANDARD_IA", "ONEZONE_IA", "GLACIER_IR", "GLACIER", "DEEP_ARCHIVE")
 # The byte-milliseconds of one GiB-month of January 2024: 2^30 bytes for 31 days of 86,400,000 ms.
@@ -96,23 +95,19 @@ class Reports(unittest.TestCase):
         return Statement("2024-01", read_report(REPORT), True, None, [], "a file", tariff)
 
     def test_bill(self):
-        with unittest.mock.patch.object(sys, "argv", ["bill"]):
-            bill = types.SimpleNamespace(**runpy.run_path(str(TOOLS / "bill")))
         lines = bill.bill_of(self.statement(), Unit("EUR", 1_000_000)).splitlines()
         self.assertEqual([["logs", "storage", "STANDARD", "3.000000", "GiB-months", "in", "tiers", "0.063000"],
                           ["logs", "early", "STANDARD", "0.500000", "GiB-months", "in", "tiers", "0.011500"],
                           ["raw", "transitions", "GLACIER", "1,500", "moves", "0.030000", "per", "1,000", "0.045000"]], [it.split() for it in lines[5:8]])
 
     def test_page(self):
-        with unittest.mock.patch.object(sys, "argv", ["usage-page"]):
-            tool = types.SimpleNamespace(**runpy.run_path(str(TOOLS / "usage-page")))
         (tariff,) = tariffs_in({"tariffs": [shown()]})
-        text = page_of(self.statement(tariff), tool.meters_of(read_report(REPORT)), Unit("units", 1))
+        text = page_of(self.statement(tariff), usage_page.meters_of(read_report(REPORT)), Unit("units", 1))
         for found in ('<table id="tiers-1">', '<table id="tiers-2">', "Tiers of STANDARD (from 2024-01)", '<th scope="row">0 to 1</th>', '<th scope="row">above 1</th>',
                       '<data value="40000">40,000</data>', '<data value="2.000000000">2.000000000</data>', "logs, storage, STANDARD: ", "52.7% of the whole charge",
                       "<meter min=\"0\" max=\"1000\" value=\"634\">63.4%</meter>", '<td class="n">in tiers</td>'):
             self.assertIn(found, text)
-        text = page_of(self.statement(), tool.meters_of(read_report(REPORT)), Unit("units", 1))
+        text = page_of(self.statement(), usage_page.meters_of(read_report(REPORT)), Unit("units", 1))
         self.assertIn("What each tier took is not shown", text)
         self.assertNotIn("tiers-1", text)
 
@@ -121,11 +116,9 @@ class Closed(unittest.TestCase):
     """With which tariff month-end says that a month was closed."""
 
     def told(self, before, *after, said="2024-03 is closed"):
-        with unittest.mock.patch.object(sys, "argv", ["month-end"]):
-            tool = types.SimpleNamespace(**runpy.run_path(str(TOOLS / "month-end")))
         replies = [(200, {"tariffs": [shown(it) for it in after]}) if after else (409, {"error": "NoTariff"})]
         office = types.SimpleNamespace(ask=lambda *_: replies.pop(0))
-        return tool.with_tariff(office, types.SimpleNamespace(journal=None, month="2024-03"), said, before)
+        return month_end.with_tariff(office, types.SimpleNamespace(journal=None, month="2024-03"), said, before)
 
     def test_what_the_program_says_before_and_after(self):
         self.assertEqual("2024-03 is closed, with the tariff from 2024-01", self.told("2024-01", "1970-01", "2024-01", "2024-04"))
@@ -141,8 +134,7 @@ class Merged(unittest.TestCase):
             for path, text in zip(paths, texts):
                 pathlib.Path(path).write_text(text, "utf-8")
             with unittest.mock.patch.object(sys, "argv", ["merge-reports", *paths]), unittest.mock.patch("sys.stdout", io.StringIO()) as said:
-                tool = runpy.run_path(str(TOOLS / "merge-reports"))
-                tool["main"]()
+                merge_reports.main()
             return said.getvalue()
 
     def test_other_buckets_add_up_whatever_their_tariffs_are(self):
@@ -152,6 +144,16 @@ class Merged(unittest.TestCase):
         wanted = [HEAD.strip(), *sorted(it for it in rows if it.startswith(("logs,", "media,", "raw,", "zoo,")) and ",early," not in it), ",total,,,,209501"]
         wanted.insert(2, rows[2])
         self.assertEqual(wanted, self.merge(tiered, other, REPORT).splitlines())
+
+    def test_charges_above_the_integers_of_a_database(self):
+        largest = 2 ** 128 - 1
+        one, other = (HEAD + f"{name},early,A,1,1,{largest}\n,total,,,,{largest}\n" for name in ("b", "a"))
+        self.assertEqual([HEAD.strip(), f"a,early,A,1,1,{largest}", f"b,early,A,1,1,{largest}", f",total,,,,{2 * largest}"], self.merge(one, other).splitlines())
+
+    def test_buckets_in_byte_order(self):
+        names = ("z", "\u00e9", "a", "Z", "\U0001f600", "\uffff")
+        found = self.merge(*(HEAD + f"{name},early,A,1,1,1\n,total,,,,1\n" for name in names)).splitlines()
+        self.assertEqual(sorted(names, key=str.encode), [it.partition(",")[0] for it in found[1:-1]])
 
     def test_a_bucket_in_two_offices(self):
         again = HEAD + f"logs,storage,STANDARD,{HALF},tiered,11500\nlogs,storage,GLACIER,{HALF},5,2\n,total,,,,11502\n"

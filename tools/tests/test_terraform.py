@@ -5,7 +5,7 @@ import sys
 import unittest
 
 sys.path.insert(0, str(pathlib.Path(__file__).resolve().parent.parent))
-from terraform import TYPE, configuration_of, resources_of, rule_of  # noqa: E402
+from office_tools.terraform import TYPE, configuration_of, resources_of, rule_of  # noqa: E402
 
 RULE = {"id": "r", "status": "Enabled"}
 

@@ -1,0 +1,90 @@
+"""Asks a running server of the program, or the program itself, to do what is due by the lifecycle rules of its buckets, until nothing is due."""
+import json
+
+from office_tools.actions import add_log, open_log
+from office_tools.asking import Office, Stop, add_server, run, say, words_of
+from office_tools.buckets import add_names, names_of
+from office_tools.running import Running
+from office_tools.sweeping import KINDS, Sweep, act_on_all, add_most, target_of
+
+EPILOG = """\
+The program has no list of its buckets, so they are named by --bucket, by a file with a name a line (--buckets), or by the
+journal on which the server works (--journal); all three may be given together.
+
+Each request does one action, the first that is due, and is durable once it is answered. An action stands at the moment at
+which it was due, so the same words may be given at any time, and after a stop in the middle; nothing is done twice. A put, a
+delete, new tags and new rules come before what was due and not done yet, so call it each day. Of a bucket at most --most
+actions are done, and the last line names it if more are due. A refused bucket, such as one that is not made, is reported, and
+the others go on.
+
+--json prints a line for each action once it is done, and --log appends the same line to a file:
+
+  {"bucket":"logs","key":"tmp/1","version":"3","upload":null,"kind":"remove","class":null,"marker":null,
+   "since":"2026-11-05T00:00:00.000Z","rule":"gone"}
+
+`kind` is remove, transition, marker or abort. `class` is where a transition goes, `marker` the version of a new delete marker,
+`upload` the number of an upload that was aborted, `since` the moment at which the action stands. FILE and FILE.state are
+synced before and after each action. If a run is stopped, the next one with the same words looks into the journal, and adds
+the line whose reply was lost; no line is missing or there twice. If another command changed the bucket in between, that line
+has the kind unknown, and a note names the entry of the journal. Move FILE away only when no run is at work.
+
+--dry-run does nothing, and prints a line of JSON for each bucket: its name, and the action that would be done first, as the
+program reports it. What is due after that one is known once it is done.
+
+Behind a proxy the server is https://LOGIN@office.example:8443; the password is asked at a terminal, or taken from the
+environment (OFFICE_PASSWORD).
+
+  act-all --server http://127.0.0.1:8080 --journal office-data/journal
+  act-all --server http://127.0.0.1:8080 --journal office-data/journal --log actions.jsonl
+  act-all --server http://127.0.0.1:8080 --bucket logs --dry-run
+  act-all --run ./office --bucket logs
+
+exit codes:
+  0  nothing is due in any bucket; of --dry-run, each bucket was asked
+  1  usage error; 3  the names of the buckets could not be read
+  4  standard output or the file of --log could not be written
+  2  the server or the program gave no reply, or none of the program, or its disk failed; the same words go on
+  5  a bucket was refused, and the others are done
+  6  a bucket has more due than --most
+"""
+
+
+def show(office, sweep, name):
+    """Prints the next action of one bucket."""
+    status, found = office.ask("GET", target_of(name, "due"))
+    if status != 200:
+        return sweep.refuse(name, status, found)
+    if found.get("action") not in (*KINDS, "none"):
+        raise Stop(2, f"a reply is none of the program: {json.dumps(found)[:80]}")
+    return say(json.dumps({"bucket": name, **found}, ensure_ascii=False) + "\n")
+
+
+def main():
+    words = words_of("act-all", __doc__, EPILOG)
+    asked = words.add_mutually_exclusive_group(required=True)
+    add_server(asked, required=False)
+    asked.add_argument("--run", metavar="PROGRAM", help="the program, over office-data in this folder, if no server runs")
+    add_names(words)
+    add_most(words)
+    words.add_argument("--json", action="store_true", help="print a line of JSON for each action that is done")
+    add_log(words)
+    words.add_argument("--dry-run", action="store_true", help="show the next action of each bucket, and do nothing")
+    given = words.parse_args()
+    names = names_of(given)
+    if not names:
+        raise Stop(1, "no bucket is named; --help says how")
+    if given.dry_run and (given.log or given.json):
+        raise Stop(1, "--dry-run does nothing that --log or --json could tell")
+    log = open_log(given, target_of)
+    office, sweep = Office(given.server) if given.server else Running(given.run), Sweep("act-all", names, log, given.json)
+    if given.dry_run:
+        for name in names:
+            show(office, sweep, name)
+        return 5 if sweep.refused else 0
+    act_on_all(office, sweep, given.most)
+    return 5 if sweep.refused else 6 if sweep.left else 0
+
+
+def command() -> None:
+    """Runs the tool with the words of the process, and ends with its exit code."""
+    run("act-all", main)

@@ -1,0 +1,149 @@
+"""Copies a journal while the program may work on it, checks the copy, and keeps it under the moment of copying."""
+import argparse
+import datetime
+import os
+import re
+import shutil
+import signal
+import sys
+
+from office_tools.asking import Stop, run, say, words_of
+from office_tools.digests import about, copies, extended, first_wrong, read_blocks, write_blocks
+from office_tools.files import sync_folder
+from office_tools.journals import open_file
+
+EPILOG = """\
+Copies JOURNAL (office-data/journal) to FOLDER/journal-YYYYMMDDTHHMMSSZ. The folder and those above it are made if they are
+missing. If FOLDER lies on a disk of its own, give --other-disk: nothing is made or copied while that disk is not mounted, that
+is, while FOLDER would lie on the file system of JOURNAL.
+
+The copy gets its name after it is written, synced and checked. A journal only grows, and its front never changes. So backup
+keeps FOLDER/journal.digest, a chain of SHA-256 over blocks of entries: at each copy it compares all earlier blocks, checks each
+new entry, and adds their blocks. If an earlier block changed, no copy is kept and none is removed (status 6). Either bits on
+the disk changed: `journal-digest mend` puts the journal together again from it and a copy. Or the journal is another one, as
+after a restore of an older copy or a new office: --replaced then begins a new chain, and keeps the old one beside it.
+
+With --keep N only the N newest copies stay; none is removed otherwise.
+
+To restore: stop the program, put a copy in the place of office-data/journal, remove check.0 and check.1 beside it (they
+are made anew), start the program.
+
+  backup --keep 14 office-data/journal /backup/office
+
+exit codes:
+  0  the copy is there, and its name is printed
+  1  usage error
+  3  the journal cannot be read
+  4  the copy cannot be written; nothing is left of it
+  5  the journal is not made, foreign or damaged; no copy is kept, and none is removed
+  6  the front of the journal is not what it was; no copy is kept, and none is removed
+  7  FOLDER/journal.digest is damaged: move it away, and the next copy begins a new one
+"""
+
+
+def positive(text):
+    if not re.fullmatch("[1-9][0-9]*", text, re.ASCII):
+        raise argparse.ArgumentTypeError(f"'{text}' is no number from 1 on")
+    return int(text)
+
+
+def folder_of(given):
+    """Makes the folder of the copies."""
+    there = os.path.abspath(given.folder)
+    while not os.path.exists(there):
+        there = os.path.dirname(there)
+    try:
+        if given.other_disk and os.stat(there).st_dev == os.stat(given.journal).st_dev:
+            raise Stop(4, f"{given.folder}: on the file system of the journal; is its disk mounted?")
+        os.makedirs(given.folder, exist_ok=True)
+        if not os.access(given.folder, os.W_OK):
+            raise Stop(4, f"{given.folder}: cannot be written to")
+    except OSError as fault:
+        raise Stop(4, f"{given.folder}: {fault.strerror}") from None
+
+
+def copy(journal, part):
+    """Copies from the front to the end, and syncs."""
+    with open_file(journal) as file:
+        try:
+            with open(part, "xb") as there:
+                shutil.copyfileobj(file, there, 1 << 20)
+                there.flush()
+                os.fsync(there.fileno())
+        except OSError as fault:
+            raise Stop(4, f"{part}: {fault.strerror}") from None
+
+
+def same_front(path, part, journal):
+    """Compares with the newest copy, if there are no sums yet."""
+    with open_file(path) as file, open_file(part) as new:
+        try:
+            blocks = extended(file, [])
+        except Stop:
+            raise Stop(6, f"{path}: this copy is not whole; move it away, or give --replaced") from None
+        if (place := first_wrong(new, blocks)) < len(blocks):
+            raise Stop(6, f"{path} is not the front of {journal}: {about(blocks, place)} is another one; no copy is kept. "
+                       "--replaced, if the journal was replaced")
+
+
+def blocks_of(given, part, digest, before):
+    """The sums of the copy, after a comparison with those of earlier copies."""
+    blocks = read_blocks(digest) if os.path.exists(digest) and not given.replaced else []
+    with open_file(part) as file:
+        place = first_wrong(file, blocks)
+        if place < len(blocks):
+            whole = [it for it in reversed(before) if has_whole(it, blocks[:place + 1])]
+            told = f"{whole[0]} has it whole" if whole else "no copy here has it whole"
+            how = "is not what it was" if os.fstat(file.fileno()).st_size > blocks[place].to else "is missing, the journal is shorter than it was"
+            raise Stop(6, f"{given.journal}: {about(blocks, place)} {how}; {told}; no copy is kept. journal-digest mend "
+                       "restores it; --replaced, if the journal was replaced")
+        if not blocks and before and not given.replaced:
+            same_front(before[-1], part, given.journal)
+        return extended(file, blocks)
+
+
+def has_whole(path, blocks):
+    with open_file(path) as file:
+        return first_wrong(file, blocks) == len(blocks)
+
+
+def main():
+    words = words_of("backup", __doc__, EPILOG)
+    words.add_argument("--keep", metavar="N", type=positive, help="remove all but the N newest copies")
+    words.add_argument("--other-disk", action="store_true", help="refuse a folder on the file system of the journal")
+    words.add_argument("--replaced", action="store_true", help="the journal is another one than before: begin new sums")
+    words.add_argument("journal", metavar="JOURNAL", help="office-data/journal")
+    words.add_argument("folder", metavar="FOLDER", help="where the copies are")
+    given = words.parse_args()
+    if not given.journal or not given.folder:
+        words.error("JOURNAL or FOLDER is empty")
+    if not os.path.isfile(given.journal):
+        raise Stop(3, f"{given.journal}: no regular file")
+    open_file(given.journal).close()
+    folder_of(given)
+    for it in (signal.SIGTERM, signal.SIGHUP):
+        signal.signal(it, lambda *_: sys.exit(4))
+    now = f"{datetime.datetime.now(datetime.timezone.utc):%Y%m%dT%H%M%SZ}"
+    new, digest = (os.path.join(given.folder, it) for it in (f"journal-{now}", "journal.digest"))
+    part, before = os.path.join(given.folder, f"journal.part.{os.getpid()}"), copies(given.folder)
+    try:
+        copy(given.journal, part)
+        blocks = blocks_of(given, part, digest, before)
+        if given.replaced and os.path.exists(digest):
+            os.rename(digest, f"{digest}-until-{now}")
+        write_blocks(digest, blocks)
+        os.rename(part, new)
+        sync_folder(new)
+    except OSError as fault:
+        raise Stop(4, f"{new}: {fault.strerror}") from None
+    finally:
+        if os.path.exists(part):
+            os.remove(part)
+    for it in copies(given.folder)[:-given.keep] if given.keep else []:
+        os.remove(it)
+    say(f"{new}\n")
+
+
+def command() -> None:
+    """Runs the tool with the words of the process, and ends with its exit code."""
+    run("backup", main, (4, "stopped; nothing is left of the copy"))

@@ -1,0 +1,148 @@
+"""Shows and changes the lifecycle configuration of a bucket of a running server of the program."""
+import difflib
+import json
+import sys
+import urllib.parse
+
+from office_tools.asking import Office, Stop, add_server, run, say, words_of
+from office_tools.documents import MODE, as_printed, document_of, missing, without_missing
+from office_tools.refusals import in_words
+
+EPILOG = """\
+  get             prints the configuration
+  set FILE        puts that of the file in its place
+  add FILE        adds the rules of the file after those that are there
+  edit ID FILE    puts the one rule of the file in place of the rule with this id
+  remove ID       drops this rule; with the last one the configuration goes
+
+FILE is what `aws s3api get-bucket-lifecycle-configuration` or boto3 printed, a rule or a list of rules, or what
+`terraform show -json` printed of a state or a plan; - is standard input. ResponseMetadata and other fields around the
+rules are dropped, dates of another zone are written in UTC, and the names of Terraform become those of the API. Where
+Terraform has several configurations, that of the bucket of this name is taken, or the one of --resource.
+
+What the program does not have is named with its line, as another class or a date past 2099, and nothing is sent. With
+--leave-out the rest is sent: without these transitions and expirations, and without rules that then have no action. Before
+it sends, the tool shows on standard error what changes, and asks; --yes sends without asking. Where nothing changes nothing
+is sent: with each configuration that is set the actions of the bucket are due since then at the earliest.
+
+  lifecycle --server http://127.0.0.1:8080 --bucket logs get
+  aws s3api get-bucket-lifecycle-configuration --bucket logs | lifecycle --server http://127.0.0.1:8080 --bucket logs --yes set -
+
+exit codes:
+  0  done, or nothing changes; 1  usage error; 3  a file cannot be read, or is no configuration
+  2  the server gave no reply, or none of the program; 4  standard output could not be written
+  5  the program refused it, or there is no rule with this id
+  6  the file has what the program does not have: nothing was sent
+  7  nobody said yes, 8  the configuration was changed meanwhile: nothing was sent
+"""
+COUNTS = {"get": (), "set": ("FILE",), "add": ("FILE",), "edit": ("ID", "FILE"), "remove": ("ID",)}
+
+
+def present(office, target):
+    """The configuration that is there; none where the bucket has none."""
+    status, found = office.ask("GET", target)
+    if status == 404 and found.get("error") == "NoRules":
+        return None
+    if status != 200:
+        raise Stop(5, in_words(status, found, None))
+    if not isinstance(found.get("Rules"), list) or not all(isinstance(it, dict) for it in found["Rules"]):
+        raise Stop(2, "a reply is none of the program")
+    return found
+
+
+def place_of(rules, name):
+    """Where the rule with this id stands."""
+    for place, rule in enumerate(rules):
+        if rule.get("ID") == name:
+            return place
+    known = ", ".join(repr(it.get("ID")) for it in rules) or "none"
+    raise Stop(5, f"there is no rule {name!r}; there are: {known}")
+
+
+def changed(given, before):
+    """The configuration as it is to be; none where it goes."""
+    if given.word in ("set", "add", "edit"):
+        document = document_of(given.values[-1], given.bucket, given.resource)
+    if given.word == "set":
+        return document
+    rules = list(before["Rules"]) if before else []
+    mode = {MODE: before[MODE]} if before and MODE in before else {}
+    if given.word == "add":
+        return {**document, **mode, "Rules": rules + document["Rules"]}
+    place = place_of(rules, given.values[0])
+    if given.word == "remove":
+        del rules[place]
+        return {**mode, "Rules": rules} if rules else None
+    if len(document["Rules"]) != 1:
+        raise Stop(3, f"{given.values[1]}: {len(document['Rules'])} rules in place of one")
+    rule = document["Rules"][0]
+    rules[place] = {**rule, "ID": rule.get("ID") or given.values[0]}
+    return {**mode, "Rules": rules}
+
+
+def confirm(given):
+    """Asks at a terminal whether to send."""
+    if given.yes:
+        return
+    if given.values[-1] == "-" or not sys.stdin.isatty():
+        raise Stop(7, "nothing was sent: give --yes where nobody can be asked")
+    print(f"send this to bucket {given.bucket}? [y/N] ", end="", file=sys.stderr, flush=True)
+    if sys.stdin.readline().strip().lower() not in ("y", "yes"):
+        raise Stop(7, "nothing was sent")
+
+
+def change(given, office, target):
+    """Shows what changes, asks, and sends."""
+    before = present(office, target)
+    after = changed(given, before)
+    wrong = list(missing(after or {}))
+    for it in wrong:
+        print(f"lifecycle: {it}", file=sys.stderr)
+    if wrong and not given.leave_out:
+        raise Stop(6, f"the program does not have {len(wrong)} of what the file says; nothing was sent (--leave-out sends the rest)")
+    if wrong:
+        rules, after = len(after["Rules"]), without_missing(after)
+        print(f"lifecycle: left out: these {len(wrong)}, and {rules - len(after['Rules'])} rules without another action", file=sys.stderr)
+        if list(missing(after)) or not after["Rules"]:
+            raise Stop(6, "nothing that could be sent is left; nothing was sent")
+    texts = [as_printed(it) if it is not None else [] for it in (before, after)]
+    lines = list(difflib.unified_diff(*texts, f"{given.bucket} as it is", f"{given.bucket} as it will be", lineterm="", n=3))
+    if not lines and (before is None) == (after is None):
+        print("lifecycle: nothing changes, and nothing was sent", file=sys.stderr)
+        return
+    print(*lines, sep="\n", file=sys.stderr, flush=True)
+    # A worker of the server is held by an open connection, and ends it after a minute.
+    office.link.close()
+    confirm(given)
+    if present(office, target) != before:
+        raise Stop(8, "the configuration was changed meanwhile; nothing was sent")
+    status, found = office.ask("DELETE", target) if after is None else office.ask("PUT", target, after)
+    if status != 200:
+        raise Stop(2 if status in (500, 503) else 5, in_words(status, found, after))
+    print(f"lifecycle: bucket {given.bucket}: rules {found.get('rules')}", file=sys.stderr)
+
+
+def main():
+    words = words_of("lifecycle", __doc__, EPILOG)
+    add_server(words)
+    words.add_argument("--bucket", metavar="NAME", required=True, help="the bucket")
+    words.add_argument("--resource", metavar="ADDRESS", help="of Terraform: the address of the configuration to take")
+    words.add_argument("--leave-out", action="store_true", help="send the rest where the program does not have all")
+    words.add_argument("--yes", action="store_true", help="send without asking")
+    words.add_argument("word", metavar="WORD", choices=COUNTS, help=", ".join(COUNTS))
+    words.add_argument("values", metavar="ID FILE", nargs="*", help="what the word takes")
+    given = words.parse_intermixed_args()
+    if len(given.values) != len(COUNTS[given.word]):
+        words.error(f"{given.word} takes {' '.join(COUNTS[given.word]) or 'nothing'}")
+    office, target = Office(given.server), f"/buckets/{urllib.parse.quote(given.bucket, safe='')}/lifecycle"
+    if given.word != "get":
+        return change(given, office, target)
+    found = present(office, target)
+    if found is None:
+        raise Stop(5, f"bucket {given.bucket} has no configuration (404 NoRules)")
+    return say(json.dumps(found, indent=4, ensure_ascii=False) + "\n")
+
+
+def command() -> None:
+    """Runs the tool with the words of the process, and ends with its exit code."""
+    run("lifecycle", main, (7, "stopped"))
