@@ -23,9 +23,9 @@ pub(crate) fn fault_at(total: usize, bytes: &[u8]) -> EntryFault
     }
 }
 
-// The name that the bytes are; None where they are no name.
+/// The name that the bytes are; None where they are no name.
 #[tactic(auto, using(office_base::proofs::Utf8::name_is_text))]
-fn name_in(alloc: Global, bytes: &[u8]) -> Result<Option<BucketName>, NoMemory>
+pub fn name_in(alloc: Global, bytes: &[u8]) -> Result<Option<BucketName>, NoMemory>
     ensures { Finds (λ name. name) result (if is_bucket_name bytes.now then Some bytes.now else None) }
 {
     let Ok(text) = str::from_utf8(bytes) else {
@@ -83,7 +83,8 @@ pub(crate) fn size_of(total: usize, bytes: &[u8]) -> Result<(Size, &[u8]), Entry
     }
 }
 
-fn class_of_rank(rank: u8) -> Option<Class>
+/// Gives the storage class of a rank; None above the last one.
+pub fn class_of_rank(rank: u8) -> Option<Class>
     ensures { result ≡ ranks.value rank }
 {
     match rank {
@@ -149,7 +150,8 @@ pub(crate) fn status_of(total: usize, bytes: &[u8]) -> Result<(bool, &[u8]), Ent
     }
 }
 
-fn id_of_number(number: u64) -> VersionId
+/// Gives the version id of a number: null for 0.
+pub fn id_of_number(number: u64) -> VersionId
     ensures { ids.value number ≡ Some result }
 {
     match Nth::of(number) {

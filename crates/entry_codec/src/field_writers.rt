@@ -22,7 +22,8 @@ fn put_text(out: &mut Vec<u8>, bytes: &[u8]) -> Result<(), AllocError>
     out.extend_from_slice(bytes)
 }
 
-pub(crate) fn put_long_text(out: &mut Vec<u8>, bytes: &[u8]) -> Result<(), AllocError>
+/// Writes a text behind its length in four bytes.
+pub fn put_long_text(out: &mut Vec<u8>, bytes: &[u8]) -> Result<(), AllocError>
     requires { length bytes.now < 2 ^ 32 }
     ensures { OnOk result (out.new.items ≡ out.old.items ++ (counted_text (number w32)).written bytes.now) }
 {
@@ -63,8 +64,9 @@ fn put_tag(out: &mut Vec<u8>, pair: &(String, String)) -> Result<(), AllocError>
     put_text(out, pair.1.as_bytes())
 }
 
+/// Writes tags: their number in a byte, and the pairs.
 #[tactic(auto, using(crate::proofs::Fitting::tags_have))]
-pub(crate) fn put_tags(out: &mut Vec<u8>, tags: &Tags) -> Result<(), AllocError>
+pub fn put_tags(out: &mut Vec<u8>, tags: &Tags) -> Result<(), AllocError>
     ensures bytes { OnOk result (out.new.items ≡ out.old.items ++ (format field.Tags).written tags.now) }
     ensures has { OnOk result ((format field.Tags).has tags.now ≡ true) }
 {
@@ -76,32 +78,36 @@ pub(crate) fn put_tags(out: &mut Vec<u8>, tags: &Tags) -> Result<(), AllocError>
     Ok(())
 }
 
+/// Writes a bucket's name behind its length in two bytes.
 #[tactic(auto, using(crate::proofs::Fitting::name_has), unfolding(crate::specs::Fields::format))]
-pub(crate) fn put_name(out: &mut Vec<u8>, name: &BucketName) -> Result<(), AllocError>
+pub fn put_name(out: &mut Vec<u8>, name: &BucketName) -> Result<(), AllocError>
     ensures bytes { OnOk result (out.new.items ≡ out.old.items ++ (format field.Name).written name.now) }
     ensures has { OnOk result ((format field.Name).has name.now ≡ true) }
 {
     put_text(out, name.text().as_bytes())
 }
 
+/// Writes a key behind its length in two bytes.
 #[tactic(auto, using(crate::proofs::Fitting::key_has), unfolding(crate::specs::Fields::format))]
-pub(crate) fn put_key(out: &mut Vec<u8>, key: &Key) -> Result<(), AllocError>
+pub fn put_key(out: &mut Vec<u8>, key: &Key) -> Result<(), AllocError>
     ensures bytes { OnOk result (out.new.items ≡ out.old.items ++ (format field.Key).written key.now) }
     ensures has { OnOk result ((format field.Key).has key.now ≡ true) }
 {
     put_text(out, key.bytes())
 }
 
+/// Writes a size in bytes, in eight bytes.
 #[tactic(auto, using(crate::proofs::Fitting::size_has), unfolding(crate::specs::Fields::format))]
-pub(crate) fn put_size(out: &mut Vec<u8>, size: Size) -> Result<(), AllocError>
+pub fn put_size(out: &mut Vec<u8>, size: Size) -> Result<(), AllocError>
     ensures bytes { OnOk result (out.new.items ≡ out.old.items ++ (format field.Size).written size) }
     ensures has { OnOk result ((format field.Size).has size ≡ true) }
 {
     out.extend_from_slice(&size.bytes().to_be_bytes())
 }
 
+/// Writes a storage class as its rank, in one byte.
 #[tactic(auto, using(crate::proofs::Fitting::rank_has), unfolding(crate::specs::Fields::format))]
-pub(crate) fn put_class(out: &mut Vec<u8>, class: Class) -> Result<(), AllocError>
+pub fn put_class(out: &mut Vec<u8>, class: Class) -> Result<(), AllocError>
     ensures bytes { OnOk result (out.new.items ≡ out.old.items ++ (format field.Rank).written class) }
     ensures has { OnOk result ((format field.Rank).has class ≡ true) }
 {
@@ -128,8 +134,9 @@ fn number_of(id: VersionId) -> u64
     }
 }
 
+/// Writes a version id: 0 for null, else its number, in eight bytes.
 #[tactic(auto, using(crate::proofs::Fitting::id_has), unfolding(crate::specs::Fields::format))]
-pub(crate) fn put_id(out: &mut Vec<u8>, id: VersionId) -> Result<(), AllocError>
+pub fn put_id(out: &mut Vec<u8>, id: VersionId) -> Result<(), AllocError>
     ensures bytes { OnOk result (out.new.items ≡ out.old.items ++ (format field.Id).written id) }
     ensures has { OnOk result ((format field.Id).has id ≡ true) }
 {

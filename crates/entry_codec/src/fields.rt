@@ -14,7 +14,8 @@ use std::alloc::{AllocError, Global};
 // An object has no more tags.
 const MOST_TAGS: u8 = 10;
 
-pub(crate) fn u8_in(bytes: &[u8]) -> Option<(u8, &[u8])>
+/// Reads one byte; gives it and the bytes behind it.
+pub fn u8_in(bytes: &[u8]) -> Option<(u8, &[u8])>
     ensures { option_map (λ x. (x.0, x.1.now)) result ≡ (number w8).front bytes.now }
 {
     if bytes.is_empty() {
@@ -24,7 +25,8 @@ pub(crate) fn u8_in(bytes: &[u8]) -> Option<(u8, &[u8])>
     Some((front[0], rest))
 }
 
-pub(crate) fn u16_in(bytes: &[u8]) -> Option<(u16, &[u8])>
+/// Reads a number of two bytes, high byte first; gives it and the bytes behind it.
+pub fn u16_in(bytes: &[u8]) -> Option<(u16, &[u8])>
     ensures { option_map (λ x. (x.0, x.1.now)) result ≡ (number w16).front bytes.now }
 {
     if bytes.len() < 2 {
@@ -34,7 +36,8 @@ pub(crate) fn u16_in(bytes: &[u8]) -> Option<(u16, &[u8])>
     Some((u16::from_be_bytes([front[0], front[1]]), rest))
 }
 
-pub(crate) fn u32_in(bytes: &[u8]) -> Option<(u32, &[u8])>
+/// Reads a number of four bytes, high byte first; gives it and the bytes behind it.
+pub fn u32_in(bytes: &[u8]) -> Option<(u32, &[u8])>
     ensures { option_map (λ x. (x.0, x.1.now)) result ≡ (number w32).front bytes.now }
 {
     if bytes.len() < 4 {
@@ -47,7 +50,8 @@ pub(crate) fn u32_in(bytes: &[u8]) -> Option<(u32, &[u8])>
     ))
 }
 
-pub(crate) fn u64_in(bytes: &[u8]) -> Option<(u64, &[u8])>
+/// Reads a number of eight bytes, high byte first; gives it and the bytes behind it.
+pub fn u64_in(bytes: &[u8]) -> Option<(u64, &[u8])>
     ensures { option_map (λ x. (x.0, x.1.now)) result ≡ (number w64).front bytes.now }
 {
     if bytes.len() < 8 {
@@ -60,8 +64,8 @@ pub(crate) fn u64_in(bytes: &[u8]) -> Option<(u64, &[u8])>
     Some((number, rest))
 }
 
-// A length in one byte, and so many bytes.
-pub(crate) fn short_counted_in(bytes: &[u8]) -> Option<(&[u8], &[u8])>
+/// A length in one byte, and so many bytes.
+pub fn short_counted_in(bytes: &[u8]) -> Option<(&[u8], &[u8])>
     ensures { option_map (λ x. (x.0.now, x.1.now)) result ≡ (counted_text (number w8)).front bytes.now }
 {
     let (len, rest) = u8_in(bytes)?;
@@ -71,8 +75,8 @@ pub(crate) fn short_counted_in(bytes: &[u8]) -> Option<(&[u8], &[u8])>
     Some(rest.split_at(len as usize))
 }
 
-// A length in two bytes, and so many bytes.
-pub(crate) fn counted_in(bytes: &[u8]) -> Option<(&[u8], &[u8])>
+/// A length in two bytes, and so many bytes.
+pub fn counted_in(bytes: &[u8]) -> Option<(&[u8], &[u8])>
     ensures { option_map (λ x. (x.0.now, x.1.now)) result ≡ (counted_text (number w16)).front bytes.now }
 {
     let (len, rest) = u16_in(bytes)?;
@@ -82,8 +86,8 @@ pub(crate) fn counted_in(bytes: &[u8]) -> Option<(&[u8], &[u8])>
     Some(rest.split_at(len as usize))
 }
 
-// A length in four bytes, and so many bytes.
-pub(crate) fn long_counted_in(bytes: &[u8]) -> Option<(&[u8], &[u8])>
+/// A length in four bytes, and so many bytes.
+pub fn long_counted_in(bytes: &[u8]) -> Option<(&[u8], &[u8])>
     ensures { option_map (λ x. (x.0.now, x.1.now)) result ≡ (counted_text (number w32)).front bytes.now }
 {
     let (len, rest) = u32_in(bytes)?;
@@ -172,8 +176,8 @@ fn rise(pairs: &[(String, String)]) -> bool
     }
 }
 
-// Tags: their number in a byte, and the pairs, whose keys rise.
-pub(crate) fn tags_in(alloc: Global, bytes: &[u8]) -> Result<Option<(Tags, &[u8])>, NoMemory>
+/// Tags: their number in a byte, and the pairs, whose keys rise.
+pub fn tags_in(alloc: Global, bytes: &[u8]) -> Result<Option<(Tags, &[u8])>, NoMemory>
     ensures { Finds (λ x. (x.0, x.1.now)) result ((format field.Tags).front bytes.now) }
 {
     let Some((count, rest)) = u8_in(bytes) else {

@@ -55,7 +55,8 @@ pub(crate) fn put_price(out: &mut Vec<u8>, price: u32) -> Result<(), AllocError>
     out.extend_from_slice(&price.to_be_bytes())
 }
 
-pub(crate) fn put_prices(out: &mut Vec<u8>, prices: &[u32]) -> Result<(), AllocError>
+/// Writes prices, each in four bytes.
+pub fn put_prices(out: &mut Vec<u8>, prices: &[u32]) -> Result<(), AllocError>
     ensures { OnOk result (out.new.items ≡ out.old.items ++ flat_map (format field.Price).written prices.now) }
 {
     for price in prices {

@@ -66,9 +66,9 @@ fn command_in(
     Ok((token, command))
 }
 
-// The moment at which an entry begins.
+/// The moment at which an entry begins.
 #[tactic(auto, unfolding(crate::specs::Fields::moment_format))]
-fn moment_in(bytes: &[u8]) -> Option<(Moment, &[u8])>
+pub fn moment_in(bytes: &[u8]) -> Option<(Moment, &[u8])>
     ensures { option_map (λ x. (x.0, x.1.now)) result ≡ moment_format.front bytes.now }
 {
     let (ms, rest) = u64_in(bytes)?;

@@ -36,9 +36,9 @@ fn is_text_of(alloc: Global, bytes: &[u8], rules: &RuleSet) -> Result<bool, NoMe
     }
 }
 
-// The configuration whose one text this is.
+/// The configuration whose one text this is.
 #[tactic(auto, using(crate::proofs::RulesTexts::which_rules))]
-fn rules_in(alloc: Global, text: &[u8]) -> Result<Option<RuleSet>, NoMemory>
+pub fn rules_in(alloc: Global, text: &[u8]) -> Result<Option<RuleSet>, NoMemory>
     ensures { Finds (λ rules. rules) result (rules_texts.value text.now) }
 {
     match read_rules(alloc, text) {
@@ -72,9 +72,9 @@ pub(crate) fn rules_of(
     }
 }
 
-// The text behind its length.
+/// The text behind its length.
 #[tactic(auto, using(crate::proofs::RulesTexts::rules_fit), unfolding(crate::specs::Fields::format))]
-pub(crate) fn put_rules(out: &mut Vec<u8>, rules: &RuleSet) -> Result<(), AllocError>
+pub fn put_rules(out: &mut Vec<u8>, rules: &RuleSet) -> Result<(), AllocError>
     ensures bytes { OnOk result (out.new.items ≡ out.old.items ++ (format field.Rules).written rules.now) }
     ensures has { OnOk result ((format field.Rules).has rules.now ≡ true) }
 {

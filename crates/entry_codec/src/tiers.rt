@@ -54,7 +54,8 @@ fn list_in<'a>(count: u8, bytes: &'a [u8], room: &mut [Tier]) -> Option<&'a [u8]
     Some(rest)
 }
 
-fn tiers_in(bytes: &[u8]) -> Option<(Tiers, &[u8])>
+/// Reads the tiers of a class; None where the bytes are no tiers.
+pub fn tiers_in(bytes: &[u8]) -> Option<(Tiers, &[u8])>
     ensures { option_map (λ x. (x.0, x.1.now)) result ≡ (format field.Tiers).front bytes.now }
 {
     let Some((count, rest)) = u8_in(bytes) else {
@@ -132,8 +133,8 @@ fn put_tiers(out: &mut Vec<u8>, tiers: &Tiers) -> Result<(), AllocError>
     Ok(())
 }
 
-// The tiers of each class.
-pub(crate) fn put_storage(out: &mut Vec<u8>, storage: &[Tiers]) -> Result<(), AllocError>
+/// The tiers of each class.
+pub fn put_storage(out: &mut Vec<u8>, storage: &[Tiers]) -> Result<(), AllocError>
     ensures bytes { OnOk result
         (out.new.items ≡ out.old.items ++ flat_map (format field.Tiers).written storage.now) }
     ensures are { OnOk result (list_all are_tiers storage.now ≡ true) }

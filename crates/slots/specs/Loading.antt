@@ -17,6 +17,12 @@ abbrev pub pair_in : State → Pair
 pair_in s = record { slot0 = s.slot0.seen; slot1 = s.slot1.seen }
 
 module _ {V : Type 0} (spells : List ℕ → V → Type 0) where
+  -- a checkpoint: a value that some bytes spell, at a position not before the first gate of a journal
+  pub record IsCheckpoint (value : V) (position : ℕ) : Type 0 where
+    pub placed : 10 ≤ position
+    pub body : List ℕ
+    pub spelled : spells body value
+
   -- the first slot keeps this, and the second nothing at a greater position
   pub record IsFirst (value : V) (position : ℕ) (slots : Pair) : Type 0 where
     pub kept : Keeps spells value position slots.slot0

@@ -1,10 +1,10 @@
 // Finds the slot that is loaded, and reads what it keeps.
-ghost use Rattle.std.specs.Prelude.{◌≡◌, ◌+◌, ◌≤◌, ℕ, true, false, IsTrue, IfOk, MatchOption, length};
+ghost use Rattle.std.specs.Prelude.{◌≡◌, ◌+◌, ◌≤◌, ℕ, List, true, false, IsTrue, IfOk, IfSome, MatchOption, length};
 ghost use Rattle.disk_core.specs.Files.{seen_in};
 ghost use Rattle.disk_core.specs.Moments.{Untouched};
 ghost use Rattle.slots.specs.Causes.{HasSaveCause};
 ghost use Rattle.slots.specs.Heads.{HasHead, body_at, is_below};
-ghost use Rattle.slots.specs.Loading.{ReadGives, FindGives, LoadGives, pair_in};
+ghost use Rattle.slots.specs.Loading.{IsCheckpoint, ReadGives, FindGives, LoadGives, pair_in};
 
 use crate::body::Body;
 use crate::fault::SaveFault;
@@ -34,6 +34,7 @@ fn body_of<D: Disk, B: Body>(
     ensures exact { IsTrue D.honest → IfOk result (λ read. MatchOption read
         ((value : B) → B.spells (body_at size (seen_in file (D.state disk.old))) value → ⊥)
         (λ value. B.spells (body_at size (seen_in file (D.state disk.old))) value)) }
+    ensures spelled { IfOk result (λ read. IfSome read (λ value. (body : List ℕ) × B.spells body value)) }
     ensures untouched { IsTrue D.honest → Untouched D.Disk disk.old disk.new }
     ensures cause { HasSaveCause (D.fault_count disk.old) (D.fault_count disk.new) result }
 {
@@ -59,6 +60,7 @@ fn slot_of<D: Disk, B: Body>(
     requires head { IsTrue D.honest → HasHead head (seen_in file (D.state disk.old)) }
     ensures exact { IsTrue D.honest → IfOk result
         (λ read. ReadGives B.spells read (seen_in file (D.state disk.old))) }
+    ensures checkpoint { IfOk result (λ read. IfSome read (λ read. IsCheckpoint B.spells read.0 read.1)) }
     ensures untouched { IsTrue D.honest → Untouched D.Disk disk.old disk.new }
     ensures cause { HasSaveCause (D.fault_count disk.old) (D.fault_count disk.new) result }
 {
@@ -101,6 +103,8 @@ fn find_in_first<D: Disk, B: Body>(
     requires one { IsTrue D.honest → HasHead one (D.state disk.old).slot1.seen }
     requires order { is_below zero one ≡ false }
     ensures exact { IsTrue D.honest → IfOk result (λ found. FindGives B.spells found (pair_in (D.state disk.old))) }
+    ensures checkpoint { IfOk result
+        (λ found. IfSome found (λ found. IsCheckpoint B.spells found.value found.position)) }
     ensures untouched { IsTrue D.honest → Untouched D.Disk disk.old disk.new }
     ensures cause { HasSaveCause (D.fault_count disk.old) (D.fault_count disk.new) result }
 {
@@ -139,6 +143,8 @@ fn find_in_second<D: Disk, B: Body>(
     requires one { IsTrue D.honest → HasHead one (D.state disk.old).slot1.seen }
     requires order { is_below zero one ≡ true }
     ensures exact { IsTrue D.honest → IfOk result (λ found. FindGives B.spells found (pair_in (D.state disk.old))) }
+    ensures checkpoint { IfOk result
+        (λ found. IfSome found (λ found. IsCheckpoint B.spells found.value found.position)) }
     ensures untouched { IsTrue D.honest → Untouched D.Disk disk.old disk.new }
     ensures cause { HasSaveCause (D.fault_count disk.old) (D.fault_count disk.new) result }
 {
@@ -172,6 +178,8 @@ pub(crate) fn find<D: Disk, B: Body>(
     disk: &mut D,
 ) -> Result<Option<Found<B>>, SaveFault>
     ensures exact { IsTrue D.honest → IfOk result (λ found. FindGives B.spells found (pair_in (D.state disk.old))) }
+    ensures checkpoint { IfOk result
+        (λ found. IfSome found (λ found. IsCheckpoint B.spells found.value found.position)) }
     ensures untouched { IsTrue D.honest → Untouched D.Disk disk.old disk.new }
     ensures cause { HasSaveCause (D.fault_count disk.old) (D.fault_count disk.new) result }
 {
@@ -198,6 +206,10 @@ pub(crate) fn find<D: Disk, B: Body>(
 /// `StoreFault`: the disk failed. `NoMemory`: out of memory.
 pub fn load<D: Disk, B: Body>(alloc: Global, disk: &mut D) -> Result<Option<(B, u64)>, SaveFault>
     ensures loaded { IsTrue D.honest → IfOk result (λ read. LoadGives B.spells read (pair_in (D.state disk.old))) }
+
+    // Also of a disk that is not honest.
+    ensures checkpoint { IfOk result (λ read. IfSome read (λ read. IsCheckpoint B.spells read.0 read.1)) }
+
     ensures untouched { IsTrue D.honest → Untouched D.Disk disk.old disk.new }
     ensures cause { HasSaveCause (D.fault_count disk.old) (D.fault_count disk.new) result }
 {
