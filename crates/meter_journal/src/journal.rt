@@ -1,6 +1,7 @@
 // A journal, which is read and to which entries are added.
 ghost use Rattle.std.specs.Prelude.{◌≡◌, ◌+◌, ◌<◌, ◌≤◌, ◌^◌, ◌++◌, [], ◌∷◌, List, ℕ, IsTrue, length, OnOk, IfOk};
 ghost use Rattle.std.specs.Prelude.{IfErr, IfSome, Err, IsErrOf, ◌↔◌, min};
+ghost use Rattle.std.specs.Borrow.{follows, sem};
 ghost use Rattle.office_base.specs.Faults.{Rose, HasCause};
 ghost use Rattle.disk_core.specs.Files.{synced_file};
 ghost use Rattle.disk_core.specs.Fronts.{Narrower};
@@ -10,6 +11,7 @@ ghost use Rattle.entry_codec.specs.Spelling.{IsEntry, EntryFits, entry_limit, sp
 ghost use Rattle.meter_journal.specs.History.{IsAtRest, IsNoLonger, BeforeOrAfter};
 ghost use Rattle.meter_journal.specs.Reading.{frame_at, size_at, NextGives, HeadGives, IsMade, HasStoreCause};
 ghost use Rattle.meter_journal.specs.Reading.{from_or_first, Advances};
+ghost use Rattle.meter_journal.specs.contracts.journal.Journal.{the_row};
 ghost use Rattle.meter_journal.specs.declared.fault.OpenFault.TheVariants.{StoreFault};
 
 use crate::fault::OpenFault;
@@ -251,6 +253,15 @@ impl<D: Disk> Journal<D> {
         ensures { result.now ≡ self.now.disk }
     {
         &self.disk
+    }
+
+    /// Lends the disk, for calls on its other files.
+    pub fn disk_mut(&mut self) -> &mut D
+        ensures value { result.now ≡ self.old.disk }
+        ensures* writes_back { sem 𝓛 (follows (the_row D.row D.Disk) D.row self.entry.ghost_name result.ghost_name
+            (λ w. record { disk = w; gate = self.old.gate; limit = self.old.limit })) }
+    {
+        &mut self.disk
     }
 
     /// Gives the disk back.
