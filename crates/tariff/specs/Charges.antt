@@ -13,8 +13,9 @@ abbrev pub part_between : ℕ → Option ℕ → ℕ → ℕ
 part_between begin None quantity = quantity - begin
 part_between begin (Some end) quantity = min end quantity - begin
 
--- A part of a quantity for each tier, and the tier's price. The first tier begins at the given number of GiB-months, and
--- each other one where the one before it ends; the last has no end. A GiB-month is that many byte-milliseconds (own).
+-- A part of a quantity for each tier, and the tier's price. The first tier begins at the given number of units, and each
+-- other one where the one before it ends; the last has no end. The unit is in what the quantity counts: for storage a
+-- GiB-month, in byte-milliseconds (own).
 abbrev pub parts_from : ℕ → ℕ → ℕ → List Tier → List (ℕ × ℕ)
 parts_from begin unit quantity [] = []
 parts_from begin unit quantity (tier ∷ tiers) =

@@ -47,7 +47,7 @@ are_prices storage transition = list_all is_price storage && list_all is_price t
 abbrev pub one_tier : ℕ → List Tier
 one_tier price = record { upto = None; price = price } ∷ []
 
--- the tiers of a class; a quantity of a GiB that is stored for a month goes through them in order
+-- the tiers of a class; the GiB-months that are stored in it go through them in order
 abbrev pub storage_tiers : Prices → Class → List Tier
 storage_tiers tariff class = get_or tariff.storage (rank_of class) []
 
