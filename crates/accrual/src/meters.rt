@@ -94,6 +94,23 @@ impl Meters {
         }
     }
 
+    /// Copies the meters.
+    ///
+    /// # Errors
+    ///
+    /// `NoMemory`: memory ran out.
+    pub fn copy(&self) -> Result<Meters, NoMemory>
+        ensures { IfOk result (λ meters. meters ≡ self.now) }
+    {
+        match self.rows.copy() {
+            Ok(rows) => Ok(Meters {
+                rows,
+                booked: self.booked,
+            }),
+            Err(_) => Err(NoMemory),
+        }
+    }
+
     /// Makes rows for these months, and all between them and the rows that are there.
     ///
     /// # Errors

@@ -1,5 +1,5 @@
 // The kept numbers, a row for each month.
-ghost use Rattle.std.specs.Prelude.{OnOk, OnErr, ◌^◌, ◌≡◌, ◌<◌, ◌≤◌, ◌+◌, ◌-◌, ℕ, length, slice_set};
+ghost use Rattle.std.specs.Prelude.{IfOk, OnOk, OnErr, ◌^◌, ◌≡◌, ◌<◌, ◌≤◌, ◌+◌, ◌-◌, ℕ, length, slice_set};
 ghost use Rattle.class_rules.specs.Classes.{rank_of};
 ghost use Rattle.accrual.specs.Rows.{kept_in, HasRowIn, IsPut, IsRowPut, IsAdded, HasRoom, IsWithin, IsModest, IsShort};
 ghost use Rattle.accrual.specs.Rows.{HasBooked, IsBooked, weighed, running_each, arrived_each, departed_each};
@@ -69,6 +69,17 @@ pub(crate) const NONE_BEFORE: Before = Before {
 };
 
 impl Rows {
+    // Copies the rows.
+    pub(crate) fn copy(&self) -> Result<Rows, AllocError>
+        ensures { IfOk result (λ rows. rows ≡ self.now) }
+    {
+        let rows = self.rows.clone()?;
+        Ok(Rows {
+            first: self.first,
+            rows,
+        })
+    }
+
     // Gives no rows.
     pub(crate) fn new(alloc: Global) -> Rows
         ensures first { result.first ≡ 0 }

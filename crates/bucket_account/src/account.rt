@@ -163,6 +163,28 @@ impl Account {
         }
     }
 
+    /// Copies the account.
+    ///
+    /// Cost: a copy of the records, as in `records`; a copy of the meters; the index is built.
+    ///
+    /// # Errors
+    ///
+    /// `NoMemory`: memory ran out.
+    pub fn copy(&self, alloc: Global) -> Result<Account, NoMemory>
+        ensures { IfOk result (λ copy. copy ≡ self.now) }
+    {
+        let bucket = self.records(alloc)?;
+        let meters = self.meters.copy()?;
+        let index = DueIndex::build(alloc, &bucket).ok();
+        Ok(Account {
+            bucket,
+            meters,
+            versions: self.versions,
+            text_bytes: self.text_bytes,
+            index,
+        })
+    }
+
     /// Does a command on the bucket, and gives the counts after it and the reply.
     pub fn apply(
         &mut self,

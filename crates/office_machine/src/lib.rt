@@ -3,6 +3,7 @@
 
 mod closing;
 mod commands;
+mod copying;
 mod machine;
 mod office;
 mod queries;

@@ -123,6 +123,23 @@ impl Office {
         Ok(snapshot)
     }
 
+    /// Copies the office: the same records and kept replies, and the same number of accepted commands.
+    ///
+    /// Cost: a copy of all records, meters and kept replies; each bucket's queue of next actions is built.
+    ///
+    /// # Errors
+    ///
+    /// `NoMemory`: memory ran out.
+    pub fn copy(&self) -> Result<Office, NoMemory>
+        ensures stands { IfOk result (λ copy. (p : plain.Office) → StandsFor self.now p → StandsFor copy p) }
+        ensures records { IfOk result (λ copy. copy.records ≡ self.now.records) }
+    {
+        let machine = self.machine.copy()?;
+        let kept = self.kept.list(machine.alloc)?;
+        let kept = KeptReplies::of(machine.alloc, kept)?;
+        Ok(Office { machine, kept })
+    }
+
     /// Reads the moment of the last accepted command; none before the first.
     pub fn last(&self) -> Option<Moment>
         ensures same { result ≡ self.now.records.last }

@@ -24,7 +24,7 @@ fn account_of(alloc: Global, part: BucketPart) -> Result<(BucketName, Account), 
     Ok((name, account))
 }
 
-fn put(
+pub(crate) fn put(
     accounts: &mut BTreeMap<BucketName, Account>,
     name: BucketName,
     account: Account,

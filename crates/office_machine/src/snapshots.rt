@@ -61,7 +61,7 @@ fn know_moment(last: &Option<Moment>)
     }
 }
 
-fn copy_tariffs(tariffs: &Vec<Tariff>) -> Result<Vec<Tariff>, NoMemory>
+pub(crate) fn copy_tariffs(tariffs: &Vec<Tariff>) -> Result<Vec<Tariff>, NoMemory>
     ensures { IfOk result (λ all. all.items ≡ tariffs.now.items) }
 {
     match tariffs.clone() {
@@ -70,7 +70,7 @@ fn copy_tariffs(tariffs: &Vec<Tariff>) -> Result<Vec<Tariff>, NoMemory>
     }
 }
 
-fn copy_closed(closed: &Vec<(Month, Tariff)>) -> Result<Vec<(Month, Tariff)>, NoMemory>
+pub(crate) fn copy_closed(closed: &Vec<(Month, Tariff)>) -> Result<Vec<(Month, Tariff)>, NoMemory>
     ensures { IfOk result (λ all. all.items ≡ closed.now.items) }
 {
     match closed.clone() {

@@ -1,0 +1,69 @@
+// The records of the office are copied.
+ghost use Rattle.std.specs.Prelude.{◌≡◌, IfOk, OnOk};
+ghost use Rattle.office_base.specs.Maps.{bytes_cmp, with_name, Rises};
+
+use crate::machine::Machine;
+use crate::restoring::put;
+use crate::snapshots::{copy_closed, copy_tariffs};
+use bucket_account::Account;
+use office_base::{BucketName, NoMemory};
+use std::alloc::Global;
+use std::collections::BTreeMap;
+
+impl Machine {
+    /// Copies the records.
+    pub(crate) fn copy(&self) -> Result<Machine, NoMemory>
+        ensures { IfOk result (λ copy. copy ≡ self.now) }
+    {
+        let tariffs = copy_tariffs(&self.tariffs)?;
+        let closed = copy_closed(&self.closed)?;
+        let accounts = copies_of(self.alloc, &self.accounts)?;
+        Ok(Machine {
+            alloc: self.alloc,
+            last: self.last,
+            tariffs,
+            first_month: self.first_month,
+            closed,
+            accounts,
+            counts: self.counts,
+            accepted: self.accepted,
+        })
+    }
+}
+
+// The names of a map come in byte order, by its type.
+fn see_names(accounts: &BTreeMap<BucketName, Account>)
+    ensures { Rises bytes_cmp accounts.now.entries }
+{
+    let _ = accounts.len();
+}
+
+fn put_copy(
+    alloc: Global,
+    copies: &mut BTreeMap<BucketName, Account>,
+    name: &BucketName,
+    account: &Account,
+) -> Result<(), NoMemory>
+    ensures { OnOk result (copies.new.entries ≡ with_name name.now account.now copies.old.entries) }
+{
+    let Ok(name) = name.copy() else {
+        return Err(NoMemory);
+    };
+    let account = account.copy(alloc)?;
+    put(copies, name, account)
+}
+
+/// Copies the buckets.
+fn copies_of(
+    alloc: Global,
+    accounts: &BTreeMap<BucketName, Account>,
+) -> Result<BTreeMap<BucketName, Account>, NoMemory>
+    ensures { IfOk result (λ copies. copies.entries ≡ accounts.now.entries) }
+{
+    see_names(accounts);
+    let mut copies = BTreeMap::new(alloc);
+    for (name, account) in accounts.iter() {
+        put_copy(alloc, &mut copies, name, account)?;
+    }
+    Ok(copies)
+}
