@@ -94,13 +94,14 @@ impl Meters {
         }
     }
 
-    /// Copies the meters.
+    /// Copies the meters: the copy stands for each book for which they stand.
     ///
     /// # Errors
     ///
     /// `NoMemory`: memory ran out.
     pub fn copy(&self) -> Result<Meters, NoMemory>
-        ensures { IfOk result (λ meters. meters ≡ self.now) }
+        ensures stands { IfOk result (λ meters. (book : Book) → AreTotalsOf self.now book → AreTotalsOf meters book) }
+        ensures booked { IfOk result (λ meters. meters.booked ≡ self.now.booked) }
     {
         match self.rows.copy() {
             Ok(rows) => Ok(Meters {

@@ -70,8 +70,11 @@ pub(crate) const NONE_BEFORE: Before = Before {
 
 impl Rows {
     // Copies the rows.
+    #[tactic(auto, unfolding(crate::specs::Rows::kept_in))]
     pub(crate) fn copy(&self) -> Result<Rows, AllocError>
-        ensures { IfOk result (λ rows. rows ≡ self.now) }
+        ensures same { IfOk result (λ rows. (month rank : ℕ) → kept_in rows month rank ≡ kept_in self.now month rank) }
+        ensures run { IfOk result (λ rows.
+            rows.first + length rows.rows.items ≡ self.now.first + length self.now.rows.items) }
     {
         let rows = self.rows.clone()?;
         Ok(Rows {
