@@ -1,5 +1,6 @@
 -- What a bucket in memory stands for: it keeps records and totals, where the plain office has lists.
 use Rattle.std.specs.Prelude.{◌≡◌, ℕ, ◌^◌}
+use Rattle.accrual.specs.Books.{Book}
 use Rattle.accrual.specs.Totals.{AreTotalsOf}
 use Rattle.plain_office.specs.Office.{Account, book_of}
 use Rattle.bucket_account.specs.Counting.{AccountRecord}
@@ -12,3 +13,9 @@ most_commands = 2 ^ 42
 pub record StandsForAccount (records : AccountRecord) (account : Account) : Type 0 where
   pub bucket : records.bucket ≡ account.bucket
   pub meters : AreTotalsOf records.meters (book_of account.books)
+
+-- the copy has the same records; its meters stand for each book for which the others stand, after as many bookings
+pub record IsCopyOf (copy records : AccountRecord) : Type 0 where
+  pub bucket : copy.bucket ≡ records.bucket
+  pub meters : (book : Book) → AreTotalsOf records.meters book → AreTotalsOf copy.meters book
+  pub booked : copy.meters.booked ≡ records.meters.booked

@@ -18,7 +18,7 @@ ghost use Rattle.office_types.specs.declared.reply.Reply.TheVariants.{NothingDue
 ghost use Rattle.bucket_account.specs.Changing.{change_of, limits_of, IsOrderlyAccount, DoesTold};
 ghost use Rattle.bucket_account.specs.Counting.{AreCountsOver, IsWithinBy, HasGrownBy, amount, in_bucket};
 ghost use Rattle.bucket_account.specs.Restoring.{IsSmallBucket, IsAccountOf, AreFewIn};
-ghost use Rattle.bucket_account.specs.Standing.{StandsForAccount, most_commands};
+ghost use Rattle.bucket_account.specs.Standing.{StandsForAccount, IsCopyOf, most_commands};
 
 use crate::change::{Done, change};
 use crate::copying::copy_of;
@@ -171,7 +171,7 @@ impl Account {
     ///
     /// `NoMemory`: memory ran out.
     pub fn copy(&self, alloc: Global) -> Result<Account, NoMemory>
-        ensures { IfOk result (λ copy. copy ≡ self.now) }
+        ensures { IfOk result (λ copy. IsCopyOf copy self.now) }
     {
         let bucket = self.records(alloc)?;
         let meters = self.meters.copy()?;

@@ -1,6 +1,7 @@
 pub mod Accounts
 pub mod ByMonths
 pub mod Charges
+pub mod Copied
 pub mod FirstOpen
 pub mod Lateness
 pub mod Months

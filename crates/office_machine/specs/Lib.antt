@@ -1,5 +1,6 @@
 pub mod AnswerParts
 pub mod Closing
+pub mod Copies
 pub mod Lateness
 pub mod Lines
 pub mod Once

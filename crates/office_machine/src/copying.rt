@@ -1,6 +1,9 @@
 // The records of the office are copied.
 ghost use Rattle.std.specs.Prelude.{◌≡◌, IfOk, OnOk};
-ghost use Rattle.office_base.specs.Maps.{bytes_cmp, with_name, Rises};
+ghost use Rattle.office_base.specs.Maps.{bytes_cmp, Rises};
+ghost use Rattle.plain_office.specs.Office as plain;
+ghost use Rattle.office_machine.specs.Copies.{AreCopiesOf, HasCopyOf};
+ghost use Rattle.office_machine.specs.Standing.{StandsForOffice};
 
 use crate::machine::Machine;
 use crate::restoring::put;
@@ -13,7 +16,9 @@ use std::collections::BTreeMap;
 impl Machine {
     /// Copies the records.
     pub(crate) fn copy(&self) -> Result<Machine, NoMemory>
-        ensures { IfOk result (λ copy. copy ≡ self.now) }
+        ensures stands { IfOk result (λ copy. (p : plain.Office) → StandsForOffice self.now p → StandsForOffice copy p) }
+        ensures last { IfOk result (λ copy. copy.last ≡ self.now.last) }
+        ensures accepted { IfOk result (λ copy. copy.accepted ≡ self.now.accepted) }
     {
         let tariffs = copy_tariffs(&self.tariffs)?;
         let closed = copy_closed(&self.closed)?;
@@ -44,7 +49,7 @@ fn put_copy(
     name: &BucketName,
     account: &Account,
 ) -> Result<(), NoMemory>
-    ensures { OnOk result (copies.new.entries ≡ with_name name.now account.now copies.old.entries) }
+    ensures { OnOk result (HasCopyOf name.now account.now copies.old.entries copies.new.entries) }
 {
     let Ok(name) = name.copy() else {
         return Err(NoMemory);
@@ -58,7 +63,7 @@ fn copies_of(
     alloc: Global,
     accounts: &BTreeMap<BucketName, Account>,
 ) -> Result<BTreeMap<BucketName, Account>, NoMemory>
-    ensures { IfOk result (λ copies. copies.entries ≡ accounts.now.entries) }
+    ensures { IfOk result (λ copies. AreCopiesOf copies.entries accounts.now.entries) }
 {
     see_names(accounts);
     let mut copies = BTreeMap::new(alloc);

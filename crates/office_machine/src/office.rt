@@ -132,7 +132,8 @@ impl Office {
     /// `NoMemory`: memory ran out.
     pub fn copy(&self) -> Result<Office, NoMemory>
         ensures stands { IfOk result (λ copy. (p : plain.Office) → StandsFor self.now p → StandsFor copy p) }
-        ensures records { IfOk result (λ copy. copy.records ≡ self.now.records) }
+        ensures last { IfOk result (λ copy. copy.records.last ≡ self.now.records.last) }
+        ensures accepted { IfOk result (λ copy. copy.records.accepted ≡ self.now.records.accepted) }
     {
         let machine = self.machine.copy()?;
         let kept = self.kept.list(machine.alloc)?;
