@@ -62,7 +62,7 @@ class Links(live.Case):
             if document.name == "CHANGELOG.md":
                 continue
             text = document.read_text("utf-8")
-            for name in set(re.findall(r"(?<![\w/.-])(?:tools|bench|tests-live|examples)/[A-Za-z0-9_/.-]*[A-Za-z0-9_]", text)):
+            for name in set(re.findall(r"(?<![\w/.-])(?:tools|bench|checks|tests-live|examples)/[A-Za-z0-9_/.-]*[A-Za-z0-9_]", text)):
                 with self.subTest(document=document.name, file=name):
                     self.assertTrue((live.ROOT / name).exists())
 

@@ -31,8 +31,9 @@ class Gate(live.Case):
         super().setUp()
         self.copy, self.bin = self.folder / "copy", self.folder / "bin"
         self.built = self.copy / "crates/office_cli/out/office_cli"
-        for it in (self.copy / ".ci", self.copy / "tests-live", self.built.parent, self.bin):
+        for it in (self.copy / ".ci", self.copy / "checks", self.copy / "tests-live", self.built.parent, self.bin):
             it.mkdir(parents=True)
+        self.check_calls("exit 0")
         shutil.copy(live.ROOT / ".ci/run", self.copy / ".ci/run")
         for name in HELPERS:
             shutil.copy(HERE / name, self.copy / "tests-live" / name)
@@ -43,13 +44,17 @@ class Gate(live.Case):
         made(self.bin / "rt", f'#!/bin/sh\necho "rt $*"\n{builds}\n')
         return self.ended([self.copy / ".ci/run"], text=True, env={**os.environ, "PATH": f"{self.bin}:{os.environ['PATH']}"})
 
+    def check_calls(self, does):
+        """A `checks/calls` that says what it was asked and does this."""
+        made(self.copy / "checks/calls", f'#!/bin/sh\necho "checks/calls $*"\n{does}\n')
+
     def copied(self, program):
         return f"cp '{program}' '{self.built}' && chmod +x '{self.built}'"
 
     def test_a_program_that_is_built(self):
         done = self.gate(self.copied(made(self.folder / "usage", "#!/bin/sh\nexit 1\n")))
         self.check("status, and the last line", (0, "1 passed, 0 failed"), (done.returncode, last_line(done)))
-        self.check("`rt ci`, plain, comes first", "rt ci", done.stdout.splitlines()[0])
+        self.check("`rt ci`, plain, comes first, and the page of calls behind it", ["rt ci", "checks/calls --check"], done.stdout.splitlines()[:2])
 
     def test_nothing_is_built(self):
         done = self.gate("exit 0")
@@ -65,6 +70,11 @@ class Gate(live.Case):
         done = self.gate(self.copied(made(self.folder / "broken", "#!/there/is/nothing\n")))
         self.check("status, and the last line", (1, "0 passed, 1 failed"), (done.returncode, last_line(done)))
         self.check("why", True, "cannot be started" in done.stdout)
+
+    def test_the_page_of_calls_is_out_of_date(self):
+        self.check_calls("echo '0 passed, 1 failed'; exit 1")
+        done = self.gate(self.copied(made(self.folder / "usage", "#!/bin/sh\nexit 1\n")))
+        self.check("status, and no script runs", (1, ["rt ci", "checks/calls --check", "0 passed, 1 failed"]), (done.returncode, done.stdout.splitlines()))
 
     def test_rt_fails(self):
         done = self.gate(f"{self.copied(made(self.folder / 'usage', '#!/bin/sh'))}\nexit 3")
