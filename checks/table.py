@@ -16,6 +16,11 @@ RESULT = "result"  # in place of a definition: the clause is about the whole res
 # How tests spell answers that are no variants.
 SPELLED = {"None": "None|is_none|is_some", "Failed": "Failed|Err|is_err", "NoRoom": "NoRoom|Err|is_err"}
 
+# Where a contract lists the exit codes of a command, and how it says that one does not come.
+LISTS, EXITS = ("statuses", "causes"), re.compile(r"(?:Exit|_exit|IsCaused)$")
+CODE = re.compile(r"(?:\bstatus|\bresult(?:\.status)?) ≡ (\d+)|^\s*\w+_exit\b[^=\n]* = (\d+)", re.MULTILINE)
+NO_CODE = re.compile(r"result(?:\.status)? ≡ (\d+) → ⊥")
+
 Clauses = tuple[tuple[str, tuple[str, ...]], ...]
 
 
@@ -74,7 +79,7 @@ def entries(of: Repository) -> tuple[list[Entry], list[str]]:
     """The table, and what is wrong with it."""
     found, wrong = [], []
     for call in of.calls:
-        told = answers.answers(call.result, call.crate, of.types)
+        told = answers.answers(call.result, call.crate, of.types) + statuses(of, call)
         cells = [it for row in of.kept.rows.get((call.crate, call.label), []) for it in cells_of(of, call, told, row, wrong)]
         named = {it.answer for it in cells}
         wrong += [unlisted(of, call, it) for it in told if it not in named and it != answers.MEMORY]
@@ -84,6 +89,19 @@ def entries(of: Repository) -> tuple[list[Entry], list[str]]:
     known = {(it.crate, it.label) for it in of.calls}
     wrong += [f"{KEPT}: there is no public call {' '.join(it)}" for it in of.kept.rows if it not in known]
     return found, wrong
+
+
+def statuses(of: Repository, call: sources.Call) -> list[str]:
+    """The exit codes other than 0 that the clauses of a command list, but for those that a clause excludes without a premise."""
+    found, excluded = set(), {"0"}
+    for name, text in call.clauses.items():
+        if name in LISTS:
+            reached = of.definitions.reached(text, of.files[call.path])
+            texts = [text, *(one for it, all_of_name in reached.items() if EXITS.search(it) for one in all_of_name)]
+            found |= {code for one in texts for pair in CODE.findall(one) for code in pair if code}
+        if not re.search(r"\w", NO_CODE.sub("", text)):
+            excluded |= set(NO_CODE.findall(text))
+    return sorted(found - excluded, key=int)
 
 
 def meant(row: kept.Row, rows: list[kept.Row], told: list[str]) -> typing.Iterator[tuple[str, str]]:

@@ -9,13 +9,13 @@ LIB = """\
 //! A gate.
 mod gate;
 
-pub use gate::{Gate, GateFault, Key, open_all};
+pub use gate::{Gate, GateFault, Key, open_all, run};
 """
 
 GATE = """\
 // ensures { a brace in a comment
 ghost use Rattle.std.specs.Prelude.{◌≡◌, IsErrOf, IfNone};
-ghost use Rattle.yard.specs.Gates.{Opens};
+ghost use Rattle.yard.specs.Gates.{Opens, IsRunExit};
 
 /// Why.
 pub enum GateFault {
@@ -61,6 +61,13 @@ impl<T> Drop for Gate<T> {
 
 pub fn open_all() {}
 
+pub fn run(gate: Gate) -> End<Gate>
+    ensures statuses { (result.status ≡ 8) ⊎ IsRunExit result.status }
+    ensures only { (result.status ≡ 3 → ⊥) × (result.status ≡ 12 → ⊥) }
+    ensures sound { IsSound gate → result.status ≡ 5 → ⊥ }
+{
+}
+
 pub fn not_given_out() -> Option<u64> {}
 """
 
@@ -71,6 +78,13 @@ use Rattle.yard.specs.More.{tells as says}
 -- what opening answers; Hidden in a comment
 abbrev pub Opens : Gate → Result Unit GateFault → Type 0
 Opens gate (Err Broken) = more.Breaks gate × says gate
+
+abbrev pub gate_exit : GateFault → ℕ
+gate_exit Shut = 3
+gate_exit (Broken by at) = 5
+
+abbrev pub IsRunExit : ℕ → Type 0
+IsRunExit status = (status ≡ 0) ⊎ (status ≡ gate_exit Shut)
 
 pub record Kept : Type 0 where
   pub first : status ≡ 3
@@ -123,6 +137,9 @@ yard Gate::open
   Broken | opens (Opens) | test gate_tests::a_shut_gate & case A gate br..
 yard Gate::number
   None | | -
+yard run
+  5 | statuses (gate_exit) | -
+  8 | | case A gate is shut [status 3]
 yard Key::turn
   Failed | | script tests-live/one.sh
 """

@@ -16,7 +16,7 @@ class Sources(unittest.TestCase):
         self.calls = {it.label: it for it in sources.public_calls(self.crate)}
 
     def test_calls_that_are_given_out(self):
-        self.assertEqual(["Gate::number", "Gate::open", "Key::turn", "open_all"], sorted(self.calls))
+        self.assertEqual(["Gate::number", "Gate::open", "Key::turn", "open_all", "run"], sorted(self.calls))
 
     def test_results(self):
         self.assertEqual("Result<[u8; 24], (GateFault, T)>", self.calls["Gate::open"].result)

@@ -44,6 +44,14 @@ class Table(Small):
                          self.wrong("  Shut | | edit yard/gate-left-open\n", ""))
         self.assertIn("gate.rt:19; named by: opens (Opens)", self.wrong("  Broken | opens (Opens) | test gate_tests::a_shut_gate & case A gate br..\n", "")[0])
 
+    def test_an_exit_code_without_a_line(self):
+        self.assertEqual(["checks/calls.txt: no line for 8 of yard run, crates/yard/src/gate.rt:49; named by: statuses"],
+                         self.wrong("  8 | | case A gate is shut [status 3]\n", ""))
+
+    def test_exit_codes(self):
+        of = table.read(written(self.folder))
+        self.assertEqual({"run": ["5", "8"]}, {it.label: found for it in of.calls if (found := table.statuses(of, it))})
+
     def test_a_clause_that_does_not_name_the_answer(self):
         self.assertIn("clause 'opens' does not name it", self.wrong("opens (Opens)", "opens")[0])
         self.assertIn("clause 'opens' does not name it", self.wrong("opens (Opens)", "opens (Breaks)")[0])
@@ -108,9 +116,10 @@ class Page(Small):
         self.assertIn("| `Gate::open` | `Shut` | `shut` | `yard/gate-left-open.edit` |\n", text)
         self.assertIn("|  | `Broken` | `opens` (`Opens`) | `gate_tests::a_shut_gate`, “A gate breaks” |\n|  | `NoMemory` |  |  |\n", text)
         self.assertIn("| `Gate::number` | `None` | `ensures` | **no row** |\n", text)
+        self.assertIn("| `run` | status 5 | `statuses` (`gate_exit`) | **no row** |\n", text)
         self.assertIn("No other answer: `open_all`.", text)
         self.assertIn("hold if they return: `Key::turn`.", text)
-        self.assertIn("4 answers other than the good one and `NoMemory`; 0 of these have no clause, 1 no row", " ".join(text.split()))
+        self.assertIn("6 answers other than the good one and `NoMemory`; 0 of these have no clause, 2 no row", " ".join(text.split()))
 
     def test_kinds_of_lines(self):
         text = self.page(KEPT + "  after the key stays | cause\nyard Gate::open\n  never NoMemory | opens\n")
