@@ -4,7 +4,6 @@ use Rattle.std.specs.Prelude.{IsTrue, IfSome, IsSomeAnd}
 use Rattle.std.proofs.lemmas.Option.{same_Some}
 use Rattle.office_base.specs.Faults.{Rose}
 use Rattle.disk_core.specs.declared.disk.Disk as disks
-use Rattle.disk_core.specs.Moments.{KeepsTo}
 use Rattle.plain_office.specs.Office.{Office}
 use Rattle.plain_office.specs.Once.{kept_for, step_with}
 use Rattle.plain_office.specs.Step.{is_accepted}
@@ -19,21 +18,21 @@ use Rattle.kept_replies.specs.Queue.{kept_in}
 use Rattle.office_machine.specs.Standing.{accepted_after}
 use Rattle.office_machine.specs.Once.{OfficeView, StandsFor, DoesOnce}
 use Rattle.entry_codec.specs.Spelling.{spelling}
-use Rattle.meter_journal.specs.History.{header, end_gate, IsAtRest, BeforeOrAfter}
+use Rattle.meter_journal.specs.History.{end_gate, IsAtRest}
 use Rattle.meter_journal.proofs.History.{end_gate-push}
 use Rattle.desk_core.specs.declared.fault.DeskFault.{DeskFault}
 use Rattle.desk_core.specs.declared.fault.DeskFault.TheVariants as faults
 use Rattle.desk_core.specs.Answers.{Answer}
 use Rattle.desk_core.specs.Asked.{Asked, asked, entry_of}
-use Rattle.desk_core.specs.Desk.{DeskView, HoldsHistory}
-use Rattle.desk_core.specs.Offices.{StandsAfter}
-use Rattle.desk_core.specs.Answering.{call_time, IsAnswerOf, Stays, StoreFails, AddsEntry, CarriesOut, IsDoneAt, AnswersInTime}
+use Rattle.desk_core.specs.Desk.{DeskView, HoldsTail}
+use Rattle.desk_core.specs.Offices.{Tail, StandsSince}
+use Rattle.desk_core.specs.Answering.{call_time, AddsOrNot, IsAnswerOf, Stays, StoreFails, AddsEntry, CarriesOut, IsDoneAt, AnswersInTime}
 use Rattle.desk_core.proofs.Offices.{answer_is, reply_is, taken, more_after, same_after, fresh_in}
 
 -- the end gate behind one entry more
-pub end_by : (old new place : ℕ) (bytes : List ℕ) (before : List Entry) (e : Entry) → old ≡ end_gate header before → bytes ≡ spelling e
-    → (place ≡ new) × (place ≡ old + 5 + length bytes) → new ≡ end_gate header (before ++ e ∷ [])
-end_by old new place bytes before e is spelled at = omega (arith, is, ap length spelled, at.0, at.1, end_gate-push header before e)
+pub end_by : (old new place : ℕ) (bytes : List ℕ) (before : Tail) (e : Entry) → old ≡ end_gate before.head before.entries → bytes ≡ spelling e
+    → (place ≡ new) × (place ≡ old + 5 + length bytes) → new ≡ end_gate before.head (before.entries ++ e ∷ [])
+end_by old new place bytes before e is spelled at = omega (arith, is, ap length spelled, at.0, at.1, end_gate-push before.head before.entries e)
 
 -- two answers that are the same are accepted, or both are not
 accepted_as : (one other : Result Reply Refusal) (b : Bool) → one ≡ other → is_accepted other ≡ b → is_accepted one ≡ b
@@ -43,7 +42,7 @@ accepted_as one other b same is = ap (λ (x : Result Reply Refusal). is_accepted
 
 -- an ask that asks for this command does with it what the command does
 module _ {D C : Type 0} (d : disks.Ghosts D) (call : Asked) where
-  pub done_of : (t : ℕ) (office : Office) (before : List Entry) (old new : DeskView D C) (reply : Result Reply Refusal) (question : Ask) → asked question ≡ Some call
+  pub done_of : (t : ℕ) (office : Office) (before : Tail) (old new : DeskView D C) (reply : Result Reply Refusal) (question : Ask) → asked question ≡ Some call
       → CarriesOut d t call office before old new reply → IsDoneAt d t question office before old new reply
   done_of t office before old new reply (ask.Command command) is done = subst (λ (c : Asked). CarriesOut d t c office before old new reply) (sym (same_Some _ _ is)) done
   done_of t office before old new reply (ask.Once token command) is done = subst (λ (c : Asked). CarriesOut d t c office before old new reply) (sym (same_Some _ _ is)) done
@@ -65,30 +64,30 @@ module _ {D C : Type 0} (d : disks.Ghosts D) where
   }
 
   -- what a command does to a desk is told of what this view of it is
-  pub seen_so : (t number : ℕ) (call : Asked) (bytes : List ℕ) (question : Ask) (before : List Entry) (new : DeskView D C) (said : Result Answer DeskFault)
+  pub seen_so : (t number : ℕ) (call : Asked) (bytes : List ℕ) (question : Ask) (before : Tail) (new : DeskView D C) (said : Result Answer DeskFault)
       → {inside desk : DeskView D C} → inside ≡ desk → bytes ≡ spelling (entry_of t call)
-      → ((hold : HoldsHistory d before inside) → inside.gate + 6 + length (spelling (entry_of t call)) ≤ inside.limit → IsTrue (is_not_before inside.office.records.last t)
+      → ((hold : HoldsTail d before inside) → inside.gate + 6 + length (spelling (entry_of t call)) ≤ inside.limit → IsTrue (is_not_before inside.office.records.last t)
       → IfSome call.token (λ one. kept_in one inside.office.kept.queue ≡ None)
       → AnswersInTime d (call_time t number) question hold.office.plain before inside new said)
-      → (hold : HoldsHistory d before desk) → desk.gate + 6 + length bytes ≤ desk.limit → IsTrue (is_not_before desk.office.records.last t)
+      → (hold : HoldsTail d before desk) → desk.gate + 6 + length bytes ≤ desk.limit → IsTrue (is_not_before desk.office.records.last t)
       → IfSome call.token (λ one. kept_in one desk.office.kept.queue ≡ None)
       → AnswersInTime d (call_time t number) question hold.office.plain before desk new said
   seen_so t number call bytes question before new said is spelled does = subst
-      (λ (desk : DeskView D C). (hold : HoldsHistory d before desk) → desk.gate + 6 + length bytes ≤ desk.limit → IsTrue (is_not_before desk.office.records.last t)
+      (λ (desk : DeskView D C). (hold : HoldsTail d before desk) → desk.gate + 6 + length bytes ≤ desk.limit → IsTrue (is_not_before desk.office.records.last t)
       → IfSome call.token (λ one. kept_in one desk.office.kept.queue ≡ None)
       → AnswersInTime d (call_time t number) question hold.office.plain before desk new said) is
       (λ hold fits. does hold (omega (arith, fits, ap length spelled)))
 
-  module _ (t number : ℕ) (before : List Entry) (old : DeskView D C) (hold : HoldsHistory d before old) where
+  module _ (t number : ℕ) (before : Tail) (old : DeskView D C) (hold : HoldsTail d before old) where
     -- a desk that holds the same office, and the same disk and journal
-    stayed_as : (new : DeskView D C) → HoldsHistory d before (record old { office = new.office }) → new.disk ≡ old.disk → new.gate ≡ old.gate → new.limit ≡ old.limit → Stays d before old new
+    stayed_as : (new : DeskView D C) → HoldsTail d before (record old { office = new.office }) → new.disk ≡ old.disk → new.gate ≡ old.gate → new.limit ≡ old.limit → Stays d before old new
     stayed_as new same disk gate limit = record {
       holds = record {
         office = same.office;
         end = gate ∙ hold.end;
         small = omega (arith, gate, hold.small);
         limit = subst (λ (n : ℕ). n ≤ 2 ^ 45) (sym limit) hold.limit;
-        at_rest = λ tells. subst (λ (z : D). IsAtRest header (d.state z) new.gate before) (sym disk) (subst (λ (k : ℕ). IsAtRest header (d.state old.disk) k before) (sym gate) (hold.at_rest tells));
+        at_rest = λ tells. subst (λ (z : D). IsAtRest before.head (d.state z) new.gate before.entries) (sym disk) (subst (λ (k : ℕ). IsAtRest before.head (d.state old.disk) k before.entries) (sym gate) (hold.at_rest tells));
       };
       disk = disk;
     }
@@ -114,7 +113,7 @@ module _ {D C : Type 0} (d : disks.Ghosts D) where
 
       -- in between each image has the entry or has it not
       abbrev Run : D → D → Type 0
-      Run first x = KeepsTo d first x (BeforeOrAfter header before entry (d.state first))
+      Run first x = AddsOrNot d before entry first x
 
       module _ (fits : old.gate + 6 + length (spelling entry) ≤ old.limit) where
         grown : (mid new : DeskView D C) (reply : Reply) (said : Answer) → is_accepted (Ok reply) ≡ true → IsTrue (is_not_before old.office.records.last t)
@@ -124,7 +123,7 @@ module _ {D C : Type 0} (d : disks.Ghosts D) where
         grown mid new reply said accepts later all counted same office limit adds =
             let does = all hold.office.plain hold.office.stands in
             let replied : said.reply ≡ Ok reply = ap (λ (a : Answer). a.reply) adds.0 in
-            let after = more_after before entry old.office mid.office reply hold.office accepts later fresh does counted in
+            let after = more_after before.entries entry old.office mid.office reply hold.office accepts later fresh does counted in
             record {
               told = replied ∙ (reply_is expected hold.office.plain mid.office reply does).0;
               fits = λ new. fits;
@@ -132,9 +131,9 @@ module _ {D C : Type 0} (d : disks.Ghosts D) where
                 written_as said.reply (Ok reply) true replied accepts,
                 record {
                   holds = record {
-                    office = subst (λ (o : OfficeView). StandsAfter (before ++ entry ∷ []) o) (sym office) after;
+                    office = subst (λ (o : OfficeView). StandsSince before.office (before.entries ++ entry ∷ []) o) (sym office) after;
                     end = adds.1;
-                    small = omega (arith, adds.1, fits, hold.end, hold.limit, end_gate-push header before entry);
+                    small = omega (arith, adds.1, fits, hold.end, hold.limit, end_gate-push before.head before.entries entry);
                     limit = subst (λ (n : ℕ). n ≤ 2 ^ 45) (sym limit) hold.limit;
                     at_rest = λ tells. (adds.2 tells).0;
                   };
@@ -179,7 +178,7 @@ module _ {D C : Type 0} (d : disks.Ghosts D) where
             → new.disk ≡ old.disk → new.gate ≡ old.gate → new.limit ≡ old.limit → Stays d before old new
         unaccepted_stays new reply not_accepted does counted disk gate limit =
             stayed_as new (record {
-              office = same_after before entry old.office new.office reply hold.office not_accepted fresh does counted;
+              office = same_after before.entries entry old.office new.office reply hold.office not_accepted fresh does counted;
               end = hold.end;
               small = hold.small;
               limit = hold.limit;

@@ -2,6 +2,7 @@
 use Rattle.std.proofs.Common.{◌≡◌, ℕ, ◌+◌, ◌*◌, ◌^◌, ◌≤◌, List, [], ◌∷◌, ◌++◌, length, Option, Some, None, true, refl, arith, length-append}
 use Rattle.std.specs.List.{flat_map}
 use Rattle.std.specs.Int.{w16}
+use Rattle.plain_office.specs.Office.{Office}
 use Rattle.office_types.specs.declared.command.Entry.{Entry}
 use Rattle.entry_codec.specs.Formats.{number}
 use Rattle.entry_codec.specs.Fields.{Field, Name, Price, Year, format, moment_format, token_format}
@@ -9,9 +10,9 @@ use Rattle.entry_codec.specs.Kinds.{Values, head_format, fields_of, parts_of}
 use Rattle.entry_codec.specs.declared.kinds.Kind.{Kind}
 use Rattle.entry_codec.specs.declared.kinds.Kind.TheVariants as kind
 use Rattle.entry_codec.specs.Spelling.{written_values, fields_spelling, head_spelling, command_spelling, spelling}
-use Rattle.meter_journal.specs.History.{header, framed, journal_bytes, end_gate}
+use Rattle.meter_journal.specs.History.{framed, journal_bytes, end_gate}
 use Rattle.office_machine.specs.Once.{OfficeView}
-use Rattle.desk_core.specs.Offices.{most_accepted, StandsAfter}
+use Rattle.desk_core.specs.Offices.{most_accepted, StandsSince}
 
 -- ---- an entry has eleven bytes at least: a moment, a kind, and a field of two
 
@@ -98,11 +99,11 @@ frames_long (e ∷ entries) = omega (
   length-append (0xA5 ∷ framed (spelling e)) (flat_map (λ (e : Entry). 0xA5 ∷ framed (spelling e)) entries),
 )
 
-pub gate_long : (history : List Entry) → 16 * length history ≤ end_gate header history
+pub gate_long : (head : List ℕ) (entries : List Entry) → 16 * length entries ≤ end_gate head entries
 unfolding journal_bytes
-gate_long history =
-    omega (arith, frames_long history, length-append header (flat_map (λ (e : Entry). 0xA5 ∷ framed (spelling e)) history))
+gate_long head entries =
+    omega (arith, frames_long entries, length-append head (flat_map (λ (e : Entry). 0xA5 ∷ framed (spelling e)) entries))
 
-pub counted_few : (history : List Entry) (view : OfficeView) (gate : ℕ) → StandsAfter history view → gate ≡ end_gate header history
-    → gate ≤ 2 ^ 45 → view.records.accepted ≤ most_accepted
-counted_few history view gate is end small = omega (arith, is.counted, end, small, gate_long history)
+pub counted_few : {start : Office} (head : List ℕ) (entries : List Entry) (view : OfficeView) (gate : ℕ) → StandsSince start entries view
+    → gate ≡ end_gate head entries → gate ≤ 2 ^ 45 → view.records.accepted ≤ most_accepted
+counted_few head entries view gate is end small = omega (arith, is.counted, end, small, gate_long head entries)

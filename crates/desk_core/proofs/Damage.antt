@@ -49,7 +49,7 @@ module _ {gate : ℕ} {fault : OpenFault} where
       → (refusal ≡ refusals.NoMemory → fault ≡ faults.NoMemory) → ((refusal ≡ refusals.NoMemory → ⊥) → fault ≡ faults.Damaged gate) → IsNotTaken gate old e fault
   not_taken old new e refusal does lacks other = ⊎_elim
       (λ is. inl (lacks is))
-      (λ not. inr (other not, λ history is. refused is.plain e new refusal not (does is.plain is.stands))) (lacks_or_not refusal)
+      (λ not. inr (other not, λ p stands. refused p e new refusal not (does p stands))) (lacks_or_not refusal)
 
   pub nothing_due : (old new : OfficeView) (e : Entry) (reply : Reply) → IfSome e.token (λ one. kept_in one old.kept.queue ≡ None)
       → ((p : Office) → StandsFor old p → DoesOnce (Done p e) p new (Ok reply))
@@ -57,19 +57,19 @@ module _ {gate : ℕ} {fault : OpenFault} where
   nothing_due old new e reply fresh does at nothing =
       inr (
         at,
-        λ history is. nothing_taken is.plain e new (fresh_in e.token old is.plain is.stands fresh)
-            (subst (λ (r : Reply). DoesOnce (Done is.plain e) is.plain new (Ok r)) nothing (does is.plain is.stands)),
+        λ p stands. nothing_taken p e new (fresh_in e.token old p stands fresh)
+            (subst (λ (r : Reply). DoesOnce (Done p e) p new (Ok r)) nothing (does p stands)),
       )
 
   -- a token under which a reply is kept
   pub not_new : (old : OfficeView) (e : Entry) → (fault ≡ faults.NoMemory) ⊎ ((fault ≡ faults.Damaged gate) × ((p : Office) → StandsFor old p → accept p e ≡ None))
       → IsNotTaken gate old e fault
   not_new old e (inl lacks) = inl lacks
-  not_new old e (inr kept) = inr (kept.0, λ history is. kept.1 is.plain is.stands)
+  not_new old e (inr kept) = inr kept
 
 pub not_in_order : {gate : ℕ} (old : OfficeView) (e : Entry) → is_not_before old.records.last e.moment ≡ false → IsNotTaken gate old e (faults.Damaged gate)
 not_in_order old e early =
-    inr (refl, λ history is. early_refused is.plain e (subst (λ (last : Option ℕ). is_not_before last e.moment ≡ false) is.stands.records.last early))
+    inr (refl, λ p stands. early_refused p e (subst (λ (last : Option ℕ). is_not_before last e.moment ≡ false) stands.records.last early))
 
 -- ---- a token that recalls a reply, or is refused
 
@@ -128,7 +128,7 @@ module _ {D : Type 0} (d : disks.Ghosts D) where
 
   -- the next entry is taken as far as the office can count
   pub few_read : (disk : D) (gate : ℕ) (office : OfficeView) → HasRead d disk gate office → office.records.accepted < most_commands
-  few_read disk gate office read = few read.history office gate read.office_is read.end read.small
+  few_read disk gate office read = few header read.history office gate read.office_is read.end read.small
 
 -- ---- why reading fails
 

@@ -1,26 +1,26 @@
 -- The office in memory after one entry more.
 use Rattle.std.proofs.Common.{◌≡◌, inl, inr, refl, ℕ, ◌+◌, ◌^◌, ◌<◌, ◌≤◌, Bool, true, false, if◌then◌else◌, List, [], ◌∷◌, ◌++◌, Option, Some, None, Ok, Err, sym, ap}
 use Rattle.std.proofs.Common.{◌∙◌, subst, arith, length-append}
-use Rattle.std.specs.Prelude.{IsTrue, IfSome, option_map}
+use Rattle.std.specs.Prelude.{IsTrue, IfSome, option_map, option_and_then}
 use Rattle.plain_office.specs.Office.{Office, empty_office}
 use Rattle.plain_office.specs.Once.{kept_for, kept_at, step_with}
 use Rattle.plain_office.specs.Step.{is_accepted}
-use Rattle.plain_office.specs.Run.{accept, is_not_before}
+use Rattle.plain_office.specs.Run.{run, run_from, accept, is_not_before}
 use Rattle.office_types.specs.declared.command.Command.{Command}
 use Rattle.office_types.specs.declared.command.Entry.{Entry}
 use Rattle.office_types.specs.declared.reply.Reply.{Reply}
 use Rattle.office_types.specs.declared.reply.Reply.TheVariants.{NothingDue}
 use Rattle.office_types.specs.declared.refusal.Refusal.{Refusal}
 use Rattle.office_types.specs.declared.refusal.Refusal.TheVariants.{NoMemory}
-use Rattle.plain_office.proofs.Runs.{Answer, Token, done, refused, no_reply, refusal_is, IsStep, accepted_by, refused_by, nothing_by, with_refused, with_nothing, run_more, run_none}
+use Rattle.plain_office.proofs.Runs.{Answer, Token, done, refused, no_reply, refusal_is, IsStep, accepted_by, refused_by, nothing_by, with_refused, with_nothing}
 use Rattle.bucket_account.specs.Standing.{most_commands}
 use Rattle.kept_replies.specs.Queue.{plain_reply, kept_in}
 use Rattle.kept_replies.proofs.Indexes.{plain_found}
 use Rattle.office_machine.specs.Standing.{accepted_after}
 use Rattle.office_machine.specs.Once.{OfficeView, StandsFor, DoesOnce}
-use Rattle.meter_journal.specs.History.{header, end_gate}
+use Rattle.meter_journal.specs.History.{end_gate}
 use Rattle.meter_journal.proofs.History.{gate_high}
-use Rattle.desk_core.specs.Offices.{StandsAfter}
+use Rattle.desk_core.specs.Offices.{StandsSince, StandsAfter}
 
 -- ---- which tokens are new
 
@@ -88,8 +88,20 @@ nothing_taken p e new fresh does =
 
 -- ---- histories
 
+-- from the empty office on
+pub run_is : (history : List Entry) {o : Option Office} → run_from (Some empty_office) history ≡ o → run history ≡ o
+unfolding run
+run_is history is = is
+
 unfoldable pub none_after : (view : OfficeView) → StandsFor view empty_office → view.records.accepted ≡ 0 → StandsAfter [] view
-none_after view stands none = record { plain = empty_office; is_run = run_none; stands = stands; counted = none }
+none_after view stands none = record { plain = empty_office; is_run = refl; stands = stands; counted = omega (arith, none) }
+
+run_split : (start : Option Office) (front : List Entry) (e : Entry) → run_from start (front ++ e ∷ []) ≡ option_and_then (λ before. accept before e) (run_from start front)
+run_split start [] e = refl
+run_split start (f ∷ front) e = run_split (option_and_then (λ before. accept before f) start) front e
+
+pub run_on : (start : Option Office) (entries : List Entry) (e : Entry) (p q : Office) → run_from start entries ≡ Some p → accept p e ≡ Some q → run_from start (entries ++ e ∷ []) ≡ Some q
+run_on start entries e p q is ok = run_split start entries e ∙ ap (λ (o : Option Office). option_and_then (λ office. accept office e) o) is ∙ ok
 
 pub one_more : (new old : ℕ) (answer : Answer) → new ≡ accepted_after answer old → is_accepted answer ≡ true → new ≡ old + 1
 one_more new old answer counted made = counted ∙ ap (λ (b : Bool). if b then old + 1 else old) made
@@ -97,29 +109,30 @@ one_more new old answer counted made = counted ∙ ap (λ (b : Bool). if b then 
 no_more : (new old : ℕ) (answer : Answer) → new ≡ accepted_after answer old → is_accepted answer ≡ false → new ≡ old
 no_more new old answer counted not_made = counted ∙ ap (λ (b : Bool). if b then old + 1 else old) not_made
 
-unfoldable pub more_after : (history : List Entry) (e : Entry) (old new : OfficeView) (reply : Reply) (is : StandsAfter history old) → is_accepted (Ok reply) ≡ true
+unfoldable pub more_after : {start : Office} (entries : List Entry) (e : Entry) (old new : OfficeView) (reply : Reply) (is : StandsSince start entries old) → is_accepted (Ok reply) ≡ true
     → IsTrue (is_not_before old.records.last e.moment) → kept_for e.token is.plain ≡ None
-    → DoesOnce (Done is.plain e) is.plain new (Ok reply) → new.records.accepted ≡ accepted_after (Ok reply) old.records.accepted → StandsAfter (history ++ e ∷ []) new
-more_after history e old new reply is made later fresh does counted =
+    → DoesOnce (Done is.plain e) is.plain new (Ok reply) → new.records.accepted ≡ accepted_after (Ok reply) old.records.accepted → StandsSince start (entries ++ e ∷ []) new
+more_after {start} entries e old new reply is made later fresh does counted =
     let x = Done is.plain e in
     let accepted = taken is.plain e new reply fresh made (subst (λ (last : Option ℕ). IsTrue (is_not_before last e.moment)) is.stands.records.last later) does in
     record {
       plain = x.0;
-      is_run = run_more history e is.plain x.0 is.is_run accepted;
+      is_run = run_on (Some start) entries e is.plain x.0 is.is_run accepted;
       stands = (reply_is x is.plain new reply does).1;
-      counted = omega (arith, one_more new.records.accepted old.records.accepted (Ok reply) counted made, is.counted, length-append history (e ∷ []));
+      counted = omega (arith, one_more new.records.accepted old.records.accepted (Ok reply) counted made, is.counted, length-append entries (e ∷ []));
     }
 
-pub same_after : (history : List Entry) (e : Entry) (old new : OfficeView) (answer : Answer) (is : StandsAfter history old) → is_accepted answer ≡ false → kept_for e.token is.plain ≡ None
-    → DoesOnce (Done is.plain e) is.plain new answer → new.records.accepted ≡ accepted_after answer old.records.accepted → StandsAfter history new
-same_after history e old new answer is not_accepted fresh does counted = record {
+pub same_after : {start : Office} (entries : List Entry) (e : Entry) (old new : OfficeView) (answer : Answer) (is : StandsSince start entries old) → is_accepted answer ≡ false → kept_for e.token is.plain ≡ None
+    → DoesOnce (Done is.plain e) is.plain new answer → new.records.accepted ≡ accepted_after answer old.records.accepted → StandsSince start entries new
+same_after entries e old new answer is not_accepted fresh does counted = record {
   plain = is.plain;
   is_run = is.is_run;
   stands = unmoved_stands e.moment e.token e.command is.plain new answer fresh not_accepted does;
-  counted = no_more new.records.accepted old.records.accepted answer counted not_accepted ∙ is.counted;
+  counted = omega (arith, no_more new.records.accepted old.records.accepted answer counted not_accepted, is.counted);
 }
 
 -- ---- how many commands a journal holds
 
-pub few : (history : List Entry) (view : OfficeView) (gate : ℕ) → StandsAfter history view → gate ≡ end_gate header history → gate ≤ 2 ^ 45 → view.records.accepted < most_commands
-few history view gate is end small = omega (arith, is.counted, end, small, gate_high header history)
+pub few : {start : Office} (head : List ℕ) (entries : List Entry) (view : OfficeView) (gate : ℕ) → StandsSince start entries view → gate ≡ end_gate head entries → gate ≤ 2 ^ 45
+    → view.records.accepted < most_commands
+few {start} head entries view gate is end small = omega (arith, is.counted, end, small, gate_high head entries)

@@ -19,6 +19,7 @@ use Rattle.desk_core.specs.Damage.{HasReplayed}
 use Rattle.desk_core.specs.Histories.{HasAcceptedHistory}
 use Rattle.desk_core.specs.Desk.{DeskView}
 use Rattle.desk_core.specs.Opening.{Opens, opened_with}
+use Rattle.desk_core.proofs.Offices.{run_is}
 use Rattle.desk_core.proofs.Serving.{rest_image, unique}
 use Rattle.desk_core.proofs.OneCallMore.{starts}
 
@@ -47,7 +48,7 @@ module _ {D C : Type 0} {d : disks.Ghosts D} (laws : DiskLaws d) where
     history = read.history;
     holds = record { office = read.office_is; end = read.end; small = read.small; limit = subst (λ (n : ℕ). n ≤ 2 ^ 45) (sym limit_is) small; at_rest = rests };
     read = λ tells. subst (HasAcceptedHistory read.history) (seen_is tells)
-        (rest_image (d.state office.disk) office.gate read.history read.office_is.plain (rests tells) read.office_is.is_run (d.state office.disk).journal.seen
+        (rest_image (d.state office.disk) office.gate read.history read.office_is.plain (rests tells) (run_is read.history read.office_is.is_run) (d.state office.disk).journal.seen
         (laws.reads_image tells office.disk Journal));
     any_moment = λ tells. then_untouched (run tells) (untouched tells);
     clock = clock_is;
@@ -72,7 +73,7 @@ module _ {D C : Type 0} {d : disks.Ghosts D} (laws : DiskLaws d) where
       holds = λ _. (again.history, refl, again.holds);
       lost = λ not is. absurd (both_ways office.stale fresh is);
       serves = λ tells. starts laws (opened_with d again.history office) office.disk
-          (λ image is. (again.history, rest_image (d.state office.disk) office.gate again.history again.holds.office.plain (again.holds.at_rest tells) again.holds.office.is_run image is))
+          (λ image is. (again.history, rest_image (d.state office.disk) office.gate again.history again.holds.office.plain (again.holds.at_rest tells) (run_is again.history again.holds.office.is_run) image is))
           (λ image history is other. unique history again.history image other (each_image header (d.state office.disk) office.gate again.history (again.holds.at_rest tells) image is)) refl refl;
     };
     fresh = fresh;

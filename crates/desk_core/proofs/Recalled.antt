@@ -13,7 +13,6 @@ use Rattle.office_types.specs.Tokens.{takes_token}
 use Rattle.office_types.specs.declared.command.Ask.TheVariants as ask
 use Rattle.office_types.specs.declared.command.Command.{Command}
 use Rattle.office_types.specs.declared.command.Command.TheVariants as command
-use Rattle.office_types.specs.declared.command.Entry.{Entry}
 use Rattle.office_types.specs.declared.kept.Kept.{Kept}
 use Rattle.office_types.specs.declared.reply.Reply.{Reply}
 use Rattle.office_types.specs.declared.refusal.Refusal.{Refusal}
@@ -21,7 +20,8 @@ use Rattle.office_types.specs.declared.refusal.Refusal.TheVariants.{NoMemory, To
 use Rattle.office_machine.specs.Once.{OfficeView, StandsFor}
 use Rattle.desk_core.specs.Answers.{Answer}
 use Rattle.desk_core.specs.Asked.{Asked, AsksFor}
-use Rattle.desk_core.specs.Desk.{DeskView, HoldsHistory}
+use Rattle.desk_core.specs.Desk.{DeskView, HoldsTail}
+use Rattle.desk_core.specs.Offices.{Tail}
 use Rattle.desk_core.specs.Answering.{call_time, AnswersInTime}
 use Rattle.desk_core.specs.Submitting.{PassesLimit}
 use Rattle.desk_core.proofs.Adding.{done_of, is_made, made}
@@ -131,12 +131,12 @@ module _ (p : Office) (token : List ℕ) (c : Command) where
 
 -- ---- the answer, with which nothing is written
 
-module _ {D C : Type 0} (d : disks.Ghosts D) (t number : ℕ) (token : List ℕ) (c : Command) (takes : takes_token c ≡ true) (before : List Entry) where
+module _ {D C : Type 0} (d : disks.Ghosts D) (t number : ℕ) (token : List ℕ) (c : Command) (takes : takes_token c ≡ true) (before : Tail) where
   pub told_again : (m : ℕ) (reply : Result Reply Refusal) (said : Answer) {inside desk : DeskView D C} → inside ≡ desk → m ≡ t → said ≡ made d m number reply inside
       → ((p : Office) → StandsFor inside.office p → IsRecalled p token c reply)
-      → (hold : HoldsHistory d before desk) → AnswersInTime d (call_time t number) (ask.Once token c) hold.office.plain before desk inside (Ok said)
+      → (hold : HoldsTail d before desk) → AnswersInTime d (call_time t number) (ask.Once token c) hold.office.plain before desk inside (Ok said)
   told_again m reply said {inside} is at same recalls = subst
-      (λ (desk : DeskView D C). (hold : HoldsHistory d before desk) → AnswersInTime d (call_time t number) (ask.Once token c) hold.office.plain before desk inside (Ok said)) is
+      (λ (desk : DeskView D C). (hold : HoldsTail d before desk) → AnswersInTime d (call_time t number) (ask.Once token c) hold.office.plain before desk inside (Ok said)) is
       (λ hold.
       let call : Asked = record { token = Some token; command = c } in
       let plain = hold.office.plain in

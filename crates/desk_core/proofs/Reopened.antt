@@ -28,6 +28,7 @@ use Rattle.desk_core.specs.Desk.{DeskView, StandsFor, GoesOn, stale_after}
 use Rattle.desk_core.specs.Answering.{AnswersAsk}
 use Rattle.desk_core.specs.TurnLaws.{by_honesty, honest_legal}
 use Rattle.desk_core.proofs.Damage.{opens as never_fails}
+use Rattle.desk_core.proofs.Offices.{run_is}
 use Rattle.desk_core.proofs.Serving.{one_legal, rose_later, last_below, some_run}
 use Rattle.desk_core.proofs.Narrowing.{narrowed, narrowed_run, idle, recoverable_more, run_more, told_all}
 use Rattle.desk_core.proofs.OneCallMore.{last_faults, legal_append, told_more}
@@ -82,7 +83,7 @@ module _ {D C : Type 0} {d : disks.Ghosts D} (laws : DiskLaws d) where
       led = by_honesty d.honest
           (λ tells. honest_legal d.honest opened.limit opened.faults calls opened.history again.history tells
           ((s.serves tells).whole (d.state desk.disk).journal.seen again.history (laws.reads_image tells desk.disk Journal) (again.read tells)))
-          (λ not. s.lost not stale again.history (some_run again.history again.holds.office.plain again.holds.office.is_run))
+          (λ not. s.lost not stale again.history (some_run again.history again.holds.office.plain (run_is again.history again.holds.office.is_run)))
 
       pub stands_again : At opened calls office
       stands_again = record {

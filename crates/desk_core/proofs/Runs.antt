@@ -22,6 +22,7 @@ use Rattle.desk_core.specs.Runs.{KeepsHistories, KeepsCalls, AnswersCalls, outsi
 use Rattle.desk_core.specs.Serving.{Opened, KeepsSlots, DiskServes}
 use Rattle.desk_core.specs.TurnLaws.{by_honesty, honest_legal}
 use Rattle.desk_core.proofs.Following.{Path, Followed, follow, numbers_told, stale_is}
+use Rattle.desk_core.proofs.Offices.{run_is}
 use Rattle.desk_core.proofs.Serving.{rest_image, some_run}
 use Rattle.desk_core.proofs.OneCallMore.{calls_grow}
 
@@ -76,7 +77,7 @@ module _ {D C : Type 0} {d : disks.Ghosts D} (laws : DiskLaws d) (k : clocks.Gho
     steady = keeps_histories (opened_with d opens.history old) calls new.disk (followed.stands.serves tells);
     all = λ fresh image is.
         let h = holds (stale_is d k old new calls path ∙ ap (λ (b : Bool). stale_by b calls) opens.fresh ∙ fresh) in
-        rest_image (d.state new.disk) new.gate history h.office.plain (h.at_rest tells) h.office.is_run image is;
+        rest_image (d.state new.disk) new.gate history h.office.plain (h.at_rest tells) (run_is history h.office.is_run) image is;
     slots =
         let first = opens.any_moment tells in
         joined (KeepsSlots (d.state disk)) first (followed.slots tells) (λ s narrow. (narrow.slot0, narrow.slot1)) (λ s keeps. (keeps.0 ∙ first.now.slot0, keeps.1 ∙ first.now.slot1));

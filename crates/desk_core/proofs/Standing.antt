@@ -15,7 +15,7 @@ use Rattle.disk_core.proofs.Time.{started, weakened}
 use Rattle.plain_office.specs.Office.{Office}
 use Rattle.plain_office.specs.Once.{step_with}
 use Rattle.plain_office.specs.Step.{is_accepted}
-use Rattle.plain_office.specs.Run.{is_new}
+use Rattle.plain_office.specs.Run.{is_new, run}
 use Rattle.office_types.specs.declared.command.Ask.{Ask}
 use Rattle.office_types.specs.declared.command.Ask.TheVariants as ask
 use Rattle.office_types.specs.declared.command.Entry.{Entry}
@@ -35,9 +35,10 @@ use Rattle.desk_core.specs.Calls.{Legal, IsLegal, IsDone, IsReply, IsFull, IsWri
 use Rattle.desk_core.specs.Serving.{Opened, IsToldBy, AreToldBy, KeepsSlots, DiskServes}
 use Rattle.desk_core.specs.Submitting.{PassesLimit}
 use Rattle.desk_core.specs.Desk.{DeskView, HoldsHistory, GoesOn, stale_after}
+use Rattle.desk_core.specs.Offices.{from_first}
 use Rattle.desk_core.specs.Answering.{call_time, IsAnswerOf, CarriesOut, Grows, StoreFails, IsDoneAt, HasFailed, AnswersInTime, AnswersEnded, AnswersAt, AnswersAsk}
 use Rattle.desk_core.proofs.Adding.{asked_and}
-use Rattle.desk_core.proofs.Offices.{fresh_in}
+use Rattle.desk_core.proofs.Offices.{fresh_in, run_is}
 use Rattle.desk_core.proofs.Serving.{one_legal, rose_later, last_below, unique, makes_still, makes_grown, makes_failed}
 use Rattle.desk_core.proofs.OneCallMore.{last_faults, IsKept, Makes, one_more, recoverable, legal_append, told_more}
 
@@ -145,16 +146,19 @@ module _ {D C : Type 0} {d : disks.Ghosts D} (laws : DiskLaws d) where
     abbrev plain : Office
     plain = held.office.plain
 
+    runs : run s.history ≡ Some plain
+    runs = run_is s.history held.office.is_run
+
     -- a call that wrote nothing
     still_by : (call : Call) → stale_after false call.said ≡ false → new.disk ≡ old.disk → HoldsHistory d s.history new
         → ((b : Bool) → IsLegal b opened.limit last call.ask call.said plain s.history s.history)
         → IsToldBy (d.fault_count new.disk) call.said
         → (IsTrue d.honest → IsKept d new.disk call.said) → Next call
     still_by call fine same holds legal told kept =
-        let rule : (b : Bool) → Legal b opened.limit last (call ∷ []) s.history s.history = λ b. one_legal b opened.limit last call s.history s.history plain held.office.is_run (legal b) in
+        let rule : (b : Bool) → Legal b opened.limit last (call ∷ []) s.history s.history = λ b. one_legal b opened.limit last call s.history s.history plain runs (legal b) in
         grown_by call s.history rule (λ _. holds) (λ not is. absurd (both_ways (stale_after false call.said) fine is)) told
         (λ _. subst (λ (z : D). KeepsTo d old.disk z (KeepsSlots (d.state old.disk))) (sym same) (started d old.disk (KeepsSlots (d.state old.disk)) (laws.only_now old.disk) (refl, refl))) (λ tells.
-        makes_still laws old.disk old.gate s.history plain (held.at_rest tells) held.office.is_run
+        makes_still laws old.disk old.gate s.history plain (held.at_rest tells) runs
         (laws.reads_image tells old.disk Journal) opened.limit last call new.disk same (rule true) (kept tells) told)
 
     kept_at : (after : List Entry) (t number : ℕ) (said : Answer) → HoldsHistory d after new → IsAnswerOf d.moment (call_time t number) new said
@@ -178,7 +182,7 @@ module _ {D C : Type 0} {d : disks.Ghosts D} (laws : DiskLaws d) where
           → ((b : Bool) → IsLegal b opened.limit last question (Ok said) plain s.history s.history) → Next (call_of question (Ok said))
       answered_still question said made disk holds legal = still_by (call_of question (Ok said)) refl disk holds legal tt (kept_at s.history t number said holds made)
 
-      ended_call : (question : Ask) (said : Result Answer DeskFault) → end_of_time ≤ t → AnswersEnded d (call_time t number) s.history old new said → Next (call_of question said)
+      ended_call : (question : Ask) (said : Result Answer DeskFault) → end_of_time ≤ t → AnswersEnded d (call_time t number) (from_first s.history) old new said → Next (call_of question said)
       ended_call question (Ok said) past ended =
           answered_still question said ended.0 ended.2.disk ended.2.holds
           (λ b. past_end d b opened.limit last t number question plain said s.history s.history new at_plain ended.0 ended.2.holds.end past ended.1 refl)
@@ -204,20 +208,20 @@ module _ {D C : Type 0} {d : disks.Ghosts D} (laws : DiskLaws d) where
           room fits fresh = omega (arith, fits fresh, held.end, s.limit)
 
           grown : (said : Answer) → IsAnswerOf d.moment (call_time t number) new said → said.reply ≡ (step_with t one.token one.command plain).1
-              → (IsFresh one plain → old.gate + 6 + length (spelling e) ≤ old.limit) → IsTrue (is_new one.token plain && is_accepted said.reply) → Grows d s.history e old new
+              → (IsFresh one plain → old.gate + 6 + length (spelling e) ≤ old.limit) → IsTrue (is_new one.token plain && is_accepted said.reply) → Grows d (from_first s.history) e old new
               → Next (call_of question (Ok said))
           grown said made reply fits accepted grows =
               let call = call_of question (Ok said) in
               let after = s.history ++ e ∷ [] in
-              let rule : (b : Bool) → Legal b opened.limit last (call ∷ []) s.history after = λ b. one_legal b opened.limit last call s.history after plain held.office.is_run
+              let rule : (b : Bool) → Legal b opened.limit last (call ∷ []) s.history after = λ b. one_legal b opened.limit last call s.history after plain runs
               (legal_at question said after made grows.holds.end
               (reply_of question one asks said.reply after (record { told = reply; grows = inl (accepted, refl); fits = room fits })) b) in
               grown_by call after rule (λ _. grows.holds) (λ not is. absurd (both_ways false refl is)) tt (λ tells. adding_keeps s.history e (grows.run tells)) (λ tells.
-              makes_grown laws old.disk old.gate s.history plain (held.at_rest tells) held.office.is_run (laws.reads_image tells old.disk Journal) opened.limit last call
-              e grows.holds.office.plain grows.holds.office.is_run (rule true) new.disk new.gate (grows.run tells) (grows.holds.at_rest tells)
+              makes_grown laws old.disk old.gate s.history plain (held.at_rest tells) runs (laws.reads_image tells old.disk Journal) opened.limit last call
+              e grows.holds.office.plain (run_is after grows.holds.office.is_run) (rule true) new.disk new.gate (grows.run tells) (grows.holds.at_rest tells)
               (kept_at after t number said grows.holds made tells) (later, tt))
 
-          carried : (said : Answer) → IsAnswerOf d.moment (call_time t number) new said → CarriesOut d t one plain s.history old new said.reply → Next (call_of question (Ok said))
+          carried : (said : Answer) → IsAnswerOf d.moment (call_time t number) new said → CarriesOut d t one plain (from_first s.history) old new said.reply → Next (call_of question (Ok said))
           carried said made is = ⊎_elim (λ grew. grown said made is.told is.fits grew.0 grew.1)
               (λ stayed. answered_still question said made stayed.1.disk stayed.1.holds
               (legal_at question said s.history made stayed.1.holds.end
@@ -226,42 +230,42 @@ module _ {D C : Type 0} {d : disks.Ghosts D} (laws : DiskLaws d) where
           command_is : IsCommand question
           command_is = subst (λ (o : Option Asked). IsSome o) (sym asks) refl
 
-          failed : (count : ℕ) → count ≡ d.fault_count new.disk → StoreFails d plain s.history e old new
+          failed : (count : ℕ) → count ≡ d.fault_count new.disk → StoreFails d plain (from_first s.history) e old new
               → Next (call_of question (Err (faults.StoreFault (Some number) count)))
           failed count is fails =
               let call = call_of question (Err (faults.StoreFault (Some number) count)) in
               let rose : Rose last count = subst (λ (k : ℕ). Rose last k) (sym is) (rose_later last (d.fault_count old.disk) (d.fault_count new.disk)
               (last_below opened.faults (d.fault_count old.disk) calls s.faults.0 s.faults.1) fails.rose) in
               let rule : (b : Bool) → Legal b opened.limit last (call ∷ []) s.history s.history = λ b. one_legal b opened.limit last call
-              s.history s.history plain held.office.is_run (command_is, rose, λ _. inl refl) in
+              s.history s.history plain runs (command_is, rose, λ _. inl refl) in
               let accepted = fails.accepted plain held.office.stands in
               let written : IsWritten (moment_after number plain.last) one plain s.history (s.history ++ e ∷ []) =
               subst (λ (m : ℕ). IsWritten m one plain s.history (s.history ++ e ∷ [])) at_plain (record { moment = lt; fresh = accepted.0; accepted = accepted.1; written = refl }) in
               let there : IsKeptAt (moment_after number plain.last) question plain s.history (s.history ++ e ∷ []) =
               asked_and question one (λ c. IsWritten (moment_after number plain.last) c plain s.history (s.history ++ e ∷ [])) asks written in
-              let kept = one_legal true opened.limit last call s.history (s.history ++ e ∷ []) plain held.office.is_run (command_is, rose, λ _. inr there) in
+              let kept = one_legal true opened.limit last call s.history (s.history ++ e ∷ []) plain runs (command_is, rose, λ _. inr there) in
               let told : IsToldBy (d.fault_count new.disk) call.said = omega (arith, is) in
               grown_by call s.history rule (λ not. absurd (both_ways true not refl)) (λ not _ history.
-              one_legal d.honest opened.limit last call s.history history plain held.office.is_run
+              one_legal d.honest opened.limit last call s.history history plain runs
               (command_is, rose, λ tells. absurd (not tells))) told
               (λ tells. adding_keeps s.history e (fails.run tells)) (λ tells.
-              makes_failed laws old.disk old.gate s.history plain (held.at_rest tells) held.office.is_run (laws.reads_image tells old.disk Journal) opened.limit last call
-              e fails.next.0 (run_more s.history e plain fails.next.0 held.office.is_run fails.next.1) kept new.disk (rule true) (fails.run tells) tt (later, told))
+              makes_failed laws old.disk old.gate s.history plain (held.at_rest tells) runs (laws.reads_image tells old.disk Journal) opened.limit last call
+              e fails.next.0 (run_more s.history e plain fails.next.0 runs fails.next.1) kept new.disk (rule true) (fails.run tells) tt (later, told))
 
-        done : (question : Ask) (said : Answer) → IsAnswerOf d.moment (call_time t number) new said → IsDoneAt d t question plain s.history old new said.reply
+        done : (question : Ask) (said : Answer) → IsAnswerOf d.moment (call_time t number) new said → IsDoneAt d t question plain (from_first s.history) old new said.reply
             → Next (call_of question (Ok said))
         done (ask.Command command) said made is = carried (ask.Command command) _ refl said made is
         done (ask.Once token command) said made is = carried (ask.Once token command) _ refl said made is
         done (ask.Query query) said made is =
             answered_still (ask.Query query) said made is.1.disk is.1.holds (legal_at (ask.Query query) said s.history made is.1.holds.end (is.0, refl))
 
-        failed_call : (question : Ask) (count : ℕ) → count ≡ d.fault_count new.disk → HasFailed d t question plain s.history old new
+        failed_call : (question : Ask) (count : ℕ) → count ≡ d.fault_count new.disk → HasFailed d t question plain (from_first s.history) old new
             → Next (call_of question (Err (faults.StoreFault (Some number) count)))
         failed_call (ask.Command command) count is fails = failed (ask.Command command) _ refl count is fails
         failed_call (ask.Once token command) count is fails = failed (ask.Once token command) _ refl count is fails
         failed_call (ask.Query query) count is fails = absurd fails
 
-        kept_call : (question : Ask) (said : Result Answer DeskFault) → AnswersInTime d (call_time t number) question plain s.history old new said → Next (call_of question said)
+        kept_call : (question : Ask) (said : Result Answer DeskFault) → AnswersInTime d (call_time t number) question plain (from_first s.history) old new said → Next (call_of question said)
         kept_call question (Ok said) keeps = done question said keeps.0 keeps.1
         kept_call question (Err (faults.StoreFault (Some told) count)) keeps =
             subst (λ (n : ℕ). Next (call_of question (Err (faults.StoreFault (Some n) count)))) (sym keeps.0) (failed_call question count keeps.1 keeps.2)
@@ -272,7 +276,7 @@ module _ {D C : Type 0} {d : disks.Ghosts D} (laws : DiskLaws d) where
         kept_call question (Err (faults.Broken fault)) keeps = absurd keeps
         kept_call question (Err faults.NoMemory) keeps = still_by (call_of question (Err faults.NoMemory)) refl keeps.disk keeps.holds (λ b. refl) tt (λ tells. tt)
 
-      pub answers_call : (question : Ask) (said : Result Answer DeskFault) → AnswersAt d (call_time t number) question plain s.history old new said → Next (call_of question said)
+      pub answers_call : (question : Ask) (said : Result Answer DeskFault) → AnswersAt d (call_time t number) question plain (from_first s.history) old new said → Next (call_of question said)
       answers_call question said (inl in_time) = kept_call in_time.0 question said in_time.1
       answers_call question said (inr past) = ended_call question said past.0 past.1
 
@@ -285,4 +289,4 @@ module _ {D C : Type 0} {d : disks.Ghosts D} (laws : DiskLaws d) where
   submitted old new opened calls number question said s limit later asks =
       let told = record old { clock = asks.clock } in
       let stands = at_clock opened calls old asks.clock s in
-      answers_call told new limit later opened calls stands asks.t number asks.at question said (asks.answers s.history stands.holds)
+      answers_call told new limit later opened calls stands asks.t number asks.at question said (asks.answers (from_first s.history) stands.holds)

@@ -34,14 +34,15 @@ use Rattle.desk_core.specs.Answers.{Answer}
 use Rattle.desk_core.specs.Asked.{Asked, asked, entry_of, IsNotKept, Repeats}
 use Rattle.desk_core.specs.Calls.{moment_after}
 use Rattle.desk_core.specs.Submitting.{LeavesDisk, HasStoreReason, IsAcceptedAt, PassesLimit, IsAgain, IsClockEnd, KeepsOrAdds, HasCauses, IsOffice, IsUnopened}
-use Rattle.desk_core.specs.Desk.{DeskView, HoldsHistory, IsReady, IsLast, IsStamped, TellsFault, stale_after}
+use Rattle.desk_core.specs.Desk.{DeskView, HoldsTail, HoldsHistory, IsReady, IsLast, IsStamped, TellsFault, stale_after}
+use Rattle.desk_core.specs.Offices.{Tail, from_first, with_entries}
 use Rattle.desk_core.specs.Answering.{call_time, CarriesOut, StoreFails, IsDoneAt, HasFailed, AnswersInTime, AnswersAt, AnswersAsk}
 use Rattle.plain_office.proofs.Runs.{Token, step_kept, run_more}
 use Rattle.meter_journal.specs.History.{header, HasEntries, BeforeOrAfter}
 use Rattle.desk_core.specs.Numbers.{IsNumber}
 use Rattle.entry_codec.specs.Spelling.{spelling}
 use Rattle.desk_core.proofs.Adding.{asked_and}
-use Rattle.desk_core.proofs.Offices.{fresh_in}
+use Rattle.desk_core.proofs.Offices.{fresh_in, run_is}
 use Rattle.desk_core.proofs.OneCallMore.{some_and}
 use Rattle.desk_core.specs.Histories.{HasAcceptedHistory, IsSound}
 use Rattle.desk_core.proofs.Serving.{rest_image, some_run}
@@ -60,7 +61,7 @@ both_new false accepted old is = both_ways false refl is
 both_new true accepted old is = both_ways true old refl
 
 module _ {D : Type 0} {C : Type 0} (d : disks.Ghosts D)
-    (t number : ℕ) (question : Ask) (office : Office) (before : List Entry) (old new : DeskView D C) where
+    (t number : ℕ) (question : Ask) (office : Office) (before : Tail) (old new : DeskView D C) where
   abbrev Kept : Result Answer DeskFault → Type 0
   Kept said = AnswersInTime d (call_time t number) question office before old new said
 
@@ -118,7 +119,7 @@ module _ {D : Type 0} {C : Type 0} (d : disks.Ghosts D)
 -- ---- the disk, and causes in it
 
 module _ {D : Type 0} {C : Type 0} (d : disks.Ghosts D)
-    (t number : ℕ) (office : Office) (before : List Entry) (old new : DeskView D C) where
+    (t number : ℕ) (office : Office) (before : Tail) (old new : DeskView D C) where
   carried_leaves : (call : Asked) (said : Answer) → CarriesOut d t call office before old new said.reply → is_accepted said.reply ≡ false → new.disk ≡ old.disk
   carried_leaves call said is not = ⊎_elim (λ grew. absurd (both_not (is_new call.token office) (is_accepted said.reply) grew.0 not)) (λ stayed. stayed.1.disk) is.grows
 
@@ -180,62 +181,62 @@ module _ {D : Type 0} {C : Type 0} (d : disks.Ghosts D)
 
   -- ---- a further call
 
-  done_holds : (question : Ask) (said : Answer) → IsDoneAt d t question office before old new said.reply → (history : List Entry) × HoldsHistory d history new
-  done_holds (ask.Command command) said is = ⊎_elim (λ grew. (before ++ _ ∷ [], grew.1.holds)) (λ stayed. (before, stayed.1.holds)) is.grows
-  done_holds (ask.Once token command) said is = ⊎_elim (λ grew. (before ++ _ ∷ [], grew.1.holds)) (λ stayed. (before, stayed.1.holds)) is.grows
-  done_holds (ask.Query query) said is = (before, is.1.holds)
+  done_holds : (question : Ask) (said : Answer) → IsDoneAt d t question office before old new said.reply → (entries : List Entry) × HoldsTail d (with_entries before entries) new
+  done_holds (ask.Command command) said is = ⊎_elim (λ grew. (before.entries ++ _ ∷ [], grew.1.holds)) (λ stayed. (before.entries, stayed.1.holds)) is.grows
+  done_holds (ask.Once token command) said is = ⊎_elim (λ grew. (before.entries ++ _ ∷ [], grew.1.holds)) (λ stayed. (before.entries, stayed.1.holds)) is.grows
+  done_holds (ask.Query query) said is = (before.entries, is.1.holds)
 
   kept_holds : (question : Ask) (said : Result Answer DeskFault) → stale_after false said ≡ false → AnswersInTime d (call_time t number) question office before old new said
-      → (history : List Entry) × HoldsHistory d history new
+      → (entries : List Entry) × HoldsTail d (with_entries before entries) new
   kept_holds question (Ok said) fine keeps = done_holds question said keeps.1
   kept_holds question (Err (faults.StoreFault told count)) fine keeps = absurd (both_ways true fine refl)
-  kept_holds question (Err faults.JournalFull) fine keeps = (before, keeps.1.holds)
+  kept_holds question (Err faults.JournalFull) fine keeps = (before.entries, keeps.1.holds)
   kept_holds question (Err (faults.Broken fault)) fine keeps = absurd keeps
-  kept_holds question (Err faults.NoMemory) fine keeps = (before, keeps.holds)
+  kept_holds question (Err faults.NoMemory) fine keeps = (before.entries, keeps.holds)
 
   pub ready_on : (question : Ask) (said : Result Answer DeskFault) → stale_after false said ≡ false → AnswersAt d (call_time t number) question office before old new said
-      → (history : List Entry) × HoldsHistory d history new
+      → (entries : List Entry) × HoldsTail d (with_entries before entries) new
   ready_on question said fine (inl in_time) = kept_holds question said fine in_time.1
-  ready_on question (Ok said) fine (inr past) = (before, past.1.2.holds)
+  ready_on question (Ok said) fine (inr past) = (before.entries, past.1.2.holds)
   ready_on question (Err fault) fine (inr past) = absurd past.1
 
 -- ---- histories of images
 
 pub holds_sound : {D C : Type 0} (d : disks.Ghosts D) (history : List Entry) (desk : DeskView D C) → HoldsHistory d history desk → IsTrue d.honest → IsSound (d.state desk.disk)
 holds_sound d history desk holds tells image is =
-    (history, rest_image (d.state desk.disk) desk.gate history holds.office.plain (holds.at_rest tells) holds.office.is_run image is)
+    (history, rest_image (d.state desk.disk) desk.gate history holds.office.plain (holds.at_rest tells) (run_is history holds.office.is_run) image is)
 
 pub narrower_sound : (first s : State) → IsSound first → Narrower first s → IsSound s
 narrower_sound first s sound narrow image is = sound image (narrow.journal image is)
 
 module _ {D : Type 0} {C : Type 0} (d : disks.Ghosts D)
     (t number : ℕ) (before : List Entry) (old new : DeskView D C) (hold : HoldsHistory d before old) where
-  command_sound : (call : Asked) → StoreFails d hold.office.plain before (entry_of t call) old new → IsTrue d.honest → IsSound (d.state new.disk)
+  command_sound : (call : Asked) → StoreFails d hold.office.plain (from_first before) (entry_of t call) old new → IsTrue d.honest → IsSound (d.state new.disk)
   command_sound call fails tells = λ image is.
       let entry = entry_of t call in
-      ⊎_elim (λ (e : HasEntries header before image). (before, record { entries = e; accepted = some_run before hold.office.plain hold.office.is_run }))
+      ⊎_elim (λ (e : HasEntries header before image). (before, record { entries = e; accepted = some_run before hold.office.plain (run_is before hold.office.is_run) }))
       (λ (e : HasEntries header (before ++ entry ∷ []) image).
-      (before ++ entry ∷ [], record { entries = e; accepted = some_run (before ++ entry ∷ []) fails.next.0 (run_more before entry hold.office.plain fails.next.0 hold.office.is_run fails.next.1) }))
+      (before ++ entry ∷ [], record { entries = e; accepted = some_run (before ++ entry ∷ []) fails.next.0 (run_more before entry hold.office.plain fails.next.0 (run_is before hold.office.is_run) fails.next.1) }))
       ((fails.run tells).now.journal image is)
 
-  failed_sound : (question : Ask) → HasFailed d t question hold.office.plain before old new → IsTrue d.honest → IsSound (d.state new.disk)
-  failed_sound question fails tells = some_and (asked question) (λ call. StoreFails d hold.office.plain before (entry_of t call) old new) (λ call one. command_sound call one tells) fails
+  failed_sound : (question : Ask) → HasFailed d t question hold.office.plain (from_first before) old new → IsTrue d.honest → IsSound (d.state new.disk)
+  failed_sound question fails tells = some_and (asked question) (λ call. StoreFails d hold.office.plain (from_first before) (entry_of t call) old new) (λ call one. command_sound call one tells) fails
 
-  pub sound_on : (question : Ask) (said : Result Answer DeskFault) → AnswersAt d (call_time t number) question hold.office.plain before old new said → IsTrue d.honest → IsSound (d.state new.disk)
+  pub sound_on : (question : Ask) (said : Result Answer DeskFault) → AnswersAt d (call_time t number) question hold.office.plain (from_first before) old new said → IsTrue d.honest → IsSound (d.state new.disk)
   sound_on question (Ok said) answers tells =
-      let on = ready_on d t number hold.office.plain before old new question (Ok said) refl answers in
+      let on = ready_on d t number hold.office.plain (from_first before) old new question (Ok said) refl answers in
       holds_sound d on.0 new on.1 tells
   sound_on question (Err (faults.StoreFault (Some told) count)) answers tells =
-      failed_sound question (in_time_of d t number question hold.office.plain before old new (faults.StoreFault (Some told) count) answers).1.2 tells
+      failed_sound question (in_time_of d t number question hold.office.plain (from_first before) old new (faults.StoreFault (Some told) count) answers).1.2 tells
   sound_on question (Err (faults.StoreFault None count)) answers tells =
-      absurd (in_time_of d t number question hold.office.plain before old new (faults.StoreFault None count) answers).1
+      absurd (in_time_of d t number question hold.office.plain (from_first before) old new (faults.StoreFault None count) answers).1
   sound_on question (Err faults.JournalFull) answers tells =
-      let on = ready_on d t number hold.office.plain before old new question (Err faults.JournalFull) refl answers in
+      let on = ready_on d t number hold.office.plain (from_first before) old new question (Err faults.JournalFull) refl answers in
       holds_sound d on.0 new on.1 tells
   sound_on question (Err (faults.Broken fault)) answers tells =
-      absurd (in_time_of d t number question hold.office.plain before old new (faults.Broken fault) answers).1
+      absurd (in_time_of d t number question hold.office.plain (from_first before) old new (faults.Broken fault) answers).1
   sound_on question (Err faults.NoMemory) answers tells =
-      let on = ready_on d t number hold.office.plain before old new question (Err faults.NoMemory) refl answers in
+      let on = ready_on d t number hold.office.plain (from_first before) old new question (Err faults.NoMemory) refl answers in
       holds_sound d on.0 new on.1 tells
 
 -- ---- what a crash inside the call leaves
@@ -246,7 +247,7 @@ module _ {D C : Type 0} {d : disks.Ghosts D} (laws : DiskLaws d)
   Inside question = KeepsTo d old.disk new.disk (KeepsOrAdds t question before)
 
   here : (question : Ask) → KeepsOrAdds t question before (d.state old.disk)
-  here question = λ image is. inl (rest_image (d.state old.disk) old.gate before hold.office.plain (hold.at_rest tells) hold.office.is_run image is)
+  here question = λ image is. inl (rest_image (d.state old.disk) old.gate before hold.office.plain (hold.at_rest tells) (run_is before hold.office.is_run) image is)
 
   stays_inside : (question : Ask) → new.disk ≡ old.disk → Inside question
   stays_inside question same = subst (λ (z : D). KeepsTo d old.disk z (KeepsOrAdds t question before)) (sym same)
@@ -258,32 +259,32 @@ module _ {D C : Type 0} {d : disks.Ghosts D} (laws : DiskLaws d)
 
     adds_inside : (more : Office) → run (before ++ e ∷ []) ≡ Some more → KeepsTo d old.disk new.disk (BeforeOrAfter header before e (d.state old.disk)) → Inside question
     adds_inside more is_more ran = weakened (KeepsOrAdds t question before) ran (λ s both image is. ⊎_elim
-        (λ (old_one : HasEntries header before image). inl (record { entries = old_one; accepted = some_run before hold.office.plain hold.office.is_run }))
+        (λ (old_one : HasEntries header before image). inl (record { entries = old_one; accepted = some_run before hold.office.plain (run_is before hold.office.is_run) }))
         (λ (new_one : HasEntries header (before ++ e ∷ []) image).
         inr (asked_and question call (λ c. HasAcceptedHistory (before ++ entry_of t c ∷ []) image) asks
         (record { entries = new_one; accepted = some_run (before ++ e ∷ []) more is_more })))
         (both.journal image is))
 
-    carried_inside : (said : Answer) → CarriesOut d t call hold.office.plain before old new said.reply → Inside question
+    carried_inside : (said : Answer) → CarriesOut d t call hold.office.plain (from_first before) old new said.reply → Inside question
     carried_inside said is =
-        ⊎_elim (λ grew. adds_inside grew.1.holds.office.plain grew.1.holds.office.is_run (grew.1.run tells))
+        ⊎_elim (λ grew. adds_inside grew.1.holds.office.plain (run_is (before ++ e ∷ []) grew.1.holds.office.is_run) (grew.1.run tells))
         (λ stayed. stays_inside question stayed.1.disk) is.grows
 
-    command_inside : StoreFails d hold.office.plain before e old new → Inside question
+    command_inside : StoreFails d hold.office.plain (from_first before) e old new → Inside question
     command_inside fails =
-        adds_inside fails.next.0 (run_more before e hold.office.plain fails.next.0 hold.office.is_run fails.next.1) (fails.run tells)
+        adds_inside fails.next.0 (run_more before e hold.office.plain fails.next.0 (run_is before hold.office.is_run) fails.next.1) (fails.run tells)
 
-  done_inside : (question : Ask) (said : Answer) → IsDoneAt d t question hold.office.plain before old new said.reply → Inside question
+  done_inside : (question : Ask) (said : Answer) → IsDoneAt d t question hold.office.plain (from_first before) old new said.reply → Inside question
   done_inside (ask.Command command) said is = carried_inside (ask.Command command) _ refl said is
   done_inside (ask.Once token command) said is = carried_inside (ask.Once token command) _ refl said is
   done_inside (ask.Query query) said is = stays_inside (ask.Query query) is.1.disk
 
-  failed_inside : (question : Ask) → HasFailed d t question hold.office.plain before old new → Inside question
+  failed_inside : (question : Ask) → HasFailed d t question hold.office.plain (from_first before) old new → Inside question
   failed_inside (ask.Command command) fails = command_inside (ask.Command command) _ refl fails
   failed_inside (ask.Once token command) fails = command_inside (ask.Once token command) _ refl fails
   failed_inside (ask.Query query) fails = absurd fails
 
-  kept_inside : (question : Ask) (said : Result Answer DeskFault) → AnswersInTime d (call_time t number) question hold.office.plain before old new said → Inside question
+  kept_inside : (question : Ask) (said : Result Answer DeskFault) → AnswersInTime d (call_time t number) question hold.office.plain (from_first before) old new said → Inside question
   kept_inside question (Ok said) keeps = done_inside question said keeps.1
   kept_inside question (Err (faults.StoreFault (Some told) count)) keeps = failed_inside question keeps.2
   kept_inside question (Err (faults.StoreFault None count)) keeps = absurd keeps
@@ -291,7 +292,7 @@ module _ {D C : Type 0} {d : disks.Ghosts D} (laws : DiskLaws d)
   kept_inside question (Err (faults.Broken fault)) keeps = absurd keeps
   kept_inside question (Err faults.NoMemory) keeps = stays_inside question keeps.disk
 
-  pub inside_of : (question : Ask) (said : Result Answer DeskFault) → AnswersAt d (call_time t number) question hold.office.plain before old new said → Inside question
+  pub inside_of : (question : Ask) (said : Result Answer DeskFault) → AnswersAt d (call_time t number) question hold.office.plain (from_first before) old new said → Inside question
   inside_of question said (inl in_time) = kept_inside question said in_time.1
   inside_of question (Ok said) (inr past) = stays_inside question past.1.2.disk
   inside_of question (Err fault) (inr past) = absurd past.1
@@ -328,7 +329,7 @@ module _ (question : Ask) (office : Office) (one : KeptReply) (again : Repeats q
   not_new : is_new call.token office ≡ false
   not_new = rw again.kept refl
 
-module _ {D C : Type 0} (d : disks.Ghosts D) (t number : ℕ) (before : List Entry) (old new : DeskView D C) (hold : HoldsHistory d before old)
+module _ {D C : Type 0} (d : disks.Ghosts D) (t number : ℕ) (before : Tail) (old new : DeskView D C) (hold : HoldsTail d before old)
     (question : Ask) (one : KeptReply) (again : Repeats question hold.office.plain one) where
   abbrev plain : Office
   plain = hold.office.plain
@@ -381,20 +382,20 @@ module _ {D C : Type 0} {d : disks.Ghosts D} {number : ℕ} {question : Ask} {ol
   abbrev hold : HoldsHistory d before told
   hold = record { office = ready.1.office; end = ready.1.end; small = ready.1.small; limit = ready.1.limit; at_rest = ready.1.at_rest }
 
-  abbrev one : AnswersAt d (call_time asks.t number) question hold.office.plain before told new said
-  one = asks.answers before hold
+  abbrev one : AnswersAt d (call_time asks.t number) question hold.office.plain (from_first before) told new said
+  one = asks.answers (from_first before) hold
 
   pub stamped_by : IsStamped said new.gate (d.moment new.disk)
-  stamped_by = stamped d asks.t number question hold.office.plain before told new said one
+  stamped_by = stamped d asks.t number question hold.office.plain (from_first before) told new said one
 
   pub numbered_by : (a b : Option (List ℕ)) → Appends a b (number ∷ []) → IsNumber a b said
-  numbered_by a b more = numbered d asks.t number question hold.office.plain before told new a b said more one
+  numbered_by a b more = numbered d asks.t number question hold.office.plain (from_first before) told new a b said more one
 
   pub last_by : IsLast number said
-  last_by = last_told d asks.t number question hold.office.plain before told new number said refl one
+  last_by = last_told d asks.t number question hold.office.plain (from_first before) told new number said refl one
 
   pub ready_by : stale_after false said ≡ false → IsReady d new
-  ready_by fine = ready_on d asks.t number hold.office.plain before told new question said fine one
+  ready_by fine = ready_on d asks.t number hold.office.plain (from_first before) told new question said fine one
 
   pub tells_by : (k : clocks.Ghosts C) → DiskLaws d → k.last new.clock ≡ number
       → k.count new.clock ≡ min (k.count old.clock + 1) (2 ^ 64 - 1)
@@ -405,19 +406,19 @@ module _ {D C : Type 0} {d : disks.Ghosts D} {number : ℕ} {question : Ask} {ol
       let now_is : asks.t ≡ moment_after (k.last new.clock) old.office.records.last = asks.at ∙ ap (λ (n : ℕ). moment_after n old.office.records.last) (sym last_is) in
       record {
         once = once;
-        quiet = leaves d asks.t number hold.office.plain before told new question said one;
+        quiet = leaves d asks.t number hold.office.plain (from_first before) told new question said one;
         inside = λ tells b holds.
             let other : HoldsHistory d b told = record { office = holds.office; end = holds.end; small = holds.small; limit = holds.limit; at_rest = holds.at_rest } in
             subst (λ (t : ℕ). KeepsTo d old.disk new.disk (KeepsOrAdds t question b)) now_is
-            (inside_of laws tells asks.t number b told new other question said (asks.answers b other));
-        reason = reason d asks.t number hold.office.plain before told new question said asks.at one;
-        ended = subst (λ (t : ℕ). end_of_time ≤ t → IsClockEnd t said) now_is (λ past. ended_so d asks.t number question hold.office.plain before told new said past one);
+            (inside_of laws tells asks.t number b told new other question said (asks.answers (from_first b) other));
+        reason = reason d asks.t number hold.office.plain (from_first before) told new question said asks.at one;
+        ended = subst (λ (t : ℕ). end_of_time ≤ t → IsClockEnd t said) now_is (λ past. ended_so d asks.t number question hold.office.plain (from_first before) told new said past one);
         repeats = λ b holds first again lt.
             let other : HoldsHistory d b told = record { office = holds.office; end = holds.end; small = holds.small; limit = holds.limit; at_rest = holds.at_rest } in
-            repeated_so d asks.t number b told new other question first again (omega (arith, now_is, lt)) said (asks.answers b other);
+            repeated_so d asks.t number (from_first b) told new other question first again (omega (arith, now_is, lt)) said (asks.answers (from_first b) other);
         full = full;
         full_alone = subst (λ (t : ℕ). said ≡ Err faults.JournalFull → PassesLimit t old question) now_is
-            (full_alone d asks.t number question hold.office.plain before told new said one);
+            (full_alone d asks.t number question hold.office.plain (from_first before) told new said one);
       }
 
   pub sound_by : IsTrue d.honest → IsSound (d.state new.disk)

@@ -5,7 +5,7 @@ use Rattle.disk_core.specs.Files.{synced_file}
 use Rattle.plain_office.specs.Office.{Office}
 use Rattle.plain_office.specs.Run.{run, accept}
 use Rattle.office_types.specs.declared.command.Entry.{Entry}
-use Rattle.office_machine.specs.Once.{OfficeView}
+use Rattle.office_machine.specs.Once.{OfficeView, StandsFor}
 use Rattle.meter_journal.specs.declared.fault.OpenFault.{OpenFault}
 use Rattle.meter_journal.specs.declared.fault.OpenFault.TheVariants as faults
 use Rattle.meter_journal.specs.History.{header, end_gate, IsAtRest}
@@ -24,13 +24,13 @@ pub record IsDamagedAt (at : ℕ) (file : List ℕ) : Type 0 where
   pub breaks : (frame_at at file ≡ Broken)
       ⊎ ((entry : Entry) × (next : ℕ) × (frame_at at file ≡ Whole entry next) × (accept office entry ≡ None))
 
--- why the entry at this gate is not taken: memory is wanting, or the journal is damaged there, since the office that
--- this one stands for does not accept it: its moment is before the last one, a reply is kept under its token, or its
--- command is refused
+-- why the entry at this gate is not taken: memory is wanting, or the journal is damaged there, since no office that
+-- this one stands for accepts it: its moment is before the last one, a reply is kept under its token, or its command is
+-- refused
 abbrev pub IsNotTaken : ℕ → OfficeView → Entry → OpenFault → Type 0
 IsNotTaken gate view entry fault =
     (fault ≡ faults.NoMemory) ⊎ ((fault ≡ faults.Damaged gate)
-    × ((history : List Entry) (is : StandsAfter history view) → accept is.plain entry ≡ None))
+    × ((plain : Office) → StandsFor view plain → accept plain entry ≡ None))
 
 -- why a journal file of these bytes is not opened; a failing disk and want of memory are no fault of the bytes
 abbrev pub OpenFails : OpenFault → List ℕ → Type 0

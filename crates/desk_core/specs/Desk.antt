@@ -6,10 +6,10 @@ use Rattle.disk_core.specs.Moments.{KeepsTo}
 use Rattle.plain_office.specs.Run.{run}
 use Rattle.office_types.specs.declared.command.Entry.{Entry}
 use Rattle.office_machine.specs.Once.{OfficeView}
-use Rattle.meter_journal.specs.History.{header, end_gate, IsAtRest}
+use Rattle.meter_journal.specs.History.{end_gate, IsAtRest}
 use Rattle.desk_core.specs.Answers.{Answer, Call}
 use Rattle.desk_core.specs.Calls.{Legal}
-use Rattle.desk_core.specs.Offices.{StandsAfter}
+use Rattle.desk_core.specs.Offices.{Tail, from_first, StandsSince}
 use Rattle.desk_core.specs.Serving.{Opened, AreToldBy, Recoverable, KeepsSlots, DiskServes}
 use Rattle.desk_core.specs.declared.fault.DeskFault.{DeskFault}
 use Rattle.desk_core.specs.declared.fault.DeskFault.TheVariants as faults
@@ -24,15 +24,19 @@ pub record DeskView (D C : Type 0) : Type 0 where
   pub limit : ℕ
   pub stale : Bool
 
--- the office is the one after this history, and the gate the end of its journal, which stands at 2^45 bytes or before,
--- as its limit does; an honest disk holds that journal, synced
-pub record HoldsHistory {D C : Type 0} (d : disks.Ghosts D) (history : List Entry)
+-- the office is the one after the entries of this tail, and the gate the end of its journal, which stands at 2^45 bytes
+-- or before, as its limit does; an honest disk holds that journal, synced
+pub record HoldsTail {D C : Type 0} (d : disks.Ghosts D) (tail : Tail)
     (desk : DeskView D C) : Type 0 where
-  pub office : StandsAfter history desk.office
-  pub end : desk.gate ≡ end_gate header history
+  pub office : StandsSince tail.office tail.entries desk.office
+  pub end : desk.gate ≡ end_gate tail.head tail.entries
   pub small : desk.gate ≤ 2 ^ 45
   pub limit : desk.limit ≤ 2 ^ 45
-  pub at_rest : IsTrue d.honest → IsAtRest header (d.state desk.disk) desk.gate history
+  pub at_rest : IsTrue d.honest → IsAtRest tail.head (d.state desk.disk) desk.gate tail.entries
+
+-- the tail is the whole history, from the empty office on
+abbrev pub HoldsHistory : {D C : Type 0} → disks.Ghosts D → List Entry → DeskView D C → Type 0
+HoldsHistory d history desk = HoldsTail d (from_first history) desk
 
 -- so it is of some history
 abbrev pub IsReady : {D C : Type 0} → disks.Ghosts D → DeskView D C → Type 0

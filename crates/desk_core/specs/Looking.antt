@@ -12,11 +12,16 @@ use Rattle.desk_core.specs.Answers.{Call}
 use Rattle.desk_core.specs.Calls.{Legal, moment_after}
 use Rattle.desk_core.specs.Serving.{Opened}
 
--- the reply of the plain office after this history to a query, as of the later of the number and the last moment
+-- this office's reply to a query, as of the later of the number and its last moment; or memory is wanting
+abbrev pub IsReplyOf : ℕ → Query → Office → Result Reply Refusal → Type 0
+IsReplyOf told query plain reply =
+    (reply ≡ answer (moment_after told plain.last) query plain) ⊎ (reply ≡ Err NoMemory)
+
+-- so it is of the plain office after this history
 pub record IsRead (told : ℕ) (query : Query) (history : List Entry) (reply : Result Reply Refusal) : Type 0 where
   pub plain : Office
   pub is_run : run history ≡ Some plain
-  pub answered : (reply ≡ answer (moment_after told plain.last) query plain) ⊎ (reply ≡ Err NoMemory)
+  pub answered : IsReplyOf told query plain reply
 
 -- it is of a history to which these calls lead
 abbrev pub IsReadAfter : Bool → Opened → List Call → ℕ → Query → Result Reply Refusal → Type 0

@@ -1,6 +1,6 @@
 // An office over its journal.
 ghost use Rattle.std.specs.Prelude.{◌≡◌, ◌⊎◌, ◌+◌, ◌-◌, ◌<◌, ◌≤◌, ◌^◌};
-ghost use Rattle.std.specs.Prelude.{List, length, true, false, IsTrue, IfSome, option_copied, Some, None, Ok, Err};
+ghost use Rattle.std.specs.Prelude.{length, true, false, IsTrue, IfSome, option_copied, Some, None, Ok, Err};
 ghost use Rattle.moments.specs.Time.{end_of_time};
 ghost use Rattle.office_types.specs.declared.command.Entry.{Entry};
 ghost use Rattle.office_types.specs.declared.command.Ask.{Ask};
@@ -10,17 +10,19 @@ ghost use Rattle.office_types.specs.Fits.{ReplyFits, AnswerFits};
 ghost use Rattle.office_types.specs.Entries.{entry_with};
 ghost use Rattle.office_types.specs.Tokens.{MayCarry};
 ghost use Rattle.kept_replies.specs.Queue.{kept_in};
+ghost use Rattle.plain_office.specs.Office as plain;
 ghost use Rattle.plain_office.specs.Run.{is_not_before};
+ghost use Rattle.office_machine.specs.Once.{StandsFor};
 ghost use Rattle.entry_codec.specs.Spelling.{EntryFits, IsEntry, spelling};
-ghost use Rattle.meter_journal.specs.History.{header, end_gate, IsAtRest};
+ghost use Rattle.meter_journal.specs.History.{end_gate, IsAtRest};
 ghost use Rattle.desk_core.specs.Asked.{AsksFor};
 ghost use Rattle.desk_core.specs.Calls.{moment_after};
-ghost use Rattle.desk_core.specs.Desk.{DeskView, HoldsHistory, IsReady, IsLast, IsStamped, stale_after};
+ghost use Rattle.desk_core.specs.Desk.{DeskView, HoldsTail, IsReady, IsLast, IsStamped, stale_after};
 ghost use Rattle.desk_core.specs.Submitting.{PassesLimit, HasCauses};
 ghost use Rattle.desk_core.specs.Histories.{IsSound};
-ghost use Rattle.desk_core.specs.Looking.{IsRead};
+ghost use Rattle.desk_core.specs.Looking.{IsReplyOf};
 ghost use Rattle.desk_core.specs.Numbers.{IsNumber};
-ghost use Rattle.desk_core.specs.Offices.{StandsAfter};
+ghost use Rattle.desk_core.specs.Offices.{Tail};
 ghost use Rattle.desk_core.specs.Answering.{call_time, AddsEntry, AnswersInTime, AnswersAt, AnswersAsk};
 
 use crate::acked::Acked;
@@ -151,12 +153,12 @@ impl<D: Disk + Drop, C: Clock + Drop> Engine<D, C> {
         requires reply_fits { ReplyFits reply }
         requires entry { IsEntry bytes.now }
         requires fits { self.old.gate + 6 + length bytes.now ≤ self.old.limit }
-        requires at_rest { IsTrue D.honest → (before : List Entry)
-            × IsAtRest header (D.state self.old.disk) self.old.gate before }
+        requires at_rest { IsTrue D.honest → (before : Tail)
+            × IsAtRest before.head (D.state self.old.disk) self.old.gate before.entries }
 
-        ensures adds { (before : List Entry) (e : Entry) → EntryFits e → bytes.now ≡ spelling e
-            → self.old.gate ≡ end_gate header before
-            → (IsTrue D.honest → IsAtRest header (D.state self.old.disk) self.old.gate before)
+        ensures adds { (before : Tail) (e : Entry) → EntryFits e → bytes.now ≡ spelling e
+            → self.old.gate ≡ end_gate before.head before.entries
+            → (IsTrue D.honest → IsAtRest before.head (D.state self.old.disk) self.old.gate before.entries)
             → AddsEntry D.Disk (call_time moment told) (Ok reply) before e self.old self.new result }
         ensures office { self.new.office ≡ self.old.office }
         ensures clock { self.new.clock ≡ self.old.clock }
@@ -191,7 +193,7 @@ impl<D: Disk + Drop, C: Clock + Drop> Engine<D, C> {
         requires fits { self.old.gate + 6 + length bytes.now ≤ self.old.limit }
         requires ready { IsReady D.Disk self.old }
 
-        ensures keeps { (question : Ask) (before : List Entry) (hold : HoldsHistory D.Disk before self.old)
+        ensures keeps { (question : Ask) (before : Tail) (hold : HoldsTail D.Disk before self.old)
             → AsksFor question (option_copied token.entry) command.now
             → AnswersInTime D.Disk (call_time moment told) question hold.office.plain before self.old self.new result }
         ensures clock { self.new.clock ≡ self.old.clock }
@@ -223,7 +225,7 @@ impl<D: Disk + Drop, C: Clock + Drop> Engine<D, C> {
         requires later { IsTrue (is_not_before self.old.office.records.last moment) }
         requires ready { IsReady D.Disk self.old }
 
-        ensures keeps { (question : Ask) (before : List Entry) (hold : HoldsHistory D.Disk before self.old)
+        ensures keeps { (question : Ask) (before : Tail) (hold : HoldsTail D.Disk before self.old)
             → AsksFor question (option_copied token.entry) command.now
             → AnswersInTime D.Disk (call_time moment told) question hold.office.plain before self.old self.new result }
         ensures full { self.old.limit < self.old.gate + 6
@@ -254,7 +256,7 @@ impl<D: Disk + Drop, C: Clock + Drop> Engine<D, C> {
         requires later { IsTrue (is_not_before self.old.office.records.last moment) }
         requires ready { IsReady D.Disk self.old }
 
-        ensures keeps { (before : List Entry) (hold : HoldsHistory D.Disk before self.old)
+        ensures keeps { (before : Tail) (hold : HoldsTail D.Disk before self.old)
             → AnswersInTime D.Disk (call_time moment told)
             (ask_of.Once token.now command.now) hold.office.plain before self.old self.new result }
         ensures full { PassesLimit moment self.old (ask_of.Once token.now command.now)
@@ -281,7 +283,7 @@ impl<D: Disk + Drop, C: Clock + Drop> Engine<D, C> {
         requires later { IsTrue (is_not_before self.now.office.records.last moment) }
         requires ready { IsReady D.Disk self.now }
 
-        ensures keeps { (before : List Entry) (hold : HoldsHistory D.Disk before self.now)
+        ensures keeps { (before : Tail) (hold : HoldsTail D.Disk before self.now)
             → AnswersInTime D.Disk (call_time moment told)
             (ask_of.Query query.now) hold.office.plain before self.now self.now result }
     {
@@ -305,8 +307,8 @@ impl<D: Disk + Drop, C: Clock + Drop> Engine<D, C> {
     pub(crate) fn look(&self, told: u64, query: &Query) -> Result<Reply, Refusal>
         requires begun { told < end_of_time }
 
-        ensures reads { (history : List Entry) → StandsAfter history self.now.office
-            → IsRead told query.now history result }
+        ensures reads { (office : plain.Office) → StandsFor self.now.office office
+            → IsReplyOf told query.now office result }
         ensures fits { AnswerFits result }
     {
         match Moment::of(moment_for(told, self.office.last())) {
@@ -320,7 +322,7 @@ impl<D: Disk + Drop, C: Clock + Drop> Engine<D, C> {
         requires later { IsTrue (is_not_before self.old.office.records.last moment) }
         requires ready { IsReady D.Disk self.old }
 
-        ensures answers { (before : List Entry) (hold : HoldsHistory D.Disk before self.old)
+        ensures answers { (before : Tail) (hold : HoldsTail D.Disk before self.old)
             → AnswersAt D.Disk (call_time moment told) ask.now hold.office.plain before self.old self.new result }
         ensures full { PassesLimit moment self.old ask.now
             → (result ≡ Err DeskFault.JournalFull) ⊎ (result ≡ Err DeskFault.NoMemory) }

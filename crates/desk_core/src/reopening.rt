@@ -10,7 +10,8 @@ ghost use Rattle.bucket_account.specs.Standing.{most_commands};
 ghost use Rattle.meter_journal.specs.Reading.{IsMade, HasStoreCause};
 ghost use Rattle.desk_core.specs.Submitting.{Reopens, IsOffice, Unopened};
 ghost use Rattle.desk_core.specs.Damage.{HasReplayed, IsNotTaken, ReplayFails, OpenFails, IsBroken};
-ghost use Rattle.desk_core.specs.Offices.{StandsAfter};
+ghost use Rattle.plain_office.specs.Office as plain;
+ghost use Rattle.desk_core.specs.Offices.{StandsSince, StandsAfter};
 
 use crate::clock::Clock;
 use crate::engine::Engine;
@@ -26,8 +27,8 @@ use std::alloc::Global;
 fn take(office: &mut Office, entry: Entry, gate: u64) -> Result<(), OpenFault>
     requires few { office.old.records.accepted < most_commands }
     requires carries { MayCarry entry.token entry.command }
-    ensures ok { OnOk result ((history : List Entry) → StandsAfter history office.old
-        → StandsAfter (history ++ entry ∷ []) office.new) }
+    ensures ok { OnOk result ((start : plain.Office) (entries : List Entry) → StandsSince start entries office.old
+        → StandsSince start (entries ++ entry ∷ []) office.new) }
     ensures damaged { IfErr result (λ e.
         IsNotTaken gate office.old entry e) }
 {

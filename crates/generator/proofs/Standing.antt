@@ -17,6 +17,7 @@ use Rattle.desk_core.specs.Calls.{IsAnswered}
 use Rattle.desk_core.specs.Desk.{DeskView, HoldsHistory, StandsFor, GoesOn}
 use Rattle.desk_core.specs.Opening.{Opens, opened_with}
 use Rattle.desk_core.specs.Serving.{Opened}
+use Rattle.desk_core.proofs.Offices.{run_is}
 use Rattle.desk_core.proofs.Serving.{rest_image, unique}
 use Rattle.desk_core.proofs.OneCallMore.{starts}
 
@@ -30,7 +31,7 @@ module _ {D C : Type 0} {d : disks.Ghosts D} (laws : DiskLaws d) where
     holds = λ _. (history, refl, holds);
     lost = λ not is. absurd (both_ways desk.stale fresh is);
     serves = λ tells. starts laws (opened_with d history desk) desk.disk
-        (λ image is. (history, rest_image (d.state desk.disk) desk.gate history holds.office.plain (holds.at_rest tells) holds.office.is_run image is))
+        (λ image is. (history, rest_image (d.state desk.disk) desk.gate history holds.office.plain (holds.at_rest tells) (run_is history holds.office.is_run) image is))
         (λ image other is has. unique other history image has (each_image header (d.state desk.disk) desk.gate history (holds.at_rest tells) image is)) refl refl;
   }
 

@@ -12,7 +12,7 @@ use Rattle.meter_journal.proofs.Prefix.{frame_next, prefix_start, prefix_more, p
 use Rattle.meter_journal.specs.declared.fault.OpenFault.{OpenFault}
 use Rattle.desk_core.specs.Damage.{OpenFails, IsNotTaken}
 use Rattle.desk_core.proofs.Damage.{broken_at, replay_open}
-use Rattle.desk_core.proofs.Offices.{few}
+use Rattle.desk_core.proofs.Offices.{few, run_is}
 use Rattle.stay_explain.specs.Ledgers.{LedgerRecord, IsLedgerOf}
 
 -- the entries up to this gate were read
@@ -41,7 +41,7 @@ all_read file gate ledger read is = (read.history, prefix_end header read.histor
 
 -- the office can count one entry more
 pub few_read : (file : List ℕ) (gate : ℕ) (ledger : LedgerRecord) → HasRead file gate ledger → ledger.office.records.accepted < most_commands
-few_read file gate ledger read = few read.history ledger.office gate read.is.office read.prefix.size read.small
+few_read file gate ledger read = few header read.history ledger.office gate read.is.office read.prefix.size read.small
 
 -- the entry at the gate may carry its token
 last_fits : (entries : List Entry) (e : Entry) → AllByRecursion EntryFits (entries ++ e ∷ []) → EntryFits e
@@ -59,7 +59,7 @@ carries_read file gate next ledger e bytes read is =
 pub frame_fails : (file : List ℕ) (gate : ℕ) (ledger : LedgerRecord) (fault : OpenFault) → IsMade file → HasRead file gate ledger
     → FrameFails fault gate (frame_at gate file) → OpenFails fault file
 frame_fails file gate ledger fault made read fails =
-    replay_open fault file (broken_at fault read.history read.is.office.plain gate gate file made read.prefix read.is.office.is_run (refl, fails))
+    replay_open fault file (broken_at fault read.history read.is.office.plain gate gate file made read.prefix (run_is read.history read.is.office.is_run) (refl, fails))
 
 -- its entry is not taken
 pub take_fails : (file : List ℕ) (gate next : ℕ) (ledger : LedgerRecord) (e : Entry) (fault : OpenFault) → IsMade file
@@ -67,4 +67,4 @@ pub take_fails : (file : List ℕ) (gate next : ℕ) (ledger : LedgerRecord) (e 
 take_fails file gate next ledger e fault made read is (inl want) = subst (λ (f : OpenFault). OpenFails f file) (sym want) tt
 take_fails file gate next ledger e fault made read is (inr x) =
     subst (λ (f : OpenFault). OpenFails f file) (sym x.0)
-    (record { made = made; history = read.history; office = read.is.office.plain; before = read.prefix; is_run = read.is.office.is_run; breaks = inr (e, next, is, x.1 read.history read.is.office) })
+    (record { made = made; history = read.history; office = read.is.office.plain; before = read.prefix; is_run = run_is read.history read.is.office.is_run; breaks = inr (e, next, is, x.1 read.is.office.plain read.is.office.stands) })

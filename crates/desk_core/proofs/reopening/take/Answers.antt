@@ -12,7 +12,7 @@ pub returns-in-Ok-clause-ok : goal.returns-in-Ok-clause-ok
 returns-in-Ok-clause-ok c =
     let later : IsTrue (is_not_before c.args.office.now.records.last c.args.entry.moment) = search rules in
     on_done c.entry_taken.result
-    (λ made history is. more_after history c.args.entry c.args.office.now c.apply.new.self c.in-Ok.reply is made later
+    (λ made start entries is. more_after entries c.args.entry c.args.office.now c.apply.new.self c.in-Ok.reply is made later
     (fresh_in c.args.entry.token c.args.office.now is.plain is.stands c.in_default.ensures.new)
     (subst (λ (token : Option (List ℕ)). DoesOnce (step_with c.args.entry.moment token c.args.entry.command is.plain) is.plain c.apply.new.self (Ok c.in-Ok.reply))
     c.as_ref.ensures.value (c.in-Ok.ensures.step is.plain is.stands)) c.in-Ok.ensures.accepted)

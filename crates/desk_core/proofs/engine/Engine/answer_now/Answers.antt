@@ -1,11 +1,11 @@
-use Rattle.std.proofs.Common.{◌≡◌, ◌⊎◌, ℕ, ◌+◌, ◌<◌, ◌-◌, ◌^◌, min, List, [], ◌∷◌, Option, Err, refl, sym, ap, ◌∙◌, subst}
+use Rattle.std.proofs.Common.{◌≡◌, ◌⊎◌, ℕ, ◌+◌, ◌<◌, ◌-◌, ◌^◌, min, [], ◌∷◌, Option, Err, refl, sym, ap, ◌∙◌, subst}
 use Rattle.std.specs.Io.KnownBytes.{Appends}
 use Rattle.disk_core.proofs.Laws.{laws_of}
-use Rattle.office_types.specs.declared.command.Entry.{Entry}
 use Rattle.desk_core.specs.declared.fault.DeskFault.TheVariants.{JournalFull, NoMemory}
 use Rattle.desk_core.specs.Submitting.{PassesLimit}
 use Rattle.desk_core.specs.Calls.{moment_after}
-use Rattle.desk_core.specs.Desk.{DeskView, HoldsHistory}
+use Rattle.desk_core.specs.Desk.{DeskView, HoldsTail}
+use Rattle.desk_core.specs.Offices.{Tail}
 use Rattle.desk_core.specs.Answering.{call_time, AnswersAt, AnswersAsk}
 use Rattle.desk_core.proofs.Submitted.{stamped_by, numbered_by, last_by, ready_by, sound_by, tells_by}
 use Rattle.desk_core.proofs.engine.Engine.answer_now.Goals as goal
@@ -21,7 +21,7 @@ returns-clause-asks g c =
       at = subst (λ (s : P). c.moment_for-moment.result ≡ moment_after c.now-told.result s.office.records.last) c.self.view_is
           (c.moment_for-moment.ensures.same ∙ ap (λ (o : Option ℕ). moment_after c.now-told.result o) c.last.ensures.same);
       clock = c.now-told.new.self;
-      answers = subst (λ (s : P). (before : List Entry) (hold : HoldsHistory d before (record s { clock = c.now-told.new.self }))
+      answers = subst (λ (s : P). (before : Tail) (hold : HoldsTail d before (record s { clock = c.now-told.new.self }))
           → AnswersAt d (call_time c.moment_for-moment.result c.now-told.result) c.args.ask.now hold.office.plain before
           (record s { clock = c.now-told.new.self }) c.answer_at.new.self c.answer_at.result)
           c.self.view_is c.answer_at.ensures.answers;

@@ -9,7 +9,9 @@ use Rattle.office_machine.specs.Standing.{accepted_after}
 use Rattle.office_machine.specs.Once.{DoesOnce}
 use Rattle.desk_core.specs.declared.fault.DeskFault.TheVariants.{NoMemory}
 use Rattle.desk_core.specs.Asked.{Asked}
+use Rattle.meter_journal.specs.History.{header, IsAtRest}
 use Rattle.desk_core.specs.Desk.{DeskView}
+use Rattle.desk_core.specs.Offices.{Tail, from_first}
 use Rattle.desk_core.proofs.Adding.{seen_so, added, unaccepted, wanting}
 use Rattle.desk_core.proofs.Offices.{few, no_lack, other_lack}
 use Rattle.desk_core.proofs.engine.Engine.apply_then_append.Goals as goal
@@ -83,4 +85,13 @@ apply-requires-clause-few g c =
     let P : Type 0 = DeskView g.row.D.Denot g.row.C.Denot in
     let hold = c.requires.ready.1 in
     subst (λ (s : P). s.office.records.accepted < most_commands) (sym c.self.view_is)
-    (few c.requires.ready.0 c.args.self.now.office c.args.self.now.gate hold.office hold.end (omega (arith, c.requires.fits, hold.limit)))
+    (few header c.requires.ready.0 c.args.self.now.office c.args.self.now.gate hold.office hold.end (omega (arith, c.requires.fits, hold.limit)))
+
+pub append_then_answer-requires-clause-at_rest : goal.append_then_answer-requires-clause-at_rest
+append_then_answer-requires-clause-at_rest g c tells =
+    let d = g.D.Disk in
+    let P : Type 0 = DeskView g.row.D.Denot g.row.C.Denot in
+    let tail : Tail = from_first c.requires.ready.0 in (
+      tail,
+      subst (λ (s : P). IsAtRest tail.head (d.state s.disk) s.gate tail.entries) (sym c.self.view_is) (c.requires.ready.1.at_rest tells),
+    )
