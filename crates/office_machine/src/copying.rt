@@ -37,6 +37,7 @@ impl Machine {
 }
 
 // The names of a map come in byte order, by its type.
+#[tactic(auto, using(due_index::proofs::Whole::rises_of))]
 fn see_names(accounts: &BTreeMap<BucketName, Account>)
     ensures { Rises bytes_cmp accounts.now.entries }
 {
@@ -55,7 +56,8 @@ fn put_copy(
         return Err(NoMemory);
     };
     let account = account.copy(alloc)?;
-    put(copies, name, account)
+    put(copies, name, account)?;
+    Ok(())
 }
 
 /// Copies the buckets.
