@@ -7,7 +7,7 @@ use Rattle.office_machine.proofs.copying.copies_of.Goals as goal
 pub loop-name-init : goal.loop-name-init
 loop-name-init c =
     let all : c.into_iter-name-iterator.result ≡ c.args.accounts.now.entries = search rules in
-    copying_begins c.new-copies.result.entries c.into_iter-name-iterator.result c.args.accounts.now.entries c.new-copies.ensures.entries all
+    copying_begins c.new-copies.result.entries c.into_iter-name-iterator.result c.args.accounts.now.entries c.new-copies.ensures.empty all
 
 pub loop-name-preserved : goal.loop-name-preserved
 loop-name-preserved c =

@@ -3,9 +3,6 @@ use Rattle.office_machine.specs.Once.{OfficeView, StandsFor}
 use Rattle.office_machine.proofs.Copied.{kept_are, whole_stands, whole_is_office}
 use Rattle.office_machine.proofs.office.Office.copy.Goals as goal
 
-pub of-kept-requires : goal.of-kept-requires
-of-kept-requires c = kept_are _ c.in_ok-kept.kept.items c.self.invariant c.in_ok-kept.ensures.same
-
 pub invariant_of-result : goal.invariant_of-result
 invariant_of-result c =
     whole_is_office _ c.in_ok-machine.machine c.in_ok-kept.kept.items c.in_ok-kept-2.kept c.in_ok-kept.ensures.same c.in_ok-kept-2.ensures c.self.invariant
