@@ -1,6 +1,6 @@
 #!/usr/bin/env python3
 """Stands in for the program where it is not built, for the cases of the tools: `init`, `run`, `report MONTH`, `bill MONTH`,
-`serve --listen HOST:PORT`.
+`forecast BUCKET DATE`, `serve --listen HOST:PORT`.
 
 It answers a part of the requests of docs/FORMATS.md by the plain models of plain_office.py, plain_months.py and plain_tokens.py, and
 keeps a journal in its folder.
@@ -18,16 +18,18 @@ import urllib.parse
 sys.dont_write_bytecode = True
 from histories import ACT, CLOSE, KINDS, MAKE, TARIFF  # noqa: E402
 from model_words import configuration, stack_of  # noqa: E402
+from plain_forecast import forecast, forecast_csv  # noqa: E402
 from plain_months import Months, entry_of, is_month, tariff_of  # noqa: E402
 from plain_office import CLASSES, Refused, text_of  # noqa: E402
 from plain_tokens import Kept, refuse_fields  # noqa: E402
 from stand_in_bills import bill  # noqa: E402
 from stand_in_journal import Journal, drawn, made  # noqa: E402
-from stand_in_rules import refuse, rules_of  # noqa: E402
+from stand_in_rules import moment_of, refuse, rules_of  # noqa: E402
 
 STATUS = {**dict.fromkeys(("NoSuchBucket", "NoRules", "NoSuchKey", "NoSuchVersion", "NoSuchUpload", "NoRoute"), 404),
           **dict.fromkeys(("BucketExists", "NotEnabledBefore", "MonthNotOver", "DueActions", "AlreadyClosed", "EarlierMonthOpen", "NoTariff",
                            "IsMarker", "BadPart", "NoParts", "TokenReused"), 409), "BadMethod": 405, "Full": 507}
+NAME, DAY = re.compile(r"[a-z0-9][a-z0-9.-]{1,61}[a-z0-9]"), re.compile(r"20\d\d-(0[1-9]|1[0-2])-(0[1-9]|[12]\d|3[01])")
 MADE = (0x01, 0x05, 0x09, 0x0B)  # kinds of commands whose reply is 201
 
 
@@ -165,7 +167,7 @@ def meant(method, path, sent, now):
     if first != "buckets" or not parts or not parts[0]:
         return refuse("NoRoute", 121)
     name, word, rest = parts[0], (parts[1:2] or [""])[0], parts[2:]
-    if not re.fullmatch(r"[a-z0-9][a-z0-9.-]{1,61}[a-z0-9]", name):
+    if not NAME.fullmatch(name):
         refuse("BadBucketName", 10)
     if (method, word) in COMMANDS:
         kind, count, says = COMMANDS[method, word]
@@ -226,13 +228,33 @@ class Input(Handler):
             self.handle_one_request()
 
 
+def is_line(words):
+    """Whether this is a command line."""
+    if words[:1] == ["bill"]:
+        return len(words) == 2 and is_month(words[1])
+    if words[:1] == ["forecast"]:
+        return len(words) == 3 and NAME.fullmatch(words[1]) and DAY.fullmatch(words[2])
+    return words[:1] in (["run"], ["report"], ["explain"]) or words[:2] == ["serve", "--listen"]
+
+
+def foretell(office, bucket, day):
+    """Prints what the configuration on standard input would do. Returns the status."""
+    sent, now = sys.stdin.buffer.read(), office.now()
+    try:
+        found = rules_of(body_of(0x03, sent)) if len(sent) <= 1_048_576 else refuse("BodyTooLarge", 124)
+        until = moment_of(day) if moment_of(day) >= now else refuse("PastDay", 140)
+        text = forecast_csv(*forecast(office.bucket(bucket), office.months, found, now, until))
+    except Refused as refusal:
+        return sys.stderr.write(f"forecast: refused {refusal.args[1]}\n") and 14
+    sys.stdout.buffer.write(text.encode())
+    return 0
+
+
 def main(words):
     if words == ["init"]:
         return Journal.make()
-    if words[:1] not in (["run"], ["report"], ["explain"], ["bill"]) and words[:2] != ["serve", "--listen"]:
-        return 1
-    if words[0] == "bill" and not (len(words) == 2 and is_month(words[1])):
-        return sys.stderr.write("usage: office init; run; serve --listen A; report MONTH; bill MONTH\n") and 1
+    if not is_line(words):
+        return sys.stderr.write("usage: office init; run; serve --listen A; report MONTH; bill MONTH; forecast BUCKET DATE\n") and 1
     try:
         Handler.office, Handler.journal = Office(), Journal()
         Handler.journal.replay(Handler.office)
@@ -249,6 +271,8 @@ def main(words):
         status, _, text = replied(Handler.office, Handler.journal, "GET", f"/months/{words[1]}/report", [], b"")
         sys.stdout.buffer.write(text if status == 200 else b"")
         return 0 if status == 200 else sys.stderr.write("report: no tariff\n") and 10
+    elif words[0] == "forecast":
+        return foretell(Handler.office, *words[1:])
     elif words[0] == "bill":
         return bill(Handler.office, words[1], Handler.office.now())
     elif words[0] == "serve":

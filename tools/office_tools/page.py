@@ -25,12 +25,12 @@ meter { width: 8rem }
 """
 
 
-def grouped(number):
+def grouped(number: int) -> str:
     """A number with its exact value beside it, for readers that are programs."""
     return f'<data value="{number}">{number:,}</data>'
 
 
-def money(charge, unit):
+def money(charge: int, unit: Unit) -> str:
     """A charge in the unit of the page."""
     text = unit.text(charge)
     return f'<data value="{text.replace(",", "")}">{text}</data>'
@@ -43,7 +43,7 @@ def months(byte_ms, month):
     return f'<data value="{value}">{int(whole):,}.{rest}</data>'
 
 
-def share(charge, total):
+def share(charge: int, total: int) -> str:
     """How much of the total a charge is, as a bar."""
     permille = charge * 1000 // total if total else 0
     return f'<meter min="0" max="1000" value="{permille}">{permille / 10}%</meter>'
@@ -55,14 +55,14 @@ def share_text(charge, total):
     return f"{permille // 10}.{permille % 10}%"
 
 
-def cells(texts, numbers):
+def cells(texts: typing.List[str], numbers: typing.List[str]) -> str:
     """A row: texts that are escaped here, and numbers that are spelled already."""
     first, *rest = (html.escape(it) for it in texts)
     return (f'<tr><th scope="row">{first}</th>' + "".join(f"<td>{it}</td>" for it in rest)
             + "".join(f'<td class="n">{it}</td>' for it in numbers) + "</tr>\n")
 
 
-def table(name, caption, texts, numbers, rows, foot):
+def table(name: str, caption: str, texts: typing.List[str], numbers: typing.List[str], rows: typing.List[str], foot: str) -> str:
     """A table with columns of texts and of numbers; `foot` is its last row."""
     head = "".join(f'<th scope="col">{it}</th>' for it in texts) + "".join(f'<th scope="col" class="n">{it}</th>' for it in numbers)
     return (f'<table id="{name}">\n<caption>{html.escape(caption)}</caption>\n<thead><tr>{head}</tr></thead>\n'
@@ -147,6 +147,14 @@ def months_before(posted, statement, unit):
                  cells([f"{statement.month} ({statement.state()[0]})"], [grouped(count), money(total, unit), share(total, largest)]))
 
 
+def whole_page(title: str, body: str) -> str:
+    """A page around this HTML. It has no script, and loads nothing."""
+    return (f'<!DOCTYPE html>\n<html lang="en">\n<head>\n<meta charset="utf-8">\n'
+            "<meta http-equiv=\"Content-Security-Policy\" content=\"default-src 'none'; style-src 'unsafe-inline'\">\n"
+            '<meta name="viewport" content="width=device-width, initial-scale=1">\n'
+            f"<title>{html.escape(title)}</title>\n<style>\n{STYLE}</style>\n</head>\n<body>\n{body}</body>\n</html>\n")
+
+
 def page_of(statement: Statement, meters: dict, unit: Unit, before: typing.Optional[typing.List[Posted]] = None) -> str:
     """The page, whole; `before` is what was posted of the months before, oldest first."""
     month, report = statement.month, statement.report
@@ -156,11 +164,8 @@ def page_of(statement: Statement, meters: dict, unit: Unit, before: typing.Optio
     lines = [cells([line.bucket, line.kind, line.storage_class], [grouped(line.quantity), price_of(line, unit), money(line.charge, unit)])
              for line in report.lines]
     by_bucket, by_class = (sums(names, of, report, meters) for of, names in enumerate((buckets, classes)))
-    return (f'<!DOCTYPE html>\n<html lang="en">\n<head>\n<meta charset="utf-8">\n'
-            "<meta http-equiv=\"Content-Security-Policy\" content=\"default-src 'none'; style-src 'unsafe-inline'\">\n"
-            '<meta name="viewport" content="width=device-width, initial-scale=1">\n'
-            f"<title>Storage in {month}</title>\n<style>\n{STYLE}</style>\n</head>\n<body>\n"
-            f'<h1>Storage in <time datetime="{month}">{month}</time></h1>\n'
+    return whole_page(
+            f"Storage in {month}", f'<h1>Storage in <time datetime="{month}">{month}</time></h1>\n'
             + about(statement, unit, len(buckets))
             + summary("buckets", "By bucket", "bucket", by_bucket, statement, unit)
             + summary("classes", "By storage class", "class", by_class, statement, unit)
@@ -168,5 +173,4 @@ def page_of(statement: Statement, meters: dict, unit: Unit, before: typing.Optio
                     ["quantity (byte-milliseconds, moves)", "price", f"charge, {html.escape(unit.name)}"], lines,
                     cells(["total", "", ""], ["", "", money(report.total, unit)]))
             + tiers_of(statement, unit)
-            + ("" if before is None else months_before(before, statement, unit))
-            + "</body>\n</html>\n")
+            + ("" if before is None else months_before(before, statement, unit)))

@@ -38,6 +38,14 @@ def words_of(found):
     }.get(number)
 
 
+def refused(number: int) -> str:
+    """A refusal of which only the number is known, in words."""
+    why = {41: "there is a field that the program does not have", 42: "a field is missing, or of another kind or range",
+           43: "there is a class that the program does not have", 90: "a limit is reached", 124: "the configuration has more than 1,048,576 bytes",
+           140: "the day is past"}.get(number) or CONDITIONS.get(number) or words_of({"number": number})
+    return f"{f'a rule: {why}' if number in CONDITIONS and number != 20 else why or 'for another reason'} (number {number})"
+
+
 def has(found, name, is_field):
     """Whether a field of this name stands in a rule, or else this text as the value of one."""
     if isinstance(found, list):

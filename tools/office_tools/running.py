@@ -10,10 +10,11 @@ from office_tools.tokens import FIELD
 class Running(Office):
     """Asks one run of the program, which ends with the tool. No server may work in the folder meanwhile."""
 
-    def __init__(self, program: str):
+    def __init__(self, program: str, folder: typing.Optional[str] = None):
+        """Over `office-data` in this folder, or in another one."""
         self.name = f"{program} run"
         try:
-            self.process = subprocess.Popen([program, "run"], stdin=subprocess.PIPE, stdout=subprocess.PIPE)
+            self.process = subprocess.Popen([program, "run"], stdin=subprocess.PIPE, stdout=subprocess.PIPE, cwd=folder)
         except OSError as fault:
             raise Stop(2, f"{program} is not started: {fault.strerror}") from None
 
@@ -22,6 +23,13 @@ class Running(Office):
         with contextlib.suppress(OSError):  # what was not taken yet goes nowhere
             self.process.stdin.close()
         raise Stop(2, f"no reply from {self.name} to {method} {target}: it ended with status {self.process.wait(60)}")
+
+    def end(self) -> None:
+        """Ends the run: it has no more input."""
+        with contextlib.suppress(OSError):
+            self.process.stdin.close()
+        self.process.stdout.close()
+        self.process.wait(60)
 
     def exchange(self, method: str, target: str, sent: typing.Optional[bytes] = None, token: typing.Optional[str] = None) -> typing.Tuple[int, str, bytes]:
         body, field = sent or b"", f"{FIELD}: {token}\r\n" if token else ""

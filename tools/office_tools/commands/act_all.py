@@ -5,6 +5,7 @@ from office_tools.actions import add_log, open_log
 from office_tools.asking import Office, Stop, add_server, run, say, words_of
 from office_tools.buckets import add_names, names_of
 from office_tools.running import Running
+from office_tools.scratch import Scratch, program_of
 from office_tools.sweeping import KINDS, Sweep, act_on_all, add_most, target_of
 
 EPILOG = """\
@@ -28,21 +29,24 @@ synced before and after each action. If a run is stopped, the next one with the 
 the line whose reply was lost; no line is missing or there twice. If another command changed the bucket in between, that line
 has the kind unknown, and a note names the entry of the journal. Move FILE away only when no run is at work.
 
---dry-run does nothing, and prints a line of JSON for each bucket: its name, and the action that would be done first, as the
-program reports it. What is due after that one is known once it is done.
+--dry-run does nothing. With --program and --journal it prints all that is due: the lines that --json would print, in their
+order. The program does the actions on a copy of the journal, which goes at the end. The copy takes as much room as the journal,
+in memory if it is small, else in the folder of temporary files (TMPDIR). No server is asked. Without --program it prints a line
+for each bucket with the action that would be done first, as the server reports it.
 
 Behind a proxy the server is https://LOGIN@office.example:8443; the password is asked at a terminal, or taken from the
 environment (OFFICE_PASSWORD).
 
   act-all --server http://127.0.0.1:8080 --journal office-data/journal
   act-all --server http://127.0.0.1:8080 --journal office-data/journal --log actions.jsonl
+  act-all --journal office-data/journal --program office --dry-run
   act-all --server http://127.0.0.1:8080 --bucket logs --dry-run
   act-all --run ./office --bucket logs
 
 exit codes:
   0  nothing is due in any bucket; of --dry-run, each bucket was asked
   1  usage error; 3  the names of the buckets could not be read
-  4  standard output or the file of --log could not be written
+  4  standard output, the file of --log or the copy of --dry-run could not be written
   2  the server or the program gave no reply, or none of the program, or its disk failed; the same words go on
   5  a bucket was refused, and the others are done
   6  a bucket has more due than --most
@@ -59,22 +63,45 @@ def show(office, sweep, name):
     return say(json.dumps({"bucket": name, **found}, ensure_ascii=False) + "\n")
 
 
+def show_all(given, names):
+    """Prints all that is due, by having the program do it on a copy of the journal. Returns the status."""
+    sweep = Sweep("act-all --dry-run", names, json_lines=True)
+    with Scratch(given.journal) as copy:
+        office = Running(program_of(given.program), copy.folder)
+        try:
+            act_on_all(office, sweep, given.most)
+        finally:
+            office.end()
+    return status_of(sweep)
+
+
+def status_of(sweep):
+    return 5 if sweep.refused else 6 if sweep.left else 0
+
+
 def main():
     words = words_of("act-all", __doc__, EPILOG)
-    asked = words.add_mutually_exclusive_group(required=True)
+    asked = words.add_mutually_exclusive_group()
     add_server(asked, required=False)
     asked.add_argument("--run", metavar="PROGRAM", help="the program, over office-data in this folder, if no server runs")
     add_names(words)
     add_most(words)
     words.add_argument("--json", action="store_true", help="print a line of JSON for each action that is done")
     add_log(words)
-    words.add_argument("--dry-run", action="store_true", help="show the next action of each bucket, and do nothing")
+    words.add_argument("--dry-run", action="store_true", help="do nothing: show all that is due (--program), or the next action of each bucket")
+    words.add_argument("--program", metavar="PROGRAM", help="with --dry-run: the program, over a copy of the journal")
     given = words.parse_args()
+    if given.program and not (given.dry_run and given.journal):
+        words.error("--program goes with --dry-run and --journal")
+    if bool(given.program) + bool(given.server) + bool(given.run) != 1:
+        words.error("one of --server, --run and --dry-run with --program says who does it")
     names = names_of(given)
     if not names:
         raise Stop(1, "no bucket is named; --help says how")
     if given.dry_run and (given.log or given.json):
         raise Stop(1, "--dry-run does nothing that --log or --json could tell")
+    if given.program:
+        return show_all(given, names)
     log = open_log(given, target_of)
     office, sweep = Office(given.server) if given.server else Running(given.run), Sweep("act-all", names, log, given.json)
     if given.dry_run:
@@ -82,7 +109,7 @@ def main():
             show(office, sweep, name)
         return 5 if sweep.refused else 0
     act_on_all(office, sweep, given.most)
-    return 5 if sweep.refused else 6 if sweep.left else 0
+    return status_of(sweep)
 
 
 def command() -> None:

@@ -1,4 +1,6 @@
-"""Shows and changes the lifecycle configuration of a bucket of a running server of the program."""
+"""Shows and changes the lifecycle configuration of a bucket of a running server of the program, and shows beforehand what a
+change would do and cost."""
+import datetime
 import difflib
 import json
 import sys
@@ -6,7 +8,11 @@ import urllib.parse
 
 from office_tools.asking import Office, Stop, add_server, run, say, words_of
 from office_tools.documents import MODE, as_printed, document_of, missing, without_missing
+from office_tools.files import write
+from office_tools.preview import NOTHING, a_year_on, preview_of, text_of, until_of
+from office_tools.preview_page import page_of
 from office_tools.refusals import in_words
+from office_tools.statement import add_unit
 
 EPILOG = """\
   get             prints the configuration
@@ -14,6 +20,7 @@ EPILOG = """\
   add FILE        adds the rules of the file after those that are there
   edit ID FILE    puts the one rule of the file in place of the rule with this id
   remove ID       drops this rule; with the last one the configuration goes
+  preview FILE    shows what the configuration of the file would do and cost, and changes nothing; needs no server
 
 FILE is what `aws s3api get-bucket-lifecycle-configuration` or boto3 printed, a rule or a list of rules, or what
 `terraform show -json` printed of a state or a plan; - is standard input. ResponseMetadata and other fields around the
@@ -25,17 +32,27 @@ What the program does not have is named with its line, as another class or a dat
 it sends, the tool shows on standard error what changes, and asks; --yes sends without asking. Where nothing changes nothing
 is sent: with each configuration that is set the actions of the bucket are due since then at the earliest.
 
+preview, and --preview with a word that changes the configuration, show what the proposed configuration would do until a day
+(--until): its actions by day and kind, the bytes by class now and on the last day, and the charge of each month beside that of
+the configuration that is there. The program itself forecasts it (`office forecast`), over a copy of the journal (--journal):
+that of the server, or a copy of `backup`. So what is shown is what will happen, if nothing else happens to the bucket. The copy
+takes as much room as the journal, in memory if it is small, else in the folder of temporary files (TMPDIR). --page FILE writes
+the same as HTML, with bars.
+
   lifecycle --server http://127.0.0.1:8080 --bucket logs get
+  lifecycle --bucket logs --journal office-data/journal --unit EUR=1000000 --page preview.html preview new-rules.json
+  lifecycle --server http://127.0.0.1:8080 --bucket logs --journal office-data/journal --preview set new-rules.json
   aws s3api get-bucket-lifecycle-configuration --bucket logs | lifecycle --server http://127.0.0.1:8080 --bucket logs --yes set -
 
 exit codes:
   0  done, or nothing changes; 1  usage error; 3  a file cannot be read, or is no configuration
-  2  the server gave no reply, or none of the program; 4  standard output could not be written
-  5  the program refused it, or there is no rule with this id
+  2  the server or the program gave no reply, or none of the program; 4  a text, a page or a copy could not be written
+  5  the program refused it, or its forecast, or there is no rule with this id
   6  the file has what the program does not have: nothing was sent
   7  nobody said yes, 8  the configuration was changed meanwhile: nothing was sent
+  9  the program of --program knows no forecast: nothing was sent
 """
-COUNTS = {"get": (), "set": ("FILE",), "add": ("FILE",), "edit": ("ID", "FILE"), "remove": ("ID",)}
+COUNTS = {"get": (), "set": ("FILE",), "add": ("FILE",), "edit": ("ID", "FILE"), "remove": ("ID",), "preview": ("FILE",)}
 
 
 def present(office, target):
@@ -91,20 +108,34 @@ def confirm(given):
         raise Stop(7, "nothing was sent")
 
 
-def change(given, office, target):
-    """Shows what changes, asks, and sends."""
-    before = present(office, target)
-    after = changed(given, before)
+def without_wrong(given, after):
+    """The configuration without what the program does not have, which is named. Status 6 if the rest is not wanted, or is nothing."""
     wrong = list(missing(after or {}))
     for it in wrong:
         print(f"lifecycle: {it}", file=sys.stderr)
     if wrong and not given.leave_out:
         raise Stop(6, f"the program does not have {len(wrong)} of what the file says; nothing was sent (--leave-out sends the rest)")
-    if wrong:
-        rules, after = len(after["Rules"]), without_missing(after)
-        print(f"lifecycle: left out: these {len(wrong)}, and {rules - len(after['Rules'])} rules without another action", file=sys.stderr)
-        if list(missing(after)) or not after["Rules"]:
-            raise Stop(6, "nothing that could be sent is left; nothing was sent")
+    if not wrong:
+        return after
+    rules, after = len(after["Rules"]), without_missing(after)
+    print(f"lifecycle: left out: these {len(wrong)}, and {rules - len(after['Rules'])} rules without another action", file=sys.stderr)
+    if list(missing(after)) or not after["Rules"]:
+        raise Stop(6, "nothing that could be sent is left; nothing was sent")
+    return after
+
+
+def show_preview(given, document):
+    """The preview of a configuration as text, and as a page if one is wanted."""
+    found = preview_of(given.program, given.journal, given.bucket, document, given.until or a_year_on(datetime.date.today()))
+    if given.page:
+        write(page_of(found, given.unit), given.page)
+    return text_of(found, given.unit)
+
+
+def change(given, office, target):
+    """Shows what changes, asks, and sends."""
+    before = present(office, target)
+    after = without_wrong(given, changed(given, before))
     texts = [as_printed(it) if it is not None else [] for it in (before, after)]
     lines = list(difflib.unified_diff(*texts, f"{given.bucket} as it is", f"{given.bucket} as it will be", lineterm="", n=3))
     if not lines and (before is None) == (after is None):
@@ -113,6 +144,8 @@ def change(given, office, target):
     print(*lines, sep="\n", file=sys.stderr, flush=True)
     # A worker of the server is held by an open connection, and ends it after a minute.
     office.link.close()
+    if given.preview:
+        print("", show_preview(given, NOTHING if after is None else after), sep="\n", file=sys.stderr, flush=True)
     confirm(given)
     if present(office, target) != before:
         raise Stop(8, "the configuration was changed meanwhile; nothing was sent")
@@ -122,18 +155,36 @@ def change(given, office, target):
     print(f"lifecycle: bucket {given.bucket}: rules {found.get('rules')}", file=sys.stderr)
 
 
-def main():
+def words_given():
+    """The words of the command line. Status 1 if they do not go together."""
     words = words_of("lifecycle", __doc__, EPILOG)
-    add_server(words)
+    add_server(words, required=False)
     words.add_argument("--bucket", metavar="NAME", required=True, help="the bucket")
     words.add_argument("--resource", metavar="ADDRESS", help="of Terraform: the address of the configuration to take")
     words.add_argument("--leave-out", action="store_true", help="send the rest where the program does not have all")
     words.add_argument("--yes", action="store_true", help="send without asking")
+    words.add_argument("--preview", action="store_true", help="show what the change would do and cost, before it is asked whether to send it")
+    words.add_argument("--journal", metavar="FILE", help="of a preview: the journal, or a copy of it")
+    words.add_argument("--program", metavar="PROGRAM", default="office", help="of a preview: the program that forecasts; office if not given")
+    words.add_argument("--until", metavar="DAY", type=until_of, help="of a preview: up to the beginning of this day; a year if not given")
+    words.add_argument("--page", metavar="FILE", help="of a preview: write it as HTML too")
+    add_unit(words)
     words.add_argument("word", metavar="WORD", choices=COUNTS, help=", ".join(COUNTS))
     words.add_argument("values", metavar="ID FILE", nargs="*", help="what the word takes")
     given = words.parse_intermixed_args()
     if len(given.values) != len(COUNTS[given.word]):
         words.error(f"{given.word} takes {' '.join(COUNTS[given.word]) or 'nothing'}")
+    if given.word != "preview" and not given.server:
+        words.error(f"{given.word} needs --server")
+    if given.preview and given.word == "get" or (given.preview or given.word == "preview") and not given.journal:
+        words.error("--preview goes with a change, and a preview needs --journal")
+    return given
+
+
+def main():
+    given = words_given()
+    if given.word == "preview":
+        return say(show_preview(given, without_wrong(given, document_of(given.values[0], given.bucket, given.resource))))
     office, target = Office(given.server), f"/buckets/{urllib.parse.quote(given.bucket, safe='')}/lifecycle"
     if given.word != "get":
         return change(given, office, target)
