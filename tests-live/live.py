@@ -61,6 +61,21 @@ def needs(*tools):
     return unittest.skipUnless(has(*tools), f"no {tools[0]}")
 
 
+def needs_word(word):
+    """Leaves the tests of a class out if the program's usage line does not have this word."""
+    def begin(kind):
+        before = kind.setUp
+
+        def set_up(self):
+            before(self)
+            usage = subprocess.run([self.program], stdin=subprocess.DEVNULL, capture_output=True, timeout=LIMIT, check=False).stderr.decode("utf-8", "replace")
+            if f"; {word} " not in usage:
+                self.skipTest(f"no {word}")
+        kind.setUp = set_up
+        return kind
+    return begin
+
+
 class Case(unittest.TestCase):
     """Tests of the program, each with a new folder that is removed at its end."""
     maxDiff = None

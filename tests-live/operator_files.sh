@@ -50,7 +50,7 @@ if has bash 'the completions of bash'; then
         bash -c '. "$0"; COMP_WORDS=("$@"); COMP_CWORD=$(($# - 1)); _office_tool "$1"; echo "${COMPREPLY[*]}"' \
             "$root/tools/completion/office.bash" "$@"
     }
-    check 'bash: words of a tool' 'get set add edit remove' "$(complete_tool office-lifecycle --bucket logs '' | tr -d '\n')"
+    check 'bash: words of a tool' 'get set add edit remove preview' "$(complete_tool office-lifecycle --bucket logs '' | tr -d '\n')"
     check 'bash: words of journal-digest' 'verify extend mend' "$(complete_tool office-journal-digest '' | tr -d '\n')"
     for tool in act-all month-end lifecycle import-inventory bill usage usage-page metrics backup; do
         for option in $(complete_tool "office-$tool" --); do

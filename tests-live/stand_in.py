@@ -5,6 +5,7 @@
 It answers a part of the requests of docs/FORMATS.md by the plain models of plain_office.py, plain_months.py and plain_tokens.py, and
 keeps a journal in its folder.
 """
+import datetime
 import http.client
 import http.server
 import json
@@ -228,12 +229,19 @@ class Input(Handler):
             self.handle_one_request()
 
 
+def is_day(text):
+    try:
+        return bool(DAY.fullmatch(text) and datetime.date.fromisoformat(text))
+    except ValueError:
+        return False
+
+
 def is_line(words):
     """Whether this is a command line."""
     if words[:1] == ["bill"]:
         return len(words) == 2 and is_month(words[1])
     if words[:1] == ["forecast"]:
-        return len(words) == 3 and NAME.fullmatch(words[1]) and DAY.fullmatch(words[2])
+        return len(words) == 3 and NAME.fullmatch(words[1]) and is_day(words[2])
     return words[:1] in (["run"], ["report"], ["explain"]) or words[:2] == ["serve", "--listen"]
 
 

@@ -1,6 +1,7 @@
 #!/usr/bin/env -S python3 -B
 """Does what is due in some buckets of a server with tools/act-all, and compares what is there then with the rules by hand."""
 import json
+import os
 import re
 
 import live
@@ -58,6 +59,21 @@ class ActAll(live.Case):
                    [("plain", "remove", "tmp/1", "gone"), ("many", "transition", "raw/1", "cold"), ("empty", "none", None, None)],
                    [tuple(it.get(name) for name in ("bucket", "action", "key", "rule")) for it in shown])
         self.check("nothing is done", 4, self.versions("plain"))
+
+    def test_dry_run_of_all(self):
+        """What it lists is what --json then lists, and nothing is done before."""
+        scratch, data = self.folder / "scratch", self.folder / "served" / "office-data" / "journal"
+        scratch.mkdir()
+        before = data.read_bytes()
+        words, where = ["--dry-run", "--program", self.program, "--journal", data, "--bucket", "none-there"], {"env": {**os.environ, "TMPDIR": str(scratch)}}
+        status, listed, notes = self.run_tool("act-all", *words, **where)
+        self.check("status and what is refused", (5, REFUSED[0].replace("act-all:", "act-all --dry-run:")), (status, notes.splitlines()[0]))
+        self.check("how many", True, "3 of 4 buckets, refused 1; actions 6: remove 2, transition 2, marker 2, abort 0" in notes)
+        self.check("nothing is done, and no copy is left", (before, []), (data.read_bytes(), os.listdir(scratch)))
+        status, done, _ = self.run_act("--json", "--bucket", "none-there", "--journal", data)
+        self.check("what is done then", (5, listed), (status, done))
+        self.check("nothing is due any more", (0, ""), self.run_tool("act-all", *words[:-2], **where)[:2])
+        self.check("at most one a bucket", 1, self.run_tool("act-all", "--dry-run", "--program", self.program, **where)[0])
 
     def test_all_that_is_due(self):
         status, _, notes = self.run_act("--bucket", "plain", "--most", "1")

@@ -56,16 +56,20 @@ _office_tool() {
         mapfile -t COMPREPLY < <(compgen -W 'STANDARD STANDARD_IA ONEZONE_IA GLACIER_IR GLACIER DEEP_ARCHIVE' -- "$word")
         return
         ;;
+    --program | --run | --bill)
+        mapfile -t COMPREPLY < <(compgen -c -f -- "$word")
+        return
+        ;;
     --keys)
         mapfile -t COMPREPLY < <(compgen -W 'url plain' -- "$word")
         return
         ;;
-    --bucket | --most | --limit | --queue | --endpoint-url | --resource | --schema | --suspended | --unit | --listen | --keep | = | :) return ;;
+    --bucket | --most | --limit | --queue | --endpoint-url | --until | --resource | --schema | --suspended | --unit | --listen | --keep | = | :) return ;;
     esac
     case $word,$1 in
-    -*,office-act-all) choices='--server --run --bucket --buckets --journal --most --json --log --dry-run --help' ;;
+    -*,office-act-all) choices='--server --run --bucket --buckets --journal --most --json --log --dry-run --program --help' ;;
     -*,office-month-end) choices='--server --bucket --buckets --journal --most --log --folder --bill --help' ;;
-    -*,office-lifecycle) choices='--server --bucket --resource --leave-out --yes --help' ;;
+    -*,office-lifecycle) choices='--server --bucket --resource --leave-out --yes --preview --journal --program --until --page --unit --help' ;;
     -*,office-import-inventory)
         choices='--server --out --schema --bucket --keys --current --suspended --names --state --map --nearest --tags --uploads --parts --help'
         ;;
@@ -87,8 +91,8 @@ _office_tool() {
         ;;
     *,office-lifecycle)
         case " ${COMP_WORDS[*]} " in
-        *' get '* | *' set '* | *' add '* | *' edit '* | *' remove '*) ;;
-        *) choices='get set add edit remove' ;;
+        *' get '* | *' set '* | *' add '* | *' edit '* | *' remove '* | *' preview '*) ;;
+        *) choices='get set add edit remove preview' ;;
         esac
         ;;
     esac

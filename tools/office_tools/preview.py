@@ -208,7 +208,7 @@ def stored_text(preview):
     sides = (preview.stored, preview.present.stored, preview.proposed.stored)
     if None in sides:
         return "The bytes by class are not shown: the day is too near.\n"
-    names = [it for it in CLASSES if any(it in side for side in sides)]
+    names = [it for it in CLASSES if any(side.get(it) for side in sides)]
     last = day_before(preview.until)
     rows = [["GiB billed", "now", f"{last}, present", f"{last}, proposed"], *([it, *(gib(side.get(it, 0)) for side in sides)] for it in names)]
     return columns([*rows, ["all classes", *(gib(sum(side.values())) for side in sides)]])

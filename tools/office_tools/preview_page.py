@@ -34,7 +34,7 @@ def stored_of(preview):
     if None in sides:
         return '<p id="stored">The bytes by class are not shown: the day is too near.</p>\n'
     most, last = max((count for side in sides for count in side.values()), default=0), day_before(preview.until)
-    names = [it for it in CLASSES if any(it in side for side in sides)]
+    names = [it for it in CLASSES if any(side.get(it) for side in sides)]
     rows = [cells([it], [text for side in sides for text in (gib(side.get(it, 0)), share(side.get(it, 0), most))]) for it in names]
     head = [text for name in ("now", f"{last}, present", f"{last}, proposed") for text in (f"{name}, GiB", "of the most")]
     return table("stored", "Bytes billed by class", ["class"], head, rows,
