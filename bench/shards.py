@@ -10,10 +10,10 @@ import random
 import sys
 
 # Measured (docs/PERFORMANCE.md and docs/OPERATIONS.md, "Limits"; 4 processors, ext4).
-BYTES_A_VERSION, BYTES_OF_A_PROCESS = 275, 4_036 * 1_024      # memory.py; serve_memory.py with 1 worker
+BYTES_A_VERSION, BYTES_OF_A_PROCESS = 288, 4_036 * 1_024      # memory.py; serve_memory.py with 1 worker
 PUTS_A_SECOND, SYNCS_A_PUT = 9_843, 2                         # commits.py
 OPENED_A_SECOND = 376_916                                     # opening.py, entries
-ACT_US, ACT_US_A_VERSION = 133, 0.2264                        # acts.py: 156 us at 100 versions and 2,397 us at 10,000
+ACT_US = 17                                                   # acts.py: in a bucket of 200,000 objects, without syncs
 # Of the program (docs/FORMATS.md).
 VERSIONS, BUCKETS, NAMES, JOURNAL = 200_000, 1_000, 536_870_912, 1 << 30
 # The model: what is in no measurement.
@@ -100,9 +100,10 @@ def plan(objects, share, seed):
     puts = sum(held) * TURNOVER / YEAR
     entries = [sum(office) + it * TURNOVER * 2 for office, it in zip(offices, held)]  # the first fill, and a year of puts and acts
     journals = [sum(office) * put_bytes() + it * TURNOVER * (put_bytes() + act_bytes()) for office, it in zip(offices, held)]
-    sweep = sum(it * TURNOVER / 365 * (ACT_US + ACT_US_A_VERSION * it / max(1, len(office))) / 1e6 for office, it in zip(offices, held))
     machines = max(math.ceil(memory / (0.7 * MEMORY_OF_A_MACHINE)), math.ceil(len(offices) / OFFICES_OF_A_MACHINE))
     here = len(offices) / machines
+    acts = sum(held) * TURNOVER / 365 / machines
+    computed, synced = acts * ACT_US / 1e6 / PROCESSORS, acts / PUTS_A_SECOND  # an act is as durable as a put: two syncs each
     opening = sum(entries) / machines / OPENED_A_SECOND / PROCESSORS
     print(f"planned filling {share:.0%}: {planned} versions an office")
     print(f"  {len(all_sizes)} buckets, {split} of them split by prefix, {len(pieces)} pieces, as many lines in the proxy's map")
@@ -113,8 +114,8 @@ def plan(objects, share, seed):
           f"{JOURNAL / max(journals):.1f} years; three copies {human(3 * sum(journals))}")
     print(f"  {puts:.0f} puts and as many acts a second in all, {2 * SYNCS_A_PUT * puts / machines:.1f} syncs a second a machine "
           f"(one disk took {SYNCS_A_PUT * PUTS_A_SECOND} a second); {2 * puts * 86_400 / len(offices):.0f} commands a day an office")
-    print(f"  a night's sweep takes {sweep / machines / PROCESSORS:.1f} s of {PROCESSORS} processors on each machine, "
-          f"{sweep / len(offices):.2f} s an office; with one bucket of {VERSIONS} versions in an office {VERSIONS * TURNOVER / 365 * (ACT_US + ACT_US_A_VERSION * VERSIONS) / 1e6:.0f} s")
+    print(f"  a night's sweep of {acts:.0f} acts takes {max(computed, synced):.0f} s on each machine: {computed:.1f} s of {PROCESSORS} processors, "
+          f"{synced:.0f} s of one disk's syncs")
     print(f"  a machine that starts again opens {sum(entries) / machines:.0f} entries in {opening:.0f} s on {PROCESSORS} processors; "
           f"one office in {max(entries) / OPENED_A_SECOND:.1f} s at most", flush=True)
 

@@ -59,6 +59,9 @@ ask() {
         --write-out '%{http_code}' "$@"
 }
 
+check 'the health check, without a login' '200:the office replies' "$(ask - "https://office.example:$front/health"):$(cat reply)"
+check 'the health check takes no other method' 403 "$(ask - -X PUT --data '{"size":5}' "https://office.example:$front/health")"
+check 'what is beside it needs a login' 401 "$(ask - "https://office.example:$front/health/")"
 at=https://office.example:$front/buckets/logs
 month=$(date -u +%Y-%m)
 check 'no login' 401 "$(ask - "$at")"
@@ -139,6 +142,7 @@ kill "$slow" 2>/dev/null
 kill -9 "$server"
 wait "$server" 2>/dev/null
 check 'a server that was killed' 502 "$(ask ben:secret-of-ben "$at")"
+check 'and its health check' 502 "$(ask - "https://office.example:$front/health")"
 start
 check 'and started again' 200 "$(ask ben:secret-of-ben "$at")"
 check 'the log has who asked, twice' 2 "$(grep -c " clerk \"GET /buckets/logs/meters/$month\" 200 " access.log)"
