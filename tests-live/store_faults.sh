@@ -60,7 +60,7 @@ check "some are refused" yes "$([ "$(replies 503 said)" -gt 0 ] && echo yes || e
 check "each query is answered" 20 "$(replies 200 said)"
 check "the last query counts the stored ones" "$stored" "$(grep -a -o '"versions":[0-9]*' said | sed -n 's/.*://p;' | tail -n 1)"
 
-# Another writer breaks the head: the next put fails, and after it the journal is no journal.
+# Another writer breaks the head: the next put fails, and after it the journal is not a journal.
 printf 'X' | dd of=office-data/journal bs=1 seek=1 conv=notrunc 2>/dev/null
 put 100 >&3
 show >&3

@@ -157,7 +157,7 @@ class Posting(Case):
         (self.data / "journal").unlink()
         self.check("no journal", (5, "", "journal: not made\n"), self.bill("2024-01"))
         (self.data / "journal").write_bytes(b"something else\n")
-        self.check("a file that is no journal", (5, "", "journal: foreign\n"), self.bill("2024-01"))
+        self.check("a file that is not a journal", (5, "", "journal: foreign\n"), self.bill("2024-01"))
         self.check("no file of bills is made", False, self.bills.exists())
         self.anew()
         served = live.Server(self.program, self.data.parent)

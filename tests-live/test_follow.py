@@ -124,7 +124,7 @@ class Follow(live.Case):
         self.check("each has a reason", 12, len(self.dead()))
         unversioned, enabled = (f"{it}, and here the versioning of the bucket is {state}" for it, state in (
             ("the store keeps versions", "Unversioned"), ("the event names no version", "Enabled")))
-        wanted = ["there is no bucket 'other' here", "this is no event", "this is no event of a bucket", "refused: 400 BadSize", unversioned, enabled,
+        wanted = ["there is no bucket 'other' here", "this is not an event", "this is not an event of a bucket", "refused: 400 BadSize", unversioned, enabled,
                   "this version id is not in the map", "refused: 400 UnsupportedClass", "there is no bucket 'Bad_Name' here", "refused: 400 BadKey",
                   "refused: 404 NoRoute", "its sequencer is null, so nothing tells what came before it"]
         self.check("the reasons", sorted(wanted), sorted(it["why"] for it in self.dead()))
@@ -261,7 +261,7 @@ class Follow(live.Case):
             self.check("it is sent again", 200, post(lines(records[1])))
             self.check("and others", (200, 200), (post(lines(records[2])), post(lines(records[3]))))
             self.check("no JSON", 400, post("hello"))
-            self.check("what is no event is a dead letter", (200, True), (post('{"hello":1}'), (self.folder / "hook.map.dead").exists()))
+            self.check("what is not an event is a dead letter", (200, True), (post('{"hello":1}'), (self.folder / "hook.map.dead").exists()))
         self.check_all("a webhook", records)
 
     @needs_moto

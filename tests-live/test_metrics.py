@@ -146,7 +146,7 @@ class Metrics(live.Case):
             self.check(f"words that are none, status: {len(words)}", 1, self.run_tool("metrics", *words)[0])
         before, other = self.out.read_bytes(), self.file("list", "photos\nlogs\n")
         self.check("no journal, status", 3, self.metrics("--journal", self.folder / "none", "--out", self.out)[0])
-        self.check("a file that is no journal, status", 3, self.metrics("--journal", other, "--out", self.out)[0])
+        self.check("a file that is not a journal, status", 3, self.metrics("--journal", other, "--out", self.out)[0])
         self.check("no file of buckets, status", 3, self.metrics("--buckets", self.folder / "none", "--out", self.out)[0])
         self.check("a folder in place of the file, status", 4, self.metrics("--bucket", "logs", "--out", self.folder)[0])
         self.check("a folder that is none, status", 4, self.metrics("--bucket", "logs", "--out", self.folder / "a/b")[0])

@@ -30,13 +30,13 @@ REPLIES = (
     ("a disk that failed", CLOSE, reply(503, '{"error":"StoreFault","number":114}'), 2, "2024-02: 503 StoreFault"),
     ("a full journal", CLOSE, reply(507, '{"error":"JournalFull","number":113}'), 5, "2024-02: 507 JournalFull"),
     ("a page of another server", CLOSE, reply(404, "<html>"), 2, f"{STRANGE} POST /months/2024-02/close has status 404"),
-    ("another month closed", CLOSE, reply(200, '{"closed":"2024-03"}'), 2, "a reply is none of the program: {{'closed': '2024-03'}}"),
-    ("a refusal without its field", CLOSE, reply(409, '{"error":"MonthNotOver"}'), 2, "a reply is none of the program: its end is null"),
+    ("another month closed", CLOSE, reply(200, '{"closed":"2024-03"}'), 2, "a reply is not one of the program: {{'closed': '2024-03'}}"),
+    ("a refusal without its field", CLOSE, reply(409, '{"error":"MonthNotOver"}'), 2, "a reply is not one of the program: its end is null"),
     ("a list", CLOSE, reply(200, "[]"), 2, f"{STRANGE} POST /months/2024-02/close has status 200"),
     ("a fault while it acts", ACT, reply(500, '{"error":"NoMemory","number":115}'), 2, "bucket raw: 500 NoMemory"),
-    ("an action of no kind", ACT, reply(200, '{"action":"burn"}'), 2, 'a reply is none of the program: {{"action": "burn"}}'))
+    ("an action of no kind", ACT, reply(200, '{"action":"burn"}'), 2, 'a reply is not one of the program: {{"action": "burn"}}'))
 # The same of a report.
-NONE = "the report of 2024-02 is none of the program:"
+NONE = "the report of 2024-02 is not one of the program:"
 REPORTS = (
     ("a report as JSON", reply(200, "{}"), f"{STRANGE} GET /months/2024-02/report is no CSV"),
     ("a report with another head", reply(200, "bucket,charge\n", "text/csv"), f"{NONE} line 1 is not '{HEAD}'"),

@@ -108,7 +108,7 @@ class Tariffs(live.Case):
             ("a field that is none", tariff().replace("[storage]", "until = 1\n[storage]"), '{"error":"UnknownField","name":"until","number":73}'),
             ("a table that is none, before the first month", 'from = "2024-13"\nstorage = 5\n', '{"error":"UnknownField","name":"storage","number":73}'),
             ("a month that is none", tariff("2024-13"), first), ("a month too early", tariff("1969-12"), first), ("one too late", tariff("2100-01"), first),
-            ("a first month that is no text", "from = 2024\n" + tariff(), first), ("a day", tariff("2024-01-01"), first),
+            ("a first month that is not a text", "from = 2024\n" + tariff(), first), ("a day", tariff("2024-01-01"), first),
             ("a first month, before a class that is none", tariff("2024-13") + "COLD = 1\n", first),
             ("a class that is none, before tiers that are none", tariff(STANDARD="[]") + "COLD = 1\n", '{"error":"UnknownField","name":"COLD","number":73}'),
             ("a class that is missing, before the tiers of the next", tariff(STANDARD_IA="[]").replace("STANDARD = 5\n", "", 1),

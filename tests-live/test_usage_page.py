@@ -142,7 +142,7 @@ WRONG = (
     ("meters without a line", "", ROW, f"{APART}storage of bucket logs and STANDARD is 0 in the report and 2678400000 in the meters"),
     ("a line twice", LINE * 2, ROW, "the report has storage of bucket logs and STANDARD twice"),
     ("a quantity of 0", LINE.replace("2678400000", "0"), ROW, "{one}: line 2: the quantity is 0, and has no line"),
-    ("a report that is none", "logs,storage\n", ROW, "{one}: line 2 is no line of a report"),
+    ("a report that is none", "logs,storage\n", ROW, "{one}: line 2 is not a line of a report"),
     ("a report without its total", None, ROW, "{one}: the last line is not that of the total: it is cut short, or something follows"),
     ("meters twice", LINE, ROW * 2, "{other}: line 3: bucket logs has STANDARD twice"),
     ("meters of another month", LINE, ROW.replace("2024-01", "2024-02"), "{other}: line 2 is of the month '2024-02'"),
@@ -150,7 +150,7 @@ WRONG = (
      "{other}: line 2: the GiB-months are not those of the byte-milliseconds"),
     ("meters with a fraction", LINE, ROW.replace(",0,2678400000,", ",0,26784e5,"), "{other}: line 2: the byte_ms is '26784e5'"),
     ("meters that are cut", LINE, ROW[:-1], "{other}: its last line is cut short"),
-    ("meters with an open quote", LINE, '"logs\n', "{other}: it is no CSV: unexpected end of data"))
+    ("meters with an open quote", LINE, '"logs\n', "{other}: it is not CSV: unexpected end of data"))
 
 
 class FromFiles(live.Case):

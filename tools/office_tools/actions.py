@@ -161,7 +161,7 @@ def last_sweep(path: str) -> typing.Optional[str]:
 
 def add_log(words: argparse.ArgumentParser) -> None:
     """The word that names the file of lines."""
-    words.add_argument("--log", metavar="FILE", help="append a line of JSON to this file for each action that is done; needs --journal")
+    words.add_argument("--log", metavar="FILE", help="append a line of JSON for each action that is done; needs --journal")
 
 
 def open_log(given: argparse.Namespace, target_of: typing.Callable[..., str]) -> typing.Optional[Log]:

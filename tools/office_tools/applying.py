@@ -36,7 +36,7 @@ def lines_of(path: str) -> typing.Tuple[list, bool]:
             if not isinstance(it, dict) or set(it) != set(FIELDS) or not all(isinstance(it[name], str) for name in ("bucket", "kind")):
                 raise ValueError
         except (ValueError, RecursionError):
-            raise Stop(3, f"{path}:{number}: this is no line of act-all --log; nothing was done") from None
+            raise Stop(3, f"{path}:{number}: this is not a line of act-all --log; nothing was done") from None
         found.append((line.rstrip("\n"), it))
     return found, False
 

@@ -93,7 +93,7 @@ def fields_of(login):
     if password is None and sys.stdin is not None and sys.stdin.isatty():
         password = getpass.getpass(f"password of {login}: ", sys.stderr)
     if password is None:
-        raise Stop(1, f"the password of {login} is asked at a terminal, or stands in the environment as OFFICE_PASSWORD")
+        raise Stop(1, f"the password of {login} is asked for at a terminal, or is in the environment (OFFICE_PASSWORD)")
     pair = f"{urllib.parse.unquote(login)}:{password}".encode()
     return {"Authorization": "Basic " + base64.b64encode(pair).decode()}
 
@@ -123,7 +123,7 @@ class Office:
         return reply.status, reply.getheader("content-type", ""), said
 
     def object_of(self, method: str, target: str, status: int, said: bytes) -> dict:
-        """The body of a reply, an object. Status 2 where it is none of the program."""
+        """The body of a reply, an object. Status 2 where it is not one of the program."""
         try:
             found = json.loads(said)
             if b"\\u" in said:
@@ -137,7 +137,7 @@ class Office:
         return found
 
     def ask(self, method: str, target: str, body: typing.Optional[dict] = None, token: typing.Optional[str] = None) -> typing.Tuple[int, dict]:
-        """The status of the reply and its body, an object. Status 2 where there is no reply, or none of the program."""
+        """The status of the reply and its body, an object. Status 2 where there is no reply, or an unknown one."""
         sent = None if body is None else json.dumps(body, separators=(",", ":")).encode()
         status, _, said = self.exchange(method, target, sent, token)
         return status, self.object_of(method, target, status, said)
@@ -159,7 +159,7 @@ def text_in(found: dict, name: str) -> str:
     """A text of a reply, on one line. Status 2 where it is none."""
     text = found.get(name)
     if not isinstance(text, str) or not text.isprintable():
-        raise Stop(2, f"a reply is none of the program: its {name} is {json.dumps(text)[:80]}")
+        raise Stop(2, f"a reply is not one of the program: its {name} is {json.dumps(text)[:80]}")
     return text
 
 
@@ -167,7 +167,7 @@ def number_in(found: dict, name: str, kind: type = int) -> int:
     """A whole number of a reply, which stands there as a number, or as a text of digits. Status 2 where it is none."""
     value = found.get(name)
     if not isinstance(value, kind) or isinstance(value, bool) or not re.fullmatch("0|[1-9][0-9]{0,38}", str(value), re.ASCII):
-        raise Stop(2, f"a reply is none of the program: its {name} is {json.dumps(value)[:80]}")
+        raise Stop(2, f"a reply is not one of the program: its {name} is {json.dumps(value)[:80]}")
     return int(value)
 
 
@@ -175,7 +175,7 @@ def meters_in(found: dict) -> typing.List[typing.Tuple[str, int, int, int]]:
     """The class, byte-milliseconds, early ones and moves of each class of a bucket. Status 2 where a reply has none."""
     classes = found.get("classes")
     if not isinstance(classes, list) or not classes or not all(isinstance(it, dict) for it in classes):
-        raise Stop(2, "a reply is none of the program: it has no list of classes")
+        raise Stop(2, "a reply is not one of the program: it has no list of classes")
     return [(text_in(it, "class"), number_in(it, "byte_ms", str), number_in(it, "early_byte_ms", str), number_in(it, "moves"))
             for it in classes]
 

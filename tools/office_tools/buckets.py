@@ -10,8 +10,8 @@ from office_tools.tail import Tail, read_tail
 def add_names(words: argparse.ArgumentParser) -> None:
     """The words that name buckets: the program has no list of them."""
     words.add_argument("--bucket", metavar="NAME", action="append", default=[], help="a bucket; may be given again")
-    words.add_argument("--buckets", metavar="FILE", help="a file with the name of a bucket a line")
-    words.add_argument("--journal", metavar="FILE", help="the journal of the server, whose buckets are taken")
+    words.add_argument("--buckets", metavar="FILE", help="a file with a bucket's name on each line")
+    words.add_argument("--journal", metavar="FILE", help="the journal of the server: all its buckets")
 
 
 def named(given: argparse.Namespace, tail: typing.Optional[Tail] = None) -> typing.List[str]:

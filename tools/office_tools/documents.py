@@ -71,7 +71,7 @@ def value_of(path, text):
             return ast.literal_eval(SHOWN.sub(moment_shown, text).strip())
         except (ValueError, OverflowError, SyntaxError, RecursionError, MemoryError):
             pass
-    raise Stop(3, f"{path}: no JSON: {why}")
+    raise Stop(3, f"{path}: not JSON: {why}")
 
 
 def rules_of_terraform(path, found, bucket, address):
@@ -93,7 +93,7 @@ def rules_in(path, found, bucket, address):
         try:
             return rules_of_terraform(path, found, bucket, address)
         except (AttributeError, KeyError, TypeError, ValueError):
-            raise Stop(3, f"{path}: this is no state and no plan as `terraform show -json` prints them") from None
+            raise Stop(3, f"{path}: this is neither a state nor a plan as `terraform show -json` prints them") from None
     if isinstance(found, list):
         found = {"Rules": found}
     if isinstance(found, dict):
@@ -104,7 +104,7 @@ def rules_in(path, found, bucket, address):
         if "Rules" not in found and any(it in found for it in ("ID", "Status", "Filter")):
             found = {"Rules": [found]}
     if not isinstance(found, dict) or not isinstance(found.get("Rules"), list) or not all(isinstance(it, dict) for it in found["Rules"]):
-        raise Stop(3, f"{path}: this is no lifecycle configuration: it has no list of Rules")
+        raise Stop(3, f"{path}: this is not a lifecycle configuration: it has no list of Rules")
     return found
 
 

@@ -27,7 +27,7 @@ class Event(typing.NamedTuple):
 
 
 class Bad(Exception):
-    """Why something is no event."""
+    """Why something is not an event."""
 
 
 def text_of(raw: typing.Any) -> str:
@@ -55,9 +55,9 @@ def records_of(found: typing.Any) -> typing.Iterator[dict]:
             yield from records_of(it)
         return
     if not isinstance(found, dict):
-        raise Bad("this is no event")
+        raise Bad("this is not an event")
     if found.get("Type") == "SubscriptionConfirmation":
-        raise Bad("this is no event: the topic asks to confirm the subscription, at its SubscribeURL")
+        raise Bad("this is not an event: the topic asks to confirm the subscription, at its SubscribeURL")
     for name in ("Records", "Messages"):
         if isinstance(found.get(name), list):
             yield from records_of(found[name])
@@ -71,7 +71,7 @@ def records_of(found: typing.Any) -> typing.Iterator[dict]:
     elif ("s3" in found and "eventName" in found) or "detail-type" in found or found.get("Event") == "s3:TestEvent":
         yield found
     else:
-        raise Bad("this is no event of a bucket")
+        raise Bad("this is not an event of a bucket")
 
 
 def parts_of(raw):
@@ -111,7 +111,7 @@ def event_of(raw: dict) -> Event:
     except UnicodeError:
         raise Bad("its key is not UTF-8") from None
     except (AttributeError, KeyError, TypeError, ValueError):
-        raise Bad("this is no event of a bucket: it lacks a name, a bucket or a key") from None
+        raise Bad("this is not an event of a bucket: it lacks a name, a bucket or a key") from None
     if what == PUT and not (isinstance(size, int) and not isinstance(size, bool) and size >= 0):
         raise Bad(f"its size is {json.dumps(size)}")
     if what in (PUT, MARKER, REMOVE) and not re.fullmatch("[0-9A-Fa-f]+", sequencer or ""):

@@ -34,7 +34,7 @@ def objects_in(path):
         try:
             found.append((json.loads(line), f"{path}:{number}"))
         except (ValueError, RecursionError) as fault:
-            raise Stop(3, f"{path}:{number}: no JSON: {fault}") from None
+            raise Stop(3, f"{path}:{number}: not JSON: {fault}") from None
     return found
 
 
@@ -73,7 +73,7 @@ def uploads_of(given: argparse.Namespace) -> typing.List[Upload]:
     for path in given.uploads:
         for it, where in objects_in(path):
             if not isinstance(it, dict) or it.get("IsTruncated") or not isinstance(it.get("Uploads", []), list):
-                raise Stop(3, f"{where}: this is no whole list of uploads")
+                raise Stop(3, f"{where}: this is not a whole list of uploads")
             for one in it.get("Uploads", []):
                 name = field_of(one, "UploadId", where)
                 found.append((str(one.get("Initiated", "")), Upload(bucket_in(it, given, where), field_of(one, "Key", where), name,

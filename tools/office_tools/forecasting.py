@@ -54,7 +54,7 @@ class Forecast(typing.NamedTuple):
 def action_of(row, place):
     """A row of the first table."""
     if len(row) != 6 or not MOMENT.fullmatch(row[0]) or row[1] not in KINDS or not row[2] or not ITEM.fullmatch(row[3]):
-        raise NoForecast(f"row {place} is no action")
+        raise NoForecast(f"row {place} is not an action")
     if (row[3][0] == "u") != (row[1] == "abort") or (row[4] in TARGETS if row[1] == "transition" else not row[4]) is False:
         raise NoForecast(f"row {place}: {row[1]} of {row[3]} with the class '{row[4]}'")
     return Action(*row)
@@ -63,7 +63,7 @@ def action_of(row, place):
 def line_of(row, place):
     """A row of the second table."""
     if len(row) != 5 or not MONTH.fullmatch(row[0]) or row[1] not in LINES or row[2] not in CLASSES:
-        raise NoForecast(f"row {place} is no line of a month")
+        raise NoForecast(f"row {place} is not a line of a month")
     if not NUMBER.fullmatch(row[3]) or row[3] == "0" or row[4] and not NUMBER.fullmatch(row[4]):
         raise NoForecast(f"row {place}: the quantity is '{row[3][:40]}', the charge '{row[4][:40]}'")
     return Line(*row[:3], int(row[3]), int(row[4]) if row[4] else None)
@@ -74,7 +74,7 @@ def read_forecast(text: str) -> Forecast:
     try:
         rows = list(csv.reader(io.StringIO(text, newline=""), strict=True))
     except csv.Error as fault:
-        raise NoForecast(f"it is no CSV: {fault}") from None
+        raise NoForecast(f"it is not CSV: {fault}") from None
     if rows[:1] != [ACTION_HEAD]:
         raise NoForecast(f"row 1 is not '{','.join(ACTION_HEAD)}'")
     if rows.count([]) != 1 or not text.endswith("\n"):
@@ -109,6 +109,6 @@ def forecast(program: str, folder: str, bucket: str, until: str, document: dict)
     try:
         return read_forecast(done.stdout.decode())
     except UnicodeDecodeError:
-        raise Stop(2, "the forecast is none of the program: not UTF-8") from None
+        raise Stop(2, "the forecast is not one of the program: not UTF-8") from None
     except NoForecast as fault:
-        raise Stop(2, f"the forecast is none of the program: {fault}") from None
+        raise Stop(2, f"the forecast is not one of the program: {fault}") from None

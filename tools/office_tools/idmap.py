@@ -40,7 +40,7 @@ class IdMap:
             self.link.execute("pragma synchronous = full")
             known = {name for name, in self.link.execute("select name from sqlite_master where type = 'table'")}
             if known and "about" not in known:
-                raise Stop(3, f"{path}: this is no map of these tools")
+                raise Stop(3, f"{path}: this is not a map of these tools")
             self.link.executescript(TABLES)
         self.same("version", str(VERSION), "was made by another version of these tools")
         if office:

@@ -139,14 +139,14 @@ def read_json(path, text, given):
     try:
         found = json.loads(text)
     except (ValueError, RecursionError) as fault:
-        raise Stop(3, f"{path}: no JSON: {fault}") from None
+        raise Stop(3, f"{path}: not JSON: {fault}") from None
     if not any(it in found for it in ("Versions", "DeleteMarkers", "Contents", "RequestCharged")):
-        raise Stop(3, f"{path}: this is no listing of versions: it has neither Versions nor DeleteMarkers")
+        raise Stop(3, f"{path}: this is not a listing of versions: it has neither Versions nor DeleteMarkers")
     if found.get("IsTruncated") or found.get("NextToken") or found.get("CommonPrefixes"):
         raise Stop(3, f"{path}: the listing is not whole; list again without --no-paginate, --max-items and --delimiter")
     bucket = found.get("Name") or given.bucket
     if not isinstance(bucket, (str, type(None))) or not all(isinstance(found.get(it) or [], list) for it in PARTS):
-        raise Stop(3, f"{path}: this is no listing of versions: its Name is no text, or one of {', '.join(PARTS)} is no list")
+        raise Stop(3, f"{path}: this is not a listing of versions: its Name is not a text, or one of {', '.join(PARTS)} is not a list")
     if not bucket or (given.bucket and bucket != given.bucket):
         raise Stop(3, f"{path}: " + (f"the listing is of '{bucket}'" if bucket else "which bucket? Give --bucket NAME"))
     yield Row(bucket, None, None, None, CURRENT, path)
@@ -156,7 +156,7 @@ def read_json(path, text, given):
             if not isinstance(it, dict) or not isinstance(it.get("Key"), str):
                 raise Stop(3, f"{where}: without a Key")
             if not all(isinstance(it.get(name) or "", str) for name in ("VersionId", "StorageClass", "ETag")):
-                raise Stop(3, f"{where}: its VersionId, StorageClass or ETag is no text")
+                raise Stop(3, f"{where}: its VersionId, StorageClass or ETag is not a text")
             latest = it.get("IsLatest") is not False
             kind = MARKER if part == "DeleteMarkers" else CURRENT if latest else NONCURRENT
             size = it.get("Size")
@@ -165,7 +165,7 @@ def read_json(path, text, given):
             try:
                 key = bytes_of_key(it["Key"], given.keys or "plain")
             except UnicodeEncodeError:
-                raise Stop(3, f"{where}: the key is no text") from None
+                raise Stop(3, f"{where}: the key is not a text") from None
             yield Row(bucket, key, *((None, None) if kind == MARKER else (size, it.get("StorageClass"))), kind, where,
                       it.get("VersionId"), moment_of(it.get("LastModified"), where), latest, etag=it.get("ETag"))
 
@@ -194,7 +194,7 @@ def read_mc(path, text, given):
         try:
             found = json.loads(line)
         except (ValueError, RecursionError) as fault:
-            raise Stop(3, f"{where}: no JSON: {fault}") from None
+            raise Stop(3, f"{where}: not JSON: {fault}") from None
         if not isinstance(found, dict) or found.get("status") != "success":
             raise Stop(3, f"{where}: mc could not list all: {json.dumps(found)[:120]}")
         if found.get("type") == "folder":
@@ -215,7 +215,7 @@ def read_rclone(path, text, given):
     try:
         found = json.loads(text)
     except (ValueError, RecursionError) as fault:
-        raise Stop(3, f"{path}: no JSON: {fault}") from None
+        raise Stop(3, f"{path}: not JSON: {fault}") from None
     yield Row(given.bucket, None, None, None, CURRENT, path)
     for place, it in enumerate(found, 1):
         where = f"{path}: entry {place}"

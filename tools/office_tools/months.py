@@ -15,7 +15,7 @@ MONTH = re.compile(r"(19[7-9][0-9]|20[0-9][0-9])-(0[1-9]|1[0-2])", re.ASCII)
 def month_of(text: str) -> str:
     """A month among the words of a tool."""
     if not MONTH.fullmatch(text):
-        raise argparse.ArgumentTypeError(f"'{text}' is no month as 2026-11")
+        raise argparse.ArgumentTypeError(f"'{text}' is not a month as 2026-11")
     return text
 
 
@@ -33,7 +33,7 @@ def ms_of(text: str) -> int:
             raise ValueError
         return (datetime.datetime.fromisoformat(text[:-1]) - EPOCH) // datetime.timedelta(milliseconds=1)
     except ValueError:
-        raise Stop(2, f"a reply is none of the program: its moment is {text[:40]!r}") from None
+        raise Stop(2, f"a reply is not one of the program: its moment is {text[:40]!r}") from None
 
 
 def moment(ms: int) -> str:

@@ -58,7 +58,7 @@ def until_of(text: str) -> str:
             return text
     except ValueError:
         pass
-    raise argparse.ArgumentTypeError(f"'{text}' is no day as 2027-01-31, up to {LAST_DAY}")
+    raise argparse.ArgumentTypeError(f"'{text}' is not a day as 2027-01-31, up to {LAST_DAY}")
 
 
 def a_year_on(today: datetime.date) -> str:

@@ -36,8 +36,8 @@ def stored_of(preview):
     most, last = max((count for side in sides for count in side.values()), default=0), day_before(preview.until)
     names = [it for it in CLASSES if any(side.get(it) for side in sides)]
     rows = [cells([it], [text for side in sides for text in (gib(side.get(it, 0)), share(side.get(it, 0), most))]) for it in names]
-    head = [text for name in ("now", f"{last}, present", f"{last}, proposed") for text in (f"{name}, GiB", "of the most")]
-    return table("stored", "Bytes billed by class", ["class"], head, rows,
+    head = [text for name in ("now", "present", "proposed") for text in (f"{name}, GiB", "of the most")]
+    return table("stored", f"Bytes billed by class, now and on {last}", ["class"], head, rows,
                  cells(["all classes"], [text for side in sides for text in (gib(sum(side.values())), "")]))
 
 

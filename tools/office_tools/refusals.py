@@ -28,7 +28,7 @@ def words_of(found):
     return {
         2: "a date is none; dates are midnights in UTC from 1970-01-01 to 2099-12-31",
         3: "a date has a time that is not midnight in UTC",
-        40: "it is no JSON text",
+        40: "it is not JSON text",
         41: f"there is no field {name!r}",
         42: f"the field {field!r} is missing, or of another kind or range" if field else "it is not an object",
         43: f"there is no class {name!r}",

@@ -45,7 +45,7 @@ def read_report(text: str) -> Report:
     try:
         rows = list(csv.reader(io.StringIO(text, newline=""), strict=True))
     except csv.Error as fault:
-        raise NoReport(f"it is no CSV: {fault}") from None
+        raise NoReport(f"it is not CSV: {fault}") from None
     if rows[:1] != [HEAD]:
         raise NoReport(f"line 1 is not '{','.join(HEAD)}'")
     if len(rows) == 1 or rows[-1][:5] != ["", "total", "", "", ""] or len(rows[-1]) != 6 or not text.endswith("\n"):
@@ -53,7 +53,7 @@ def read_report(text: str) -> Report:
     lines = []
     for place, row in enumerate(rows[1:-1], 2):
         if len(row) != 6 or row[1] not in KINDS or not row[0] or not row[2]:
-            raise NoReport(f"line {place} is no line of a report")
+            raise NoReport(f"line {place} is not a line of a report")
         quantity, price, charge = (it[0] if it == (TIERED, "price") and row[1] != "transitions" else number(*it, place)
                                    for it in zip(row[3:], HEAD[3:]))
         lines.append(Line(*row[:3], quantity, price, charge))

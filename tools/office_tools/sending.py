@@ -77,7 +77,7 @@ class Progress:
         except OSError:
             raise Stop(1, f"{self.path} cannot be read; give another --state") from None
         except ValueError:
-            raise Stop(1, f"{self.path} is no state of this version of import-inventory; give another --state") from None
+            raise Stop(1, f"{self.path} is not a state of this version of import-inventory; give another --state") from None
         head = found[0]
         if head.get("import") != self.head["import"]:
             raise Stop(1, f"{self.path} is of another import; give another --state")

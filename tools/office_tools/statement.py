@@ -80,7 +80,7 @@ def unit_of(text: str) -> Unit:
     """A unit among the words of a tool."""
     found = re.fullmatch(r"([^=\s]{1,20})(?:=([1-9][0-9]{0,12}))?", text)
     if not found or not text.isprintable():
-        raise argparse.ArgumentTypeError(f"'{text}' is no unit as EUR or EUR=1000000")
+        raise argparse.ArgumentTypeError(f"'{text}' is not a unit as EUR or EUR=1000000")
     return Unit(found[1], int(found[2] or 1))
 
 
@@ -126,7 +126,7 @@ def asked(given: argparse.Namespace) -> Statement:
     try:
         report = read_report(found)
     except NoReport as fault:
-        raise Stop(2, f"the report of {given.month} is none of the program: {fault}") from None
+        raise Stop(2, f"the report of {given.month} is not one of the program: {fault}") from None
     names = dict.fromkeys([*named(given, tail), *(line.bucket for line in report.lines)])
     tariff = tariff_of(office, report, given.month)
     return Statement(given.month, report, closed, as_of, [] if closed else overdue_in(office, names, given.month), office.name, tariff)
@@ -152,7 +152,7 @@ def tariffs_now(office: Office) -> typing.List[Tariff]:
             return []
         raise
     except NoTariffs as fault:
-        raise Stop(2, f"the tariffs are none of the program: {fault}") from None
+        raise Stop(2, f"the tariffs are not those of the program: {fault}") from None
 
 
 def its_tariff(report: Report, tariffs: typing.List[Tariff], month: str) -> typing.Optional[Tariff]:

@@ -33,7 +33,7 @@ class Sweep:
 
     def count(self, found: dict) -> None:
         if found.get("action") not in KINDS:
-            raise Stop(2, f"a reply is none of the program: {json.dumps(found)[:80]}")
+            raise Stop(2, f"a reply is not one of the program: {json.dumps(found)[:80]}")
         self.counts[found["action"]] += 1
 
     def keep(self, name: str, found: dict) -> None:
@@ -108,11 +108,11 @@ def act_on_all(office: Office, sweep: Sweep, most: int) -> None:
 
 def count_of(text: str) -> int:
     if not (text.isascii() and text.isdigit() and int(text) > 0):
-        raise argparse.ArgumentTypeError(f"'{text}' is no number from 1 on")
+        raise argparse.ArgumentTypeError(f"'{text}' is not a number from 1 on")
     return int(text)
 
 
 def add_most(words: argparse.ArgumentParser) -> None:
     """The word that bounds a sweep."""
     words.add_argument("--most", metavar="N", type=count_of, default=1_000_000,
-                       help="at most so many actions of a bucket; 1000000 if not given")
+                       help="at most N actions of a bucket; 1000000 if not given")

@@ -48,13 +48,13 @@ class Shapes(Documents):
         self.assertEqual({**RULES, **mode}, self.read(json.dumps({"LifecycleConfiguration": RULES, **mode})))
 
     def test_what_is_no_configuration(self):
-        why = "this is no lifecycle configuration: it has no list of Rules"
+        why = "this is not a lifecycle configuration: it has no list of Rules"
         for text in ('{"Buckets": []}', '["a"]', "5", "null", '{"Rules": {}}', '{"Rules": [5]}', "{}"):
             with self.subTest(text):
                 self.assertEqual(why, self.stopped(text))
         for text in ("", "a,b\n", '{"Rules": [', "[" * 100_000, "{'Rules': [__import__('os')]}"):
             with self.subTest(text[:20]):
-                self.assertTrue(self.stopped(text).startswith("no JSON: "))
+                self.assertTrue(self.stopped(text).startswith("not JSON: "))
         self.assertEqual("not UTF-8 at byte 1", self.stopped(b"{\xff"))
 
     def test_no_file(self):
@@ -81,7 +81,7 @@ class Boto3(Documents):
             self.assertEqual(text, self.date(f"'{text}'"))
 
     def test_nothing_is_run(self):
-        self.assertTrue(self.stopped("{'Rules': [print('x')]}").startswith("no JSON: "))
+        self.assertTrue(self.stopped("{'Rules': [print('x')]}").startswith("not JSON: "))
 
 
 class Terraform(Documents):
@@ -102,7 +102,7 @@ class Terraform(Documents):
         self.assertEqual(why + "none", self.stopped(self.state()))
 
     def test_states_of_others(self):
-        why = "this is no state and no plan as `terraform show -json` prints them"
+        why = "this is neither a state nor a plan as `terraform show -json` prints them"
         for values in ("5", '{"root_module":{"resources":[5]}}', '{"root_module":5}'):
             with self.subTest(values):
                 self.assertEqual(why, self.stopped('{"format_version":"1.0","values":%s}' % values))

@@ -55,14 +55,14 @@ class Tables(unittest.TestCase):
         for text, why in (
                 ("", "row 1 is not 'since,"), (EMPTY[:-1], "two tables"), (HEADS[0], "two tables"), (EMPTY + "\n", "two tables"), (HEADS[0] + "\n", "row 3 is not 'month,"),
                 (TEXT.replace("month,line", "line,month"), "row 4 is not 'month,"), (HEADS[0] + MOVE + HEADS[1], "two tables"), (TEXT[:-9], "two tables"),
-                (with_action("2024-01-10,remove,a,v:1,,r"), "row 2 is no action"), (with_action("2024-01-10T00:00:00.000Z,drop,a,v:1,,r"), "row 2 is no action"),
-                (with_action("2024-01-10T00:00:00.000Z,remove,,v:1,,r"), "row 2 is no action"), (with_action("2024-01-10T00:00:00.000Z,remove,a,v:01,,r"), "row 2 is no action"),
-                (with_action("2024-01-10T00:00:00.000Z,remove,a,v:1,,r,"), "row 2 is no action"), (with_action("2024-01-10T00:00:00.000Z,remove,a,u:1,,r"), "row 2: remove of u:1"),
+                (with_action("2024-01-10,remove,a,v:1,,r"), "row 2 is not an action"), (with_action("2024-01-10T00:00:00.000Z,drop,a,v:1,,r"), "row 2 is not an action"),
+                (with_action("2024-01-10T00:00:00.000Z,remove,,v:1,,r"), "row 2 is not an action"), (with_action("2024-01-10T00:00:00.000Z,remove,a,v:01,,r"), "row 2 is not an action"),
+                (with_action("2024-01-10T00:00:00.000Z,remove,a,v:1,,r,"), "row 2 is not an action"), (with_action("2024-01-10T00:00:00.000Z,remove,a,u:1,,r"), "row 2: remove of u:1"),
                 (with_action("2024-01-10T00:00:00.000Z,abort,a,v:1,,r"), "row 2: abort of v:1"), (with_action("2024-01-10T00:00:00.000Z,remove,a,v:1,GLACIER,r"), "row 2: remove"),
                 (with_action("2024-01-10T00:00:00.000Z,transition,a,v:1,,r"), "row 2: transition"), (with_action("2024-01-10T00:00:00.000Z,transition,a,v:1,STANDARD,r"), "row 2: transition"),
-                (with_action(MOVE + MOVE.replace("-10T", "-09T").rstrip()), "row 3 is of a moment before"), (with_action('2024-01-10T00:00:00.000Z,remove,"a"b,v:1,,r'), "it is no CSV"),
-                (EMPTY + "2024-13,storage,STANDARD,1,\n", "row 4 is no line"), (EMPTY + "2024-01,total,STANDARD,1,\n", "row 4 is no line"), (EMPTY + "2024-01,storage,COLD,1,\n", "row 4 is no line"),
-                (EMPTY + "2024-01,storage,STANDARD,1\n", "row 4 is no line"), (EMPTY + "2024-01,storage,STANDARD,0,\n", "row 4: the quantity is '0'"),
+                (with_action(MOVE + MOVE.replace("-10T", "-09T").rstrip()), "row 3 is of a moment before"), (with_action('2024-01-10T00:00:00.000Z,remove,"a"b,v:1,,r'), "it is not CSV"),
+                (EMPTY + "2024-13,storage,STANDARD,1,\n", "row 4 is not a line"), (EMPTY + "2024-01,total,STANDARD,1,\n", "row 4 is not a line"), (EMPTY + "2024-01,storage,COLD,1,\n", "row 4 is not a line"),
+                (EMPTY + "2024-01,storage,STANDARD,1\n", "row 4 is not a line"), (EMPTY + "2024-01,storage,STANDARD,0,\n", "row 4: the quantity is '0'"),
                 (EMPTY + "2024-01,storage,STANDARD,1,-1\n", "row 4: the quantity is '1', the charge '-1'")):
             with self.subTest(text=text), self.assertRaises(NoForecast) as found:
                 read_forecast(text)
@@ -97,7 +97,7 @@ class Program(unittest.TestCase):
                 ("echo 'forecast: refused 99' >&2; exit 14", 5, "the forecast is refused: for another reason (number 99)"),
                 ("echo 'usage: office init' >&2; exit 1", 9, "knows no forecast: it ended with exit code 1"),
                 ("echo 'store: failed' >&2; exit 2", 2, "ended with exit code 2: store: failed"), ("exit 14", 2, "ended with exit code 14"),
-                ("echo nothing", 2, "the forecast is none of the program: row 1 is not"), ("printf '\\377\\n'", 2, "the forecast is none of the program: not UTF-8")):
+                ("echo nothing", 2, "the forecast is not one of the program: row 1 is not"), ("printf '\\377\\n'", 2, "the forecast is not one of the program: not UTF-8")):
             with self.subTest(script), self.assertRaises(Stop) as found:
                 self.ends(script)
             self.assertEqual((status, True), (found.exception.args[0], why in found.exception.args[1]), found.exception.args)

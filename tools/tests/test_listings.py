@@ -119,10 +119,10 @@ class Others(Listing):
         self.assertEqual((b"a/b+c", 6, "GLACIER", CURRENT, None), (row.key, row.size, row.storage_class, row.kind, row.version))
 
     def test_what_is_not_whole(self):
-        self.assertEqual(True, self.stopped(MC[:-40], bucket="photos").startswith(":3: no JSON"))
+        self.assertEqual(True, self.stopped(MC[:-40], bucket="photos").startswith(":3: not JSON"))
         self.assertEqual(True, self.stopped(MC + '{"status":"error","error":{"message":"timeout"}}\n', bucket="photos").startswith(":4: mc could not list all"))
         self.assertEqual(True, self.stopped('{"status":"success","type":"folder","key":"a/","size":0}\n', bucket="photos").startswith(":1: the listing has folders"))
-        self.assertEqual(True, self.stopped(json.dumps(RCLONE)[:-9], bucket="photos").startswith(": no JSON"))
+        self.assertEqual(True, self.stopped(json.dumps(RCLONE)[:-9], bucket="photos").startswith(": not JSON"))
         for text in (MC, json.dumps(RCLONE)):
             self.assertEqual(True, self.stopped(text).startswith(": which bucket?"))
 
@@ -163,13 +163,13 @@ class Json(Listing):
         for row, why in (({"Size": 1}, ": Versions 1: without a Key"), ({"Key": 5, "Size": 1}, ": Versions 1: without a Key"),
                          (5, ": Versions 1: without a Key"), ({"Key": "a"}, ": Versions 1: the size is null"),
                          ({"Key": "a", "Size": -1}, ": Versions 1: the size is -1"), ({"Key": "a", "Size": True}, ": Versions 1: the size is true"),
-                         ({"Key": "a", "Size": "5"}, ': Versions 1: the size is "5"'), ({"Key": "\ud800", "Size": 1}, ": Versions 1: the key is no text"),
-                         ({"Key": "a", "Size": 1, "VersionId": 5}, ": Versions 1: its VersionId, StorageClass or ETag is no text"),
+                         ({"Key": "a", "Size": "5"}, ': Versions 1: the size is "5"'), ({"Key": "\ud800", "Size": 1}, ": Versions 1: the key is not a text"),
+                         ({"Key": "a", "Size": 1, "VersionId": 5}, ": Versions 1: its VersionId, StorageClass or ETag is not a text"),
                          ({"Key": "a", "Size": 1, "LastModified": 5}, ": Versions 1: the moment is 5")):
             with self.subTest(why):
                 self.assertEqual(why, self.stopped(json.dumps({"Versions": [row]}), bucket="logs"))
-        self.assertTrue(self.stopped('{"Versions": [').startswith(": no JSON: "))
-        self.assertEqual(": this is no listing of versions: it has neither Versions nor DeleteMarkers", self.stopped('{"Buckets": []}'))
+        self.assertTrue(self.stopped('{"Versions": [').startswith(": not JSON: "))
+        self.assertEqual(": this is not a listing of versions: it has neither Versions nor DeleteMarkers", self.stopped('{"Buckets": []}'))
 
 
 class InOrder(unittest.TestCase):

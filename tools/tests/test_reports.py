@@ -36,7 +36,7 @@ class ReadReport(unittest.TestCase):
         for text in ("", "bucket,charge\n", "\ufeff" + WHOLE, WHOLE[1:], "<html>\n"):
             with self.subTest(text[:10]):
                 self.refused(text, f"line 1 is not '{HEAD.strip()}'")
-        self.refused(HEAD + '"logs\n', "it is no CSV: unexpected end of data")
+        self.refused(HEAD + '"logs\n', "it is not CSV: unexpected end of data")
 
     def test_a_report_cut_short(self):
         why = "the last line is not that of the total: it is cut short, or something follows"
@@ -48,7 +48,7 @@ class ReadReport(unittest.TestCase):
         for line in ("logs,storage\n", "logs,other,STANDARD,1,1,0\n", ",storage,STANDARD,1,1,0\n", "logs,storage,,1,1,0\n",
                      "logs,storage,STANDARD,1,1,0,0\n", "\n"):
             with self.subTest(line):
-                self.refused(f"{HEAD}{line},total,,,,0\n", "line 2 is no line of a report")
+                self.refused(f"{HEAD}{line},total,,,,0\n", "line 2 is not a line of a report")
 
     def test_numbers_of_others(self):
         for number in ("", "-1", "+1", "01", "1.0", "1e3", " 1", "\u0661"):

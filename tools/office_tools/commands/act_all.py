@@ -1,4 +1,4 @@
-"""Asks a running server of the program, or the program itself, to do what is due by the lifecycle rules of its buckets, until nothing is due."""
+"""Does what is due by the lifecycle rules of some buckets, until nothing is due."""
 import json
 
 from office_tools.actions import add_log, open_log
@@ -9,33 +9,34 @@ from office_tools.scratch import Scratch, program_of
 from office_tools.sweeping import KINDS, Sweep, act_on_all, add_most, target_of
 
 EPILOG = """\
-The program has no list of its buckets, so they are named by --bucket, by a file with a name a line (--buckets), or by the
-journal on which the server works (--journal); all three may be given together.
+Name the buckets with --bucket, with --buckets (a file, one name a line), or with --journal (all buckets of that journal).
+You may combine these.
 
-Each request does one action, the first that is due, and is durable once it is answered. An action stands at the moment at
-which it was due, so the same words may be given at any time, and after a stop in the middle; nothing is done twice. A put, a
-delete, new tags and new rules come before what was due and not done yet, so call it each day. Of a bucket at most --most
-actions are done, and the last line names it if more are due. A refused bucket, such as one that is not made, is reported, and
-the others go on.
+Each request does one action, the first that is due. It is durable once it is answered. An action takes effect at the moment
+at which it was due. So you can give the same command at any time, also after a stop: nothing is done twice. Run it each day,
+because a put, a delete, new tags or new rules come before what was due and not done. --most bounds the actions of a bucket;
+the last line names the buckets that have more. A refused bucket is reported, and the others go on.
 
---json prints a line for each action once it is done, and --log appends the same line to a file:
+--json prints a line for each action that was done. --log appends the same line to a file:
 
   {"bucket":"logs","key":"tmp/1","version":"3","upload":null,"kind":"remove","class":null,"marker":null,
    "since":"2026-11-05T00:00:00.000Z","rule":"gone"}
 
-`kind` is remove, transition, marker or abort. `class` is where a transition goes, `marker` the version of a new delete marker,
-`upload` the number of an upload that was aborted, `since` the moment at which the action stands. FILE and FILE.state are
-synced before and after each action. If a run is stopped, the next one with the same words looks into the journal, and adds
-the line whose reply was lost; no line is missing or there twice. If another command changed the bucket in between, that line
-has the kind unknown, and a note names the entry of the journal. Move FILE away only when no run is at work.
+  kind    remove, transition, marker or abort          class   the target of a transition
+  marker  the version of the new delete marker         upload  the number of an upload that was aborted
+  since   the moment at which the action takes effect  rule    the id of the rule
 
---dry-run does nothing. With --program and --journal it prints all that is due: the lines that --json would print, in their
-order. The program does the actions on a copy of the journal, which goes at the end. The copy takes as much room as the journal,
-in memory if it is small, else in the folder of temporary files (TMPDIR). No server is asked. Without --program it prints a line
-for each bucket with the action that would be done first, as the server reports it.
+FILE and FILE.state are synced before and after each action. If a run is stopped, the next run looks into the journal and adds
+the line whose reply was lost. No line is missing or there twice. If another command changed the bucket in between, that line
+has the kind `unknown`, and a note names the entry of the journal. Move FILE away only while no run is at work.
 
-Behind a proxy the server is https://LOGIN@office.example:8443; the password is asked at a terminal, or taken from the
-environment (OFFICE_PASSWORD).
+--dry-run does nothing. With --program and --journal it prints all that is due: the lines that --json would print. The program
+does the actions on a copy of the journal, which is removed at the end. The copy takes as much room as the journal: in memory
+if it is small, else in the folder of temporary files (TMPDIR). Without --program, --dry-run prints the next action of each
+bucket, as the server reports it.
+
+Behind a proxy the server is https://LOGIN@office.example:8443. The tool asks for the password at a terminal, or takes it
+from the environment (OFFICE_PASSWORD).
 
   act-all --server http://127.0.0.1:8080 --journal office-data/journal
   act-all --server http://127.0.0.1:8080 --journal office-data/journal --log actions.jsonl
@@ -44,11 +45,12 @@ environment (OFFICE_PASSWORD).
   act-all --run ./office --bucket logs
 
 exit codes:
-  0  nothing is due in any bucket; of --dry-run, each bucket was asked
-  1  usage error; 3  the names of the buckets could not be read
+  0  nothing is due in any bucket; with --dry-run, each bucket was asked
+  1  usage error
+  2  the server or the program gave no reply or an unknown one, or its disk failed; the same command continues
+  3  the names of the buckets could not be read
   4  standard output, the file of --log or the copy of --dry-run could not be written
-  2  the server or the program gave no reply, or none of the program, or its disk failed; the same words go on
-  5  a bucket was refused, and the others are done
+  5  a bucket was refused; the others are done
   6  a bucket has more due than --most
 """
 
@@ -59,7 +61,7 @@ def show(office, sweep, name):
     if status != 200:
         return sweep.refuse(name, status, found)
     if found.get("action") not in (*KINDS, "none"):
-        raise Stop(2, f"a reply is none of the program: {json.dumps(found)[:80]}")
+        raise Stop(2, f"a reply is not one of the program: {json.dumps(found)[:80]}")
     return say(json.dumps({"bucket": name, **found}, ensure_ascii=False) + "\n")
 
 

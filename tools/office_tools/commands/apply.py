@@ -1,4 +1,4 @@
-"""Does at an object store what act-all did in the program: permanent removals, delete markers and aborts of uploads."""
+"""Does at an object store what act-all did in the office: permanent removals, delete markers and aborts of uploads."""
 import json
 import sys
 
@@ -9,36 +9,38 @@ from office_tools.store import add_store, store_of
 from office_tools.sweeping import count_of
 
 EPILOG = """\
-FILE has the lines that `act-all --log FILE` or `month-end --log FILE` wrote. --map is the file that import-inventory and follow
-keep: it has the store's id of each version. Without --yes nothing is changed: each line is looked up at the store, and printed with what would be
-done. With --yes it is done, and noted in the map once it is; a line that was noted is passed over, so the same words may be given at
-any time, and after a stop in the middle. The store is asked by boto3, or by the aws command, whichever is here, with the
-credentials that they find by themselves.
+FILE has the lines that `act-all --log FILE` or `month-end --log FILE` wrote. --map is the file of import-inventory and follow;
+it has the store's id of each version. The tool uses boto3 or the aws command, whichever is there, with the credentials that
+these find.
 
-  remove      the version with that id is removed for good, if its size is that of the map. In a bucket without versions the object is
-              removed, if nobody put another one since the moment at which the action stands
-  marker      a delete marker is put, if the newest version at the store is the one that expired
-  abort       the upload is aborted
-  transition  nothing. A client cannot move a version to another class in a bucket with versions: a copy is a new version, with a new
-              age. Put the same rules at the store, and leave transitions to it; `compare` shows where a class differs
+Without --yes nothing is changed: the tool looks up each line at the store, and prints what it would do. With --yes it does it,
+and notes each line that is done in the map. You can give the same command at any time, also after a stop: it skips these lines.
+--limit bounds the changes of one run.
 
-A put that comes in the moment between the look and a delete marker is below that marker then: hidden, and not lost.
+  remove      removes the version with that id for good, if its size is that of the map. In a bucket without versions it removes
+              the object, if nobody put another one since the action took effect
+  marker      puts a delete marker, if the newest version at the store is the one that expired
+  abort       aborts the upload
+  transition  does nothing. A client cannot move a version to another class in a bucket with versions: a copy is a new version
+              with a new age. Put the same rules at the store. `compare` shows where a class differs
 
-What is there already counts as done. What a check or the store refuses is told with its reason, and the others go on; it is tried
-again the next time. At most --limit changes are made in one run. A store that ages objects by the same rules does all this by
-itself: then give no --yes, and see what it did.
+What is already so at the store counts as done. If a check fails or the store refuses, the line is reported with the reason, and
+the others go on. The next run tries it again. A put that comes between the check and a delete marker is below that marker then:
+hidden, and not lost. A store that ages objects by the same rules does all this by itself: then leave out --yes, and read what
+it did.
 
   act-all --server http://127.0.0.1:8080 --journal office-data/journal --log actions.jsonl
   apply --map photos.map --endpoint-url http://127.0.0.1:9000 actions.jsonl
   apply --map photos.map --endpoint-url http://127.0.0.1:9000 --yes --limit 500 --report done.jsonl actions.jsonl
 
 exit codes:
-  0  all is done, or could be
-  1  usage error; 3  the lines or the map cannot be read, or are none
-  2  the store gave no reply, or there is neither boto3 nor the aws command; the same words go on
+  0  all is done, or could be done
+  1  usage error
+  2  the store gave no reply, or there is neither boto3 nor the aws command; the same command continues
+  3  the lines or the map cannot be read, or are not what they should be
   4  standard output, the map or the report could not be written
   5  some lines were refused
-  6  more is to be done than --limit
+  6  there is more to do than --limit
 """
 
 
@@ -53,9 +55,9 @@ def main():
     words = words_of("apply", __doc__, EPILOG)
     add_map(words)
     add_store(words)
-    words.add_argument("--bucket", metavar="NAME", action="append", default=[], help="lines of this bucket alone; may be given again")
+    words.add_argument("--bucket", metavar="NAME", action="append", default=[], help="only lines of this bucket; may be given again")
     words.add_argument("--yes", action="store_true", help="change the store; without it nothing is changed")
-    words.add_argument("--limit", metavar="N", type=count_of, default=1000, help="at most so many changes; 1000 if not given")
+    words.add_argument("--limit", metavar="N", type=count_of, default=1000, help="at most N changes; 1000 if not given")
     words.add_argument("--report", metavar="FILE", help="append what came of each line to this file, and not to standard output")
     words.add_argument("file", metavar="FILE", help="the lines of act-all --log")
     given = words.parse_args()

@@ -1,4 +1,4 @@
-"""Copies a journal while the program may work on it, checks the copy, and keeps it under the moment of copying."""
+"""Copies a journal while the program may work on it, checks the copy, and names it by the moment of copying."""
 import argparse
 import datetime
 import os
@@ -13,37 +13,37 @@ from office_tools.files import sync_folder
 from office_tools.journals import open_file
 
 EPILOG = """\
-Copies JOURNAL (office-data/journal) to FOLDER/journal-YYYYMMDDTHHMMSSZ. The folder and those above it are made if they are
-missing. If FOLDER lies on a disk of its own, give --other-disk: nothing is made or copied while that disk is not mounted, that
-is, while FOLDER would lie on the file system of JOURNAL.
+Copies JOURNAL (office-data/journal) to FOLDER/journal-YYYYMMDDTHHMMSSZ. The copy gets this name after it is written, synced and
+checked. The folder is made if it is missing. If FOLDER is on a disk of its own, give --other-disk: the tool then refuses while
+that disk is not mounted. --keep N removes all but the N newest copies.
 
-The copy gets its name after it is written, synced and checked. A journal only grows, and its front never changes. So backup
-keeps FOLDER/journal.digest, a chain of SHA-256 over blocks of entries: at each copy it compares all earlier blocks, checks each
-new entry, and adds their blocks. If an earlier block changed, no copy is kept and none is removed (status 6). Either bits on
-the disk changed: `journal-digest mend` puts the journal together again from it and a copy. Or the journal is another one, as
-after a restore of an older copy or a new office: --replaced then begins a new chain, and keeps the old one beside it.
+A journal only grows, and its front never changes. backup keeps FOLDER/journal.digest, a chain of SHA-256 sums over blocks of
+entries. For each copy it compares all earlier blocks, checks each new entry, and adds the new blocks. If an earlier block changed,
+it keeps no copy and removes none (exit code 6). There are two causes:
 
-With --keep N only the N newest copies stay; none is removed otherwise.
+  bytes on the disk changed      `journal-digest mend` puts the journal together again, from it and a copy
+  the journal is another one     after a restore of an older copy, or in a new office: give --replaced once. It begins a new
+                                 chain, and keeps the old one beside it
 
-To restore: stop the program, put a copy in the place of office-data/journal, remove check.0 and check.1 beside it (they
-are made anew), start the program.
+To restore: stop the program, put a copy in the place of office-data/journal, remove check.0 and check.1 beside it (they are made
+anew), and start the program.
 
   backup --keep 14 office-data/journal /backup/office
 
 exit codes:
-  0  the copy is there, and its name is printed
+  0  the copy is there; its name is printed
   1  usage error
   3  the journal cannot be read
   4  the copy cannot be written; nothing is left of it
   5  the journal is not made, foreign or damaged; no copy is kept, and none is removed
-  6  the front of the journal is not what it was; no copy is kept, and none is removed
+  6  the front of the journal changed; no copy is kept, and none is removed
   7  FOLDER/journal.digest is damaged: move it away, and the next copy begins a new one
 """
 
 
 def positive(text):
     if not re.fullmatch("[1-9][0-9]*", text, re.ASCII):
-        raise argparse.ArgumentTypeError(f"'{text}' is no number from 1 on")
+        raise argparse.ArgumentTypeError(f"'{text}' is not a number from 1 on")
     return int(text)
 
 

@@ -9,28 +9,32 @@ from office_tools.reports import TIERED
 from office_tools.statement import NOT_BILLED, add_unit, asked, of_file
 
 EPILOG = f"""\
-All figures come from one reply of the program, the report of the month. --journal tells whether the month is closed, and names
-the buckets that are asked for overdue actions; without it the buckets of the report are asked, and those of --bucket and
---buckets. The moment is of this machine's clock. --report prints the bill of a file, as month-end writes it.
+All figures come from one reply of the program, the report of the month. --journal says whether the month is closed, and which
+buckets are asked for overdue actions. Without it the buckets of the report are asked, and those of --bucket and --buckets. The
+moment is of this machine's clock. --report prints the bill of a file that month-end wrote.
 
-Prices and charges are whole units in the program. --unit names the money, and how many units are one of it: with prices in
-millionths of a euro it is EUR=1000000.
+--unit names the money, and how many units of the prices are one of it. With prices in millionths of a euro it is EUR=1000000.
 
-A GiB-month is 2^30 bytes for all days of the month, rounded here to six digits; charges are exact. `early` is what is owed for
-objects that left their class before its least duration. `in tiers` stands at a class with several prices, of which each takes a
-part of the quantity; usage-page shows the parts. Not billed here: {NOT_BILLED}.
+  GiB-month  2^30 bytes for all days of the month, rounded here to six digits; charges are exact
+  early      what is owed for objects that left their class before its minimum duration
+  in tiers   the class has several prices, each for a part of the quantity; usage-page shows the parts
 
-Behind a proxy the server is https://LOGIN@office.example:8443; the password is asked at a terminal, or taken from the
-environment (OFFICE_PASSWORD).
+Not billed here: {NOT_BILLED}.
+
+Behind a proxy the server is https://LOGIN@office.example:8443. The tool asks for the password at a terminal, or takes it
+from the environment (OFFICE_PASSWORD).
 
   bill --server http://127.0.0.1:8080 --journal office-data/journal --unit EUR=1000000 2026-11
   bill --report 2026-11-report.csv --unit EUR=1000000 2026-11
 
 exit codes:
-  0  done; 1  usage error; 3  a file could not be read; 4  the bill could not be written
-  2  the server gave no reply, or none of the program, or the tool was stopped
-  5  the program refused the month or a bucket, or the file is no report
- 10  no prices are set for the month
+  0  done
+  1  usage error
+  2  the server gave no reply or an unknown one, or the tool was stopped
+  3  a file could not be read
+  4  the bill could not be written
+  5  the program refused the month or a bucket, or the file is not a report
+ 10  no tariff is in force in the month
 """
 HEAD = ("bucket", "item", "class", "quantity", "", "price", "charge")
 

@@ -18,30 +18,35 @@ from office_tools.listings import CURRENT, rows_of
 from office_tools.tail import FIRST_GATE, Tail, open_journal
 
 EPILOG = """\
-A FILE is an S3 Inventory in CSV (or Parquet, if the Python library pyarrow is here), or what `aws s3api list-object-versions`,
-`aws s3api list-objects-v2`, `mc ls --recursive --json` with --versions or without, or `rclone lsjson -R` printed; also .gz. Where
-it does not name its bucket, write BUCKET=FILE. Several files of a bucket are one listing.
+A FILE is a listing, also compressed (.gz). If it does not name its bucket, write BUCKET=FILE. Several files of one bucket count as
+one listing. It comes from one of these:
 
-  missing      the store has a version that is not here
-  surplus      a version is here that the store does not have
-  other_size   the same version has another size here
-  other_class  the same version has another class here; --nearest counts classes that are not here as this one
+  S3 Inventory                       CSV, or Parquet if the Python library pyarrow is there
+  aws s3api list-object-versions     JSON, also of list-objects-v2
+  mc ls --recursive --json           lines of JSON, with --versions or without
+  rclone lsjson -R                   JSON
 
-A listing with version ids is compared version by version, delete markers too: by --map, the file that import-inventory and follow
-keep, and without it by order and size. A listing of objects alone, or --current, is compared with the current versions. The program
-has no list of keys: those that it alone has are found in --journal. Without it they are counted, and have no names.
+  missing      the store has a version that the office lacks
+  surplus      the office has a version that the store lacks
+  other_size   the same version has another size
+  other_class  the same version has another class; with --nearest, classes that the office does not have count as that one
 
-Each key of the listing or the journal is asked for by itself. Where something is put or done meanwhile, a note says that the bucket
-changed; compare again. Differences go to --names (CSV: bucket, key, both versions, what, there, here), and the first ones to
-standard error. With --json one JSON object is printed in place of the table, with all differences.
+A listing with version ids is compared version by version, delete markers too: by --map, the file of import-inventory and follow,
+or by order and size without it. A listing of objects only, or --current, is compared with the current versions. The program has
+no list of keys: with --journal the tool finds the keys that only the office has. Without it they are counted, not named.
+
+Each key is asked for by itself. If a bucket changes meanwhile, a note says so: compare again. --names FILE gets each difference
+(CSV: bucket, key, both versions, what, store, office). Standard output gets a table and the first ones, or with --json one JSON
+object with all of them.
 
   compare --server http://127.0.0.1:8080 --journal office-data/journal --map photos.map photos=photos.json
   compare --server http://127.0.0.1:8080 --journal office-data/journal --nearest STANDARD --json inventory.csv.gz
 
 exit codes:
   0  nothing differs
-  1  usage error; 3  a listing, the journal or the map cannot be read, or is not whole: nothing was compared
-  2  the server gave no reply, or none of the program
+  1  usage error
+  2  the server gave no reply or an unknown one
+  3  a listing, the journal or the map cannot be read, or is not whole; nothing was compared
   4  standard output or a file could not be written
   5  something differs
 """
@@ -136,12 +141,12 @@ def main():
     add_server(words)
     words.add_argument("--journal", metavar="FILE", help="the journal of the server, to find keys that the listing does not have")
     add_map(words, False)
-    words.add_argument("--current", action="store_true", help="compare the current objects alone")
-    words.add_argument("--nearest", metavar="CLASS", choices=CLASSES, help="classes of the store that are not here count as this one")
+    words.add_argument("--current", action="store_true", help="compare only the current objects")
+    words.add_argument("--nearest", metavar="CLASS", choices=CLASSES, help="classes that the office does not have count as this one")
     words.add_argument("--schema", metavar="TEXT", help="the columns of CSV without a first line that names them")
     words.add_argument("--keys", choices=("url", "plain"), help="how keys are spelled: CSV url, JSON plain if not given")
     words.add_argument("--names", metavar="FILE", help="write each difference to this file")
-    words.add_argument("--json", action="store_true", help="print JSON in place of a table")
+    words.add_argument("--json", action="store_true", help="print JSON instead of a table")
     words.add_argument("files", metavar="[BUCKET=]FILE", nargs="+", help="a listing")
     given = words.parse_args()
     listed, office, tell = rows_by_bucket(given), Office(given.server), progress()

@@ -1,4 +1,4 @@
-"""Does in a running server of the program what event notifications of an object store say: puts, deletes and removals."""
+"""Does in a running server of the program what the event notifications of an object store say: puts, deletes and removals."""
 import http.server
 import json
 import os
@@ -14,37 +14,45 @@ from office_tools.store import Refused, add_store, store_of
 from office_tools.tail import sample_of
 
 EPILOG = """\
-FILE has events as S3 sends them to a queue (SQS), a topic (SNS) or a bus (EventBridge), or as MinIO sends them: a JSON text, or
-one a line, with or without their envelopes; - is standard input. A file of lines may grow: the place that was reached is kept, and
-a last line that is not whole is left for the next run. With --listen the tool answers POST at 127.0.0.1, as the webhook of
-MinIO and a proxy before SNS ask it: 200 once the events are done and kept, 503 if the program gave no reply. With --queue it
-takes the messages of an SQS queue, and deletes those whose events are kept.
+FILE has events as SQS, SNS, EventBridge or MinIO deliver them: one JSON text, or one a line, with or without their envelopes; - is
+standard input. A file of lines may grow: the tool keeps the place that it reached, and leaves an incomplete last line for the next
+run. --listen answers POST at 127.0.0.1, as a webhook of MinIO or a proxy before SNS sends it: 200 after the events are done and
+kept, 503 if the program gave no reply. --queue takes the messages of an SQS queue, and deletes those whose events are kept.
 
-ObjectCreated is a put, ObjectRemoved:DeleteMarkerCreated a delete, and ObjectRemoved:Delete the removal of the version with that
-id, whose number is in --map. Lifecycle events are counted and passed over: the program does what is due by its own rules
-(act-all), and `compare` shows where it differs. S3's events do not say the class of a new object, which is then that of --class
-(MinIO's say it), and no tags; --ask-store asks the store for both, also where an event says that tags changed.
+  ObjectCreated                      a put
+  ObjectRemoved:DeleteMarkerCreated  a delete
+  ObjectRemoved:Delete               the removal of the version with that id, whose number is in --map
+  lifecycle events                   counted and ignored: the program does what is due by its own rules (act-all)
 
-Events of one key are done in the order of their sequencers, each once: one that comes again, or late in a bucket without
-versions, is passed over. A version that comes late in a bucket with versions cannot be put below a newer one. This event, what
-is no event, and what the program refuses, go into the dead letters, each once with its reason, and the others go on; --retry
-tries them again. The dead letters are in the map, and written to --dead at the end of each run.
+S3's events have no class and no tags. --class names the class to assume (MinIO's events have one). --ask-store asks the store for
+both, also if an event says that tags changed.
 
-If the tool or the server is stopped, the same words go on: the map says what was asked for last, and it is asked for again with the
-same tokens (Office-Token), by which the program gives its first reply and does nothing twice. It keeps the last 10,000 such replies,
-and the tool asks for 100 events at a time, so others may put and delete in these buckets meanwhile. If an older copy of the journal
-was brought back, numbers in the map may be those of other versions now, which --journal shows: the tool ends with 3, until
---restored is given once, with the events since that copy and no earlier ones.
+Events of one key are done in the order of their sequencers, each once. A repeated event is ignored, and in a bucket without versions
+a late one too. Dead letters get these, each once with its reason, and the other events go on:
+
+  - a late version in a bucket with versions, because it cannot be put below a newer one
+  - what is not an event
+  - what the program refuses
+
+Dead letters are in the map, and are written to --dead at the end of each run. --retry tries them again.
+
+If the tool or the server is stopped, give the same command again. The map has what was asked for last. The tool asks again with the
+same tokens (Office-Token), so nothing is done twice. The program keeps the last 10,000 replies with a token, and the tool asks for
+100 events at a time, so others may use these buckets meanwhile. If an older copy of the journal was restored, numbers in the map may
+be those of other versions. The tool sees that in --journal and ends with 3. Then give --restored once, with the events since that
+copy and no earlier ones.
 
   follow --server http://127.0.0.1:8080 --journal office-data/journal --map photos.map --bucket photos events.jsonl
   follow --server http://127.0.0.1:8080 --journal office-data/journal --map photos.map --listen 9200
   aws sqs receive-message --queue-url URL | follow --server http://127.0.0.1:8080 --journal office-data/journal --map photos.map -
 
 exit codes:
-  0  done; 1  usage error; 3  a file, the journal or the map cannot be read, or is not what it says
-  2  the server or the store gave no reply, or its disk failed or is full; the same words go on
+  0  done
+  1  usage error
+  2  the server or the store gave no reply, or its disk failed or is full; the same command continues
+  3  a file, the journal or the map cannot be read, or is not what it should be
   4  the map or the dead letters could not be written
-  5  done, and some events are dead letters now
+  5  done; some events are dead letters
 """
 SLICE = 10_000
 
@@ -217,10 +225,10 @@ def given_words():
                        help="follow this bucket; may be given again; all if not given")
     words.add_argument("--class", metavar="CLASS", dest="storage_class", default="STANDARD", choices=CLASSES,
                        help="the class of objects whose event names none; STANDARD if not given")
-    words.add_argument("--nearest", metavar="CLASS", choices=CLASSES, help="put objects of a class that is not here into this one")
+    words.add_argument("--nearest", metavar="CLASS", choices=CLASSES, help="put objects of a class that the office does not have into this one")
     words.add_argument("--dead", metavar="FILE", help="the dead letters, a line of JSON each; the map and .dead if not given")
     words.add_argument("--retry", action="store_true", help="try the dead letters again first")
-    words.add_argument("--restored", action="store_true", help="the journal is an older copy: forget what the program has not any more")
+    words.add_argument("--restored", action="store_true", help="the journal is an older copy: forget what the program no longer has")
     words.add_argument("--listen", metavar="PORT", type=int, help="answer a webhook at this port of 127.0.0.1")
     words.add_argument("--queue", metavar="URL", help="take the messages of this SQS queue")
     words.add_argument("--ask-store", action="store_true", help="ask the store for the class and the tags of objects")
@@ -244,7 +252,7 @@ def main():
     try:
         work.resume()
         if given.retry:
-            # What is no event stays among the dead letters.
+            # What is not an event stays among the dead letters.
             work.run(by_sequencer([it for it in work.dead() if isinstance(it, Event)]))
         for path in given.files:
             if path == "-":

@@ -1,5 +1,5 @@
-"""Makes requests of a listing of a store's objects or versions, and sends them to a running server of the program (--server) or
-writes them as input for `office run` (--out)."""
+"""Puts the objects or versions of a listing of a store into a running server of the program (--server), or writes the requests as
+input for `office run` (--out)."""
 import collections
 import csv
 import hashlib
@@ -19,33 +19,38 @@ from office_tools.sending import body_of, bucket_target, method_of, send, target
 from office_tools.tokens import FIELD
 
 EPILOG = """\
-Ages begin at the import: a version counts as put when the program is asked, since it takes its own clock. Meters, least
-durations and the time since which a version is noncurrent begin then, whatever LastModified says. Version numbers are new,
-and a null version has one too; --map keeps which id of the store has which number.
+Ages begin at the import: the program uses its own clock, whatever LastModified says. Meters, minimum durations and the time since
+which a version is noncurrent begin then. Version numbers are new, also that of a null version. --map keeps which id of the store has
+which number.
 
-A FILE is an S3 Inventory in CSV (or Parquet, if the Python library pyarrow is here), or what `aws s3api list-object-versions`,
-`mc ls --recursive --versions --json` or `rclone lsjson -R` printed. None of them has tags or unfinished uploads. --tags has lines
-of JSON as get-object-tagging prints them, each with its key: {"Key":"a","VersionId":"v1","TagSet":[{"Key":"k","Value":"v"}]}; without
-VersionId they are of the current version. --uploads is what list-multipart-uploads printed, and --parts has lines of JSON as
-list-parts prints them, each with its UploadId. An object of a class that is not here is refused; --nearest puts it into that
-class, and the last line counts them.
+A FILE is a listing, also compressed (.gz). It comes from one of these:
 
-A bucket has versions if a row is not current, is a delete marker, or has a version id other than null. It is made, its
-versioning is set to Enabled, and the versions are put oldest first by LastModified; a delete marker is a delete. --suspended
-names a bucket whose versioning is to be Suspended at the end. With --current the objects that are current are put alone, and
-versioning stays as it is. Other buckets get their objects in the order of the files, without versioning. What is left out is
-counted, and named in the file of --names. Files may be compressed with gzip. Of CSV the first line has to name the columns,
-or --schema has to: it is the field fileSchema of the inventory's manifest.json. Needed are Bucket (or --bucket), Key and
-Size, and LastModifiedDate if a key has several versions; read are VersionId, StorageClass, IsLatest and IsDeleteMarker.
-Keys in CSV are URL-encoded, as S3 writes them.
+  S3 Inventory                               CSV, or Parquet if the Python library pyarrow is there
+  aws s3api list-object-versions             JSON
+  mc ls --recursive --versions --json        lines of JSON
+  rclone lsjson -R                           JSON
 
-Each row, upload and part is sent with a token of its own (Office-Token), made of what the row says: where it is sent again the
-program gives the first reply, and puts nothing a second time (that would end the first one's stay, and some classes bill that).
-The program keeps the last 10,000 such replies. Where the server or the tool stops in the middle the same words go on, from the
-place that the file of --state notes every 1,000 rows; others may put and delete in these buckets meanwhile, with fewer than 9,000
-tokens. The same row in another listing does nothing either while its reply is kept. A listing of more than 9,000 rows into a
-bucket that has versions needs that file: without it nothing is sent. The requests of --out have these tokens too. What the
-program refuses (400) is named like what is left out, and the import goes on.
+  --tags FILE     lines of JSON of get-object-tagging, each with its key; without VersionId they are of the current version:
+                  {"Key":"a","VersionId":"v1","TagSet":[{"Key":"k","Value":"v"}]}
+  --uploads FILE  what list-multipart-uploads printed: unfinished uploads
+  --parts FILE    lines of JSON of list-parts, each with its UploadId
+  --nearest CLASS puts objects of a class that the office does not have into this one; the last line counts them. Without it they
+                  are left out
+
+A bucket has versions if a row is not current, is a delete marker, or has a version id other than null. Such a bucket is made
+Enabled, and its versions are put oldest first by LastModified; a delete marker is a delete. --suspended names a bucket that is
+suspended at the end. Other buckets get their objects in the order of the files. --current puts only current objects, and leaves the
+versioning as it is. What is left out is counted, and listed in the file of --names.
+
+The first line of a CSV names the columns, or --schema does: the field fileSchema of the inventory's manifest.json. It needs Bucket (or
+--bucket), Key and Size, and LastModifiedDate if a key has several versions. It may have VersionId, StorageClass, IsLatest and
+IsDeleteMarker. Keys in CSV are URL-encoded, as S3 writes them.
+
+Each row, upload and part has a token of its own (Office-Token). If it is sent again, the program gives its first reply and puts
+nothing twice. The program keeps the last 10,000 such replies. If the server or the tool stops in the middle, give the same command
+again: it continues from the place that the file of --state notes every 1,000 rows. Others may use these buckets meanwhile, with fewer
+than 9,000 tokens. A listing of more than 9,000 rows into a bucket with versions needs that file; without it nothing is sent. The
+requests of --out have tokens too. What the program refuses (400) is listed with what is left out, and the import goes on.
 
   import-inventory --schema 'Bucket, Key, Size, StorageClass' --server http://127.0.0.1:8080 part-1.csv.gz part-2.csv.gz
   aws s3api list-object-versions --bucket photos >photos.json
@@ -53,8 +58,10 @@ program refuses (400) is named like what is left out, and the import goes on.
   import-inventory --bucket photos --out photos.http photos.json && office run <photos.http
 
 exit codes:
-  0  done; 1  usage error; 3  a file cannot be read, or is not what it says: nothing was sent
-  2  the server gave no reply, or one that ends the import; the same command goes on where it stopped
+  0  done
+  1  usage error
+  2  the server gave no reply, or one that ends the import; the same command continues
+  3  a file cannot be read, or is not what it should be; nothing was sent
   4  a file could not be written
   5  done, but the program refused some versions
   6  rows might be put twice: a bucket has versions, or the map lacks numbers, and nothing says how far the import was
@@ -202,13 +209,13 @@ def main():
     words.add_argument("--schema", metavar="TEXT", help="the columns of CSV without a first line that names them")
     words.add_argument("--bucket", metavar="NAME", help="the bucket, if the files do not name it")
     words.add_argument("--keys", choices=("url", "plain"), help="how keys are spelled: CSV url, JSON plain if not given")
-    words.add_argument("--current", action="store_true", help="put the objects that are current alone, without versioning")
+    words.add_argument("--current", action="store_true", help="put only the current objects, without versioning")
     words.add_argument("--suspended", metavar="NAME", action="append", default=[],
-                       help="a bucket whose versioning is to be Suspended at the end; may be given again")
-    words.add_argument("--names", metavar="FILE", help="names what is left out or refused (bucket, key, why)")
+                       help="a bucket that is suspended at the end; may be given again")
+    words.add_argument("--names", metavar="FILE", help="list in this file what is left out or refused (bucket, key, why)")
     words.add_argument("--state", metavar="FILE", help="how far an import is; the first file and .import if not given")
     add_map(words, False, "keep the store's version ids and their numbers in this SQLite file; for --server")
-    words.add_argument("--nearest", metavar="CLASS", choices=CLASSES, help="put objects of a class that is not here into this one")
+    words.add_argument("--nearest", metavar="CLASS", choices=CLASSES, help="put objects of a class that the office does not have into this one")
     words.add_argument("--tags", metavar="FILE", action="append", default=[], help="tags, lines of get-object-tagging with a Key each")
     words.add_argument("--uploads", metavar="FILE", action="append", default=[],
                        help="unfinished uploads, of list-multipart-uploads; needs --map")

@@ -1,4 +1,4 @@
-"""Keeps sums (SHA-256) over the blocks of a journal, and finds bytes that changed. backup does so at each copy."""
+"""Keeps SHA-256 sums over the blocks of a journal, and finds bytes that changed. backup does so at each copy."""
 import os
 
 from office_tools.asking import Stop, run, say, words_of
@@ -12,23 +12,29 @@ EPILOG = """\
   mend DIGEST OUT JOURNAL COPY..  writes OUT, a journal without the changed bytes: each block comes from the first of these
                                   files that has it whole, and what is after the last block comes from JOURNAL
 
-The format of a journal has no sums of its own. A bit that flips on a disk gives other numbers, and mostly no error. What lies
-before the end of a journal never changes, so each block can be compared with its sum of an earlier day. backup keeps the file
-journal.digest beside its copies. A line of DIGEST has a block's first byte (start), the byte after it (to), its number of
-entries, the moment of its last entry (ms), its SHA-256, and the chain, which is the SHA-256 of the text
-"CHAIN START TO ENTRIES MS SHA256", with the chain of the line before and the fields of this one.
+The format of a journal has no checksums. A bit that flips on a disk gives other numbers, and mostly no error. What is before the end
+of a journal never changes, so each block can be compared with its sum of an earlier day. backup keeps the file journal.digest beside
+its copies. A line of DIGEST has these fields:
 
-The sums find what changed after they were made. They are no protection against somebody who can write both files: keep a copy
-of the last line elsewhere.
+  start, to  the block's first byte, and the byte after it
+  entries    the number of entries
+  ms         the moment of the last entry
+  sha256     the SHA-256 of the block
+  chain      the SHA-256 of the text "CHAIN START TO ENTRIES MS SHA256": the chain of the line before, and the fields of this one
+
+The sums find changes after they were made. They do not protect against somebody who can write both files: keep a copy of the last
+line elsewhere.
 
   journal-digest verify /backup/office/journal.digest office-data/journal /backup/office/journal-*Z
   journal-digest mend /backup/office/journal.digest mended office-data/journal /backup/office/journal-20261128T000512Z
 
 exit codes:
-  0  all is as it was; of extend and mend, the file is written
-  1  usage error; 3  a file could not be read; 4  a file could not be written; it is as it was
-  5  what is after the last block is damaged, or the file is no journal
-  6  a block is not what it was; it is named
+  0  nothing changed; of extend and mend, the file is written
+  1  usage error
+  3  a file could not be read
+  4  a file could not be written; it is as it was
+  5  what is after the last block is damaged, or the file is not a journal
+  6  a block changed; it is named
   7  DIGEST itself is damaged
 """
 COUNTS = {"verify": "DIGEST FILE", "extend": "DIGEST FILE", "mend": "DIGEST OUT JOURNAL COPY"}
@@ -99,7 +105,7 @@ def main():
     words = words_of("journal-digest", __doc__, EPILOG)
     words.add_argument("word", metavar="WORD", choices=COUNTS, help=", ".join(COUNTS))
     words.add_argument("digest", metavar="DIGEST", help="the file of sums, as journal.digest in the folder of the backups")
-    words.add_argument("files", metavar="FILE", nargs="+", help="what the word takes")
+    words.add_argument("files", metavar="FILE", nargs="+", help="what the command takes")
     given = words.parse_args()
     if given.word == "verify":
         return verify(given.digest, given.files)

@@ -1,4 +1,4 @@
-"""Prints the entries of a journal as JSON lines, or with --check says where it is damaged."""
+"""Prints the entries of a journal as JSON lines, or with --check the place where it is damaged."""
 import json
 import os
 import sys
@@ -8,25 +8,24 @@ from office_tools.entries import Damaged
 from office_tools.journals import Journal, open_file
 
 EPILOG = """\
-Each line has the gate at which the entry's frame begins (offset), its moment as a text and in milliseconds since 1970
-(ms), its kind, the token of the request if it had one, and the fields of the kind, as docs/FORMATS.md has them. Texts are in
-ASCII, with \\u for other characters. A tariff has the month from which it holds, and by class a price, or a list of tiers
-with a price each and the end of all but the last (upto, in GiB-months). The entries end at the first closed gate; what lies
-behind it has no meaning.
+A line has the gate at which the entry's frame begins (offset), its moment as a text and in milliseconds since 1970 (ms), its kind,
+the token of the request if it had one, and the fields of the kind (docs/FORMATS.md). Texts are in ASCII, with \\u for other
+characters. A tariff has its first month, and by class a price or a list of tiers: each has a price, and all but the last an end
+(upto, in GiB-months). The entries end at the first closed gate. What comes after it has no meaning.
+
+This reader was written from docs/FORMATS.md and does not know the office. Only the program says whether a command is accepted at its
+place. The tool writes no file and takes no lock, so it can read a journal on which the program works.
 
   journal-dump office-data/journal | jq -r 'select(.kind=="put") | .key'
   journal-dump office-data/journal | jq -c 'select(.token=="t1")'
   journal-dump --check /backup/journal
-
-This is a reader of docs/FORMATS.md of its own and knows nothing of the office: whether a command is accepted at its
-place the program alone tells. It writes to no file, takes no lock, and may read a journal on which the program works.
 
 exit codes:
   0  the journal is whole
   1  usage error
   3  the file could not be read
   4  the output could not be written
-  5  the journal is not made, is another kind of file (foreign), or is damaged; the note is the one of the program
+  5  the journal is not made, is another kind of file (foreign), or is damaged; the note is that of the program
 """
 
 

@@ -1,5 +1,4 @@
-"""Shows and changes the lifecycle configuration of a bucket of a running server of the program, and shows beforehand what a
-change would do and cost."""
+"""Shows and changes the lifecycle configuration of a bucket, and shows beforehand what a change would do and cost."""
 import datetime
 import difflib
 import json
@@ -16,28 +15,36 @@ from office_tools.statement import add_unit
 
 EPILOG = """\
   get             prints the configuration
-  set FILE        puts that of the file in its place
-  add FILE        adds the rules of the file after those that are there
-  edit ID FILE    puts the one rule of the file in place of the rule with this id
-  remove ID       drops this rule; with the last one the configuration goes
-  preview FILE    shows what the configuration of the file would do and cost, and changes nothing; needs no server
+  set FILE        replaces the configuration by that of the file
+  add FILE        adds the rules of the file after the present ones
+  edit ID FILE    replaces the rule with this id by the one rule of the file
+  remove ID       removes this rule; with the last one the configuration is dropped
+  preview FILE    shows what the configuration of the file would do and cost; changes nothing, and needs no server
 
-FILE is what `aws s3api get-bucket-lifecycle-configuration` or boto3 printed, a rule or a list of rules, or what
-`terraform show -json` printed of a state or a plan; - is standard input. ResponseMetadata and other fields around the
-rules are dropped, dates of another zone are written in UTC, and the names of Terraform become those of the API. Where
-Terraform has several configurations, that of the bucket of this name is taken, or the one of --resource.
+FILE is standard input (-), or one of these:
 
-What the program does not have is named with its line, as another class or a date past 2099, and nothing is sent. With
---leave-out the rest is sent: without these transitions and expirations, and without rules that then have no action. Before
-it sends, the tool shows on standard error what changes, and asks; --yes sends without asking. Where nothing changes nothing
-is sent: with each configuration that is set the actions of the bucket are due since then at the earliest.
+  - what `aws s3api get-bucket-lifecycle-configuration` or boto3 printed
+  - a rule, or a list of rules
+  - what `terraform show -json` printed of a state or a plan. If it has several configurations, the tool takes that of the bucket of
+    this name, or the one of --resource
 
-preview, and --preview with a word that changes the configuration, show what the proposed configuration would do until a day
-(--until): its actions by day and kind, the bytes by class now and on the last day, and the charge of each month beside that of
-the configuration that is there. The program itself forecasts it (`office forecast`), over a copy of the journal (--journal):
-that of the server, or a copy of `backup`. So what is shown is what will happen, if nothing else happens to the bucket. The copy
-takes as much room as the journal, in memory if it is small, else in the folder of temporary files (TMPDIR). --page FILE writes
-the same as HTML, with bars.
+The tool drops ResponseMetadata and other fields around the rules, writes dates of other zones in UTC, and turns the names of Terraform
+into those of the API. If the file has something that the program does not have, such as another class or a date past 2099, the tool
+names it with its line and sends nothing. --leave-out sends the rest: without these transitions and expirations, and without rules that
+then have no action.
+
+Before it sends, the tool shows what changes and asks. --yes sends without asking. If nothing changes, nothing is sent, because each
+configuration that is set makes the actions of the bucket due since then at the earliest.
+
+preview, and --preview with a command that changes the configuration, show up to a day (--until)
+
+  - the actions by day and kind
+  - the billed bytes by class, now and on the last day
+  - the charge of each month, beside that of the present configuration
+
+The program computes it (`office forecast`) over a copy of the journal: --journal names that of the server, or a copy of backup. If
+nothing else happens to the bucket, this is what will happen. The copy is removed at the end. It takes as much room as the journal: in
+memory if it is small, else in the folder of temporary files (TMPDIR). --page FILE writes the same as HTML, with bars.
 
   lifecycle --server http://127.0.0.1:8080 --bucket logs get
   lifecycle --bucket logs --journal office-data/journal --unit EUR=1000000 --page preview.html preview new-rules.json
@@ -45,12 +52,16 @@ the same as HTML, with bars.
   aws s3api get-bucket-lifecycle-configuration --bucket logs | lifecycle --server http://127.0.0.1:8080 --bucket logs --yes set -
 
 exit codes:
-  0  done, or nothing changes; 1  usage error; 3  a file cannot be read, or is no configuration
-  2  the server or the program gave no reply, or none of the program; 4  a text, a page or a copy could not be written
-  5  the program refused it, or its forecast, or there is no rule with this id
-  6  the file has what the program does not have: nothing was sent
-  7  nobody said yes, 8  the configuration was changed meanwhile: nothing was sent
-  9  the program of --program knows no forecast: nothing was sent
+  0  done, or nothing changes
+  1  usage error
+  2  the server or the program gave no reply or an unknown one
+  3  a file cannot be read, or is not a configuration
+  4  standard output, the page or the copy could not be written
+  5  the program refused it or the forecast, or there is no rule with this id
+  6  the file has what the program does not have; nothing was sent
+  7  nobody said yes; nothing was sent
+  8  the configuration was changed meanwhile; nothing was sent
+  9  the program of --program has no forecast; nothing was sent
 """
 COUNTS = {"get": (), "set": ("FILE",), "add": ("FILE",), "edit": ("ID", "FILE"), "remove": ("ID",), "preview": ("FILE",)}
 
@@ -63,7 +74,7 @@ def present(office, target):
     if status != 200:
         raise Stop(5, in_words(status, found, None))
     if not isinstance(found.get("Rules"), list) or not all(isinstance(it, dict) for it in found["Rules"]):
-        raise Stop(2, "a reply is none of the program")
+        raise Stop(2, "a reply is not one of the program")
     return found
 
 
@@ -161,16 +172,16 @@ def words_given():
     add_server(words, required=False)
     words.add_argument("--bucket", metavar="NAME", required=True, help="the bucket")
     words.add_argument("--resource", metavar="ADDRESS", help="of Terraform: the address of the configuration to take")
-    words.add_argument("--leave-out", action="store_true", help="send the rest where the program does not have all")
+    words.add_argument("--leave-out", action="store_true", help="if the program does not have all, send the rest")
     words.add_argument("--yes", action="store_true", help="send without asking")
-    words.add_argument("--preview", action="store_true", help="show what the change would do and cost, before it is asked whether to send it")
+    words.add_argument("--preview", action="store_true", help="show what the change would do and cost, before the tool asks")
     words.add_argument("--journal", metavar="FILE", help="of a preview: the journal, or a copy of it")
     words.add_argument("--program", metavar="PROGRAM", default="office", help="of a preview: the program that forecasts; office if not given")
     words.add_argument("--until", metavar="DAY", type=until_of, help="of a preview: up to the beginning of this day; a year if not given")
     words.add_argument("--page", metavar="FILE", help="of a preview: write it as HTML too")
     add_unit(words)
     words.add_argument("word", metavar="WORD", choices=COUNTS, help=", ".join(COUNTS))
-    words.add_argument("values", metavar="ID FILE", nargs="*", help="what the word takes")
+    words.add_argument("values", metavar="ID FILE", nargs="*", help="what the command takes")
     given = words.parse_intermixed_args()
     if len(given.values) != len(COUNTS[given.word]):
         words.error(f"{given.word} takes {' '.join(COUNTS[given.word]) or 'nothing'}")

@@ -1,4 +1,4 @@
-"""Merges the reports that several offices gave of one month into the report that one office with all their buckets would give."""
+"""Merges the reports of several offices for one month into the report that one office with all their buckets would give."""
 import csv
 import io
 import os
@@ -8,19 +8,21 @@ from office_tools.files import write
 from office_tools.reports import HEAD, TIERED, NoReport, read_report
 
 EPILOG = """\
-Each REPORT is a CSV that month-end wrote, or that GET /months/MONTH/report tells. A report does not say its month: give those
-of one month. Each bucket has to be in one office alone, and each file is given once. The lines are put in the order of a report,
-and last is the sum of all charges, however large it is. The file is written whole, or not at all.
+Each REPORT is a CSV that month-end wrote, or the reply to GET /months/MONTH/report. A report does not have its month: give reports of
+one month. Each bucket has to be in one office only, and give each file once. The lines are put in the order of a report. The last line
+is the sum of all charges, however large it is. The file is written whole or not at all.
 
-A charge is that of one line, and a line is that of one bucket. So the sum is exact whatever tariffs the offices have, in tiers or
-not. Of a bucket in two offices it would not be: the quantity of a class would go through the tiers twice, from the first on.
+The sum is exact, whatever tariffs the offices have: a charge belongs to one line, and a line to one bucket. For a bucket in two offices
+it would not be exact, because the quantity of a class would go through the tiers twice.
 
   merge-reports --out 2026-11-report.csv office1/2026-11-report.csv office2/2026-11-report.csv office3/2026-11-report.csv
 
 exit codes:
-  0  done; 1  usage error
-  3  a file could not be read; 4  the file could not be written
-  5  a file is no report, or a bucket is in two of them
+  0  done
+  1  usage error
+  3  a file could not be read
+  4  the file could not be written
+  5  a file is not a report, or a bucket is in two of them
 """
 
 

@@ -1,5 +1,5 @@
-"""Asks a running server of the program for its buckets and meters, and gives them in the text format of Prometheus: in a
-file for the textfile collector of the node exporter (--out), or at http://127.0.0.1:PORT/metrics (--listen)."""
+"""Gives the buckets and meters of a running server in the text format of Prometheus: in a file for the textfile collector of the node
+exporter (--out), or at http://127.0.0.1:PORT/metrics (--listen)."""
 import argparse
 import contextlib
 import datetime
@@ -20,16 +20,18 @@ from office_tools.version import version
 
 VERSION = version()
 EPILOG = """\
-The program has no list of its buckets, so they are named by --bucket, by a file with a name a line (--buckets), or by the
-journal on which the server works (--journal), of which each reading takes the new entries; all three may be given together.
-All are gauges. A meter of a month can fall: an action that is done late stands at the moment at which it was due.
+Name the buckets with --bucket, with --buckets (a file, one name a line), or with --journal (all buckets of that journal).
+You may combine these.
+Of the journal each reading takes only the new entries.
 
-  office_up                                1 if the server gave replies, else 0 and no other sample
+All metrics are gauges. A meter of a month can fall, because a late action takes effect at the moment at which it was due.
+
+  office_up                                1 if the server replied, else 0 and no other sample
   office_scrape_duration_seconds, office_build_info
   office_bucket_up                         1 if the bucket could be read, 0 if it was refused
   office_bucket_versions, _rules, _uploads
-  office_bucket_billed_bytes               bytes that are billed now, by class, from two readings of the meters; not
-                                           there while the clock of the office stands
+  office_bucket_billed_bytes               bytes that are billed now, by class, from two readings of the meters; missing while
+                                           the clock of the office does not move
   office_bucket_overdue_since_timestamp_seconds, office_overdue_since_timestamp_seconds, office_overdue_buckets
                                            lifecycle actions that are due and not done; the first two only if there are any
   office_month_storage_byte_seconds        bytes times seconds stored, by class and month (UTC)
@@ -37,34 +39,37 @@ All are gauges. A meter of a month can fall: an action that is done late stands 
   office_month_transitions                 moves into the class
   office_month_charge, office_bucket_month_charge
                                            charge of this month so far, in units of the prices; only if prices are set
-  office_limit, office_used                limits, and with --journal what is used of Buckets, Versions, Uploads, Rules
-                                           (bytes), Tariffs and Journal (bytes), if no bucket was refused
+  office_limit, office_used                limits, and with --journal what is used of Buckets, Versions, Uploads, Rules (bytes),
+                                           Tariffs and Journal (bytes), if no bucket was refused
   office_journal_size_bytes, office_last_command_timestamp_seconds, office_closed_until_timestamp_seconds
                                            with --journal; the last is the end of the last closed month
   office_last_sweep_timestamp_seconds      with --log, the file of act-all
   office_last_backup_timestamp_seconds     with --backups, the folder of backup
 
-Samples of a month have the label month, of this month and the one before. GiB-months of a month of 30 days are
-office_month_storage_byte_seconds / 2^30 / 2592000. Each reading takes one connection of the server, and so one of its
-workers, and waits at most 10 seconds for a reply. --listen serves loopback alone, and one reader at a time. A server
-behind a proxy is https://LOGIN@office.example:8443, with the password in the environment as OFFICE_PASSWORD.
+Samples of a month have the label month, for this month and the one before. GiB-months of a month of 30 days are
+office_month_storage_byte_seconds / 2^30 / 2592000. A reading takes one connection of the server, and so one worker, and waits at most
+10 seconds for a reply. --listen serves loopback only, one reader at a time. A server behind a proxy is
+https://LOGIN@office.example:8443, with the password in the environment (OFFICE_PASSWORD).
 
-The place that was reached in the journal is kept in a file in $OFFICE_STATE, $CACHE_DIRECTORY or ~/.cache/nogawhin.
+The tool keeps the place that it reached in the journal in a file in $OFFICE_STATE, $CACHE_DIRECTORY or ~/.cache/nogawhin.
 
   metrics --server http://127.0.0.1:8080 --journal office-data/journal --out /var/lib/node_exporter/office.prom
   metrics --server http://127.0.0.1:8080 --journal office-data/journal --log actions.jsonl --backups /backup/office --listen 9101
 
 exit codes:
-  0  the file was written; 1  usage error; 7  the port could not be listened at
-  2  the server gave no reply, or none of the program: the file then says office_up 0; or the tool was stopped
-  3  the names of the buckets could not be read, 4  the file could not be written: it is left as it was
+  0  the file was written
+  1  usage error
+  2  the server gave no reply or an unknown one, and the file says office_up 0; or the tool was stopped
+  3  the names of the buckets could not be read
+  4  the file could not be written; it is as it was
   5  the file was written, but a bucket was refused
+  7  the port could not be used
 """
 
 
 def port(text):
     if not (text.isascii() and text.isdigit() and 0 < int(text) < 65536):
-        raise argparse.ArgumentTypeError(f"'{text}' is no port")
+        raise argparse.ArgumentTypeError(f"'{text}' is not a port")
     return int(text)
 
 

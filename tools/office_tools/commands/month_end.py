@@ -1,4 +1,4 @@
-"""Ends a month on a running server of the program: does what is due, closes the month, keeps its report in two files, and posts its bills."""
+"""Ends a month on a running server: does what is due, closes the month, keeps its report in two files, and posts its bills."""
 import os
 
 from office_tools.actions import add_log, open_log
@@ -14,29 +14,33 @@ from office_tools.tail import read_tail
 from office_tools.tariffs import in_force
 
 EPILOG = """\
-First it asks the program to close the month. If the month is not over, an earlier month is open or no prices are set, it
-stops there and does nothing else. Then it does what is due in the named buckets, as act-all does, and closes the month if
-actions kept it open. Last it writes what the month costs to MONTH-report.csv, exactly as the program reports it, and the same
-lines in columns to MONTH-report.txt, and prints both names. A month that is closed is closed for good: its report changes no
-more, and later prices do not count for it. The last note says from which month the tariff holds with which it was closed; of a
-month that was closed before, --journal tells it.
+1. It asks the program to close the month. If the month is not over, an earlier month is open, or no tariff is in force, it stops and
+   has changed nothing.
+2. It does what is due in the named buckets, as act-all does. If lifecycle actions kept the month open, it closes it then.
+3. It writes MONTH-report.csv, exactly as the program reports it, and the same lines in columns to MONTH-report.txt. It prints both
+   names.
+4. With --bill it posts the bills of the month.
 
-The same words may be given again, at any time and after a stop in the middle: a month that was closed already is fine, and
-its missing files are written. A file with other content is left as it is (exit code 4).
+A closed month is final: its report and its prices never change. The last note has the first month of the tariff with which the month
+was closed; for a month that was closed before, it needs --journal.
 
-The program has no list of its buckets, so they are named by --bucket, by a file with a name a line (--buckets), or by the
-journal on which the server works (--journal); all three may be given together. A bucket that is not named may keep the month
-from closing, and is then reported.
+You can give the same command again at any time, also after a stop: it accepts a closed month, and writes missing files. It leaves a
+file with other content as it is (exit code 4).
+
+Name the buckets with --bucket, with --buckets (a file, one name a line), or with --journal (all buckets of that journal).
+You may combine these.
+A bucket that is not named may keep the month open, and is then reported.
 
 --log appends a line for each action to a file, as act-all does.
 
---bill PROGRAM then posts the bills of the month, one for each bucket, with that program. The server has the lock of its
-journal, so the program works on a copy of the journal: it is FOLDER/office-data/journal, made with --journal, and renewed if it
-lacks the month's closing. The bills are kept in FOLDER/office-data/bills.db, a file of SQLite. A month is posted once: the same
-words again change nothing. Name the same FOLDER each month. Where no server runs, `office bill MONTH` posts the bills.
+--bill PROGRAM posts the bills with that program, one for each bucket. The server has the lock of its journal, so the program works on a
+copy: FOLDER/office-data/journal, made from --journal, and renewed if it lacks the month's closing. The bills are in
+FOLDER/office-data/bills.db, a database of SQLite. A month is posted once; the same command again changes nothing. Name the same FOLDER
+each month. If no server runs, `office bill MONTH` posts the bills.
 
-Behind a proxy the server is https://LOGIN@office.example:8443, where LOGIN is an operator; the password is asked at a
-terminal, or taken from the environment (OFFICE_PASSWORD).
+Behind a proxy the server is https://LOGIN@office.example:8443. The tool asks for the password at a terminal, or takes it
+from the environment (OFFICE_PASSWORD).
+LOGIN has to be an operator.
 
   month-end --server http://127.0.0.1:8080 --journal office-data/journal 2026-11
   month-end --server http://127.0.0.1:8080 --journal office-data/journal --log actions.jsonl 2026-11
@@ -45,16 +49,18 @@ terminal, or taken from the environment (OFFICE_PASSWORD).
 
 exit codes:
   0  the month is closed, both files are there, and with --bill the bills are posted
-  1  usage error; 3  the names of the buckets could not be read; 4  a file could not be written
-  2  the server gave no reply, or none of the program, or its disk failed; the same words go on
-  5  the program refused a bucket (the month is closed, both files are there, and the bills are posted) or the month itself
- 11  the bills are not posted (the month is closed, and both files are there); the same words go on
- 13  other bills of the month are kept, and stay (the month is closed, and both files are there)
-  not closed, and no file was written:
+  1  usage error
+  2  the server gave no reply or an unknown one, or its disk failed; the same command continues
+  3  the names of the buckets could not be read
+  4  a file could not be written
+  5  the program refused a bucket (the month is closed, the files and the bills are there), or it refused the month itself
+ 11  the month is closed and both files are there, but the bills are not posted; the same command continues
+ 13  the month is closed and both files are there, but other bills of it were posted before; they stay
+  If the month is not closed, no file is written:
   6  the month is not over (refusal 84)
-  7  lifecycle actions that stand in the month are not done (85)
+  7  lifecycle actions of the month are not done (85)
   8  an earlier month has to be closed first (87)
- 10  no prices are set for the month (88)
+ 10  no tariff is in force in the month (88)
 """
 
 
@@ -94,7 +100,7 @@ def close(office, month, sweep, due_is_fine=False):
     if status == 200 and found == {"closed": month}:
         return f"{month} is closed"
     if status == 200:
-        raise Stop(2, f"a reply is none of the program: {found}")
+        raise Stop(2, f"a reply is not one of the program: {found}")
     if due_is_fine and found.get("error") == "DueActions":
         return None
     if found.get("error") != "AlreadyClosed":
@@ -128,7 +134,7 @@ def report_of(office, month, sweep):
     try:
         return found, read_report(found)
     except NoReport as fault:
-        raise Stop(2, f"the report of {month} is none of the program: {fault}") from None
+        raise Stop(2, f"the report of {month} is not one of the program: {fault}") from None
 
 
 def keep(text, path):

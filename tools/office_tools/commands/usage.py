@@ -1,4 +1,4 @@
-"""Asks a running server of the program what its buckets used in a month, and writes it as CSV, in GiB-months."""
+"""Writes what the buckets of a running server used in a month as CSV, in GiB-months."""
 import csv
 import datetime
 import io
@@ -11,26 +11,32 @@ from office_tools.files import write
 from office_tools.months import gib_months
 
 EPILOG = """\
-The program has no list of its buckets, so they are named by --bucket, by a file with a name a line (--buckets), or by the
-journal on which the server works (--journal); all three may be given together.
+Name the buckets with --bucket, with --buckets (a file, one name a line), or with --journal (all buckets of that journal).
+You may combine these.
 
-The columns are bucket, month, class, gib_months (stored), early_gib_months (owed for objects that left the class too
-early), moves (into the class), and the exact numbers of the program, byte_ms and early_byte_ms. A GiB-month is 2^30 bytes
-for the days of that month, rounded here to nine digits. Classes in which nothing was used are left out. What the month
-costs is the reply to GET /months/MONTH/report. The file is written whole, or not at all if one bucket is
-refused.
+  bucket, month, class
+  gib_months            what was stored
+  early_gib_months      what is owed for objects that left the class too early
+  moves                 how many objects moved into the class
+  byte_ms, early_byte_ms  the exact numbers of the program
 
-If a month is not over by this machine's clock, the use until now is reported, with a note.
+A GiB-month is 2^30 bytes for the days of that month, rounded here to nine digits. Classes that were not used are left out. `bill` and
+GET /months/MONTH/report have what the month costs. If one bucket is refused, no file is written, so a file has the whole month. If the
+month is not over by this machine's clock, the file has the use until now, and a note says so.
 
-Behind a proxy the server is https://LOGIN@office.example:8443; the password is asked at a terminal, or taken from the
-environment (OFFICE_PASSWORD). SSL_CERT_FILE names the certificate of the proxy if it is self-signed.
+Behind a proxy the server is https://LOGIN@office.example:8443. The tool asks for the password at a terminal, or takes it
+from the environment (OFFICE_PASSWORD).
+SSL_CERT_FILE names the certificate of the proxy if it is self-signed.
 
   usage --server http://127.0.0.1:8080 --journal office-data/journal --out 2026-11.csv 2026-11
   usage --server https://clerk@office.example:8443 --buckets names --out 2026-11.csv 2026-11
 
 exit codes:
-  0  done; 1  usage error; 3  the names of the buckets could not be read
-  2  the server gave no reply, or none of the program, or the tool was stopped; 4  the file could not be written
+  0  done
+  1  usage error
+  2  the server gave no reply or an unknown one, or the tool was stopped
+  3  the names of the buckets could not be read
+  4  the file could not be written
   5  the program refused the month or a bucket
 """
 COLUMNS = ("bucket", "month", "class", "gib_months", "early_gib_months", "moves", "byte_ms", "early_byte_ms")
@@ -43,7 +49,7 @@ def rows_of(office, bucket, month):
     if status != 200:
         raise Stop(5, f"bucket {bucket}: {reason(status, found)}")
     if (text_in(found, "bucket"), text_in(found, "month")) != (bucket, month):
-        raise Stop(2, f"a reply is none of the program: it is of bucket {found['bucket']} and {found['month']}")
+        raise Stop(2, f"a reply is not one of the program: it is of bucket {found['bucket']} and {found['month']}")
     for name, stored, early, moves in meters_in(found):
         if stored or early or moves:
             months = [gib_months(byte_ms, month) for byte_ms in (stored, early)]

@@ -1,4 +1,4 @@
-"""Makes one HTML file of what a month used and costs, of a running server or of files; it needs nothing else to be shown."""
+"""Makes one HTML file of what a month used and costs, from a running server or from files."""
 import csv
 import io
 import json
@@ -16,28 +16,24 @@ from office_tools.tail import read_tail
 from office_tools.tariffs import NoTariffs, tariffs_in
 
 EPILOG = """\
-The page has what was stored, what is owed for objects that left their class too early, the moves and the charges, by bucket and
-by class, and then each line of the report. Above these are the state of the month, open or closed, the moment of which the
-figures are, and a warning if lifecycle actions are overdue. It has no script, and loads nothing.
+The page has the state of the month (open or closed), the moment of its figures, and a warning if lifecycle actions are overdue. Then
+come what was stored, early deletions, moves and charges, by bucket and by class, and each line of the report. It has no script, and
+loads nothing.
 
-With --server all figures come from one reply, the report of the month, so the page is of one moment while the clock runs.
---journal tells whether the month is closed, and names the buckets that are asked for overdue actions; without it the buckets of
-the report are asked, and those of --bucket and --buckets. The moment is of this machine's clock.
+With --server all figures come from one reply, the report of the month, so they are of one moment. --journal says whether the month is
+closed, and which buckets are asked for overdue actions. Without it the buckets of the report are asked, and those of --bucket and
+--buckets. The moment is of this machine's clock.
 
-With --report and --meters the page is made of the CSV that month-end wrote, and of that of usage for the same month and all
-buckets. They have to belong together: each quantity of the report has to be the one of the meters, the total the sum of the
-charges, and each GiB-month that of its byte-milliseconds. So take them of a closed month. --journal tells that it is closed. The
-same files give the same page.
+With --report and --meters the page is made of the CSV of month-end and of that of usage, for the same month and all buckets. They have
+to belong together: each quantity, each GiB-month and the total are checked. So take those of a closed month. --journal says that it is
+closed. The same files give the same page.
 
-Of each line in tiers a small table shows what each tier took. The tariff for it is asked for after the report (GET /tariff), or is
-in the file of --tariff, which has that reply. It is taken only if it gives each price and each charge of the report: a closed
-month keeps the tariff of its closing, which may have been replaced since.
-
---bills FILE shows what the months before came to, with a bar a month. FILE is bills.db, in which the program keeps the bills of
-closed months; it is copied and read, and stays as it is. If the month itself was posted, its bills have to come to the total of
-the report.
-
---unit names the money, and how many units of the prices are one of it, as EUR=1000000.
+  tiers         for each line in tiers a small table shows what each tier took. The tariff comes from GET /tariff, or from the file of
+                --tariff, which has that reply. It is used only if it gives each price and charge of the report, because a closed month
+                keeps the tariff of its closing
+  --bills FILE  shows the months before as bars. FILE is bills.db, with the bills of closed months. It is copied, and stays as it is. If
+                the month itself was posted, its bills have to come to the total of the report
+  --unit        names the money, and how many units of the prices are one of it, as EUR=1000000
 
   usage-page --server http://127.0.0.1:8080 --journal office-data/journal --unit EUR=1000000 --out 2026-11.html 2026-11
   usage-page --server http://127.0.0.1:8080 --bills /srv/reports/office-data/bills.db --out 2026-11.html 2026-11
@@ -45,11 +41,13 @@ the report.
   usage-page --report 2026-11-report.csv --meters 2026-11.csv --tariff tariffs.json --out 2026-11.html 2026-11
 
 exit codes:
-  0  the page is there; 1  usage error
-  2  the server gave no reply, or none of the program
-  3  a file could not be read; 4  the page could not be written: what was there is left
-  5  a file is no report or no meters of this month or no file of bills, or two of them do not belong together, or the program refused
- 10  no prices are set for the month
+  0  the page is written
+  1  usage error
+  2  the server gave no reply or an unknown one
+  3  a file could not be read
+  4  the page could not be written; a file that was there is as it was
+  5  a file is not what it should be, two files do not belong together, or the program refused
+ 10  no tariff is in force in the month
 """
 HEAD = ["bucket", "month", "class", "gib_months", "early_gib_months", "moves", "byte_ms", "early_byte_ms"]
 FIELDS = {"storage": "stored", "early": "early", "transitions": "moves"}
@@ -77,13 +75,13 @@ def read_meters(text, month):
     try:
         rows = list(csv.reader(io.StringIO(text, newline=""), strict=True))
     except csv.Error as fault:
-        raise NoReport(f"it is no CSV: {fault}") from None
+        raise NoReport(f"it is not CSV: {fault}") from None
     if rows[:1] != [HEAD] or not text.endswith("\n"):
         raise NoReport(f"line 1 is not '{','.join(HEAD)}'" if rows[:1] != [HEAD] else "its last line is cut short")
     found = {}
     for place, row in enumerate(rows[1:], 2):
         if len(row) != len(HEAD) or not row[0] or not row[2]:
-            raise NoReport(f"line {place} is no line of meters")
+            raise NoReport(f"line {place} is not a line of meters")
         if row[1] != month:
             raise NoReport(f"line {place} is of the month '{row[1][:40]}'")
         moves, stored, early = (number(*it, place) for it in zip(row[5:], HEAD[5:]))
