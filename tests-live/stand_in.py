@@ -1,5 +1,5 @@
 #!/usr/bin/env python3
-"""Stands in for the program where it is not built, for the cases of the tools: `init`, `run`, `report MONTH`, `bill MONTH`,
+"""Stands in for the program where it is not built, for the cases of the tools: `init`, `run`, `report MONTH [--text]`, `bill MONTH`,
 `forecast BUCKET DATE`, `serve --listen HOST:PORT`.
 
 It answers a part of the requests of docs/FORMATS.md by the plain models of plain_office.py, plain_months.py and plain_tokens.py, and
@@ -30,6 +30,8 @@ from stand_in_rules import moment_of, refuse, rules_of  # noqa: E402
 STATUS = {**dict.fromkeys(("NoSuchBucket", "NoRules", "NoSuchKey", "NoSuchVersion", "NoSuchUpload", "NoRoute"), 404),
           **dict.fromkeys(("BucketExists", "NotEnabledBefore", "MonthNotOver", "DueActions", "AlreadyClosed", "EarlierMonthOpen", "NoTariff",
                            "IsMarker", "BadPart", "NoParts", "TokenReused"), 409), "BadMethod": 405, "Full": 507}
+USAGE = ("usage: office init; run; serve --listen A [--workers N] [--connections K]; report MONTH [--text]; explain [--workers N]; gen NUMBER COUNT; "
+         "bill MONTH; forecast BUCKET DATE\n")
 NAME, DAY = re.compile(r"[a-z0-9][a-z0-9.-]{1,61}[a-z0-9]"), re.compile(r"20\d\d-(0[1-9]|1[0-2])-(0[1-9]|[12]\d|3[01])")
 MADE = (0x01, 0x05, 0x09, 0x0B)  # kinds of commands whose reply is 201
 
@@ -229,6 +231,18 @@ class Input(Handler):
             self.handle_one_request()
 
 
+def report(office, month, is_table):
+    """Prints what a month costs. Returns the status."""
+    status, _, text = replied(office, Handler.journal, "GET", f"/months/{month}/report", [], b"")
+    if status != 200:
+        return sys.stderr.write("report: no tariff\n") and 10
+    if is_table:
+        rows = [row.split(",") for row in text.decode().splitlines()[1:]]
+        text = "".join(f"{row[0]:<24} {row[1]:<12} {row[2]:<14} {row[3]:>28} {row[5]:>16}\n" for row in rows).encode()
+    sys.stdout.buffer.write(text)
+    return 0
+
+
 def is_day(text):
     try:
         return bool(DAY.fullmatch(text) and datetime.date.fromisoformat(text))
@@ -260,9 +274,10 @@ def foretell(office, bucket, day):
 
 def main(words):
     if words == ["init"]:
+        sys.stdout.write("already made\n" if Journal.path.exists() else "made\n")
         return Journal.make()
     if not is_line(words):
-        return sys.stderr.write("usage: office init; run; serve --listen A; report MONTH; bill MONTH; forecast BUCKET DATE\n") and 1
+        return sys.stderr.write(USAGE) and 1
     try:
         Handler.office, Handler.journal = Office(), Journal()
         Handler.journal.replay(Handler.office)
@@ -276,9 +291,7 @@ def main(words):
     if words[0] == "run":
         Input()
     elif words[0] == "report":
-        status, _, text = replied(Handler.office, Handler.journal, "GET", f"/months/{words[1]}/report", [], b"")
-        sys.stdout.buffer.write(text if status == 200 else b"")
-        return 0 if status == 200 else sys.stderr.write("report: no tariff\n") and 10
+        return report(Handler.office, [it for it in words[1:] if it != "--text"][0], "--text" in words)
     elif words[0] == "forecast":
         return foretell(Handler.office, *words[1:])
     elif words[0] == "bill":
