@@ -104,7 +104,7 @@ class Commands(live.Case):
         quick, rules, again = self.runnable("README.md")
         said = self.shell(quick, "quick start")
         self.check("the office is made", True, said.startswith("made\n"))
-        self.check("the meters of this month", 1, len(re.findall(r'"byte_ms":"[1-9][0-9]*","class":"STANDARD_IA"', said)))
+        self.check("the bill of this month", 1, len(re.findall(r"backups,storage,STANDARD_IA,[1-9][0-9]*,12500,[0-9]+\n", said)))
         serving = f"{self.program} serve --listen 127.0.0.1:8080 &\ntrap 'kill %1' EXIT\n"
         said = self.shell(serving + rules, "a lifecycle configuration")
         self.check("three rules, nothing is due", '{"rules":3}{"action":"none"}', said)
