@@ -2,7 +2,7 @@
 """Compares `office forecast` with a plain model on random histories, and with what then happens: the configuration is set, some of
 what is due is done at some moments and the rest at the last, and the meters and the report are those of the forecast.
 
-OFFICE_SEEDS=1000,1000 takes 1,000 histories from number 1000 on in place of 40; it is left out if the program knows no forecast.
+OFFICE_SEEDS=1000,1000 takes 1,000 histories from number 1000 on in place of 200. Left out if the program knows no forecast.
 """
 import csv
 import datetime
@@ -19,7 +19,7 @@ from serve_client import request
 from test_model import bodies
 
 MAKE, SET_RULES = 0x01, 0x03
-DAYS = (1, 31, 90, 400)
+DAYS = (1, 31, 90, 400, 400)
 
 
 def day_at(moment):
@@ -40,18 +40,19 @@ class Forecasts(live.Case):
         """A history with a bucket, a tariff perhaps, a configuration that is to be tried, and the day up to which."""
         history, months = History(seed), Months()
         history.fill()
-        bucket, draw = sorted(history.buckets)[0], history.draw
+        bucket, draw = max(sorted(history.buckets), key=lambda it: len(history.buckets[it].stacks)), history.draw
         if draw.random() < 0.8:
             first = draw.choice((FIRST, month_at(history.last), next_month(month_at(history.last))))
             tariff = plain([draw.randint(0, 10 ** 6) for _ in range(6)], [draw.randint(0, 10 ** 6) for _ in range(5)], first)
             months.set_tariff(tariff)
             history.append(history.last, entry_of(tariff))
-        rules, mode = history.draw_rules()
+        (rules, mode), (more, _) = history.draw_rules(), history.draw_rules()
+        rules += [{**it, "id": f"more-{it['id']}"} for it in more]
         until = (history.last // DAY + draw.choice(DAYS)) * DAY
         return history, months, bucket, {"rules": rules, "mode": mode}, until
 
     def test_random_histories(self):
-        for seed in live.seeds(1, 40):
+        for seed in live.seeds(1, 200):
             with self.subTest(seed=seed):
                 self.compare(seed)
 
