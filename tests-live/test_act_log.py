@@ -189,7 +189,7 @@ class ActLog(live.Case):
                     link.recv(10)
                     tool.send_signal(signal.SIGINT)
                     said = tool.stderr.read().splitlines()
-        self.check("status and note", (2, "act-all: stopped; the same words go on"), (tool.returncode, said[-1]))
+        self.check("status and note", (2, "act-all: stopped; the same command continues"), (tool.returncode, said[-1]))
         self.check("the same words go on", 0, self.act_all("--log", self.log)[0])
         self.complete("stopped")
 

@@ -83,7 +83,7 @@ class MonthEnd(live.Case):
         self.ends("no prices", 10, "2024-01 is not closed: no prices are set for it (PUT /tariff)", "--bucket", "logs", "2024-01")
         self.set_prices()
         self.ends("a bucket that was not named", 7, f"{DUE} 'tmp/x'; name it too: --bucket raw", "--bucket", "logs", "2024-01")
-        self.ends("a bucket with more due than --most", 7, f"{DUE} 'cold/1'; the same words go on", "--bucket", "raw", "--most", "1", "2024-01")
+        self.ends("a bucket with more due than --most", 7, f"{DUE} 'cold/1'; the same command continues", "--bucket", "raw", "--most", "1", "2024-01")
         self.ends("a month before", 8, "2024-02 is not closed: 2024-01 has to be closed first", "--bucket", "logs", "2024-02")
         today = datetime.datetime.now(datetime.timezone.utc)
         after = (today.replace(day=1) + datetime.timedelta(days=32)).strftime("%Y-%m")

@@ -29,7 +29,7 @@ class Stop(Exception):
     """The status and the note with which a tool ends."""
 
 
-def run(name: str, main: typing.Callable[[], typing.Optional[int]], stopped: typing.Tuple[int, str] = (2, "stopped; the same words go on")) -> typing.NoReturn:
+def run(name: str, main: typing.Callable[[], typing.Optional[int]], stopped: typing.Tuple[int, str] = (2, "stopped; the same command continues")) -> typing.NoReturn:
     """Runs a tool, and ends with its status; `stopped` is the one where somebody ends it at a terminal."""
     try:
         sys.exit(main())

@@ -213,7 +213,7 @@ class Follow:
             said = [it.body] if event.what == TAGS else []
             status, found = self.office.ask(it.method, it.target, it.body, token_of("event", name_of(event.raw), left, *said))
             if status in (500, 503, 507):
-                raise Stop(2, f"bucket {event.bucket}: {reason(status, found)}; the same words go on")
+                raise Stop(2, f"bucket {event.bucket}: {reason(status, found)}; the same command continues")
         return status, found
 
     def settle(self, event, status, found):

@@ -9,13 +9,14 @@ from office_tools.scratch import Scratch, program_of
 from office_tools.sweeping import KINDS, Sweep, act_on_all, add_most, target_of
 
 EPILOG = """\
-Name the buckets with --bucket, with --buckets (a file, one name a line), or with --journal (all buckets of that journal).
-You may combine these.
+Name the buckets with --bucket, with --buckets (a file, one name a line), or with --journal (all buckets of that
+journal). You may combine these.
 
-Each request does one action, the first that is due. It is durable once it is answered. An action takes effect at the moment
-at which it was due. So you can give the same command at any time, also after a stop: nothing is done twice. Run it each day,
-because a put, a delete, new tags or new rules come before what was due and not done. --most bounds the actions of a bucket;
-the last line names the buckets that have more. A refused bucket is reported, and the others go on.
+Each request does one action, the first that is due. It is durable once it is answered. An action takes effect
+at the moment at which it was due. So you can give the same command at any time, also after a stop: nothing is
+done twice. Run it each day, because a put, a delete, new tags or new rules come before what was due and not
+done. --most bounds the actions of a bucket; the last line names the buckets that have more. A refused bucket is
+reported, and the others go on.
 
 --json prints a line for each action that was done. --log appends the same line to a file:
 
@@ -26,17 +27,18 @@ the last line names the buckets that have more. A refused bucket is reported, an
   marker  the version of the new delete marker         upload  the number of an upload that was aborted
   since   the moment at which the action takes effect  rule    the id of the rule
 
-FILE and FILE.state are synced before and after each action. If a run is stopped, the next run looks into the journal and adds
-the line whose reply was lost. No line is missing or there twice. If another command changed the bucket in between, that line
-has the kind `unknown`, and a note names the entry of the journal. Move FILE away only while no run is at work.
+FILE and FILE.state are synced before and after each action. If a run is stopped, the next run looks into the
+journal and adds the line whose reply was lost. No line is missing or there twice. If another command changed
+the bucket in between, that line has the kind `unknown`, and a note names the entry of the journal. Move FILE
+away only while no run is at work.
 
---dry-run does nothing. With --program and --journal it prints all that is due: the lines that --json would print. The program
-does the actions on a copy of the journal, which is removed at the end. The copy takes as much room as the journal: in memory
-if it is small, else in the folder of temporary files (TMPDIR). Without --program, --dry-run prints the next action of each
-bucket, as the server reports it.
+--dry-run does nothing. With --program and --journal it prints all that is due: the lines that --json would
+print. The program does the actions on a copy of the journal, which is removed at the end. The copy takes as
+much room as the journal: in memory if it is small, else in the folder of temporary files (TMPDIR). Without
+--program, --dry-run prints the next action of each bucket, as the server reports it.
 
-Behind a proxy the server is https://LOGIN@office.example:8443. The tool asks for the password at a terminal, or takes it
-from the environment (OFFICE_PASSWORD).
+Behind a proxy the server is https://LOGIN@office.example:8443. The tool asks for the password at a terminal, or
+takes it from the environment (OFFICE_PASSWORD).
 
   act-all --server http://127.0.0.1:8080 --journal office-data/journal
   act-all --server http://127.0.0.1:8080 --journal office-data/journal --log actions.jsonl

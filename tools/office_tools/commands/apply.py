@@ -9,25 +9,26 @@ from office_tools.store import add_store, store_of
 from office_tools.sweeping import count_of
 
 EPILOG = """\
-FILE has the lines that `act-all --log FILE` or `month-end --log FILE` wrote. --map is the file of import-inventory and follow;
-it has the store's id of each version. The tool uses boto3 or the aws command, whichever is there, with the credentials that
-these find.
+FILE has the lines that `act-all --log FILE` or `month-end --log FILE` wrote. --map is the file of
+import-inventory and follow; it has the store's id of each version. The tool uses boto3 or the aws command,
+whichever is there, with the credentials that these find.
 
-Without --yes nothing is changed: the tool looks up each line at the store, and prints what it would do. With --yes it does it,
-and notes each line that is done in the map. You can give the same command at any time, also after a stop: it skips these lines.
---limit bounds the changes of one run.
+Without --yes nothing is changed: the tool looks up each line at the store, and prints what it would do. With
+--yes it does it, and notes each line that is done in the map. You can give the same command at any time, also
+after a stop: it skips these lines. --limit bounds the changes of one run.
 
-  remove      removes the version with that id for good, if its size is that of the map. In a bucket without versions it removes
-              the object, if nobody put another one since the action took effect
+  remove      removes the version with that id for good, if its size is that of the map. In a bucket without
+              versions it removes the object, if nobody put another one since the action took effect
   marker      puts a delete marker, if the newest version at the store is the one that expired
   abort       aborts the upload
-  transition  does nothing. A client cannot move a version to another class in a bucket with versions: a copy is a new version
-              with a new age. Put the same rules at the store. `compare` shows where a class differs
+  transition  does nothing. A client cannot move a version to another class in a bucket with versions: a copy is
+              a new version with a new age. Put the same rules at the store. `compare` shows where a class
+              differs
 
-What is already so at the store counts as done. If a check fails or the store refuses, the line is reported with the reason, and
-the others go on. The next run tries it again. A put that comes between the check and a delete marker is below that marker then:
-hidden, and not lost. A store that ages objects by the same rules does all this by itself: then leave out --yes, and read what
-it did.
+What is already so at the store counts as done. If a check fails or the store refuses, the line is reported with
+the reason, and the others go on. The next run tries it again. A put that comes between the check and a delete
+marker is below that marker then: hidden, and not lost. A store that ages objects by the same rules does all
+this by itself: then leave out --yes, and read what it did.
 
   act-all --server http://127.0.0.1:8080 --journal office-data/journal --log actions.jsonl
   apply --map photos.map --endpoint-url http://127.0.0.1:9000 actions.jsonl

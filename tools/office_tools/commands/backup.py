@@ -13,20 +13,21 @@ from office_tools.files import sync_folder
 from office_tools.journals import open_file
 
 EPILOG = """\
-Copies JOURNAL (office-data/journal) to FOLDER/journal-YYYYMMDDTHHMMSSZ. The copy gets this name after it is written, synced and
-checked. The folder is made if it is missing. If FOLDER is on a disk of its own, give --other-disk: the tool then refuses while
-that disk is not mounted. --keep N removes all but the N newest copies.
+Copies JOURNAL (office-data/journal) to FOLDER/journal-YYYYMMDDTHHMMSSZ. The copy gets this name after it is
+written, synced and checked. The folder is made if it is missing. If FOLDER is on a disk of its own, give
+--other-disk: the tool then refuses while that disk is not mounted. --keep N removes all but the N newest
+copies.
 
-A journal only grows, and its front never changes. backup keeps FOLDER/journal.digest, a chain of SHA-256 sums over blocks of
-entries. For each copy it compares all earlier blocks, checks each new entry, and adds the new blocks. If an earlier block changed,
-it keeps no copy and removes none (exit code 6). There are two causes:
+A journal only grows, and its front never changes. backup keeps FOLDER/journal.digest, a chain of SHA-256 sums
+over blocks of entries. For each copy it compares all earlier blocks, checks each new entry, and adds the new
+blocks. If an earlier block changed, it keeps no copy and removes none (exit code 6). There are two causes:
 
   bytes on the disk changed      `journal-digest mend` puts the journal together again, from it and a copy
-  the journal is another one     after a restore of an older copy, or in a new office: give --replaced once. It begins a new
-                                 chain, and keeps the old one beside it
+  the journal is another one     after a restore of an older copy, or in a new office: give --replaced once. It
+                                 begins a new chain, and keeps the old one beside it
 
-To restore: stop the program, put a copy in the place of office-data/journal, remove check.0 and check.1 beside it (they are made
-anew), and start the program.
+To restore: stop the program, put a copy in the place of office-data/journal, remove check.0 and check.1 beside
+it (they are made anew), and start the program.
 
   backup --keep 14 office-data/journal /backup/office
 

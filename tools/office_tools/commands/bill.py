@@ -9,11 +9,13 @@ from office_tools.reports import TIERED
 from office_tools.statement import NOT_BILLED, add_unit, asked, of_file
 
 EPILOG = f"""\
-All figures come from one reply of the program, the report of the month. --journal says whether the month is closed, and which
-buckets are asked for overdue actions. Without it the buckets of the report are asked, and those of --bucket and --buckets. The
-moment is of this machine's clock. --report prints the bill of a file that month-end wrote.
+All figures come from one reply of the program, the report of the month. --journal says whether the month is
+closed, and which buckets are asked for overdue actions. Without it the buckets of the report are asked, and
+those of --bucket and --buckets. The moment is of this machine's clock. --report prints the bill of a file that
+month-end wrote.
 
---unit names the money, and how many units of the prices are one of it. With prices in millionths of a euro it is EUR=1000000.
+--unit names the money, and how many units of the prices are one of it. With prices in millionths of a euro it
+is EUR=1000000.
 
   GiB-month  2^30 bytes for all days of the month, rounded here to six digits; charges are exact
   early      what is owed for objects that left their class before its minimum duration
@@ -21,8 +23,8 @@ moment is of this machine's clock. --report prints the bill of a file that month
 
 Not billed here: {NOT_BILLED}.
 
-Behind a proxy the server is https://LOGIN@office.example:8443. The tool asks for the password at a terminal, or takes it
-from the environment (OFFICE_PASSWORD).
+Behind a proxy the server is https://LOGIN@office.example:8443. The tool asks for the password at a terminal, or
+takes it from the environment (OFFICE_PASSWORD).
 
   bill --server http://127.0.0.1:8080 --journal office-data/journal --unit EUR=1000000 2026-11
   bill --report 2026-11-report.csv --unit EUR=1000000 2026-11

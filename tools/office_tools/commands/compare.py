@@ -18,8 +18,8 @@ from office_tools.listings import CURRENT, rows_of
 from office_tools.tail import FIRST_GATE, Tail, open_journal
 
 EPILOG = """\
-A FILE is a listing, also compressed (.gz). If it does not name its bucket, write BUCKET=FILE. Several files of one bucket count as
-one listing. It comes from one of these:
+A FILE is a listing, also compressed (.gz). If it does not name its bucket, write BUCKET=FILE. Several files of
+one bucket count as one listing. It comes from one of these:
 
   S3 Inventory                       CSV, or Parquet if the Python library pyarrow is there
   aws s3api list-object-versions     JSON, also of list-objects-v2
@@ -29,15 +29,17 @@ one listing. It comes from one of these:
   missing      the store has a version that the office lacks
   surplus      the office has a version that the store lacks
   other_size   the same version has another size
-  other_class  the same version has another class; with --nearest, classes that the office does not have count as that one
+  other_class  the same version has another class; with --nearest, classes that the office does not have count
+               as that one
 
-A listing with version ids is compared version by version, delete markers too: by --map, the file of import-inventory and follow,
-or by order and size without it. A listing of objects only, or --current, is compared with the current versions. The program has
-no list of keys: with --journal the tool finds the keys that only the office has. Without it they are counted, not named.
+A listing with version ids is compared version by version, delete markers too: by --map, the file of
+import-inventory and follow, or by order and size without it. A listing of objects only, or --current, is
+compared with the current versions. The program has no list of keys: with --journal the tool finds the keys that
+only the office has. Without it they are counted, not named.
 
-Each key is asked for by itself. If a bucket changes meanwhile, a note says so: compare again. --names FILE gets each difference
-(CSV: bucket, key, both versions, what, store, office). Standard output gets a table and the first ones, or with --json one JSON
-object with all of them.
+Each key is asked for by itself. If a bucket changes meanwhile, a note says so: compare again. --names FILE gets
+each difference (CSV: bucket, key, both versions, what, store, office). Standard output gets a table and the
+first ones, or with --json one JSON object with all of them.
 
   compare --server http://127.0.0.1:8080 --journal office-data/journal --map photos.map photos=photos.json
   compare --server http://127.0.0.1:8080 --journal office-data/journal --nearest STANDARD --json inventory.csv.gz

@@ -14,21 +14,23 @@ from office_tools.store import Refused, add_store, store_of
 from office_tools.tail import sample_of
 
 EPILOG = """\
-FILE has events as SQS, SNS, EventBridge or MinIO deliver them: one JSON text, or one a line, with or without their envelopes; - is
-standard input. A file of lines may grow: the tool keeps the place that it reached, and leaves an incomplete last line for the next
-run. --listen answers POST at 127.0.0.1, as a webhook of MinIO or a proxy before SNS sends it: 200 after the events are done and
-kept, 503 if the program gave no reply. --queue takes the messages of an SQS queue, and deletes those whose events are kept.
+FILE has events as SQS, SNS, EventBridge or MinIO deliver them: one JSON text, or one a line, with or without
+their envelopes; - is standard input. A file of lines may grow: the tool keeps the place that it reached, and
+leaves an incomplete last line for the next run. --listen answers POST at 127.0.0.1, as a webhook of MinIO or a
+proxy before SNS sends it: 200 after the events are done and kept, 503 if the program gave no reply. --queue
+takes the messages of an SQS queue, and deletes those whose events are kept.
 
   ObjectCreated                      a put
   ObjectRemoved:DeleteMarkerCreated  a delete
   ObjectRemoved:Delete               the removal of the version with that id, whose number is in --map
   lifecycle events                   counted and ignored: the program does what is due by its own rules (act-all)
 
-S3's events have no class and no tags. --class names the class to assume (MinIO's events have one). --ask-store asks the store for
-both, also if an event says that tags changed.
+S3's events have no class and no tags. --class names the class to assume (MinIO's events have one). --ask-store
+asks the store for both, also if an event says that tags changed.
 
-Events of one key are done in the order of their sequencers, each once. A repeated event is ignored, and in a bucket without versions
-a late one too. Dead letters get these, each once with its reason, and the other events go on:
+Events of one key are done in the order of their sequencers, each once. A repeated event is ignored, and in a
+bucket without versions a late one too. Dead letters get these, each once with its reason, and the other events
+go on:
 
   - a late version in a bucket with versions, because it cannot be put below a newer one
   - what is not an event
@@ -36,11 +38,11 @@ a late one too. Dead letters get these, each once with its reason, and the other
 
 Dead letters are in the map, and are written to --dead at the end of each run. --retry tries them again.
 
-If the tool or the server is stopped, give the same command again. The map has what was asked for last. The tool asks again with the
-same tokens (Office-Token), so nothing is done twice. The program keeps the last 10,000 replies with a token, and the tool asks for
-100 events at a time, so others may use these buckets meanwhile. If an older copy of the journal was restored, numbers in the map may
-be those of other versions. The tool sees that in --journal and ends with 3. Then give --restored once, with the events since that
-copy and no earlier ones.
+If the tool or the server is stopped, give the same command again. The map has what was asked for last. The tool
+asks again with the same tokens (Office-Token), so nothing is done twice. The program keeps the last 10,000
+replies with a token, and the tool asks for 100 events at a time, so others may use these buckets meanwhile. If
+an older copy of the journal was restored, numbers in the map may be those of other versions. The tool sees that
+in --journal and ends with 3. Then give --restored once, with the events since that copy and no earlier ones.
 
   follow --server http://127.0.0.1:8080 --journal office-data/journal --map photos.map --bucket photos events.jsonl
   follow --server http://127.0.0.1:8080 --journal office-data/journal --map photos.map --listen 9200

@@ -19,9 +19,9 @@ from office_tools.sending import body_of, bucket_target, method_of, send, target
 from office_tools.tokens import FIELD
 
 EPILOG = """\
-Ages begin at the import: the program uses its own clock, whatever LastModified says. Meters, minimum durations and the time since
-which a version is noncurrent begin then. Version numbers are new, also that of a null version. --map keeps which id of the store has
-which number.
+Ages begin at the import: the program uses its own clock, whatever LastModified says. Meters, minimum durations
+and the time since which a version is noncurrent begin then. Version numbers are new, also that of a null
+version. --map keeps which id of the store has which number.
 
 A FILE is a listing, also compressed (.gz). It comes from one of these:
 
@@ -30,27 +30,30 @@ A FILE is a listing, also compressed (.gz). It comes from one of these:
   mc ls --recursive --versions --json        lines of JSON
   rclone lsjson -R                           JSON
 
-  --tags FILE     lines of JSON of get-object-tagging, each with its key; without VersionId they are of the current version:
-                  {"Key":"a","VersionId":"v1","TagSet":[{"Key":"k","Value":"v"}]}
+  --tags FILE     lines of JSON of get-object-tagging, each with its key; without VersionId they are of the
+                  current version: {"Key":"a","VersionId":"v1","TagSet":[{"Key":"k","Value":"v"}]}
   --uploads FILE  what list-multipart-uploads printed: unfinished uploads
   --parts FILE    lines of JSON of list-parts, each with its UploadId
-  --nearest CLASS puts objects of a class that the office does not have into this one; the last line counts them. Without it they
-                  are left out
+  --nearest CLASS puts objects of a class that the office does not have into this one; the last line counts
+                  them. Without it they are left out
 
-A bucket has versions if a row is not current, is a delete marker, or has a version id other than null. Such a bucket is made
-Enabled, and its versions are put oldest first by LastModified; a delete marker is a delete. --suspended names a bucket that is
-suspended at the end. Other buckets get their objects in the order of the files. --current puts only current objects, and leaves the
-versioning as it is. What is left out is counted, and listed in the file of --names.
+A bucket has versions if a row is not current, is a delete marker, or has a version id other than null. Such a
+bucket is made Enabled, and its versions are put oldest first by LastModified; a delete marker is a delete.
+--suspended names a bucket that is suspended at the end. Other buckets get their objects in the order of the
+files. --current puts only current objects, and leaves the versioning as it is. What is left out is counted, and
+listed in the file of --names.
 
-The first line of a CSV names the columns, or --schema does: the field fileSchema of the inventory's manifest.json. It needs Bucket (or
---bucket), Key and Size, and LastModifiedDate if a key has several versions. It may have VersionId, StorageClass, IsLatest and
-IsDeleteMarker. Keys in CSV are URL-encoded, as S3 writes them.
+The first line of a CSV names the columns, or --schema does: the field fileSchema of the inventory's
+manifest.json. It needs Bucket (or --bucket), Key and Size, and LastModifiedDate if a key has several versions.
+It may have VersionId, StorageClass, IsLatest and IsDeleteMarker. Keys in CSV are URL-encoded, as S3 writes
+them.
 
-Each row, upload and part has a token of its own (Office-Token). If it is sent again, the program gives its first reply and puts
-nothing twice. The program keeps the last 10,000 such replies. If the server or the tool stops in the middle, give the same command
-again: it continues from the place that the file of --state notes every 1,000 rows. Others may use these buckets meanwhile, with fewer
-than 9,000 tokens. A listing of more than 9,000 rows into a bucket with versions needs that file; without it nothing is sent. The
-requests of --out have tokens too. What the program refuses (400) is listed with what is left out, and the import goes on.
+Each row, upload and part has a token of its own (Office-Token). If it is sent again, the program gives its
+first reply and puts nothing twice. The program keeps the last 10,000 such replies. If the server or the tool
+stops in the middle, give the same command again: it continues from the place that the file of --state notes
+every 1,000 rows. Others may use these buckets meanwhile, with fewer than 9,000 tokens. A listing of more than
+9,000 rows into a bucket with versions needs that file; without it nothing is sent. The requests of --out have
+tokens too. What the program refuses (400) is listed with what is left out, and the import goes on.
 
   import-inventory --schema 'Bucket, Key, Size, StorageClass' --server http://127.0.0.1:8080 part-1.csv.gz part-2.csv.gz
   aws s3api list-object-versions --bucket photos >photos.json

@@ -8,22 +8,25 @@ from office_tools.journals import open_file
 
 EPILOG = """\
   verify DIGEST FILE...           compares journals or copies with the sums, as far as each of them goes
-  extend DIGEST FILE              verifies a journal, and adds the sums of its new entries; makes DIGEST if it is missing
-  mend DIGEST OUT JOURNAL COPY..  writes OUT, a journal without the changed bytes: each block comes from the first of these
-                                  files that has it whole, and what is after the last block comes from JOURNAL
+  extend DIGEST FILE              verifies a journal, and adds the sums of its new entries; makes DIGEST if it
+                                  is missing
+  mend DIGEST OUT JOURNAL COPY..  writes OUT, a journal without the changed bytes: each block comes from the
+                                  first of these files that has it whole, and what is after the last block comes
+                                  from JOURNAL
 
-The format of a journal has no checksums. A bit that flips on a disk gives other numbers, and mostly no error. What is before the end
-of a journal never changes, so each block can be compared with its sum of an earlier day. backup keeps the file journal.digest beside
-its copies. A line of DIGEST has these fields:
+The format of a journal has no checksums. A bit that flips on a disk gives other numbers, and mostly no error.
+What is before the end of a journal never changes, so each block can be compared with its sum of an earlier day.
+backup keeps the file journal.digest beside its copies. A line of DIGEST has these fields:
 
   start, to  the block's first byte, and the byte after it
   entries    the number of entries
   ms         the moment of the last entry
   sha256     the SHA-256 of the block
-  chain      the SHA-256 of the text "CHAIN START TO ENTRIES MS SHA256": the chain of the line before, and the fields of this one
+  chain      the SHA-256 of the text "CHAIN START TO ENTRIES MS SHA256": the chain of the line before, and the
+             fields of this one
 
-The sums find changes after they were made. They do not protect against somebody who can write both files: keep a copy of the last
-line elsewhere.
+The sums find changes after they were made. They do not protect against somebody who can write both files: keep
+a copy of the last line elsewhere.
 
   journal-digest verify /backup/office/journal.digest office-data/journal /backup/office/journal-*Z
   journal-digest mend /backup/office/journal.digest mended office-data/journal /backup/office/journal-20261128T000512Z

@@ -8,13 +8,15 @@ from office_tools.entries import Damaged
 from office_tools.journals import Journal, open_file
 
 EPILOG = """\
-A line has the gate at which the entry's frame begins (offset), its moment as a text and in milliseconds since 1970 (ms), its kind,
-the token of the request if it had one, and the fields of the kind (docs/FORMATS.md). Texts are in ASCII, with \\u for other
-characters. A tariff has its first month, and by class a price or a list of tiers: each has a price, and all but the last an end
-(upto, in GiB-months). The entries end at the first closed gate. What comes after it has no meaning.
+A line has the gate at which the entry's frame begins (offset), its moment as a text and in milliseconds since
+1970 (ms), its kind, the token of the request if it had one, and the fields of the kind (docs/FORMATS.md). Texts
+are in ASCII, with \\u for other characters. A tariff has its first month, and by class a price or a list of
+tiers: each has a price, and all but the last an end (upto, in GiB-months). The entries end at the first closed
+gate. What comes after it has no meaning.
 
-This reader was written from docs/FORMATS.md and does not know the office. Only the program says whether a command is accepted at its
-place. The tool writes no file and takes no lock, so it can read a journal on which the program works.
+This reader was written from docs/FORMATS.md and does not know the office. Only the program says whether a
+command is accepted at its place. The tool writes no file and takes no lock, so it can read a journal on which
+the program works.
 
   journal-dump office-data/journal | jq -r 'select(.kind=="put") | .key'
   journal-dump office-data/journal | jq -c 'select(.token=="t1")'

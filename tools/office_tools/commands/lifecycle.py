@@ -25,16 +25,16 @@ FILE is standard input (-), or one of these:
 
   - what `aws s3api get-bucket-lifecycle-configuration` or boto3 printed
   - a rule, or a list of rules
-  - what `terraform show -json` printed of a state or a plan. If it has several configurations, the tool takes that of the bucket of
-    this name, or the one of --resource
+  - what `terraform show -json` printed of a state or a plan. If it has several configurations, the tool takes
+    that of the bucket of this name, or the one of --resource
 
-The tool drops ResponseMetadata and other fields around the rules, writes dates of other zones in UTC, and turns the names of Terraform
-into those of the API. If the file has something that the program does not have, such as another class or a date past 2099, the tool
-names it with its line and sends nothing. --leave-out sends the rest: without these transitions and expirations, and without rules that
-then have no action.
+The tool drops ResponseMetadata and other fields around the rules, writes dates of other zones in UTC, and turns
+the names of Terraform into those of the API. If the file has something that the program does not have, such as
+another class or a date past 2099, the tool names it with its line and sends nothing. --leave-out sends the
+rest: without these transitions and expirations, and without rules that then have no action.
 
-Before it sends, the tool shows what changes and asks. --yes sends without asking. If nothing changes, nothing is sent, because each
-configuration that is set makes the actions of the bucket due since then at the earliest.
+Before it sends, the tool shows what changes and asks. --yes sends without asking. If nothing changes, nothing
+is sent, because each configuration that is set makes the actions of the bucket due since then at the earliest.
 
 preview, and --preview with a command that changes the configuration, show up to a day (--until)
 
@@ -42,9 +42,10 @@ preview, and --preview with a command that changes the configuration, show up to
   - the billed bytes by class, now and on the last day
   - the charge of each month, beside that of the present configuration
 
-The program computes it (`office forecast`) over a copy of the journal: --journal names that of the server, or a copy of backup. If
-nothing else happens to the bucket, this is what will happen. The copy is removed at the end. It takes as much room as the journal: in
-memory if it is small, else in the folder of temporary files (TMPDIR). --page FILE writes the same as HTML, with bars.
+The program computes it (`office forecast`) over a copy of the journal: --journal names that of the server, or a
+copy of backup. If nothing else happens to the bucket, this is what will happen. The copy is removed at the end.
+It takes as much room as the journal: in memory if it is small, else in the folder of temporary files (TMPDIR).
+--page FILE writes the same as HTML, with bars.
 
   lifecycle --server http://127.0.0.1:8080 --bucket logs get
   lifecycle --bucket logs --journal office-data/journal --unit EUR=1000000 --page preview.html preview new-rules.json

@@ -8,12 +8,13 @@ from office_tools.files import write
 from office_tools.reports import HEAD, TIERED, NoReport, read_report
 
 EPILOG = """\
-Each REPORT is a CSV that month-end wrote, or the reply to GET /months/MONTH/report. A report does not have its month: give reports of
-one month. Each bucket has to be in one office only, and give each file once. The lines are put in the order of a report. The last line
-is the sum of all charges, however large it is. The file is written whole or not at all.
+Each REPORT is a CSV that month-end wrote, or the reply to GET /months/MONTH/report. A report does not have its
+month: give reports of one month. Each bucket has to be in one office only, and give each file once. The lines
+are put in the order of a report. The last line is the sum of all charges, however large it is. The file is
+written whole or not at all.
 
-The sum is exact, whatever tariffs the offices have: a charge belongs to one line, and a line to one bucket. For a bucket in two offices
-it would not be exact, because the quantity of a class would go through the tiers twice.
+The sum is exact, whatever tariffs the offices have: a charge belongs to one line, and a line to one bucket. For
+a bucket in two offices it would not be exact, because the quantity of a class would go through the tiers twice.
 
   merge-reports --out 2026-11-report.csv office1/2026-11-report.csv office2/2026-11-report.csv office3/2026-11-report.csv
 

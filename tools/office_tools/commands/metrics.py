@@ -20,11 +20,11 @@ from office_tools.version import version
 
 VERSION = version()
 EPILOG = """\
-Name the buckets with --bucket, with --buckets (a file, one name a line), or with --journal (all buckets of that journal).
-You may combine these.
-Of the journal each reading takes only the new entries.
+Name the buckets with --bucket, with --buckets (a file, one name a line), or with --journal (all buckets of that
+journal). You may combine these. Of the journal each reading takes only the new entries.
 
-All metrics are gauges. A meter of a month can fall, because a late action takes effect at the moment at which it was due.
+All metrics are gauges. A meter of a month can fall, because a late action takes effect at the moment at which
+it was due.
 
   office_up                                1 if the server replied, else 0 and no other sample
   office_scrape_duration_seconds, office_build_info
@@ -47,11 +47,12 @@ All metrics are gauges. A meter of a month can fall, because a late action takes
   office_last_backup_timestamp_seconds     with --backups, the folder of backup
 
 Samples of a month have the label month, for this month and the one before. GiB-months of a month of 30 days are
-office_month_storage_byte_seconds / 2^30 / 2592000. A reading takes one connection of the server, and so one worker, and waits at most
-10 seconds for a reply. --listen serves loopback only, one reader at a time. A server behind a proxy is
-https://LOGIN@office.example:8443, with the password in the environment (OFFICE_PASSWORD).
+office_month_storage_byte_seconds / 2^30 / 2592000. A reading takes one connection of the server, and so one
+worker, and waits at most 10 seconds for a reply. --listen serves loopback only, one reader at a time. A server
+behind a proxy is https://LOGIN@office.example:8443, with the password in the environment (OFFICE_PASSWORD).
 
-The tool keeps the place that it reached in the journal in a file in $OFFICE_STATE, $CACHE_DIRECTORY or ~/.cache/nogawhin.
+The tool keeps the place that it reached in the journal in a file in $OFFICE_STATE, $CACHE_DIRECTORY or
+~/.cache/nogawhin.
 
   metrics --server http://127.0.0.1:8080 --journal office-data/journal --out /var/lib/node_exporter/office.prom
   metrics --server http://127.0.0.1:8080 --journal office-data/journal --log actions.jsonl --backups /backup/office --listen 9101

@@ -21,26 +21,25 @@ EPILOG = """\
    names.
 4. With --bill it posts the bills of the month.
 
-A closed month is final: its report and its prices never change. The last note has the first month of the tariff with which the month
-was closed; for a month that was closed before, it needs --journal.
+A closed month is final: its report and its prices never change. The last note has the first month of the tariff
+with which the month was closed; for a month that was closed before, it needs --journal.
 
-You can give the same command again at any time, also after a stop: it accepts a closed month, and writes missing files. It leaves a
-file with other content as it is (exit code 4).
+You can give the same command again at any time, also after a stop: it accepts a closed month, and writes
+missing files. It leaves a file with other content as it is (exit code 4).
 
-Name the buckets with --bucket, with --buckets (a file, one name a line), or with --journal (all buckets of that journal).
-You may combine these.
-A bucket that is not named may keep the month open, and is then reported.
+Name the buckets with --bucket, with --buckets (a file, one name a line), or with --journal (all buckets of that
+journal). You may combine these. A bucket that is not named may keep the month open, and is then reported.
 
 --log appends a line for each action to a file, as act-all does.
 
---bill PROGRAM posts the bills with that program, one for each bucket. The server has the lock of its journal, so the program works on a
-copy: FOLDER/office-data/journal, made from --journal, and renewed if it lacks the month's closing. The bills are in
-FOLDER/office-data/bills.db, a database of SQLite. A month is posted once; the same command again changes nothing. Name the same FOLDER
-each month. If no server runs, `office bill MONTH` posts the bills.
+--bill PROGRAM posts the bills with that program, one for each bucket. The server has the lock of its journal,
+so the program works on a copy: FOLDER/office-data/journal, made from --journal, and renewed if it lacks the
+month's closing. The bills are in FOLDER/office-data/bills.db, a database of SQLite. A month is posted once; the
+same command again changes nothing. Name the same FOLDER each month. If no server runs, `office bill MONTH`
+posts the bills.
 
-Behind a proxy the server is https://LOGIN@office.example:8443. The tool asks for the password at a terminal, or takes it
-from the environment (OFFICE_PASSWORD).
-LOGIN has to be an operator.
+Behind a proxy the server is https://LOGIN@office.example:8443. The tool asks for the password at a terminal, or
+takes it from the environment (OFFICE_PASSWORD). LOGIN has to be an operator.
 
   month-end --server http://127.0.0.1:8080 --journal office-data/journal 2026-11
   month-end --server http://127.0.0.1:8080 --journal office-data/journal --log actions.jsonl 2026-11
@@ -79,7 +78,7 @@ def kept_open(month, found, sweep):
         what = f"upload {number_in(found, 'upload')}" if "upload" in found else f"version {text_in(found, 'version')}"
         bucket = text_in(found, "bucket")
         then = (f"name it too: --bucket {bucket}" if bucket not in sweep.names else
-                "the same words go on" if bucket in sweep.left else "the bucket was changed, or refused; see the notes before")
+                "the same command continues" if bucket in sweep.left else "the bucket was changed, or refused; see the notes before")
         return 7, (f"{month} is not closed: in bucket {bucket} a lifecycle action that stands in the month is not done, "
                    f"first on {what} of the key {found.get('key')!r}; {then}")
     if error == "EarlierMonthOpen":

@@ -11,8 +11,8 @@ from office_tools.files import write
 from office_tools.months import gib_months
 
 EPILOG = """\
-Name the buckets with --bucket, with --buckets (a file, one name a line), or with --journal (all buckets of that journal).
-You may combine these.
+Name the buckets with --bucket, with --buckets (a file, one name a line), or with --journal (all buckets of that
+journal). You may combine these.
 
   bucket, month, class
   gib_months            what was stored
@@ -20,13 +20,14 @@ You may combine these.
   moves                 how many objects moved into the class
   byte_ms, early_byte_ms  the exact numbers of the program
 
-A GiB-month is 2^30 bytes for the days of that month, rounded here to nine digits. Classes that were not used are left out. `bill` and
-GET /months/MONTH/report have what the month costs. If one bucket is refused, no file is written, so a file has the whole month. If the
-month is not over by this machine's clock, the file has the use until now, and a note says so.
+A GiB-month is 2^30 bytes for the days of that month, rounded here to nine digits. Classes that were not used
+are left out. `bill` and GET /months/MONTH/report have what the month costs. If one bucket is refused, no file
+is written, so a file has the whole month. If the month is not over by this machine's clock, the file has the
+use until now, and a note says so.
 
-Behind a proxy the server is https://LOGIN@office.example:8443. The tool asks for the password at a terminal, or takes it
-from the environment (OFFICE_PASSWORD).
-SSL_CERT_FILE names the certificate of the proxy if it is self-signed.
+Behind a proxy the server is https://LOGIN@office.example:8443. The tool asks for the password at a terminal, or
+takes it from the environment (OFFICE_PASSWORD). SSL_CERT_FILE names the certificate of the proxy if it is
+self-signed.
 
   usage --server http://127.0.0.1:8080 --journal office-data/journal --out 2026-11.csv 2026-11
   usage --server https://clerk@office.example:8443 --buckets names --out 2026-11.csv 2026-11

@@ -16,23 +16,24 @@ from office_tools.tail import read_tail
 from office_tools.tariffs import NoTariffs, tariffs_in
 
 EPILOG = """\
-The page has the state of the month (open or closed), the moment of its figures, and a warning if lifecycle actions are overdue. Then
-come what was stored, early deletions, moves and charges, by bucket and by class, and each line of the report. It has no script, and
-loads nothing.
+The page has the state of the month (open or closed), the moment of its figures, and a warning if lifecycle
+actions are overdue. Then come what was stored, early deletions, moves and charges, by bucket and by class, and
+each line of the report. It has no script, and loads nothing.
 
-With --server all figures come from one reply, the report of the month, so they are of one moment. --journal says whether the month is
-closed, and which buckets are asked for overdue actions. Without it the buckets of the report are asked, and those of --bucket and
---buckets. The moment is of this machine's clock.
+With --server all figures come from one reply, the report of the month, so they are of one moment. --journal
+says whether the month is closed, and which buckets are asked for overdue actions. Without it the buckets of the
+report are asked, and those of --bucket and --buckets. The moment is of this machine's clock.
 
-With --report and --meters the page is made of the CSV of month-end and of that of usage, for the same month and all buckets. They have
-to belong together: each quantity, each GiB-month and the total are checked. So take those of a closed month. --journal says that it is
-closed. The same files give the same page.
+With --report and --meters the page is made of the CSV of month-end and of that of usage, for the same month and
+all buckets. They have to belong together: each quantity, each GiB-month and the total are checked. So take
+those of a closed month. --journal says that it is closed. The same files give the same page.
 
-  tiers         for each line in tiers a small table shows what each tier took. The tariff comes from GET /tariff, or from the file of
-                --tariff, which has that reply. It is used only if it gives each price and charge of the report, because a closed month
-                keeps the tariff of its closing
-  --bills FILE  shows the months before as bars. FILE is bills.db, with the bills of closed months. It is copied, and stays as it is. If
-                the month itself was posted, its bills have to come to the total of the report
+  tiers         for each line in tiers a small table shows what each tier took. The tariff comes from GET
+                /tariff, or from the file of --tariff, which has that reply. It is used only if it gives each
+                price and charge of the report, because a closed month keeps the tariff of its closing
+  --bills FILE  shows the months before as bars. FILE is bills.db, with the bills of closed months. It is
+                copied, and stays as it is. If the month itself was posted, its bills have to come to the total
+                of the report
   --unit        names the money, and how many units of the prices are one of it, as EUR=1000000
 
   usage-page --server http://127.0.0.1:8080 --journal office-data/journal --unit EUR=1000000 --out 2026-11.html 2026-11
