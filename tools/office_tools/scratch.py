@@ -22,8 +22,12 @@ def program_of(name: str) -> str:
 
 
 def place_for(size: int) -> typing.Optional[str]:
-    """Where a copy of this size goes: memory if it is small, else the folder of temporary files (TMPDIR)."""
-    return MEMORY if size <= MOST_IN_MEMORY and "TMPDIR" not in os.environ and os.access(MEMORY, os.W_OK) else None
+    """Where a copy of this size goes: memory if it is small and there is room, else the folder of temporary files (TMPDIR)."""
+    if size > MOST_IN_MEMORY or "TMPDIR" in os.environ or not os.access(MEMORY, os.W_OK):
+        return None
+    about = os.statvfs(MEMORY)
+    # The program may write as much again: an action takes less room than the put of its object.
+    return MEMORY if about.f_bavail * about.f_frsize >= 2 * size + MOST_IN_MEMORY else None
 
 
 class Scratch:

@@ -152,14 +152,17 @@ def open_journal(path: str) -> typing.BinaryIO:
     except OSError as fault:
         raise Stop(3, f"{path}: {fault.strerror}") from None
     about = os.fstat(file.fileno())
-    if not stat.S_ISREG(about.st_mode):
-        raise Stop(3, f"{path}: not a regular file")
-    head = os.pread(file.fileno(), FIRST_GATE, 0)
-    if about.st_size <= FIRST_GATE or (about.st_size == FIRST_GATE + 1 and head[:1] != MARK[:1]):
-        raise Stop(3, f"{path}: journal: not made")
-    if head != MARK:
-        raise Stop(3, f"{path}: journal: foreign")
-    return file
+    head = os.pread(file.fileno(), FIRST_GATE, 0) if stat.S_ISREG(about.st_mode) else None
+    if head is None:
+        why = "not a regular file"
+    elif about.st_size <= FIRST_GATE or (about.st_size == FIRST_GATE + 1 and head[:1] != MARK[:1]):
+        why = "journal: not made"
+    elif head != MARK:
+        why = "journal: foreign"
+    else:
+        return file
+    file.close()
+    raise Stop(3, f"{path}: {why}")
 
 
 def keep(state, text):
