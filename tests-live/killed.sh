@@ -23,7 +23,7 @@ awk 'BEGIN {
 
 # How many replies with this status a file holds.
 replies() {
-    # A reply has no line end behind it, so that two stand in one line.
+    # A reply has no line end after it, so two are in one line.
     grep -a -o "HTTP/1.1 $1 " "$2" | grep -c .
 }
 

@@ -33,7 +33,7 @@ requests() {
     }'
 }
 
-# How many replies with this status were said; a reply has no line end behind it, so that two stand in one line.
+# How many replies with this status were said; a reply has no line end after it, so two are in one line.
 replies() {
     grep -a -o "HTTP/1.1 $1 " said | grep -c .
 }

@@ -25,7 +25,7 @@ show() {
     printf 'GET /buckets/load HTTP/1.1\r\nHost: office\r\n\r\n'
 }
 
-# How many replies with this status a file holds; a reply has no line end behind it, so that two stand in one line.
+# How many replies with this status a file holds; a reply has no line end after it, so two are in one line.
 replies() {
     grep -a -o "HTTP/1.1 $1 " "$2" | grep -c .
 }

@@ -27,7 +27,7 @@ objects() {
         sed -n 's/.*"versions":\([0-9]*\)}.*/\1/p'
 }
 
-# How many puts are acknowledged in a file; a reply has no line end behind it, so that two stand in one line.
+# How many puts are acknowledged in a file; a reply has no line end after it, so two are in one line.
 acked() {
     grep -a -o 'HTTP/1.1 201 ' "$1" | grep -c .
 }

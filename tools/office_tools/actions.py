@@ -93,7 +93,7 @@ class Log:
         acts = [gate for gate, kind in entries if kind == ACT]
         if not acts:
             return f"the last action of the run before, in bucket {bucket}, was not done"
-        if entries[0][1] == ACT:  # what was due is chosen from the bucket alone
+        if entries[0][1] == ACT:  # what was due follows from the bucket only
             found = {**intent["found"], **self.marker(office, bucket, intent["found"])}
             note = f"the reply to the last action of the run before was lost, in bucket {bucket}; its line is written now"
         else:

@@ -143,7 +143,7 @@ class Apply:
         return DONE, f"put a delete marker {made.get('VersionId', '')}".rstrip()
 
     def keep(self, it, version):
-        """Notes the number of a delete marker, so that follow does not put it again when the store tells of it."""
+        """Notes the number of a delete marker, so that follow does not put it again when the store reports it."""
         if not self.is_dry and version and it["marker"]:
             self.ids.keep(it["bucket"], it["key"], version, it["marker"])
 

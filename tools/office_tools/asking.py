@@ -156,7 +156,7 @@ class Office:
 
 
 def text_in(found: dict, name: str) -> str:
-    """A text of a reply, on one line. Status 2 where it is none."""
+    """A text of a reply, on one line. Status 2 if it is not one."""
     text = found.get(name)
     if not isinstance(text, str) or not text.isprintable():
         raise Stop(2, f"a reply is not one of the program: its {name} is {json.dumps(text)[:80]}")
@@ -164,7 +164,7 @@ def text_in(found: dict, name: str) -> str:
 
 
 def number_in(found: dict, name: str, kind: type = int) -> int:
-    """A whole number of a reply, which stands there as a number, or as a text of digits. Status 2 where it is none."""
+    """A whole number of a reply, spelled as a number or as a text of digits. Status 2 if it is not one."""
     value = found.get(name)
     if not isinstance(value, kind) or isinstance(value, bool) or not re.fullmatch("0|[1-9][0-9]{0,38}", str(value), re.ASCII):
         raise Stop(2, f"a reply is not one of the program: its {name} is {json.dumps(value)[:80]}")

@@ -19,7 +19,7 @@ class One(typing.NamedTuple):
 
 
 class Difference(typing.NamedTuple):
-    """`store` and `office` are the size or class there, or what is there alone."""
+    """`store` and `office` are the size or class there, or what only that side has."""
     bucket: str
     key: str
     store_version: typing.Optional[str]
@@ -139,7 +139,7 @@ def compare_bucket(office: Office, name: str, rows: typing.List[Row], more_keys:
                     lambda it, key=key: ids.number_of(name, key, it.name) if ids and it.name else None, found)
         tell()
     after = held(office, name)
-    # Without the journal nobody knows the keys that are here alone, but the program says how many versions it has.
+    # Without the journal nobody knows the keys that only the office has, but the program says how many versions it has.
     if not current or after[1] == "Unversioned":
         bucket.unnamed = max(0, (after[0] or 0) - asked)
         bucket.counts[SURPLUS] += bucket.unnamed

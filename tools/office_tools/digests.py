@@ -36,7 +36,7 @@ def chain_of(before, start, to, entries, ms, sha256):
 
 
 def linked(blocks, start, to, entries, ms, sha256):
-    """A block behind these, with its chain."""
+    """A block after these, with its chain."""
     return Block(start, to, entries, ms, sha256, chain_of(blocks[-1].chain if blocks else "", start, to, entries, ms, sha256))
 
 
@@ -97,7 +97,7 @@ def about(blocks: typing.List[Block], place: int) -> str:
 
 
 def extended(file: typing.BinaryIO, blocks: typing.List[Block]) -> typing.List[Block]:
-    """These blocks and those of the entries behind them. Damaged, and where, if an entry is; status 5 if the file is not a journal."""
+    """These blocks and those of the entries after them. Damaged, and where, if an entry is; status 5 if the file is not a journal."""
     found = list(blocks)
     journal = Journal(file, (found[-1].to, sum(it.entries for it in found), found[-1].ms) if found else None)
     start, first, ms = (found[-1].to if found else 0), journal.count, journal.ms

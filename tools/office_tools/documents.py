@@ -123,7 +123,7 @@ def with_dates(found):
 
 
 def in_utc(text):
-    """A date of another zone, or with a blank before its time, as the same moment in UTC; all else as it stands."""
+    """A date of another zone, or with a blank before its time, as the same moment in UTC; all else unchanged."""
     try:
         moment = datetime.datetime.fromisoformat(text)
         other = moment.tzinfo is not None and (moment.utcoffset() or " " in text)
@@ -181,7 +181,7 @@ def without_missing(document: dict) -> dict:
 
 
 def date_of(text):
-    """A date as the program prints it; what is none stays."""
+    """A date as the program prints it; anything else unchanged."""
     try:
         day = datetime.datetime.fromisoformat(re.sub(r"(Z|[+-]00:?00)$", "", text)[:19])
         return day.isoformat(timespec="milliseconds") + "Z"

@@ -58,7 +58,7 @@ class Fields:
         return CLASSES[self.below(1, "class", len(CLASSES))]
 
     def text(self, least, most, what):
-        """A text of so many characters, with its length in bytes before it."""
+        """A text with a number of characters in range, with its length in bytes before it."""
         try:
             found = self.take(self.number(2, what), what).decode("utf-8")
         except UnicodeDecodeError:

@@ -303,7 +303,7 @@ class Follow:
 
 
 def events_in(found: typing.Any) -> typing.Iterator[tuple]:
-    """The events in what was sent; what is none comes with the reason, to be a dead letter."""
+    """The events in what was sent; anything else comes with the reason, to be a dead letter."""
     for it in found if isinstance(found, list) else [found]:
         try:
             raws = list(records_of(it))

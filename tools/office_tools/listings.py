@@ -20,7 +20,7 @@ OTHER_FORMATS = {b"ORC": "ORC", b"PK": "a zip archive"}
 
 
 class Row(typing.NamedTuple):
-    """A line of a listing; one without a key names a bucket alone."""
+    """A line of a listing; one without a key only names a bucket."""
     bucket: str
     key: typing.Optional[bytes]
     size: typing.Optional[int]
@@ -89,7 +89,7 @@ def is_true(text):
 
 
 def moment_of(text, where):
-    """The moment of LastModified; nothing where it is not told."""
+    """The moment of LastModified; nothing if there is none."""
     if not text:
         return None
     try:
@@ -209,7 +209,7 @@ def read_mc(path, text, given):
 
 
 def read_rclone(path, text, given):
-    """The rows of what `rclone lsjson -R` prints of a bucket: current objects alone."""
+    """The rows of what `rclone lsjson -R` prints of a bucket: only current objects."""
     if not given.bucket:
         raise Stop(3, f"{path}: which bucket? rclone does not name it; give --bucket NAME")
     try:

@@ -20,14 +20,14 @@ def month_of(text: str) -> str:
 
 
 def bounds_of(month: str) -> typing.Tuple[int, int]:
-    """The first moment of a month, and the first behind it, in milliseconds since 1970."""
+    """The first moment of a month, and the first after it, in milliseconds since 1970."""
     year, number = map(int, month.split("-"))
     start = calendar.timegm((year, number, 1, 0, 0, 0)) * 1000
     return start, start + calendar.monthrange(year, number)[1] * 86_400_000
 
 
 def ms_of(text: str) -> int:
-    """A moment of a reply, as 2026-11-05T00:00:00.000Z, in milliseconds since 1970. Status 2 if it is none."""
+    """A moment of a reply, as 2026-11-05T00:00:00.000Z, in milliseconds since 1970. Status 2 if it is not one."""
     try:
         if not re.fullmatch(r"\d{4}-\d\d-\d\dT\d\d:\d\d:\d\d\.\d{3}Z", text, re.ASCII):
             raise ValueError
@@ -42,7 +42,7 @@ def moment(ms: int) -> str:
 
 
 def gib_months(byte_ms: int, month: str, digits: int = 9) -> str:
-    """Byte-milliseconds in GiB-months of this month, rounded to so many digits behind the point."""
+    """Byte-milliseconds in GiB-months of this month, rounded to this number of digits after the point."""
     start, end = bounds_of(month)
     whole = round(fractions.Fraction(byte_ms * 10 ** digits, 2 ** 30 * (end - start)))
     return f"{whole // 10 ** digits}.{whole % 10 ** digits:0{digits}}"

@@ -93,7 +93,7 @@ def summary(name, caption, column, found, statement, unit):
 
 
 def about(statement, unit, buckets):
-    """What stands above the tables: the state of the month, its charge, warnings, and what is not billed here."""
+    """What is above the tables: the state of the month, its charge, warnings, and what is not billed here."""
     state, words = statement.state()
     warnings = "".join(f'<p class="warning">Warning: {html.escape(it)}</p>\n' for it in statement.warnings())
     as_of = f' data-as-of="{statement.as_of}"' if statement.as_of else ""

@@ -62,7 +62,7 @@ def until_of(text: str) -> str:
 
 
 def a_year_on(today: datetime.date) -> str:
-    """The first day behind this month and the twelve months after it."""
+    """The first day after this month and the next twelve."""
     year, month = divmod(today.year * 12 + today.month + 12, 12)
     return min(f"{year:04}-{month + 1:02}-01", LAST_DAY)
 
@@ -165,7 +165,7 @@ def preview_of(program: str, journal: str, bucket: str, document: dict, until: s
 # ---- the text
 
 def columns(rows: typing.List[typing.List[str]], texts: int = 1) -> str:
-    """Rows in columns, the first row as a head with a line under it; the first `texts` columns stand at the left."""
+    """Rows in columns, the first row as a head with a line under it; the first `texts` columns are left-aligned."""
     widths = [max(len(row[place]) for row in rows) for place in range(len(rows[0]))]
 
     def line(row):

@@ -47,7 +47,7 @@ def refused(number: int) -> str:
 
 
 def has(found, name, is_field):
-    """Whether a field of this name stands in a rule, or else this text as the value of one."""
+    """Whether a rule has a field of this name, or else this text as a value."""
     if isinstance(found, list):
         return any(has(it, name, is_field) for it in found)
     return isinstance(found, dict) and any((field if is_field else it) == name or has(it, name, is_field)
@@ -55,7 +55,7 @@ def has(found, name, is_field):
 
 
 def whose(found, rules):
-    """The ids of the rules that a refusal is about, as far as its name tells."""
+    """The ids of the rules that a refusal is about, as far as its name says."""
     name = found.get("name")
     if found.get("number") not in (41, 43) or not name:
         return []

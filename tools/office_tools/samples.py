@@ -142,7 +142,7 @@ class Reading:
         """What all buckets store now, from a second reading of their meters, and what the month costs."""
         until = time.monotonic() + PATIENCE
         found = {name: billed_now(office, f"{target_of(name)}/meters/{one.found['month']}", one, until) for name, one in self.first.items()}
-        # Where no meter moves the clock of the office stands, since it was ahead once, and nothing can be said of now.
+        # If no meter moves, the clock of the office does not: it was ahead once. Then nothing can be said of now.
         if any(it and it[1] for it in found.values()):
             for name, it in found.items():
                 for (storage_class, *_), count in zip(self.first[name].classes, it[0] if it else ()):
@@ -168,7 +168,7 @@ class Reading:
                 self.add("office_bucket_month_charge", charge, bucket=name, month=month)
 
     def limits(self, tail: typing.Optional[Tail]) -> None:
-        """The limits, and what is used of them as far as it is known. The journal tells the number of all buckets."""
+        """The limits, and what is used of them as far as it is known. The journal has the number of all buckets."""
         for what, limit in LIMITS.items():
             self.add("office_limit", limit, what=what)
         known = {**self.used, "Buckets": len(tail.buckets), "Tariffs": len(tail.tariffs), "Journal": tail.gate + 1} if tail else {}

@@ -16,7 +16,7 @@ from office_tools.listings import CURRENT, MARKER, Row
 from office_tools.tokens import KEPT, token_of
 
 SLICE = 1_000  # rows between two notes of the place
-SAFE = KEPT - SLICE  # so many rows may be sent again, for certain
+SAFE = KEPT - SLICE  # this many rows may be sent again, for certain
 
 
 def target_of(row: Row) -> str:
@@ -45,7 +45,7 @@ def with_tokens(rows: typing.Iterable[Row], place: int = 0) -> typing.Iterator[t
     seen = {}
     for number, row in enumerate(rows):
         nth, kind = 1, row.kind == MARKER
-        # A version id, or else the key of a current object, stands once in an import.
+        # A version id, or else the key of a current object, occurs once in an import.
         if not row.version and (row.kind, row.version) != (CURRENT, None):
             kind, about = row.kind, row._replace(where="", tags=None)
             seen[about] = nth = seen.get(about, 0) + 1
@@ -112,7 +112,7 @@ class Progress:
 
 
 def present(office, bucket):
-    """How many versions a bucket has, and its versioning; 0 where it is not made, or where its name is none."""
+    """How many versions a bucket has, and its versioning; 0 if it is not made, or if its name is invalid."""
     status, found = office.ask("GET", bucket_target(bucket))
     if status in (400, 404):
         return 0, None
@@ -132,7 +132,7 @@ def put(office, work, row, token):
 
 
 def set_versioning(office, bucket, wanted):
-    """Sets the versioning of a bucket, where it is another; a bucket whose name is none has none."""
+    """Sets the versioning of a bucket, if it is another; a bucket with an invalid name has none."""
     if present(office, bucket)[1] not in (None, wanted):
         status, found = office.ask("PUT", f"{bucket_target(bucket)}/versioning", {"Status": wanted})
         if status != 200:

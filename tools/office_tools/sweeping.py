@@ -78,7 +78,7 @@ def act_once(office, sweep, name):
 
 
 def act(office, sweep, name, most):
-    """Does what is due in one bucket, at most so many actions."""
+    """Does what is due in one bucket, at most `most` actions."""
     for done in range(most + 1):
         # At the bound it is only asked whether more is due.
         status, found = act_once(office, sweep, name) if done < most else office.ask("GET", target_of(name, "due"))

@@ -25,7 +25,7 @@ def resources_of(found: typing.Any) -> typing.List[dict]:
 
 
 def first(block):
-    """The one block of its kind, which stands in a list; nothing where it is not there."""
+    """The one block of its kind, which is in a list; nothing if it is missing."""
     return (block[0] if block else None) if isinstance(block, list) else block
 
 

@@ -115,7 +115,7 @@ class Lines:
 
 
 def values_of(lines):
-    """What each line says; nothing if the first one is no JSON. A later one that is none comes as its text."""
+    """What each line says; nothing if the first one is not JSON. A later one that is not JSON comes as its text."""
     found = []
     for line in lines:
         try:

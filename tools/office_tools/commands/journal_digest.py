@@ -98,7 +98,7 @@ def mend(digest, out, paths):
             say(f"{about(blocks, place)} comes from {whole.name}\n")
     if not blocks or size_of(files[0]) <= blocks[-1].to:
         raise Stop(5, f"{paths[0]}: ends before the last block does")
-    extended(files[0], blocks)  # what is behind the last block has to be whole
+    extended(files[0], blocks)  # what is after the last block has to be whole
     chosen.append((files[0], blocks[-1].to, None))
     atomic_write(out, (piece for one in chosen for piece in pieces(*one)), 0o600)
     say(f"{out}\n")

@@ -68,7 +68,7 @@ COUNTS = {"get": (), "set": ("FILE",), "add": ("FILE",), "edit": ("ID", "FILE"),
 
 
 def present(office, target):
-    """The configuration that is there; none where the bucket has none."""
+    """The present configuration; None if the bucket has none."""
     status, found = office.ask("GET", target)
     if status == 404 and found.get("error") == "NoRules":
         return None
@@ -80,7 +80,7 @@ def present(office, target):
 
 
 def place_of(rules, name):
-    """Where the rule with this id stands."""
+    """The place of the rule with this id."""
     for place, rule in enumerate(rules):
         if rule.get("ID") == name:
             return place
@@ -89,7 +89,7 @@ def place_of(rules, name):
 
 
 def changed(given, before):
-    """The configuration as it is to be; none where it goes."""
+    """The configuration as it is to be; None if it is dropped."""
     if given.word in ("set", "add", "edit"):
         document = document_of(given.values[-1], given.bucket, given.resource)
     if given.word == "set":
