@@ -1,4 +1,11 @@
 pub mod BodyLaws
 pub mod CombiningLaws
+pub mod CommandTexts
 pub mod Examples
+pub mod Maps
 pub mod PartLaws
+pub mod Rising
+pub mod RulesTexts
+pub mod TariffRanges
+pub mod Triples
+pub mod Wholes

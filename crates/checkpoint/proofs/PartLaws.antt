@@ -35,7 +35,7 @@ use Rattle.entry_codec.proofs.FieldLaws.{format-IsFormat, moment-IsFormat, token
 use Rattle.entry_codec.proofs.Laws.{entry_again}
 use Rattle.checkpoint.specs.Combining.{exactly}
 use Rattle.checkpoint.specs.Parts.{four, eight, halves, sixteen, last_code, last_has, last_value, lasts, last_format, months_code, month_format, open_code, open_has, open_value, opens, open_format, tariff_format}
-use Rattle.checkpoint.specs.Parts.{version_head, object_format, object_or_none, VersionParts, kind_parts, version_value, versions_code, version_format, stack_format, stacks_format, part_format, upload_parts_format, fields_format, upload_format, uploads_format}
+use Rattle.checkpoint.specs.Parts.{version_head, object_format, object_or_none, VersionParts, is_marker, object_of, version_value, versions_code, version_format, stack_format, stacks_format, part_format, upload_parts_format, fields_format, upload_format, uploads_format}
 use Rattle.checkpoint.specs.Parts.{Triple, triples, are_six, sums_with, month_parts, sums_format, versioning_code, versioning_value, versionings, rules_written, rules_has, rules_front, rules_format, head_format}
 use Rattle.checkpoint.specs.Parts.{is_kept_command, if_spelled, command_texts, command_format, kept_format}
 use Rattle.checkpoint.proofs.CombiningLaws.{after-IsFormat, exactly-IsFormat, as_some-IsFormat, as_none-IsFormat, renamed-IsCode, flag-IsFormat}
@@ -196,7 +196,7 @@ or_none-IsFormat false = as_some-IsFormat object_format object-IsFormat
 versions-IsCode : IsCode versions_code
 versions-IsCode = record { again = λ v has. again v.id v.created v.ceased v.kind; back = back }
   where
-    again : (id : _) (created ceased : ℕ) (kind : Kind) → version_value (kind_parts id created ceased kind) ≡ Some (record { id = id; kind = kind; created = created; ceased = ceased })
+    again : (id : _) (created ceased : ℕ) (kind : Kind) → version_value ((id, (is_marker kind, (created, ceased))), object_of kind) ≡ Some (record { id = id; kind = kind; created = created; ceased = ceased })
     again id created ceased (Object size class tags entered) = refl
     again id created ceased Marker = refl
 

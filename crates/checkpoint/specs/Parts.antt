@@ -1,5 +1,5 @@
 -- The parts of which the body of a slot consists, each with its format (own).
-use Rattle.std.specs.Prelude.{ℕ, ◌+◌, ◌*◌, ◌/◌, ◌%◌, ◌-◌, ◌^◌, Bool, true, false, not, ◌&&◌, ◌==◌, List, [], ◌∷◌, ◌++◌, map, length, nat_lt, Option, Some, None, option_and_then, if◌then◌else◌}
+use Rattle.std.specs.Prelude.{◌≡◌, ℕ, ◌+◌, ◌*◌, ◌/◌, ◌%◌, ◌-◌, ◌^◌, ◌≤◌, drop, Bool, true, false, not, ◌&&◌, ◌==◌, List, [], ◌∷◌, ◌++◌, map, length, nat_lt, Option, Some, None, option_and_then, if◌then◌else◌}
 use Rattle.std.specs.Prelude.{is_none}
 use Rattle.std.specs.Int.{w8, w16, w32, w64}
 use Rattle.std.specs.List.{list_all}
@@ -149,11 +149,15 @@ object_or_none false = as_some object_format
 abbrev pub VersionParts : Type 0
 VersionParts = (VersionId × (Bool × (ℕ × ℕ))) × Option (ℕ × (Class × (ℕ × List Tag)))
 
--- a version's parts
-abbrev pub kind_parts : VersionId → ℕ → ℕ → Kind → VersionParts
-kind_parts id created ceased (Object size class tags entered) =
-    ((id, (false, (created, ceased))), Some (size, (class, (entered, tags))))
-kind_parts id created ceased Marker = ((id, (true, (created, ceased))), None)
+-- it is a delete marker
+abbrev pub is_marker : Kind → Bool
+is_marker (Object size class tags entered) = false
+is_marker Marker = true
+
+-- what stands of an object, and nothing of a marker
+abbrev pub object_of : Kind → Option (ℕ × (Class × (ℕ × List Tag)))
+object_of (Object size class tags entered) = Some (size, (class, (entered, tags)))
+object_of Marker = None
 
 -- the version of these parts
 abbrev pub version_value : VersionParts → Option Version
@@ -167,7 +171,7 @@ version_value ((id, (true, (created, ceased))), None) =
 -- versions by their parts
 abbrev pub versions_code : Code VersionParts Version
 versions_code = record {
-  code = λ v. kind_parts v.id v.created v.ceased v.kind;
+  code = λ v. ((v.id, (is_marker v.kind, (v.created, v.ceased))), object_of v.kind);
   has = λ v. true;
   value = version_value;
 }
@@ -312,6 +316,11 @@ head_format = pair (format field.Name)
 abbrev pub is_kept_command : Command → Bool
 is_kept_command command =
     takes_token command && are_values (fields_of (parts_of command).kind) (parts_of command).values
+
+-- the bytes are 8 of a moment, and the text of the command
+pub record HasText (command : Command) (bytes : List ℕ) : Type 0 where
+  pub moment : 8 ≤ length bytes
+  pub text : drop 8 bytes ≡ command_spelling None command
 
 -- the command of an entry, if this is the one text of it without a token
 abbrev pub if_spelled : List ℕ → Entry → Option Command
