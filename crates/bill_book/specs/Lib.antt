@@ -1,3 +1,4 @@
 pub mod Bills
 pub mod Books
 pub mod Causes
+pub mod Memory

@@ -1,8 +1,11 @@
 // A book of bills in memory.
-ghost use Rattle.std.specs.Prelude.{◌≡◌, ◌≤◌, ℕ, [], Some, None};
-ghost use Rattle.std.specs.Ordering.{nat_cmp};
-ghost use Rattle.std.specs.BTreeMap.{get};
+ghost use Rattle.std.specs.Prelude.{◌≡◌, ◌≤◌, ◌+◌, ◌-◌, ◌^◌, min, Some, None};
+ghost use Rattle.std.specs.Bool.{Decides};
+ghost use Rattle.std.specs.List.{Contains};
 ghost use Rattle.office_base.specs.Faults.{Rose};
+ghost use Rattle.bill_book.specs.Bills.{AreBills};
+ghost use Rattle.bill_book.specs.Books.{Posts, Shows};
+ghost use Rattle.bill_book.specs.Causes.{HasKeeperCause};
 
 use crate::bill::{Bill, copies};
 use crate::keeper::{BillKeeper, KeeperFault, Posted};
@@ -23,11 +26,15 @@ pub struct MapKeeper {
 }
 
 impl MapKeeper {
+    ghost use Rattle.bill_book.specs.Memory.{map_failing, map_calls};
+
     /// Makes a book in which no month was posted. The calls of `post` and `bills` whose numbers are in `failing`,
     /// counted together from 1, fail and change nothing.
     pub fn new(alloc: Global, failing: Vec<u64>) -> MapKeeper
         ensures book { ⟦<MapKeeper as BillKeeper>⟧.book result ≡ Some (λ month. None) }
         ensures faults { ⟦<MapKeeper as BillKeeper>⟧.faults result ≡ 0 }
+        ensures failing { map_failing result ≡ failing.items }
+        ensures calls { map_calls result ≡ 0 }
     {
         MapKeeper {
             alloc,
@@ -40,7 +47,9 @@ impl MapKeeper {
 
     // Whether this call is to fail.
     fn fails(&mut self) -> bool
-        ensures { self.new ≡ record self.old { calls = self.new.calls } }
+        ensures same { self.new ≡ record self.old { calls = self.new.calls } }
+        ensures counted { self.new.calls ≡ min (self.old.calls + 1) (2 ^ 64 - 1) }
+        ensures fails { Decides result (Contains self.old.failing.items self.new.calls) }
     {
         self.calls = self.calls.saturating_add(1);
         self.failing.contains(&self.calls)
@@ -59,11 +68,18 @@ impl MapKeeper {
 }
 
 impl BillKeeper for MapKeeper {
-    ghost book = { λ k. Some (λ month. get nat_cmp k.months month) };
+    ghost use Rattle.bill_book.specs.Memory.{IsKeeperCall, map_book, map_faults};
 
-    ghost faults = { λ k. k.faults };
+    ghost book = { λ k. Some (map_book k) };
 
-    fn post(&mut self, month: Month, bills: &[Bill]) -> Result<Posted, KeeperFault> {
+    ghost faults = { map_faults };
+
+    fn post(&mut self, month: Month, bills: &[Bill]) -> Result<Posted, KeeperFault>
+        requires bills { AreBills bills.now }
+        ensures posts { Posts month bills.now (map_book self.old) (map_book self.new) result }
+        ensures cause { HasKeeperCause (map_faults self.old) (map_faults self.new) result }
+        ensures call { IsKeeperCall self.old self.new result }
+    {
         if self.fails() {
             return Err(self.fail());
         }
@@ -79,7 +95,11 @@ impl BillKeeper for MapKeeper {
         }
     }
 
-    fn bills(&mut self, month: Month) -> Result<Option<Vec<Bill>>, KeeperFault> {
+    fn bills(&mut self, month: Month) -> Result<Option<Vec<Bill>>, KeeperFault>
+        ensures shows { Shows month (map_book self.old) (map_book self.new) result }
+        ensures cause { HasKeeperCause (map_faults self.old) (map_faults self.new) result }
+        ensures call { IsKeeperCall self.old self.new result }
+    {
         if self.fails() {
             return Err(self.fail());
         }
