@@ -24,11 +24,13 @@ def rows_of(month, bills):
 
 
 def post(base, month, bills):
-    """Posts a month by the statements, in one transaction. Returns whether it was not there."""
+    """Posts a month by the statements, in one transaction. Returns whether it was not there. A month with rows and no header is an error."""
     header, *rows = rows_of(month, bills)
     with base:
         is_new = base.execute(HEADER, (header[0], *header[2:])).rowcount == 1
         if is_new:
+            if len(base.execute(MONTH, (month,)).fetchall()) != 1:
+                raise sqlite3.DatabaseError("rows without a header")
             base.executemany(BILL, rows)
     return is_new
 

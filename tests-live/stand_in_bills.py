@@ -20,9 +20,10 @@ def kept(month, bills):
 
 
 def is_well_made(rows):
-    """Whether these are the rows of a month, each number as the program spells it."""
-    return all(bucket.isascii() and bucket == bucket.lower() and total.isdigit() and total == str(int(total)) and int(total) < 2 ** 128 and 0 <= lines < 2 ** 32
-               for bucket, total, lines in rows) and rows[0][0] == ""
+    """Whether these are the rows of a month, each number as the program spells it, and the header agrees with the bills."""
+    are_spelled = all(bucket.isascii() and bucket == bucket.lower() and total.isdigit() and total == str(int(total)) and int(total) < 2 ** 128 and 0 <= lines < 2 ** 32
+                      for bucket, total, lines in rows)
+    return are_spelled and rows[0][0] == "" and rows[0][1:] == (str(sum(int(it[1]) for it in rows[1:])), len(rows) - 1)
 
 
 def bill(office, month, now):

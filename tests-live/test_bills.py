@@ -26,7 +26,7 @@ PRICES = (23_000, 12_500, 10_000, 4_000, 3_600, 990)
 BILLS = [("logs", 23_000, 1), ("raw", 49_600, 2)]
 POSTED, BEFORE = (0, "bills 2 total 72600\n", ""), (0, "already posted 2 total 72600\n", "")
 HELD = (("logs", GIB, "STANDARD"), ("raw", 2 * GIB, "STANDARD"), ("raw", GIB, "GLACIER"))
-# Changes to a row of a month, none of which leaves it well made.
+# Changes to the rows of a month, none of which leaves them well made.
 ILL_MADE = (
     ("a total with a leading zero", "UPDATE bills SET total = '023000' WHERE bucket = 'logs'"),
     ("a total with a sign", "UPDATE bills SET total = '+23000' WHERE bucket = 'logs'"),
@@ -36,7 +36,15 @@ ILL_MADE = (
     ("lines below 0", "UPDATE bills SET lines = -1 WHERE bucket = 'logs'"),
     ("lines of 2^32", f"UPDATE bills SET lines = {2 ** 32} WHERE bucket = 'logs'"),
     ("a bucket that has no bucket's name", "UPDATE bills SET bucket = 'LOGS' WHERE bucket = 'logs'"),
-    ("a month without its header", "DELETE FROM bills WHERE bucket = ''"))
+    ("a header with another total", "UPDATE bills SET total = '72601' WHERE bucket = ''"),
+    ("a header with another number of bills", "UPDATE bills SET lines = 3 WHERE bucket = ''"),
+    ("a header whose total has a leading zero", "UPDATE bills SET total = '072600' WHERE bucket = ''"),
+    ("a header whose total is a word", "UPDATE bills SET total = 'all' WHERE bucket = ''"),
+    ("a bill without its row", "DELETE FROM bills WHERE bucket = 'raw'"),
+    ("a bill that the header does not count", "INSERT INTO bills VALUES ('2024-01', 'zoo', '0', 1)"),
+    ("totals that come to 2^128", f"UPDATE bills SET total = '{2 ** 128 - 1}' WHERE bucket != ''"),
+    ("a month without its header", "DELETE FROM bills WHERE bucket = ''"),
+    ("a month with rows of other buckets alone", "UPDATE bills SET bucket = 'zoo' || bucket"))
 # Changes to a month that leave its rows well made, with other bills than the report has.
 OTHERS = (
     ("another total", [("logs", 23_001, 1), ("raw", 49_600, 2)]), ("another number of lines", [("logs", 23_000, 2), ("raw", 49_600, 2)]),

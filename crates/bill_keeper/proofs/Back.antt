@@ -14,9 +14,8 @@ use Rattle.sqlite.specs.Clock.{timed}
 use Rattle.sqlite.specs.Steps.{FailsToCommit}
 use Rattle.sqlite.proofs.Callers.{IsPlain}
 use Rattle.bill_book.specs.declared.bill.Bill.{Bill}
-use Rattle.bill_rows.specs.Rows.{bills_schema, month_text, is_at, IsMonth}
-use Rattle.bill_rows.specs.Puts.{PutsMonth}
-use Rattle.bill_keeper.specs.Steps.{Works, PostsRows, ReadsRows}
+use Rattle.bill_rows.specs.Rows.{bills_schema, select_text, is_at, IsMonth}
+use Rattle.bill_keeper.specs.Steps.{Works, PostsMonth, PostsRows, ReadsRows}
 use Rattle.bill_keeper.proofs.Texts.{month_plain}
 use Rattle.bill_keeper.proofs.Month.{month_shows}
 
@@ -56,33 +55,33 @@ module _ (month total : List ℕ) (count : ℕ) (bills : List Bill) where
     rows = λ has open_now. ap (λ (d : Database). d.trees 0) (back.now open_now);
   }
 
-  pub before : (old mid new : State) → Works (begun old) mid (Ok false) (PutsMonth month total count bills) → Back old new
+  pub before : (old mid new : State) → Works (begun old) mid (Ok false) (PostsMonth month total count bills) → Back old new
       → PostsRows month total count bills old new (Ok false)
   before old mid new works back = record {
     was_open = back.was_open;
     schema = λ has open_now. ap (λ (d : Database). d.schema) (back.now open_now) ∙ has;
-    rows = λ has open_now. ((works.done has).1.0, ap (λ (d : Database). d.trees 0) (back.now open_now));
+    rows = λ has open_now. (((works.done has).1.0.0, ap (λ (d : Database). d.trees 0) (back.now open_now)), (works.done has).1.1);
   }
 
-  pub posted : (old mid new : State) → Works (begun old) mid (Ok true) (PutsMonth month total count bills) → Shows mid new mid.now mid.now false
+  pub posted : (old mid new : State) → Works (begun old) mid (Ok true) (PostsMonth month total count bills) → Shows mid new mid.now mid.now false
       → PostsRows month total count bills old new (Ok true)
   posted old mid new works shows = record {
     was_open = λ open_now. works.kept.was_open shows.was_open;
     schema = λ has open_now. ap (λ (d : Database). d.schema) shows.now_is ∙ (works.done has).0;
-    rows = λ has open_now. subst (PutsMonth month total count bills true (old.now.trees 0)) (sym (ap (λ (d : Database). d.trees 0) shows.now_is)) (works.done has).1;
+    rows = λ has open_now. subst (PostsMonth month total count bills true (old.now.trees 0)) (sym (ap (λ (d : Database). d.trees 0) shows.now_is)) (works.done has).1;
   }
 
 -- ---- a query
 
-plain_here : (old : State) → old.now.schema ≡ bills_schema → IsPlain (understood old.now.schema month_text)
-plain_here old has = subst (λ s. IsPlain (understood s month_text)) (sym has) month_plain
+plain_here : (old : State) → old.now.schema ≡ bills_schema → IsPlain (understood old.now.schema select_text)
+plain_here old has = subst (λ s. IsPlain (understood s select_text)) (sym has) month_plain
 
-shown_same : (old new : State) (params : Row) (rows : List Row) → old.now.schema ≡ bills_schema → Shown month_text params old new rows → IsUnchanged old new
+pub shown_same : (old new : State) (params : Row) (rows : List Row) → old.now.schema ≡ bills_schema → Shown select_text params old new rows → IsUnchanged old new
 unfolding Shown
 shown_same old new params rows has h =
     let none = (subst IsPlain h.1.is (plain_here old has)).0 in
     let full = timed params h.0.formats h.1.now in
-    let it = subst (ShowsRows old new month_text h.0 full rows) none h.2 in
+    let it = subst (ShowsRows old new select_text h.0 full rows) none h.2 in
     it.3
 
 not_run_back : (old new : State) (sql : List ℕ) (params : Row) (e : Error) → IsSettled old → IsNotRun old new sql params e → Back old new
@@ -90,13 +89,13 @@ unfolding IsNotRun
 not_run_back old new sql params e settled (inl refused) = back_same old new refused.1
 not_run_back old new sql params e settled (inr fails) = back_undone old new settled fails.3
 
-query_back : (old new : State) (params : Row) (e : Error) → IsSettled old → old.now.schema ≡ bills_schema → FailsToQuery month_text params old new e → Back old new
+query_back : (old new : State) (params : Row) (e : Error) → IsSettled old → old.now.schema ≡ bills_schema → FailsToQuery select_text params old new e → Back old new
 unfolding FailsToQuery
-query_back old new params e settled has (inl not_run) = not_run_back old new month_text params e settled not_run
+query_back old new params e settled has (inl not_run) = not_run_back old new select_text params e settled not_run
 query_back old new params e settled has (inr h) =
     let none = (subst IsPlain h.1.is (plain_here old has)).0 in
     let full = timed params h.0.formats h.1.now in
-    let it = subst (FailsToShow old new month_text h.0 full e) none h.2 in
+    let it = subst (FailsToShow old new select_text h.0 full e) none h.2 in
     back_same old new it.3
 
 shown_open : (old new : State) (sql : List ℕ) (c : Compiled) (params : Row) (rows : List Row) (what : Option Returning) → ShowsRows old new sql c params rows what → IsTrue old.is_open
@@ -126,15 +125,15 @@ unfolding Shown
 answer_open old new sql params rows h = shown_open old new sql h.0 (timed params h.0.formats h.1.now) rows h.0.returning h.2
 
 pub reads_rows : (old new : State) (month : List ℕ) (r : Result (Vec Row) Error) → IsSettled old
-    → IfOk r (λ v. Shown month_text (Text month ∷ []) old new v.items) → IfErr r (FailsToQuery month_text (Text month ∷ []) old new) → ReadsRows month old new r
+    → IfOk r (λ v. Shown select_text (Text month ∷ []) old new v.items) → IfErr r (FailsToQuery select_text (Text month ∷ []) old new) → ReadsRows month old new r
 reads_rows old new month (Ok v) settled shown fails = record {
-  was_open = λ open_now. answer_open old new month_text _ v.items shown;
+  was_open = λ open_now. answer_open old new select_text _ v.items shown;
   schema = λ has open_now. ap (λ (d : Database). d.schema) ((back_same old new (shown_same old new _ v.items has shown)).now open_now) ∙ has;
   same = λ has open_now. ap (λ (d : Database). d.trees 0) ((back_same old new (shown_same old new _ v.items has shown)).now open_now);
   rows = λ has. month_shows old new month v.items has shown;
 }
 reads_rows old new month (Err e) settled shown fails = record {
-  was_open = query_open old new month_text _ e fails;
+  was_open = query_open old new select_text _ e fails;
   schema = λ has open_now. ap (λ (d : Database). d.schema) ((query_back old new _ e settled has fails).now open_now) ∙ has;
   same = λ has open_now. ap (λ (d : Database). d.trees 0) ((query_back old new _ e settled has fails).now open_now);
   rows = λ has. tt;

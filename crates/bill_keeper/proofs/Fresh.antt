@@ -8,7 +8,7 @@ use Rattle.sqlite.specs.Effect.{Database}
 use Rattle.sqlite.specs.declared.error.Error.{Error}
 use Rattle.sqlite.specs.State.{State, HasCleanDisk, Writes, Executes}
 use Rattle.sqlite.proofs.Callers.{runs_as}
-use Rattle.bill_rows.specs.Rows.{bills, bills_schema, create_text}
+use Rattle.bill_rows.specs.Rows.{bills_table, bills_schema, create_text}
 use Rattle.bill_rows.specs.WellMade.{IsWellMade}
 use Rattle.bill_keeper.specs.Ready.{no_schema, HasTable, HasNoRows}
 use Rattle.bill_keeper.proofs.Texts.{create_is, create_plain, created_is}
@@ -32,8 +32,8 @@ made old new count has h =
     let all = went w.changed in
     let first = went all.1 in
     let it = first.1 in
-    let both : Ok it.table ≡ Ok bills = sym it.defined ∙ create_is.2 in
-    let same : it.table ≡ bills = cc in
+    let both : Ok it.table ≡ Ok bills_table = sym it.defined ∙ create_is.2 in
+    let same : it.table ≡ bills_table = cc in
     let schema : first.0.schema ≡ bills_schema = it.is ∙ (ap (λ s. created s it.table) has ∙ (ap (created no_schema) same ∙ created_is)) in
     let plain : lacks_sequence first.0.schema ≡ false = ap lacks_sequence schema in
     let now : new.now ≡ first.0 = ap (λ (p : Tally × Database). p.1) (same_value all.2) ∙ same_value (rw plain at first.2) in

@@ -28,7 +28,7 @@ use Rattle.sqlite.specs.Listing.{understood}
 use Rattle.sqlite.specs.State.{State, mode_of, Executes}
 use Rattle.sqlite.proofs.Callers.{statement_of, runs_as, one_step}
 use Rattle.sqlite_rules.specs.Edit.{is_taken, are_fresh}
-use Rattle.bill_rows.specs.Rows.{bills, bills_schema, header_text, stored, is_at}
+use Rattle.bill_rows.specs.Rows.{bills_table, bills_schema, header_text, stored, is_at}
 use Rattle.bill_rows.specs.Puts as ours
 use Rattle.bill_keeper.proofs.Texts.{header_terms, on_month, header_is, header_plain}
 
@@ -76,15 +76,15 @@ not_taken true h = absurd (let e = h in cc)
 not_taken false h = refl
 
 abbrev task : Option ℕ → Row → Task
-task limit params = record { limit = limit; keys = Enforced; schema = bills_schema; table = bills; params = params }
+task limit params = record { limit = limit; keys = Enforced; schema = bills_schema; table = bills_table; params = params }
 
-module _ (limit : Option ℕ) (params : Row) (db : Trees) (one : Written) (id : ℤ) (month bucket total : List ℕ) (lines : ℤ) where
+module _ (limit : Option ℕ) (params : Row) (db : Trees) (done : Written) (id : ℤ) (month bucket total : List ℕ) (lines : ℤ) where
   abbrev put : Row
   put = stored id month bucket total lines
 
-  pub puts : Puts (task limit params) put db (Ok one) → (length one.rows ≡ 1) × ours.Puts put (db 0) (one.trees 0)
+  pub puts : Puts (task limit params) put db (Ok done) → (length done.rows ≡ 1) × ours.Puts put (db 0) (done.trees 0)
   puts h =
-      let edit = edit_of db bills [] Given 0 (put ∷ []) in
+      let edit = edit_of db bills_table [] Given 0 (put ∷ []) in
       let went_in = went h in
       let applied = one_step bills_schema Enforced db went_in.0 edit refl went_in.1 in
       let is : edited db edit ≡ put_row put (db 0) = rw (cast_int id, cast_int lines) in
@@ -93,18 +93,18 @@ module _ (limit : Option ℕ) (params : Row) (db : Trees) (one : Written) (id : 
       let same = same_value went_in.2 in
       (ap (λ (w : Written). length w.rows) same, record { fresh = free; put = ap (λ (w : Written). w.trees 0) same ∙ applied.rows ∙ is })
 
-  clears : (found : List Row) → Clears (task limit params) Abort put db found (Ok one) → (length one.rows ≡ 1) × ours.Puts put (db 0) (one.trees 0)
+  clears : (found : List Row) → Clears (task limit params) Abort put db found (Ok done) → (length done.rows ≡ 1) × ours.Puts put (db 0) (done.trees 0)
   clears [] h = puts h
   clears (x ∷ more) h = puts h
 
   abbrev Puts_or_not : Type 0
-  Puts_or_not = MatchBool (list_any (is_at month bucket) (db 0)) ((length one.rows ≡ 0) × (one.trees 0 ≡ db 0)) ((length one.rows ≡ 1) × ours.Puts put (db 0) (one.trees 0))
+  Puts_or_not = MatchBool (list_any (is_at month bucket) (db 0)) ((length done.rows ≡ 0) × (done.trees 0 ≡ db 0)) ((length done.rows ≡ 1) × ours.Puts put (db 0) (done.trees 0))
 
   abbrev Either_way : Bool → Type 0
-  Either_way b = MatchBool b ((length one.rows ≡ 0) × (one.trees 0 ≡ db 0)) ((length one.rows ≡ 1) × ours.Puts put (db 0) (one.trees 0))
+  Either_way b = MatchBool b ((length done.rows ≡ 0) × (done.trees 0 ≡ db 0)) ((length done.rows ≡ 1) × ours.Puts put (db 0) (done.trees 0))
 
-  meets : (found : List Row) → AreConflicts (Some (1 ∷ 2 ∷ [])) bills_schema.indexes bills (db 0) put found
-      → Meets (task limit params) (Upserts (task limit params) Abort put db []) put db on_month found (Ok one) → Puts_or_not
+  meets : (found : List Row) → AreConflicts (Some (1 ∷ 2 ∷ [])) bills_schema.indexes bills_table (db 0) put found
+      → Meets (task limit params) (Upserts (task limit params) Abort put db []) put db on_month found (Ok done) → Puts_or_not
   meets [] are h =
       let none : list_any (is_at month bucket) (db 0) ≡ false = none_found (is_at month bucket) (db 0) (λ r has is. are.complete r has (rw is)) in
       subst Either_way (sym none) (clears h.0 h.2)
@@ -114,11 +114,11 @@ module _ (limit : Option ℕ) (params : Row) (db : Trees) (one : Written) (id : 
       let same = same_value h in
       subst Either_way (sym some) (ap (λ (w : Written). length w.rows) same, ap (λ (w : Written). w.trees 0) same)
 
-  judged : (verdict : Option Refusal) → Judged (task limit params) Abort (on_month ∷ []) put db verdict (Ok one) → Puts_or_not
+  judged : (verdict : Option Refusal) → Judged (task limit params) Abort (on_month ∷ []) put db verdict (Ok done) → Puts_or_not
   judged None h = meets h.0 h.1 h.2
   judged (Some why) h = absurd (let e = h in cc)
 
-  pub tries : Tries (task limit params) Abort (on_month ∷ []) put db (Ok one) → Puts_or_not
+  pub tries : Tries (task limit params) Abort (on_month ∷ []) put db (Ok done) → Puts_or_not
   tries (inl lost) = absurd (let e = lost.1 in cc)
   tries (inr h) = judged h.0 h.2
 
@@ -129,12 +129,12 @@ Leaves_done month bucket total lines db done =
 each : (limit : Option ℕ) (params : Row) (db : Trees) (month bucket total : List ℕ) (lines top : ℤ) (done : Written × ℤ)
     → TriesEach (task limit params) Abort (on_month ∷ []) ((Null ∷ Text month ∷ Text bucket ∷ Text total ∷ Int lines ∷ []) ∷ []) top (nothing db) (Ok done) → Leaves_done month bucket total lines db done.0
 each limit params db month bucket total lines top done h =
-    let one = went h in
+    let first = went h in
     let source : Row = Null ∷ Text month ∷ Text bucket ∷ Text total ∷ Int lines ∷ [] in
-    let numbered_is : with_rowid Chosen (db 0) (cast_row bills source) ≡ stored (next_rowid (db 0)) month bucket total lines = rw (cast_null, cast_int lines) in
-    let tried : Tries (task limit params) Abort (on_month ∷ []) (stored (next_rowid (db 0)) month bucket total lines) db (Ok one.0) = subst (λ r. Tries (task limit params) Abort (on_month ∷ []) r db (Ok one.0)) numbered_is one.1 in
-    let last = same_value one.2 in
-    subst (Leaves_done month bucket total lines db) (sym (ap (λ (p : Written × ℤ). p.0) last)) (tries limit params db one.0 (next_rowid (db 0)) month bucket total lines tried)
+    let numbered_is : with_rowid Chosen (db 0) (cast_row bills_table source) ≡ stored (next_rowid (db 0)) month bucket total lines = rw (cast_null, cast_int lines) in
+    let tried : Tries (task limit params) Abort (on_month ∷ []) (stored (next_rowid (db 0)) month bucket total lines) db (Ok first.0) = subst (λ r. Tries (task limit params) Abort (on_month ∷ []) r db (Ok first.0)) numbered_is first.1 in
+    let last = same_value first.2 in
+    subst (Leaves_done month bucket total lines db) (sym (ap (λ (p : Written × ℤ). p.0) last)) (tries limit params db first.0 (next_rowid (db 0)) month bucket total lines tried)
 
 moved : (P : List Row → Type 0) (rows after out : List Row) (n m : ℕ) (b : Bool) → MatchBool b ((n ≡ 0) × (after ≡ rows)) ((n ≡ 1) × P after) → m ≡ n → out ≡ after
     → MatchBool b ((m ≡ 0) × (out ≡ rows)) ((m ≡ 1) × P out)

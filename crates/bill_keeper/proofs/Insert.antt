@@ -14,7 +14,7 @@ use Rattle.sqlite.specs.declared.error.Error.{Error}
 use Rattle.sqlite.specs.Listing.{understood}
 use Rattle.sqlite.specs.State.{State, mode_of, Executes}
 use Rattle.sqlite.proofs.Callers.{statement_of, runs_as, one_step}
-use Rattle.bill_rows.specs.Rows.{bills, bills_schema, bill_text, stored}
+use Rattle.bill_rows.specs.Rows.{bills_table, bills_schema, bill_text, stored}
 use Rattle.bill_keeper.proofs.Texts.{bill_terms, bill_is, bill_plain}
 use Rattle.sqlite_rules.specs.Edit.{is_taken, are_fresh, left_by}
 use Rattle.bill_rows.specs.Puts.{Puts}
@@ -35,12 +35,12 @@ bill_writes old new month bucket total lines count has h =
     let written = went (went given.2).2 in
     let counted = went written.2 in
     let trees : done.0.trees ≡ written.0 = ap (λ (it : Written). it.trees) (same_value counted.2) ∙ same_value counted.1 in
-    let applied = one_step bills_schema _ db written.0 (edit_of db bills [] Chosen 0 given.0) refl written.1 in
+    let applied = one_step bills_schema _ db written.0 (edit_of db bills_table [] Chosen 0 given.0) refl written.1 in
     let rows = applied.rows in
     let new_row : Row = stored (next_rowid (db 0)) month bucket total lines in
-    let news_are : (edit_of db bills [] Chosen 0 given.0).news ≡ new_row ∷ [] =
-    ap (λ all. (edit_of db bills [] Chosen 0 all).news) given.1.1 ∙ rw (cast_null, cast_int lines) in
+    let news_are : (edit_of db bills_table [] Chosen 0 given.0).news ≡ new_row ∷ [] =
+    ap (λ all. (edit_of db bills_table [] Chosen 0 all).news) given.1.1 ∙ rw (cast_null, cast_int lines) in
     let free : is_taken (db 0) new_row ≡ false = not_taken (is_taken (db 0) new_row) (subst (λ (l : List Row). are_fresh (db 0) l ≡ true) news_are applied.fresh) in
-    let edit : edited db (edit_of db bills [] Chosen 0 given.0) ≡ put_row (stored (next_rowid (db 0)) month bucket total lines) (db 0) =
-    ap (λ all. edited db (edit_of db bills [] Chosen 0 all)) given.1.1 ∙ rw (cast_null, cast_int lines) in
+    let edit : edited db (edit_of db bills_table [] Chosen 0 given.0) ≡ put_row (stored (next_rowid (db 0)) month bucket total lines) (db 0) =
+    ap (λ all. edited db (edit_of db bills_table [] Chosen 0 all)) given.1.1 ∙ rw (cast_null, cast_int lines) in
     (ap (λ (d : Database). d.schema) now, record { fresh = free; put = ap (λ (d : Database). d.trees 0) now ∙ ap (λ (t : Trees). t 0) trees ∙ rows ∙ edit })

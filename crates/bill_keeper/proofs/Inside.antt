@@ -13,10 +13,10 @@ use Rattle.bill_keeper.specs.Steps.{Works}
 use Rattle.bill_keeper.proofs.Header.{header_writes}
 use Rattle.bill_keeper.proofs.Insert.{bill_writes}
 
-same_keeps : (old new : State) → IsUnchanged old new → KeepsCommit old new
+pub same_keeps : (old new : State) → IsUnchanged old new → KeepsCommit old new
 same_keeps old new h = record { was_open = λ _. h.0.was_open; committed = λ _. h.0.committed_is }
 
-back_keeps : (old new : State) → IsRolledBack old new → KeepsCommit old new
+pub back_keeps : (old new : State) → IsRolledBack old new → KeepsCommit old new
 back_keeps old new h = record { was_open = h.was_open; committed = λ still. (h.undone still).1 }
 
 pub inside_keeps : (sql : List ℕ) (params : Row) (old new : State) (r : Result ℕ Error) → ExecutesInside 0 sql params old new r → KeepsCommit old new

@@ -7,3 +7,5 @@ pub mod Back
 pub mod Spelled
 pub mod Told
 pub mod Fresh
+pub mod Query
+pub mod Put

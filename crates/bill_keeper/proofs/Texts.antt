@@ -16,7 +16,7 @@ use Rattle.sqlite.specs.Change.{created}
 use Rattle.sqlite_tied.specs.Compute.{everything}
 use Rattle.sqlite.specs.Listing.{understood, reads_listing}
 use Rattle.sqlite.proofs.Callers.{IsPlain, command_of, statement_of}
-use Rattle.bill_rows.specs.Rows.{bills, bills_schema, create_text, header_text, bill_text, month_text}
+use Rattle.bill_rows.specs.Rows.{bills_table, bills_schema, create_text, header_text, bill_text, select_text}
 use Rattle.bill_keeper.specs.Ready.{no_schema}
 
 abbrev pub header_terms : List Term
@@ -28,7 +28,7 @@ bill_terms = lit Null ∷ col 0 0 ∷ col 0 1 ∷ col 0 2 ∷ col 0 3 ∷ []
 abbrev pub on_month : Upsert
 on_month = record { target = Some (1 ∷ 2 ∷ []); update = None }
 
-pub create_is : (command_of (understood no_schema create_text) ≡ CreateTable) × (statement_of create_text (understood no_schema create_text) ≡ create_text) × (table_defined_by create_text ≡ Ok bills)
+pub create_is : (command_of (understood no_schema create_text) ≡ CreateTable) × (statement_of create_text (understood no_schema create_text) ≡ create_text) × (table_defined_by create_text ≡ Ok bills_table)
 unfolding understood everything
 create_is = (refl, refl, refl)
 
@@ -36,7 +36,7 @@ pub create_plain : IsPlain (understood no_schema create_text)
 unfolding understood everything
 create_plain = (refl, refl)
 
-pub created_is : created no_schema bills ≡ bills_schema
+pub created_is : created no_schema bills_table ≡ bills_schema
 unfolding everything
 created_is = refl
 
@@ -69,10 +69,10 @@ month_query = record {
   offset = lit (Int (pos 0));
 }
 
-pub month_is : (command_of (understood bills_schema month_text) ≡ Select (record { lets = []; body = month_query }) (codes "bucket" ∷ codes "total" ∷ codes "lines" ∷ [])) × (reads_listing bills_schema month_text ≡ false)
+pub month_is : (command_of (understood bills_schema select_text) ≡ Select (record { lets = []; body = month_query }) (codes "bucket" ∷ codes "total" ∷ codes "lines" ∷ [])) × (reads_listing bills_schema select_text ≡ false)
 unfolding understood everything
 month_is = (refl, refl)
 
-pub month_plain : IsPlain (understood bills_schema month_text)
+pub month_plain : IsPlain (understood bills_schema select_text)
 unfolding understood everything
 month_plain = (refl, refl)

@@ -67,10 +67,10 @@ leaves : (k : ℕ) (bills : List Bill) (before after : List Row) (r : Result Boo
     → IsWellMade before → LeavesRows (month_text k) (decimal (total_of bills)) (length bills) bills before after r → Leaves k bills (book_of before) (book_of after) r × IsWellMade after
 leaves k bills before after (Ok true) small rise sum made h =
     let each = each_small bills sum in
-    (month_added k small (decimal (total_of bills)) (length bills) bills before after made.headed h rise each, well_made k small bills before after made h rise each sum)
+    (month_added k small (decimal (total_of bills)) (length bills) bills before after made.headed h.0 rise each, well_made k small bills before after made h.0 rise each sum)
 leaves k bills before after (Ok false) small rise sum made h =
-    let there : IsSome (book_of before k) = rw (book_with k before small h.0) refl in
-    ((there, λ q. ap (λ (rows : List Row). book_of rows q) h.1), subst IsWellMade (sym h.1) made)
+    let there : IsSome (book_of before k) = rw (book_with k before small h.0.0) refl in
+    ((there, λ q. ap (λ (rows : List Row). book_of rows q) h.0.1), subst IsWellMade (sym h.0.1) made)
 leaves k bills before after (Err e) small rise sum made h = ((λ q. ap (λ (rows : List Row). book_of rows q) h), subst IsWellMade (sym h) made)
 
 module _ (old new : State) (k : ℕ) (text : List ℕ) (is : text ≡ month_text k) (total : List ℕ) (count : ℕ) (bills : List Bill)
@@ -121,7 +121,7 @@ module _ (old new : State) (text : List ℕ) (r : Result (Vec Row) Error) (less 
 shows : (k : ℕ) (rows answer : List Row) (bills : Option (Vec Bill)) → k < months → IsMonth (month_text k) rows answer → ReadsBills answer bills → option_map (λ (v : Vec Bill). v.items) bills ≡ book_of rows k
 shows k rows answer None small month is = sym (book_without k rows small (absent_read (month_text k) rows answer month is))
 shows k rows answer (Some v) small month read =
-    sym (book_with k rows small (there_read (month_text k) rows answer month v.items read) ∙ ap (λ (l : List Bill). Some l) (bills_read (month_text k) rows answer month v.items read))
+    sym (book_with k rows small (there_read (month_text k) rows answer month v.items read.0) ∙ ap (λ (l : List Bill). Some l) (bills_read (month_text k) rows answer month v.items read.0))
 
 pub reading_told : (old new : State) (k : ℕ) (text : List ℕ) → text ≡ month_text k → (v : Vec Row) (bills : Option (Vec Bill)) → doubt old.is_clean ≤ doubt new.is_clean
     → (HasCleanDisk new → ReadsRows text old new (Ok v)) → HasTable old → k < months → ReadsBills v.items bills → Told (told_book old) (told_book new) (λ a b. (option_map (λ (v : Vec Bill). v.items) bills ≡ a k) × IsSameBook a b)

@@ -1,6 +1,6 @@
 -- What a keeper of bills stands on: a connection that shows the table, and the book that its rows mean.
-use Rattle.std.specs.Prelude.{◌≡◌, ℕ, Bool, true, false, ◌&&◌, List, [], Option, Some, None, IsSome, IsTrue, Result, Ok, Err}
-use Rattle.std.specs.Prelude.{option_map, if◌then◌else◌}
+use Rattle.std.specs.Prelude.{◌≡◌, ℕ, Bool, true, false, ◌&&◌, List, [], Option, Some, None, IsSome, IsTrue}
+use Rattle.std.specs.Prelude.{Result, Ok, Err, option_map, if◌then◌else◌}
 use Rattle.std.specs.Coded.{Coded-set, Π_prop, ×_prop}
 use Rattle.sqlite_schema.specs.declared.schema.Schema.{Schema}
 use Rattle.sqlite_schema.specs.contracts.schema.Schema.{the_row}

@@ -1,11 +1,11 @@
 -- What the statements do to a connection that holds the table of bills.
-use Rattle.std.specs.Prelude.{◌≡◌, ℕ, ℤ, pos, decimal, Bool, true, false, List, [], Result, Ok, Err, IfOk, OnOk, IsTrue}
+use Rattle.std.specs.Prelude.{◌≡◌, ℕ, Bool, List, [], filter, Result, Ok, Err, IfOk, OnOk, IsTrue}
 use Rattle.std.specs.Global.{Vec}
 use Rattle.sqlite.specs.Order.{Row}
 use Rattle.sqlite.specs.declared.error.Error.{Error}
 use Rattle.sqlite.specs.State.{State, HasCleanDisk, KeepsCommit}
 use Rattle.bill_book.specs.declared.bill.Bill.{Bill}
-use Rattle.bill_rows.specs.Rows.{bills_schema, IsMonth}
+use Rattle.bill_rows.specs.Rows.{bills_schema, in_month, IsMonth}
 use Rattle.bill_rows.specs.Puts.{PutsMonth}
 
 -- The connection shows the table of bills alone.
@@ -23,9 +23,14 @@ pub record Works {T : Type 0} (old new : State) (r : Result T Error) (rows : T �
 abbrev pub WorksBy : {T : Type 0} → State → State → Result T Error → (T → List Row → List Row → Type 0) → Type 0
 WorksBy old new r rows = HasCleanDisk new → IsTrue old.in_transaction → Works old new r rows
 
+-- the month is put in where it has no row, and stays where it has its header
+abbrev pub PostsMonth : List ℕ → List ℕ → ℕ → List Bill → Bool → List Row → List Row → Type 0
+PostsMonth month total count bills now before after =
+    PutsMonth month total count bills now before after × (IsTrue now → filter (in_month month) before ≡ [])
+
 -- what posting a month makes of the rows, by its answer; where it failed, nothing
 abbrev pub LeavesRows : List ℕ → List ℕ → ℕ → List Bill → List Row → List Row → Result Bool Error → Type 0
-LeavesRows month total count bills before after (Ok now) = PutsMonth month total count bills now before after
+LeavesRows month total count bills before after (Ok now) = PostsMonth month total count bills now before after
 LeavesRows month total count bills before after (Err _) = after ≡ before
 
 -- The month is posted whole or not at all. A fault may shut the connection, and then nothing is said.

@@ -1,12 +1,13 @@
 // The bills that rows of the table tell of.
-ghost use Rattle.std.specs.Prelude.{◌≡◌, true, pos, map, IfOk, string_bytes, [], ◌∷◌, ◌++◌, IsTrue, decimal};
+ghost use Rattle.std.specs.Prelude.{◌≡◌, true, pos, map, IfOk, IfSome, string_bytes, [], ◌∷◌, ◌++◌, IsTrue, decimal};
 ghost use Rattle.std.specs.List.{AllByRecursion};
 ghost use Rattle.std.specs.Str.Parse.{digits_value};
 ghost use Rattle.office_base.specs.Names.{IsBucketName};
 ghost use Rattle.sqlite.specs.declared.types.Value.TheVariants.{Int, Text as Words};
 ghost use Rattle.sqlite.specs.Order.{column};
 ghost use Rattle.bill_rows.specs.Answers.{answer_bill, NamesBucket, rises, AreRead};
-ghost use Rattle.bill_keeper.specs.Reading.{ReadsBills, IsBillRead};
+ghost use Rattle.bill_book.specs.Bills.{total_of};
+ghost use Rattle.bill_keeper.specs.Reading.{ReadsBills, IsBillRead, IsHeaderOf, IsWritten};
 
 use bill_book::Bill;
 use office_base::{BucketName, NameRefusal};
@@ -16,7 +17,7 @@ use std::alloc::Global;
 /// Why rows were not read.
 #[derive(Clone, Copy, Debug, PartialEq, Eq)]
 pub(crate) enum RowFault {
-    /// A row has not the form of a bill, or a month has no header.
+    /// A row has not its form, or the month's header is missing or does not agree with its bills.
     Unreadable,
     /// Memory ran out.
     NoMemory,
@@ -29,7 +30,7 @@ fn fault_of(error: Error) -> RowFault {
     }
 }
 
-fn text_at(row: &Row, at: usize) -> Result<String, RowFault>
+pub(crate) fn text_at(row: &Row, at: usize) -> Result<String, RowFault>
     ensures { IfOk result (λ text. column row.now at ≡ Words (string_bytes text)) }
 {
     match row.get::<String>(at) {
@@ -38,7 +39,7 @@ fn text_at(row: &Row, at: usize) -> Result<String, RowFault>
     }
 }
 
-fn count_at(row: &Row, at: usize) -> Result<u32, RowFault>
+pub(crate) fn count_at(row: &Row, at: usize) -> Result<u32, RowFault>
     ensures { IfOk result (λ count. column row.now at ≡ Int (pos count)) }
 {
     match row.get::<u32>(at) {
@@ -58,7 +59,8 @@ fn spells(text: &str, number: u128) -> bool
 // Reads a number that is written so.
 #[tactic(auto, using(crate::proofs::Spelled::digits_of_text))]
 fn number_of(text: &str) -> Result<u128, RowFault>
-    ensures { IfOk result (λ number. digits_value 10 text.now ≡ number) }
+    ensures read { IfOk result (λ number. digits_value 10 text.now ≡ number) }
+    ensures written { IfOk result (λ number. text.now ≡ decimal number) }
 {
     let Ok(number) = text.parse::<u128>() else {
         return Err(RowFault::Unreadable);
@@ -106,7 +108,7 @@ fn push_bill(bills: &mut Vec<Bill>, bill: Bill) -> Result<(), RowFault>
 }
 
 // Whether each bill's bucket is below that of the next.
-fn rises(bills: &[Bill]) -> bool
+pub(crate) fn rises(bills: &[Bill]) -> bool
     ensures { result ≡ rises bills.now }
 {
     match bills {
@@ -122,6 +124,7 @@ fn rises(bills: &[Bill]) -> bool
 fn all_bills(alloc: Global, rows: &[Row]) -> Result<Vec<Bill>, RowFault>
     ensures bills { IfOk result (λ bills. bills.items ≡ map answer_bill rows.now) }
     ensures named { IfOk result (λ _. AllByRecursion NamesBucket rows.now) }
+    ensures written { IfOk result (λ _. AllByRecursion IsWritten rows.now) }
 {
     let mut bills = Vec::new(alloc);
     for row in rows {
@@ -131,11 +134,26 @@ fn all_bills(alloc: Global, rows: &[Row]) -> Result<Vec<Bill>, RowFault>
     Ok(bills)
 }
 
-fn is_header(row: &Row) -> Result<bool, RowFault>
-    ensures { IfOk result (λ is. is ≡ true → column row.now 0 ≡ Words []) }
+// What bills come to; None where that is no u128.
+pub(crate) fn sum_of(bills: &[Bill]) -> Option<u128>
+    ensures { IfSome result (λ sum. sum ≡ total_of bills.now) }
+{
+    let mut sum: u128 = 0;
+    for bill in bills {
+        sum = sum.checked_add(bill.total)?;
+    }
+    Some(sum)
+}
+
+// Whether a row is the header of these bills.
+fn is_header_of(row: &Row, bills: &[Bill]) -> Result<bool, RowFault>
+    ensures { IfOk result (λ is. is ≡ true → IsHeaderOf row.now bills.now) }
 {
     let bucket = text_at(row, 0)?;
-    Ok(bucket.is_empty())
+    let total = text_at(row, 1)?;
+    let lines = count_at(row, 2)?;
+    let total = number_of(&total)?;
+    Ok(bucket.is_empty() && sum_of(bills) == Some(total) && lines as usize == bills.len())
 }
 
 /// Reads the bills of a month out of its rows, of which the first is its header; None where it has no rows.
@@ -145,11 +163,8 @@ pub(crate) fn bills_of(alloc: Global, rows: &[Row]) -> Result<Option<Vec<Bill>>,
     let [header, rest @ ..] = rows else {
         return Ok(None);
     };
-    if !is_header(header)? {
-        return Err(RowFault::Unreadable);
-    }
     let bills = all_bills(alloc, rest)?;
-    if rises(&bills) {
+    if rises(&bills) && is_header_of(header, &bills)? {
         Ok(Some(bills))
     } else {
         Err(RowFault::Unreadable)

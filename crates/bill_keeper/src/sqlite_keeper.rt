@@ -197,6 +197,16 @@ impl<S: Alter> SqliteKeeper<S> {
         }
     }
 
+    /// Whether it was made over a connection that was handed in.
+    pub fn is_over(&self) -> bool
+        ensures { result ≡ self.now.is_over }
+    {
+        match &self.place {
+            Place::Handed(_) => true,
+            Place::Own(_) => false,
+        }
+    }
+
     /// Gives the connection back that was handed in. Takes no memory.
     pub fn give_back(self) -> Connection<S>
         requires handed { self.is_over ≡ true }

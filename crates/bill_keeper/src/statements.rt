@@ -1,15 +1,15 @@
 // The statements over the table.
-ghost use Rattle.std.specs.Prelude.{◌≡◌, ◌≤◌, IsTrue, pos, [], ◌∷◌};
+ghost use Rattle.std.specs.Prelude.{◌≡◌, ◌≤◌, IsTrue, pos, [], ◌∷◌, length};
 ghost use Rattle.sqlite.specs.Held.{state};
 ghost use Rattle.sqlite.specs.State.{HasCleanDisk, ExecutesInside, Survives};
 ghost use Rattle.sqlite.specs.View.{doubt};
 ghost use Rattle.sqlite.specs.declared.types.Value.TheVariants.{Int, Text as Words};
-ghost use Rattle.bill_rows.specs.Rows.{header_text, bill_text};
-ghost use Rattle.bill_rows.specs.Puts.{IsHeaderPut, PutsRow, PutsBill, PutsBills, PutsMonth};
-ghost use Rattle.bill_keeper.specs.Steps.{WorksBy};
+ghost use Rattle.bill_rows.specs.Rows.{header_text, bill_text, IsMonth};
+ghost use Rattle.bill_rows.specs.Puts.{IsHeaderPut, PutsRow, PutsBill, PutsBills};
+ghost use Rattle.bill_keeper.specs.Steps.{WorksBy, PostsMonth};
 
 use bill_book::Bill;
-use sqlite::{Alter, Error, Transaction, params};
+use sqlite::{Alter, Error, ErrorCode, Row, Transaction, params};
 
 fn run_header<S: Alter>(
     tx: &mut Transaction<'_, S>,
@@ -42,6 +42,34 @@ fn put_header<S: Alter>(
     ensures clean { doubt (state S.Store tx.old.conn.now).is_clean ≤ doubt (state S.Store tx.new.conn.now).is_clean }
 {
     run_header(tx, month, total, lines)
+}
+
+// Reads the rows of the month.
+fn read_month<S: Alter>(tx: &mut Transaction<'_, S>, month: &str) -> Result<Vec<Row>, Error>
+    ensures same_reference { tx.new.conn.ghost_name ≡ tx.old.conn.ghost_name }
+    ensures works { WorksBy (state S.Store tx.old.conn.now) (state S.Store tx.new.conn.now) result
+        (λ rows before after. (after ≡ before) × IsMonth month.now before rows.items) }
+    ensures clean { doubt (state S.Store tx.old.conn.now).is_clean ≤ doubt (state S.Store tx.new.conn.now).is_clean }
+{
+    tx.query_all(
+        "SELECT bucket, total, lines FROM bills WHERE month = ?1 ORDER BY bucket",
+        params![month],
+    )
+}
+
+// Fails unless one row of the month is read.
+fn read_single<S: Alter>(tx: &mut Transaction<'_, S>, month: &str) -> Result<Vec<Row>, Error>
+    ensures same_reference { tx.new.conn.ghost_name ≡ tx.old.conn.ghost_name }
+    ensures works { WorksBy (state S.Store tx.old.conn.now) (state S.Store tx.new.conn.now) result
+        (λ rows before after. (after ≡ before) × IsMonth month.now before rows.items × (length rows.items ≡ 1)) }
+    ensures clean { doubt (state S.Store tx.old.conn.now).is_clean ≤ doubt (state S.Store tx.new.conn.now).is_clean }
+{
+    let rows = read_month(tx, month)?;
+    if rows.len() == 1 {
+        Ok(rows)
+    } else {
+        Err(Error::SqliteFailure(ErrorCode::DatabaseCorrupt))
+    }
 }
 
 fn run_bill<S: Alter>(
@@ -106,7 +134,8 @@ fn put_bills<S: Alter>(
     Ok(())
 }
 
-// Puts the month in, with its bills, and tells whether it did; a month that has a header stays.
+// Puts the month in, with its bills, and tells whether it did; a month that has a header stays. Fails if the month has
+// rows and no header.
 pub(crate) fn put_month<S: Alter>(
     tx: &mut Transaction<'_, S>,
     month: &str,
@@ -116,12 +145,14 @@ pub(crate) fn put_month<S: Alter>(
 ) -> Result<bool, Error>
     ensures same_reference { tx.new.conn.ghost_name ≡ tx.old.conn.ghost_name }
     ensures works { WorksBy (state S.Store tx.old.conn.now) (state S.Store tx.new.conn.now) result
-        (PutsMonth month.now total.now count bills.now) }
+        (PostsMonth month.now total.now count bills.now) }
     ensures clean { doubt (state S.Store tx.old.conn.now).is_clean ≤ doubt (state S.Store tx.new.conn.now).is_clean }
 {
-    if put_header(tx, month, total, count)? == 0 {
+    let written = put_header(tx, month, total, count)?;
+    if written == 0 {
         return Ok(false);
     }
+    let _rows = read_single(tx, month)?;
     put_bills(tx, month, bills)?;
     Ok(true)
 }

@@ -30,7 +30,8 @@ tallies_of lines = fold with_line [] lines
 abbrev pub bill_of : List ℕ × Tally → Bill
 bill_of entry = record { bucket = entry.0; total = entry.1.total; lines = entry.1.lines }
 
--- one bill for each bucket that has a line, in byte order, with the sum of the charges and the number of its lines
+-- one bill for each bucket that has a line, in byte order, with the sum of the charges and the number of its lines; the
+-- law `bills_of_a_report` fixes the list by `AreBillsOf`, below
 unfoldable pub bills_of : List ReportLine → List Bill
 bills_of lines = map bill_of (tallies_of lines)
 

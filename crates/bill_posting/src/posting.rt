@@ -135,6 +135,8 @@ fn total_of(bills: &[Bill]) -> u128
 /// Own rule: a month is posted once, so that nobody is billed twice. All memory of its own is taken before the keeper
 /// is asked.
 ///
+/// Cost: one search by the bucket's name for each line, and one or two calls of the keeper.
+///
 /// # Errors
 ///
 /// `OtherBills`: the month has other bills, which stay. `KeeperFault`: the keeper failed; the month may have been

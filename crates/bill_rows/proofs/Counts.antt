@@ -1,31 +1,28 @@
 -- How often what passes a test stands in a list, and lists that are told by it.
-use Rattle.std.proofs.Common.{◌≡◌, ◌⊎◌, inl, inr, ℕ, ◌+◌, ◌<◌, ◌≤◌, List, [], ◌∷◌, ◌++◌, length, map, refl, ap, sym, ◌∙◌, subst, Bool, true, false, not, ◌&&◌, ◌||◌, cond, Ordering, arith, eqb}
-use Rattle.std.specs.Prelude.{filter, count_by, sum_by, IsTrue}
+use Rattle.std.proofs.Common.{◌≡◌, ℕ, ◌+◌, List, [], ◌∷◌, map, refl, ap, sym, ◌∙◌, Bool, true, false, ◌&&◌, ◌||◌, cond, Ordering, arith}
+use Rattle.std.specs.Prelude.{filter, count_by}
 use Rattle.std.specs.declared.cmp.Ordering.TheVariants.{Less, Equal, Greater}
-use Rattle.std.specs.Ordering.{match_ordering, is_eq, is_lt, ordering_reverse}
+use Rattle.std.specs.Ordering.{match_ordering, is_eq}
 use Rattle.std.specs.List.{AllByRecursion, list_any}
 use Rattle.std.proofs.lemmas.List.Sums.{sum_by-cons}
-use Rattle.std.proofs.lemmas.Bool.{cases_Bool}
 use Rattle.sqlite_value.specs.Order.{Row, value_cmp}
 use Rattle.sqlite.specs.Tree.{put_row, rowid}
 use Rattle.sqlite_rules.specs.Edit.{is_taken}
-use Rattle.office_base.specs.Maps.{bytes_cmp}
-use Rattle.bill_book.specs.declared.bill.Bill.{Bill}
-use Rattle.bill_rows.specs.Books.{with_bill, in_order}
 
-abbrev pub one : Bool → ℕ
-one b = cond b 1 0
+-- 1 for a test that was passed
+abbrev pub as_count : Bool → ℕ
+as_count b = cond b 1 0
 
-pub count-cons : {X : Type 0} (p : X → Bool) (x : X) (xs : List X) → count_by p (x ∷ xs) ≡ one (p x) + count_by p xs
-count-cons p x xs = sum_by-cons (λ y. one (p y)) x xs
+pub count-cons : {X : Type 0} (p : X → Bool) (x : X) (xs : List X) → count_by p (x ∷ xs) ≡ as_count (p x) + count_by p xs
+count-cons p x xs = sum_by-cons (λ y. as_count (p y)) x xs
 
 pub count-map : {X Y : Type 0} (p : Y → Bool) (f : X → Y) (xs : List X) → count_by p (map f xs) ≡ count_by (λ x. p (f x)) xs
 count-map p f [] = refl
-count-map p f (x ∷ xs) = count-cons p (f x) (map f xs) ∙ (ap (λ n. one (p (f x)) + n) (count-map p f xs) ∙ sym (count-cons (λ y. p (f y)) x xs))
+count-map p f (x ∷ xs) = count-cons p (f x) (map f xs) ∙ (ap (λ n. as_count (p (f x)) + n) (count-map p f xs) ∙ sym (count-cons (λ y. p (f y)) x xs))
 
 count-filter_at : {X : Type 0} (p q : X → Bool) (x : X) (xs : List X) (b : Bool) → q x ≡ b → count_by p (filter q xs) ≡ count_by (λ y. q y && p y) xs
-    → count_by p (cond b (x ∷ filter q xs) (filter q xs)) ≡ one (b && p x) + count_by (λ y. q y && p y) xs
-count-filter_at p q x xs true is h = count-cons p x (filter q xs) ∙ ap (λ n. one (p x) + n) h
+    → count_by p (cond b (x ∷ filter q xs) (filter q xs)) ≡ as_count (b && p x) + count_by (λ y. q y && p y) xs
+count-filter_at p q x xs true is h = count-cons p x (filter q xs) ∙ ap (λ n. as_count (p x) + n) h
 count-filter_at p q x xs false is h = h ∙ omega arith
 
 pub count-filter : {X : Type 0} (p q : X → Bool) (xs : List X) → count_by p (filter q xs) ≡ count_by (λ x. q x && p x) xs
@@ -41,13 +38,13 @@ either_false false b h = (refl, h)
 
 module _ (new : Row) where
   put_count_at : (p : Row → Bool) (o : Ordering) (r : Row) (rs rest : List Row) → value_cmp (rowid r) (rowid new) ≡ o → is_eq o ≡ false
-      → count_by p rest ≡ one (p new) + count_by p rs
-      → count_by p (match_ordering o (r ∷ rest) (new ∷ rs) (new ∷ r ∷ rs)) ≡ one (p new) + count_by p (r ∷ rs)
+      → count_by p rest ≡ as_count (p new) + count_by p rs
+      → count_by p (match_ordering o (r ∷ rest) (new ∷ rs) (new ∷ r ∷ rs)) ≡ as_count (p new) + count_by p (r ∷ rs)
   put_count_at p Less r rs rest is apart h = count-cons p r rest ∙ omega (arith, h, count-cons p r rs)
   put_count_at p Equal r rs rest is apart h = absurd cc
   put_count_at p Greater r rs rest is apart h = count-cons p new (r ∷ rs)
 
-  pub put_count : (p : Row → Bool) (rows : List Row) → is_taken rows new ≡ false → count_by p (put_row new rows) ≡ one (p new) + count_by p rows
+  pub put_count : (p : Row → Bool) (rows : List Row) → is_taken rows new ≡ false → count_by p (put_row new rows) ≡ as_count (p new) + count_by p rows
   put_count p [] fresh = count-cons p new []
   put_count p (r ∷ rs) fresh =
       let parts = either_false (is_eq (value_cmp (rowid r) (rowid new))) (is_taken rs new) fresh in

@@ -1,10 +1,10 @@
 -- Bills in byte order, and lists that hold the same.
-use Rattle.std.proofs.Common.{◌≡◌, ◌⊎◌, inl, inr, ℕ, ◌+◌, ◌<◌, ◌≤◌, List, [], ◌∷◌, length, map, refl, ap, sym, ◌∙◌, subst, Bool, true, false, not, ◌&&◌, ◌||◌, cond, Ordering, arith, eqb}
+use Rattle.std.proofs.Common.{◌≡◌, ◌⊎◌, inl, inr, ℕ, ◌+◌, ◌<◌, List, [], ◌∷◌, refl, ap, sym, ◌∙◌, subst, Bool, true, false, ◌&&◌, cond, Ordering, arith, eqb}
 use Rattle.std.specs.Prelude.{count_by, IsTrue}
 use Rattle.std.specs.Str.{bytes_eq}
 use Rattle.std.specs.declared.cmp.Ordering.TheVariants.{Less, Equal, Greater}
 use Rattle.std.specs.Ordering.{is_eq, is_lt, ordering_reverse}
-use Rattle.std.specs.List.{AllByRecursion, list_any}
+use Rattle.std.specs.List.{AllByRecursion}
 use Rattle.std.proofs.lemmas.Bool.{cases_Bool, and_parts, eqb-true, eq-eqb}
 use Rattle.std.proofs.lemmas.Cmp.{tied_itself, nat_list_cmp_total}
 use Rattle.std.proofs.lemmas.Slice.Eq.{bytes_eq-Decides}
@@ -13,7 +13,7 @@ use Rattle.office_base.specs.Maps.{bytes_cmp}
 use Rattle.bill_book.specs.declared.bill.Bill.{Bill}
 use Rattle.bill_book.specs.Bills.{RiseByBucket}
 use Rattle.bill_rows.specs.Books.{with_bill, in_order}
-use Rattle.bill_rows.proofs.Counts.{one, count-cons}
+use Rattle.bill_rows.proofs.Counts.{as_count, count-cons}
 
 -- ---- bills as they stand in order
 
@@ -86,18 +86,18 @@ order_sorted (b ∷ bs) = with_sorted b (in_order bs) (order_sorted bs)
 
 -- ---- the order keeps what is there
 
-with_count_at : (p : Bill → Bool) (bill other : Bill) (others : List Bill) (b : Bool) → count_by p (with_bill bill others) ≡ one (p bill) + count_by p others
-    → count_by p (cond b (other ∷ with_bill bill others) (bill ∷ other ∷ others)) ≡ one (p bill) + count_by p (other ∷ others)
+with_count_at : (p : Bill → Bool) (bill other : Bill) (others : List Bill) (b : Bool) → count_by p (with_bill bill others) ≡ as_count (p bill) + count_by p others
+    → count_by p (cond b (other ∷ with_bill bill others) (bill ∷ other ∷ others)) ≡ as_count (p bill) + count_by p (other ∷ others)
 with_count_at p bill other others true h = count-cons p other (with_bill bill others) ∙ omega (arith, h, count-cons p other others)
 with_count_at p bill other others false h = count-cons p bill (other ∷ others)
 
-with_count : (p : Bill → Bool) (bill : Bill) (bills : List Bill) → count_by p (with_bill bill bills) ≡ one (p bill) + count_by p bills
+with_count : (p : Bill → Bool) (bill : Bill) (bills : List Bill) → count_by p (with_bill bill bills) ≡ as_count (p bill) + count_by p bills
 with_count p bill [] = count-cons p bill []
 with_count p bill (o ∷ os) = with_count_at p bill o os (is_lt (bytes_cmp o.bucket bill.bucket)) (with_count p bill os)
 
 pub order_count : (p : Bill → Bool) (bills : List Bill) → count_by p (in_order bills) ≡ count_by p bills
 order_count p [] = refl
-order_count p (b ∷ bs) = with_count p b (in_order bs) ∙ (ap (λ n. one (p b) + n) (order_count p bs) ∙ sym (count-cons p b bs))
+order_count p (b ∷ bs) = with_count p b (in_order bs) ∙ (ap (λ n. as_count (p b) + n) (order_count p bs) ∙ sym (count-cons p b bs))
 
 -- ---- one list
 
@@ -123,7 +123,7 @@ same_bill a b h =
     λ i. record { bucket = bucket i; total = total i; lines = lines i }
 
 -- a bill that is counted is there
-there_at : (P : Bill → Type 0) (p : Bill → Bool) (b : Bill) (bs : List Bill) (t : Bool) → p b ≡ t → 0 < one t + count_by p bs → P b → AllByRecursion P bs
+there_at : (P : Bill → Type 0) (p : Bill → Bool) (b : Bill) (bs : List Bill) (t : Bool) → p b ≡ t → 0 < as_count t + count_by p bs → P b → AllByRecursion P bs
     → (0 < count_by p bs → AllByRecursion P bs → (x : Bill) × (p x ≡ true) × P x) → (x : Bill) × (p x ≡ true) × P x
 there_at P p b bs true is some here all more = (b, is, here)
 there_at P p b bs false is some here all more = more (omega (arith, some)) all
@@ -148,7 +148,7 @@ module _ (x : Bill) (xs : List Bill) (y : Bill) (ys : List Bill) where
       let is_x : x ≡ found.0 = same_bill x found.0 found.1 in
       at_found found.0 is_x found.2 where
         some_of : count_by (is_same x) (x ∷ xs) ≡ count_by (is_same x) (y ∷ ys) → 0 < count_by (is_same x) (y ∷ ys)
-        some_of e = let first : one (is_same x x) ≡ 1 = ap one (same_itself x) in omega (arith, e, count-cons (is_same x) x xs, first)
+        some_of e = let first : as_count (is_same x x) ≡ 1 = ap as_count (same_itself x) in omega (arith, e, count-cons (is_same x) x xs, first)
 
         weaker : (l : List Bill) → AllByRecursion (IsAbove y) l → AllByRecursion (λ b. (b ≡ y) ⊎ IsAbove y b) l
         weaker [] all = tt
@@ -156,7 +156,7 @@ module _ (x : Bill) (xs : List Bill) (y : Bill) (ys : List Bill) where
 
         -- y is among the others too, and none of them is before x
         y_there : 0 < count_by (is_same y) (x ∷ xs)
-        y_there = let e = alike (is_same y) in let first : one (is_same y y) ≡ 1 = ap one (same_itself y) in omega (arith, e, count-cons (is_same y) y ys, first)
+        y_there = let e = alike (is_same y) in let first : as_count (is_same y y) ≡ 1 = ap as_count (same_itself y) in omega (arith, e, count-cons (is_same y) y ys, first)
 
         not_before : is_lt (bytes_cmp y.bucket x.bucket) ≡ false
         not_before =
@@ -176,7 +176,7 @@ one_order [] (y ∷ ys) sorted rise alike = absurd (let e = alike (λ _. true) i
 one_order (x ∷ xs) [] sorted rise alike = absurd (let e = alike (λ _. true) in omega (arith, e, count-cons (λ (_ : Bill). true) x xs))
 one_order (x ∷ xs) (y ∷ ys) sorted rise alike =
     let first = same_first x xs y ys sorted.0 rise.0 alike in
-    let rest = one_order xs ys sorted.1 rise.1 (λ p. let e = alike p in let f : one (p x) ≡ one (p y) = ap (λ (b : Bill). one (p b)) first in omega (arith, e, f, count-cons p x xs, count-cons p y ys)) in
+    let rest = one_order xs ys sorted.1 rise.1 (λ p. let e = alike p in let f : as_count (p x) ≡ as_count (p y) = ap (λ (b : Bill). as_count (p b)) first in omega (arith, e, f, count-cons p x xs, count-cons p y ys)) in
     λ i. first i ∷ rest i
 
 -- bills that hold what a rising list holds are in order that list

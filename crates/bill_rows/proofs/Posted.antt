@@ -1,10 +1,10 @@
 -- A month that is put into the rows is added to the book that they mean.
-use Rattle.std.proofs.Common.{◌≡◌, ◌⊎◌, inl, inr, ℕ, ℤ, pos, ◌+◌, ◌<◌, ◌≤◌, ◌^◌, List, [], ◌∷◌, ◌++◌, length, map, refl, ap, sym, ◌∙◌, subst, Bool, true, false, not, ◌&&◌, ◌||◌, cond, Option, Some, None, Ordering, arith, eqb, ltb, zero-add}
-use Rattle.std.specs.Prelude.{filter, count_by, IsTrue, decimal, nat_lt}
+use Rattle.std.proofs.Common.{◌≡◌, inl, inr, ℕ, ℤ, pos, ◌+◌, ◌<◌, ◌^◌, List, [], ◌∷◌, map, refl, ap, sym, ◌∙◌, subst, Bool, true, false, not, ◌&&◌, ◌||◌, Some, None, arith, zero-add}
+use Rattle.std.specs.Prelude.{filter, count_by, decimal, nat_lt}
 use Rattle.std.specs.Str.{bytes_eq}
 use Rattle.std.specs.Str.Parse.{digits_value}
 use Rattle.std.specs.List.{AllByRecursion, list_any}
-use Rattle.std.proofs.lemmas.Bool.{cases_Bool, cases_eq, cases_lt, and_parts, ltb-true, lt-ltb}
+use Rattle.std.proofs.lemmas.Bool.{cases_Bool, ltb-true, lt-ltb}
 use Rattle.std.proofs.lemmas.Slice.Eq.{bytes_eq-Decides}
 use Rattle.std.proofs.lemmas.Fmt.{decimal_is_IsNumeral_wide}
 use Rattle.office_base.specs.Names.{IsBucketName, is_bucket_name}
@@ -12,21 +12,19 @@ use Rattle.moments.specs.Months.{months}
 use Rattle.sqlite_value.specs.declared.value.Value.{Value}
 use Rattle.sqlite_value.specs.declared.value.Value.TheVariants.{Null, Int, Real, Text, Blob}
 use Rattle.sqlite_value.specs.declared.keys.Collation.TheVariants.{Binary}
-use Rattle.sqlite_value.specs.Order.{Row, column, value_cmp, class}
+use Rattle.sqlite_value.specs.Order.{Row, column}
 use Rattle.sqlite_value.proofs.OrderLemmas.{value_cmp-apart}
 use Rattle.sqlite_sql.specs.Ops.{binary}
 use Rattle.sqlite_schema.specs.Rules.{equal}
 use Rattle.sqlite.specs.Edit.{next_rowid}
-use Rattle.sqlite.specs.Tree.{put_row}
-use Rattle.sqlite_rules.specs.Edit.{is_taken}
 use Rattle.bill_book.specs.declared.bill.Bill.{Bill}
 use Rattle.bill_book.specs.Bills.{RiseByBucket}
-use Rattle.bill_book.specs.Books.{Book, AddsMonth}
+use Rattle.bill_book.specs.Books.{AddsMonth}
 use Rattle.bill_rows.specs.Months.{month_text}
 use Rattle.bill_rows.specs.Rows.{stored, in_month, is_at}
 use Rattle.bill_rows.specs.Books.{text_in, bill_in, has_header, is_bill_of, bills_in, book_of, AreHeaded}
 use Rattle.bill_rows.specs.Puts.{Puts, PutsRow, PutsBill, PutsBills, PutsMonth}
-use Rattle.bill_rows.proofs.Counts.{one, count-cons, count-map, count-filter, put_count, put_filter, put_any, put_all}
+use Rattle.bill_rows.proofs.Counts.{as_count, count-cons, count-map, count-filter, put_count, put_filter, put_any, put_all}
 use Rattle.bill_rows.proofs.Order.{in_order_is}
 use Rattle.bill_rows.proofs.Texts.{equal-Text, one_month, in_month_stored, is_at_stored}
 
@@ -91,17 +89,17 @@ header_put month total count before after puts =
 -- ---- the bills of the month
 
 -- how many of the month's bills pass a test
-counted : List ℕ → (Bill → Bool) → List Row → ℕ
+unfoldable pub counted : List ℕ → (Bill → Bool) → List Row → ℕ
 counted month p rows = count_by p (map bill_in (filter (is_bill_of month) rows))
 
-counted_is : (month : List ℕ) (p : Bill → Bool) (rows : List Row) → counted month p rows ≡ count_by (λ r. is_bill_of month r && p (bill_in r)) rows
+pub counted_is : (month : List ℕ) (p : Bill → Bool) (rows : List Row) → counted month p rows ≡ count_by (λ r. is_bill_of month r && p (bill_in r)) rows
 unfolding counted
 counted_is month p rows = count-map p bill_in (filter (is_bill_of month) rows) ∙ count-filter (λ r. p (bill_in r)) (is_bill_of month) rows
 
-counted_put : (month : List ℕ) (p : Bill → Bool) (new : Row) (before after : List Row) → Puts new before after → counted month p after ≡ one (is_bill_of month new && p (bill_in new)) + counted month p before
+counted_put : (month : List ℕ) (p : Bill → Bool) (new : Row) (before after : List Row) → Puts new before after → counted month p after ≡ as_count (is_bill_of month new && p (bill_in new)) + counted month p before
 counted_put month p new before after puts =
     let q : Row → Bool = λ r. is_bill_of month r && p (bill_in r) in
-    counted_is month p after ∙ (ap (count_by q) puts.put ∙ (put_count new q before puts.fresh ∙ ap (λ n. one (q new) + n) (sym (counted_is month p before))))
+    counted_is month p after ∙ (ap (count_by q) puts.put ∙ (put_count new q before puts.fresh ∙ ap (λ n. as_count (q new) + n) (sym (counted_is month p before))))
 
 pub named : (bucket : List ℕ) → IsBucketName bucket → bytes_eq bucket [] ≡ false
 unfolding is_bucket_name
@@ -118,14 +116,14 @@ is_bill_row : (id : ℤ) (month bucket total : List ℕ) (lines : ℤ) → IsBuc
 is_bill_row id month bucket total lines name =
     rw (in_month_stored month id month bucket total lines, is_at_stored month id month bucket total lines, bytes_itself month, named bucket name) refl
 
-bill_counted : (month : List ℕ) (p : Bill → Bool) (b : Bill) (before after : List Row) → b.total < 2 ^ 128 → PutsBill month b before after → counted month p after ≡ one (p b) + counted month p before
+bill_counted : (month : List ℕ) (p : Bill → Bool) (b : Bill) (before after : List Row) → b.total < 2 ^ 128 → PutsBill month b before after → counted month p after ≡ as_count (p b) + counted month p before
 bill_counted month p b before after small puts =
     let new = stored (next_rowid before) month b.bucket (decimal b.total) (pos b.lines) in
     let q : is_bill_of month new ≡ true = is_bill_row (next_rowid before) month b.bucket (decimal b.total) (pos b.lines) puts.0 in
     let same : bill_in new ≡ b = bill_is (next_rowid before) month b small in
-    counted_put month p new before after puts.1 ∙ ap (λ n. n + counted month p before) (ap (λ (t : Bool). one (t && p (bill_in new))) q ∙ ap (λ (x : Bill). one (p x)) same)
+    counted_put month p new before after puts.1 ∙ ap (λ n. n + counted month p before) (ap (λ (t : Bool). as_count (t && p (bill_in new))) q ∙ ap (λ (x : Bill). as_count (p x)) same)
 
-bills_counted : (month : List ℕ) (p : Bill → Bool) (bills : List Bill) (before after : List Row) → AllByRecursion (λ (b : Bill). b.total < 2 ^ 128) bills → PutsBills month bills before after
+pub bills_counted : (month : List ℕ) (p : Bill → Bool) (bills : List Bill) (before after : List Row) → AllByRecursion (λ (b : Bill). b.total < 2 ^ 128) bills → PutsBills month bills before after
     → counted month p after ≡ count_by p bills + counted month p before
 bills_counted month p [] before after small puts = ap (counted month p) puts ∙ omega arith
 bills_counted month p (b ∷ bs) before after small puts =
@@ -133,12 +131,12 @@ bills_counted month p (b ∷ bs) before after small puts =
     let first = bill_counted month p b before puts.0 small.0 puts.1 in
     omega (arith, rest, first, count-cons p b bs)
 
-header_counted : (month total : List ℕ) (count : ℕ) (p : Bill → Bool) (before after : List Row) → PutsRow month [] total (pos count) before after → counted month p after ≡ counted month p before
+pub header_counted : (month total : List ℕ) (count : ℕ) (p : Bill → Bool) (before after : List Row) → PutsRow month [] total (pos count) before after → counted month p after ≡ counted month p before
 header_counted month total count p before after puts =
     let new = stored (next_rowid before) month [] total (pos count) in
     let misses : is_bill_of month new ≡ false =
     rw (in_month_stored month (next_rowid before) month [] total (pos count), is_at_stored month (next_rowid before) month [] total (pos count), bytes_itself month) refl in
-    counted_put month p new before after puts ∙ (ap (λ (t : Bool). one (t && p (bill_in new)) + counted month p before) misses ∙ zero-add (counted month p before))
+    counted_put month p new before after puts ∙ (ap (λ (t : Bool). as_count (t && p (bill_in new)) + counted month p before) misses ∙ zero-add (counted month p before))
 
 -- a column that equals a text is that text
 text_of : (month : List ℕ) (v : Value) → equal Binary v (Text month) ≡ true → text_in v ≡ month
@@ -156,7 +154,7 @@ none_there_at month r rs p all true is headed none h =
     absurd (let same = text_of month (column r 1) is in let e : has_header month all ≡ true = ap (λ (t : List ℕ). has_header t all) (sym same) ∙ headed in cc)
 none_there_at month r rs p all false is headed none h =
     let misses : is_bill_of month r ≡ false = ap (λ (t : Bool). t && not (is_at month [] r)) is in
-    counted_is month p (r ∷ rs) ∙ (count-cons (λ x. is_bill_of month x && p (bill_in x)) r rs ∙ (ap (λ (t : Bool). one (t && p (bill_in r)) + count_by (λ x. is_bill_of month x && p (bill_in x)) rs) misses ∙ (zero-add (count_by (λ x. is_bill_of month x && p (bill_in x)) rs) ∙ (sym (counted_is month p rs) ∙ h))))
+    counted_is month p (r ∷ rs) ∙ (count-cons (λ x. is_bill_of month x && p (bill_in x)) r rs ∙ (ap (λ (t : Bool). as_count (t && p (bill_in r)) + count_by (λ x. is_bill_of month x && p (bill_in x)) rs) misses ∙ (zero-add (count_by (λ x. is_bill_of month x && p (bill_in x)) rs) ∙ (sym (counted_is month p rs) ∙ h))))
 
 none_there : (month : List ℕ) (p : Bill → Bool) (all rows : List Row) → AllByRecursion (λ (row : Row). has_header (text_in (column row 1)) all ≡ true) rows → has_header month all ≡ false → counted month p rows ≡ 0
 unfolding counted

@@ -1,15 +1,13 @@
 -- What is read of a month is what the book has of it.
-use Rattle.std.proofs.Common.{◌≡◌, ◌⊎◌, inl, inr, ℕ, ◌+◌, ◌<◌, ◌≤◌, List, [], ◌∷◌, length, map, refl, ap, sym, ◌∙◌, subst, Bool, true, false, not, ◌&&◌, ◌||◌, cond, Ordering, arith, zero-add}
-use Rattle.std.specs.Prelude.{filter, count_by, IsTrue, IsPermutation}
-use Rattle.std.specs.Str.{bytes_eq}
+use Rattle.std.proofs.Common.{◌≡◌, ℕ, ◌+◌, ◌<◌, List, [], ◌∷◌, map, refl, ap, sym, ◌∙◌, Bool, true, false, not, ◌&&◌, ◌||◌, Ordering, arith, zero-add}
+use Rattle.std.specs.Prelude.{filter, count_by, IsTrue}
 use Rattle.std.specs.declared.cmp.Ordering.TheVariants.{Less, Equal, Greater}
 use Rattle.std.specs.Ordering.{is_lt}
 use Rattle.std.specs.List.{AllByRecursion, list_any}
-use Rattle.std.proofs.lemmas.Bool.{cases_Bool, and_parts}
+use Rattle.std.proofs.lemmas.Bool.{and_parts}
 use Rattle.std.proofs.lemmas.Cmp.{nat_list_cmp_total}
 use Rattle.std.proofs.lemmas.List.Sorted.{sum_by-IsPermutation}
 use Rattle.office_base.specs.Maps.{bytes_cmp}
-use Rattle.office_base.specs.Names.{IsBucketName}
 use Rattle.sqlite_value.specs.declared.value.Value.TheVariants.{Text}
 use Rattle.sqlite_value.specs.declared.keys.Collation.TheVariants.{Binary}
 use Rattle.sqlite_value.specs.Keys.{first_key}
@@ -20,7 +18,7 @@ use Rattle.bill_book.specs.Bills.{RiseByBucket}
 use Rattle.bill_rows.specs.Rows.{in_month, is_at, keyed, shown, IsMonth}
 use Rattle.bill_rows.specs.Books.{text_in, bill_in, has_header, is_bill_of, bills_in}
 use Rattle.bill_rows.specs.Answers.{answer_bill, NamesBucket, rises, AreRead}
-use Rattle.bill_rows.proofs.Counts.{one, count-cons, count-map, count-filter}
+use Rattle.bill_rows.proofs.Counts.{as_count, count-cons, count-map, count-filter}
 use Rattle.bill_rows.proofs.Order.{in_order_is}
 use Rattle.bill_rows.proofs.Texts.{equal-Text}
 use Rattle.bill_rows.proofs.Posted.{named}
@@ -50,9 +48,9 @@ rise_all (bill ∷ next ∷ more) h =
 
 pub count_same : {X : Type 0} (p q : X → Bool) → ((x : X) → p x ≡ q x) → (xs : List X) → count_by p xs ≡ count_by q xs
 count_same p q same [] = refl
-count_same p q same (x ∷ xs) = count-cons p x xs ∙ ((λ i. one (same x i) + count_same p q same xs i) ∙ sym (count-cons q x xs))
+count_same p q same (x ∷ xs) = count-cons p x xs ∙ ((λ i. as_count (same x i) + count_same p q same xs i) ∙ sym (count-cons q x xs))
 
-none_any_at : (p : Row → Bool) (r : Row) (rs : List Row) (b : Bool) → p r ≡ b → one b + count_by p rs ≡ 0 → (count_by p rs ≡ 0 → list_any p rs ≡ false) → list_any p (r ∷ rs) ≡ false
+none_any_at : (p : Row → Bool) (r : Row) (rs : List Row) (b : Bool) → p r ≡ b → as_count b + count_by p rs ≡ 0 → (count_by p rs ≡ 0 → list_any p rs ≡ false) → list_any p (r ∷ rs) ≡ false
 none_any_at p r rs true is none more = absurd (omega (arith, none))
 none_any_at p r rs false is none more = ap (λ (b : Bool). b || list_any p rs) is ∙ more (omega (arith, none))
 
@@ -60,7 +58,7 @@ none_any : (p : Row → Bool) (rows : List Row) → count_by p rows ≡ 0 → li
 none_any p [] none = refl
 none_any p (r ∷ rs) none = none_any_at p r rs (p r) refl (sym (count-cons p r rs) ∙ none) (none_any p rs)
 
-some_any_at : (p : Row → Bool) (r : Row) (rs : List Row) (b : Bool) → p r ≡ b → 0 < one b + count_by p rs → (0 < count_by p rs → list_any p rs ≡ true) → list_any p (r ∷ rs) ≡ true
+some_any_at : (p : Row → Bool) (r : Row) (rs : List Row) (b : Bool) → p r ≡ b → 0 < as_count b + count_by p rs → (0 < count_by p rs → list_any p rs ≡ true) → list_any p (r ∷ rs) ≡ true
 some_any_at p r rs true is some more = ap (λ (b : Bool). b || list_any p rs) is
 some_any_at p r rs false is some more = ap (λ (b : Bool). b || list_any p rs) is ∙ more (omega (arith, some))
 
@@ -72,7 +70,7 @@ some_any p (r ∷ rs) some = some_any_at p r rs (p r) refl (omega (arith, some, 
 pub answer_count : (month : List ℕ) (rows answer : List Row) (p : Row → Bool) → IsMonth month rows answer → count_by p answer ≡ count_by (λ r. in_month month r && p (shown r)) rows
 answer_count month rows answer p it =
     let q : Row × Row → Bool = λ o. p o.1 in
-    let moved : count_by q it.ordered ≡ count_by q (map keyed (filter (in_month month) rows)) = sum_by-IsPermutation (λ o. one (q o)) (map keyed (filter (in_month month) rows)) it.ordered it.same in
+    let moved : count_by q it.ordered ≡ count_by q (map keyed (filter (in_month month) rows)) = sum_by-IsPermutation (λ o. as_count (q o)) (map keyed (filter (in_month month) rows)) it.ordered it.same in
     ap (count_by p) it.answer_is ∙ (count-map p (λ (o : Row × Row). o.1) it.ordered ∙ (moved ∙ (count-map q keyed (filter (in_month month) rows) ∙ count-filter (λ r. p (shown r)) (in_month month) rows)))
 
 -- the bucket of a row that was read is empty
@@ -106,7 +104,7 @@ module _ (month : List ℕ) (rows answer : List Row) (it : IsMonth month rows an
 
     pub there_read : has_header month rows ≡ true
     there_read =
-        let counted : count_by no_bucket answer ≡ one true + count_by no_bucket read.rest = ap (count_by no_bucket) read.are ∙ (count-cons no_bucket read.header read.rest ∙ ap (λ (b : Bool). one b + count_by no_bucket read.rest) header_empty) in
+        let counted : count_by no_bucket answer ≡ as_count true + count_by no_bucket read.rest = ap (count_by no_bucket) read.are ∙ (count-cons no_bucket read.header read.rest ∙ ap (λ (b : Bool). as_count b + count_by no_bucket read.rest) header_empty) in
         let same = answer_count month rows answer no_bucket it in
         let alike = count_same (is_at month []) (λ r. in_month month r && no_bucket (shown r)) (λ r. at_is month r ∙ tidy (in_month month r) (no_bucket (shown r))) rows in
         some_any (is_at month []) rows (omega (arith, counted, same, alike)) where
@@ -120,7 +118,7 @@ module _ (month : List ℕ) (rows answer : List Row) (it : IsMonth month rows an
     rest_count p [] all = refl
     rest_count p (r ∷ rs) all =
         let e : (not (no_bucket r) && p (answer_bill r)) ≡ p (answer_bill r) = ap (λ (b : Bool). not b && p (answer_bill r)) (row_named r all.0) in
-        count-cons (λ x. not (no_bucket x) && p (answer_bill x)) r rs ∙ ((λ i. one (e i) + rest_count p rs all.1 i) ∙ sym (count-cons p (answer_bill r) (map answer_bill rs)))
+        count-cons (λ x. not (no_bucket x) && p (answer_bill x)) r rs ∙ ((λ i. as_count (e i) + rest_count p rs all.1 i) ∙ sym (count-cons p (answer_bill r) (map answer_bill rs)))
 
     bills_count : (p : Bill → Bool) → count_by p (map bill_in (filter (is_bill_of month) rows)) ≡ count_by p bills
     bills_count p =
@@ -130,7 +128,7 @@ module _ (month : List ℕ) (rows answer : List Row) (it : IsMonth month rows an
         let alike : count_by (λ r. is_bill_of month r && p (bill_in r)) rows ≡ count_by (λ r. in_month month r && test (shown r)) rows =
         count_same (λ r. is_bill_of month r && p (bill_in r)) (λ r. in_month month r && test (shown r)) (λ r. ap (λ (b : Bool). (in_month month r && not b) && p (bill_in r)) (at_is month r) ∙ tidy (in_month month r) (no_bucket (shown r)) (p (bill_in r))) rows in
         let read_count = answer_count month rows answer test it in
-        let front : count_by test answer ≡ count_by test read.rest = ap (count_by test) read.are ∙ (count-cons test read.header read.rest ∙ (ap (λ (b : Bool). one (not b && p (answer_bill read.header)) + count_by test read.rest) header_empty ∙ zero-add (count_by test read.rest))) in
+        let front : count_by test answer ≡ count_by test read.rest = ap (count_by test) read.are ∙ (count-cons test read.header read.rest ∙ (ap (λ (b : Bool). as_count (not b && p (answer_bill read.header)) + count_by test read.rest) header_empty ∙ zero-add (count_by test read.rest))) in
         let rest = rest_count p read.rest read.named in
         own ∙ (alike ∙ (sym read_count ∙ (front ∙ (rest ∙ ap (count_by p) (sym read.bills_are))))) where
           tidy : (a b c : Bool) → ((a && not (a && (b && true))) && c) ≡ (a && (not b && c))

@@ -7,7 +7,6 @@ use Rattle.office_base.specs.Names.{IsBucketName}
 use Rattle.sqlite_value.specs.declared.value.Value.TheVariants.{Text}
 use Rattle.sqlite_value.specs.Order.{Row, column}
 use Rattle.bill_book.specs.declared.bill.Bill.{Bill}
-use Rattle.bill_book.specs.Bills.{RiseByBucket}
 use Rattle.bill_rows.specs.Books.{text_in, bill_of}
 
 -- the bill in a row that was read: the bucket, the total, the lines

@@ -24,8 +24,8 @@ present name kind = record {
 
 -- bills(month TEXT NOT NULL, bucket TEXT NOT NULL, total TEXT NOT NULL, lines INTEGER NOT NULL, PRIMARY KEY(month,
 -- bucket)), STRICT
-abbrev pub bills : Table
-bills = record {
+abbrev pub bills_table : Table
+bills_table = record {
   name = codes "bills";
   tree = 0;
   columns = present (codes "month") Text ∷ present (codes "bucket") Text ∷ present (codes "total") Text
@@ -44,7 +44,7 @@ bills = record {
 -- the table, and the index that its key has
 abbrev pub bills_schema : Schema
 bills_schema = record {
-  tables = bills ∷ [];
+  tables = bills_table ∷ [];
   indexes = record {
     name = codes "sqlite_autoindex_bills_1";
     tree = 1;
@@ -69,8 +69,8 @@ abbrev pub bill_text : List ℕ
 bill_text = codes "INSERT INTO bills(month, bucket, total, lines) VALUES (?1, ?2, ?3, ?4)"
 
 -- reads a month
-abbrev pub month_text : List ℕ
-month_text = codes "SELECT bucket, total, lines FROM bills WHERE month = ?1 ORDER BY bucket"
+abbrev pub select_text : List ℕ
+select_text = codes "SELECT bucket, total, lines FROM bills WHERE month = ?1 ORDER BY bucket"
 
 -- a row of the table as it is stored
 abbrev pub stored : ℤ → List ℕ → List ℕ → List ℕ → ℤ → Row

@@ -13,7 +13,7 @@ use Rattle.sqlite_value.specs.Order.{Row, column}
 use Rattle.bill_book.specs.Bills.{total_of}
 use Rattle.bill_rows.specs.Months.{month_text}
 use Rattle.bill_rows.specs.Rows.{is_at}
-use Rattle.bill_rows.specs.Books.{text_in, bill_in, bills_in, has_header, AreHeaded}
+use Rattle.bill_rows.specs.Books.{text_in, bill_in, bills_in, AreHeaded}
 
 -- the text is that of a month whose number is below this one
 unfoldable pub is_month_below : ℕ → List ℕ → Bool

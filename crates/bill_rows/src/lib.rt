@@ -1,7 +1,7 @@
 //! What the rows of a table of bills mean.
 #![tactic(auto)]
 
-ghost use Rattle.std.specs.Prelude.{◌≡◌, ◌<◌, ◌^◌, ℕ, true, false, List, [], length, decimal};
+ghost use Rattle.std.specs.Prelude.{◌≡◌, ◌<◌, ◌^◌, ℕ, pos, true, false, List, [], length, decimal, filter};
 ghost use Rattle.std.specs.List.{AllByRecursion};
 ghost use Rattle.sqlite.specs.Order.{Row};
 ghost use Rattle.moments.specs.Months.{months};
@@ -10,9 +10,9 @@ ghost use Rattle.bill_book.specs.Bills.{RiseByBucket, total_of};
 ghost use Rattle.bill_book.specs.Books.{AddsMonth};
 ghost use Rattle.bill_rows.specs.Months.{month_text};
 ghost use Rattle.bill_rows.specs.Books.{AreHeaded, bills_in, book_of, has_header};
-ghost use Rattle.bill_rows.specs.Rows.{IsMonth};
+ghost use Rattle.bill_rows.specs.Rows.{IsMonth, in_month};
 ghost use Rattle.bill_rows.specs.Answers.{AreRead};
-ghost use Rattle.bill_rows.specs.Puts.{PutsMonth};
+ghost use Rattle.bill_rows.specs.Puts.{PutsMonth, PutsRow};
 ghost use Rattle.bill_rows.specs.WellMade.{IsWellMade};
 
 /// States that different months are written differently.
@@ -45,4 +45,15 @@ pub fn a_month_is_read()
         → AreRead answer bills → bills_in month rows ≡ bills }
     ensures absent { (month : List ℕ) (rows answer : List Row) → IsMonth month rows answer → answer ≡ []
         → has_header month rows ≡ false }
+{}
+
+/// States that a month of which one row is read once its header is put in had no row before, and that the bills put in
+/// for a month without rows are all that it has then, whatever the other rows of the table are.
+pub fn a_month_stands_alone()
+    ensures none { (month total : List ℕ) (count : ℕ) (before between answer : List Row)
+        → PutsRow month [] total (pos count) before between → IsMonth month between answer → length answer ≡ 1
+        → filter (in_month month) before ≡ [] }
+    ensures bills { (month total : List ℕ) (count : ℕ) (bills : List Bill) (before after : List Row)
+        → PutsMonth month total count bills true before after → filter (in_month month) before ≡ []
+        → RiseByBucket bills → AllByRecursion (λ (b : Bill). b.total < 2 ^ 128) bills → bills_in month after ≡ bills }
 {}
