@@ -111,7 +111,7 @@ fn is_row(row: &Row, bucket: &str, total: &str, lines: u32) -> Result<bool, RowF
     let own = text_at(row, 0)?;
     let digits = text_at(row, 1)?;
     let count = count_at(row, 2)?;
-    Ok(own == bucket && digits == total && count == lines)
+    Ok(own.as_str() == bucket && digits.as_str() == total && count == lines)
 }
 
 // Whether these are the rows of a month with a bill of 5 for aaa, and one of 7 for bbb.
