@@ -1,0 +1,4 @@
+pub mod Forecasts
+pub mod Laws
+pub mod Lines
+pub mod Telling
