@@ -1,8 +1,7 @@
 -- What the next act tells of what was still to be told.
-use Rattle.std.proofs.Common.{◌≡◌, ◌⊎◌, inl, inr, ℕ, ◌+◌, ◌≤◌, ◌<◌, List, [], ◌∷◌, refl, ap, sym, ◌∙◌, subst, true, length, arith}
-use Rattle.std.specs.Prelude.{Option, Some, None, Ok, Err}
+use Rattle.std.proofs.Common.{◌≡◌, inl, inr, ℕ, List, [], ◌∷◌, refl, ap, sym, ◌∙◌, subst, true, false, length, arith}
+use Rattle.std.specs.Prelude.{Option, Some, None, Ok}
 use Rattle.std.proofs.lemmas.Bool.{le-leb}
-use Rattle.std.proofs.lemmas.Option.{same_Some}
 use Rattle.office_base.specs.Maps.{at_name}
 use Rattle.due_core.specs.Buckets.{BucketRecord}
 use Rattle.due_core.specs.Choice.{choice}
@@ -11,6 +10,10 @@ use Rattle.plain_office.specs.Office.{Office, Account}
 use Rattle.plain_office.specs.Changes.{effect}
 use Rattle.plain_office.specs.Once.{step_with}
 use Rattle.plain_office.specs.Step.{is_accepted}
+use Rattle.office_types.specs.declared.command.Command.{Command}
+use Rattle.office_machine.specs.Standing.{accepted_after}
+use Rattle.office_machine.proofs.Offices.{nothing_of}
+use Rattle.office_machine.proofs.Repeats.{accepted_one}
 use Rattle.plain_office.specs.Sweep.{IsSwept}
 use Rattle.office_types.specs.declared.command.Command.TheVariants as command
 use Rattle.office_types.specs.declared.reply.Reply.{Reply}
@@ -19,7 +22,6 @@ use Rattle.office_types.specs.declared.refusal.Refusal.{Refusal}
 use Rattle.plain_office.proofs.Runs.{Answer, done, refused, no_reply}
 use Rattle.office_laws.proofs.Maps.{by_name, at_written}
 use Rattle.bucket_account.specs.Counting.{AccountRecord}
-use Rattle.bucket_account.specs.Standing.{StandsForAccount, most_commands}
 use Rattle.office_machine.specs.Once.{OfficeView, StandsFor, DoesOnce}
 use Rattle.office_machine.proofs.Accounts.{StandsForOption, stand_at}
 use Rattle.forecast.specs.Forecasts.{Outlook, replies_of}
@@ -132,3 +134,49 @@ is_done view outlook is none other told = by told.actions told.swept told.replie
   by : (actions : List Action) → IsSwept view.until actions told.account other.end → other.replies ≡ replies_of actions told.account → other.replies ≡ []
   by [] swept replies = replies
   by (a ∷ rest) swept replies = let wrong = sym nothing ∙ swept.0 in absurd cc
+
+-- ---- what the office in memory gave
+
+module _ (view : ForecastView) (is : IsUnderWay view) (asked : Command) (asks : asked ≡ command.Act view.bucket) (after : OfficeView) (result : Answer) (step : (p : Office) → StandsFor view.office p
+    → DoesOnce (step_with view.until None asked p) p after result) (accepted : after.records.accepted ≡ accepted_after result view.office.records.accepted) where
+  given : (outlook : Outlook) (told : Foretells view outlook) (answer : Answer) → result ≡ answer → DoesOnce (expected view outlook told) told.office after answer
+  given outlook told answer same =
+      subst (λ (r : Answer). DoesOnce (expected view outlook told) told.office after r) same
+      (subst (λ (c : Command). DoesOnce (step_with view.until None c told.office) told.office after result) asks (step told.office told.stands))
+
+  pub idle : (reply : Reply) → result ≡ done reply → is_accepted (done reply) ≡ false → (outlook : Outlook) → Foretells view outlook → (outlook.replies ≡ []) × Foretells (record view { office = after }) outlook
+  idle reply same idles outlook told = nothing_left view outlook told after (given outlook told (done NothingDue) (same ∙ ap (λ (r : Reply). done r) (nothing_of reply idles)))
+
+  pub idle_done : (reply : Reply) → result ≡ done reply → is_accepted (done reply) ≡ false → IsDone (record view { office = after })
+  idle_done reply same idles =
+      let nothing = idle reply same idles is.outlook is.foretells in is_done (record view { office = after }) is.outlook nothing.1 nothing.0
+
+  pub idle_on : (reply : Reply) → result ≡ done reply → is_accepted (done reply) ≡ false → IsUnderWay (record view { office = after })
+  idle_on reply same idles =
+      let nothing = same ∙ ap (λ (r : Reply). done r) (nothing_of reply idles) in
+      let room = is.room in
+      let count = accepted ∙ ap (λ (r : Answer). accepted_after r view.office.records.accepted) nothing in
+      record { outlook = is.outlook; foretells = (idle reply same idles is.outlook is.foretells).1; room = omega (arith, room, count) }
+
+  no_nothing : (reply : Reply) → is_accepted (done reply) ≡ true → reply ≡ NothingDue → ⊥
+  no_nothing reply accepts wrong = let never : is_accepted (done NothingDue) ≡ true = subst (λ (r : Reply). is_accepted (done r) ≡ true) wrong accepts in absurd cc
+
+  pub tells : (reply : Reply) → result ≡ done reply → is_accepted (done reply) ≡ true → (outlook : Outlook) (told : Foretells view outlook) → TellsOne view outlook told after reply
+  tells reply same accepts outlook told = one_told view outlook told after reply (no_nothing reply accepts) (given outlook told (done reply) same)
+
+  pub tells_on : (reply : Reply) → result ≡ done reply → is_accepted (done reply) ≡ true → IsUnderWay (record view { office = after })
+  tells_on reply same accepts =
+      let next = tells reply same accepts is.outlook is.foretells in
+      let room = is.room in
+      let count = accepted ∙ ap (λ (r : Answer). accepted_after r view.office.records.accepted) same ∙ accepted_one (done reply) view.office.records.accepted accepts in
+      let fewer = ap (λ (l : List Reply). length l) next.1 in
+      record { outlook = left view is.outlook is.foretells next.0; foretells = next.2; room = omega (arith, room, count, fewer) }
+
+  pub waits : (refusal : Refusal) → result ≡ refused refusal → (outlook : Outlook) → Foretells view outlook → Foretells (record view { office = after }) outlook
+  waits refusal same outlook told = wanted view outlook told after refusal (given outlook told (refused refusal) same)
+
+  pub waits_on : (refusal : Refusal) → result ≡ refused refusal → IsUnderWay (record view { office = after })
+  waits_on refusal same =
+      let room = is.room in
+      let count = accepted ∙ ap (λ (r : Answer). accepted_after r view.office.records.accepted) same in
+      record { outlook = is.outlook; foretells = waits refusal same is.outlook is.foretells; room = omega (arith, room, count) }

@@ -1,6 +1,6 @@
 -- What is proposed and accepted has a forecast, and a forecast in memory begins with all of it.
-use Rattle.std.proofs.Common.{◌≡◌, ℕ, ◌+◌, ◌*◌, ◌^◌, ◌≤◌, ◌<◌, List, [], ◌∷◌, refl, ap, sym, ◌∙◌, subst, true, length, arith}
-use Rattle.std.specs.Prelude.{Option, Some, None, nat_le}
+use Rattle.std.proofs.Common.{◌≡◌, ℕ, ◌+◌, ◌^◌, ◌≤◌, List, [], ◌∷◌, refl, ap, sym, subst, true, length, arith}
+use Rattle.std.specs.Prelude.{Option, Some, None}
 use Rattle.std.proofs.lemmas.Bool.{le-leb}
 use Rattle.moments.specs.Months.{month_end, IsInMonth}
 use Rattle.moments.proofs.Calendar.{first_day_order}
@@ -10,13 +10,10 @@ use Rattle.due_core.specs.declared.action.Action.{Action}
 use Rattle.plain_office.specs.Office.{Office, Account, book_of}
 use Rattle.plain_office.specs.Changes.{effect}
 use Rattle.plain_office.specs.Charges.{tariff_for}
-use Rattle.plain_office.specs.Counts.{version_count}
-use Rattle.plain_office.specs.Orderly.{IsOrderly, closed_until}
+use Rattle.plain_office.specs.Orderly.{IsOrderly}
 use Rattle.plain_office.specs.Run.{is_not_before}
 use Rattle.plain_office.specs.Step.{is_accepted}
-use Rattle.plain_office.specs.Sweep.{IsSwept}
 use Rattle.office_types.specs.declared.command.Command.TheVariants as command
-use Rattle.office_types.specs.declared.reply.Reply.{Reply}
 use Rattle.office_types.specs.declared.refusal.What.TheVariants.{Versions, Uploads}
 use Rattle.plain_office.proofs.Runs.{Answer}
 use Rattle.office_laws.specs.Bound.{most_actions, HasSweepWithin}
@@ -25,13 +22,12 @@ use Rattle.office_laws.proofs.Ends.{office_sweeps}
 use Rattle.office_laws.proofs.Maps.{by_name, at_written}
 use Rattle.office_laws.proofs.Offices.{closed_now}
 use Rattle.office_laws.proofs.Once.{with_orderly}
-use Rattle.bucket_account.specs.Standing.{most_commands}
 use Rattle.office_machine.specs.Once.{OfficeView, StandsFor}
 use Rattle.office_machine.proofs.Sums.{counts_over}
 use Rattle.forecast.specs.Forecasts.{Proposal, Outlook, IsForecast, proposed, replies_of}
 use Rattle.forecast.specs.Lines.{book_lines}
-use Rattle.forecast.specs.Telling.{ForecastView, Foretells, Begins, IsUnderWay}
-use Rattle.forecast.proofs.Steps.{set_account, set_office, WasSet}
+use Rattle.forecast.specs.Telling.{ForecastView, Foretells, Begins, IsUnderWay, IsSet}
+use Rattle.forecast.proofs.Steps.{set_account, set_office, WasSet, was_set}
 
 -- as many replies as actions
 pub replies_length : (actions : List Action) (account : Account) → length (replies_of actions account) ≡ length actions
@@ -57,7 +53,7 @@ module _ (asked : Proposal) (p : Office) (orderly : IsOrderly p) (later : is_not
   next_there : at_name asked.bucket next.accounts ≡ Some made
   next_there = at_written by_name asked.bucket made p.accounts
 
-  sweep : HasSweepWithin asked.until made (most_actions made.bucket)
+  pub sweep : HasSweepWithin asked.until made (most_actions made.bucket)
   sweep = office_sweeps asked.until next asked.bucket made next_orderly next_there
 
   abbrev pub outlook : Outlook
@@ -117,3 +113,28 @@ module _ (asked : Proposal) (p : Office) (orderly : IsOrderly p) (later : is_not
           let actions = sweep.3 in
           let many = replies_length sweep.0 made in
           record { outlook = outlook; foretells = foretells; room = omega (arith, versions.0, versions.1, uploads.0, uploads.1, actions, many, few) }
+
+-- ---- a copy in which the configuration was set
+
+module _ (asked : Proposal) (office : OfficeView) (later : is_not_before office.records.last asked.from ≡ true) (after : OfficeView) (set : (p : Office) → StandsFor office p → IsSet (proposed asked p) after)
+    (first : ℕ) (within : IsInMonth first asked.from) (until : asked.from ≤ asked.until) (name : List ℕ) (same : name ≡ asked.bucket) where
+  later_plain : (p : Office) → StandsFor office p → is_not_before p.last asked.from ≡ true
+  later_plain p stands = subst (λ (last : Option ℕ). is_not_before last asked.from ≡ true) stands.records.last later
+
+  after_stands : (p : Office) (stands : StandsFor office p) (was : WasSet asked p) → StandsFor after (set_office asked p was.account)
+  after_stands p stands was = subst (StandsFor after) (ap (λ (x : Office × Answer). x.0) was.is) (set p stands).1
+
+  abbrev named : List ℕ → ForecastView
+  named bucket = record { office = after; bucket = bucket; first = first; until = asked.until }
+
+  pub begins_named : (p : Office) → StandsFor office p → Begins asked p (named name)
+  begins_named p stands =
+      let was = was_set asked p (set p stands).0 in
+      subst (λ (n : List ℕ). Begins asked p (named n)) (sym same)
+      (begins asked p stands.records.orderly (later_plain p stands) was first within until after (after_stands p stands was))
+
+  pub named_under_way : (p : Office) → StandsFor office p → after.records.accepted ≤ 2 ^ 41 + 1 → IsUnderWay (named name)
+  named_under_way p stands few =
+      let was = was_set asked p (set p stands).0 in
+      subst (λ (n : List ℕ). IsUnderWay (named n)) (sym same)
+      (under_way asked p stands.records.orderly (later_plain p stands) was first within until after (after_stands p stands was) few)

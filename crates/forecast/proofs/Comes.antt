@@ -1,5 +1,5 @@
 -- A forecast comes true, and there is only one.
-use Rattle.std.proofs.Common.{◌≡◌, ℕ, List, refl, ap, sym, ◌∙◌, subst}
+use Rattle.std.proofs.Common.{◌≡◌, List, refl, ap, sym, ◌∙◌, subst}
 use Rattle.std.proofs.lemmas.Option.{same_Some}
 use Rattle.std.specs.Prelude.{Option, Some, None}
 use Rattle.office_base.specs.Maps.{at_name}
@@ -16,9 +16,8 @@ use Rattle.office_laws.proofs.Ends.{one_sweep}
 use Rattle.office_laws.proofs.Once.{with_accounts}
 use Rattle.office_laws.proofs.Runs.{none_from}
 use Rattle.office_laws.proofs.Sweeps.{run_swept}
-use Rattle.office_machine.specs.Lateness.{SweepEndsIn}
-use Rattle.forecast.specs.Forecasts.{Proposal, Outlook, IsForecast, proposed, replies_of}
-use Rattle.forecast.specs.Laws.{IsSameOutlook, IsLeftToActs, setting, ActsChangeNoForecast}
+use Rattle.forecast.specs.Forecasts.{Proposal, Outlook, IsForecast, replies_of}
+use Rattle.forecast.specs.Laws.{IsSameOutlook, setting, ActsChangeNoForecast}
 use Rattle.forecast.specs.Lines.{book_lines}
 
 accept_is : (p q : Office) (e : Entry) → accept p e ≡ Some q → (step e.moment e.command p).0.accounts ≡ q.accounts

@@ -1,5 +1,5 @@
 -- Worked examples of forecasts, computed.
-use Rattle.std.specs.Prelude.{◌≡◌, ℕ, List, [], ◌∷◌, refl, codes, None}
+use Rattle.std.specs.Prelude.{◌≡◌, ℕ, [], ◌∷◌, refl, codes, None}
 use Rattle.class_rules.specs.declared.class.Class.{Class}
 use Rattle.class_rules.specs.declared.class.Class.TheVariants as class
 use Rattle.office_base.specs.declared.version_id.VersionId.TheVariants as id

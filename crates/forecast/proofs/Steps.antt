@@ -1,5 +1,5 @@
 -- What setting a configuration and an act make of the plain office.
-use Rattle.std.proofs.Common.{◌≡◌, ℕ, List, [], ◌∷◌, refl, ap, ◌∙◌, subst, true, length}
+use Rattle.std.proofs.Common.{◌≡◌, ◌⊎◌, inl, inr, ℕ, List, [], ◌∷◌, refl, ap, sym, ◌∙◌, subst, true, length}
 use Rattle.std.specs.Prelude.{Option, Some, None, Ok, Err}
 use Rattle.office_base.specs.Maps.{at_name}
 use Rattle.due_core.specs.Choice.{choice}
@@ -14,12 +14,14 @@ use Rattle.office_types.specs.declared.command.Command.TheVariants as command
 use Rattle.office_types.specs.declared.reply.Reply.{Reply}
 use Rattle.office_types.specs.declared.reply.Reply.TheVariants.{RulesSet, NothingDue}
 use Rattle.office_types.specs.declared.refusal.Refusal.{Refusal}
-use Rattle.office_types.specs.declared.refusal.Refusal.TheVariants.{NoSuchBucket, Full}
+use Rattle.office_types.specs.declared.refusal.Refusal.TheVariants.{NoSuchBucket, Full, NoMemory}
 use Rattle.office_types.specs.declared.refusal.What.{What}
 use Rattle.office_types.specs.declared.refusal.What.TheVariants.{Rules}
-use Rattle.plain_office.proofs.Runs.{Answer, refused, step_plain}
+use Rattle.plain_office.proofs.Runs.{Answer, done, refused, no_reply, step_plain}
 use Rattle.office_machine.proofs.Steps.{placed, step_missing, step_full, step_done, step_nothing}
+use Rattle.office_machine.specs.Once.{OfficeView, DoesOnce}
 use Rattle.forecast.specs.Forecasts.{Proposal, proposed}
+use Rattle.forecast.specs.Telling.{IsSet}
 
 -- ---- the configuration is set
 
@@ -44,22 +46,45 @@ module _ (asked : Proposal) (p : Office) where
   plain : proposed asked p ≡ step asked.from asks p
   plain = step_plain asked.from asks p
 
-  not_refused : (refusal : Refusal) → proposed asked p ≡ (p, Err refusal) → is_accepted (proposed asked p).1 ≡ true → ⊥
-  not_refused refusal is accepts =
-      let wrong : is_accepted (refused refusal) ≡ true = subst (λ (x : Office × Answer). is_accepted x.1 ≡ true) is accepts in absurd cc
+  -- it was refused, or it was set
+  abbrev Cases : Type 0
+  Cases = ((refusal : Refusal) × (proposed asked p ≡ (p, Err refusal))) ⊎ WasSet
+
+  by_counts : (account : Account) → at_name asked.bucket p.accounts ≡ Some account
+      → (o : Option What) → first_full (Rules ∷ []) (placed asked.from p asked.bucket (set_account account)) ≡ o → Cases
+  by_counts account there (Some what) full =
+      inl (Full what (limit_of what), plain ∙ step_full asked.from p asked.bucket asks refl account there (set_account account) told what refl full)
+  by_counts account there None free =
+      inr (record { account = account; is = plain ∙ step_done asked.from p asked.bucket asks refl account there (set_account account) told refl free refl })
+
+  by_account : (o : Option Account) → at_name asked.bucket p.accounts ≡ o → Cases
+  by_account None none = inl (NoSuchBucket, plain ∙ step_missing asked.from p asked.bucket asks refl none)
+  by_account (Some account) there = by_counts account there (first_full (Rules ∷ []) (placed asked.from p asked.bucket (set_account account))) refl
+
+  cases : Cases
+  cases = by_account (at_name asked.bucket p.accounts) refl
 
   pub was_set : is_accepted (proposed asked p).1 ≡ true → WasSet
-  was_set accepts = by (at_name asked.bucket p.accounts) refl where
-    by_counts : (account : Account) → at_name asked.bucket p.accounts ≡ Some account
-        → (o : Option What) → first_full (Rules ∷ []) (placed asked.from p asked.bucket (set_account account)) ≡ o → WasSet
-    by_counts account there (Some what) full =
-        absurd (not_refused (Full what (limit_of what)) (plain ∙ step_full asked.from p asked.bucket asks refl account there (set_account account) told what refl full) accepts)
-    by_counts account there None free =
-        record { account = account; is = plain ∙ step_done asked.from p asked.bucket asks refl account there (set_account account) told refl free refl }
+  was_set accepts = by cases where
+    by : Cases → WasSet
+    by (inr was) = was
+    by (inl refusal) = let wrong : is_accepted (refused refusal.0) ≡ true = subst (λ (x : Office × Answer). is_accepted x.1 ≡ true) refusal.1 accepts in absurd cc
 
-    by : (o : Option Account) → at_name asked.bucket p.accounts ≡ o → WasSet
-    by None none = absurd (not_refused NoSuchBucket (plain ∙ step_missing asked.from p asked.bucket asks refl none) accepts)
-    by (Some account) there = by_counts account there (first_full (Rules ∷ []) (placed asked.from p asked.bucket (set_account account))) refl
+  pub set_accepts : (reply : Reply) → (proposed asked p).1 ≡ Ok reply → is_accepted (proposed asked p).1 ≡ true
+  set_accepts reply ok = by cases where
+    by : Cases → is_accepted (proposed asked p).1 ≡ true
+    by (inr was) = subst (λ (x : Office × Answer). is_accepted x.1 ≡ true) (sym was.is) refl
+    by (inl refusal) = absurd (no_reply reply refusal.0 (sym ok ∙ ap (λ (x : Office × Answer). x.1) refusal.1))
+
+-- an office in memory that was asked so under the same name
+pub set_in : (asked : Proposal) (p : Office) (name : List ℕ) → name ≡ asked.bucket → (after : OfficeView) (result : Answer) (reply : Reply) → result ≡ done reply
+    → DoesOnce (step_with asked.from None (command.SetRules name asked.rules) p) p after result → IsSet (proposed asked p) after
+set_in asked p name same after result reply is does =
+    by (subst (λ (n : List ℕ). DoesOnce (step_with asked.from None (command.SetRules n asked.rules) p) p after result) same does)
+  where
+    by : DoesOnce (proposed asked p) p after result → IsSet (proposed asked p) after
+    by (inl told) = (set_accepts asked p reply (sym told.0 ∙ is), told.1)
+    by (inr wanting) = absurd (no_reply reply NoMemory (sym is ∙ wanting.0))
 
 -- ---- an act
 

@@ -1,3 +1,4 @@
+pub mod Faults
 pub mod Forecasts
 pub mod Laws
 pub mod Lines

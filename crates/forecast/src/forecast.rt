@@ -1,5 +1,5 @@
 // A forecast over a copy of the office.
-ghost use Rattle.std.specs.Prelude.{◌≡◌, ◌↔◌, ◌^◌, ◌<◌, ◌≤◌, ℕ, map, Some, None, Ok, Err, OnOk, IfOk, IfSome, IsTrue};
+ghost use Rattle.std.specs.Prelude.{◌≡◌, ◌↔◌, ◌+◌, ◌^◌, ◌<◌, ◌≤◌, ℕ, map, Some, None, Ok, Err, OnOk, IfOk, IfErr, IsTrue};
 ghost use Rattle.moments.specs.Months.{month_at};
 ghost use Rattle.class_rules.specs.Classes.{all_classes};
 ghost use Rattle.office_base.specs.Maps.{at_name};
@@ -11,9 +11,11 @@ ghost use Rattle.plain_office.specs.Office.{book_of};
 ghost use Rattle.plain_office.specs.Charges.{class_meters, in_force};
 ghost use Rattle.plain_office.specs.Once.{step_with};
 ghost use Rattle.plain_office.specs.Run.{is_not_before};
+ghost use Rattle.plain_office.specs.Step.{is_accepted};
 ghost use Rattle.office_machine.specs.Once.{StandsFor};
 ghost use Rattle.forecast.specs.Forecasts.{Proposal, Outlook, proposed};
 ghost use Rattle.forecast.specs.Telling.{Foretells, Begins, TellsNext, IsDone, IsSet};
+ghost use Rattle.forecast.specs.Faults.{is_wanting, fault_of, IsOfOffice};
 
 use crate::fault::ForecastFault;
 use crate::lines::{ForecastLine, in_force, lines_of};
@@ -35,6 +37,8 @@ pub struct Forecast {
     // The copy, in which the configuration is set.
     office: Office,
     bucket: BucketName,
+    // An act on the bucket.
+    act: Command,
     // The month in which the configuration is set.
     first: Month,
     // The moment up to which the bucket is swept.
@@ -42,6 +46,8 @@ pub struct Forecast {
 }
 
 impl Model for Forecast {
+    ghost use Rattle.std.specs.Prelude.{◌≡◌};
+    ghost use Rattle.office_types.specs.declared.command.Command.TheVariants.{Act};
     ghost use Rattle.forecast.specs.Telling.{ForecastView, IsUnderWay};
 
     ghost Value = { ForecastView };
@@ -49,7 +55,8 @@ impl Model for Forecast {
     ghost view = { λ f. record { office = f.office; bucket = f.bucket; first = f.first; until = f.until } };
 
     ghost invariant = { λ f.
-        IsUnderWay (record { office = f.office; bucket = f.bucket; first = f.first; until = f.until }) };
+        IsUnderWay (record { office = f.office; bucket = f.bucket; first = f.first; until = f.until })
+        × (f.act ≡ Act f.bucket) };
 }
 
 impl Forecast {
@@ -70,6 +77,7 @@ impl Forecast {
     ) -> Result<Forecast, ForecastFault>
         requires later { IsTrue (is_not_before office.now.records.last t) }
         requires few { office.now.records.accepted ≤ 2 ^ 41 }
+        requires some { (p : plain.Office) × StandsFor office.now p }
         ensures past_day { (day : ℕ) → (result ≡ Err (ForecastFault.PastDay day)) ↔ ((day ≡ t) × (u < t)) }
         ensures refused { (p : plain.Office) (refusal : Refusal) → StandsFor office.now p
             → result ≡ Err (ForecastFault.Refused refusal)
@@ -82,16 +90,25 @@ impl Forecast {
         if u.ms() < t.ms() {
             return Err(ForecastFault::PastDay { t });
         }
-        let (Ok(mut copy), Ok(name)) = (office.copy(), bucket.copy()) else {
+        let Ok(name) = bucket.copy() else {
             return Err(ForecastFault::NoMemory);
         };
-        set_rules(&mut copy, t, bucket, rules)?;
-        Ok(Forecast {
-            office: copy,
-            bucket: name,
-            first: month_of(t),
-            until: u,
-        })
+        let Ok(act) = act_on(bucket) else {
+            return Err(ForecastFault::NoMemory);
+        };
+        let Ok(mut copy) = office.copy() else {
+            return Err(ForecastFault::NoMemory);
+        };
+        match set_rules(&mut copy, t, bucket, rules) {
+            Ok(()) => Ok(Forecast {
+                office: copy,
+                bucket: name,
+                act,
+                first: month_of(t),
+                until: u,
+            }),
+            Err(fault) => Err(fault),
+        }
     }
 
     /// Does the bucket's next lifecycle action that is due by the day, and gives its reply; None where none is left.
@@ -106,17 +123,13 @@ impl Forecast {
         ensures done { result ≡ Ok None → IsDone self.new }
         ensures first { self.new.first ≡ self.old.first }
     {
-        let Ok(bucket) = self.bucket.copy() else {
+        let Ok(reply) = self.office.apply(self.until, None, &self.act) else {
             return Err(NoMemory);
         };
-        match self
-            .office
-            .apply(self.until, None, &Command::Act { bucket })
-        {
-            Ok(Reply::NothingDue) => Ok(None),
-            Ok(reply) => Ok(Some(reply)),
-            Err(_) => Err(NoMemory),
+        if is_done(&reply) {
+            return Ok(Some(reply));
         }
+        Ok(None)
     }
 
     /// Lists what the bucket would use in a month, cut at the day, and what that would cost: by class from the warmest,
@@ -135,7 +148,8 @@ impl Forecast {
             → IfOk result (λ lines. lines.items ≡ outlook.lines month) }
     {
         let tariff = self.tariff_in(month)?;
-        lines_of(alloc, &tariff, month, &self.used_in(month))
+        let lines = lines_of(alloc, &tariff, month, &self.used_in(month))?;
+        Ok(lines)
     }
 
     /// Gives the tariff in force in a month.
@@ -145,8 +159,8 @@ impl Forecast {
     {
         match self.office.answer(self.until, &Query::Tariff) {
             Ok(Reply::TariffShown { tariffs }) => Ok(in_force(tariffs.as_slice(), month)),
-            Err(Refusal::NoMemory) => Err(NoMemory),
-            _ => Ok(None),
+            Err(Refusal::NoTariff) => Ok(None),
+            _ => Err(NoMemory),
         }
     }
 
@@ -186,14 +200,48 @@ fn set_rules(
     ensures refused { (p : plain.Office) (refusal : Refusal) → StandsFor office.old p
         → result ≡ Err (ForecastFault.Refused refusal)
         → (step_with t None (Command.SetRules bucket.now rules) p).1 ≡ Err refusal }
-    ensures no_past_day { (day : ℕ) → result ≡ Err (ForecastFault.PastDay day) → ⊥ }
+    ensures fault { IfErr result (λ fault. IsOfOffice fault) }
 {
     let Ok(bucket) = bucket.copy() else {
         return Err(ForecastFault::NoMemory);
     };
     match office.apply(t, None, &Command::SetRules { bucket, rules }) {
         Ok(_) => Ok(()),
-        Err(Refusal::NoMemory) => Err(ForecastFault::NoMemory),
-        Err(refusal) => Err(ForecastFault::Refused(refusal)),
+        Err(refusal) => Err(fault_of(refusal)),
     }
+}
+
+/// Tells whether memory is wanting.
+fn is_wanting(refusal: &Refusal) -> bool
+    ensures { result ≡ is_wanting refusal.now }
+{
+    matches!(refusal, Refusal::NoMemory)
+}
+
+/// Gives the fault of what the office refused.
+fn fault_of(refusal: Refusal) -> ForecastFault
+    ensures { result ≡ fault_of refusal }
+{
+    if is_wanting(&refusal) {
+        ForecastFault::NoMemory
+    } else {
+        ForecastFault::Refused(refusal)
+    }
+}
+
+/// Gives an act on the bucket.
+fn act_on(bucket: &BucketName) -> Result<Command, NoMemory>
+    ensures { IfOk result (λ asked. asked ≡ Command.Act bucket.now) }
+{
+    match bucket.copy() {
+        Ok(bucket) => Ok(Command::Act { bucket }),
+        Err(_) => Err(NoMemory),
+    }
+}
+
+/// Tells whether this is the reply to an action that was done: every one but that nothing is due.
+fn is_done(reply: &Reply) -> bool
+    ensures { result ≡ is_accepted (Ok reply.now) }
+{
+    !matches!(reply, Reply::NothingDue)
 }
