@@ -18,11 +18,11 @@ ghost use Rattle.forecast.specs.Telling.{Foretells, Begins, TellsNext, IsDone, I
 ghost use Rattle.forecast.specs.Faults.{is_wanting, fault_of, IsOfOffice};
 
 use crate::fault::ForecastFault;
-use crate::lines::{ForecastLine, in_force, lines_of};
+use crate::lines::{ForecastLine, lines_of};
 use class_rules::Class;
 use moments::{Moment, Month, month_of};
 use office_base::{BucketName, NoMemory};
-use office_machine::Office;
+use office_machine::{Office, in_force};
 use office_types::{ClassMeters, Command, Query, Refusal, Reply};
 use rules_core::RuleSet;
 use std::alloc::Global;
@@ -77,7 +77,6 @@ impl Forecast {
     ) -> Result<Forecast, ForecastFault>
         requires later { IsTrue (is_not_before office.now.records.last t) }
         requires few { office.now.records.accepted ≤ 2 ^ 41 }
-        requires some { (p : plain.Office) × StandsFor office.now p }
         ensures past_day { (day : ℕ) → (result ≡ Err (ForecastFault.PastDay day)) ↔ ((day ≡ t) × (u < t)) }
         ensures refused { (p : plain.Office) (refusal : Refusal) → StandsFor office.now p
             → result ≡ Err (ForecastFault.Refused refusal)

@@ -1,8 +1,6 @@
 // What a month would cost a bucket, line by line.
-ghost use Rattle.std.specs.Prelude.{◌≡◌, ◌++◌, ◌∷◌, [], filter, flat_map, nat_le, Some, None, if◌then◌else◌};
+ghost use Rattle.std.specs.Prelude.{◌≡◌, ◌++◌, ◌∷◌, [], filter, flat_map};
 ghost use Rattle.std.specs.Prelude.{OnOk, IfOk};
-ghost use Rattle.plain_office.specs.Charges.{in_force};
-ghost use Rattle.office_machine.specs.AnswerParts.{latest};
 ghost use Rattle.forecast.specs.Lines.{class_lines, storage_line, transition_line, has_quantity};
 
 use class_rules::Class;
@@ -21,36 +19,6 @@ pub struct ForecastLine {
     pub quantity: u128,
     /// Whole units; None where no tariff is in force in the month.
     pub charge: Option<u128>,
-}
-
-/// Gives this tariff where it has begun, or else the one that was found before.
-fn begun_or(tariff: &Tariff, month: Month, found: Option<Tariff>) -> Option<Tariff>
-    ensures { result ≡ (if nat_le tariff.now.from month then Some tariff.now else found) }
-{
-    if tariff.from.number() <= month.number() {
-        Some(*tariff)
-    } else {
-        found
-    }
-}
-
-/// Gives the last of these tariffs that begins by a month.
-fn latest(tariffs: &[Tariff], month: Month) -> Option<Tariff>
-    ensures { result ≡ latest month None tariffs.now }
-{
-    let mut found = None;
-    for tariff in tariffs {
-        found = begun_or(tariff, month, found);
-    }
-    found
-}
-
-/// Gives the tariff in force in a month: the last one that begins by then, as they stand by their first months.
-#[tactic(auto, using(office_machine::proofs::ByMonths::latest_is))]
-pub(crate) fn in_force(tariffs: &[Tariff], month: Month) -> Option<Tariff>
-    ensures { result ≡ in_force month tariffs.now }
-{
-    latest(tariffs, month)
 }
 
 /// Lists the lines of what a bucket used in a month.

@@ -13,3 +13,4 @@ mod snapshots;
 mod tariffs;
 
 pub use office::Office;
+pub use tariffs::in_force;

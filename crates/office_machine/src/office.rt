@@ -132,6 +132,7 @@ impl Office {
     /// `NoMemory`: memory ran out.
     pub fn copy(&self) -> Result<Office, NoMemory>
         ensures stands { IfOk result (λ copy. (p : plain.Office) → StandsFor self.now p → StandsFor copy p) }
+        ensures some { IfOk result (λ copy. (p : plain.Office) × StandsFor copy p) }
         ensures last { IfOk result (λ copy. copy.records.last ≡ self.now.records.last) }
         ensures accepted { IfOk result (λ copy. copy.records.accepted ≡ self.now.records.accepted) }
     {

@@ -103,9 +103,10 @@ fn latest(tariffs: &[Tariff], month: Month) -> Option<Tariff>
     found
 }
 
-/// Gives the tariff in force in a month: the last one that begins by then, as they stand by their first months.
+/// Gives the tariff in force in a month: the last one of these that begins by then. Tariffs stand in the order of their
+/// first months.
 #[tactic(auto, using(crate::proofs::ByMonths::latest_is))]
-pub(crate) fn in_force(tariffs: &[Tariff], month: Month) -> Option<Tariff>
+pub fn in_force(tariffs: &[Tariff], month: Month) -> Option<Tariff>
     ensures { result ≡ in_force month tariffs.now }
 {
     latest(tariffs, month)

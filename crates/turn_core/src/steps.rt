@@ -60,7 +60,8 @@ pub(crate) fn draw_ticket<T: Turned>(top: &Top<T>, place: &mut Place<T>) -> u64
     requires table { IsSeatAt top.now place.old }
     requires rest { AtRest place.old.me }
     ensures same { IsSameSeat place.old place.new }
-    ensures drawn { (t : ℕ) × (result ≡ t % 2 ^ 64) × (place.new.me ≡ (record place.old.me.0 { ticket = Some t }, [])) }
+    ensures drawn { (t : ℕ) × (result ≡ t % 2 ^ 64)
+        × (place.new.me ≡ (record place.old.me.0 { ticket = Some t }, [])) }
 {
     top.fetch_add::<Draw>(place, TICKET, 1)
 }
@@ -71,7 +72,8 @@ pub(crate) fn look_once<T: Turned>(top: &Top<T>, place: &mut Place<T>) -> u64
     ensures same { IsSameSeat place.old place.new }
     ensures served { (t : ℕ) → place.old.me.0.ticket ≡ Some t → result ≡ t % 2 ^ 64
         → Served T.stands place.old.me place.new.me }
-    ensures waits { (t : ℕ) → place.old.me.0.ticket ≡ Some t → result ≢ t % 2 ^ 64 → place.new.me ≡ place.old.me }
+    ensures waits { (t : ℕ) → place.old.me.0.ticket ≡ Some t → result ≢ t % 2 ^ 64
+        → place.new.me ≡ place.old.me }
 {
     top.load::<Look<T>>(place, SERVING)
 }

@@ -37,8 +37,8 @@ invariant_of-result c =
     let asked : Proposal = record { bucket = c.args.bucket.now; rules = c.args.rules; from = c.args.t; until = c.args.u } in (
       named_under_way asked c.in-Ok-copy.copy (later_copy c.args.office.now.records.last c.in-Ok-copy.copy.records.last c.args.t c.in-Ok-copy.ensures.last c.requires.later) c.set_rules.new.office
           c.in-Ok-set_rules.ensures.set c.month_of.result c.month_of.ensures.within
-          (in_order c.args.u c.args.t c.ms.result c.ms-2.result c.ms.ensures.same c.ms-2.ensures.same c.if-ms.false) c.in-Ok.name c.in-Ok.ensures c.requires.some.0
-          (c.in-Ok-copy.ensures.stands c.requires.some.0 c.requires.some.1)
+          (in_order c.args.u c.args.t c.ms.result c.ms-2.result c.ms.ensures.same c.ms-2.ensures.same c.if-ms.false) c.in-Ok.name c.in-Ok.ensures c.in-Ok-copy.ensures.some.0
+          c.in-Ok-copy.ensures.some.1
           (few_copy c.args.office.now.records.accepted c.in-Ok-copy.copy.records.accepted c.set_rules.new.office.records.accepted c.requires.few c.in-Ok-copy.ensures.accepted c.set_rules.ensures.accepted),
       c.in-Ok-act_on.ensures ∙ act_named c.in-Ok.name c.args.bucket.now c.in-Ok.ensures,
     )
