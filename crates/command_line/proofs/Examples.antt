@@ -1,9 +1,11 @@
 -- Some command lines, computed.
 use Rattle.std.proofs.Common.{◌≡◌, refl, [], ◌∷◌, codes, Some, None, true, false}
 use Rattle.std.specs.Fmt.{digits}
-use Rattle.moments.specs.Dates.{is_month, begins_with_month}
+use Rattle.moments.specs.Dates.{is_month, begins_with_month, is_date, begins_with_date, is_time, begins_with_clock, is_at_midnight}
+use Rattle.moments.specs.Months.{first_day, days_of_months}
+use Rattle.office_base.specs.Names.{is_bucket_name}
 use Rattle.clap.proofs.OnLiterals.{clap_on_literals}
-use Rattle.command_line.specs.Lines.{asked, init, run, serve, report, bill}
+use Rattle.command_line.specs.Lines.{asked, init, run, serve, report, bill, forecast}
 
 pub init_read : asked (codes "init" ∷ []) ≡ Some init
 unfolding clap_on_literals asked digits
@@ -92,3 +94,24 @@ bill_read = refl
 pub bill_of_nothing : asked (codes "bill" ∷ []) ≡ None
 unfolding clap_on_literals asked digits
 bill_of_nothing = refl
+
+-- 2024-01-31 begins 19,753 days after 1970-01-01
+pub forecast_read : asked (codes "forecast" ∷ codes "logs" ∷ codes "2024-01-31" ∷ []) ≡ Some (forecast (codes "logs") 1_706_659_200_000)
+unfolding clap_on_literals asked digits is_bucket_name is_date begins_with_date begins_with_month is_at_midnight first_day days_of_months
+forecast_read = refl
+
+pub forecast_of_no_day : asked (codes "forecast" ∷ codes "logs" ∷ []) ≡ None
+unfolding clap_on_literals asked digits is_bucket_name
+forecast_of_no_day = refl
+
+pub forecast_of_no_date : asked (codes "forecast" ∷ codes "logs" ∷ codes "2024-02-30" ∷ []) ≡ None
+unfolding clap_on_literals asked digits is_bucket_name is_date begins_with_date begins_with_month is_at_midnight
+forecast_of_no_date = refl
+
+pub forecast_at_noon : asked (codes "forecast" ∷ codes "logs" ∷ codes "2024-01-31T12:00:00Z" ∷ []) ≡ None
+unfolding clap_on_literals asked digits is_bucket_name is_date begins_with_date begins_with_month is_time begins_with_clock is_at_midnight
+forecast_at_noon = refl
+
+pub forecast_of_no_name : asked (codes "forecast" ∷ codes "Logs" ∷ codes "2024-01-31" ∷ []) ≡ None
+unfolding clap_on_literals asked digits is_bucket_name is_date begins_with_date begins_with_month is_at_midnight
+forecast_of_no_name = refl

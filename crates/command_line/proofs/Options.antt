@@ -4,7 +4,7 @@ use Rattle.clap.specs.Walk.{Row, rows_of}
 use Rattle.clap.specs.Matches.{first_value}
 use Rattle.clap.specs.declared.parser.matches.Found.{Found}
 use Rattle.clap.proofs.WalkLemmas.{first_value-rows}
-use Rattle.command_line.specs.Lines.{serve, report, explain, gen, bill, number_between, number_or, most_seed, most_generated, serve_of, report_of, explain_of, gen_of, bill_of, month_of_text, is_set, given}
+use Rattle.command_line.specs.Lines.{serve, report, explain, gen, bill, forecast, number_between, number_or, most_seed, most_generated, serve_of, report_of, explain_of, gen_of, bill_of, forecast_of, month_of_text, midnight_of_text, bucket_of_text, is_set, given}
 use Rattle.command_line.specs.Lines.{workers_of, connections_of}
 
 -- what clap gives for an option is what the words gave it
@@ -48,6 +48,28 @@ wrong_bill rows text some none = rw (some, none) refl
 pub bills : (rows : List Row) (text : List ℕ) (month : ℕ) → given rows (codes "month") ≡ Some text → month_of_text text ≡ Some month
     → bill_of rows ≡ Some (bill month)
 bills rows text month some names = rw (some, names) refl
+
+-- ---- forecast
+
+pub no_bucket : (rows : List Row) → given rows (codes "bucket") ≡ None → forecast_of rows ≡ None
+no_bucket rows none = rw none refl
+
+pub wrong_bucket : (rows : List Row) (text : List ℕ) → given rows (codes "bucket") ≡ Some text → bucket_of_text text ≡ None → forecast_of rows ≡ None
+wrong_bucket rows text some none = rw (some, none) refl
+
+no_day : (bucket : Option (List ℕ)) → option_and_then (λ name. option_map (forecast name) None) bucket ≡ None
+no_day None = refl
+no_day (Some name) = refl
+
+pub no_date : (rows : List Row) → given rows (codes "date") ≡ None → forecast_of rows ≡ None
+no_date rows none = rw none (no_day (option_and_then bucket_of_text (given rows (codes "bucket"))))
+
+pub wrong_date : (rows : List Row) (text : List ℕ) → given rows (codes "date") ≡ Some text → midnight_of_text text ≡ None → forecast_of rows ≡ None
+wrong_date rows text some none = rw (some, none) (no_day (option_and_then bucket_of_text (given rows (codes "bucket"))))
+
+pub forecasts : (rows : List Row) (name text : List ℕ) (bucket : List ℕ) (day : ℕ) → given rows (codes "bucket") ≡ Some name → bucket_of_text name ≡ Some bucket
+    → given rows (codes "date") ≡ Some text → midnight_of_text text ≡ Some day → forecast_of rows ≡ Some (forecast bucket day)
+forecasts rows name text bucket day some named dated is = rw (some, named, dated, is) refl
 
 -- ---- explain
 

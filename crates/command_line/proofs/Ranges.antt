@@ -9,7 +9,7 @@ use Rattle.clap.proofs.WalkLemmas.{both}
 use Rattle.clap.specs.Walk.{Row, is_empty}
 use Rattle.clap.specs.Faults.{fault_of}
 use Rattle.clap.specs.Simple.{subcommand_of}
-use Rattle.command_line.specs.Lines.{Line, init, run, serve, report, explain, gen, bill, asked, subcommand_line, serve_of, report_of, explain_of, gen_of, bill_of, month_of_text, is_set, number_between, most_seed}
+use Rattle.command_line.specs.Lines.{Line, init, run, serve, report, explain, gen, bill, forecast, asked, subcommand_line, serve_of, report_of, explain_of, gen_of, bill_of, forecast_of, month_of_text, midnight_of_text, bucket_of_text, is_set, number_between, most_seed}
 use Rattle.command_line.specs.Lines.{most_generated, number_to, number_or, workers_of, connections_of, given, most_workers, default_workers}
 use Rattle.command_line.specs.Words.{office_words}
 
@@ -40,6 +40,7 @@ workers_in (report month as_text) = 0
 workers_in (explain workers) = 0
 workers_in (gen number count) = 0
 workers_in (bill month) = 0
+workers_in (forecast bucket day) = 0
 
 abbrev explainers_in : Line → ℕ
 explainers_in init = 0
@@ -49,6 +50,7 @@ explainers_in (report month as_text) = 0
 explainers_in (explain workers) = workers
 explainers_in (gen number count) = 0
 explainers_in (bill month) = 0
+explainers_in (forecast bucket day) = 0
 
 mapped_some : {A B P : Type 0} (f : A → B) (o : Option A) (y : B) → option_map f o ≡ Some y → ((x : A) → f x ≡ y → P) → P
 mapped_some f None y is use_it = absurd cc
@@ -85,23 +87,33 @@ module _ (listen : List ℕ) (workers connections : ℕ) where
   no_bill None is = absurd cc
   no_bill (Some month) is = absurd cc
 
-  named_serve : (a b c d e f g : Bool) (rows : List Row)
+  no_forecast_of : (bucket : List ℕ) (o : Option ℕ) → option_map (forecast bucket) o ≡ Some Served → ⊥
+  no_forecast_of bucket None is = absurd cc
+  no_forecast_of bucket (Some day) is = absurd cc
+
+  no_forecast : (o : Option (List ℕ)) (p : Option ℕ) → option_and_then (λ bucket. option_map (forecast bucket) p) o ≡ Some Served → ⊥
+  no_forecast None p is = absurd cc
+  no_forecast (Some bucket) p is = no_forecast_of bucket p is
+
+  named_serve : (a b c d e f g h : Bool) (rows : List Row)
       → (if a then Some init else (if b then Some run else (if c then serve_of rows else (if d then report_of rows
-      else (if e then explain_of rows else (if f then gen_of rows else (if g then bill_of rows else None))))))) ≡ Some Served → serve_of rows ≡ Some Served
-  named_serve true b c d e f g rows is = absurd cc
-  named_serve false true c d e f g rows is = absurd cc
-  named_serve false false true d e f g rows is = is
-  named_serve false false false true e f g rows is = absurd (no_report (option_and_then month_of_text (given rows (codes "month"))) (is_set (given rows (codes "text"))) is)
-  named_serve false false false false true f g rows is = absurd (no_explain (workers_of rows) is)
-  named_serve false false false false false true g rows is =
+      else (if e then explain_of rows else (if f then gen_of rows else (if g then bill_of rows else (if h then forecast_of rows else None)))))))) ≡ Some Served → serve_of rows ≡ Some Served
+  named_serve true b c d e f g h rows is = absurd cc
+  named_serve false true c d e f g h rows is = absurd cc
+  named_serve false false true d e f g h rows is = is
+  named_serve false false false true e f g h rows is = absurd (no_report (option_and_then month_of_text (given rows (codes "month"))) (is_set (given rows (codes "text"))) is)
+  named_serve false false false false true f g h rows is = absurd (no_explain (workers_of rows) is)
+  named_serve false false false false false true g h rows is =
       absurd (no_gen (option_and_then (number_between 0 most_seed) (given rows (codes "number"))) (option_and_then (number_between 0 most_generated) (given rows (codes "count"))) is)
-  named_serve false false false false false false true rows is = absurd (no_bill (option_and_then month_of_text (given rows (codes "month"))) is)
-  named_serve false false false false false false false rows is = absurd cc
+  named_serve false false false false false false true h rows is = absurd (no_bill (option_and_then month_of_text (given rows (codes "month"))) is)
+  named_serve false false false false false false false true rows is =
+      absurd (no_forecast (option_and_then bucket_of_text (given rows (codes "bucket"))) (option_and_then midnight_of_text (given rows (codes "date"))) is)
+  named_serve false false false false false false false false rows is = absurd cc
 
   command_in_range : (entered : List ℕ × List Row) → subcommand_line entered ≡ Some Served → (0 < workers) × (workers ≤ 64)
   command_in_range (name, rows) is =
       served_in_range rows (named_serve (bytes_eq name (codes "init")) (bytes_eq name (codes "run")) (bytes_eq name (codes "serve")) (bytes_eq name (codes "report"))
-      (bytes_eq name (codes "explain")) (bytes_eq name (codes "gen")) (bytes_eq name (codes "bill")) rows is)
+      (bytes_eq name (codes "explain")) (bytes_eq name (codes "gen")) (bytes_eq name (codes "bill")) (bytes_eq name (codes "forecast")) rows is)
 
   -- workers are 1 to 64
   pub serve_in_range : (words : List (List ℕ)) → asked words ≡ Some Served → (0 < workers) × (workers ≤ 64)
@@ -150,23 +162,33 @@ module _ (workers : ℕ) where
   not_billed None is = absurd cc
   not_billed (Some month) is = absurd cc
 
-  named_explain : (a b c d e f g : Bool) (rows : List Row)
+  not_forecast_of : (bucket : List ℕ) (o : Option ℕ) → option_map (forecast bucket) o ≡ Some Explained → ⊥
+  not_forecast_of bucket None is = absurd cc
+  not_forecast_of bucket (Some day) is = absurd cc
+
+  not_forecast : (o : Option (List ℕ)) (p : Option ℕ) → option_and_then (λ bucket. option_map (forecast bucket) p) o ≡ Some Explained → ⊥
+  not_forecast None p is = absurd cc
+  not_forecast (Some bucket) p is = not_forecast_of bucket p is
+
+  named_explain : (a b c d e f g h : Bool) (rows : List Row)
       → (if a then Some init else (if b then Some run else (if c then serve_of rows else (if d then report_of rows
-      else (if e then explain_of rows else (if f then gen_of rows else (if g then bill_of rows else None))))))) ≡ Some Explained → explain_of rows ≡ Some Explained
-  named_explain true b c d e f g rows is = absurd cc
-  named_explain false true c d e f g rows is = absurd cc
-  named_explain false false true d e f g rows is = absurd (not_served rows is)
-  named_explain false false false true e f g rows is = absurd (not_reported (option_and_then month_of_text (given rows (codes "month"))) (is_set (given rows (codes "text"))) is)
-  named_explain false false false false true f g rows is = is
-  named_explain false false false false false true g rows is =
+      else (if e then explain_of rows else (if f then gen_of rows else (if g then bill_of rows else (if h then forecast_of rows else None)))))))) ≡ Some Explained → explain_of rows ≡ Some Explained
+  named_explain true b c d e f g h rows is = absurd cc
+  named_explain false true c d e f g h rows is = absurd cc
+  named_explain false false true d e f g h rows is = absurd (not_served rows is)
+  named_explain false false false true e f g h rows is = absurd (not_reported (option_and_then month_of_text (given rows (codes "month"))) (is_set (given rows (codes "text"))) is)
+  named_explain false false false false true f g h rows is = is
+  named_explain false false false false false true g h rows is =
       absurd (not_generated (option_and_then (number_between 0 most_seed) (given rows (codes "number"))) (option_and_then (number_between 0 most_generated) (given rows (codes "count"))) is)
-  named_explain false false false false false false true rows is = absurd (not_billed (option_and_then month_of_text (given rows (codes "month"))) is)
-  named_explain false false false false false false false rows is = absurd cc
+  named_explain false false false false false false true h rows is = absurd (not_billed (option_and_then month_of_text (given rows (codes "month"))) is)
+  named_explain false false false false false false false true rows is =
+      absurd (not_forecast (option_and_then bucket_of_text (given rows (codes "bucket"))) (option_and_then midnight_of_text (given rows (codes "date"))) is)
+  named_explain false false false false false false false false rows is = absurd cc
 
   explained_command : (entered : List ℕ × List Row) → subcommand_line entered ≡ Some Explained → (0 < workers) × (workers ≤ 64)
   explained_command (name, rows) is =
       explained_in_range rows (named_explain (bytes_eq name (codes "init")) (bytes_eq name (codes "run")) (bytes_eq name (codes "serve")) (bytes_eq name (codes "report"))
-      (bytes_eq name (codes "explain")) (bytes_eq name (codes "gen")) (bytes_eq name (codes "bill")) rows is)
+      (bytes_eq name (codes "explain")) (bytes_eq name (codes "gen")) (bytes_eq name (codes "bill")) (bytes_eq name (codes "forecast")) rows is)
 
   -- workers are 1 to 64
   pub explain_in_range : (words : List (List ℕ)) → asked words ≡ Some Explained → (0 < workers) × (workers ≤ 64)

@@ -4,7 +4,8 @@ use Rattle.std.specs.Prelude.{decimal, string_bytes, if◌then◌else◌}
 use Rattle.std.specs.Str.{bytes_eq}
 use Rattle.std.specs.Str.Parse.{digits_value}
 use Rattle.moments.specs.Months.{month_number}
-use Rattle.moments.specs.Dates.{is_month, year_in, month_in}
+use Rattle.moments.specs.Dates.{is_month, year_in, month_in, is_date, is_at_midnight, midnight_of}
+use Rattle.office_base.specs.Names.{is_bucket_name}
 use Rattle.clap.specs.Walk.{Row, first_of, is_empty}
 use Rattle.clap.specs.Words.{found_of, rows_of, subcommand_of, subcommand_rows_of}
 use Rattle.clap.specs.Faults.{fault_of}
@@ -15,7 +16,8 @@ use Rattle.command_line.specs.declared.line.CommandLine.TheVariants as command_l
 
 -- what a command line asks for: that the journal is made; a run; service at an address, by so many workers, each of
 -- which ends after so many connections; the report of a month, as text or as CSV; the table of stays, by so many
--- workers; a load of so many commands that are generated of a number; or the bills of a month
+-- workers; a load of so many commands that are generated of a number; the bills of a month; or the forecast of a bucket
+-- up to a midnight
 pub data Line : Type 0 where
   init : Line
   run : Line
@@ -24,6 +26,7 @@ pub data Line : Type 0 where
   explain : ℕ → Line
   gen : ℕ → ℕ → Line
   bill : ℕ → Line
+  forecast : List ℕ → ℕ → Line
 
 -- a line that was read
 abbrev pub line_of : CommandLine → Line
@@ -34,6 +37,7 @@ line_of (command_line.Report asked) = report asked.month asked.as_text
 line_of (command_line.Explain workers) = explain workers
 line_of (command_line.Gen number count) = gen number count
 line_of (command_line.Bill asked) = bill asked.month
+line_of (command_line.Forecast asked) = forecast asked.bucket asked.day
 
 -- ---- numbers
 
@@ -122,6 +126,21 @@ gen_of rows =
 abbrev pub bill_of : List Row → Option Line
 bill_of rows = option_map bill (option_and_then month_of_text (given rows (codes "month")))
 
+-- the name of a bucket that a text is, if it is one
+abbrev pub bucket_of_text : List ℕ → Option (List ℕ)
+bucket_of_text text = if is_bucket_name text then Some text else None
+
+-- the midnight that a text names, if it is a date, alone or with the time of a midnight
+abbrev pub midnight_of_text : List ℕ → Option ℕ
+midnight_of_text text = if is_date text && is_at_midnight text then Some (midnight_of text) else None
+
+-- the forecast that is asked for, if the texts name a bucket and a midnight
+abbrev pub forecast_of : List Row → Option Line
+forecast_of rows =
+    option_and_then (λ bucket. option_map (forecast bucket)
+    (option_and_then midnight_of_text (given rows (codes "date"))))
+    (option_and_then bucket_of_text (given rows (codes "bucket")))
+
 -- what a subcommand asks for, by its name and what was given to its options
 abbrev pub subcommand_line : List ℕ × List Row → Option Line
 subcommand_line (name, rows) =
@@ -131,7 +150,8 @@ subcommand_line (name, rows) =
     else (if bytes_eq name (codes "report") then report_of rows
     else (if bytes_eq name (codes "explain") then explain_of rows
     else (if bytes_eq name (codes "gen") then gen_of rows
-    else (if bytes_eq name (codes "bill") then bill_of rows else None))))))
+    else (if bytes_eq name (codes "bill") then bill_of rows
+    else (if bytes_eq name (codes "forecast") then forecast_of rows else None)))))))
 
 -- what the words behind the program's name ask for, where they are a command line
 unfoldable pub asked : List (List ℕ) → Option Line

@@ -57,6 +57,10 @@ gen_words = subcommand (codes "gen") (needed_word (codes "number") ∷ needed_wo
 abbrev pub bill_words : Shape
 bill_words = subcommand (codes "bill") (needed_word (codes "month") ∷ [])
 
+-- the words `forecast BUCKET DATE`
+abbrev pub forecast_words : Shape
+forecast_words = subcommand (codes "forecast") (needed_word (codes "bucket") ∷ needed_word (codes "date") ∷ [])
+
 -- the command without its subcommands: one must be given, and words ask for no help and for no version
 abbrev pub office_top : App
 office_top = record {
@@ -74,7 +78,8 @@ office_top = record {
 abbrev pub office_words : App
 office_words = record {
   top = record office_top.top { is_leaf = false };
-  subs = init_words ∷ run_words ∷ serve_words ∷ report_words ∷ explain_words ∷ gen_words ∷ bill_words ∷ [];
+  subs = init_words ∷ run_words ∷ serve_words ∷ report_words ∷ explain_words ∷ gen_words ∷ bill_words ∷ forecast_words
+      ∷ [];
 }
 
 -- ---- commands in memory

@@ -7,4 +7,4 @@ mod numbers;
 mod words;
 
 pub use laws::{exact_numbers, workers_in_range};
-pub use line::{BillAsked, CommandLine, LineFault, ReportAsked, read_line};
+pub use line::{BillAsked, CommandLine, ForecastAsked, LineFault, ReportAsked, read_line};

@@ -2,14 +2,17 @@
 ghost use Rattle.std.specs.Prelude.{◌≡◌, ◌≢◌, Some, None, ◌≤◌, IfOk, IfSome, IsErrOf, map, string_bytes, option_map};
 ghost use Rattle.std.specs.Prelude.{option_and_then};
 ghost use Rattle.command_line.specs.Lines.{asked, asked_by, subcommand_line, line_of, options_of, serve_of, report_of};
-ghost use Rattle.command_line.specs.Lines.{explain_of, gen_of, bill_of, month_of_text, is_set, number_between};
+ghost use Rattle.command_line.specs.Lines.{explain_of, gen_of, bill_of, forecast_of, month_of_text, midnight_of_text};
+ghost use Rattle.command_line.specs.Lines.{bucket_of_text, is_set, number_between};
 
 use crate::numbers::{number, number_of};
 use crate::words::office;
 use clap::ArgMatches;
 use clap::error::ErrorKind;
-use moments::{Month, read_month};
+use moments::{Moment, Month, read_date, read_month};
+use office_base::{BucketName, NameRefusal};
 use std::alloc::{AllocError, Global};
+use std::fmt::{self, Debug, Formatter, Write};
 
 /// The most workers that serve.
 const MOST_WORKERS: u32 = 64;
@@ -55,6 +58,8 @@ pub enum CommandLine {
     },
     /// The bills of a closed month, posted: `bill MONTH`.
     Bill(BillAsked),
+    /// What a configuration would do to a bucket by a day: `forecast BUCKET DATE`.
+    Forecast(ForecastAsked),
 }
 
 /// Which report a command line asks for.
@@ -69,6 +74,24 @@ pub struct ReportAsked {
 #[derive(Debug, Drop)]
 pub struct BillAsked {
     pub month: Month,
+}
+
+/// Which forecast a command line asks for.
+#[derive(Drop)]
+pub struct ForecastAsked {
+    /// The bucket that would get the configuration.
+    pub bucket: BucketName,
+    /// The midnight up to which it is forecast.
+    pub day: Moment,
+}
+
+impl Debug for ForecastAsked {
+    fn fmt<W: Write>(&self, f: &mut Formatter<W>) -> fmt::Result {
+        f.debug_struct("ForecastAsked")
+            .field("bucket", &self.bucket.text())
+            .field("day", &self.day)
+            .finish()
+    }
 }
 
 /// Why words are not read.
@@ -153,6 +176,9 @@ fn named(alloc: Global, name: &str, given: &ArgMatches) -> Result<CommandLine, L
     if name == "bill" {
         return bill(given);
     }
+    if name == "forecast" {
+        return forecast(alloc, given);
+    }
     Err(LineFault::NotALine)
 }
 
@@ -184,6 +210,45 @@ fn bill(given: &ArgMatches) -> Result<CommandLine, LineFault>
     match month(text) {
         Some(month) => Ok(CommandLine::Bill(BillAsked { month })),
         None => Err(LineFault::NotALine),
+    }
+}
+
+// The midnight that a text names.
+fn midnight(text: &str) -> Option<Moment>
+    ensures { result ≡ midnight_of_text text.now }
+{
+    read_date(text).ok()
+}
+
+// The name of a bucket that a text is.
+fn bucket(alloc: Global, text: &str) -> Result<BucketName, LineFault>
+    ensures read { IfOk result (λ name. bucket_of_text text.now ≡ Some name) }
+    ensures refused { IsErrOf result LineFault.NotALine → bucket_of_text text.now ≡ None }
+{
+    match BucketName::read(alloc, text) {
+        Ok(name) => Ok(name),
+        Err(NameRefusal::BadBucketName) => Err(LineFault::NotALine),
+        Err(_) => Err(LineFault::NoMemory),
+    }
+}
+
+// What the words of `forecast` ask for.
+fn forecast(alloc: Global, given: &ArgMatches) -> Result<CommandLine, LineFault>
+    ensures read { IfOk result (λ line. forecast_of (options_of given.now) ≡ Some (line_of line)) }
+    ensures refused { IsErrOf result LineFault.NotALine → forecast_of (options_of given.now) ≡ None }
+{
+    let Some(name) = given.get_str("bucket") else {
+        return Err(LineFault::NotALine);
+    };
+    let Some(date) = given.get_str("date") else {
+        return Err(LineFault::NotALine);
+    };
+    let Some(day) = midnight(date) else {
+        return Err(LineFault::NotALine);
+    };
+    match bucket(alloc, name) {
+        Ok(bucket) => Ok(CommandLine::Forecast(ForecastAsked { bucket, day })),
+        Err(fault) => Err(fault),
     }
 }
 

@@ -3,7 +3,7 @@ ghost use Rattle.std.specs.Prelude.{◌≡◌, IfOk, false};
 ghost use Rattle.clap.specs.Walk.{rule_of};
 ghost use Rattle.clap.specs.Simple.{new_shape};
 ghost use Rattle.command_line.specs.Words.{option, needed_option, needed_word, flag};
-ghost use Rattle.command_line.specs.Words.{serve_words, report_words, explain_words, gen_words, bill_words, alone};
+ghost use Rattle.command_line.specs.Words.{serve_words, report_words, explain_words, gen_words, bill_words, forecast_words, alone};
 ghost use Rattle.command_line.specs.Words.{office_top, office_words, IsWholeCommand, GetsOption, GetsSubcommand};
 
 use clap::{Arg, ArgAction, Command};
@@ -102,6 +102,14 @@ fn bill<'a>(alloc: Global) -> Result<Command<'a>, AllocError>
     with_option(bare(alloc, "bill"), needed_word(alloc, "month"))
 }
 
+// `forecast BUCKET DATE`.
+fn forecast<'a>(alloc: Global) -> Result<Command<'a>, AllocError>
+    ensures { IfOk result (IsWholeCommand (alone forecast_words)) }
+{
+    let command = with_option(bare(alloc, "forecast"), needed_word(alloc, "bucket"))?;
+    with_option(command, needed_word(alloc, "date"))
+}
+
 // The command without its subcommands.
 fn top<'a>(alloc: Global) -> Command<'a>
     ensures { IsWholeCommand office_top result }
@@ -124,5 +132,6 @@ pub(crate) fn office<'a>(alloc: Global) -> Result<Command<'a>, AllocError>
     let command = with_subcommand(command, report(alloc)?)?;
     let command = with_subcommand(command, explain(alloc)?)?;
     let command = with_subcommand(command, generate(alloc)?)?;
-    with_subcommand(command, bill(alloc)?)
+    let command = with_subcommand(command, bill(alloc)?)?;
+    with_subcommand(command, forecast(alloc)?)
 }

@@ -4,7 +4,7 @@ use std::alloc::Global;
 use std::process::Abort;
 
 // Words, one space between two, and what they are read as.
-const LINES: [(&str, &str); 56] = [
+const LINES: [(&str, &str); 66] = [
     ("init", "Ok(Init)"),
     ("run", "Ok(Run)"),
     (
@@ -51,6 +51,22 @@ const LINES: [(&str, &str); 56] = [
     ("bill 2024-13", "Err(NotALine)"),
     ("bill 2024-01 --text", "Err(NotALine)"),
     ("bill 2024-01 2024-02", "Err(NotALine)"),
+    (
+        "forecast logs 2024-01-31",
+        "Ok(Forecast(ForecastAsked { bucket: \"logs\", day: Moment { ms: 1706659200000 } }))",
+    ),
+    (
+        "forecast a.b-3 1970-01-01T00:00:00.000Z",
+        "Ok(Forecast(ForecastAsked { bucket: \"a.b-3\", day: Moment { ms: 0 } }))",
+    ),
+    ("forecast", "Err(NotALine)"),
+    ("forecast logs", "Err(NotALine)"),
+    ("forecast lo 2024-01-31", "Err(NotALine)"),
+    ("forecast Logs 2024-01-31", "Err(NotALine)"),
+    ("forecast logs 2024-02-30", "Err(NotALine)"),
+    ("forecast logs 2024-01", "Err(NotALine)"),
+    ("forecast logs 2024-01-31T12:00:00Z", "Err(NotALine)"),
+    ("forecast logs 2024-01-31 --text", "Err(NotALine)"),
     ("explain --workers 0", "Err(NotALine)"),
     ("explain 4", "Err(NotALine)"),
     ("gen", "Err(NotALine)"),

@@ -1,6 +1,6 @@
 use Rattle.std.proofs.lemmas.Result.{IfOk-weaker}
 use Rattle.clap.specs.Simple.{with_subcommand}
-use Rattle.command_line.specs.Words.{alone, init_words, run_words, serve_words, report_words, explain_words, gen_words, bill_words, office_top}
+use Rattle.command_line.specs.Words.{alone, init_words, run_words, serve_words, report_words, explain_words, gen_words, bill_words, forecast_words, office_top}
 use Rattle.command_line.proofs.words.office.Goals as goal
 
 pub returns : goal.returns
@@ -17,4 +17,6 @@ returns c =
     let five = c.in_ok-command-5.ensures reports (alone explain_words) four c.in_ok-explain.ensures in
     let generates = with_subcommand explains gen_words in
     let six = c.in_ok-command-6.ensures explains (alone gen_words) five c.in_ok-generate.ensures in
-    IfOk-weaker c.with_subcommand-7.result _ _ (λ _ h. h generates (alone bill_words) six c.in_ok-bill.ensures) c.with_subcommand-7.ensures
+    let bills = with_subcommand generates bill_words in
+    let seven = c.in_ok-command-7.ensures generates (alone bill_words) six c.in_ok-bill.ensures in
+    IfOk-weaker c.with_subcommand-8.result _ _ (λ _ h. h bills (alone forecast_words) seven c.in_ok-forecast.ensures) c.with_subcommand-8.ensures
