@@ -1,5 +1,7 @@
 pub mod Billing
+pub mod Configuring
 pub mod Explaining
+pub mod Forecasting
 pub mod Lines
 pub mod Loading
 pub mod Making

@@ -45,6 +45,10 @@ IsReportExit status = (status ≡ 10) ⊎ IsRunExit status
 abbrev pub IsBillExit : ℕ → Type 0
 IsBillExit status = (status ≡ 11) ⊎ ((status ≡ 12) ⊎ ((status ≡ 13) ⊎ IsRunExit status))
 
+-- the status of a forecast: that of a run, or that there is none for what was proposed
+abbrev pub IsForecastExit : ℕ → Type 0
+IsForecastExit status = (status ≡ 14) ⊎ IsRunExit status
+
 -- the status of a command that was done, but for want of memory, too long an input, and a report without a tariff
 abbrev pub IsDoneExit : ℕ → Type 0
 IsDoneExit status = (status ≡ 0) ⊎ ((status ≡ 6) ⊎ ((status ≡ 9) ⊎ (status ≡ 10)))
@@ -63,7 +67,7 @@ made_line mades.Before = line (codes "already made")
 -- what is noted of words that are no command line
 unfoldable pub usage_note : List ℕ
 usage_note = line (codes
-    "usage: office init; run; serve --listen A [--workers N] [--connections K]; report MONTH [--text]; explain [--workers N]; gen NUMBER COUNT; bill MONTH")
+    "usage: office init; run; serve --listen A [--workers N] [--connections K]; report MONTH [--text]; explain [--workers N]; gen NUMBER COUNT; bill MONTH; forecast BUCKET DATE")
 
 -- of a clock that is at its end
 unfoldable pub clock_note : List ℕ
@@ -84,6 +88,10 @@ other_bills_note = line (codes "bill: other bills kept")
 -- of a keeper of bills that failed
 unfoldable pub keeper_note : List ℕ
 keeper_note = line (codes "bills: failed")
+
+-- of a forecast that is refused, for the reason with this number
+unfoldable pub refused_note : ℕ → List ℕ
+refused_note number = line (codes "forecast: refused " ++ decimal number)
 
 -- of the end of a session, with a desk that is stale then or not; nothing where all was done
 unfoldable pub end_note : SessionEnd → Bool → List ℕ

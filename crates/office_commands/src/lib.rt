@@ -2,8 +2,10 @@
 #![tactic(auto)]
 
 mod billing;
+mod configuration;
 mod end;
 mod explaining;
+mod forecasting;
 mod lines;
 mod loading;
 mod making;
@@ -12,8 +14,10 @@ mod running;
 mod saying;
 
 pub use billing::bill;
+pub use configuration::ConfigurationFault;
 pub use end::{End, JOURNAL_LIMIT};
 pub use explaining::stays;
+pub use forecasting::foretell;
 pub use lines::{MEMORY, STORE, USAGE, end_line, note_line, refuse_words, usage};
 pub use loading::load;
 pub use making::init;

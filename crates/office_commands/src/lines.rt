@@ -4,7 +4,7 @@ ghost use Rattle.http_front.specs.declared.answering.SessionEnd.TheVariants.{NoM
 ghost use Rattle.meter_journal.specs.declared.fault.OpenFault.TheVariants.{Damaged};
 ghost use Rattle.office_commands.specs.Lines.{session_exit, fault_exit, made_line, usage_note};
 ghost use Rattle.office_commands.specs.Lines.{clock_note, tariff_note, end_note, fault_note};
-ghost use Rattle.office_commands.specs.Lines.{open_month_note, other_bills_note, keeper_note};
+ghost use Rattle.office_commands.specs.Lines.{open_month_note, other_bills_note, keeper_note, refused_note};
 ghost use Rattle.office_commands.specs.Running.{IsNoted, IsSilent};
 
 use http_front::{Replies, SessionEnd};
@@ -32,6 +32,12 @@ pub(crate) const MONTH_OPEN: u8 = 12;
 /// The status where the month has other bills.
 pub(crate) const OTHER_BILLS: u8 = 13;
 
+/// The status where there is no forecast for what was proposed.
+pub(crate) const REFUSED: u8 = 14;
+
+/// The status where the input failed.
+pub(crate) const INPUT: u8 = 3;
+
 /// The status where the clock is at its end.
 pub(crate) const CLOCK_END: u8 = 8;
 
@@ -44,7 +50,7 @@ pub(crate) fn run_exit(end: SessionEnd, stale: bool) -> u8
 {
     match end {
         SessionEnd::WriteFault => OUTPUT,
-        SessionEnd::ReadFault => 3,
+        SessionEnd::ReadFault => INPUT,
         SessionEnd::Spent => 9,
         SessionEnd::NoMemory => if stale { STORE } else { MEMORY },
         SessionEnd::Ended => if stale { STORE } else { 0 },
@@ -79,7 +85,7 @@ pub fn usage() -> &'static [u8]
     ensures { result.now ≡ usage_note }
 {
     b"usage: office init; run; serve --listen A [--workers N] [--connections K]; report MONTH [--text]; explain \
-[--workers N]; gen NUMBER COUNT; bill MONTH\n"
+[--workers N]; gen NUMBER COUNT; bill MONTH; forecast BUCKET DATE\n"
 }
 
 #[tactic(auto, unfolding(crate::specs::Lines::clock_note))]
@@ -172,6 +178,31 @@ fn put_damage(room: &mut [u8], offset: u64) -> usize
     let front = put(room, 0, DAMAGED);
     let end = put(room, front, digits);
     put(room, end, b"\n")
+}
+
+// Writes the line of a forecast that is refused into the room, and answers its length.
+#[tactic(auto, unfolding(crate::specs::Lines::refused_note))]
+fn put_refused(room: &mut [u8], number: u64) -> usize
+    requires { 48 ≤ length room.old }
+    ensures small { result ≤ 48 }
+    ensures line { take result room.new ≡ refused_note number }
+{
+    let mut buffer = itoa::Buffer::new();
+    let digits = buffer.format(number).as_bytes();
+    let front = put(room, 0, b"forecast: refused ");
+    let end = put(room, front, digits);
+    put(room, end, b"\n")
+}
+
+// Notes that there is no forecast, for the reason with this number. Takes no memory.
+pub(crate) fn note_refused<W: Replies>(out: &mut W, number: u64)
+    ensures silent { IsSilent W.Replies out.old out.new }
+    ensures noted { IsNoted W.Replies out.old out.new (refused_note number) }
+    ensures later { W.faults out.old ≤ W.faults out.new }
+{
+    let mut room = [0; 48];
+    let size = put_refused(&mut room, number);
+    note_line(out, &room[..size]);
 }
 
 fn note_damage<W: Replies>(out: &mut W, offset: u64)

@@ -1,0 +1,48 @@
+-- What the input says as a lifecycle configuration.
+use Rattle.std.specs.Prelude.{◌≡◌, ◌≤◌, ◌+◌, ℕ, List, length, Result, Ok, Err}
+use Rattle.std.specs.Io.KnownBytes.{Consumes, IsAtEnd}
+use Rattle.rules_core.specs.Configurations.{Configuration}
+use Rattle.rules_json.specs.Reading.{rules_of}
+use Rattle.rules_json.specs.declared.fault.RulesFault.{RulesFault}
+use Rattle.rules_json.specs.declared.fault.RulesFault.TheVariants as rules
+use Rattle.http_front.specs.Counts.{GaveBytes, StreamEnds}
+use Rattle.http_front.specs.Texts.{flaw_number}
+use Rattle.office_commands.specs.declared.configuration.ConfigurationFault.{ConfigurationFault}
+use Rattle.office_commands.specs.declared.configuration.ConfigurationFault.TheVariants as faults
+
+-- as many as the body of a message has at most (own)
+abbrev pub most_configuration_bytes : ℕ
+most_configuration_bytes = 1_048_576
+
+-- the input was read to its end, and gave these bytes, which are not too many
+pub record IsWholeInput (input : StreamEnds) (bytes : List ℕ) : Type 0 where
+  pub read : Consumes input.stream input.left bytes
+  pub at_end : IsAtEnd input.left
+  pub short : length bytes ≤ most_configuration_bytes
+
+-- the input gave one byte more than that
+abbrev pub IsTooLong : StreamEnds → Type 0
+IsTooLong input = GaveBytes input.stream input.left (most_configuration_bytes + 1)
+
+-- the whole input is read as a configuration, or as none for this reason
+abbrev pub IsReadSo : StreamEnds → Result Configuration RulesFault → Type 0
+IsReadSo input answer = (bytes : List ℕ) × IsWholeInput input bytes × (rules_of bytes ≡ answer)
+
+-- what the input says; nothing is said of it where it failed, and where memory ran out
+abbrev pub SaysRules : StreamEnds → Result Configuration ConfigurationFault → Type 0
+SaysRules input (Ok configuration) = IsReadSo input (Ok configuration)
+SaysRules input (Err faults.TooLong) = IsTooLong input
+SaysRules input (Err (faults.Refused fault)) = IsReadSo input (Err fault)
+SaysRules input (Err faults.ReadFault) = Unit {0}
+SaysRules input (Err faults.NoMemory) = Unit {0}
+
+-- the number of a fault, as replies tell it (own)
+abbrev pub fault_number : RulesFault → ℕ
+fault_number rules.NotADate = 2
+fault_number rules.NotMidnight = 3
+fault_number (rules.Flaw flaw rule) = flaw_number flaw
+fault_number rules.NotJson = 40
+fault_number (rules.UnknownField name) = 41
+fault_number (rules.WrongShape field) = 42
+fault_number (rules.UnsupportedClass name) = 43
+fault_number rules.NoMemory = 115
