@@ -80,6 +80,9 @@ pub struct Command {
     /// What the clock tells, the last again and again.
     pub clock: Vec<Value>,
     pub input: Option<String>,
+    /// How many spaces come before the input.
+    #[serde(default)]
+    pub spaces: usize,
     /// The numbers of the reads of the input that fail, counted from 1.
     #[serde(default)]
     pub failing_reads: Vec<u64>,

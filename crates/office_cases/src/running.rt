@@ -107,15 +107,15 @@ pub fn given_command(alloc: Global, command: &Command, cut: usize) -> Result<Giv
     for value in &command.clock {
         clock.push(number_of(alloc, value)?)?;
     }
-    let input = match &command.input {
-        Some(input) => input.as_str(),
-        None => "",
-    };
+    let mut input = vec![in alloc; b' '; command.spaces]?;
+    if let Some(text) = &command.input {
+        input.extend_from_slice(text.as_bytes())?;
+    }
     let reads = command.failing_reads.to_vec(alloc)?;
     Ok(Given {
         words: &command.words,
         clock,
-        source: MemorySource::new(input.as_bytes().to_vec(alloc)?, cut, reads),
+        source: MemorySource::new(input, cut, reads),
         out: MemoryReplies::new(alloc, command.failing_texts.to_vec(alloc)?),
         port: port_of(alloc, &command.connections, &command.failing_port)?,
     })

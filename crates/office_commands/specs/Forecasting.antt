@@ -27,6 +27,10 @@ use Rattle.office_commands.specs.declared.configuration.ConfigurationFault.TheVa
 use Rattle.office_commands.specs.Lines.{end_note, refused_note}
 use Rattle.office_commands.specs.Running.{Surroundings, IsNoted, IsSilent, IsPutOut, RunsOut, Starts}
 
+-- a forecast of this bucket by this day
+abbrev pub asking : List ℕ → ℕ → ForecastAsked
+asking bucket day = record { bucket = bucket; day = day }
+
 -- the bucket that is asked for gets this configuration at the moment, and is swept at the day that is asked for
 abbrev pub proposal : ForecastAsked → Configuration → ℕ → Proposal
 proposal asked rules t = record { bucket = asked.bucket; rules = rules; from = t; until = asked.day }

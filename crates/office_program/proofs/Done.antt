@@ -1,7 +1,7 @@
 -- A command that met no fault is done.
 use Rattle.std.proofs.Common.{◌≡◌, ◌⊎◌, ◌∙◌, refl, sym, ap, subst, inl, inr, arith, ℕ, List, [], ◌∷◌, Option, Some, None, Bool, true, false}
 use Rattle.std.specs.Prelude.{◌||◌, nat_eq, IsTrue}
-use Rattle.command_line.specs.Lines.{Line, init, run, serve, report, explain, bill}
+use Rattle.command_line.specs.Lines.{Line, init, run, serve, report, explain, bill, forecast}
 use Rattle.command_line.specs.declared.line.LineFault.{LineFault}
 use Rattle.command_line.specs.declared.line.LineFault.TheVariants as refusals
 use Rattle.meter_journal.specs.declared.fault.OpenFault.{OpenFault}
@@ -10,7 +10,7 @@ use Rattle.http_front.specs.declared.answering.SessionEnd.{SessionEnd}
 use Rattle.http_front.specs.declared.answering.SessionEnd.TheVariants as ends
 use Rattle.serving.specs.declared.worker.WorkerEnd.{WorkerEnd}
 use Rattle.serving.specs.declared.worker.WorkerEnd.TheVariants as workers
-use Rattle.office_commands.specs.Lines.{session_exit, fault_exit, IsRunExit, IsReportExit, IsBillExit, IsDoneExit}
+use Rattle.office_commands.specs.Lines.{session_exit, fault_exit, IsRunExit, IsReportExit, IsBillExit, IsForecastExit, IsDoneExit}
 use Rattle.office_program.specs.Workers.{workers_exit, IsServeExit}
 
 module _ (status : ℕ) (store : status ≡ 2 → ⊥) (journal : status ≡ 5 → ⊥) where
@@ -40,6 +40,10 @@ module _ (status : ℕ) (store : status ≡ 2 → ⊥) (journal : status ≡ 5 �
     bill_done (inr (inl twelve)) = inr (inr (inl twelve))
     bill_done (inr (inr (inl thirteen))) = inr (inr (inr thirteen))
     bill_done (inr (inr (inr other))) = inl (run_done other)
+
+    pub forecast_done : IsForecastExit status → IsDoneExit status ⊎ (status ≡ 14)
+    forecast_done (inl fourteen) = inr fourteen
+    forecast_done (inr other) = inl (run_done other)
 
     pub report_done : IsReportExit status → IsDoneExit status
     report_done (inl ten) = inr (inr (inr ten))
@@ -154,11 +158,11 @@ module _ (fault : LineFault) (status : ℕ) (one : fault ≡ refusals.NotALine �
   pub refusal_none : (n : ℕ) → is_refusal_exit n ≡ false → status ≡ n → ⊥
   refusal_none n differs is = not_one is_refusal_exit status n differs (refusal_held (refusal_is fault status one six)) is
 
-  named : (status ≡ 1) ⊎ (status ≡ 6) → (status ≡ 1) ⊎ ((status ≡ 8) ⊎ (IsReportExit status ⊎ (IsServeExit status ⊎ IsBillExit status)))
+  named : (status ≡ 1) ⊎ (status ≡ 6) → (status ≡ 1) ⊎ ((status ≡ 8) ⊎ (IsReportExit status ⊎ (IsServeExit status ⊎ (IsBillExit status ⊎ IsForecastExit status))))
   named (inl is) = inl is
   named (inr is) = inr (inr (inr (inl (inr (faults.NoMemory, is)))))
 
-  pub refusal_known : (status ≡ 1) ⊎ ((status ≡ 8) ⊎ (IsReportExit status ⊎ (IsServeExit status ⊎ IsBillExit status)))
+  pub refusal_known : (status ≡ 1) ⊎ ((status ≡ 8) ⊎ (IsReportExit status ⊎ (IsServeExit status ⊎ (IsBillExit status ⊎ IsForecastExit status))))
   refusal_known = named (refusal_is fault status one six)
 
 six_not_one : (status : ℕ) → status ≡ 6 → status ≡ 1 → ⊥
@@ -179,6 +183,11 @@ late_none status n other none (inr holds) is = none holds is
 pub report_none : (status n : ℕ) → is_run_exit n ≡ false → nat_eq 10 n ≡ false → IsReportExit status → status ≡ n → ⊥
 report_none status n differs other (inl ten) is = absurd_true (sym (subst (λ (x : ℕ). nat_eq 10 x ≡ true) (sym ten ∙ is) refl) ∙ other)
 report_none status n differs other (inr holds) is = run_none status n differs holds is
+
+-- of a forecast
+pub forecast_none : (status n : ℕ) → is_run_exit n ≡ false → nat_eq 14 n ≡ false → IsForecastExit status → status ≡ n → ⊥
+forecast_none status n differs other (inl fourteen) is = absurd_true (sym (subst (λ (x : ℕ). nat_eq 14 x ≡ true) (sym fourteen ∙ is) refl) ∙ other)
+forecast_none status n differs other (inr holds) is = run_none status n differs holds is
 
 -- of a billing
 pub bill_none : (status n : ℕ) → is_run_exit n ≡ false → is_one_of (11 ∷ 12 ∷ 13 ∷ []) n ≡ false → IsBillExit status → status ≡ n → ⊥
@@ -224,6 +233,25 @@ init_is_not_bill month is = absurd cc
 
 pub init_not_bill : (line : Option Line) (month : ℕ) → line ≡ Some init → line ≡ Some (bill month) → ⊥
 init_not_bill line month first second = init_is_not_bill month (sym first ∙ second)
+
+init_is_not_forecast : (bucket : List ℕ) (day : ℕ) → Some init ≡ Some (forecast bucket day) → ⊥
+init_is_not_forecast bucket day is = absurd cc
+
+pub init_not_forecast : (line : Option Line) (bucket : List ℕ) (day : ℕ) → line ≡ Some init → line ≡ Some (forecast bucket day) → ⊥
+init_not_forecast line bucket day first second = init_is_not_forecast bucket day (sym first ∙ second)
+
+-- a bucket and a day that are forecast
+abbrev asked_of : Line → List ℕ × ℕ
+asked_of (forecast bucket day) = (bucket, day)
+asked_of other = ([], 0)
+
+abbrev asked_in : Option Line → List ℕ × ℕ
+asked_in None = ([], 0)
+asked_in (Some line) = asked_of line
+
+pub same_forecast : (line : Option Line) (bucket other : List ℕ) (day later : ℕ) → line ≡ Some (forecast bucket day) → line ≡ Some (forecast other later)
+    → (bucket, day) ≡ (other, later)
+same_forecast line bucket other day later first second = ap asked_in (sym first ∙ second)
 
 -- a month that is billed
 abbrev month_of : Line → ℕ

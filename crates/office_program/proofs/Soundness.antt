@@ -16,7 +16,10 @@ use Rattle.http_front.specs.declared.replies.Replies as sinks
 use Rattle.bill_book.specs.declared.keeper.BillKeeper as keepers
 use Rattle.office_commands.specs.Billing.{Billing, BillsMonth}
 use Rattle.office_commands.specs.Making.{Inits}
+use Rattle.command_line.specs.declared.line.ForecastAsked.{ForecastAsked}
+use Rattle.http_front.specs.Counts.{StreamEnds}
 use Rattle.office_commands.specs.Explaining.{Explains}
+use Rattle.office_commands.specs.Forecasting.{ForecastsBucket}
 use Rattle.office_commands.specs.Reporting.{TellsMonth}
 use Rattle.office_commands.specs.Running.{Surroundings, FailsToOpen, Starts}
 
@@ -50,6 +53,11 @@ module _ {D C W : Type 0} (d : disks.Ghosts D) (k : clocks.Ghosts C) (w : sinks.
   pub billed_sound : {K : Type 0} (b : keepers.Ghosts K) (one : Billing K) (first : ℕ) (old new : Surroundings D C W) (status : ℕ) → IsSound (d.state old.disk)
       → BillsMonth d w b one first old new status → StaysSound old.disk new.disk
   billed_sound b one first old new status sound r =
+      weakened IsSound (r.any_moment tells) (λ s narrow. narrower_sound (d.state old.disk) s sound narrow)
+
+  pub foretold_sound : (asked : ForecastAsked) (input : StreamEnds) (first : ℕ) (old new : Surroundings D C W) (status : ℕ) → IsSound (d.state old.disk)
+      → ForecastsBucket d w asked input first old new status → StaysSound old.disk new.disk
+  foretold_sound asked input first old new status sound r =
       weakened IsSound (r.any_moment tells) (λ s narrow. narrower_sound (d.state old.disk) s sound narrow)
 
   pub explained_sound : (old new : Surroundings D C W) (status : ℕ) → IsSound (d.state old.disk) → Explains d k w old new status → StaysSound old.disk new.disk

@@ -1,9 +1,9 @@
 -- What the program does with the words behind its name, whatever they ask for.
 use Rattle.std.specs.Prelude.{◌≡◌, ◌⊎◌, ◌≤◌, ℕ, Bool, String, List, Option, Some, None, map, string_bytes}
 use Rattle.office_base.specs.Faults.{Rose}
-use Rattle.command_line.specs.Lines.{Line, asked, init, run, serve, report, bill}
+use Rattle.command_line.specs.Lines.{Line, asked, init, run, serve, report, bill, forecast}
 use Rattle.http_front.specs.declared.replies.Replies as sinks
-use Rattle.office_commands.specs.Lines.{usage_note, IsReportExit, IsBillExit, IsDoneExit}
+use Rattle.office_commands.specs.Lines.{usage_note, IsReportExit, IsBillExit, IsForecastExit, IsDoneExit}
 use Rattle.office_program.specs.Workers.{IsServeExit}
 use Rattle.office_commands.specs.Running.{Surroundings, IsNoted, IsSilent, SaysNoReply, NotesNothing, IsUnread}
 
@@ -22,6 +22,14 @@ IsReport line = (month : ℕ) × (as_text : Bool) × (line ≡ Some (report mont
 -- it asks for the bills of a month
 abbrev pub IsBill : Option Line → Type 0
 IsBill line = (month : ℕ) × (line ≡ Some (bill month))
+
+-- it asks for a forecast
+abbrev pub IsForecastLine : Option Line → Type 0
+IsForecastLine line = (bucket : List ℕ) × (day : ℕ) × (line ≡ Some (forecast bucket day))
+
+-- it reads the input: as messages, or as a configuration
+abbrev pub ReadsInput : Option Line → Type 0
+ReadsInput line = (line ≡ Some run) ⊎ IsForecastLine line
 
 -- ---- what is done
 
@@ -49,9 +57,9 @@ module _ {W : Type 0} (w : sinks.Ghosts W) where
     pub no_text : (line ≡ Some run) ⊎ IsServe line → w.texts new ≡ w.texts old
     -- nothing is noted where all was done, and nothing was lost
     pub unnoted : status ≡ 0 → NotesNothing w old new
-    -- the input is read by a run alone, the port used by a server alone, the keeper of bills asked by a billing alone,
-    -- and none of them where the journal was not opened
-    pub unread : (line ≡ Some run → ⊥) → input_stays
+    -- the input is read by a run and a forecast alone, the port used by a server alone, the keeper of bills asked by a
+    -- billing alone, and none of them where the journal was not opened
+    pub unread : (ReadsInput line → ⊥) → input_stays
     pub unused : (IsServe line → ⊥) → port_stays
     pub unbilled : (IsBill line → ⊥) → keeper_stays
     pub unopened : (status ≡ 5) ⊎ (status ≡ 8) → input_stays × port_stays × keeper_stays
@@ -82,12 +90,19 @@ abbrev pub NoBillingFailed : FaultCounts → FaultCounts → Type 0
 NoBillingFailed old new =
     (Rose old.disk new.disk → ⊥) × (Rose old.output new.output → ⊥) × (Rose old.keeper new.keeper → ⊥)
 
+-- neither the disk, nor the input and the output failed meanwhile
+abbrev pub NoForecastingFailed : FaultCounts → FaultCounts → Type 0
+NoForecastingFailed old new =
+    (Rose old.disk new.disk → ⊥) × (Rose old.input new.input → ⊥) × (Rose old.output new.output → ⊥)
+
 -- Each status has its cause. The input and the port did not fail where another status is told, and the keeper of bills
 -- did not where all was done. Why a month is refused, since it is not closed (12) or has other bills (13), is part of
--- what `bill` does (`BillsOffice`, `TellsPosting`). The bytes of a journal that
--- is not opened tell why (`OpenFails`, by `FailsToOpen`); `init` refuses a foreign one alone.
+-- what `bill` does (`BillsOffice`, `TellsPosting`), and why there is no forecast (14) part of what `forecast` does
+-- (`TellsSaid`). The bytes of a journal that is not opened tell why (`OpenFails`, by `FailsToOpen`); `init` refuses a
+-- foreign one alone.
 pub record IsCaused (line : Option Line) (old new : FaultCounts) (foreign spent : Type 0) (status : ℕ) : Type 0 where
-  pub known : (status ≡ 1) ⊎ ((status ≡ 8) ⊎ (IsReportExit status ⊎ (IsServeExit status ⊎ IsBillExit status)))
+  pub known : (status ≡ 1) ⊎ ((status ≡ 8) ⊎ (IsReportExit status ⊎ (IsServeExit status ⊎ (IsBillExit status
+      ⊎ IsForecastExit status))))
   pub usage : status ≡ 1 → line ≡ None
   pub disk_fault : status ≡ 2 → Rose old.disk new.disk
   pub read_fault : status ≡ 3 → Rose old.input new.input
@@ -102,8 +117,11 @@ pub record IsCaused (line : Option Line) (old new : FaultCounts) (foreign spent 
   pub keeper_fault : status ≡ 11 → Rose old.keeper new.keeper
   pub keeper_done : status ≡ 0 → new.keeper ≡ old.keeper
   pub bill_only : (status ≡ 11) ⊎ ((status ≡ 12) ⊎ (status ≡ 13)) → IsBill line
+  pub input_only : status ≡ 3 → ReadsInput line
+  pub forecast_only : status ≡ 14 → IsForecastLine line
 
--- the command line was done, but for want of memory, too long an input, a report without a tariff, and a month that is
--- not billed, since the keeper failed, the month is not closed, or it has other bills
+-- the command line was done, but for want of memory, too long an input, a report without a tariff, a month that is not
+-- billed, since the keeper failed, the month is not closed, or it has other bills, and a forecast that is refused
 abbrev pub IsDone : Option Line → ℕ → Type 0
-IsDone line status = IsDoneExit status ⊎ (IsBill line × ((status ≡ 11) ⊎ ((status ≡ 12) ⊎ (status ≡ 13))))
+IsDone line status = IsDoneExit status ⊎ ((IsBill line × ((status ≡ 11) ⊎ ((status ≡ 12) ⊎ (status ≡ 13))))
+    ⊎ (IsForecastLine line × (status ≡ 14)))

@@ -8,14 +8,15 @@ ghost use Rattle.desk_core.specs.Histories.{HasAcceptedHistory, IsSound};
 ghost use Rattle.meter_journal.specs.Reading.{IsForeign};
 ghost use Rattle.command_line.specs.Lines.{init as init_line, run as run_line, serve as serve_line};
 ghost use Rattle.command_line.specs.Lines.{report as report_line, explain as explain_line, gen as gen_line};
-ghost use Rattle.command_line.specs.Lines.{bill as bill_line};
+ghost use Rattle.command_line.specs.Lines.{bill as bill_line, forecast as forecast_line};
 ghost use Rattle.http_front.specs.declared.answering.SessionEnd.TheVariants.{NoMemory};
 ghost use Rattle.office_program.specs.Commands.{asks, faults, Obeys, RefusesWords, TouchesOwn, IsCaused, NoneFailed};
-ghost use Rattle.office_program.specs.Commands.{IsDone, NoBillingFailed};
+ghost use Rattle.office_program.specs.Commands.{IsDone, NoBillingFailed, NoForecastingFailed};
 ghost use Rattle.office_commands.specs.Lines.{usage_note, end_note};
 ghost use Rattle.office_commands.specs.Billing.{billing, Bills, CanBill};
 ghost use Rattle.office_commands.specs.Making.{InitsAlone};
 ghost use Rattle.office_commands.specs.Explaining.{Explains};
+ghost use Rattle.office_commands.specs.Forecasting.{asking, Forecasts, CanForecast};
 ghost use Rattle.office_commands.specs.Loading.{Loads};
 ghost use Rattle.office_commands.specs.Reporting.{Reports};
 ghost use Rattle.office_commands.specs.Running.{around, IsNoted, IsSilent, Runs};
@@ -29,7 +30,7 @@ use disk_core::Disk;
 use http_front::{Replies, SessionEnd};
 use http_wire::Source;
 use office_commands::{
-    End, MEMORY, USAGE, bill, end_line, init, load, note_line, report, run, stays, usage,
+    End, MEMORY, USAGE, bill, end_line, foretell, init, load, note_line, report, run, stays, usage,
 };
 use serving::{Gate, Port};
 use std::alloc::Global;
@@ -65,8 +66,8 @@ fn refuse_line<W: Replies>(out: &mut W, fault: LineFault) -> u8
     }
 }
 
-/// Does one command of the program: `init`, `run`, `serve`, `report`, `explain`, `gen` or `bill`. The words are those
-/// behind the program's name.
+/// Does one command of the program: `init`, `run`, `serve`, `report`, `explain`, `gen`, `bill` or `forecast`. The words
+/// are those behind the program's name.
 ///
 /// `init` makes the journal where it is not made, and says whether it was. `run` asks the clock once, opens the
 /// office over the journal, answers the messages of the input in order, each once its effect is durable, and closes
@@ -77,18 +78,23 @@ fn refuse_line<W: Replies>(out: &mut W, fault: LineFault) -> u8
 /// every stay of it, from which a bill can be checked by hand. `gen` makes commands that are generated of a number,
 /// on a disk in memory, and prints how many were accepted. `bill` asks the clock once, opens the office, posts the
 /// bills of a closed month's report to the keeper, and prints how many they are and what they come to; where the keeper
-/// has these bills already, nothing is posted. A line on a fault goes to the notes.
+/// has these bills already, nothing is posted. `forecast` asks the clock once, opens the office, reads a lifecycle
+/// configuration from the input, and prints what it would do to a bucket by a day, and what that would cost, as of that
+/// number or of the last accepted command, where that is later; it writes nothing to the journal. A line on a fault goes
+/// to the notes.
 ///
 /// The status is 0 where all was done; 1 where the words are no command line; 2 where the disk did not do a call,
 /// at `init` or at the opening, or in a call since which no other ask was answered; 3 where the input could not be
 /// read; 4 where a text could not be said; 5 where the journal is not made, foreign or damaged; 6 where memory ran
 /// out; 7 where the port did not listen or gave no connection; 8 where the first number that the clock told a
-/// `run`, a `serve`, a `report` or a `bill` is not below the end of time, 4,102,444,800,000 milliseconds, and then
-/// nothing else was done; 9 where 2^40 bytes of input were taken and more is needed; 10 where a report has no tariff;
-/// 11 where the keeper of bills failed; 12 where the month to be billed is not closed; 13 where the keeper has other
-/// bills of the month. After 11, and after 4 of a `bill`, the month may have been posted, whole and with these bills,
-/// and may be billed again. A connection that fails, or in whose session memory runs out, ends alone and gives no
-/// status. Where several hold, the status is the first of 1, 8, 5, 4, 3, 9, 7, 2, 6, 10, 12, 11, 13.
+/// `run`, a `serve`, a `report`, a `bill` or a `forecast` is not below the end of time, 4,102,444,800,000 milliseconds,
+/// and then nothing else was done; 9 where 2^40 bytes of input were taken and more is needed; 10 where a report has no
+/// tariff; 11 where the keeper of bills failed; 12 where the month to be billed is not closed; 13 where the keeper has
+/// other bills of the month; 14 where there is no forecast, since the input has more than 1,048,576 bytes or is no
+/// configuration, the day is before the moment of the forecast, or the office refuses the configuration. After 11, and
+/// after 4 of a `bill`, the month may have been posted, whole and with these bills, and may be billed again. A
+/// connection that fails, or in whose session memory runs out, ends alone and gives no status. Where several hold, the
+/// status is the first of 1, 8, 5, 4, 3, 9, 7, 2, 6, 10, 12, 11, 13, 14.
 pub fn office<S, W, D, C, P, G, K, R>(
     rt: &R,
     alloc: Global,
@@ -135,6 +141,11 @@ where
         → Obeys W.Replies (keeper.new ≡ keeper.old)
         (Bills D.Disk C.Clock W.Replies K.BillKeeper (billing month keeper.old keeper.new))
         (around disk clock out.old) (around result.disk result.clock out.new) result.status }
+    ensures forecast { (bucket : List ℕ) (day : ℕ) → asks words.now ≡ Some (forecast_line bucket day)
+        → Obeys W.Replies (input.new ≡ input.old)
+        (Forecasts D.Disk C.Clock W.Replies (input.new ≡ input.old) (asking bucket day)
+        (stream_ends (S.left input.old) (S.left input.new)))
+        (around disk clock out.old) (around result.disk result.clock out.new) result.status }
     ensures init { asks words.now ≡ Some init_line → Obeys W.Replies (Unit {0}) (InitsAlone D.Disk W.Replies)
         (around disk clock out.old) (around result.disk result.clock out.new) result.status }
     ensures other { asks words.now ≡ None → Obeys W.Replies (Unit {0}) (RefusesWords W.Replies)
@@ -180,6 +191,18 @@ where
         (faults (D.fault_count result.disk) (S.faults input.new) (W.faults out.new) (P.faults port.new)
         (K.faults keeper.new))
         → (result.status ≡ 8 → ⊥) → (result.status ≡ 0) ⊎ (result.status ≡ 6) }
+
+    // What can be forecast is, where nothing that a forecast works on fails and the clock is not at its end: the input
+    // tells its bytes, which are a configuration, and the office takes it as of the number that the clock told.
+    ensures forecastable { (bucket : List ℕ) (day : ℕ) (history : List Entry) (bytes : List ℕ)
+        → asks words.now ≡ Some (forecast_line bucket day)
+        → IsTrue D.honest → HasAcceptedHistory history (D.state disk).journal.seen
+        → S.left input.old ≡ Some bytes → CanForecast history (asking bucket day) bytes (C.last result.clock)
+        → NoForecastingFailed (faults (D.fault_count disk) (S.faults input.old) (W.faults out.old) (P.faults port.old)
+        (K.faults keeper.old))
+        (faults (D.fault_count result.disk) (S.faults input.new) (W.faults out.new) (P.faults port.new)
+        (K.faults keeper.new))
+        → (result.status ≡ 8 → ⊥) → (result.status ≡ 0) ⊎ (result.status ≡ 6) }
 {
     sound_now(&disk);
     match read_line(alloc, words) {
@@ -213,6 +236,7 @@ where
         Ok(CommandLine::Report(asked)) => report(alloc, out, disk, clock, &asked),
         Ok(CommandLine::Explain { workers }) => stays(rt, alloc, out, disk, clock, workers),
         Ok(CommandLine::Bill(asked)) => bill(alloc, out, keeper, disk, clock, &asked),
+        Ok(CommandLine::Forecast(asked)) => foretell(alloc, input, out, disk, clock, &asked),
         Ok(CommandLine::Gen { number, count }) => {
             let status = load(alloc, out, number, count);
             End {

@@ -1,4 +1,4 @@
-use Rattle.std.proofs.Common.{◌≡◌, ⊎_elim, arith, inl, inr, refl, ℕ, Err, map, subst, string_bytes, Some, ap, ◌∙◌}
+use Rattle.std.proofs.Common.{◌≡◌, ⊎_elim, arith, inl, inr, refl, ℕ, List, Err, map, subst, string_bytes, Some, ap, ◌∙◌}
 use Rattle.command_line.specs.Lines.{line_of}
 use Rattle.command_line.specs.declared.line.CommandLine.{CommandLine}
 use Rattle.command_line.proofs.Ranges.{serve_in_range, explain_in_range}
@@ -6,17 +6,20 @@ use Rattle.http_front.specs.Counts.{stream_ends}
 use Rattle.http_front.specs.Exchanges.{calls_of}
 use Rattle.serving.specs.Serving.{log_calls}
 use Rattle.office_commands.specs.Billing.{billing, LeavesKeeper, BillsMonth, CanBill}
+use Rattle.office_commands.specs.Forecasting.{asking, ForecastsBucket, CanForecast}
 use Rattle.office_commands.specs.Reporting.{TellsMonth}
 use Rattle.office_commands.specs.Running.{around, under, journal_limit, AnswersStream}
 use Rattle.office_program.specs.Workers.{AnswersWorkers, Connects}
 use Rattle.office_commands.proofs.Billable.{bill_done as billable}
+use Rattle.office_commands.proofs.Foretellable.{forecast_done as forecastable}
 use Rattle.office_commands.proofs.Said.{said_is_run}
 use Rattle.office_program.proofs.Done.{init_not_explain, run_done, report_done, serve_done, init_not_run, init_not_report, init_not_serve}
 use Rattle.command_line.specs.declared.line.LineFault.TheVariants.{NotALine, NoMemory}
 use Rattle.office_program.proofs.Done.{run_none, serve_none, said_none, late_none, report_none, bill_none, bill_done, no_billing, init_not_bill, same_bill, refusal_six}
+use Rattle.office_program.proofs.Done.{forecast_none, forecast_done, init_not_forecast, same_forecast}
 use Rattle.office_program.proofs.Done.{refusal_none, refusal_known, refusal_line}
-use Rattle.office_program.proofs.Owning.{not_run, not_init, not_serve, prints, bills}
-use Rattle.office_program.proofs.Soundness.{not_foreign_there, init_sound, calls_sound, explained_sound, reported_sound, billed_sound, starts_sound}
+use Rattle.office_program.proofs.Owning.{not_run, not_init, not_serve, prints, bills, runs, foretells}
+use Rattle.office_program.proofs.Soundness.{not_foreign_there, init_sound, calls_sound, explained_sound, reported_sound, billed_sound, foretold_sound, starts_sound}
 use Rattle.office_program.proofs.program.office.Goals as goal
 
 pub serve-requires-clause-few : goal.serve-requires-clause-few
@@ -196,6 +199,8 @@ returns-in-Ok-Init-clause-causes g c =
       keeper_fault = λ eleven. absurd (run_none _ 11 refl e.statuses eleven);
       keeper_done = λ _. refl;
       bill_only = no_billing (run_none _ 11 refl e.statuses) (run_none _ 12 refl e.statuses) (run_none _ 13 refl e.statuses);
+      input_only = λ three. absurd (e.not_read three);
+      forecast_only = λ fourteen. absurd (run_none _ 14 refl e.statuses fourteen);
     }
 
 pub returns-in-Ok-Run-clause-causes : goal.returns-in-Ok-Run-clause-causes
@@ -218,6 +223,8 @@ returns-in-Ok-Run-clause-causes g c =
       keeper_fault = λ eleven. absurd (late_none _ 11 refl (run_none _ 11 refl) e.statuses eleven);
       keeper_done = λ _. refl;
       bill_only = no_billing (late_none _ 11 refl (run_none _ 11 refl) e.statuses) (late_none _ 12 refl (run_none _ 12 refl) e.statuses) (late_none _ 13 refl (run_none _ 13 refl) e.statuses);
+      input_only = λ _. inl line;
+      forecast_only = λ fourteen. absurd (late_none _ 14 refl (run_none _ 14 refl) e.statuses fourteen);
     }
 
 pub returns-in-Ok-Serve-clause-causes : goal.returns-in-Ok-Serve-clause-causes
@@ -240,6 +247,8 @@ returns-in-Ok-Serve-clause-causes g c =
       keeper_fault = λ eleven. absurd (late_none _ 11 refl (serve_none _ 11 refl) e.statuses eleven);
       keeper_done = λ _. refl;
       bill_only = no_billing (late_none _ 11 refl (serve_none _ 11 refl) e.statuses) (late_none _ 12 refl (serve_none _ 12 refl) e.statuses) (late_none _ 13 refl (serve_none _ 13 refl) e.statuses);
+      input_only = λ three. absurd (late_none _ 3 refl (serve_none _ 3 refl) e.statuses three);
+      forecast_only = λ fourteen. absurd (late_none _ 14 refl (serve_none _ 14 refl) e.statuses fourteen);
     }
 
 pub returns-in-Ok-Report-clause-causes : goal.returns-in-Ok-Report-clause-causes
@@ -262,6 +271,8 @@ returns-in-Ok-Report-clause-causes g c =
       keeper_fault = λ eleven. absurd (late_none _ 11 refl (report_none _ 11 refl refl) e.statuses eleven);
       keeper_done = λ _. refl;
       bill_only = no_billing (late_none _ 11 refl (report_none _ 11 refl refl) e.statuses) (late_none _ 12 refl (report_none _ 12 refl refl) e.statuses) (late_none _ 13 refl (report_none _ 13 refl refl) e.statuses);
+      input_only = λ three. absurd (e.only.0 three);
+      forecast_only = λ fourteen. absurd (late_none _ 14 refl (report_none _ 14 refl refl) e.statuses fourteen);
     }
 
 pub returns-in-Ok-Explain-clause-causes : goal.returns-in-Ok-Explain-clause-causes
@@ -284,6 +295,8 @@ returns-in-Ok-Explain-clause-causes g c =
       keeper_fault = λ eleven. absurd (run_none _ 11 refl e.statuses eleven);
       keeper_done = λ _. refl;
       bill_only = no_billing (run_none _ 11 refl e.statuses) (run_none _ 12 refl e.statuses) (run_none _ 13 refl e.statuses);
+      input_only = λ three. absurd (e.only.0 three);
+      forecast_only = λ fourteen. absurd (run_none _ 14 refl e.statuses fourteen);
     }
 
 pub returns-in-Ok-Gen-clause-causes : goal.returns-in-Ok-Gen-clause-causes
@@ -306,6 +319,8 @@ returns-in-Ok-Gen-clause-causes g c =
       keeper_fault = λ eleven. absurd (said_none _ 11 refl e.statuses eleven);
       keeper_done = λ _. refl;
       bill_only = no_billing (said_none _ 11 refl e.statuses) (said_none _ 12 refl e.statuses) (said_none _ 13 refl e.statuses);
+      input_only = λ three. absurd (said_none _ 3 refl e.statuses three);
+      forecast_only = λ fourteen. absurd (said_none _ 14 refl e.statuses fourteen);
     }
 
 pub returns-in-Err-clause-causes : goal.returns-in-Err-clause-causes
@@ -330,6 +345,8 @@ returns-in-Err-clause-causes g c =
       keeper_fault = λ eleven. absurd (none 11 refl eleven);
       keeper_done = λ _. refl;
       bill_only = no_billing (none 11 refl) (none 12 refl) (none 13 refl);
+      input_only = λ three. absurd (none 3 refl three);
+      forecast_only = λ fourteen. absurd (none 14 refl fourteen);
     }
 
 -- ---- bills
@@ -353,7 +370,7 @@ pub returns-in-Ok-Bill-clause-complete : goal.returns-in-Ok-Bill-clause-complete
 returns-in-Ok-Bill-clause-complete g c tells some good none eight =
     let e = c.bill.ensures in
     let line = c.in-Ok-Bill.ensures.read ∙ ap (λ (l : CommandLine). Some (line_of l)) c.in-Ok-Bill.field-0-is in
-    ⊎_elim (λ done. inl done) (λ other. inr ((c.in-Ok-Bill.asked.month, line), other))
+    ⊎_elim (λ done. inl done) (λ other. inr (inl ((c.in-Ok-Bill.asked.month, line), other)))
     (bill_done c.bill.result.status (λ two. none.0 (e.disk_fault two))
     (λ five. ⊎_elim
     (λ sound. let has = c.sound_now.ensures.reads tells sound in e.sound tells has.0 has.1 five)
@@ -372,7 +389,7 @@ returns-in-Ok-Bill-clause-causes g c =
     let e = c.bill.ensures in
     let line = c.in-Ok-Bill.ensures.read ∙ ap (λ (l : CommandLine). Some (line_of l)) c.in-Ok-Bill.field-0-is in
     record {
-      known = ⊎_elim (λ eight. inr (inl eight)) (λ is. inr (inr (inr (inr is)))) e.statuses;
+      known = ⊎_elim (λ eight. inr (inl eight)) (λ is. inr (inr (inr (inr (inl is))))) e.statuses;
       usage = λ one. absurd (late_none _ 1 refl (bill_none _ 1 refl refl) e.statuses one);
       disk_fault = e.disk_fault;
       read_fault = λ three. absurd (e.only.0 three);
@@ -387,6 +404,8 @@ returns-in-Ok-Bill-clause-causes g c =
       keeper_fault = e.keeper_fault;
       keeper_done = e.keeper_done;
       bill_only = λ _. (c.in-Ok-Bill.asked.month, line);
+      input_only = λ three. absurd (e.only.0 three);
+      forecast_only = λ fourteen. absurd (late_none _ 14 refl (bill_none _ 14 refl refl) e.statuses fourteen);
     }
 
 pub returns-in-Ok-Bill-clause-billable : goal.returns-in-Ok-Bill-clause-billable
@@ -403,4 +422,87 @@ returns-in-Ok-Bill-clause-billable g c month history is tells has can none eight
 
 pub returns-in-Err-clause-billable : goal.returns-in-Err-clause-billable
 returns-in-Err-clause-billable g c month history is tells has can none eight =
+    inr (refusal_six c.in-Err.fault _ _ c.refuse_line-status.result (λ refused. c.in-Err.ensures.refused (ap Err refused)) (λ lacks. (c.refuse_line-status.ensures.memory lacks).0) is)
+
+-- ---- forecasts
+
+pub returns-in-Ok-Run-clause-only : goal.returns-in-Ok-Run-clause-only
+returns-in-Ok-Run-clause-only g c =
+    let e = c.run.ensures in
+    let line = c.in-Ok-Run.ensures.read ∙ ap (λ (l : CommandLine). Some (line_of l)) c.in-Ok-Run.field-0-is in
+    runs g.W.Replies _ _ _ _ _ _ _ line (not_serve _ _ line (λ _ _ _ is. absurd cc)) e.no_text e.unnoted e.unopened refl refl
+
+pub returns-in-Ok-Forecast-clause-sound : goal.returns-in-Ok-Forecast-clause-sound
+returns-in-Ok-Forecast-clause-sound g c tells sound =
+    let d = g.D.Disk in
+    let k = g.C.Clock in
+    let w = g.W.Replies in
+    let asked = asking c.in-Ok-Forecast.asked.bucket c.in-Ok-Forecast.asked.day in
+    let input = stream_ends (g.S.Source.left c.args.input.now) (g.S.Source.left c.foretell.new.input) in
+    let has = c.sound_now.ensures.reads tells sound in (
+      c.foretell.ensures.sound tells has.0 has.1,
+      starts_sound d k w tells (c.foretell.new.input ≡ c.args.input.now) (ForecastsBucket d w asked input) (foretold_sound d k w tells asked input)
+          (around c.args.disk c.args.clock c.args.out.now)
+          (around c.foretell.result.disk c.foretell.result.clock c.foretell.new.out) c.foretell.result.status sound
+          (c.sound_now.ensures.still tells sound) c.foretell.ensures.forecasts,
+    )
+
+pub returns-in-Ok-Forecast-clause-complete : goal.returns-in-Ok-Forecast-clause-complete
+returns-in-Ok-Forecast-clause-complete g c tells some good none eight =
+    let e = c.foretell.ensures in
+    let line = c.in-Ok-Forecast.ensures.read ∙ ap (λ (l : CommandLine). Some (line_of l)) c.in-Ok-Forecast.field-0-is in
+    ⊎_elim (λ done. inl done) (λ fourteen. inr (inr ((c.in-Ok-Forecast.asked.bucket, c.in-Ok-Forecast.asked.day, line), fourteen)))
+    (forecast_done c.foretell.result.status (λ two. none.0 (e.disk_fault two))
+    (λ five. ⊎_elim
+    (λ sound. let has = c.sound_now.ensures.reads tells sound in e.sound tells has.0 has.1 five)
+    (λ other. init_not_forecast _ _ _ other.0 line) good)
+    (λ three. none.1 (e.read_fault three)) (λ four. none.2 (e.write_fault four)) (⊎_elim (λ is. absurd (eight is)) (λ is. is) e.statuses))
+
+pub returns-in-Ok-Forecast-clause-only : goal.returns-in-Ok-Forecast-clause-only
+returns-in-Ok-Forecast-clause-only g c =
+    let e = c.foretell.ensures in
+    let line = c.in-Ok-Forecast.ensures.read ∙ ap (λ (l : CommandLine). Some (line_of l)) c.in-Ok-Forecast.field-0-is in
+    foretells g.W.Replies _ _ _ _ _ _ _ (not_run _ _ line (λ is. absurd cc)) (not_serve _ _ line (λ _ _ _ is. absurd cc))
+    (c.in-Ok-Forecast.asked.bucket, c.in-Ok-Forecast.asked.day, line) e.unsaid e.unnoted e.unopened refl refl
+
+pub returns-in-Ok-Forecast-clause-causes : goal.returns-in-Ok-Forecast-clause-causes
+returns-in-Ok-Forecast-clause-causes g c =
+    let e = c.foretell.ensures in
+    let line = c.in-Ok-Forecast.ensures.read ∙ ap (λ (l : CommandLine). Some (line_of l)) c.in-Ok-Forecast.field-0-is in
+    record {
+      known = ⊎_elim (λ eight. inr (inl eight)) (λ is. inr (inr (inr (inr (inr is))))) e.statuses;
+      usage = λ one. absurd (late_none _ 1 refl (forecast_none _ 1 refl refl) e.statuses one);
+      disk_fault = e.disk_fault;
+      read_fault = e.read_fault;
+      read_done = e.read_done;
+      write_fault = e.write_fault;
+      foreign_file = λ is. absurd (not_init _ _ line (λ other. absurd cc) is);
+      port_fault = λ seven. absurd (e.only.0 seven);
+      port_done = λ _. omega arith;
+      clock_end = λ _. not_init _ _ line (λ other. absurd cc);
+      input_spent = λ nine. absurd (e.only.1 nine);
+      no_tariff = λ ten. absurd (late_none _ 10 refl (forecast_none _ 10 refl refl) e.statuses ten);
+      keeper_fault = λ eleven. absurd (late_none _ 11 refl (forecast_none _ 11 refl refl) e.statuses eleven);
+      keeper_done = λ _. refl;
+      bill_only = no_billing (late_none _ 11 refl (forecast_none _ 11 refl refl) e.statuses) (late_none _ 12 refl (forecast_none _ 12 refl refl) e.statuses)
+          (late_none _ 13 refl (forecast_none _ 13 refl refl) e.statuses);
+      input_only = λ _. inr (c.in-Ok-Forecast.asked.bucket, c.in-Ok-Forecast.asked.day, line);
+      forecast_only = λ _. (c.in-Ok-Forecast.asked.bucket, c.in-Ok-Forecast.asked.day, line);
+    }
+
+pub returns-in-Ok-Forecast-clause-forecastable : goal.returns-in-Ok-Forecast-clause-forecastable
+returns-in-Ok-Forecast-clause-forecastable g c bucket day history bytes is tells has left can none eight =
+    let e = c.foretell.ensures in
+    let line = c.in-Ok-Forecast.ensures.read ∙ ap (λ (l : CommandLine). Some (line_of l)) c.in-Ok-Forecast.field-0-is in
+    let asked = asking c.in-Ok-Forecast.asked.bucket c.in-Ok-Forecast.asked.day in
+    let input = stream_ends (g.S.Source.left c.args.input.now) (g.S.Source.left c.foretell.new.input) in
+    let mine = subst (λ (a : List ℕ × ℕ). CanForecast history (asking a.0 a.1) bytes (g.C.Clock.last c.foretell.result.clock))
+    (same_forecast _ bucket c.in-Ok-Forecast.asked.bucket day c.in-Ok-Forecast.asked.day is line) can in
+    forecastable c.foretell.result.status (λ two. none.0 (e.disk_fault two)) (e.sound tells history has)
+    g.D.Disk g.C.Clock g.W.Replies tells (λ three. none.1 (e.read_fault three)) (λ four. none.2 (e.write_fault four)) eight
+    history asked bytes input left
+    (around c.args.disk c.args.clock c.args.out.now) (around c.foretell.result.disk c.foretell.result.clock c.foretell.new.out) mine has e.forecasts
+
+pub returns-in-Err-clause-forecastable : goal.returns-in-Err-clause-forecastable
+returns-in-Err-clause-forecastable g c bucket day history bytes is tells has left can none eight =
     inr (refusal_six c.in-Err.fault _ _ c.refuse_line-status.result (λ refused. c.in-Err.ensures.refused (ap Err refused)) (λ lacks. (c.refuse_line-status.ensures.memory lacks).0) is)
