@@ -112,7 +112,7 @@ pub(crate) fn actions_text(alloc: Global, forecast: &mut Forecast) -> Result<Vec
 {
     let mut sheet = start(alloc);
     put_header(&mut sheet)?;
-    for _ in 0..u64::MAX {
+    'telling: for _ in 0..u64::MAX {
         match forecast.next()? {
             Some(reply) => put_reply(&mut sheet, alloc, &reply)?,
             None => return finish(sheet),

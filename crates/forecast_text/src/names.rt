@@ -1,6 +1,7 @@
 // The fields of the tables.
-ghost use Rattle.std.specs.Prelude.{◌≡◌, ◌++◌, IfOk};
+ghost use Rattle.std.specs.Prelude.{◌≡◌, ◌++◌, IfOk, codes};
 ghost use Rattle.moments.specs.Texts.{two_digits};
+ghost use Rattle.office_base.specs.Versions.{id_text};
 ghost use Rattle.usage_report.specs.Lines.{line_name};
 ghost use Rattle.http_text.specs.Names.{action_name, month_text};
 ghost use Rattle.forecast_text.specs.Tables.{item_text, class_text, charge_text};
@@ -41,14 +42,22 @@ fn joined(alloc: Global, a: &str, b: &str) -> Result<Vec<u8>, AllocError>
     Ok(text)
 }
 
+fn version_text(alloc: Global, id: VersionId) -> Result<Vec<u8>, AllocError>
+    ensures { IfOk result (λ text. text.items ≡ codes "v:" ++ id_text id) }
+{
+    match id {
+        VersionId::Null => joined(alloc, "v:", "null"),
+        VersionId::Number(number) => {
+            joined(alloc, "v:", itoa::Buffer::new().format(number.get()))
+        }
+    }
+}
+
 fn target_text(alloc: Global, target: Target) -> Result<Vec<u8>, AllocError>
     ensures { IfOk result (λ text. text.items ≡ item_text target) }
 {
     match target {
-        Target::Version(VersionId::Null) => joined(alloc, "v:", "null"),
-        Target::Version(VersionId::Number(number)) => {
-            joined(alloc, "v:", itoa::Buffer::new().format(number.get()))
-        }
+        Target::Version(id) => version_text(alloc, id),
         Target::Upload(number) => joined(alloc, "u:", itoa::Buffer::new().format(number)),
     }
 }
