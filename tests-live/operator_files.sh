@@ -40,7 +40,7 @@ if has bash 'the completions of bash'; then
         bash -c '. "$0"; COMP_WORDS=("$@"); COMP_CWORD=$(($# - 1)); _office; echo "${COMPREPLY[*]}"' \
             "$root/tools/completion/office.bash" "$@"
     }
-    check 'bash: words' 'init run serve report explain bill gen' "$(complete_bash office '')"
+    check 'bash: words' 'init run serve report explain bill forecast gen' "$(complete_bash office '')"
     check 'bash: a word begun' 'serve' "$(complete_bash office s)"
     check 'bash: options' '--listen --workers --connections' "$(complete_bash office serve '')"
     check 'bash: options that are left' '--workers --connections' "$(complete_bash office serve --listen 127.0.0.1:1 '')"
@@ -59,11 +59,12 @@ if has bash 'the completions of bash'; then
     done
     check 'bash: options of report' '--text' "$(complete_bash office report 2026-11 '')"
     check 'the program knows bill' 5 "$(status_of bill 2026-11)"
+    check 'the program knows forecast' 5 "$(status_of forecast logs 2099-12-31)"
     check 'bash: options of explain' '--workers' "$(complete_bash office explain '')"
     check 'bash: nothing behind run' '' "$(complete_bash office run '')"
     for word in $(complete_bash office ''); do
         case $word in
-        serve | report | bill | gen) ;;
+        serve | report | bill | forecast | gen) ;;
         *) check "the program knows $word" no "$([ "$(status_of "$word")" = 1 ] && echo yes || echo no)" ;;
         esac
         rm -rf none
@@ -86,7 +87,7 @@ if has zsh 'the completions of zsh'; then
     shows() {
         timeout 100 zsh -f "$root/tests-live/complete.zsh" "$root/tools/completion" "$@"
     }
-    check 'zsh: words' 1 "$(shows '' 'serve    -- answer the requests' | grep -c -e 'serve    -- answer the requests')"
+    check 'zsh: words' 1 "$(shows '' 'serve     -- answer the requests' | grep -c -e 'serve     -- answer the requests')"
     check 'zsh: an option begun' 1 "$(shows 'serve --c' 'serve --connections' | grep -c -e 'serve --connections')"
     check 'zsh: nothing behind run' 0 "$(shows 'run ' '' | grep -c -e '--')"
 fi

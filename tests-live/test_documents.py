@@ -101,10 +101,12 @@ class Commands(live.Case):
                 yield block
 
     def test_readme(self):
-        quick, rules, again = self.runnable("README.md")
+        quick, rules, foreseen, again = self.runnable("README.md")
         said = self.shell(quick, "quick start")
         self.check("the office is made", True, said.startswith("made\n"))
         self.check("the bill of this month", 1, len(re.findall(r"backups,storage,STANDARD_IA,[1-9][0-9]*,12500,[0-9]+\n", said)))
+        said = self.shell(foreseen, "a forecast")
+        self.check("both tables", True, said.startswith("since,action,key,item,class,rule\n") and "\n\nmonth,line,class,quantity,charge\n" in said)
         serving = f"{self.program} serve --listen 127.0.0.1:8080 &\ntrap 'kill %1' EXIT\n"
         said = self.shell(serving + rules, "a lifecycle configuration")
         self.check("three rules, nothing is due", '{"rules":3}{"action":"none"}', said)

@@ -5,7 +5,7 @@ _office() {
     COMPREPLY=()
     # readline cuts words at '=' and ':' too.
     if [ "$COMP_CWORD" = 1 ]; then
-        mapfile -t COMPREPLY < <(compgen -W 'init run serve report explain bill gen' -- "$word")
+        mapfile -t COMPREPLY < <(compgen -W 'init run serve report explain bill forecast gen' -- "$word")
         return
     fi
     if [ "${COMP_WORDS[1]}" = report ]; then
