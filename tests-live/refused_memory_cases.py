@@ -164,6 +164,9 @@ office(["run"], SENT + message(b"PUT /tariff", TARIFF))
 shutil.copytree(FOLDER / "run", FOLDER / "filled")
 refuse_each("report", FOLDER / "filled", ["report", "2024-01"], b"", look_at_text)
 refuse_each("explain", FOLDER / "filled", ["explain", "--workers", "1"], b"", look_at_text)
+# By a day of next year, so that what is foretold is the same whenever it is asked for.
+refuse_each("forecast", FOLDER / "filled", ["forecast", "logs", f"{time.gmtime().tm_year + 1}-12-31"],
+            b'{"Rules":[{"Status":"Enabled","Filter":{"Prefix":""},"Expiration":{"Days":100}}]}', look_at_text, most=300)
 BILLS = rows_of("2024-01", [("logs", 1, 1), ("raw", 1, 1)])
 (FOLDER / "closed" / "office-data").mkdir(parents=True)
 (FOLDER / "closed" / "office-data" / "journal").write_bytes(journal(
