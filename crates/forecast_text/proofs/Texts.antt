@@ -1,5 +1,6 @@
 -- The rows of a table, one after another.
 use Rattle.std.proofs.Common.{◌≡◌, ◌∙◌, ℕ, ◌+◌, ◌-◌, ◌≤◌, ◌<◌, zero, suc, arith, List, [], ◌∷◌, ◌++◌, map, ap, sym, refl, subst, Option, Some, None, Result, Ok, Err, IfOk, append-nil}
+use Rattle.std.specs.Prelude.{OnOk}
 use Rattle.std.specs.Global.{Vec}
 use Rattle.std.specs.List.{flat_map}
 use Rattle.std.specs.Io.KnownBytes.{append_known}
@@ -91,3 +92,7 @@ pub no_months : (text : Option (List ℕ)) (first last month : ℕ) (outlook : O
     → text ≡ Some (lines_csv first last outlook.lines)
 no_months text first last month outlook over left =
     sym (none_more text) ∙ ap (λ (n : ℕ). and_months text outlook.lines (months_from month n)) {x = 0} {y = last + 1 - month} (omega (arith, over)) ∙ left
+
+pub on_ok : {T E P : Type 0} (r : Result T E) → P → OnOk r P
+on_ok (Ok x) holds = holds
+on_ok (Err e) holds = tt

@@ -2,6 +2,7 @@ pub mod Answering
 pub mod Billable
 pub mod Billed
 pub mod Foretellable
+pub mod Foretold
 pub mod MadeSo
 pub mod MonthTold
 pub mod Refusing

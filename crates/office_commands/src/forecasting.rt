@@ -1,5 +1,5 @@
 // Foretelling what a configuration would do to a bucket, and charge.
-ghost use Rattle.std.specs.Prelude.{◌≡◌, ◌≤◌, ◌⊎◌, ◌<◌, ◌^◌, List, false, IsTrue};
+ghost use Rattle.std.specs.Prelude.{◌≡◌, ◌≤◌, ◌⊎◌, ◌<◌, ◌^◌, max, List, false, IsTrue};
 ghost use Rattle.moments.specs.Months.{month_at};
 ghost use Rattle.moments.specs.Time.{end_of_time};
 ghost use Rattle.office_base.specs.Faults.{Rose};
@@ -94,14 +94,20 @@ fn refusal_number(refusal: &Refusal) -> u64
     }
 }
 
+fn later(one: Moment, other: Moment) -> Moment
+    ensures { result ≡ max one other }
+{
+    if one.ms() < other.ms() { other } else { one }
+}
+
 // The later of the clock's number and the last moment.
 fn moment_for(told: Moment, last: Option<Moment>) -> Moment
     ensures same { result ≡ moment_after told last }
     ensures later { IsTrue (is_not_before last result) }
 {
     match last {
-        Some(last) if told.ms() < last.ms() => last,
-        _ => told,
+        Some(last) => later(told, last),
+        None => told,
     }
 }
 

@@ -8,6 +8,6 @@ use Rattle.forecast_text.proofs.months.lines_text.Given as goal
 abbrev pub invariant-loop-number : goal.invariant-loop-number
 invariant-loop-number l = record {
   ready : IsAtRowStart l.sheet;
-  inside : l.first ≤ l.number;
-  left : (outlook : Outlook) → Foretells l.forecast outlook → MonthsAreLeft (bytes_written l.sheet) l.first l.last l.number outlook;
+  inside : l.fn.first ≤ l.number;
+  left : (outlook : Outlook) → Foretells l.fn.forecast outlook → MonthsAreLeft (bytes_written l.sheet) l.fn.first l.fn.last l.number outlook;
 }
